@@ -1,6 +1,6 @@
 -- A game that is read in a text is read in each part of it that holds the game.
 use Rattle.std.proofs.Common.{◌≡◌, ℕ, zero, suc, ◌+◌, ◌-◌, ◌<◌, ◌≤◌, Bool, true, false, cond, eqb, List, [], ◌∷◌, ◌++◌, length, get_or, take, drop, Option, Some, None, Result, Ok, Err, refl, sym, ap, subst, ◌∙◌, append_assoc, length-append, arith}
-use Rattle.std.specs.Prelude.{is_some, nat_lt, codes, map, if◌then◌else◌, ◌||◌, ◌==◌}
+use Rattle.std.specs.Prelude.{is_some, nat_lt, codes, map, if◌then◌else◌, ◌||◌, ◌&&◌, ◌==◌}
 use Rattle.std.specs.List.{last_or, filter_map, cons_option, list_all, prefix_len}
 use Rattle.std.specs.Option.{option_map, option_map_or, option_or, option_eq}
 use Rattle.std.specs.Str.{bytes_eq}
@@ -34,7 +34,8 @@ use Rattle.chess_pgn.specs.laws.TokenByToken.{SoFar, Step, On, Stop, fails, ends
 use Rattle.chess_pgn.proofs.shared.Tokens.{read_split, split_read}
 use Rattle.pgn_verifier.specs.GameFaults.{result_differs, board_says_otherwise, contradiction, judged, judged_at, read_at}
 use Rattle.pgn_verifier.specs.declared.game_fault.GameFault.{GameFault}
-use Rattle.pgn_verifier.specs.laws.Parts.{BeginsAlike, HasGame, GamesAreInParts}
+use Rattle.pgn_verifier.specs.laws.Parts.{BeginsAlike, HasGame, GamesAreInParts, HoldsWhole, no_more, game, WholeGamesAreReportedAlike}
+use Rattle.pgn_verifier.specs.Reports.{Report, Game, report_then, reports_from}
 
 -- ---- steps
 
@@ -219,248 +220,256 @@ same_result total small us ts same =
 -- ---- the part
 
 module _ (limit : ℕ) (before part after : List ℕ) (starts : begins_line (before ++ (part ++ after)) (length before) ≡ true)
-    where
-  text : List ℕ
-  text = before ++ (part ++ after)
+  where
+    text : List ℕ
+    text = before ++ (part ++ after)
 
-  n : ℕ
-  n = length before
+    n : ℕ
+    n = length before
 
-  back : PgnEnd → PgnEnd
-  back end = record end { offset = end.offset - length before }
+    back : PgnEnd → PgnEnd
+    back end = record end { offset = end.offset - length before }
 
-  lengths : length (before ++ (part ++ after)) ≡ length before + (length part + length after)
-  lengths = omega (arith, length-append before (part ++ after), length-append part after)
+    lengths : length (before ++ (part ++ after)) ≡ length before + (length part + length after)
+    lengths = omega (arith, length-append before (part ++ after), length-append part after)
 
-  there : (at : ℕ) → at ≤ length part → drop (length before + at) (before ++ (part ++ after)) ≡ drop at part ++ after
-  there at h = drop-append-add before (part ++ after) at ∙ drop-append-le at part after h
+    there : (at : ℕ) → at ≤ length part → drop (length before + at) (before ++ (part ++ after)) ≡ drop at part ++ after
+    there at h = drop-append-add before (part ++ after) at ∙ drop-append-le at part after h
 
-  lines : (at : ℕ) → at ≤ length part → begins_line (before ++ (part ++ after)) (length before + at) ≡ begins_line part at
-  lines zero h = ap (begins_line (before ++ (part ++ after))) (omega arith) ∙ starts
-  lines (suc k) h =
-      let some : eqb (length before + suc k) 0 ≡ false = grind (arith, nat_tests) in
-      let byte : get_or (before ++ (part ++ after)) (length before + suc k - 1) 0 ≡ get_or part k 0 =
-      ap (λ i. get_or (before ++ (part ++ after)) i 0) (omega arith) ∙ get_or-append-add before (part ++ after) k 0
-      ∙ get_or_append_left part after 0 k (omega (arith, h)) in
-      let later : eqb (suc k) 0 ≡ false = grind (arith, nat_tests) in
-      let here : get_or part (suc k - 1) 0 ≡ get_or part k 0 = ap (λ i. get_or part i 0) (omega arith) in
-      rw (some, byte, later, here) refl
+    lines : (at : ℕ) → at ≤ length part → begins_line (before ++ (part ++ after)) (length before + at) ≡ begins_line part at
+    lines zero h = ap (begins_line (before ++ (part ++ after))) (omega arith) ∙ starts
+    lines (suc k) h =
+        let some : eqb (length before + suc k) 0 ≡ false = grind (arith, nat_tests) in
+        let byte : get_or (before ++ (part ++ after)) (length before + suc k - 1) 0 ≡ get_or part k 0 =
+        ap (λ i. get_or (before ++ (part ++ after)) i 0) (omega arith) ∙ get_or-append-add before (part ++ after) k 0
+        ∙ get_or_append_left part after 0 k (omega (arith, h)) in
+        let later : eqb (suc k) 0 ≡ false = grind (arith, nat_tests) in
+        let here : get_or part (suc k - 1) 0 ≡ get_or part k 0 = ap (λ i. get_or part i 0) (omega arith) in
+        rw (some, byte, later, here) refl
 
-  -- what was found in the part
-  record Found (at : ℕ) (g : SoFar) (ts : List (ℕ × Token)) (s : State) (end : PgnEnd) : Type 0 where
-    within : at ≤ length part
-    own : List (ℕ × Token)
-    split : IsSplit part at own
-    is : game_of limit (length part) g own ≡ over s (record end { offset = end.offset - length before })
-    tags : HaveSameTags own ts
+    -- what was found in the part
+    record Found (at : ℕ) (g : SoFar) (ts : List (ℕ × Token)) (s : State) (end : PgnEnd) : Type 0 where
+      within : at ≤ length part
+      own : List (ℕ × Token)
+      split : IsSplit part at own
+      is : game_of limit (length part) g own ≡ over s (record end { offset = end.offset - length before })
+      tags : HaveSameTags own ts
+      bytes : at < end.offset - length before
 
-  -- a token that ends in the part
-  record Fits (at : ℕ) (front rest : List ℕ) : Type 0 where
-    rest' : List ℕ
-    is : drop at part ≡ front ++ rest'
-    all : rest ≡ rest' ++ after
+    -- a token that ends in the part
+    record Fits (at : ℕ) (front rest : List ℕ) : Type 0 where
+      rest' : List ℕ
+      is : drop at part ≡ front ++ rest'
+      all : rest ≡ rest' ++ after
 
-  same_front : (xs ys us vs : List ℕ) → xs ++ ys ≡ us ++ vs → length us ≤ length xs → take (length us) xs ≡ us
-  same_front xs ys us vs e h =
-      sym (take-append-le (length us) xs ys h) ∙ ap (take (length us)) e
-      ∙ take-append-le (length us) us vs (omega arith) ∙ take-length us
+    same_front : (xs ys us vs : List ℕ) → xs ++ ys ≡ us ++ vs → length us ≤ length xs → take (length us) xs ≡ us
+    same_front xs ys us vs e h =
+        sym (take-append-le (length us) xs ys h) ∙ ap (take (length us)) e
+        ∙ take-append-le (length us) us vs (omega arith) ∙ take-length us
 
-  fits : (at : ℕ) (front rest : List ℕ)
-      → drop (length before + at) (before ++ (part ++ after)) ≡ front ++ rest → at + length front ≤ length part
-      → Fits at front rest
-  fits at front rest e h =
-      let all : drop at part ++ after ≡ front ++ rest = sym (there at (omega (arith, h))) ∙ e in
-      let few : length front ≤ length (drop at part) = omega (arith, h, length-drop at part) in
-      let is : drop at part ≡ front ++ drop (length front) (drop at part) =
-      sym (take-append-drop (length front) (drop at part))
-      ∙ ap (λ l. l ++ drop (length front) (drop at part)) (same_front (drop at part) after front rest all few) in
-      record {
-        rest' = drop (length front) (drop at part);
-        is = is;
-        all = sym (drop-append-add front rest 0 ∙ refl) ∙ ap (drop (length front + 0)) (sym all ∙ ap (λ l. l ++ after) is ∙ append_assoc front (drop (length front) (drop at part)) after)
-            ∙ drop-append-add front (drop (length front) (drop at part) ++ after) 0;
-      }
-
-  longest : (b c : Bool) (kind : Kind) (front rest rest' : List ℕ) → b ≡ c → rest ≡ rest' ++ after
-      → IsLongest (IsOf b kind) front rest → IsLongest (IsOf c kind) front rest'
-  longest b c kind front rest rest' same all long = record {
-    is = subst (λ d. IsOf d kind front) same long.is;
-    longest = λ more others e h. long.longest more (others ++ after)
-        (all ∙ ap (λ l. l ++ after) e ∙ append_assoc more others after)
-        (subst (λ d. IsOf d kind (front ++ more)) (sym same) h);
-  }
-
-  module _ (s : State) (end : PgnEnd) (inside : end.offset ≤ length before + length part) where
-    abbrev Again : ℕ → List (ℕ × Token) → Type 0
-    Again next tokens = (g : SoFar) → game_of limit (length (before ++ (part ++ after))) g tokens ≡ over s end
-        → Found next g tokens s end
-
-    -- a token after which reading goes on
-    further : (at x : ℕ) (kind : Kind) (front rest : List ℕ) (tokens : List (ℕ × Token)) (g : SoFar)
-        → drop (length before + at) (before ++ (part ++ after)) ≡ front ++ rest
-        → IsLongest (IsOf (begins_line (before ++ (part ++ after)) (length before + at)) kind) front rest
-        → ((m : ℕ) → OnOrFails (step limit (length (before ++ (part ++ after))) g x (token_of kind front (length rest)))
-        (step limit (length part) g (length part - at) (token_of kind front m)))
-        → ((m : ℕ) (us : List (ℕ × Token)) → HaveSameTags us tokens
-        → HaveSameTags ((length part - at, token_of kind front m) ∷ us) ((x, token_of kind front (length rest)) ∷ tokens))
-        → Again (at + length front) tokens
-        → game_of limit (length (before ++ (part ++ after))) g ((x, token_of kind front (length rest)) ∷ tokens) ≡ over s end
-        → Found at g ((x, token_of kind front (length rest)) ∷ tokens) s end
-    further at x kind front rest tokens g e long steps tags again h =
-        let later : SoFar → GameRead = λ k. game_of limit (length (before ++ (part ++ after))) k tokens in
-        let one = goes_on (step limit (length (before ++ (part ++ after))) g x (token_of kind front (length rest)))
-        (step limit (length part) g (length part - at) (token_of kind front 0)) later s end (steps 0) h in
-        let near = (again one.g one.rest).within in
-        let fit = fits at front rest e near in
-        let left : ℕ = length fit.rest' in
-        let here = goes_on (step limit (length (before ++ (part ++ after))) g x (token_of kind front (length rest)))
-        (step limit (length part) g (length part - at) (token_of kind front left)) later s end (steps left) h in
-        let found = again here.g here.rest in
+    fits : (at : ℕ) (front rest : List ℕ)
+        → drop (length before + at) (before ++ (part ++ after)) ≡ front ++ rest → at + length front ≤ length part
+        → Fits at front rest
+    fits at front rest e h =
+        let all : drop at part ++ after ≡ front ++ rest = sym (there at (omega (arith, h))) ∙ e in
+        let few : length front ≤ length (drop at part) = omega (arith, h, length-drop at part) in
+        let is : drop at part ≡ front ++ drop (length front) (drop at part) =
+        sym (take-append-drop (length front) (drop at part))
+        ∙ ap (λ l. l ++ drop (length front) (drop at part)) (same_front (drop at part) after front rest all few) in
         record {
-          within = omega (arith, near);
-          own = (length part - at, token_of kind front left) ∷ found.own;
-          split = token kind front fit.rest' fit.is
-              (longest (begins_line (before ++ (part ++ after)) (length before + at)) (begins_line part at) kind front rest
-              fit.rest' (lines at (omega (arith, near))) fit.all long) found.split;
-          is = ap (λ t. read_rest_with t (λ k. game_of limit (length part) k found.own)) here.second ∙ found.is;
-          tags = tags left found.own found.tags;
+          rest' = drop (length front) (drop at part);
+          is = is;
+          all = sym (drop-append-add front rest 0 ∙ refl) ∙ ap (drop (length front + 0)) (sym all ∙ ap (λ l. l ++ after) is ∙ append_assoc front (drop (length front) (drop at part)) after)
+              ∙ drop-append-add front (drop (length front) (drop at part) ++ after) 0;
         }
 
-    same_end : (a b : PgnEnd) (u v : State) → over u a ≡ over v b → (u ≡ v) × (a ≡ b)
-    same_end a b u v h =
-        let ends : Ok (Some a) ≡ Ok (Some b) = ap (λ (r : GameRead). r.answer) h in
-        (ap (λ (r : GameRead). r.state) h, cc)
+    longest : (b c : Bool) (kind : Kind) (front rest rest' : List ℕ) → b ≡ c → rest ≡ rest' ++ after
+        → IsLongest (IsOf b kind) front rest → IsLongest (IsOf c kind) front rest'
+    longest b c kind front rest rest' same all long = record {
+      is = subst (λ d. IsOf d kind front) same long.is;
+      longest = λ more others e h. long.longest more (others ++ after)
+          (all ∙ ap (λ l. l ++ after) e ∙ append_assoc more others after)
+          (subst (λ d. IsOf d kind (front ++ more)) (sym same) h);
+    }
 
-    -- a word
-    word : (at x : ℕ) (kind : Kind) (front rest : List ℕ) (tokens : List (ℕ × Token)) (g : SoFar)
-        → ((m : ℕ) → token_of kind front m ≡ Word front)
-        → x ≡ length (before ++ (part ++ after)) - (length before + at)
-        → 0 < length front → drop (length before + at) (before ++ (part ++ after)) ≡ front ++ rest
-        → IsLongest (IsOf (begins_line (before ++ (part ++ after)) (length before + at)) kind) front rest
-        → Again (at + length front) tokens
-        → game_of limit (length (before ++ (part ++ after))) g ((x, Word front) ∷ tokens) ≡ over s end
-        → Found at g ((x, Word front) ∷ tokens) s end
-    word at x kind front rest tokens g is_word place some e long again h = by_step (does limit front)
-      where
-        low : length before + at ≤ length (before ++ (part ++ after))
-        low = omega (arith, some, ap length e, length-append front rest,
-            length-drop (length before + at) (before ++ (part ++ after)))
+    module _ (s : State) (end : PgnEnd) (inside : end.offset ≤ length before + length part) where
+      abbrev Again : ℕ → List (ℕ × Token) → Type 0
+      Again next tokens = (g : SoFar) → game_of limit (length (before ++ (part ++ after))) g tokens ≡ over s end
+          → Found next g tokens s end
 
-        total : ℕ
-        total = length (before ++ (part ++ after))
+      -- a token after which reading goes on
+      further : (at x : ℕ) (kind : Kind) (front rest : List ℕ) (tokens : List (ℕ × Token)) (g : SoFar)
+          → drop (length before + at) (before ++ (part ++ after)) ≡ front ++ rest
+          → IsLongest (IsOf (begins_line (before ++ (part ++ after)) (length before + at)) kind) front rest
+          → ((m : ℕ) → OnOrFails (step limit (length (before ++ (part ++ after))) g x (token_of kind front (length rest)))
+          (step limit (length part) g (length part - at) (token_of kind front m)))
+          → ((m : ℕ) (us : List (ℕ × Token)) → HaveSameTags us tokens
+          → HaveSameTags ((length part - at, token_of kind front m) ∷ us) ((x, token_of kind front (length rest)) ∷ tokens))
+          → Again (at + length front) tokens
+          → game_of limit (length (before ++ (part ++ after))) g ((x, token_of kind front (length rest)) ∷ tokens) ≡ over s end
+          → Found at g ((x, token_of kind front (length rest)) ∷ tokens) s end
+      further at x kind front rest tokens g e long steps tags again h =
+          let later : SoFar → GameRead = λ k. game_of limit (length (before ++ (part ++ after))) k tokens in
+          let one = goes_on (step limit (length (before ++ (part ++ after))) g x (token_of kind front (length rest)))
+          (step limit (length part) g (length part - at) (token_of kind front 0)) later s end (steps 0) h in
+          let near = (again one.g one.rest).within in
+          let fit = fits at front rest e near in
+          let left : ℕ = length fit.rest' in
+          let here = goes_on (step limit (length (before ++ (part ++ after))) g x (token_of kind front (length rest)))
+          (step limit (length part) g (length part - at) (token_of kind front left)) later s end (steps left) h in
+          let found = again here.g here.rest in
+          record {
+            within = omega (arith, near);
+            own = (length part - at, token_of kind front left) ∷ found.own;
+            split = token kind front fit.rest' fit.is
+                (longest (begins_line (before ++ (part ++ after)) (length before + at)) (begins_line part at) kind front rest
+                fit.rest' (lines at (omega (arith, near))) fit.all long) found.split;
+            is = ap (λ t. read_rest_with t (λ k. game_of limit (length part) k found.own)) here.second ∙ found.is;
+            tags = tags left found.own found.tags;
+          bytes = omega (arith, found.bytes);
+          }
 
-        passes : ((m n : ℕ) → OnOrFails (word_step limit g m front (word_kind front))
-            (word_step limit g n front (word_kind front))) → Found at g ((x, Word front) ∷ tokens) s end
-        passes alike =
-            subst (λ t. Found at g ((x, t) ∷ tokens) s end) (is_word (length rest))
-            (further at x kind front rest tokens g e long
-            (λ m. subst (λ t. OnOrFails (step limit total g x t) (step limit (length part) g (length part - at) (token_of kind front m)))
-            (sym (is_word (length rest)))
-            (subst (λ t. OnOrFails (step limit total g x (Word front)) (step limit (length part) g (length part - at) t))
-            (sym (is_word m)) (alike (total - x) (length part - (length part - at)))))
-            (λ m us same. subst (λ t. HaveSameTags ((length part - at, token_of kind front m) ∷ us) ((x, t) ∷ tokens))
-            (sym (is_word (length rest)))
-            (subst (λ t. HaveSameTags ((length part - at, t) ∷ us) ((x, Word front) ∷ tokens)) (sym (is_word m))
-            (word_more x (length part - at) front us tokens same)))
-            again
-            (subst (λ t. game_of limit total g ((x, t) ∷ tokens) ≡ over s end) (sym (is_word (length rest))) h))
+      same_end : (a b : PgnEnd) (u v : State) → over u a ≡ over v b → (u ≡ v) × (a ≡ b)
+      same_end a b u v h =
+          let ends : Ok (Some a) ≡ Ok (Some b) = ap (λ (r : GameRead). r.answer) h in
+          (ap (λ (r : GameRead). r.state) h, cc)
 
-        by_step : Does front (λ k m. word_step limit k m front (word_kind front)) (may_precede_tags (Word front))
-            → Found at g ((x, Word front) ∷ tokens) s end
-        by_step (no_end alike) = passes (alike g)
-        by_step (ends_game o step_is no_tag) =
-            let later : SoFar → GameRead = λ k. game_of limit total k tokens in
-            let whole = sym (ap (λ t. read_rest_with t later) (step_is g (total - x))) ∙ h in
-            let same = same_end _ end _ s whole in
-            let offset : total - x + length front ≡ end.offset = ap (λ (p : PgnEnd). p.offset) same.1 in
-            let near : at + length front ≤ length part = omega (arith, offset, inside, place, low) in
-            let fit = fits at front rest e near in
-            let left : ℕ = length fit.rest' in
-            let mine : List (ℕ × Token) = tokens_from part (at + length front) in
-            let moved : length part - (length part - at) + length front ≡ end.offset - length before =
-            omega (arith, near, offset, place, low) in
-            record {
-              within = omega (arith, near);
-              own = (length part - at, Word front) ∷ mine;
-              split = subst (λ t. IsSplit part at ((length part - at, t) ∷ mine)) (is_word left)
-                  (token kind front fit.rest' fit.is
-                  (longest (begins_line (before ++ (part ++ after)) (length before + at)) (begins_line part at) kind
-                  front rest fit.rest' (lines at (omega (arith, near))) fit.all long)
-                  (read_split part (at + length front)));
-              is = ap (λ t. read_rest_with t (λ k. game_of limit (length part) k mine))
-                  (step_is g (length part - (length part - at)))
-                  ∙ ap (λ m. over (with_declared g.state (declared_after (is_some (verdict_now g.state)) o))
-                  (record { outcome = o; termination = g.termination; offset = m })) moved
-                  ∙ ap (λ u. over u (record {
-                    outcome = o;
-                    termination = g.termination;
-                    offset = end.offset - length before;
-                  })) same.0
-                  ∙ ap (λ (p : PgnEnd). over s (record p { offset = end.offset - length before })) same.1;
-              tags = word_ends (length part - at) x front mine tokens no_tag;
-            }
+      -- a word
+      word : (at x : ℕ) (kind : Kind) (front rest : List ℕ) (tokens : List (ℕ × Token)) (g : SoFar)
+          → ((m : ℕ) → token_of kind front m ≡ Word front)
+          → x ≡ length (before ++ (part ++ after)) - (length before + at)
+          → 0 < length front → drop (length before + at) (before ++ (part ++ after)) ≡ front ++ rest
+          → IsLongest (IsOf (begins_line (before ++ (part ++ after)) (length before + at)) kind) front rest
+          → Again (at + length front) tokens
+          → game_of limit (length (before ++ (part ++ after))) g ((x, Word front) ∷ tokens) ≡ over s end
+          → Found at g ((x, Word front) ∷ tokens) s end
+      word at x kind front rest tokens g is_word place some e long again h = by_step (does limit front)
+        where
+          low : length before + at ≤ length (before ++ (part ++ after))
+          low = omega (
+            arith,
+            some,
+            ap length e,
+            length-append front rest,
+            length-drop (length before + at) (before ++ (part ++ after)),
+          )
 
-    by_kind : (at x : ℕ) (kind : Kind) (front rest : List ℕ) (tokens : List (ℕ × Token)) (g : SoFar)
-        → x ≡ length (before ++ (part ++ after)) - (length before + at)
-        → drop (length before + at) (before ++ (part ++ after)) ≡ front ++ rest
-        → IsLongest (IsOf (begins_line (before ++ (part ++ after)) (length before + at)) kind) front rest
-        → Again (at + length front) tokens
-        → game_of limit (length (before ++ (part ++ after))) g ((x, token_of kind front (length rest)) ∷ tokens) ≡ over s end
-        → Found at g ((x, token_of kind front (length rest)) ∷ tokens) s end
-    by_kind at x Blank front rest tokens g place e long again h =
-        further at x Blank front rest tokens g e long (λ m. on g)
-        (λ m us same. skip_more x (length part - at) us tokens same) again h
-    by_kind at x Line front rest tokens g place e long again h =
-        further at x Line front rest tokens g e long (λ m. on g)
-        (λ m us same. skip_more x (length part - at) us tokens same) again h
-    by_kind at x Comment front rest tokens g place e long again h =
-        further at x Comment front rest tokens g e long (λ m. on g)
-        (λ m us same. skip_more x (length part - at) us tokens same) again h
-    by_kind at x Nag front rest tokens g place e long again h =
-        further at x Nag front rest tokens g e long (λ m. on g)
-        (λ m us same. skip_more x (length part - at) us tokens same) again h
-    by_kind at x Variation front rest tokens g place e long again h =
-        further at x Variation front rest tokens g e long (λ m. on g)
-        (λ m us same. skip_more x (length part - at) us tokens same) again h
-    by_kind at x (Tag_pair name string closing) front rest tokens g place e long again h =
-        further at x (Tag_pair name string closing) front rest tokens g e long
-        (λ m. tags_alike limit (length (before ++ (part ++ after))) (length part) x (length part - at) g name string
-        (length (string ++ closing) + length rest) (length (string ++ closing) + m))
-        (λ m us same. tag_more x (length part - at) (length (string ++ closing) + length rest)
-        (length (string ++ closing) + m) name string us tokens same) again h
-    by_kind at x Asterisk front rest tokens g place e long again h =
-        word at x Asterisk front rest tokens g (λ m. refl) place (omega (arith, ap length long.is)) e long again h
-    by_kind at x Symbol front rest tokens g place e long again h =
-        word at x Symbol front rest tokens g (λ m. refl) place long.is.0 e long again h
+          total : ℕ
+          total = length (before ++ (part ++ after))
 
-    none_left : (met : Bool) (f : PgnFault) → cond met (Err f) (Ok None) ≡ Ok (Some end) → ⊥
-    none_left true f h = cc
-    none_left false f h = cc
+          passes : ((m n : ℕ) → OnOrFails (word_step limit g m front (word_kind front))
+              (word_step limit g n front (word_kind front))) → Found at g ((x, Word front) ∷ tokens) s end
+          passes alike =
+              subst (λ t. Found at g ((x, t) ∷ tokens) s end) (is_word (length rest))
+              (further at x kind front rest tokens g e long
+              (λ m. subst (λ t. OnOrFails (step limit total g x t) (step limit (length part) g (length part - at) (token_of kind front m)))
+              (sym (is_word (length rest)))
+              (subst (λ t. OnOrFails (step limit total g x (Word front)) (step limit (length part) g (length part - at) t))
+              (sym (is_word m)) (alike (total - x) (length part - (length part - at)))))
+              (λ m us same. subst (λ t. HaveSameTags ((length part - at, token_of kind front m) ∷ us) ((x, t) ∷ tokens))
+              (sym (is_word (length rest)))
+              (subst (λ t. HaveSameTags ((length part - at, t) ∷ us) ((x, Word front) ∷ tokens)) (sym (is_word m))
+              (word_more x (length part - at) front us tokens same)))
+              again
+              (subst (λ t. game_of limit total g ((x, t) ∷ tokens) ≡ over s end) (sym (is_word (length rest))) h))
 
-    faults_stop : (xs : List ℕ) (x : ℕ) (g : SoFar) (fault : Token) → IsFaultOf xs fault
-        → (game_of limit (length (before ++ (part ++ after))) g ((x, fault) ∷ [])).answer ≡ Ok (Some end) → ⊥
-    faults_stop xs x g Skip k h = k
-    faults_stop xs x g (Tag name string left) k h = k
-    faults_stop xs x g (Word w) k h = k
-    faults_stop xs x g Bad_tag k h = cc
-    faults_stop xs x g (Unclosed_comment left) k h = cc
-    faults_stop xs x g Unclosed_variation k h = cc
-    faults_stop xs x g Bad k h = cc
+          by_step : Does front (λ k m. word_step limit k m front (word_kind front)) (may_precede_tags (Word front))
+              → Found at g ((x, Word front) ∷ tokens) s end
+          by_step (no_end alike) = passes (alike g)
+          by_step (ends_game o step_is no_tag) =
+              let later : SoFar → GameRead = λ k. game_of limit total k tokens in
+              let whole = sym (ap (λ t. read_rest_with t later) (step_is g (total - x))) ∙ h in
+              let same = same_end _ end _ s whole in
+              let offset : total - x + length front ≡ end.offset = ap (λ (p : PgnEnd). p.offset) same.1 in
+              let near : at + length front ≤ length part = omega (arith, offset, inside, place, low) in
+              let fit = fits at front rest e near in
+              let left : ℕ = length fit.rest' in
+              let mine : List (ℕ × Token) = tokens_from part (at + length front) in
+              let moved : length part - (length part - at) + length front ≡ end.offset - length before =
+              omega (arith, near, offset, place, low) in
+              record {
+                within = omega (arith, near);
+                own = (length part - at, Word front) ∷ mine;
+                split = subst (λ t. IsSplit part at ((length part - at, t) ∷ mine)) (is_word left)
+                    (token kind front fit.rest' fit.is
+                    (longest (begins_line (before ++ (part ++ after)) (length before + at)) (begins_line part at) kind
+                    front rest fit.rest' (lines at (omega (arith, near))) fit.all long)
+                    (read_split part (at + length front)));
+                is = ap (λ t. read_rest_with t (λ k. game_of limit (length part) k mine))
+                    (step_is g (length part - (length part - at)))
+                    ∙ ap (λ m. over (with_declared g.state (declared_after (is_some (verdict_now g.state)) o))
+                    (record { outcome = o; termination = g.termination; offset = m })) moved
+                    ∙ ap (λ u. over u (record {
+                      outcome = o;
+                      termination = g.termination;
+                      offset = end.offset - length before;
+                    })) same.0
+                    ∙ ap (λ (p : PgnEnd). over s (record p { offset = end.offset - length before })) same.1;
+                tags = word_ends (length part - at) x front mine tokens no_tag;
+              bytes = omega (arith, moved, near, some);
+              }
 
-    found : {place : ℕ} {ts : List (ℕ × Token)} → IsSplit (before ++ (part ++ after)) place ts → (at : ℕ)
-        → place ≡ length before + at → (g : SoFar) → game_of limit (length (before ++ (part ++ after))) g ts ≡ over s end
-        → Found at g ts s end
-    found (ended e) at is g h = absurd (none_left g.is_met
-        (record { kind = NoResult; offset = length (before ++ (part ++ after)) }) (ap (λ (r : GameRead). r.answer) h))
-    found (token {at = place} kind front rest {tokens} e long more) at is g h =
-        by_kind at (length (before ++ (part ++ after)) - place) kind front rest tokens g
-        (ap (λ p. length (before ++ (part ++ after)) - p) is)
-        (subst (λ p. drop p (before ++ (part ++ after)) ≡ front ++ rest) is e)
-        (subst (λ p. IsLongest (IsOf (begins_line (before ++ (part ++ after)) p) kind) front rest) is long)
-        (λ k same. found more (at + length front) (omega (arith, is)) k same) h
-    found (stopped {at = place} {fault} none k) at is g h =
-        absurd (faults_stop (drop place (before ++ (part ++ after))) (length (before ++ (part ++ after)) - place) g fault k
-        (ap (λ (r : GameRead). r.answer) h))
+      by_kind : (at x : ℕ) (kind : Kind) (front rest : List ℕ) (tokens : List (ℕ × Token)) (g : SoFar)
+          → x ≡ length (before ++ (part ++ after)) - (length before + at)
+          → drop (length before + at) (before ++ (part ++ after)) ≡ front ++ rest
+          → IsLongest (IsOf (begins_line (before ++ (part ++ after)) (length before + at)) kind) front rest
+          → Again (at + length front) tokens
+          → game_of limit (length (before ++ (part ++ after))) g ((x, token_of kind front (length rest)) ∷ tokens) ≡ over s end
+          → Found at g ((x, token_of kind front (length rest)) ∷ tokens) s end
+      by_kind at x Blank front rest tokens g place e long again h =
+          further at x Blank front rest tokens g e long (λ m. on g)
+          (λ m us same. skip_more x (length part - at) us tokens same) again h
+      by_kind at x Line front rest tokens g place e long again h =
+          further at x Line front rest tokens g e long (λ m. on g)
+          (λ m us same. skip_more x (length part - at) us tokens same) again h
+      by_kind at x Comment front rest tokens g place e long again h =
+          further at x Comment front rest tokens g e long (λ m. on g)
+          (λ m us same. skip_more x (length part - at) us tokens same) again h
+      by_kind at x Nag front rest tokens g place e long again h =
+          further at x Nag front rest tokens g e long (λ m. on g)
+          (λ m us same. skip_more x (length part - at) us tokens same) again h
+      by_kind at x Variation front rest tokens g place e long again h =
+          further at x Variation front rest tokens g e long (λ m. on g)
+          (λ m us same. skip_more x (length part - at) us tokens same) again h
+      by_kind at x (Tag_pair name string closing) front rest tokens g place e long again h =
+          further at x (Tag_pair name string closing) front rest tokens g e long
+          (λ m. tags_alike limit (length (before ++ (part ++ after))) (length part) x (length part - at) g name string
+          (length (string ++ closing) + length rest) (length (string ++ closing) + m))
+          (λ m us same. tag_more x (length part - at) (length (string ++ closing) + length rest)
+          (length (string ++ closing) + m) name string us tokens same) again h
+      by_kind at x Asterisk front rest tokens g place e long again h =
+          word at x Asterisk front rest tokens g (λ m. refl) place (omega (arith, ap length long.is)) e long again h
+      by_kind at x Symbol front rest tokens g place e long again h =
+          word at x Symbol front rest tokens g (λ m. refl) place long.is.0 e long again h
+
+      none_left : (met : Bool) (f : PgnFault) → cond met (Err f) (Ok None) ≡ Ok (Some end) → ⊥
+      none_left true f h = cc
+      none_left false f h = cc
+
+      faults_stop : (xs : List ℕ) (x : ℕ) (g : SoFar) (fault : Token) → IsFaultOf xs fault
+          → (game_of limit (length (before ++ (part ++ after))) g ((x, fault) ∷ [])).answer ≡ Ok (Some end) → ⊥
+      faults_stop xs x g Skip k h = k
+      faults_stop xs x g (Tag name string left) k h = k
+      faults_stop xs x g (Word w) k h = k
+      faults_stop xs x g Bad_tag k h = cc
+      faults_stop xs x g (Unclosed_comment left) k h = cc
+      faults_stop xs x g Unclosed_variation k h = cc
+      faults_stop xs x g Bad k h = cc
+
+      found : {place : ℕ} {ts : List (ℕ × Token)} → IsSplit (before ++ (part ++ after)) place ts → (at : ℕ)
+          → place ≡ length before + at → (g : SoFar) → game_of limit (length (before ++ (part ++ after))) g ts ≡ over s end
+          → Found at g ts s end
+      found (ended e) at is g h = absurd (none_left g.is_met
+          (record { kind = NoResult; offset = length (before ++ (part ++ after)) }) (ap (λ (r : GameRead). r.answer) h))
+      found (token {at = place} kind front rest {tokens} e long more) at is g h =
+          by_kind at (length (before ++ (part ++ after)) - place) kind front rest tokens g
+          (ap (λ p. length (before ++ (part ++ after)) - p) is)
+          (subst (λ p. drop p (before ++ (part ++ after)) ≡ front ++ rest) is e)
+          (subst (λ p. IsLongest (IsOf (begins_line (before ++ (part ++ after)) p) kind) front rest) is long)
+          (λ k same. found more (at + length front) (omega (arith, is)) k same) h
+      found (stopped {at = place} {fault} none k) at is g h =
+          absurd (faults_stop (drop place (before ++ (part ++ after))) (length (before ++ (part ++ after)) - place) g fault k
+          (ap (λ (r : GameRead). r.answer) h))
 
 -- ---- contradictions
 
@@ -519,6 +528,21 @@ agrees true tag other v end m same h =
 
 -- ---- the game
 
+not_before : (text : List ℕ) (at : ℕ) → at ≤ after_byte_order_mark text at
+not_before text at = by_zero (eqb at 0) refl
+  where
+    by_mark : (b : Bool) → at ≡ 0 → at ≤ cond b 3 at
+    by_mark true is = omega (arith, is)
+    by_mark false is = omega arith
+
+    by_zero : (z : Bool) → eqb at 0 ≡ z → at ≤ cond (z && bytes_eq (take 3 text) (239 ∷ 187 ∷ 191 ∷ [])) 3 at
+    by_zero true e =
+        let is : at ≡ 0 = grind (arith, nat_tests) in by_mark (bytes_eq (take 3 text) (239 ∷ 187 ∷ 191 ∷ [])) is
+    by_zero false e = omega arith
+
+no_mark : (text : List ℕ) (at : ℕ) → 0 < at → after_byte_order_mark text at ≡ at
+no_mark text at h = let not_first : eqb at 0 ≡ false = grind (arith, nat_tests) in rw not_first refl
+
 pub in_parts : ((limit : ℕ) → (text : List ℕ) → (at : ℕ) → pgn_read limit text at
     ≡ tokens_read limit (length text) (tokens_from text (after_byte_order_mark text at))) → GamesAreInParts
 in_parts law strict before part after at end begins is inside =
@@ -548,4 +572,67 @@ in_parts law strict before part after at end begins is inside =
           (agrees strict (result_tag_of (length text) ts) (result_tag_of (length part) us) v end
           (end.offset - length before) outcomes said.1);
       state = ap (λ (g : GameRead). g.state) alone;
+      some_bytes = omega (arith, f.bytes, not_before part at);
     }
+
+-- ---- reports
+
+next_begins : (before part after : List ℕ) (at next : ℕ) → BeginsAlike before part after at → 0 < next
+    → BeginsAlike before part after next
+next_begins before part after at next begins h = record {
+  line = begins.line;
+  first = no_mark (before ++ (part ++ after)) (length before + next) (omega (arith, h))
+      ∙ sym (ap (λ m. length before + m) (no_mark part next h));
+}
+
+module _ (law : (limit : ℕ) → (text : List ℕ) → (at : ℕ) → pgn_read limit text at
+    ≡ tokens_read limit (length text) (tokens_from text (after_byte_order_mark text at)))
+    (strict : Bool) (start : ℕ) (before part after : List ℕ) where
+  alone : {at : ℕ} {games : List Report} → HoldsWhole strict before part after at games
+      → BeginsAlike before part after at → at ≤ length part → (k : ℕ) → length part < k + at
+      → reports_from strict start k part at ≡ games
+  unfolding reports_from
+  alone holds begins within zero many = absurd (omega (arith, within, many))
+  alone (no_more {at} none skipped) begins within (suc k) many =
+      ap (λ j. report_then start part j (read_at part at).state (λ next. reports_from strict start k part next)) none
+  alone (game {at} {games} end is inside more) begins within (suc k) many =
+      let found = in_parts law strict before part after at end begins is inside in
+      let next : ℕ = end.offset - length before in
+      ap (λ j. report_then start part j (read_at part at).state (λ n. reports_from strict start k part n)) found.judged
+      ∙ ap (λ (s : State). Game (length s.moves) end.outcome end.termination ∷ reports_from strict start k part next)
+      found.state
+      ∙ ap (λ l. Game (length (read_at (before ++ (part ++ after)) (length before + at)).state.moves) end.outcome
+      end.termination ∷ l)
+      (alone {at = end.offset - length before} {games = games} more (next_begins before part after at next begins (omega (arith, found.some_bytes)))
+      (omega (arith, inside)) k (omega (arith, found.some_bytes, many)))
+
+  in_text : {at : ℕ} {games : List Report} → HoldsWhole strict before part after at games
+      → BeginsAlike before part after at → (most : ℕ)
+      → reports_from strict start (length games + most) (before ++ (part ++ after)) (length before + at)
+      ≡ games ++ reports_from strict start most (before ++ (part ++ after)) (length before + length part)
+  unfolding reports_from
+  in_text (no_more {at} none skipped) begins most =
+          let count : 0 + most ≡ most = omega arith in
+          ap (λ k. reports_from strict start k (before ++ (part ++ after)) (length before + at)) count
+          ∙ skipped start most
+  in_text (game {at} {games} end is inside more) begins most =
+      let text : List ℕ = before ++ (part ++ after) in
+      let found = in_parts law strict before part after at end begins is inside in
+      let next : ℕ = end.offset - length before in
+      let here : length before + next ≡ end.offset = omega (arith, found.some_bytes) in
+      let count : suc (length games) + most ≡ suc (length games + most) = omega arith in
+      let report : Report = Game (length (read_at text (length before + at)).state.moves) end.outcome end.termination in
+      ap (λ k. reports_from strict start k text (length before + at)) count
+      ∙ ap (λ j. report_then start text j (read_at text (length before + at)).state
+      (λ n. reports_from strict start (length games + most) text n)) is
+      ∙ ap (λ n. report ∷ reports_from strict start (length games + most) text n) (sym here)
+      ∙ ap (λ l. report ∷ l)
+      (in_text more (next_begins before part after at next begins (omega (arith, found.some_bytes))) most)
+
+pub reported_alike : ((limit : ℕ) → (text : List ℕ) → (at : ℕ) → pgn_read limit text at
+    ≡ tokens_read limit (length text) (tokens_from text (after_byte_order_mark text at)))
+    → WholeGamesAreReportedAlike
+reported_alike law strict start before part after games begins holds = record {
+  alone = alone law strict start before part after holds begins (omega arith) (length part + 1) (omega arith);
+  in_text = in_text law strict start before part after holds begins;
+}

@@ -1,6 +1,6 @@
 //! Laws of the definitions, each the contract of a function that does nothing.
 
-ghost use Rattle.pgn_verifier.specs.laws.Parts.{GamesAreInParts};
+ghost use Rattle.pgn_verifier.specs.laws.Parts.{GamesAreInParts, WholeGamesAreReportedAlike};
 ghost use Rattle.pgn_verifier.specs.laws.WrittenGames.{WrittenGamesHaveNoFault};
 
 use chess_pgn::{a_game_is_tags_and_moves, pgn_is_read_back};
@@ -14,11 +14,12 @@ pub fn written_games_have_no_fault()
     pgn_is_read_back();
 }
 
-/// States a law and does nothing: a game without a fault that is read in a text, from a place in one of its parts on,
-/// and that ends in that part, is read in the part alone, if the part begins where a line begins. So a game that
-/// `verify` reports, and that doesn't go on beyond the end of a piece, is what `verify_collection` reports there.
+/// States a law and does nothing. A game without a fault that is read in a text, from a place in one of its parts on,
+/// and that ends in that part, is read in the part alone, if the part begins where a line begins. So where a part, such
+/// as a piece, holds whole games, `verify` and `verify_collection` report the same of them.
 pub fn games_are_in_parts()
-    ensures { GamesAreInParts }
+    ensures game { GamesAreInParts }
+    ensures reports { WholeGamesAreReportedAlike }
 {
     // The prover wants this law: a game is read token by token.
     a_game_is_tags_and_moves();

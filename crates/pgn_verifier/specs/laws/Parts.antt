@@ -1,8 +1,12 @@
--- A game that is read in a text is also read in each part of the text that holds it.
-use Rattle.std.specs.Prelude.{◌≡◌, ◌≤◌, ℕ, ◌+◌, ◌-◌, Bool, true, List, ◌++◌, length, Some, Ok}
+-- The games of a text are also those of its parts that hold them whole, such as its pieces: `verify` and
+-- `verify_collection` report the same of them.
+use Rattle.std.specs.Prelude.{◌≡◌, ◌≤◌, ◌<◌, ℕ, ◌+◌, ◌-◌, Bool, true, List, [], ◌∷◌, ◌++◌, length, Some, None, Ok}
 use Rattle.chess_pgn.specs.Tokens.{after_byte_order_mark, begins_line}
 use Rattle.chess_pgn.specs.declared.read.PgnEnd.{PgnEnd}
 use Rattle.pgn_verifier.specs.GameFaults.{read_at, judged_at}
+use Rattle.pgn_verifier.specs.Reports.{Report, Game, reports_from, reports_on}
+
+-- ---- one game
 
 -- `part` stands in a text after `before`, where a line begins; and from the part's offset `at` on, reading begins at
 -- the same byte in both: a byte order mark is skipped in both or in neither
@@ -16,6 +20,7 @@ pub record BeginsAlike (before part after : List ℕ) (at : ℕ) : Type 0 where
 pub record HasGame (strict : Bool) (before part after : List ℕ) (at : ℕ) (end : PgnEnd) : Type 0 where
   pub judged : judged_at strict part at ≡ Ok (Some (record end { offset = end.offset - length before }))
   pub state : (read_at part at).state ≡ (read_at (before ++ (part ++ after)) (length before + at)).state
+  pub some_bytes : at < end.offset - length before
 
 -- a game without a fault, which is read in a text from a place in one of its parts on, and which ends in that part, is
 -- read in the part alone: the same start, moves, outcome and termination, whatever text comes before and after the part.
@@ -25,3 +30,34 @@ GamesAreInParts = (strict : Bool) (before part after : List ℕ) (at : ℕ) (end
     → BeginsAlike before part after at
     → judged_at strict (before ++ (part ++ after)) (length before + at) ≡ Ok (Some end)
     → end.offset ≤ length before + length part → HasGame strict before part after at end
+
+-- ---- the games of a part
+
+-- from its offset `at` on, a part that stands in a text after `before` holds whole games, of which these are the
+-- reports: one after another is read in the text without a fault and ends in the part. After the last, the part alone
+-- has no more games, and what is reported of the text is what is reported of it from the part's end on
+pub data HoldsWhole (strict : Bool) (before part after : List ℕ) : ℕ → List Report → Type 0 where
+  no_more : {at : ℕ} → judged_at strict part at ≡ Ok None
+      → ((start most : ℕ) → reports_from strict start most (before ++ (part ++ after)) (length before + at)
+      ≡ reports_from strict start most (before ++ (part ++ after)) (length before + length part))
+      → HoldsWhole strict before part after at []
+  game : {at : ℕ} {games : List Report} (end : PgnEnd)
+      → judged_at strict (before ++ (part ++ after)) (length before + at) ≡ Ok (Some end)
+      → end.offset ≤ length before + length part
+      → HoldsWhole strict before part after (end.offset - length before) games
+      → HoldsWhole strict before part after at
+      (Game (length (read_at (before ++ (part ++ after)) (length before + at)).state.moves) end.outcome end.termination
+      ∷ games)
+
+-- of a part that holds whole games, the reports are theirs; and the reports on the text from the part's beginning on are
+-- theirs too, and then those from the part's end on. The input's offset `start`, at which the part or the text begins,
+-- doesn't matter; `strict`: results are compared
+pub record AreReportedAlike (strict : Bool) (start : ℕ) (before part after : List ℕ) (games : List Report) : Type 0 where
+  pub alone : reports_on strict start part ≡ games
+  pub in_text : (most : ℕ) → reports_from strict start (length games + most) (before ++ (part ++ after)) (length before + 0)
+      ≡ games ++ reports_from strict start most (before ++ (part ++ after)) (length before + length part)
+
+abbrev pub WholeGamesAreReportedAlike : Type 0
+WholeGamesAreReportedAlike = (strict : Bool) (start : ℕ) (before part after : List ℕ) (games : List Report)
+    → BeginsAlike before part after 0 → HoldsWhole strict before part after 0 games
+    → AreReportedAlike strict start before part after games

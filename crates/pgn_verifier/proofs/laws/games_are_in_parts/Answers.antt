@@ -1,5 +1,8 @@
-use Rattle.pgn_verifier.proofs.Parts.{in_parts}
+use Rattle.pgn_verifier.proofs.Parts.{in_parts, reported_alike}
 use Rattle.pgn_verifier.proofs.laws.games_are_in_parts.Goals as goal
 
-pub returns : goal.returns
-returns c = in_parts c.a_game_is_tags_and_moves.ensures.token_by_token
+pub returns-clause-game : goal.returns-clause-game
+returns-clause-game c = in_parts c.a_game_is_tags_and_moves.ensures.token_by_token
+
+pub returns-clause-reports : goal.returns-clause-reports
+returns-clause-reports c = reported_alike c.a_game_is_tags_and_moves.ensures.token_by_token
