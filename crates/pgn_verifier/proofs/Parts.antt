@@ -1,10 +1,10 @@
 -- A game that is read in a text is read in each part of it that holds the game.
-use Rattle.std.proofs.Common.{◌≡◌, ℕ, zero, suc, ◌+◌, ◌-◌, ◌<◌, ◌≤◌, Bool, true, false, cond, eqb, List, [], ◌∷◌, ◌++◌, length, get_or, take, drop, Option, Some, None, Result, Ok, Err, refl, sym, ap, subst, ◌∙◌, append_assoc, length-append, arith}
+use Rattle.std.proofs.Common.{◌≡◌, ℕ, zero, suc, ◌+◌, ◌-◌, ◌<◌, ◌≤◌, Bool, true, false, cond, eqb, List, [], ◌∷◌, ◌++◌, length, get_or, take, drop, Option, Some, None, Result, Ok, Err, refl, sym, ap, subst, ◌∙◌, append_assoc, append-nil, length-append, arith}
 use Rattle.std.specs.Prelude.{is_some, nat_lt, codes, map, if◌then◌else◌, ◌||◌, ◌&&◌, ◌==◌}
-use Rattle.std.specs.List.{last_or, filter_map, cons_option, list_all, prefix_len}
+use Rattle.std.specs.List.{concat, flat_map, last_or, filter_map, cons_option, list_all, prefix_len}
 use Rattle.std.specs.Option.{option_map, option_map_or, option_or, option_eq}
 use Rattle.std.specs.Str.{bytes_eq}
-use Rattle.std.proofs.Math.Seq.{drop-append-add, take-length}
+use Rattle.std.proofs.Math.Seq.{drop-append-add, drop-length, take-length}
 use Rattle.std.proofs.lemmas.Bool.Decides.{nat_tests}
 use Rattle.std.proofs.lemmas.List.{take-append-drop, drop-append-le, take-append-le, length-drop, get_or_append_left, get_or-append-add}
 use Rattle.chess_base.specs.Letters.{byte, is_digit}
@@ -21,7 +21,7 @@ use Rattle.chess_game.specs.declared.verdicts.Verdict.{Verdict}
 use Rattle.chess_text.specs.declared.reading.Reading.{Reading}
 use Rattle.chess_text.specs.declared.reading.Reading.TheVariants as reads
 use Rattle.chess_text.specs.Moves.{reading}
-use Rattle.chess_pgn.specs.GameRead.{GameRead, declared_after, pgn_read, tagged_variant, variant_named}
+use Rattle.chess_pgn.specs.GameRead.{GameRead, declared_after, pgn_read, read_of_split, tagged_variant, variant_named}
 use Rattle.chess_pgn.specs.LastTags.{is_marks, may_precede_tags, own_tags, tags_named, last_tag, result_tag_of}
 use Rattle.chess_pgn.specs.Split.{IsSplit, IsOf, IsLongest, IsFaultOf, Kind, token_of, Blank, Line, Comment, Nag, Variation, Tag_pair, Asterisk, Symbol, ended, token, stopped}
 use Rattle.chess_pgn.specs.Tokens.{Token, Skip, Tag, Word, Bad_tag, Unclosed_comment, Unclosed_variation, Bad, after_byte_order_mark, begins_line, tokens_from}
@@ -34,8 +34,8 @@ use Rattle.chess_pgn.specs.laws.TokenByToken.{SoFar, Step, On, Stop, fails, ends
 use Rattle.chess_pgn.proofs.shared.Tokens.{read_split, split_read}
 use Rattle.pgn_verifier.specs.GameFaults.{result_differs, board_says_otherwise, contradiction, judged, judged_at, read_at}
 use Rattle.pgn_verifier.specs.declared.game_fault.GameFault.{GameFault}
-use Rattle.pgn_verifier.specs.laws.Parts.{BeginsAlike, HasGame, GamesAreInParts, HoldsWhole, no_more, game, WholeGamesAreReportedAlike}
-use Rattle.pgn_verifier.specs.Reports.{Report, Game, report_then, reports_from}
+use Rattle.pgn_verifier.specs.laws.Parts.{BeginsAlike, HasGame, GamesAreInParts, HoldsWhole, no_more, game, WholeGamesAreReportedAlike, AllHoldWhole, no_parts, next_part, TextsAreReportedInParts}
+use Rattle.pgn_verifier.specs.Reports.{Report, Game, report_then, reports_from, reports_on}
 
 -- ---- steps
 
@@ -636,3 +636,80 @@ reported_alike law strict start before part after games begins holds = record {
   alone = alone law strict start before part after holds begins (omega arith) (length part + 1) (omega arith);
   in_text = in_text law strict start before part after holds begins;
 }
+
+-- ---- all parts
+
+-- at a text's end no game is left
+nothing_left : (strict : Bool) (start k : ℕ) (text : List ℕ)
+    → reports_from strict start k text (length text) ≡ []
+unfolding reports_from pgn_read
+nothing_left strict start zero text = refl
+nothing_left strict start (suc k) text = by_first text (mark text)
+  where
+    mark : (text : List ℕ) → after_byte_order_mark text (length text) ≡ length text
+    mark [] = refl
+    mark (c ∷ cs) = no_mark (c ∷ cs) (suc (length cs)) (omega arith)
+
+    by_first : (text : List ℕ) → after_byte_order_mark text (length text) ≡ length text
+        → reports_from strict start (suc k) text (length text) ≡ []
+    by_first text e =
+        let none : [] ≡ tokens_from text (after_byte_order_mark text (length text)) =
+        split_read text (ended (ap (λ n. drop n text) e ∙ drop-length text)) in
+        ap (λ ts. report_then start text
+        (judged strict (result_tag_of (length text) ts) (verdict_now (read_of_split MOST_MOVES (length text) ts).state)
+        (read_of_split MOST_MOVES (length text) ts).answer) (read_of_split MOST_MOVES (length text) ts).state
+        (λ next. reports_from strict start k text next)) (sym none)
+
+module _ (law : (limit : ℕ) → (text : List ℕ) → (at : ℕ) → pgn_read limit text at
+    ≡ tokens_read limit (length text) (tokens_from text (after_byte_order_mark text at))) (strict : Bool) where
+  few : (before part after : List ℕ) {at : ℕ} {games : List Report} → HoldsWhole strict before part after at games
+      → BeginsAlike before part after at → at ≤ length part → length games + at ≤ length part
+  few before part after (no_more none skipped) begins within = omega (arith, within)
+  few before part after (game {at} {games} end is inside more) begins within =
+      let found = in_parts law strict before part after at end begins is inside in
+      omega (arith, found.some_bytes,
+      few before part after more (next_begins before part after at (end.offset - length before) begins
+      (omega (arith, found.some_bytes))) (omega (arith, inside)))
+
+  all_alone : {before : List ℕ} {parts : List (List ℕ)} {games : List Report} → AllHoldWhole strict before parts games
+      → (starts : List ℕ → ℕ) → flat_map (λ part. reports_on strict (starts part) part) parts ≡ games
+  all_alone no_parts starts = refl
+  all_alone (next_part {before} {first} {parts} {games} {more} begins holds rest) starts =
+      ap (λ l. l ++ flat_map (λ part. reports_on strict (starts part) part) parts)
+      (reported_alike law strict (starts first) before first (concat parts) games begins holds).alone
+      ∙ ap (λ l. games ++ l) (all_alone rest starts)
+
+  few_of_all : {before : List ℕ} {parts : List (List ℕ)} {games : List Report} → AllHoldWhole strict before parts games
+      → length games ≤ length (concat parts)
+  few_of_all no_parts = omega arith
+  few_of_all (next_part {before} {first} {parts} {games} {more} begins holds rest) =
+      omega (arith, length-append games more, length-append first (concat parts), few_of_all rest,
+      few before first (concat parts) holds begins (omega arith))
+
+  whole : (start k : ℕ) {before : List ℕ} {parts : List (List ℕ)} {games : List Report}
+      → AllHoldWhole strict before parts games
+      → reports_from strict start (length games + k) (before ++ concat parts) (length before) ≡ games
+  whole start k (no_parts {before}) =
+      let all : before ++ [] ≡ before = append-nil before in
+      ap (λ t. reports_from strict start (0 + k) t (length before)) all ∙ nothing_left strict start (0 + k) before
+  whole start k (next_part {before} {first} {parts} {games} {more} begins holds rest) =
+      let text : List ℕ = before ++ (first ++ concat parts) in
+      let count : length (games ++ more) + k ≡ length games + (length more + k) =
+      omega (arith, length-append games more) in
+      let here : length before ≡ length before + 0 = omega arith in
+      ap (λ m. reports_from strict start m text (length before)) count
+      ∙ ap (λ n. reports_from strict start (length games + (length more + k)) text n) here
+      ∙ (reported_alike law strict start before first (concat parts) games begins holds).in_text (length more + k)
+      ∙ ap (λ n. games ++ reports_from strict start (length more + k) text n) (sym (length-append before first))
+      ∙ ap (λ t. games ++ reports_from strict start (length more + k) t (length (before ++ first)))
+      (sym (append_assoc before first (concat parts)))
+      ∙ ap (λ l. games ++ l) (whole start k rest)
+
+pub all_reported_alike : ((limit : ℕ) → (text : List ℕ) → (at : ℕ) → pgn_read limit text at
+    ≡ tokens_read limit (length text) (tokens_from text (after_byte_order_mark text at)))
+    → TextsAreReportedInParts
+all_reported_alike law strict start parts games holds starts =
+    let k : ℕ = length (concat parts) + 1 - length games in
+    let count : length (concat parts) + 1 ≡ length games + k = omega (arith, few_of_all law strict holds) in
+    ap (λ m. reports_from strict start m (concat parts) 0) count ∙ whole law strict start k holds
+    ∙ sym (all_alone law strict holds starts)

@@ -1,6 +1,7 @@
 -- The games of a text are also those of its parts that hold them whole, such as its pieces: `verify` and
 -- `verify_collection` report the same of them.
 use Rattle.std.specs.Prelude.{◌≡◌, ◌≤◌, ◌<◌, ℕ, ◌+◌, ◌-◌, Bool, true, List, [], ◌∷◌, ◌++◌, length, Some, None, Ok}
+use Rattle.std.specs.List.{concat, flat_map}
 use Rattle.chess_pgn.specs.Tokens.{after_byte_order_mark, begins_line}
 use Rattle.chess_pgn.specs.declared.read.PgnEnd.{PgnEnd}
 use Rattle.pgn_verifier.specs.GameFaults.{read_at, judged_at}
@@ -61,3 +62,20 @@ abbrev pub WholeGamesAreReportedAlike : Type 0
 WholeGamesAreReportedAlike = (strict : Bool) (start : ℕ) (before part after : List ℕ) (games : List Report)
     → BeginsAlike before part after 0 → HoldsWhole strict before part after 0 games
     → AreReportedAlike strict start before part after games
+
+-- ---- the games of all parts
+
+-- a text's parts, one after another, each of which begins where a line begins and holds whole games; these are the
+-- reports on all of them. The first argument after `strict` is the text before the parts
+pub data AllHoldWhole (strict : Bool) : List ℕ → List (List ℕ) → List Report → Type 0 where
+  no_parts : {before : List ℕ} → AllHoldWhole strict before [] []
+  next_part : {before first : List ℕ} {parts : List (List ℕ)} {games more : List Report}
+      → BeginsAlike before first (concat parts) 0 → HoldsWhole strict before first (concat parts) 0 games
+      → AllHoldWhole strict (before ++ first) parts more → AllHoldWhole strict before (first ∷ parts) (games ++ more)
+
+-- if a text's parts hold whole games, the reports on the text are those on its parts, each read as a text of its own;
+-- `start`: the offset of the input at which a text begins, `strict`: results are compared
+abbrev pub TextsAreReportedInParts : Type 0
+TextsAreReportedInParts = (strict : Bool) (start : ℕ) (parts : List (List ℕ)) (games : List Report)
+    → AllHoldWhole strict [] parts games → (starts : List ℕ → ℕ)
+    → reports_on strict start (concat parts) ≡ flat_map (λ part. reports_on strict (starts part) part) parts
