@@ -1,10 +1,11 @@
 -- A game that is read in a text is read in each part of it that holds the game.
 use Rattle.std.proofs.Common.{◌≡◌, ℕ, zero, suc, ◌+◌, ◌-◌, ◌<◌, ◌≤◌, Bool, true, false, cond, eqb, List, [], ◌∷◌, ◌++◌, length, get_or, take, drop, Option, Some, None, Result, Ok, Err, refl, sym, ap, subst, ◌∙◌, append_assoc, append-nil, length-append, arith}
-use Rattle.std.specs.Prelude.{is_some, nat_lt, codes, map, if◌then◌else◌, ◌||◌, ◌&&◌, ◌==◌}
-use Rattle.std.specs.List.{concat, flat_map, last_or, filter_map, cons_option, list_all, prefix_len}
+use Rattle.std.specs.Prelude.{is_some, nat_le, nat_lt, codes, map, if◌then◌else◌, ◌||◌, ◌&&◌, ◌==◌}
+use Rattle.std.specs.List.{concat, flat_map, onto_first, last_or, filter_map, cons_option, list_all, prefix_len}
 use Rattle.std.specs.Option.{option_map, option_map_or, option_or, option_eq}
 use Rattle.std.specs.Str.{bytes_eq}
 use Rattle.std.proofs.Math.Seq.{drop-append-add, drop-length, take-length}
+use Rattle.std.proofs.lemmas.Bool.{le-leb}
 use Rattle.std.proofs.lemmas.Bool.Decides.{nat_tests}
 use Rattle.std.proofs.lemmas.List.{take-append-drop, drop-append-le, take-append-le, length-drop, get_or_append_left, get_or-append-add}
 use Rattle.chess_base.specs.Letters.{byte, is_digit}
@@ -34,8 +35,10 @@ use Rattle.chess_pgn.specs.laws.TokenByToken.{SoFar, Step, On, Stop, fails, ends
 use Rattle.chess_pgn.proofs.shared.Tokens.{read_split, split_read}
 use Rattle.pgn_verifier.specs.GameFaults.{result_differs, board_says_otherwise, contradiction, judged, judged_at, read_at}
 use Rattle.pgn_verifier.specs.declared.game_fault.GameFault.{GameFault}
-use Rattle.pgn_verifier.specs.laws.Parts.{BeginsAlike, HasGame, GamesAreInParts, HoldsWhole, no_more, game, WholeGamesAreReportedAlike, AllHoldWhole, no_parts, next_part, TextsAreReportedInParts}
-use Rattle.pgn_verifier.specs.Reports.{Report, Game, report_then, reports_from, reports_on}
+use Rattle.pgn_verifier.specs.laws.Parts.{BeginsAlike, HasGame, GamesAreInParts, HoldsWhole, no_more, game, WholeGamesAreReportedAlike, AllHoldWhole, no_parts, next_part, TextsAreReportedInParts, PiecesAreReportedAlike}
+use Rattle.pgn_pieces.specs.Pieces.{lines_of, begins_piece, piece_of, cut_lines, cut, piece_at, with_offsets, pieces}
+use Rattle.pgn_pieces.specs.declared.pieces.TheConstants.{PIECE_LEN}
+use Rattle.pgn_verifier.specs.Reports.{Report, Game, report_then, reports_from, reports_on, reports_in, too_long_report}
 
 -- ---- steps
 
@@ -713,3 +716,71 @@ all_reported_alike law strict start parts games holds starts =
     let count : length (concat parts) + 1 ≡ length games + k = omega (arith, few_of_all law strict holds) in
     ap (λ m. reports_from strict start m (concat parts) 0) count ∙ whole law strict start k holds
     ∙ sym (all_alone law strict holds starts)
+
+-- ---- pieces
+
+-- the pieces of a text are all of it
+lines_are_all : (text : List ℕ) → concat (lines_of text) ≡ text
+lines_are_all [] = refl
+lines_are_all (c ∷ cs) = by_test (eqb c 10) (lines_are_all cs)
+  where
+    onto : (lines : List (List ℕ)) → concat (onto_first c lines) ≡ c ∷ concat lines
+    onto [] = refl
+    onto (line ∷ lines) = refl
+
+    by_test : (b : Bool) → concat (lines_of cs) ≡ cs
+        → concat (cond b ((c ∷ []) ∷ lines_of cs) (onto_first c (lines_of cs))) ≡ c ∷ cs
+    by_test true all = ap (λ l. c ∷ l) all
+    by_test false all = onto (lines_of cs) ∙ ap (λ l. c ∷ l) all
+
+concat_more : (before : List (List ℕ)) (line : List ℕ) → concat (before ++ line ∷ []) ≡ concat before ++ line
+concat_more [] line = append-nil line
+concat_more (x ∷ xs) line = ap (λ (l : List ℕ). x ++ l) (concat_more xs line) ∙ sym (append_assoc x (concat xs) line)
+
+pieces_are_all : (before lines : List (List ℕ)) → concat (cut_lines before lines) ≡ concat before ++ concat lines
+pieces_are_all before [] = last (concat before)
+  where
+    last : (bytes : List ℕ) → concat (piece_of bytes) ≡ bytes ++ []
+    last [] = refl
+    last (c ∷ cs) = refl
+pieces_are_all before (line ∷ lines) =
+    by_test (begins_piece before line) (pieces_are_all (line ∷ []) lines) (pieces_are_all (before ++ line ∷ []) lines)
+  where
+    by_test : (b : Bool) → concat (cut_lines (line ∷ []) lines) ≡ concat (line ∷ []) ++ concat lines
+        → concat (cut_lines (before ++ line ∷ []) lines) ≡ concat (before ++ line ∷ []) ++ concat lines
+        → concat (cond b (concat before ∷ cut_lines (line ∷ []) lines) (cut_lines (before ++ line ∷ []) lines))
+        ≡ concat before ++ (line ++ concat lines)
+    by_test true next longer = ap (λ l. concat before ++ l) (next ∙ ap (λ l. l ++ concat lines) (append-nil line))
+    by_test false next longer = longer ∙ ap (λ l. l ++ concat lines) (concat_more before line)
+        ∙ append_assoc (concat before) line (concat lines)
+
+cut_is_all : (text : List ℕ) → concat (cut text) ≡ text
+cut_is_all text = pieces_are_all [] (lines_of text) ∙ lines_are_all text
+
+module _ (law : (limit : ℕ) → (text : List ℕ) → (at : ℕ) → pgn_read limit text at
+    ≡ tokens_read limit (length text) (tokens_from text (after_byte_order_mark text at))) (strict : Bool) where
+  in_pieces : {before : List ℕ} {parts : List (List ℕ)} {games : List Report}
+      → AllHoldWhole strict before parts games → (offset : ℕ) → length (concat parts) ≤ PIECE_LEN
+      → flat_map (reports_in strict) (with_offsets offset parts) ≡ games
+  in_pieces no_parts offset h = refl
+  in_pieces (next_part {before} {first} {parts} {games} {more} begins holds rest) offset h =
+      let all : length (first ++ concat parts) ≡ length first + length (concat parts) =
+      length-append first (concat parts) in
+      let short : nat_le (length first) PIECE_LEN ≡ true = le-leb (length first) PIECE_LEN (omega (arith, h, all)) in
+      let later : List Report = flat_map (reports_in strict) (with_offsets (offset + length first) parts) in
+      ap (λ b. option_map_or (reports_on strict offset) (if b then Some first else None)
+      (too_long_report (piece_at offset first) ∷ []) ++ later) short
+      ∙ ap (λ l. l ++ later)
+      (reported_alike law strict offset before first (concat parts) games begins holds).alone
+      ∙ ap (λ l. games ++ l) (in_pieces rest (offset + length first) (omega (arith, h, all)))
+
+pub pieces_alike : ((limit : ℕ) → (text : List ℕ) → (at : ℕ) → pgn_read limit text at
+    ≡ tokens_read limit (length text) (tokens_from text (after_byte_order_mark text at)))
+    → PiecesAreReportedAlike
+unfolding pieces
+pieces_alike law strict text games few holds =
+    let all : concat (cut text) ≡ text = cut_is_all text in
+    let short : length (concat (cut text)) ≤ PIECE_LEN = omega (arith, few, ap length all) in
+    let starts : List ℕ → ℕ = λ part. 0 in
+    in_pieces law strict holds 0 short ∙ sym (all_alone law strict holds starts)
+    ∙ sym (all_reported_alike law strict 0 (cut text) games holds starts) ∙ ap (reports_on strict 0) all

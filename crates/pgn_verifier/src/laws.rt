@@ -1,6 +1,6 @@
 //! Laws of the definitions, each the contract of a function that does nothing.
 
-ghost use Rattle.pgn_verifier.specs.laws.Parts.{GamesAreInParts, TextsAreReportedInParts, WholeGamesAreReportedAlike};
+ghost use Rattle.pgn_verifier.specs.laws.Parts.{GamesAreInParts, PiecesAreReportedAlike, TextsAreReportedInParts, WholeGamesAreReportedAlike};
 ghost use Rattle.pgn_verifier.specs.laws.WrittenGames.{WrittenGamesHaveNoFault};
 
 use chess_pgn::{a_game_is_tags_and_moves, pgn_is_read_back};
@@ -21,6 +21,7 @@ pub fn games_are_in_parts()
     ensures game { GamesAreInParts }
     ensures reports { WholeGamesAreReportedAlike }
     ensures text { TextsAreReportedInParts }
+    ensures pieces { PiecesAreReportedAlike }
 {
     // The prover wants this law: a game is read token by token.
     a_game_is_tags_and_moves();

@@ -4,6 +4,9 @@ use Rattle.std.specs.Prelude.{◌≡◌, ◌≤◌, ◌<◌, ℕ, ◌+◌, ◌-�
 use Rattle.std.specs.List.{concat, flat_map}
 use Rattle.chess_pgn.specs.Tokens.{after_byte_order_mark, begins_line}
 use Rattle.chess_pgn.specs.declared.read.PgnEnd.{PgnEnd}
+use Rattle.pgn_pieces.specs.Pieces.{cut}
+use Rattle.pgn_pieces.specs.declared.pieces.TheConstants.{PIECE_LEN}
+use Rattle.pgn_verifier.specs.Collection.{collection_reports}
 use Rattle.pgn_verifier.specs.GameFaults.{read_at, judged_at}
 use Rattle.pgn_verifier.specs.Reports.{Report, Game, reports_from, reports_on}
 
@@ -79,3 +82,9 @@ abbrev pub TextsAreReportedInParts : Type 0
 TextsAreReportedInParts = (strict : Bool) (start : ℕ) (parts : List (List ℕ)) (games : List Report)
     → AllHoldWhole strict [] parts games → (starts : List ℕ → ℕ)
     → reports_on strict start (concat parts) ≡ flat_map (λ part. reports_on strict (starts part) part) parts
+
+-- if the pieces of a text hold whole games, and it has at most 16,777,216 bytes, as `verify` takes it, then the reports
+-- on the text and on its pieces are the same
+abbrev pub PiecesAreReportedAlike : Type 0
+PiecesAreReportedAlike = (strict : Bool) (text : List ℕ) (games : List Report) → length text ≤ PIECE_LEN
+    → AllHoldWhole strict [] (cut text) games → collection_reports strict true text ≡ reports_on strict 0 text
