@@ -1,7 +1,7 @@
 -- A game that is read in a text is read in each part of it that holds the game.
 use Rattle.std.proofs.Common.{◌≡◌, ℕ, zero, suc, ◌+◌, ◌-◌, ◌<◌, ◌≤◌, Bool, true, false, cond, eqb, List, [], ◌∷◌, ◌++◌, length, get_or, take, drop, Option, Some, None, Result, Ok, Err, refl, sym, ap, subst, ◌∙◌, append_assoc, append-nil, length-append, arith}
 use Rattle.std.specs.Prelude.{is_some, nat_le, nat_lt, codes, map, if◌then◌else◌, ◌||◌, ◌&&◌, ◌==◌}
-use Rattle.std.specs.List.{concat, flat_map, onto_first, last_or, filter_map, cons_option, list_all, prefix_len}
+use Rattle.std.specs.List.{concat, flat_map, onto_first, last_or, cons_option, list_all, prefix_len}
 use Rattle.std.specs.Option.{option_map, option_map_or, option_or, option_eq}
 use Rattle.std.specs.Str.{bytes_eq}
 use Rattle.std.proofs.Math.Seq.{drop-append-add, drop-length, take-length}
@@ -10,7 +10,6 @@ use Rattle.std.proofs.lemmas.Bool.Decides.{nat_tests}
 use Rattle.std.proofs.lemmas.List.{take-append-drop, drop-append-le, take-append-le, length-drop, get_or_append_left, get_or-append-add}
 use Rattle.chess_base.specs.Letters.{byte, is_digit}
 use Rattle.chess_base.specs.declared.fen_fault.FenFault.{FenFault}
-use Rattle.chess_base.specs.declared.man.Variant.{Variant}
 use Rattle.chess_base.specs.declared.man.Variant.TheVariants.{Normal}
 use Rattle.chess_base.specs.declared.setup.Setup.{Setup}
 use Rattle.chess_fen.specs.Reading.{fen_reading_as}
@@ -31,11 +30,11 @@ use Rattle.chess_pgn.specs.declared.read.PgnEnd.{PgnEnd}
 use Rattle.chess_pgn.specs.declared.read.PgnFault.{PgnFault}
 use Rattle.chess_pgn.specs.declared.read.PgnFaultKind.TheVariants.{NoResult}
 use Rattle.chess_pgn.specs.declared.tagged_result.ResultTag.{ResultTag}
-use Rattle.chess_pgn.specs.laws.TokenByToken.{SoFar, Step, On, Stop, fails, ends, move_step, word_step, fen_step, step, read_rest_with, game_of, nothing_read, tokens_read}
+use Rattle.chess_pgn.specs.laws.TokenByToken.{SoFar, Step, On, Stop, ends, move_step, word_step, fen_step, step, read_rest_with, game_of, nothing_read, tokens_read}
 use Rattle.chess_pgn.proofs.shared.Tokens.{read_split, split_read}
-use Rattle.pgn_verifier.specs.GameFaults.{result_differs, board_says_otherwise, contradiction, judged, judged_at, read_at}
+use Rattle.pgn_verifier.specs.GameFaults.{result_differs, board_says_otherwise, contradiction, judged, read_at}
 use Rattle.pgn_verifier.specs.declared.game_fault.GameFault.{GameFault}
-use Rattle.pgn_verifier.specs.laws.Parts.{BeginsAlike, HasGame, GamesAreInParts, HoldsWhole, no_more, game, WholeGamesAreReportedAlike, AllHoldWhole, no_parts, next_part, TextsAreReportedInParts, PiecesAreReportedAlike}
+use Rattle.pgn_verifier.specs.laws.Parts.{BeginsAlike, GamesAreInParts, HoldsWhole, no_more, game, WholeGamesAreReportedAlike, AllHoldWhole, no_parts, next_part, TextsAreReportedInParts, PiecesAreReportedAlike}
 use Rattle.pgn_pieces.specs.Pieces.{lines_of, begins_piece, piece_of, cut_lines, cut, piece_at, with_offsets, pieces}
 use Rattle.pgn_pieces.specs.declared.pieces.TheConstants.{PIECE_LEN}
 use Rattle.pgn_verifier.specs.Reports.{Report, Game, report_then, reports_from, reports_on, reports_in, too_long_report}
@@ -324,12 +323,12 @@ module _ (limit : ℕ) (before part after : List ℕ) (starts : begins_line (bef
           record {
             within = omega (arith, near);
             own = (length part - at, token_of kind front left) ∷ found.own;
-            split = token kind front fit.rest' fit.is
+            split = token kind front fit.rest' {tokens = found.own} fit.is
                 (longest (begins_line (before ++ (part ++ after)) (length before + at)) (begins_line part at) kind front rest
                 fit.rest' (lines at (omega (arith, near))) fit.all long) found.split;
             is = ap (λ t. read_rest_with t (λ k. game_of limit (length part) k found.own)) here.second ∙ found.is;
             tags = tags left found.own found.tags;
-          bytes = omega (arith, found.bytes);
+            bytes = omega (arith, found.bytes);
           }
 
       same_end : (a b : PgnEnd) (u v : State) → over u a ≡ over v b → (u ≡ v) × (a ≡ b)
@@ -409,7 +408,7 @@ module _ (limit : ℕ) (before part after : List ℕ) (starts : begins_line (bef
                     })) same.0
                     ∙ ap (λ (p : PgnEnd). over s (record p { offset = end.offset - length before })) same.1;
                 tags = word_ends (length part - at) x front mine tokens no_tag;
-              bytes = omega (arith, moved, near, some);
+                bytes = omega (arith, moved, near, some);
               }
 
       by_kind : (at x : ℕ) (kind : Kind) (front rest : List ℕ) (tokens : List (ℕ × Token)) (g : SoFar)
@@ -615,9 +614,9 @@ module _ (law : (limit : ℕ) → (text : List ℕ) → (at : ℕ) → pgn_read 
       ≡ games ++ reports_from strict start most (before ++ (part ++ after)) (length before + length part)
   unfolding reports_from
   in_text (no_more {at} none skipped) begins most =
-          let count : 0 + most ≡ most = omega arith in
-          ap (λ k. reports_from strict start k (before ++ (part ++ after)) (length before + at)) count
-          ∙ skipped start most
+      let count : 0 + most ≡ most = omega arith in
+      ap (λ k. reports_from strict start k (before ++ (part ++ after)) (length before + at)) count
+      ∙ skipped start most
   in_text (game {at} {games} end is inside more) begins most =
       let text : List ℕ = before ++ (part ++ after) in
       let found = in_parts law strict before part after at end begins is inside in
@@ -670,9 +669,12 @@ module _ (law : (limit : ℕ) → (text : List ℕ) → (at : ℕ) → pgn_read 
   few before part after (no_more none skipped) begins within = omega (arith, within)
   few before part after (game {at} {games} end is inside more) begins within =
       let found = in_parts law strict before part after at end begins is inside in
-      omega (arith, found.some_bytes,
-      few before part after more (next_begins before part after at (end.offset - length before) begins
-      (omega (arith, found.some_bytes))) (omega (arith, inside)))
+      omega (
+        arith,
+        found.some_bytes,
+        few before part after more (next_begins before part after at (end.offset - length before) begins
+            (omega (arith, found.some_bytes))) (omega (arith, inside)),
+      )
 
   all_alone : {before : List ℕ} {parts : List (List ℕ)} {games : List Report} → AllHoldWhole strict before parts games
       → (starts : List ℕ → ℕ) → flat_map (λ part. reports_on strict (starts part) part) parts ≡ games
@@ -686,8 +688,13 @@ module _ (law : (limit : ℕ) → (text : List ℕ) → (at : ℕ) → pgn_read 
       → length games ≤ length (concat parts)
   few_of_all no_parts = omega arith
   few_of_all (next_part {before} {first} {parts} {games} {more} begins holds rest) =
-      omega (arith, length-append games more, length-append first (concat parts), few_of_all rest,
-      few before first (concat parts) holds begins (omega arith))
+      omega (
+        arith,
+        length-append games more,
+        length-append first (concat parts),
+        few_of_all rest,
+        few before first (concat parts) holds begins (omega arith),
+      )
 
   whole : (start k : ℕ) {before : List ℕ} {parts : List (List ℕ)} {games : List Report}
       → AllHoldWhole strict before parts games

@@ -14,9 +14,9 @@ pub fn written_games_have_no_fault()
     pgn_is_read_back();
 }
 
-/// States a law and does nothing. A game without a fault that is read in a text, from a place in one of its parts on,
-/// and that ends in that part, is read in the part alone, if the part begins where a line begins. So where a part, such
-/// as a piece, holds whole games, `verify` and `verify_collection` report the same of them.
+/// States a law and does nothing: a game that is read in a text without a fault, from a place in one of its parts on,
+/// and that ends in that part, is read in the part alone, if the part begins where a line begins. So where the pieces of
+/// a text hold whole games, `verify` and `verify_collection` report the same games.
 pub fn games_are_in_parts()
     ensures game { GamesAreInParts }
     ensures reports { WholeGamesAreReportedAlike }
