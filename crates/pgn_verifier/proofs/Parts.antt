@@ -66,7 +66,8 @@ goes_on s t later state end (on g) h = record { g = g; first = refl; second = re
 goes_on s t later state end (stops u f other) h =
     let wrong : Err f ≡ Ok (Some end) = ap (λ (r : GameRead). r.answer) h in absurd (cc)
 
-moves_alike : (limit : ℕ) (g : SoFar) (m n : ℕ) (r : Reading) → OnOrFails (move_step limit g m r) (move_step limit g n r)
+moves_alike : (limit : ℕ) (g : SoFar) (m n : ℕ) (r : Reading)
+    → OnOrFails (move_step limit g m r) (move_step limit g n r)
 moves_alike limit g m n reads.NotAMove = stops _ _ _
 moves_alike limit g m n (reads.Move x) =
     either (is_some (verdict_now g.state)) _ _ _ _ (stops _ _ _)
@@ -154,8 +155,10 @@ tag_more x y m n other text us ts same name =
     opened name (y, Tag other text n) us ∙ by_test (bytes_eq other name) ∙ sym (opened name (x, Tag other text m) ts)
   where
     by_test : (b : Bool)
-        → map (λ (t : List ℕ × ℕ). t.0) (cons_option (if b then Some (text, n) else None) (tags_named name (own_tags us)))
-        ≡ map (λ (t : List ℕ × ℕ). t.0) (cons_option (if b then Some (text, m) else None) (tags_named name (own_tags ts)))
+        → map (λ (t : List ℕ × ℕ). t.0) (cons_option (if b then Some (text, n) else None) (tags_named name (own_tags
+        us)))
+        ≡ map (λ (t : List ℕ × ℕ). t.0) (cons_option (if b then Some (text, m) else None) (tags_named name (own_tags
+        ts)))
     by_test true = ap (λ l. text ∷ l) (same name)
     by_test false = same name
 
@@ -214,14 +217,20 @@ same_result total small us ts same =
     ∙ sym (by_text total (last_tag (codes "Result") (own_tags ts)))
   where
     by_text : (n : ℕ) (o : Option (List ℕ × ℕ))
-        → outcome_in (option_map (λ (tag : List ℕ × ℕ). record { outcome = outcome_of tag.0; offset = n - tag.1; len = length tag.0 }) o)
+        → outcome_in (option_map (λ (tag : List ℕ × ℕ). record {
+          outcome = outcome_of tag.0;
+          offset = n - tag.1;
+          len
+              = length tag.0;
+        }) o)
         ≡ option_map outcome_of (option_map (λ (t : List ℕ × ℕ). t.0) o)
     by_text n None = refl
     by_text n (Some tag) = refl
 
 -- ---- the part
 
-module _ (limit : ℕ) (before part after : List ℕ) (starts : begins_line (before ++ (part ++ after)) (length before) ≡ true)
+module _ (limit : ℕ) (before part after : List ℕ) (starts : begins_line (before ++ (part ++ after)) (length before) ≡
+    true)
   where
     text : List ℕ
     text = before ++ (part ++ after)
@@ -238,7 +247,8 @@ module _ (limit : ℕ) (before part after : List ℕ) (starts : begins_line (bef
     there : (at : ℕ) → at ≤ length part → drop (length before + at) (before ++ (part ++ after)) ≡ drop at part ++ after
     there at h = drop-append-add before (part ++ after) at ∙ drop-append-le at part after h
 
-    lines : (at : ℕ) → at ≤ length part → begins_line (before ++ (part ++ after)) (length before + at) ≡ begins_line part at
+    lines : (at : ℕ) → at ≤ length part → begins_line (before ++ (part ++ after)) (length before + at)
+        ≡ begins_line part at
     lines zero h = ap (begins_line (before ++ (part ++ after))) (omega arith) ∙ starts
     lines (suc k) h =
         let some : eqb (length before + suc k) 0 ≡ false = grind (arith, nat_tests) in
@@ -281,7 +291,8 @@ module _ (limit : ℕ) (before part after : List ℕ) (starts : begins_line (bef
         record {
           rest' = drop (length front) (drop at part);
           is = is;
-          all = sym (drop-append-add front rest 0 ∙ refl) ∙ ap (drop (length front + 0)) (sym all ∙ ap (λ l. l ++ after) is ∙ append_assoc front (drop (length front) (drop at part)) after)
+          all = sym (drop-append-add front rest 0 ∙ refl) ∙ ap (drop (length front + 0)) (sym all
+              ∙ ap (λ l. l ++ after) is ∙ append_assoc front (drop (length front) (drop at part)) after)
               ∙ drop-append-add front (drop (length front) (drop at part) ++ after) 0;
         }
 
@@ -303,12 +314,15 @@ module _ (limit : ℕ) (before part after : List ℕ) (starts : begins_line (bef
       further : (at x : ℕ) (kind : Kind) (front rest : List ℕ) (tokens : List (ℕ × Token)) (g : SoFar)
           → drop (length before + at) (before ++ (part ++ after)) ≡ front ++ rest
           → IsLongest (IsOf (begins_line (before ++ (part ++ after)) (length before + at)) kind) front rest
-          → ((m : ℕ) → OnOrFails (step limit (length (before ++ (part ++ after))) g x (token_of kind front (length rest)))
+          → ((m : ℕ) → OnOrFails (step limit (length (before ++ (part ++ after))) g x (token_of kind front (length
+          rest)))
           (step limit (length part) g (length part - at) (token_of kind front m)))
           → ((m : ℕ) (us : List (ℕ × Token)) → HaveSameTags us tokens
-          → HaveSameTags ((length part - at, token_of kind front m) ∷ us) ((x, token_of kind front (length rest)) ∷ tokens))
+          → HaveSameTags ((length part - at, token_of kind front m) ∷ us) ((x, token_of kind front (length rest)) ∷
+          tokens))
           → Again (at + length front) tokens
-          → game_of limit (length (before ++ (part ++ after))) g ((x, token_of kind front (length rest)) ∷ tokens) ≡ over s end
+          → game_of limit (length (before ++ (part ++ after))) g ((x, token_of kind front (length rest)) ∷ tokens)
+          ≡ over s end
           → Found at g ((x, token_of kind front (length rest)) ∷ tokens) s end
       further at x kind front rest tokens g e long steps tags again h =
           let later : SoFar → GameRead = λ k. game_of limit (length (before ++ (part ++ after))) k tokens in
@@ -324,7 +338,8 @@ module _ (limit : ℕ) (before part after : List ℕ) (starts : begins_line (bef
             within = omega (arith, near);
             own = (length part - at, token_of kind front left) ∷ found.own;
             split = token kind front fit.rest' {tokens = found.own} fit.is
-                (longest (begins_line (before ++ (part ++ after)) (length before + at)) (begins_line part at) kind front rest
+                (longest (begins_line (before ++ (part ++ after)) (length before + at)) (begins_line part at) kind
+                front rest
                 fit.rest' (lines at (omega (arith, near))) fit.all long) found.split;
             is = ap (λ t. read_rest_with t (λ k. game_of limit (length part) k found.own)) here.second ∙ found.is;
             tags = tags left found.own found.tags;
@@ -364,9 +379,11 @@ module _ (limit : ℕ) (before part after : List ℕ) (starts : begins_line (bef
           passes alike =
               subst (λ t. Found at g ((x, t) ∷ tokens) s end) (is_word (length rest))
               (further at x kind front rest tokens g e long
-              (λ m. subst (λ t. OnOrFails (step limit total g x t) (step limit (length part) g (length part - at) (token_of kind front m)))
+              (λ m. subst (λ t. OnOrFails (step limit total g x t) (step limit (length part) g (length part - at)
+              (token_of kind front m)))
               (sym (is_word (length rest)))
-              (subst (λ t. OnOrFails (step limit total g x (Word front)) (step limit (length part) g (length part - at) t))
+              (subst (λ t. OnOrFails (step limit total g x (Word front)) (step limit (length part) g (length part -
+              at) t))
               (sym (is_word m)) (alike (total - x) (length part - (length part - at)))))
               (λ m us same. subst (λ t. HaveSameTags ((length part - at, token_of kind front m) ∷ us) ((x, t) ∷ tokens))
               (sym (is_word (length rest)))
@@ -416,7 +433,8 @@ module _ (limit : ℕ) (before part after : List ℕ) (starts : begins_line (bef
           → drop (length before + at) (before ++ (part ++ after)) ≡ front ++ rest
           → IsLongest (IsOf (begins_line (before ++ (part ++ after)) (length before + at)) kind) front rest
           → Again (at + length front) tokens
-          → game_of limit (length (before ++ (part ++ after))) g ((x, token_of kind front (length rest)) ∷ tokens) ≡ over s end
+          → game_of limit (length (before ++ (part ++ after))) g ((x, token_of kind front (length rest)) ∷ tokens)
+          ≡ over s end
           → Found at g ((x, token_of kind front (length rest)) ∷ tokens) s end
       by_kind at x Blank front rest tokens g place e long again h =
           further at x Blank front rest tokens g e long (λ m. on g)
@@ -459,7 +477,8 @@ module _ (limit : ℕ) (before part after : List ℕ) (starts : begins_line (bef
       faults_stop xs x g Bad k h = cc
 
       found : {place : ℕ} {ts : List (ℕ × Token)} → IsSplit (before ++ (part ++ after)) place ts → (at : ℕ)
-          → place ≡ length before + at → (g : SoFar) → game_of limit (length (before ++ (part ++ after))) g ts ≡ over s end
+          → place ≡ length before + at → (g : SoFar) → game_of limit (length (before ++ (part ++ after))) g ts
+          ≡ over s end
           → Found at g ts s end
       found (ended e) at is g h = absurd (none_left g.is_met
           (record { kind = NoResult; offset = length (before ++ (part ++ after)) }) (ap (λ (r : GameRead). r.answer) h))
@@ -470,7 +489,8 @@ module _ (limit : ℕ) (before part after : List ℕ) (starts : begins_line (bef
           (subst (λ p. IsLongest (IsOf (begins_line (before ++ (part ++ after)) p) kind) front rest) is long)
           (λ k same. found more (at + length front) (omega (arith, is)) k same) h
       found (stopped {at = place} {fault} none k) at is g h =
-          absurd (faults_stop (drop place (before ++ (part ++ after))) (length (before ++ (part ++ after)) - place) g fault k
+          absurd (faults_stop (drop place (before ++ (part ++ after))) (length (before ++ (part ++ after)) - place) g
+          fault k
           (ap (λ (r : GameRead). r.answer) h))
 
 -- ---- contradictions
@@ -569,7 +589,8 @@ in_parts law strict before part after at end begins is inside =
     ap (λ l. outcome_in (result_tag_of (length part) l)) (sym own)
     ∙ same_result (length text) (length part) f.own ts f.tags in
     record {
-      judged = ap (λ (g : GameRead). judged strict (result_tag_of (length part) us) (verdict_now g.state) g.answer) alone
+      judged = ap (λ (g : GameRead). judged strict (result_tag_of (length part) us) (verdict_now g.state) g.answer)
+          alone
           ∙ ap (λ fault. option_map_or Err fault (Ok (Some back)))
           (agrees strict (result_tag_of (length text) ts) (result_tag_of (length part) us) v end
           (end.offset - length before) outcomes said.1);
@@ -605,7 +626,8 @@ module _ (law : (limit : ℕ) → (text : List ℕ) → (at : ℕ) → pgn_read 
       found.state
       ∙ ap (λ l. Game (length (read_at (before ++ (part ++ after)) (length before + at)).state.moves) end.outcome
       end.termination ∷ l)
-      (alone {at = end.offset - length before} {games = games} more (next_begins before part after at next begins (omega (arith, found.some_bytes)))
+      (alone {at = end.offset - length before} {games = games} more (next_begins before part after at next begins
+      (omega (arith, found.some_bytes)))
       (omega (arith, inside)) k (omega (arith, found.some_bytes, many)))
 
   in_text : {at : ℕ} {games : List Report} → HoldsWhole strict before part after at games

@@ -27,7 +27,7 @@ pub record HasGame (strict : Bool) (before part after : List ℕ) (at : ℕ) (en
   pub some_bytes : at < end.offset - length before
 
 -- a game without a fault, which is read in a text from a place in one of its parts on, and which ends in that part, is
--- read in the part alone: the same start, moves, outcome and termination, whatever text comes before and after the part.
+-- read in the part alone: the same start, moves, outcome and termination, whatever text comes before and after it.
 -- `strict`: results are compared
 abbrev pub GamesAreInParts : Type 0
 GamesAreInParts = (strict : Bool) (before part after : List ℕ) (at : ℕ) (end : PgnEnd)
@@ -53,14 +53,17 @@ pub data HoldsWhole (strict : Bool) (before part after : List ℕ) : ℕ → Lis
       (Game (length (read_at (before ++ (part ++ after)) (length before + at)).state.moves) end.outcome end.termination
       ∷ games)
 
--- of a part that holds whole games, the reports are theirs; and the reports on the text from the part's beginning on are
--- theirs too, and then those from the part's end on. The input's offset `start`, at which the part or the text begins,
--- doesn't matter; `strict`: results are compared
-pub record AreReportedAlike (strict : Bool) (start : ℕ) (before part after : List ℕ) (games : List Report) : Type 0 where
-  pub alone : reports_on strict start part ≡ games
-  pub in_text : (most : ℕ) → reports_from strict start (length games + most) (before ++ (part ++ after)) (length before + 0)
-      ≡ games ++ reports_from strict start most (before ++ (part ++ after)) (length before + length part)
+-- of a part that holds whole games, the reports are theirs. From the part's beginning on, those on the text are theirs
+-- too, and then those from the part's end on. The input's offset `start`, at which the part or the text begins, doesn't
+-- matter; `strict`: results are compared
+pub record AreReportedAlike (strict : Bool) (start : ℕ) (before part after : List ℕ) (games : List Report) : Type 0
+  where
+    pub alone : reports_on strict start part ≡ games
+    pub in_text : (most : ℕ)
+        → reports_from strict start (length games + most) (before ++ (part ++ after)) (length before + 0)
+        ≡ games ++ reports_from strict start most (before ++ (part ++ after)) (length before + length part)
 
+-- so it is with each part that begins where a line begins
 abbrev pub WholeGamesAreReportedAlike : Type 0
 WholeGamesAreReportedAlike = (strict : Bool) (start : ℕ) (before part after : List ℕ) (games : List Report)
     → BeginsAlike before part after 0 → HoldsWhole strict before part after 0 games
