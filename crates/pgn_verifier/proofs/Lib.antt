@@ -3,6 +3,7 @@ mod FaultsInText
 mod Finished
 mod InputRead
 mod LinesWritten
+mod Parts
 mod Placed
 mod TextVerified
 mod Verifying

@@ -1,0 +1,93 @@
+-- The games of a text are also those of its parts that hold them whole, such as its pieces: `verify` and
+-- `verify_collection` report the same of them.
+use Rattle.std.specs.Prelude.{◌≡◌, ◌≤◌, ◌<◌, ℕ, ◌+◌, ◌-◌, Bool, true, List, [], ◌∷◌, ◌++◌, length, Some, None, Ok}
+use Rattle.std.specs.List.{concat, flat_map}
+use Rattle.chess_pgn.specs.Tokens.{after_byte_order_mark, begins_line}
+use Rattle.chess_pgn.specs.declared.read.PgnEnd.{PgnEnd}
+use Rattle.pgn_pieces.specs.Pieces.{cut}
+use Rattle.pgn_pieces.specs.declared.pieces.TheConstants.{PIECE_LEN}
+use Rattle.pgn_verifier.specs.Collection.{collection_reports}
+use Rattle.pgn_verifier.specs.GameFaults.{read_at, judged_at}
+use Rattle.pgn_verifier.specs.Reports.{Report, Game, reports_from, reports_on}
+
+-- ---- one game
+
+-- `part` stands in a text after `before`, where a line begins; and from the part's offset `at` on, reading begins at
+-- the same byte in both: a byte order mark is skipped in both or in neither
+pub record BeginsAlike (before part after : List ℕ) (at : ℕ) : Type 0 where
+  pub line : begins_line (before ++ (part ++ after)) (length before) ≡ true
+  pub first : after_byte_order_mark (before ++ (part ++ after)) (length before + at)
+      ≡ length before + after_byte_order_mark part at
+
+-- from the part's offset `at` on, the part alone has a game without a fault: the one that the whole text has there,
+-- which ends at `end`
+pub record HasGame (strict : Bool) (before part after : List ℕ) (at : ℕ) (end : PgnEnd) : Type 0 where
+  pub judged : judged_at strict part at ≡ Ok (Some (record end { offset = end.offset - length before }))
+  pub state : (read_at part at).state ≡ (read_at (before ++ (part ++ after)) (length before + at)).state
+  pub some_bytes : at < end.offset - length before
+
+-- a game without a fault, which is read in a text from a place in one of its parts on, and which ends in that part, is
+-- read in the part alone: the same start, moves, outcome and termination, whatever text comes before and after it.
+-- `strict`: results are compared
+abbrev pub GamesAreInParts : Type 0
+GamesAreInParts = (strict : Bool) (before part after : List ℕ) (at : ℕ) (end : PgnEnd)
+    → BeginsAlike before part after at
+    → judged_at strict (before ++ (part ++ after)) (length before + at) ≡ Ok (Some end)
+    → end.offset ≤ length before + length part → HasGame strict before part after at end
+
+-- ---- the games of a part
+
+-- from its offset `at` on, a part that stands in a text after `before` holds whole games, of which these are the
+-- reports: one after another is read in the text without a fault and ends in the part. After the last, the part alone
+-- has no more games, and what is reported of the text is what is reported of it from the part's end on
+pub data HoldsWhole (strict : Bool) (before part after : List ℕ) : ℕ → List Report → Type 0 where
+  no_more : {at : ℕ} → judged_at strict part at ≡ Ok None
+      → ((start most : ℕ) → reports_from strict start most (before ++ (part ++ after)) (length before + at)
+      ≡ reports_from strict start most (before ++ (part ++ after)) (length before + length part))
+      → HoldsWhole strict before part after at []
+  game : {at : ℕ} {games : List Report} (end : PgnEnd)
+      → judged_at strict (before ++ (part ++ after)) (length before + at) ≡ Ok (Some end)
+      → end.offset ≤ length before + length part
+      → HoldsWhole strict before part after (end.offset - length before) games
+      → HoldsWhole strict before part after at
+      (Game (length (read_at (before ++ (part ++ after)) (length before + at)).state.moves) end.outcome end.termination
+      ∷ games)
+
+-- of a part that holds whole games, the reports are theirs. From the part's beginning on, those on the text are theirs
+-- too, and then those from the part's end on. The input's offset `start`, at which the part or the text begins, doesn't
+-- matter; `strict`: results are compared
+pub record AreReportedAlike (strict : Bool) (start : ℕ) (before part after : List ℕ) (games : List Report) : Type 0
+  where
+    pub alone : reports_on strict start part ≡ games
+    pub in_text : (most : ℕ)
+        → reports_from strict start (length games + most) (before ++ (part ++ after)) (length before + 0)
+        ≡ games ++ reports_from strict start most (before ++ (part ++ after)) (length before + length part)
+
+-- so it is with each part that begins where a line begins
+abbrev pub WholeGamesAreReportedAlike : Type 0
+WholeGamesAreReportedAlike = (strict : Bool) (start : ℕ) (before part after : List ℕ) (games : List Report)
+    → BeginsAlike before part after 0 → HoldsWhole strict before part after 0 games
+    → AreReportedAlike strict start before part after games
+
+-- ---- the games of all parts
+
+-- a text's parts, one after another, each of which begins where a line begins and holds whole games; these are the
+-- reports on all of them. The first argument after `strict` is the text before the parts
+pub data AllHoldWhole (strict : Bool) : List ℕ → List (List ℕ) → List Report → Type 0 where
+  no_parts : {before : List ℕ} → AllHoldWhole strict before [] []
+  next_part : {before first : List ℕ} {parts : List (List ℕ)} {games more : List Report}
+      → BeginsAlike before first (concat parts) 0 → HoldsWhole strict before first (concat parts) 0 games
+      → AllHoldWhole strict (before ++ first) parts more → AllHoldWhole strict before (first ∷ parts) (games ++ more)
+
+-- if a text's parts hold whole games, the reports on the text are those on its parts, each read as a text of its own;
+-- `start`: the offset of the input at which a text begins, `strict`: results are compared
+abbrev pub TextsAreReportedInParts : Type 0
+TextsAreReportedInParts = (strict : Bool) (start : ℕ) (parts : List (List ℕ)) (games : List Report)
+    → AllHoldWhole strict [] parts games → (starts : List ℕ → ℕ)
+    → reports_on strict start (concat parts) ≡ flat_map (λ part. reports_on strict (starts part) part) parts
+
+-- if the pieces of a text hold whole games, and it has at most 16,777,216 bytes, as `verify` takes it, then the reports
+-- on the text and on its pieces are the same
+abbrev pub PiecesAreReportedAlike : Type 0
+PiecesAreReportedAlike = (strict : Bool) (text : List ℕ) (games : List Report) → length text ≤ PIECE_LEN
+    → AllHoldWhole strict [] (cut text) games → collection_reports strict true text ≡ reports_on strict 0 text
