@@ -7,6 +7,7 @@ use Rattle.chess_base.specs.declared.man.Move.{Move}
 use Rattle.chess_base.specs.Men.{other, same_colour}
 use Rattle.chess_base.specs.declared.setup.Setup.{Setup as Position}
 use Rattle.chess_game.specs.Line.{IsLine}
+use Rattle.chess_game.specs.declared.verdicts.Verdict.{Verdict}
 use Rattle.cecp_engine.specs.EngineLines.{line_kind}
 use Rattle.cecp_engine.specs.Items.{takes}
 use Rattle.cecp_engine.specs.Levels.{LevelSeen, allotted}
@@ -23,6 +24,7 @@ use Rattle.chess_match.specs.Rules.{Rules, rules_of}
 use Rattle.chess_match.specs.laws.Transcript.{fits, match_of, is_on, has_fault}
 use Rattle.chess_match.specs.declared.reason.MatchFault.TheVariants.{Write}
 use Rattle.chess_match.specs.declared.reason.Reason.{Reason}
+use Rattle.chess_match.specs.declared.reason.Reason.TheVariants.{Decided}
 use Rattle.chess_match.specs.ties.SameEffects.{view}
 use Rattle.chess_match.specs.ties.TranscriptActs.{acts_of}
 
@@ -77,6 +79,19 @@ pub record ShowsAll (w w' : World) : Type 0 where
 abbrev pub OnlyOneMatchOfARun : Type 0
 OnlyOneMatchOfARun = (r : Rules) (H K : List Act) (final final' : Match) (w w' : World) → Passed r H final w w'
     → Passed r K final' w w' → ShowsAll w w' → H ≡ K
+
+-- ---- ends
+
+-- in every match that ended for the verdict `v` of the board: `v` is the verdict after the moves played
+abbrev pub DecidedByTheBoard : Type 0
+DecidedByTheBoard = (r : Rules) (v : Verdict) (H : List Act) (final : Match) → IsMatch r H final
+    → final.phase ≡ Over (Decided v) → r.verdict final.played ≡ Some v
+
+-- in every match in which a move was played: if the board has a verdict `v` after the moves played, the match ended for
+-- it. (Before a move the match may have ended for something else, such as a fault in a handshake.)
+abbrev pub VerdictsEndMatches : Type 0
+VerdictsEndMatches = (r : Rules) (v : Verdict) (H : List Act) (final : Match) → IsMatch r H final
+    → 0 < length final.played → r.verdict final.played ≡ Some v → final.phase ≡ Over (Decided v)
 
 -- ---- moves
 
