@@ -1,6 +1,6 @@
 -- Why a match ended: by the board's verdict, or by a line of one side.
 use native.Mathlib.Omega.{arith}
-use Rattle.std.proofs.Common.{◌≡◌, ◌<◌, ◌+◌, ◌-◌, ℕ, Bool, true, false, ◌&&◌, List, [], ◌∷◌, ◌++◌, length, refl, ap, sym, ◌∙◌, subst, Option, None, Some, lt-ltb}
+use Rattle.std.proofs.Common.{◌≡◌, ◌+◌, ◌-◌, ℕ, Bool, true, false, ◌&&◌, List, [], ◌∷◌, ◌++◌, length, refl, ap, sym, ◌∙◌, subst, Option, None, Some, lt-ltb}
 use Rattle.std.specs.Option.{option_map_or}
 use Rattle.std.specs.Prelude.{if◌then◌else◌, codes, is_some, nat_lt, nat_le, ◌==◌}
 use Rattle.chess_base.specs.declared.man.Colour.{Colour}
@@ -10,20 +10,18 @@ use Rattle.chess_base.specs.Men.{other, same_colour}
 use Rattle.chess_game.specs.declared.verdicts.Verdict.{Verdict}
 use Rattle.cecp_engine.specs.EngineLines.{LineKind, line_kind, Features, Moves, Resigns, OffersDraw, ClaimsDraw, ClaimsWin, Rejects, Answers, SaysElse}
 use Rattle.cecp_engine.specs.Items.{Item, has_done, takes}
-use Rattle.chess_match.specs.Acts.{Act, Block, IsMatch, awaits_line, blocks_from, is_over}
-use Rattle.chess_match.specs.Effects.{Match, Phase, Handshake, Setup, Opening, BeforeMove, AfterMove, Over, Effect, after_move, before_move, beginning, begins_turn, clock, effect, ends, flag_row, handshake_done, handshake_row, ignores, items_said, judged, line_row, missing, move_row, moved, offer_row, ping_number, sends_nothing, sends_to, setup_done, setup_row, turn_row, unless_decided, was_sent_move, with_answers, with_seat}
-use Rattle.chess_match.specs.Events.{Line, Opened}
+use Rattle.chess_match.specs.Acts.{Act, IsMatch, awaits_line, blocks_from, is_over}
+use Rattle.chess_match.specs.Effects.{Match, Phase, Handshake, Setup, Opening, BeforeMove, AfterMove, Over, Effect, after_move, before_move, beginning, begins_turn, clock, ends, flag_row, handshake_done, handshake_row, ignores, items_said, judged, line_row, missing, move_row, moved, offer_row, ping_number, sends_nothing, sends_to, setup_done, setup_row, turn_row, unless_decided, was_sent_move, with_answers, with_seat}
 use Rattle.chess_match.specs.Rules.{Rules}
 use Rattle.chess_base.specs.Options.{list_if}
 use Rattle.chess_match.specs.Lines.{Says, ping}
 use Rattle.chess_match.specs.declared.reason.DrawClaim.{DrawClaim}
 use Rattle.chess_match.specs.declared.reason.MatchFault.{MatchFault}
 use Rattle.chess_match.specs.declared.reason.MatchFault.TheVariants.{Flood, NoDone}
-use Rattle.chess_match.specs.declared.reason.Reason.{Reason}
 use Rattle.chess_match.specs.declared.reason.Reason.TheVariants.{Decided, ClaimsFalsely, Forfeits, ForfeitsToBareKing}
 use Rattle.chess_match.specs.declared.reason.Reason.TheVariants as over_by
 use Rattle.chess_match.specs.laws.OfActs.{DecidedByTheBoard, VerdictsEndMatches}
-use Rattle.chess_match.proofs.MatchCases.{both_not, by_cases, on_when_read}
+use Rattle.chess_match.proofs.MatchCases.{by_cases, on_when_read}
 
 -- ---- the board's verdict
 

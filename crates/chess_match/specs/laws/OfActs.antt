@@ -1,5 +1,5 @@
 -- Laws of the acts of a match.
-use Rattle.std.specs.Prelude.{◌≡◌, ◌<◌, ◌≤◌, ◌+◌, ◌-◌, ◌*◌, ◌^◌, ◌&&◌, ℕ, true, false, if◌then◌else◌, List, [], ◌∷◌, ◌++◌, length, drop, sum, codes, slice_get, Option, None, Some, is_some, unwrap_or}
+use Rattle.std.specs.Prelude.{◌≡◌, ◌<◌, ◌≤◌, ◌+◌, ◌-◌, ◌*◌, ◌^◌, ◌&&◌, ℕ, true, false, if◌then◌else◌, List, [], ◌∷◌, ◌++◌, length, drop, nat_lt, sum, codes, slice_get, Option, None, Some, is_some, unwrap_or}
 use Rattle.std.specs.List.{flat_map}
 use Rattle.chess_base.specs.declared.man.Colour.{Colour}
 use Rattle.chess_base.specs.declared.man.Colour.TheVariants.{White, Black}
@@ -15,9 +15,9 @@ use Rattle.chess_match.specs.ByDevice.{lines_read, has_ended, has_failed_read, m
 use Rattle.chess_base.specs.Options.{list_if}
 use Rattle.chess_match.specs.Lines.{SentLine, bytes_of}
 use Rattle.chess_match.specs.laws.Laws.{Streams, AreRead, events_in, given_in, is_move, moves_of, items_said, moves_sent, texts_from, time_sent, otim_sent, centiseconds}
-use Rattle.chess_match.specs.Acts.{Act, Block, Sends, SendFails, Reads, ReadsEnd, ReadFails, ReadsClock, IsMatch, IsMatchFrom}
-use Rattle.chess_match.specs.Effects.{Match, Over, clock}
-use Rattle.chess_match.specs.Events.{Event}
+use Rattle.chess_match.specs.Acts.{Act, Block, Sends, SendFails, Reads, ReadsEnd, ReadFails, ReadsClock, IsMatch, IsMatchFrom, after_failed_send}
+use Rattle.chess_match.specs.Effects.{Match, Over, beginning, clock, effect, was_sent_move}
+use Rattle.chess_match.specs.Events.{Event, Line, Opened, OutputEnds, FailsToRead}
 use Rattle.chess_match.specs.laws.TranscriptNotes.{notes_of}
 use Rattle.chess_match.specs.Played.{World, Passed}
 use Rattle.chess_match.specs.Rules.{Rules, rules_of}
@@ -94,6 +94,24 @@ VerdictsEndMatches = (r : Rules) (v : Verdict) (H : List Act) (final : Match) �
     → 0 < length final.played → r.verdict final.played ≡ Some v → final.phase ≡ Over (Decided v)
 
 -- ---- moves
+
+-- the match after these acts, if it is `m` before them
+abbrev pub match_after : Rules → Match → List Act → Match
+match_after r m [] = m
+match_after r m (Sends block ∷ H) = match_after r m H
+match_after r m (SendFails block ∷ H) = match_after r (after_failed_send r m [] block.to).0 H
+match_after r m (Reads S text ∷ ReadsClock side moment ∷ H) = match_after r (effect r m (Line S text moment)).after H
+match_after r m (ReadsClock S moment ∷ H) = match_after r (effect r m (Opened S moment)).after H
+match_after r m (ReadsEnd S ∷ H) = match_after r (effect r m (OutputEnds S)).after H
+match_after r m (ReadFails S ∷ H) = match_after r (effect r m (FailsToRead S)).after H
+match_after r m (Reads S text ∷ H) = match_after r m H
+
+-- in every match: when a line of the side `S` is read, `S` was sent a move (by the acts before) if and only if
+-- `was_sent_move` says so of the match at that moment
+abbrev pub MovesSentAreKnownInMatches : Type 0
+MovesSentAreKnownInMatches = (r : Rules) (before after : List Act) (S : Colour) (text : Option (List ℕ))
+    (final : Match) → IsMatch r (before ++ Reads S text ∷ after) final
+    → was_sent_move (match_after r beginning.after before) S ≡ nat_lt 0 (length (moves_sent (lines_sent S before)))
 
 -- the lines of all blocks for the side `S`, in their order, also of one that could not be sent
 abbrev pub lines_given : Colour → List Act → List SentLine

@@ -1,5 +1,9 @@
+use Rattle.chess_match.proofs.MovesKnown.{moves_known}
 use Rattle.chess_match.proofs.Orders.{moves_sent_are_known}
 use Rattle.chess_match.proofs.laws.moves_sent_are_known.Goals as goal
 
-pub returns : goal.returns
-returns c = moves_sent_are_known
+pub returns-clause-whole : goal.returns-clause-whole
+returns-clause-whole c = moves_known
+
+pub returns-clause-so_far : goal.returns-clause-so_far
+returns-clause-so_far c = moves_sent_are_known
