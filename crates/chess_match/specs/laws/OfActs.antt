@@ -1,5 +1,5 @@
 -- Laws of the acts of a match.
-use Rattle.std.specs.Prelude.{◌≡◌, ◌<◌, ◌≤◌, ◌+◌, ◌-◌, ◌*◌, ◌^◌, ◌&&◌, ℕ, true, false, if◌then◌else◌, List, [], ◌∷◌, ◌++◌, length, drop, nat_lt, sum, codes, slice_get, Option, None, Some, is_some, unwrap_or}
+use Rattle.std.specs.Prelude.{◌≡◌, ◌<◌, ◌≤◌, ◌+◌, ◌-◌, ◌*◌, ◌^◌, ◌&&◌, ℕ, Bool, true, false, if◌then◌else◌, List, [], ◌∷◌, ◌++◌, length, drop, nat_lt, sum, codes, slice_get, Option, None, Some, is_some, unwrap_or}
 use Rattle.std.specs.List.{flat_map}
 use Rattle.chess_base.specs.declared.man.Colour.{Colour}
 use Rattle.chess_base.specs.declared.man.Colour.TheVariants.{White, Black}
@@ -24,7 +24,7 @@ use Rattle.chess_match.specs.Rules.{Rules, rules_of}
 use Rattle.chess_match.specs.laws.Transcript.{fits, match_of, is_on, has_fault}
 use Rattle.chess_match.specs.declared.reason.MatchFault.TheVariants.{Write}
 use Rattle.chess_match.specs.declared.reason.Reason.{Reason}
-use Rattle.chess_match.specs.declared.reason.Reason.TheVariants.{Decided}
+use Rattle.chess_match.specs.declared.reason.Reason.TheVariants.{Decided, Resigns, MovesIllegally, MovesOutOfTurn, ClaimsFalsely, RejectsLegalMove, Forfeits}
 use Rattle.chess_match.specs.ties.SameEffects.{view}
 use Rattle.chess_match.specs.ties.TranscriptActs.{acts_of}
 
@@ -92,6 +92,31 @@ DecidedByTheBoard = (r : Rules) (v : Verdict) (H : List Act) (final : Match) →
 abbrev pub VerdictsEndMatches : Type 0
 VerdictsEndMatches = (r : Rules) (v : Verdict) (H : List Act) (final : Match) → IsMatch r H final
     → 0 < length final.played → r.verdict final.played ≡ Some v → final.phase ≡ Over (Decided v)
+
+-- the side whose line ended a match for this reason; `None` if the reason names no side for what its line did
+abbrev pub whose_line : Reason → Option Colour
+whose_line (Resigns c) = Some c
+whose_line (MovesIllegally c) = Some c
+whose_line (MovesOutOfTurn c) = Some c
+whose_line (ClaimsFalsely c) = Some c
+whose_line (RejectsLegalMove c) = Some c
+whose_line (Forfeits c) = Some c
+whose_line _ = None
+
+-- whether these acts are only blocks, sent or not
+abbrev pub only_sends : List Act → Bool
+only_sends [] = true
+only_sends (Sends block ∷ H) = only_sends H
+only_sends (SendFails block ∷ H) = only_sends H
+only_sends (_ ∷ H) = false
+
+-- in every match that ended for what a line of the side `S` did, such as an illegal move: the last line read is of `S`.
+-- Then the clock was read, and after that only blocks were sent
+abbrev pub LastLineIsTheirs : Type 0
+LastLineIsTheirs = (r : Rules) (reason : Reason) (S : Colour) (H : List Act) (final : Match) → IsMatch r H final
+    → final.phase ≡ Over reason → whose_line reason ≡ Some S
+    → (before : List Act) × (text : Option (List ℕ)) × (moment : ℕ) × (after : List Act)
+    × (H ≡ before ++ Reads S text ∷ ReadsClock S moment ∷ after) × (only_sends after ≡ true)
 
 -- ---- moves
 
