@@ -1,14 +1,14 @@
 -- Whose line ended a match.
 use native.Mathlib.Omega.{arith}
-use Rattle.std.proofs.Common.{◌≡◌, ◌+◌, ◌-◌, ℕ, Bool, true, false, List, [], ◌∷◌, ◌++◌, refl, ap, ◌∙◌, subst, Option, None, Some}
+use Rattle.std.proofs.Common.{◌≡◌, ◌+◌, ◌-◌, ℕ, Bool, true, false, List, [], ◌∷◌, ◌++◌, refl, ap, ◌∙◌, subst, Option, Some}
 use Rattle.std.specs.Prelude.{if◌then◌else◌, nat_le, nat_lt}
 use Rattle.chess_base.specs.declared.man.Colour.{Colour}
-use Rattle.chess_base.specs.declared.man.Colour.TheVariants.{White, Black}
+use Rattle.chess_base.specs.declared.man.Colour.TheVariants.{White}
 use Rattle.cecp_engine.specs.EngineLines.{LineKind, line_kind, Features, Moves, Resigns, OffersDraw, ClaimsDraw, ClaimsWin, Rejects, Answers, SaysElse}
 use Rattle.cecp_engine.specs.Items.{Item, has_done}
 use Rattle.chess_base.proofs.shared.Men.{same_colour-true}
 use Rattle.chess_match.specs.Acts.{Act, IsMatch, Reads, ReadsClock, Sends, SendFails, awaits_line, blocks_from, is_over}
-use Rattle.chess_match.specs.Effects.{Match, Phase, Handshake, Setup, Opening, BeforeMove, AfterMove, Over, Effect, after_move, before_move, beginning, clock, effect, ends, flag_row, handshake_done, handshake_row, ignores, items_said, judged, line_row, missing, offer_row, sends_nothing, setup_row, turn_row, with_answers, with_seat}
+use Rattle.chess_match.specs.Effects.{Match, Phase, Handshake, Setup, Opening, BeforeMove, AfterMove, Over, Effect, after_move, before_move, beginning, clock, effect, ends, flag_row, handshake_done, handshake_row, ignores, items_said, line_row, offer_row, sends_nothing, setup_row, turn_row, with_answers, with_seat}
 use Rattle.chess_match.specs.Events.{Line}
 use Rattle.chess_match.specs.Rules.{Rules}
 use Rattle.chess_match.specs.declared.reason.MatchFault.{MatchFault}
@@ -48,41 +48,22 @@ module _ (r : Rules) (S : Colour) (m : Match) (on : is_over m.phase ≡ false) w
   in_turn SaysElse = ignored
 
   before : (used : ℕ) (kind : LineKind) → Theirs S (before_move r S used kind m).after.phase
-  before used (Moves t) = λ reason c e w. grind (arith, on, e, w)
-  before used (Features t) = in_turn (Features t)
-  before used Resigns = in_turn Resigns
-  before used OffersDraw = in_turn OffersDraw
-  before used ClaimsDraw = in_turn ClaimsDraw
-  before used (ClaimsWin w) = in_turn (ClaimsWin w)
-  before used Rejects = in_turn Rejects
-  before used (Answers k) = in_turn (Answers k)
-  before used SaysElse = in_turn SaysElse
+  before used (Moves t) reason c e w = grind (arith, on, e, w)
+  before used kind reason c e w = grind (arith, e, w, in_turn kind reason c)
 
   flagged : Theirs S (flag_row r S m).after.phase
   flagged reason c e w = grind (arith, e, w)
 
   after : (kind : LineKind) → Theirs S (after_move r S kind m).after.phase
-  after (Moves t) = λ reason c e w. grind (arith, e, w)
-  after (Features t) = in_turn (Features t)
-  after Resigns = in_turn Resigns
-  after OffersDraw = in_turn OffersDraw
-  after ClaimsDraw = in_turn ClaimsDraw
-  after (ClaimsWin w) = in_turn (ClaimsWin w)
-  after Rejects = in_turn Rejects
-  after (Answers k) = λ reason c e w. grind (arith, e, w, ignored reason c)
-  after SaysElse = in_turn SaysElse
+  after (Moves text) reason c e w = grind (arith, e, w)
+  after (Answers n) reason c e w = grind (arith, e, w, ignored reason c)
+  after kind reason c e w = grind (arith, e, w, in_turn kind reason c)
 
   setup : (kind : LineKind) → Theirs S (setup_row r S kind m).after.phase
   setup kind reason c e w = grind (arith, e, w, ignored reason c)
 
   shaken : (side : Colour) (n : Match) → Theirs S (handshake_done r side n).after.phase
-  shaken White n = λ reason c e w. cc
-  shaken Black n = at (missing r (n.seat White).items) (missing r (n.seat Black).items)
-    where
-      at : (x y : Option MatchFault) → Theirs S (judged r x y n).after.phase
-      at (Some f) y = λ reason c e w. grind (arith, e, w)
-      at None (Some f) = λ reason c e w. grind (arith, e, w)
-      at None None = λ reason c e w. cc
+  shaken side n reason c e w = grind (arith, e, w)
 
   handshake : (items : List Item) → Theirs S (handshake_row r S items m).after.phase
   handshake items = at (has_done items) (nat_le 1000 (m.count + 1))

@@ -18,10 +18,10 @@ use Rattle.chess_match.specs.declared.reason.MatchFault.TheVariants.{Ended}
 use Rattle.chess_match.specs.declared.reason.Reason.{Reason}
 use Rattle.chess_match.specs.declared.reason.Reason.TheVariants.{Faulted}
 use Rattle.chess_match.specs.laws.Laws.{move_sent, moves_sent}
-use Rattle.chess_match.specs.laws.OfActs.{MovesSentAreKnownInMatches, match_after}
+use Rattle.chess_match.specs.laws.OfActs.{MatchesEndAfterTheirActs, MovesSentAreKnownInMatches, match_after}
 use Rattle.chess_match.specs.laws.Transcript.{match_of}
 use Rattle.chess_match.proofs.LawsOfActs.{all_moves_sent, has_acts}
-use Rattle.chess_match.proofs.MatchCases.{none_read, unread}
+use Rattle.chess_match.proofs.MatchCases.{by_cases, none_read, unread}
 use Rattle.chess_match.proofs.Orders.{kept, texts-length, turns_of, used_length}
 use Rattle.chess_match.proofs.Outcomes.{not_on}
 
@@ -155,3 +155,34 @@ moves_known r before after S text final g =
     ap (λ (l : ℕ). nat_lt 0 l) (used_are_turns r H end (other S) k
     ∙ sym (texts-length r (takes (codes "san") (n.seat S).items) (other S) r.first [] n.played)
     ∙ ap (λ (l : List (List ℕ)). length l) (sym (all_moves_sent r H end S k whole) ∙ same))
+
+-- ---- the match after acts
+
+pub end_after_acts : MatchesEndAfterTheirActs
+end_after_acts r H final g = by_cases r final (λ m due K. match_after r m K ≡ final) (record {
+  sends = λ m b due K p. p;
+  fails = λ m b due K on p. failed m b K (is_over m.phase) on p;
+  fails_late = λ m b due K o p. late m b K (is_over m.phase) o p;
+  reads = λ m S t n K aw p. p;
+  opens = λ m S n K o p. p;
+  ends = λ m S K aw p. p;
+  read_fails = λ m S K aw p. p;
+  over = λ o. refl;
+}) beginning.after (blocks_from White beginning.to) H g
+  where
+    -- after a write that failed, by whether the match was over
+    next : Match → Block → Bool → Match
+    next m b x = let n : Match × List Block = if x then (m, []) else (
+      (effect r m (FailsToWrite b.to)).after,
+      blocks_from White (effect r m (FailsToWrite b.to)).to,
+    ) in n.0
+
+    failed : (m : Match) (b : Block) (K : List Act) (x : Bool) → x ≡ false
+        → match_after r (effect r m (FailsToWrite b.to)).after K ≡ final → match_after r (next m b x) K ≡ final
+    failed m b K true e p = not_on (sym e)
+    failed m b K false e p = p
+
+    late : (m : Match) (b : Block) (K : List Act) (x : Bool) → x ≡ true → match_after r m K ≡ final
+        → match_after r (next m b x) K ≡ final
+    late m b K true e p = p
+    late m b K false e p = not_on e

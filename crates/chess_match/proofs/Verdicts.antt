@@ -2,22 +2,19 @@
 use native.Mathlib.Omega.{arith}
 use Rattle.std.proofs.Common.{◌≡◌, ◌+◌, ◌-◌, ℕ, Bool, true, false, ◌&&◌, List, [], ◌∷◌, ◌++◌, length, refl, ap, sym, ◌∙◌, subst, Option, None, Some, lt-ltb}
 use Rattle.std.specs.Option.{option_map_or}
-use Rattle.std.specs.Prelude.{if◌then◌else◌, codes, is_some, nat_lt, nat_le, ◌==◌}
+use Rattle.std.specs.Prelude.{if◌then◌else◌, is_some, nat_lt, nat_le}
 use Rattle.chess_base.specs.declared.man.Colour.{Colour}
 use Rattle.chess_base.specs.declared.man.Colour.TheVariants.{White, Black}
 use Rattle.chess_base.specs.declared.man.Move.{Move}
-use Rattle.chess_base.specs.Men.{other, same_colour}
 use Rattle.chess_game.specs.declared.verdicts.Verdict.{Verdict}
 use Rattle.cecp_engine.specs.EngineLines.{LineKind, line_kind, Features, Moves, Resigns, OffersDraw, ClaimsDraw, ClaimsWin, Rejects, Answers, SaysElse}
-use Rattle.cecp_engine.specs.Items.{Item, has_done, takes}
+use Rattle.cecp_engine.specs.Items.{Item, has_done}
 use Rattle.chess_match.specs.Acts.{Act, IsMatch, awaits_line, blocks_from, is_over}
-use Rattle.chess_match.specs.Effects.{Match, Phase, Handshake, Setup, Opening, BeforeMove, AfterMove, Over, Effect, after_move, before_move, beginning, begins_turn, clock, ends, flag_row, handshake_done, handshake_row, ignores, items_said, judged, line_row, missing, move_row, moved, offer_row, ping_number, sends_nothing, sends_to, setup_done, setup_row, turn_row, unless_decided, was_sent_move, with_answers, with_seat}
+use Rattle.chess_match.specs.Effects.{Match, Phase, Handshake, Setup, Opening, BeforeMove, AfterMove, Over, Effect, after_move, before_move, beginning, begins_turn, clock, ends, flag_row, handshake_done, handshake_row, ignores, items_said, judged, line_row, missing, move_row, moved, offer_row, ping_number, sends_nothing, sends_to, setup_done, setup_row, turn_row, unless_decided, with_answers, with_seat}
 use Rattle.chess_match.specs.Rules.{Rules}
-use Rattle.chess_base.specs.Options.{list_if}
-use Rattle.chess_match.specs.Lines.{Says, ping}
-use Rattle.chess_match.specs.declared.reason.DrawClaim.{DrawClaim}
+use Rattle.chess_match.specs.Lines.{ping}
 use Rattle.chess_match.specs.declared.reason.MatchFault.{MatchFault}
-use Rattle.chess_match.specs.declared.reason.MatchFault.TheVariants.{Flood, NoDone}
+use Rattle.chess_match.specs.declared.reason.MatchFault.TheVariants.{NoDone}
 use Rattle.chess_match.specs.declared.reason.Reason.TheVariants.{Decided, ClaimsFalsely, Forfeits, ForfeitsToBareKing}
 use Rattle.chess_match.specs.declared.reason.Reason.TheVariants as over_by
 use Rattle.chess_match.specs.laws.OfActs.{DecidedByTheBoard, VerdictsEndMatches}
@@ -38,21 +35,11 @@ abbrev Judged : Rules → Match → Type 0
 Judged r m = ByBoard r m.played m.phase
 
 undecided : (r : Rules) (played : List Move) → r.verdict played ≡ None → has_verdict r played ≡ false
-undecided r played e = at (nat_lt 0 (length played)) (r.verdict played) e
-  where
-    at : (b : Bool) (v : Option Verdict) → v ≡ None → (b && is_some v) ≡ false
-    at true None e = refl
-    at false None e = refl
-    at b (Some v) e = absurd cc
+undecided r played e = grind (arith, e)
 
 on_undecided : (r : Rules) (played : List Move) (p : Phase) → is_over p ≡ false → ByBoard r played p
     → has_verdict r played ≡ false
-on_undecided r played (Handshake c) on j = j
-on_undecided r played (Setup c) on j = j
-on_undecided r played (Opening c) on j = j
-on_undecided r played (BeforeMove c n) on j = j
-on_undecided r played (AfterMove c) on j = j
-on_undecided r played (Over reason) on j = absurd cc
+on_undecided r played p h1 h2 = grind arith
 
 -- a line in a match that is on
 module _ (r : Rules) (S : Colour) (m : Match) (none : has_verdict r m.played ≡ false) (on : Judged r m) where
@@ -70,33 +57,17 @@ module _ (r : Rules) (S : Colour) (m : Match) (none : has_verdict r m.played ≡
       at None e = f e
 
   ignored : Judged r (ignores r S m).after
-  ignored = either (nat_le 10000 (m.count + 1)) (ends r (over_by.Faulted S Flood) m)
-      (sends_nothing (record m { count = m.count + 1 })) none on
+  ignored = grind (arith, none, on)
 
   offered : Judged r (offer_row r S m).after
-  offered = either (m.seat (other S)).offers (ends r over_by.Agreed m)
-      (if (m.seat S).offers then ignores r S m
-      else sends_to (other S) (list_if (takes (codes "draw") (m.seat (other S)).items) (Says (codes "draw") ∷ []))
-      (with_seat S (λ s. record s { offers = true }) m)) none
-      (either (m.seat S).offers (ignores r S m)
-      (sends_to (other S) (list_if (takes (codes "draw") (m.seat (other S)).items) (Says (codes "draw") ∷ []))
-      (with_seat S (λ s. record s { offers = true }) m)) ignored on)
+  offered = grind (arith, none, on)
 
   in_turn : (kind : LineKind) → Judged r (turn_row r S kind m).after
   in_turn Resigns = none
   in_turn OffersDraw = offered
-  in_turn ClaimsDraw = at (r.claim m.played)
-    where
-      at : (c : Option DrawClaim)
-          → Judged r (option_map_or (λ claim. ends r (over_by.Claimed claim) m) c (offer_row r S m)).after
-      at (Some c) = none
-      at None = offered
-  in_turn (ClaimsWin c) = at (same_colour c S)
-    where
-      at : (b : Bool) → Judged r (ends r (if b then ClaimsFalsely S else over_by.Resigns S) m).after
-      at true = none
-      at false = none
-  in_turn Rejects = either (was_sent_move m S) (ends r (over_by.RejectsLegalMove S) m) (ignores r S m) none ignored
+  in_turn ClaimsDraw = grind (arith, none, offered)
+  in_turn (ClaimsWin c) = grind (arith, none)
+  in_turn Rejects = grind (arith, none, ignored)
   in_turn (Features t) = ignored
   in_turn (Moves t) = ignored
   in_turn (Answers n) = ignored
@@ -108,58 +79,30 @@ module _ (r : Rules) (S : Colour) (m : Match) (none : has_verdict r m.played ≡
       decided n (sends_to S (ping (ping_number n S) ∷ []) n) (undecided r (m.played ++ move ∷ []))
 
   before : (used : ℕ) (kind : LineKind) → Judged r (before_move r S used kind m).after
-  before used (Moves text) = either (nat_le r.limit (length m.played)) (ends r over_by.GameTooLong m)
-      (move_row r S used (r.reading m.played text) m) none (has_moved used (r.reading m.played text))
-  before used (Features t) = ignored
-  before used Resigns = none
-  before used OffersDraw = offered
-  before used ClaimsDraw = in_turn ClaimsDraw
-  before used (ClaimsWin c) = in_turn (ClaimsWin c)
-  before used Rejects = in_turn Rejects
-  before used (Answers n) = ignored
-  before used SaysElse = ignored
+  before used (Moves text) = grind (arith, none, has_moved used (r.reading m.played text))
+  before used kind = grind (arith, in_turn kind)
 
   flagged : Judged r (flag_row r S m).after
-  flagged = at (r.has_bare_king m.played (other S))
-    where
-      at : (b : Bool) → Judged r (ends r (if b then ForfeitsToBareKing else Forfeits S) m).after
-      at true = none
-      at false = none
+  flagged = grind (arith, none)
 
   after : (kind : LineKind) → Judged r (after_move r S kind m).after
-  after (Moves t) = none
-  after (Answers n) = either (n == ping_number m S) (begins_turn r (other S) m) (ignores r S m) none ignored
-  after (Features t) = ignored
-  after Resigns = none
-  after OffersDraw = offered
-  after ClaimsDraw = in_turn ClaimsDraw
-  after (ClaimsWin c) = in_turn (ClaimsWin c)
-  after Rejects = in_turn Rejects
-  after SaysElse = ignored
+  after (Moves text) = none
+  after (Answers n) = grind (arith, none, ignored)
+  after kind = grind (arith, in_turn kind)
 
   set_up : (side : Colour) → Judged r (setup_done r side m).after
   set_up White = none
   set_up Black = decided m (begins_turn r r.first m) (λ e. none)
 
   setup : (kind : LineKind) → Judged r (setup_row r S kind m).after
-  setup (Answers n) = either (n == 1) (setup_done r S m) (ignores r S m) (set_up S) ignored
-  setup (Features t) = ignored
-  setup (Moves t) = ignored
-  setup Resigns = ignored
-  setup OffersDraw = ignored
-  setup ClaimsDraw = ignored
-  setup (ClaimsWin c) = ignored
-  setup Rejects = ignored
-  setup SaysElse = ignored
+  setup kind = grind (arith, ignored, set_up S)
 
   shaken : (side : Colour) → Judged r (handshake_done r side m).after
   shaken White = none
   shaken Black = at (missing r (m.seat White).items) (missing r (m.seat Black).items)
     where
       at : (w b : Option MatchFault) → Judged r (judged r w b m).after
-      at (Some f) b = none
-      at None (Some f) = none
-      at None None = none
+      at w b = grind (arith, none)
 
 handshake : (r : Rules) (S : Colour) (items : List Item) (m : Match) → has_verdict r m.played ≡ false → Judged r m
     → Judged r (handshake_row r S items m).after

@@ -131,6 +131,11 @@ match_after r m (ReadsEnd S ∷ H) = match_after r (effect r m (OutputEnds S)).a
 match_after r m (ReadFails S ∷ H) = match_after r (effect r m (FailsToRead S)).after H
 match_after r m (Reads S text ∷ H) = match_after r m H
 
+-- in every match: the match after all its acts is the match at its end
+abbrev pub MatchesEndAfterTheirActs : Type 0
+MatchesEndAfterTheirActs = (r : Rules) (H : List Act) (final : Match) → IsMatch r H final
+    → match_after r beginning.after H ≡ final
+
 -- in every match: when a line of the side `S` is read, `S` was sent a move (by the acts before) if and only if
 -- `was_sent_move` says so of the match at that moment
 abbrev pub MovesSentAreKnownInMatches : Type 0
