@@ -52,7 +52,7 @@ ends_over r H final g = by_cases r final (λ m due K. is_over final.phase ≡ tr
 over_by : (p : Phase) → is_over p ≡ true → (reason : Reason) × (p ≡ Over reason)
 over_by p h1 = grind arith
 
-has_acts : (r : Rules) (H : List Act) (final : Match) → IsMatch r H final
+pub has_acts : (r : Rules) (H : List Act) (final : Match) → IsMatch r H final
     → (reason : Reason) × (T : List Event) × Transcribed r reason H final T
 has_acts r H final h =
     let o = over_by final.phase (ends_over r H final h) in

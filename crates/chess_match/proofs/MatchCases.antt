@@ -115,9 +115,9 @@ both_not false e h = absurd cc
 abbrev Reading : Match → List Block → List Act → Type 0
 Reading m due H = (is_over m.phase ≡ true → unread H ≡ true) × (reads_end H ≡ true)
 
-pub reading_ends : (r : Rules) (m final : Match) (due : List Block) (H : List Act) → IsMatchFrom r m due H final
-    → reads_end H ≡ true
-reading_ends r m final due H g = (by_cases r final Reading (record {
+reading : (r : Rules) (m final : Match) (due : List Block) (H : List Act) → IsMatchFrom r m due H final
+    → Reading m due H
+reading r m final due H g = by_cases r final Reading (record {
   sends = λ m b due H p. p;
   fails = λ m b due H on p. (λ h. both_not (is_over m.phase) on h, p.1);
   fails_late = λ m b due H over p. p;
@@ -126,7 +126,16 @@ reading_ends r m final due H g = (by_cases r final Reading (record {
   ends = λ m S H aw p. (λ h. both_not (is_over m.phase) (on_when_read m.phase S aw) h, p.0 refl);
   read_fails = λ m S H aw p. (λ h. both_not (is_over m.phase) (on_when_read m.phase S aw) h, p.0 refl);
   over = λ o. (λ h. refl, refl);
-}) m due H g).1
+}) m due H g
+
+pub reading_ends : (r : Rules) (m final : Match) (due : List Block) (H : List Act) → IsMatchFrom r m due H final
+    → reads_end H ≡ true
+reading_ends r m final due H g = (reading r m final due H g).1
+
+-- nothing is read in a match that is over
+pub none_read : (r : Rules) (m final : Match) (due : List Block) (H : List Act) → IsMatchFrom r m due H final
+    → is_over m.phase ≡ true → unread H ≡ true
+none_read r m final due H g = (reading r m final due H g).0
 
 -- ---- nothing is sent after a failure
 

@@ -30,7 +30,7 @@ turns-snoc : (C c : Colour) (ms : List Move) (m : Move) → turns_of C c (ms ++ 
 turns-snoc C c [] m = omega arith
 turns-snoc C c (x ∷ ms) m = let h = turns-snoc C (other c) ms m in omega (arith, h)
 
-texts-length : (r : Rules) (as_san : Bool) (C c : Colour) (before ms : List Move)
+pub texts-length : (r : Rules) (as_san : Bool) (C c : Colour) (before ms : List Move)
     → length (texts_from r as_san C c before ms) ≡ turns_of C c ms
 texts-length r as_san C c before [] = refl
 texts-length r as_san C c before (m ∷ ms) =
@@ -129,7 +129,7 @@ nothing_owed : (r : Rules) (m : Match) (S : Colour) (failed : Bool) → reads m.
     → owed_to r m S m.unsent_to failed ≡ []
 nothing_owed r m S failed h1 h2 = grind arith
 
-used_length : (r : Rules) (m : Match) (C : Colour) → Kept r m → length (seat m C).used ≡ turns_of C r.first m.played
+pub used_length : (r : Rules) (m : Match) (C : Colour) → Kept r m → length (seat m C).used ≡ turns_of C r.first m.played
 used_length r m White k = k.1
 used_length r m Black k = k.2
 

@@ -1,5 +1,5 @@
 -- Laws of the acts of a match.
-use Rattle.std.specs.Prelude.{◌≡◌, ◌<◌, ◌≤◌, ◌+◌, ◌-◌, ◌*◌, ◌^◌, ◌&&◌, ℕ, true, false, if◌then◌else◌, List, [], ◌∷◌, ◌++◌, length, drop, sum, codes, slice_get, Option, None, Some, is_some, unwrap_or}
+use Rattle.std.specs.Prelude.{◌≡◌, ◌<◌, ◌≤◌, ◌+◌, ◌-◌, ◌*◌, ◌^◌, ◌&&◌, ℕ, Bool, true, false, if◌then◌else◌, List, [], ◌∷◌, ◌++◌, length, drop, nat_lt, sum, codes, slice_get, Option, None, Some, is_some, unwrap_or}
 use Rattle.std.specs.List.{flat_map}
 use Rattle.chess_base.specs.declared.man.Colour.{Colour}
 use Rattle.chess_base.specs.declared.man.Colour.TheVariants.{White, Black}
@@ -7,6 +7,7 @@ use Rattle.chess_base.specs.declared.man.Move.{Move}
 use Rattle.chess_base.specs.Men.{other, same_colour}
 use Rattle.chess_base.specs.declared.setup.Setup.{Setup as Position}
 use Rattle.chess_game.specs.Line.{IsLine}
+use Rattle.chess_game.specs.declared.verdicts.Verdict.{Verdict}
 use Rattle.cecp_engine.specs.EngineLines.{line_kind}
 use Rattle.cecp_engine.specs.Items.{takes}
 use Rattle.cecp_engine.specs.Levels.{LevelSeen, allotted}
@@ -14,15 +15,16 @@ use Rattle.chess_match.specs.ByDevice.{lines_read, has_ended, has_failed_read, m
 use Rattle.chess_base.specs.Options.{list_if}
 use Rattle.chess_match.specs.Lines.{SentLine, bytes_of}
 use Rattle.chess_match.specs.laws.Laws.{Streams, AreRead, events_in, given_in, is_move, moves_of, items_said, moves_sent, texts_from, time_sent, otim_sent, centiseconds}
-use Rattle.chess_match.specs.Acts.{Act, Block, Sends, SendFails, Reads, ReadsEnd, ReadFails, ReadsClock, IsMatch, IsMatchFrom}
-use Rattle.chess_match.specs.Effects.{Match, Over, clock}
-use Rattle.chess_match.specs.Events.{Event}
+use Rattle.chess_match.specs.Acts.{Act, Block, Sends, SendFails, Reads, ReadsEnd, ReadFails, ReadsClock, IsMatch, IsMatchFrom, after_failed_send}
+use Rattle.chess_match.specs.Effects.{Match, Over, beginning, clock, effect, was_sent_move}
+use Rattle.chess_match.specs.Events.{Event, Line, Opened, OutputEnds, FailsToRead}
 use Rattle.chess_match.specs.laws.TranscriptNotes.{notes_of}
 use Rattle.chess_match.specs.Played.{World, Passed}
 use Rattle.chess_match.specs.Rules.{Rules, rules_of}
 use Rattle.chess_match.specs.laws.Transcript.{fits, match_of, is_on, has_fault}
 use Rattle.chess_match.specs.declared.reason.MatchFault.TheVariants.{Write}
 use Rattle.chess_match.specs.declared.reason.Reason.{Reason}
+use Rattle.chess_match.specs.declared.reason.Reason.TheVariants.{Decided, Resigns, MovesIllegally, MovesOutOfTurn, ClaimsFalsely, RejectsLegalMove, Forfeits}
 use Rattle.chess_match.specs.ties.SameEffects.{view}
 use Rattle.chess_match.specs.ties.TranscriptActs.{acts_of}
 
@@ -78,7 +80,68 @@ abbrev pub OnlyOneMatchOfARun : Type 0
 OnlyOneMatchOfARun = (r : Rules) (H K : List Act) (final final' : Match) (w w' : World) → Passed r H final w w'
     → Passed r K final' w w' → ShowsAll w w' → H ≡ K
 
+-- ---- ends
+
+-- in every match that ended for the verdict `v` of the board: `v` is the verdict after the moves played
+abbrev pub DecidedByTheBoard : Type 0
+DecidedByTheBoard = (r : Rules) (v : Verdict) (H : List Act) (final : Match) → IsMatch r H final
+    → final.phase ≡ Over (Decided v) → r.verdict final.played ≡ Some v
+
+-- in every match in which a move was played: if the board has a verdict `v` after the moves played, the match ended for
+-- it. (Before a move the match may have ended for something else, such as a fault in a handshake.)
+abbrev pub VerdictsEndMatches : Type 0
+VerdictsEndMatches = (r : Rules) (v : Verdict) (H : List Act) (final : Match) → IsMatch r H final
+    → 0 < length final.played → r.verdict final.played ≡ Some v → final.phase ≡ Over (Decided v)
+
+-- the side whose line ended a match for this reason; `None` if the reason names no side for what its line did
+abbrev pub whose_line : Reason → Option Colour
+whose_line (Resigns c) = Some c
+whose_line (MovesIllegally c) = Some c
+whose_line (MovesOutOfTurn c) = Some c
+whose_line (ClaimsFalsely c) = Some c
+whose_line (RejectsLegalMove c) = Some c
+whose_line (Forfeits c) = Some c
+whose_line _ = None
+
+-- whether these acts are only blocks, sent or not
+abbrev pub only_sends : List Act → Bool
+only_sends [] = true
+only_sends (Sends block ∷ H) = only_sends H
+only_sends (SendFails block ∷ H) = only_sends H
+only_sends (_ ∷ H) = false
+
+-- in every match that ended for what a line of the side `S` did, such as an illegal move: the last line read is of `S`.
+-- Then the clock was read, and after that only blocks were sent
+abbrev pub LastLineIsTheirs : Type 0
+LastLineIsTheirs = (r : Rules) (reason : Reason) (S : Colour) (H : List Act) (final : Match) → IsMatch r H final
+    → final.phase ≡ Over reason → whose_line reason ≡ Some S
+    → (before : List Act) × (text : Option (List ℕ)) × (moment : ℕ) × (after : List Act)
+    × (H ≡ before ++ Reads S text ∷ ReadsClock S moment ∷ after) × (only_sends after ≡ true)
+
 -- ---- moves
+
+-- the match after these acts, if it is `m` before them
+abbrev pub match_after : Rules → Match → List Act → Match
+match_after r m [] = m
+match_after r m (Sends block ∷ H) = match_after r m H
+match_after r m (SendFails block ∷ H) = match_after r (after_failed_send r m [] block.to).0 H
+match_after r m (Reads S text ∷ ReadsClock side moment ∷ H) = match_after r (effect r m (Line S text moment)).after H
+match_after r m (ReadsClock S moment ∷ H) = match_after r (effect r m (Opened S moment)).after H
+match_after r m (ReadsEnd S ∷ H) = match_after r (effect r m (OutputEnds S)).after H
+match_after r m (ReadFails S ∷ H) = match_after r (effect r m (FailsToRead S)).after H
+match_after r m (Reads S text ∷ H) = match_after r m H
+
+-- in every match: the match after all its acts is the match at its end
+abbrev pub MatchesEndAfterTheirActs : Type 0
+MatchesEndAfterTheirActs = (r : Rules) (H : List Act) (final : Match) → IsMatch r H final
+    → match_after r beginning.after H ≡ final
+
+-- in every match: when a line of the side `S` is read, `S` was sent a move (by the acts before) if and only if
+-- `was_sent_move` says so of the match at that moment
+abbrev pub MovesSentAreKnownInMatches : Type 0
+MovesSentAreKnownInMatches = (r : Rules) (before after : List Act) (S : Colour) (text : Option (List ℕ))
+    (final : Match) → IsMatch r (before ++ Reads S text ∷ after) final
+    → was_sent_move (match_after r beginning.after before) S ≡ nat_lt 0 (length (moves_sent (lines_sent S before)))
 
 -- the lines of all blocks for the side `S`, in their order, also of one that could not be sent
 abbrev pub lines_given : Colour → List Act → List SentLine

@@ -1,0 +1,8 @@
+use Rattle.chess_match.proofs.Verdicts.{decided_by_the_board, verdicts_end_matches}
+use Rattle.chess_match.proofs.laws.verdicts_end_matches.Goals as goal
+
+pub returns-clause-decided : goal.returns-clause-decided
+returns-clause-decided c = decided_by_the_board
+
+pub returns-clause-verdicts : goal.returns-clause-verdicts
+returns-clause-verdicts c = verdicts_end_matches
