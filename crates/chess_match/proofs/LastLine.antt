@@ -106,7 +106,8 @@ Lasts S final m H = (is_over m.phase ≡ true → (only_sends H ≡ true) × (m.
     × (is_over m.phase ≡ false → EndsWith S H)
 
 one_more : (S : Colour) (a : Act) (H : List Act) → EndsWith S H → EndsWith S (a ∷ H)
-one_more S a H (before, text, moment, after, e, o) = (a ∷ before, text, moment, after, ap (λ (l : List Act). a ∷ l) e, o)
+one_more S a H (before, text, moment, after, e, o) =
+    (a ∷ before, text, moment, after, ap (λ (l : List Act). a ∷ l) e, o)
 
 module _ (r : Rules) (reason : Reason) (S : Colour) (final : Match) (over : final.phase ≡ Over reason)
     (theirs : whose_line reason ≡ Some S) where
