@@ -5,14 +5,14 @@ use Rattle.chess_base.specs.declared.man.Man.{Man}
 use Rattle.chess_base.specs.declared.man.Rights.{Rights}
 use Rattle.chess_base.specs.declared.man.ColourRights.{ColourRights}
 use Rattle.chess_base.specs.declared.setup.Setup.{Setup}
-use Rattle.chess_base.specs.Men.{Men, man_at, kind_number}
+use Rattle.chess_base.specs.Men.{Men, man_at}
 use Rattle.chess_base.specs.Squares.{each_below, each_square}
-use Rattle.chess_base.proofs.shared.Men.{same_colour-self}
+use Rattle.chess_base.proofs.shared.Men.{same_colour-self, same_kind-self}
 use Rattle.chess_game.specs.Same.{is_same_position, same_man, same_men, same_square, same_colour_rights, same_rights, legal_en_passant_square}
 
 pub man_self : (o : Option Man) → same_man o o ≡ true
 man_self None = refl
-man_self (Some x) = and_from _ _ (same_colour-self x.colour) (eq-eqb (kind_number x.kind) (kind_number x.kind) refl)
+man_self (Some x) = and_from _ _ (same_colour-self x.colour) (same_kind-self x.kind)
 
 each_below-all : (n : ℕ) (f : ℕ → Bool) → ((k : ℕ) → f k ≡ true) → each_below n f ≡ true
 each_below-all zero f h = refl
