@@ -126,7 +126,8 @@ castle_from c w king rook = record {
 abbrev pub castle_by : Colour → Rights → Move → Option CastlingSide → Option Castle
 castle_by c r m side = option_and_then (λ w. option_map (castle_from c w m.from) (right_of r c w)) side
 
--- the four squares of the castling that move m is; none if it is not castling
+-- the four squares of the castling that move m is; none if it is not castling. Whether anything prevents it is not
+-- asked here
 unfoldable pub castle_of : Setup → Move → Option Castle
 castle_of p m = castle_by p.side p.rights m (castling p m)
 
@@ -142,7 +143,7 @@ castling_crosses k x =
     (is_on_way k.king_from k.king_to x || is_on_way k.rook_from k.rook_to x) && not (x == k.king_from)
     && not (x == k.rook_from)
 
--- the squares that king and rook cross or end on are empty, but for these two (3.8.2.2.2)
+-- each square that king or rook crosses or ends on, but for the two where they start, is empty (3.8.2.2.2)
 unfoldable pub castling_way_is_empty : Men → Castle → Bool
 castling_way_is_empty men k = each_square (λ x. not (castling_crosses k x) || is_none (man_at men x))
 

@@ -55,7 +55,8 @@ pub fn saved_of(setup: &Setup, m: &Move) -> Saved
 }
 
 // The square of the piece that the move of this colour captured, from what was saved; none if it captured nothing. A
-// capture on the old en passant target was en passant, since the target is empty.
+// capture on the saved en passant target was en passant: that square was empty, so nothing else could be captured
+// there.
 #[tactic(auto, unfolding(crate::specs::Before::captured_from))]
 fn captured_from(colour: Colour, m: &Move, saved: &Saved) -> Option<Square>
     requires { IsTrue (is_square saved.now.target m.now.to) → one_rank_back colour m.now.to < 64 }
@@ -172,9 +173,10 @@ fn returning_man(colour: Colour, saved: &Saved, castle: &Option<Castle>) -> Opti
     }
 }
 
-/// What taking the move back changes on the board, from the position after it (`setup`) and what was saved. A move that
-/// ended on the saved target may have been en passant. Its pawn then returns one rank behind that square, as the mover
-/// sees it, so that square must be on the board (it is after a legal move).
+/// What taking the move back changes on the board, from the position after it (`setup`) and what was saved. After an en
+/// passant capture the captured pawn returns one rank back from the move's end square, as the mover sees it: on `e5` if
+/// White captured on `e6`. So if the move ended on the saved target, the square one rank back from the target must be
+/// on the board. After a legal move it is.
 #[tactic(auto, unfolding(crate::specs::Before::steps_back))]
 pub fn steps_back(setup: &Setup, m: &Move, saved: &Saved) -> Steps
     requires { IsTrue (is_square saved.now.target m.now.to) → one_rank_back (other setup.now.side) m.now.to < 64 }

@@ -83,7 +83,8 @@ pub fn right_of(rights: Rights, colour: Colour, castling_side: CastlingSide) -> 
     }
 }
 
-// The index of this colour's king in the list of pieces, which is the number of its square; none if it has no king.
+// The index of this colour's king in the list of pieces, which is the number of its square: of several kings the first;
+// none if it has no king.
 #[tactic(auto, unfolding(crate::specs::Castling::king_square))]
 fn king_index(men: &[Option<Man>; 64], colour: Colour) -> Option<usize>
     ensures value { result ≡ king_square men.now colour }
@@ -92,7 +93,8 @@ fn king_index(men: &[Option<Man>; 64], colour: Colour) -> Option<usize>
     men.iter().position(|man| is_man(colour, Kind::King, *man))
 }
 
-/// The square of the king of this colour, of several the first from a1 on; none where it has none.
+/// The square of the king of this colour: `e1` for White in the initial position. Of several kings it is the first from
+/// a1 on; none where the colour has no king.
 pub fn king_square(men: &[Option<Man>; 64], colour: Colour) -> Option<Square>
     ensures { result ≡ king_square men.now colour }
 {
@@ -208,8 +210,8 @@ fn is_castling_to(setup: &Setup, m: &Move, castling_side: CastlingSide) -> bool
         )
 }
 
-/// The side to which the move castles, by its squares and the right: it is not asked whether anything prevents it. None
-/// if it is not castling (Laws of Chess 2023, article 3.8.2).
+/// The side to which the move castles, by its squares and the right: king's side for `e1g1`. Whether anything prevents
+/// it is not asked. None if it is not castling (Laws of Chess 2023, article 3.8.2).
 #[tactic(auto, unfolding(crate::specs::Castling::castling))]
 pub fn castling(setup: &Setup, m: &Move) -> Option<CastlingSide>
     ensures { result ≡ castling setup.now m.now }
@@ -251,7 +253,9 @@ pub(crate) fn castle_by(
     Some(castle_from(colour, castling_side, m.from, rook))
 }
 
-/// The four squares of the castling that the move is; none if it is not castling.
+/// The four squares of the castling that the move is by its squares and the right: for `e1g1` the king's `e1` and `g1`,
+/// the rook's `h1` and `f1`. None if it is not castling. Whether the castling is legal is not asked: there may be
+/// pieces or attacks on its way.
 #[tactic(auto, unfolding(crate::specs::Castling::castle_of))]
 pub fn castle_of(setup: &Setup, m: &Move) -> Option<Castle>
     ensures { result ≡ castle_of setup.now m.now }
@@ -326,8 +330,8 @@ fn castling_crosses(castle: &Castle, x: Square) -> bool
         && x != castle.rook_from
 }
 
-// Whether the squares that king and rook cross or end on are empty, but for these two pieces (Laws of Chess 2023,
-// article 3.8.2.2.2).
+// Whether each square that king or rook crosses or ends on is empty (Laws of Chess 2023, article 3.8.2.2.2). The two
+// squares where they start are left out, by `castling_crosses`: in Chess960 one piece may cross or end on the other's.
 #[tactic(auto, unfolding(crate::specs::Castling::castling_way_is_empty))]
 fn castling_way_is_empty(men: &[Option<Man>; 64], castle: &Castle) -> bool
     ensures { result ≡ castling_way_is_empty men.now castle.now }
@@ -356,7 +360,8 @@ fn castling_way_is_safe(men: &[Option<Man>; 64], colour: Colour, castle: &Castle
     true
 }
 
-// Whether nothing prevents this castling, which the move is, and the move names no promotion.
+// Whether nothing prevents this castling, which the move is: its way is empty, no square of the king's way is attacked,
+// and the move names no promotion. A check that the rook uncovers in Chess960 is left to `is_legal`.
 #[tactic(auto, unfolding(crate::specs::Castling::castles))]
 pub(crate) fn castles(setup: &Setup, m: &Move, castle: &Castle) -> bool
     ensures { result ≡ castles setup.now m.now castle.now }

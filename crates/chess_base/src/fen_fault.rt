@@ -3,10 +3,11 @@
 ghost use Rattle.std.specs.Prelude.{◌≡◌, ◌≤◌, length};
 ghost use Rattle.chess_base.specs.Faults.{fen_fault_name};
 
-/// Why a text is no FEN of a position, or a `Setup` is no `Position`. The first fault is reported. First those of the
-/// text, in this order: number of fields, placement, side, form of the castling rights, form of the en passant target,
-/// counters. Then those of the position: kings, pawns, number of pieces, king and rook of each right, pieces around the
-/// target, check. So `Castling` and `EnPassant` can come from either part.
+/// Why a text is no FEN of a position, or a `Setup` is no `Position`: the first fault. Those of the text come first, in
+/// this order: number of fields, placement, side, form of the castling rights, form of the en passant target, form of
+/// the counters. Then come those of the setup, read from a text or not: range of the counters, kings, pawns, number of
+/// pieces, king and rook of each right, pieces around the target, check. So `Castling`, `EnPassant` and `Counters` can
+/// come from either part.
 #[derive(Clone, Copy, Debug, PartialEq, Eq, thiserror::Error)]
 pub enum FenFault {
     /// The first field is not eight ranks of eight squares.
@@ -22,8 +23,8 @@ pub enum FenFault {
     /// The fourth field denotes no target, or the target is not the empty square behind an enemy pawn's double advance.
     #[error("the en passant target is malformed or does not fit the pieces")]
     EnPassant,
-    /// A counter is no number of one to six digits; or the halfmove clock is above 999,999, or the fullmove number not
-    /// from 1 to 999,999.
+    /// A counter of the text is no number of one to six digits; or the halfmove clock of the setup is above 999,999, or
+    /// its fullmove number not from 1 to 999,999.
     #[error("a counter is not a number in its range")]
     Counters,
     /// A colour has not exactly one king.

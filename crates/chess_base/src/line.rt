@@ -19,7 +19,7 @@ pub enum Line {
     Antidiagonal,
 }
 
-// How much the number rises from a square of such a line to the next one.
+// How much the number rises from a square of such a line to the next one: by 8 on a file, as from a1 (0) to a2 (8).
 pub(crate) fn step_of(line: Line) -> u8
     ensures value { result ≡ step_of line }
     ensures in_range { result ≤ 9 }
@@ -48,7 +48,8 @@ pub(crate) fn shared_line(a: Square, b: Square) -> Line
     }
 }
 
-// The number of the last square of the line through `a` with a number not below a's.
+// The number of the line's last square upwards from `a`, which may be `a` itself: from `c3` that is `c8` (58) on its
+// file, `h8` (63) on its diagonal.
 pub(crate) fn last_above(line: Line, a: Square) -> u8
     ensures in_range { result < 64 }
     ensures not_below { a ≤ result }
@@ -63,7 +64,8 @@ pub(crate) fn last_above(line: Line, a: Square) -> u8
     }
 }
 
-// The number of the last square of the line through `a` with a number not above a's.
+// The number of the line's last square downwards from `a`, which may be `a` itself: from `c3` that is `c1` (2) on its
+// file, `a1` (0) on its diagonal.
 pub(crate) fn last_below(line: Line, a: Square) -> u8
     ensures not_above { result ≤ a }
     ensures on_line { IsTrue (same_line line a result) }

@@ -27,7 +27,7 @@ fn parse_square(text: &[u8]) -> Result<Square, ParseSquareError>
 }
 
 // The promotion that the text after a move's two squares denotes: `Some(None)` if it is empty, a kind by its small
-// letter; `None` for any other text.
+// letter, also the king's `k` and the pawn's `p`; `None` for any other text.
 fn read_promotion(text: &[u8]) -> Option<Option<Kind>>
     ensures { result ≡ promotion_of_text text.now }
 {
@@ -38,7 +38,8 @@ fn read_promotion(text: &[u8]) -> Option<Option<Kind>>
     }
 }
 
-// The move with that coordinate text, if there is one.
+// The move with that coordinate text, such as `e2e4` or `e7e8q`; `None` for any other text. The small letter of any
+// kind is read as the promotion, also in `e7e8k` or `e7e8p`: no such move is legal, which is asked only in a position.
 fn read_move(text: &[u8]) -> Option<Move>
     ensures { result ≡ move_of_text text.now }
 {
