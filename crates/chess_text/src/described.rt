@@ -45,7 +45,8 @@ pub(crate) fn describe(setup: &Setup, m: &Move) -> Option<Described>
     })
 }
 
-// Whether a text that names this file or rank (`named`), or none, can mean `number`: it names that, or none at all.
+// Whether what a text says of a file or rank (`named`; `None` if it names none) allows `number`: it names just that
+// one, or none.
 pub(crate) fn admits(named: Option<u8>, number: u8) -> bool
     ensures { result ≡ admits named number }
 {

@@ -21,14 +21,20 @@ pub struct End {
     pub promotion: Option<Promotion>,
 }
 
-/// The parts of a move's text, `[letter][file][rank][x]square[[=]promotion]`, as `Nbxd2`: the piece's letter, the file
-/// and rank of the start square, both from 0, whether `x` is there, and what comes last.
+/// The parts of a move's text, `[letter][file][rank][x]square[[=]promotion]`: of `Nbxd2` the letter of a knight, the
+/// file b, `x` and the end square `d2`.
 #[derive(Clone, Copy, Debug, PartialEq, Eq)]
 pub struct Parts {
+    /// The kind of piece that the letter names. `None` if there is no letter: for a pawn (`exd5`), which has none, and
+    /// for any piece in coordinates (`g1f3`).
     pub letter: Option<Kind>,
+    /// The file of the start square, 0 for a, if it is written.
     pub file: Option<u8>,
+    /// The rank of the start square, 0 for rank 1, if it is written.
     pub rank: Option<u8>,
+    /// Whether `x` is written.
     pub takes: bool,
+    /// The end square, and the promotion if one is written.
     pub end: End,
 }
 
@@ -64,8 +70,8 @@ pub(crate) fn lettered_kind(byte: u8) -> Option<Kind>
     }
 }
 
-// The promotion by the letter that this piece has in FEN, where Black's letters are small; `equals` says whether `=`
-// was before it. `None` for a king or a pawn.
+// The promotion whose letter is the one that this piece has in FEN, so a small one for Black's; `equals` says whether
+// `=` was before it. `None` for a king or a pawn, which no pawn becomes.
 fn promotion_to(equals: bool, man: Man) -> Option<Promotion>
     ensures { result ≡ promotion_to equals man }
 {
@@ -79,8 +85,8 @@ fn promotion_to(equals: bool, man: Man) -> Option<Promotion>
     })
 }
 
-// The promotion to the piece with that letter, capital or small; `equals` says whether `=` was before it. `None` if a
-// pawn can't become such a piece.
+// The promotion to the piece with that letter, capital or small (`Q` or `q`); `equals` says whether `=` was before it.
+// `None` if a pawn can't become such a piece, or if no piece has that letter.
 #[tactic(auto, using(crate::proofs::PromotionLetters::no_promotion, crate::proofs::PromotionLetters::promotion_found))]
 fn promotion_by(equals: bool, letter: u8) -> Option<Promotion>
     ensures { result ≡ promotion_by equals letter }

@@ -32,9 +32,10 @@ pub enum Reading {
     NotAMove,
 }
 
-/// Whether a text has the shape of a move, in any position: as coordinates (`e2e4`), castling, or SAN (PGN standard of
-/// 1994, section 8.2.3), also with more of the start square than is needed (`Ng1f3`) or without `x` or `=`. A run of
-/// `+`, `#`, `!` and `?` at its end is skipped.
+/// Whether a text has the shape of a move, whether or not it is legal anywhere: coordinates (`e2e4`, `e7e8q`), castling
+/// (`O-O`, or with zeros `0-0`), or SAN (PGN standard of 1994, section 8.2.3), as `Nf3`, `exd5` or `e8=Q`. SAN may have
+/// more of the start square than is needed (`Ng1f3`), leave out `x` or `=`, and name the promotion with a small letter.
+/// A run of the marks `+`, `#`, `!` and `?` at the end is skipped.
 pub fn has_move_shape(text: &[u8]) -> bool
     ensures { result ≡ shape text.now }
 {
@@ -125,8 +126,9 @@ fn with_move(found: Reading, m: Move) -> Reading
     }
 }
 
-// What a text of this form is read as, from the reading so far (`before`) and those of the legal moves between the two
-// squares, with one of these promotions, that it denotes: a single move in all is the reading, several are `Ambiguous`.
+// The reading of a text of this form after one more start square: the reading so far (`before`), and with it the legal
+// moves from `from` to `to` with one of these promotions, as far as the text denotes them. One move in all is `Move`,
+// several are `Ambiguous`.
 fn with_denoted<B: Board>(
     board: &B,
     form: &Form,
@@ -151,8 +153,8 @@ fn with_denoted<B: Board>(
     found
 }
 
-// What a text of this form is read as, from the reading so far (`found`) and those of the legal moves between the two
-// squares that it denotes: a single move in all is the reading, several are `Ambiguous`.
+// The reading of a text of this form after one more start square: the reading so far (`found`), and with it the legal
+// moves from `from` to `to`, as far as the text denotes them. One move in all is `Move`, several are `Ambiguous`.
 #[tactic(auto, using(crate::proofs::Promoting::all_promote, crate::proofs::Promoting::none_promotes))]
 fn with_denoted_between<B: Board>(
     board: &B,
@@ -226,9 +228,9 @@ fn is_denoted_of(parts: &Parts, setup: &Setup, kind: Kind, m: &Move) -> bool
     }
 }
 
-// What a text of these parts is read as, from the reading so far (`found`) and the legal move of a piece of this kind
-// from `from` to their end square, if the parts denote it: a single move in all is the reading, several are
-// `Ambiguous`.
+// The reading of a text of these parts after one more start square: the reading so far (`found`), and with it the move
+// of a piece of this kind, known to be legal, from `from` to their end square, if the parts denote it. One move in all
+// is `Move`, several are `Ambiguous`.
 #[inline(always)]
 fn with_start(found: Reading, setup: &Setup, parts: &Parts, kind: Kind, from: Square) -> Reading
     ensures { result ≡ with_moves found (denoted_start parts.now setup.now kind from) }
@@ -366,8 +368,9 @@ fn read_any_move<B: Board>(board: &B, text: &[u8]) -> Reading
 }
 
 /// Reads a text as a move of the board's position: a legal move if the text denotes exactly one, else why it doesn't.
-/// An `x` may be left out, and may be there only if the move captures (en passant does); the marks `+` and `#` are not
-/// checked.
+/// The texts are those of [`has_move_shape`]: coordinates (`g1f3`), castling (`O-O`) and SAN (`Nf3`). An `x` may be
+/// left out, and may be there only if the move captures (en passant does). The marks `+`, `#`, `!` and `?` at the end
+/// are skipped: whether the move gives check or mate is not compared with them.
 #[inline(always)]
 pub fn read_move<B: Board>(board: &B, text: &[u8]) -> Reading
     ensures value { result ≡ reading (B.position board.now) text.now }

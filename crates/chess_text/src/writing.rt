@@ -204,8 +204,9 @@ pub fn add_check_mark<B: Board>(board: &B, text: &mut SanText)
     }
 }
 
-/// Makes a legal move on the board, and returns its SAN, as [`san`] writes it, and what `take_back` needs. The mark is
-/// found where the move leads, so whoever writes a game's moves one after another makes each only once.
+/// Makes a legal move on the board, and returns its SAN, as [`san`] writes it, and what [`Board::take_back`] needs to
+/// undo the move. The mark `+` or `#` depends on the position after the move, where the board then is: so whoever
+/// writes a game's moves one after another makes each only once.
 ///
 /// ```
 /// let (text, saved) = make_san(&mut board, m);
