@@ -43,8 +43,10 @@ fn bucket(known: &Hashed) -> usize
     (known.hash % BUCKETS as u64) as usize
 }
 
-// The number of the earliest position of the game that can be the same as `now`, which one more move than
-// `played_moves` gave. None from before the last capture or pawn move can; the halfmove clock shows when that was.
+// The number of the earliest position of the game that can be the same as `now`, the position after `played_moves` and
+// one move more: the one to which the last capture or pawn move led, since the pieces are never placed again as before
+// it. The halfmove clock says how many half-moves ago that was. If it points to no such move of the game, the result is
+// 0, the start.
 fn oldest(played_moves: &[PlayedMove], now: &Hashed) -> usize
     requires { IsKnown now.now }
     ensures { (start : Hashed) → Follows start.position played_moves.now → IsNext start played_moves.now now.now
@@ -68,9 +70,9 @@ fn oldest(played_moves: &[PlayedMove], now: &Hashed) -> usize
     }
 }
 
-// How many positions of the game are the same as `now`, which one more move than `played_moves` gave, itself included.
-// From `head`, its bucket's latest position (its number plus one), links lead back to the latest that is the same, and
-// its count is one less.
+// How many positions of the game are the same as `now`, the position after `played_moves` and one move more, itself
+// included: one more than the count of the latest earlier one that is the same, or 1 if none is. Links lead to it from
+// `head`, the latest position of the bucket (its number plus one).
 fn count_same(head: u16, start: &Hashed, played_moves: &[PlayedMove], now: &Hashed) -> u32
     requires start { IsKnown start.now }
     requires now { IsKnown now.now }

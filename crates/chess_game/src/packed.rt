@@ -260,7 +260,7 @@ impl PackedPosition {
         self.halfmove
     }
 
-    /// What is saved of the position to take back a move that captured this piece, or none.
+    /// What has to be saved of this position to take a move of it back; the move captured this piece, or none.
     pub(crate) fn saved(&self, captured: Option<Man>) -> Saved
         ensures { result ≡ saved_with self.now captured }
     {

@@ -21,8 +21,9 @@ pub enum Verdict {
     BlackMates,
     /// The side on move has no legal move and is not in check (article 5.2.1).
     Stalemate,
-    /// Neither side has the pieces to mate with (article 5.2.2): no pawn, rook or queen, and at most one bishop or
-    /// knight, or bishops alone, all on squares of one colour.
+    /// No series of moves leads to mate, by the pieces that are there (article 5.2.2). Besides the kings the board
+    /// holds nothing, or one bishop or knight in all, or bishops only, of one side or both, and all on squares of one
+    /// colour. Other dead positions are not found.
     InsufficientMaterial,
     /// The position is there for the fifth time (article 9.6.1).
     FivefoldRepetition,
@@ -170,8 +171,8 @@ fn minor_count(men: &[Option<Man>; 64]) -> usize
     men.iter().filter(|man| is_minor(**man)).count()
 }
 
-// Whether neither side can mate for lack of pieces: no pawn, rook or queen is there, and at most one bishop or knight,
-// or bishops alone, all on squares of one colour.
+// Whether neither side can mate for lack of pieces: no pawn, rook or queen is on the board, and of both sides together
+// at most one bishop or knight, or no knight and all bishops, however many, on squares of one colour.
 #[tactic(auto, unfolding(crate::specs::Ends::has_insufficient_material))]
 pub(crate) fn has_insufficient_material<B: Board>(board: &B) -> bool
     ensures { result ≡ has_insufficient_material (B.position board.now).men }
