@@ -31,6 +31,7 @@ SHORT = {
     "runner": "match_runner",
     "stub": "stub_engine",
     "arbiter": "chess_arbiter",
+    "laws": "arbiter_laws",
     "devices_tests": "byte_devices_tests",
     "base_tests": "chess_base_tests",
     "lines_tests": "text_lines_tests",

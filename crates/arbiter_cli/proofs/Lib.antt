@@ -1,9 +1,3 @@
 mod FoundTexts
-mod Literals
-mod Names
-mod PlainOptions
-mod PlainReadings
-mod PlainRows
-mod PlainStub
-mod PlainWalk
 mod Readings
+pub mod shared

@@ -19,6 +19,7 @@ use Rattle.arbiter_cli.specs.declared.plan.Plan.{Plan}
 use Rattle.arbiter_cli.specs.declared.request.MatchRequest.{MatchRequest}
 use Rattle.arbiter_cli.specs.declared.request.Request.{Request}
 use Rattle.arbiter_cli.specs.declared.request.Request.TheVariants as request
+use Rattle.arbiter_cli.proofs.shared.Turns.{read_as}
 
 -- `clap` gave no matches
 abbrev IsRefusalBy : Kinds → WordsFault → Type 0
@@ -47,20 +48,6 @@ pub refused_reading : (texts : List Text) (e : Error) (f : WordsFault) → IsPar
     → IsReading texts (Err f)
 refused_reading texts e f p fits =
     (p.0, p.1, refused_by p.0 texts f (refusal_by (faults_in p.0 texts) e f p.2 fits))
-
--- level, start and date, read in turn
-abbrev in_turn : Option LevelSeen → Result Setup FenFault → Bool → Result (LevelSeen × Setup) WordsFault
-in_turn level start is_good =
-    ok_or level BadLevel >>= λ l. result_map_both (λ setup. setup) BadFen start >>= λ s.
-    if is_good then Ok (l, s) else Err BadDate
-
-pub read_as : (value : Values) (level : Option LevelSeen) (start : Result Setup FenFault) (is_good : Bool)
-    → level_of (text_or (codes "level") value (codes "40 5 0")) ≡ level → start_asked value ≡ start
-    → is_date (date_asked value) ≡ is_good → level_and_start value ≡ in_turn level start is_good
-read_as value level start is_good l s d =
-    ap (λ v. in_turn v (start_asked value) (is_date (date_asked value))) l
-    ∙ ap (λ v. in_turn level v (is_date (date_asked value))) s
-    ∙ ap (in_turn level start) d
 
 -- a match that was taken as written and then judged is played by what its options denote
 module _ (value : Values) (m : MatchRequest) (is : IsMatchOf value m) where

@@ -9,15 +9,10 @@
 #![tactic(auto)]
 
 mod fault;
-mod laws;
 mod process;
 mod program;
 
 pub use fault::ProgramFault;
-pub use laws::{
-    limits_are_as_stated, plain_arguments_are_followed, plain_arguments_do_what_they_say,
-    refused_arguments_are_reported,
-};
 pub use match_runner::{Log, SinceStart, run_match_logged};
 pub use process::run;
 pub use program::run_program;

@@ -1,0 +1,9 @@
+mod Literals
+mod Names
+mod PlainArguments
+mod PlainOptions
+mod PlainReadings
+mod PlainRows
+mod PlainStub
+mod PlainWalk
+mod RefusedArguments

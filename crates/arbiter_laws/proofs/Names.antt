@@ -1,0 +1,13 @@
+-- A plan is that of the command that was asked for.
+use Rattle.arbiter_laws.specs.Arguments.{PlansAreNamed, VerifyIsAsAsked}
+use Rattle.arbiter_cli.specs.declared.plan.Plan.TheVariants.{Session, Verify, Stub, Match}
+
+pub plan_named : PlansAreNamed
+plan_named said Session is = is
+plan_named said (Verify v) is = is.0
+plan_named said (Stub arguments) is = is.0
+plan_named said (Match plan) is = is.0
+
+-- a plan to verify has the flags that the arguments set
+pub verify_denoted : VerifyIsAsAsked
+verify_denoted said v is = is.1

@@ -1,0 +1,150 @@
+-- What no arguments, `session` and `verify` do.
+use Rattle.std.proofs.Common.{◌≡◌, ◌∙◌, ◌<◌, ℕ, List, [], length, lit<, codes, Result, Ok, Err, refl, sym, ap, subst, inr, false, arith}
+use Rattle.clap.specs.Words.{IsAmong, Text, kind_of}
+use Rattle.arbiter_grammar.specs.Grammar.{asked}
+use Rattle.arbiter_cli.specs.Plans.{IsReading, said_by}
+use Rattle.arbiter_laws.specs.Arguments.{AskFor, PlansAreNamed, VerifyAsBare, VerifyIsAsAsked, bare_plan, command_name}
+use Rattle.arbiter_laws.specs.PlainArguments.{PlainArgumentsAreRead}
+use Rattle.arbiter_cli.specs.declared.fault.WordsFault.{WordsFault}
+use Rattle.arbiter_cli.specs.declared.fault.WordsFault.TheVariants as faults
+use Rattle.arbiter_cli.specs.declared.plan.Plan.{Plan}
+use Rattle.arbiter_cli.specs.declared.plan.VerifyPlan.{VerifyPlan}
+use Rattle.arbiter_cli.specs.declared.plan.Plan.TheVariants.{Session, Verify, Stub, Match}
+use Rattle.byte_devices.specs.Devices.{InputState}
+use Rattle.byte_devices.specs.Transfers.{Devices, InputGave, Ran, nothing}
+use Rattle.byte_devices.proofs.shared.Transfers.{came, took_nothing}
+use Rattle.byte_devices.proofs.shared.Devices.{consumes_none}
+use Rattle.arbiter_laws.specs.Programs.{PlainArgumentsAreFollowed, ServesSession, VerifiesGames}
+use Rattle.chess_arbiter.specs.Program.{World, Does, RunsSession, VerifiesInput, options_of}
+use Rattle.pgn_verifier.specs.Verify.{Verifies}
+use Rattle.pgn_verifier.specs.declared.options.VerifyOptions.{VerifyOptions}
+use Rattle.pgn_verifier.specs.declared.fault.VerifyFault.TheVariants as verifying
+
+shorter : (xs ys : Text) → length xs < length ys → xs ≡ ys → ⊥
+shorter xs ys lt e = let same : length xs ≡ length ys = ap length e in absurd (omega arith)
+
+-- what was read is what was done
+pub as_followed : PlainArgumentsAreRead → PlainArgumentsAreFollowed
+as_followed law line d d' status plain (read, is, ran) = (read, law line read plain is, ran)
+
+-- a plan that was read of arguments that ask for that command
+read_argument : PlansAreNamed → (arguments : List Text) (name : Text) (plan : Plan) → AskFor arguments name
+    → IsReading arguments (Ok plan) → name ≡ command_name plan
+read_argument named arguments name plan a (names, are, (none, is)) = sym (a.named names)
+    ∙ named (said_by (asked names arguments)) plan is
+
+-- arguments that are taken and ask for no match are refused for being out of memory alone
+abbrev IsWant : WordsFault → Type 0
+IsWant faults.NoMemory = Unit {0}
+IsWant _ = ⊥
+
+refused_argument : (arguments : List Text) (name : Text) (fault : WordsFault) → AskFor arguments name
+    → (name ≡ codes "match" → ⊥) → IsReading arguments (Err fault) → IsWant fault
+refused_argument ws name (faults.Words e) a other (names, are, among) =
+    absurd (subst (IsAmong (kind_of e)) (a.taken names) among)
+refused_argument ws name faults.NoMemory a other is = tt
+refused_argument ws name faults.BadLevel a other (names, are, (none, (named, h))) =
+    absurd (other (sym (a.named names) ∙ named))
+refused_argument ws name (faults.BadFen f) a other (names, are, (none, (named, h))) =
+    absurd (other (sym (a.named names) ∙ named))
+refused_argument ws name faults.BadDate a other (names, are, (none, (named, h))) =
+    absurd (other (sym (a.named names) ∙ named))
+
+no_match_by_session : codes "session" ≡ codes "match" → ⊥
+no_match_by_session e = shorter (codes "match") (codes "session") (lit< tt) (sym e)
+
+no_match_by_verify : codes "verify" ≡ codes "match" → ⊥
+no_match_by_verify e = shorter (codes "match") (codes "verify") (lit< tt) (sym e)
+
+-- devices whose states are the same
+pub both_same : (d d' : Devices) → d'.input ≡ d.input → d'.output ≡ d.output → d' ≡ d
+both_same d d' same kept = ap (λ v. record { input = v; output = d'.output }) same
+    ∙ ap (λ v. record { input = d.input; output = v }) kept
+
+nothing_read : (r : InputState) → InputGave r r (came r [] false false)
+nothing_read r = record {
+  bytes = consumes_none r.known_bytes;
+  early = refl;
+  at_end = λ e. absurd (cc);
+  ends = refl;
+  failures = refl;
+}
+
+-- memory ran out before anything was read
+not_begun : (options : VerifyOptions) (d d' : Devices) → d'.input ≡ d.input → d'.output ≡ d.output
+    → Ran (Verifies options (Err verifying.NoMemory)) d d'
+not_begun options d d' same kept =
+    let here : Ran (Verifies options (Err verifying.NoMemory)) d d = (
+      came d.input [] false false,
+      nothing,
+      nothing_read d.input,
+      took_nothing d.output,
+      (refl, (λ e. absurd (cc)), refl),
+    ) in
+    subst (λ (v : Devices). Ran (Verifies options (Err verifying.NoMemory)) d v) (sym (both_same d d' same kept)) here
+
+session_or_want : (fault : WordsFault) (d d' : World) (status : ℕ)
+    → IsWant fault → Does (Err fault) d d' status → RunsSession d.devices d'.devices status
+session_or_want faults.NoMemory d d' status want (same, (kept, is)) =
+    inr (both_same d.devices d'.devices same kept, is)
+session_or_want (faults.Words e) d d' status want ran = absurd want
+session_or_want faults.BadLevel d d' status want ran = absurd want
+session_or_want (faults.BadFen f) d d' status want ran = absurd want
+session_or_want faults.BadDate d d' status want ran = absurd want
+
+verify_or_want : (fault : WordsFault) (d d' : World) (status : ℕ)
+    → IsWant fault → Does (Err fault) d d' status → VerifiesInput bare_plan d.devices d'.devices status
+verify_or_want faults.NoMemory d d' status want (same, (kept, is)) =
+    (Err verifying.NoMemory, not_begun (options_of bare_plan) d.devices d'.devices same kept, is)
+verify_or_want (faults.Words e) d d' status want ran = absurd want
+verify_or_want faults.BadLevel d d' status want ran = absurd want
+verify_or_want (faults.BadFen f) d d' status want ran = absurd want
+verify_or_want faults.BadDate d d' status want ran = absurd want
+
+serves : PlansAreNamed → (arguments : List Text) → AskFor arguments (codes "session") → (read : Result Plan WordsFault)
+    → IsReading arguments read
+    → (d d' : World) (status : ℕ) → Does read d d' status
+    → RunsSession d.devices d'.devices status
+serves named ws a (Ok Session) is d d' status ran = ran
+serves named ws a (Ok (Verify v)) is d d' status ran =
+    absurd (shorter (codes "verify") (codes "session") (lit< tt)
+    (sym (read_argument named ws (codes "session") (Verify v) a is)))
+serves named ws a (Ok (Stub s)) is d d' status ran =
+    absurd (shorter (codes "stub") (codes "session") (lit< tt)
+    (sym (read_argument named ws (codes "session") (Stub s) a is)))
+serves named ws a (Ok (Match m)) is d d' status ran =
+    absurd (no_match_by_session (read_argument named ws (codes "session") (Match m) a is))
+serves named ws a (Err fault) is d d' status ran =
+    session_or_want fault d d' status (refused_argument ws (codes "session") fault a no_match_by_session is)
+    ran
+
+-- `verify` alone sets none of its flags
+without_flags : VerifyIsAsAsked → (arguments : List Text) (v : VerifyPlan) → VerifyAsBare arguments
+    → IsReading arguments (Ok (Verify v)) → v ≡ bare_plan
+without_flags denoted ws v bare (names, are, (none, is)) = denoted (said_by (asked names ws)) v is ∙ bare names
+
+verifies : PlansAreNamed → VerifyIsAsAsked → (arguments : List Text) → AskFor arguments (codes "verify")
+    → VerifyAsBare arguments → (read : Result Plan WordsFault) → IsReading arguments read
+    → (d d' : World) (status : ℕ) → Does read d d' status
+    → VerifiesInput bare_plan d.devices d'.devices status
+verifies named denoted ws a bare (Ok Session) is d d' status ran =
+    absurd (shorter (codes "verify") (codes "session") (lit< tt) (read_argument named ws (codes "verify") Session a is))
+verifies named denoted ws a bare (Ok (Verify v)) is d d' status ran =
+    subst (λ (plan : VerifyPlan). VerifiesInput plan d.devices d'.devices status)
+    (without_flags denoted ws v bare is) ran
+verifies named denoted ws a bare (Ok (Stub s)) is d d' status ran =
+    absurd (shorter (codes "stub") (codes "verify") (lit< tt)
+    (sym (read_argument named ws (codes "verify") (Stub s) a is)))
+verifies named denoted ws a bare (Ok (Match m)) is d d' status ran =
+    absurd (no_match_by_verify (read_argument named ws (codes "verify") (Match m) a is))
+verifies named denoted ws a bare (Err fault) is d d' status ran =
+    verify_or_want fault d d' status (refused_argument ws (codes "verify") fault a no_match_by_verify is) ran
+
+pub serves_session : PlansAreNamed → (arguments : List Text) → AskFor arguments (codes "session")
+    → ServesSession arguments
+serves_session named ws a d d' status (read, is, ran) = serves named ws a read is d d' status ran
+
+pub verifies_games : PlansAreNamed → VerifyIsAsAsked → (arguments : List Text) → AskFor arguments (codes "verify")
+    → VerifyAsBare arguments → VerifiesGames arguments
+verifies_games named denoted ws a bare d d' status (read, is, ran) =
+    verifies named denoted ws a bare read is d d' status ran

@@ -1,0 +1,173 @@
+-- The options of `verify` and `match` as the walk meets them.
+use Rattle.std.proofs.Common.{◌≡◌, ◌∙◌, ◌++◌, ◌<◌, ◌≤◌, ◌^◌, ℕ, Bor, Bool, true, false, List, [], ◌∷◌, codes, refl, sym, subst, ap, inl, inr, arith}
+use Rattle.std.specs.Prelude.{if◌then◌else◌, bytes_eq}
+use Rattle.std.specs.List.{list_any}
+use Rattle.std.specs.Str.Parse.{digits_value, without_leading_plus}
+use Rattle.clap.specs.Faults.{repeat_fault}
+use Rattle.clap.specs.Kinds.{or_else}
+use Rattle.clap.specs.Simple.{Shape, filled_from, help_rule, new_shape}
+use Rattle.clap.specs.ValueTests.{accepts}
+use Rattle.clap.specs.Walk.{Rule, Text, walked}
+use Rattle.clap.specs.declared.builder.value_parser.ValueParser.TheVariants as vp
+use Rattle.clap.specs.declared.error.kind.ErrorKind.TheVariants as kind
+use Rattle.clap.proofs.ValueTestLemmas.{Accepts-accepts}
+use Rattle.clap.proofs.WalkLemmas.{list_any-map}
+use Rattle.arbiter_grammar.specs.Grammar.{AreVariants, Lent, match_app, stub_app, verify_app}
+use Rattle.arbiter_laws.specs.PlainArguments.{Given, IsGames, IsOfMatch, IsOfVerify, IsVariant, flag, has_hyphen, valued}
+use Rattle.arbiter_laws.proofs.PlainWalk.{IsFlag, Known, TakesValue}
+
+-- a subcommand as `build` leaves it, with these rules
+abbrev pub built_shape : Text → List Rule → Shape
+built_shape name rules = record (new_shape name) {
+  rules = filled_from 1 (rules ++ help_rule ∷ []);
+  no_binary_name = true;
+  disable_help_subcommand = true;
+  is_built = true;
+}
+
+abbrev pub verify_shape : Shape
+verify_shape = built_shape (codes "verify") verify_app.top.rules
+
+abbrev pub stub_shape : Shape
+stub_shape = built_shape (codes "stub") stub_app.top.rules
+
+abbrev pub match_shape : Lent → Shape
+match_shape names = built_shape (codes "match") (match_app names).top.rules
+
+-- ---- verify
+
+pub of_verify : (g : Given) → IsOfVerify g → Known verify_shape g
+unfolding walked
+of_verify (valued name text) none = absurd none
+of_verify (flag name) (inl e) = subst (IsFlag verify_shape) (sym e)
+    (record { first = λ rows p. refl; first_fault = λ rows p. refl })
+of_verify (flag name) (inr (inl e)) = subst (IsFlag verify_shape) (sym e)
+    (record { first = λ rows p. refl; first_fault = λ rows p. refl })
+of_verify (flag name) (inr (inr (inl e))) = subst (IsFlag verify_shape) (sym e)
+    (record { first = λ rows p. refl; first_fault = λ rows p. refl })
+of_verify (flag name) (inr (inr (inr e))) = subst (IsFlag verify_shape) (sym e)
+    (record { first = λ rows p. refl; first_fault = λ rows p. refl })
+
+-- ---- match
+
+small : (n : ℕ) → n ≤ 1000 → n < 2 ^ 64
+small n le = omega arith
+
+games_pass : (text : Text) → IsGames text → accepts false (vp.Unsigned 1 1000) text ≡ true
+games_pass text is = Accepts-accepts false (vp.Unsigned 1 1000) text
+    (is.0, small (digits_value 10 (without_leading_plus text)) is.2, is.1, is.2)
+
+abbrev is_text : Text → Text → Bool
+is_text text name = bytes_eq name text
+
+abbrev now_of : Bor Text → Text
+now_of name = name.now
+
+variant_named : (text : Text) → IsVariant text
+    → list_any (is_text text) (codes "normal" ∷ codes "fischerandom" ∷ []) ≡ true
+variant_named text (inl e) =
+    subst (λ t. list_any (is_text t) (codes "normal" ∷ codes "fischerandom" ∷ []) ≡ true) (sym e) refl
+variant_named text (inr e) =
+    subst (λ t. list_any (is_text t) (codes "normal" ∷ codes "fischerandom" ∷ []) ≡ true) (sym e) refl
+
+module _ (names : Lent) (text : Text) (plain : has_hyphen text ≡ false) where
+  white : TakesValue (match_shape names) (codes "white") text
+  unfolding walked
+  white = record {
+    first = λ rows p. refl;
+    first_fault = λ rows p. refl;
+    plain = plain;
+    taken = λ rows. refl;
+    uses = λ rows. refl;
+    passes = λ rows. refl;
+  }
+
+  black : TakesValue (match_shape names) (codes "black") text
+  unfolding walked
+  black = record {
+    first = λ rows p. refl;
+    first_fault = λ rows p. refl;
+    plain = plain;
+    taken = λ rows. refl;
+    uses = λ rows. refl;
+    passes = λ rows. refl;
+  }
+
+  level : TakesValue (match_shape names) (codes "level") text
+  unfolding walked
+  level = record {
+    first = λ rows p. refl;
+    first_fault = λ rows p. refl;
+    plain = plain;
+    taken = λ rows. refl;
+    uses = λ rows. refl;
+    passes = λ rows. refl;
+  }
+
+  fen : TakesValue (match_shape names) (codes "fen") text
+  unfolding walked
+  fen = record {
+    first = λ rows p. refl;
+    first_fault = λ rows p. refl;
+    plain = plain;
+    taken = λ rows. refl;
+    uses = λ rows. refl;
+    passes = λ rows. refl;
+  }
+
+  date : TakesValue (match_shape names) (codes "date") text
+  unfolding walked
+  date = record {
+    first = λ rows p. refl;
+    first_fault = λ rows p. refl;
+    plain = plain;
+    taken = λ rows. refl;
+    uses = λ rows. refl;
+    passes = λ rows. refl;
+  }
+
+  games : IsGames text → TakesValue (match_shape names) (codes "games") text
+  unfolding walked
+  games number = record {
+    first = λ rows p. refl;
+    first_fault = λ rows p. refl;
+    plain = plain;
+    taken = λ rows. refl;
+    uses = λ rows. refl;
+    passes = λ rows. ap (λ (b : Bool). or_else (repeat_fault false (codes "games") rows)
+        (or_else (if b then [] else kind.ValueValidation ∷ []) [])) (games_pass text number);
+  }
+
+  variant : AreVariants names → IsVariant text → TakesValue (match_shape names) (codes "variant") text
+  unfolding walked
+  variant are is = record {
+    first = λ rows p. refl;
+    first_fault = λ rows p. refl;
+    plain = plain;
+    taken = λ rows. refl;
+    uses = λ rows. refl;
+    passes = λ rows. ap (λ (b : Bool). or_else (repeat_fault false (codes "variant") rows)
+        (or_else (if b then [] else kind.InvalidValue ∷ []) [])) (list_any-map (is_text text) now_of names.now
+        ∙ ap (list_any (is_text text)) are ∙ variant_named text is);
+  }
+
+log : (names : Lent) → IsFlag (match_shape names) (codes "log")
+unfolding walked
+log names = record { first = λ rows p. refl; first_fault = λ rows p. refl }
+
+pub of_match : (names : Lent) → AreVariants names → (g : Given) → IsOfMatch g → Known (match_shape names) g
+of_match names are (flag name) e = subst (IsFlag (match_shape names)) (sym e) (log names)
+of_match names are (valued name text) (plain, inl e) =
+    subst (λ n. TakesValue (match_shape names) n text) (sym e) (white names text plain)
+of_match names are (valued name text) (plain, inr (inl e)) =
+    subst (λ n. TakesValue (match_shape names) n text) (sym e) (black names text plain)
+of_match names are (valued name text) (plain, inr (inr (inl e))) =
+    subst (λ n. TakesValue (match_shape names) n text) (sym e) (level names text plain)
+of_match names are (valued name text) (plain, inr (inr (inr (inl e)))) =
+    subst (λ n. TakesValue (match_shape names) n text) (sym e) (fen names text plain)
+of_match names are (valued name text) (plain, inr (inr (inr (inr (inl e))))) =
+    subst (λ n. TakesValue (match_shape names) n text) (sym e) (date names text plain)
+of_match names are (valued name text) (plain, inr (inr (inr (inr (inr (inl (e, number))))))) =
+    subst (λ n. TakesValue (match_shape names) n text) (sym e) (games names text plain number)
+of_match names are (valued name text) (plain, inr (inr (inr (inr (inr (inr (e, is))))))) =
+    subst (λ n. TakesValue (match_shape names) n text) (sym e) (variant names text plain are is)

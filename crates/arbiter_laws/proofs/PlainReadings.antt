@@ -1,0 +1,300 @@
+-- Plain arguments are read as what they say.
+use Rattle.std.proofs.Common.{◌≡◌, ◌∙◌, ◌<◌, ◌||◌, Bool, true, false, not, List, [], ◌∷◌, length, Option, Some, None, Result, Ok, Err, codes, find, fold, flat_map, is_some, option_map, refl, sym, subst, ap, ap₂, lit<, arith}
+use Rattle.std.specs.Prelude.{if◌then◌else◌, unwrap_or}
+use Rattle.std.specs.Option.{option_map_or, option_or}
+use Rattle.std.specs.Str.{bytes_eq}
+use Rattle.clap.specs.Words.{IsAmong, Kinds, Row, Text, kind_of}
+use Rattle.clap.specs.Faults.{check_fault, defaults_fault, entered_fault, level_fault, settle_fault, turn_fault, walk_fault}
+use Rattle.clap.specs.Kinds.{check_kinds, or_else}
+use Rattle.clap.specs.Simple.{App, Shape, built, entered, label_of, names_of, rows_at}
+use Rattle.clap.specs.Walk.{Walk, answers_to, finished, nothing_held, rows_after, settled, walk, walk_from, walked}
+use Rattle.clap.proofs.FaultLemmas.{stopped_fault}
+use Rattle.clap.proofs.WalkLemmas.{walk_stopped}
+use Rattle.arbiter_grammar.specs.Grammar.{AreVariants, Lent, arbiter_app, asked, faults_in}
+use Rattle.chess_base.specs.declared.man.Variant.{Variant}
+use Rattle.chess_base.specs.declared.fen_fault.FenFault.{FenFault}
+use Rattle.chess_base.specs.declared.setup.Setup.{Setup}
+use Rattle.chess_base.specs.Initial.{initial_setup_of}
+use Rattle.chess_fen.specs.Reading.{fen_reading_as}
+use Rattle.chess_base.specs.declared.man.Variant.TheVariants.{Normal, Fischerandom}
+use Rattle.arbiter_cli.specs.Plans.{IsMatchPlan, IsReadAs, IsReadBy, Said, Values, date_asked, games_in, is_date, is_set, level_and_start, matched, said_by, start_asked, text_or, variant_in, verify_plan_of}
+use Rattle.arbiter_cli.specs.declared.plan.Plan.{Plan}
+use Rattle.arbiter_cli.specs.declared.plan.Plan.TheVariants.{Session, Verify, Stub, Match}
+use Rattle.arbiter_cli.specs.declared.plan.MatchPlan.{MatchPlan}
+use Rattle.arbiter_cli.specs.declared.plan.VerifyPlan.{VerifyPlan}
+use Rattle.arbiter_cli.specs.declared.fault.WordsFault.{WordsFault}
+use Rattle.arbiter_cli.specs.declared.fault.WordsFault.TheVariants.{Words, NoMemory, BadLevel, BadFen, BadDate}
+use Rattle.arbiter_laws.specs.PlainArguments.{CommandLine, Given, IsOfMatch, IsOfVerify, IsPlain, PlainArgumentsAreRead, arguments_of, empty, match, said_in, session, stub, values_in, verify, written}
+use Rattle.cecp_engine.specs.Levels.{level_of}
+use Rattle.arbiter_laws.proofs.Literals as literals
+use Rattle.arbiter_laws.proofs.PlainOptions.{match_shape, of_match, of_verify, stub_shape, verify_shape}
+use Rattle.arbiter_laws.proofs.PlainRows.{default_in, value_found, value_given}
+use Rattle.arbiter_laws.proofs.PlainStub.{replies_are, replies_pass}
+use Rattle.arbiter_laws.proofs.PlainWalk.{all_known, rows_of_given, takes_options}
+use Rattle.arbiter_cli.proofs.shared.Turns.{read_as}
+
+shorter : (xs ys : Text) → length xs < length ys → xs ≡ ys → ⊥
+shorter xs ys lt e = let same : length xs ≡ length ys = ap length e in absurd (omega arith)
+
+-- ---- the first argument names the subcommand
+
+abbrev whole : Lent → App
+whole names = built (arbiter_app names)
+
+abbrev with_name : Text → List Row → Text × List Row
+with_name name rows = (name, rows)
+
+abbrev stopped_at : Text → List Text → Walk
+stopped_at command rest = record (walk_from nothing_held) { stopped = Some (command, rest) }
+
+module _ (names : Lent) (command : Text) (s : Shape) (rest : List Text)
+    (stops : walked (whole names).top.rules (names_of (whole names)) (walk_from nothing_held) command
+    ≡ stopped_at command [])
+    (turns : turn_fault (whole names).top (names_of (whole names)) (walk_from nothing_held) command ≡ [])
+    (named : find (λ s. answers_to command (label_of s)) (whole names).subs ≡ Some s) where
+  abbrev all : List Text
+  all = command ∷ rest
+
+  walk_is : walk (whole names).top.rules (names_of (whole names)) nothing_held all ≡ stopped_at command rest
+  walk_is = ap (λ (w : Walk). fold (walked (whole names).top.rules (names_of (whole names))) w rest) stops
+      ∙ sym (walk_stopped (whole names).top.rules (names_of (whole names)) (walk_from nothing_held) command [] rest)
+
+  asked_is : asked names all ≡ (s.name, rows_after s.rules [] rest)
+  asked_is = ap (λ (w : Walk). unwrap_or (entered (whole names) w.stopped) (codes "session", [])) walk_is
+      ∙ ap (λ (o : Option Shape). unwrap_or (option_map (λ s. rows_at s rest) o) (codes "session", [])) named
+
+  walk_passes : walk_fault (whole names).top (names_of (whole names)) (walk_from nothing_held) all ≡ []
+  unfolding walk_fault
+  walk_passes = ap₂ (λ (x : Kinds) (w : Walk). or_else x (walk_fault (whole names).top (names_of (whole names)) w rest))
+      turns stops ∙ stopped_fault (whole names).top (names_of (whole names)) (walk_from nothing_held) (command, []) rest
+
+  below_passes : level_fault s [] nothing_held rest false [] ≡ []
+      → or_else (entered_fault (whole names) (Some (command, rest)))
+      (check_fault (whole names).top (finished (whole names).top.rules nothing_held)
+      (is_some (entered (whole names) (Some (command, rest))))) ≡ []
+  below_passes level = ap (λ (o : Option Shape). or_else
+      (option_map_or (λ s. level_fault s [] nothing_held rest false []) o [])
+      (check_fault (whole names).top (finished (whole names).top.rules nothing_held)
+      (is_some (option_map (λ s. rows_at s rest) o)))) named
+      ∙ ap (λ (x : Kinds). or_else x
+      (check_fault (whole names).top (finished (whole names).top.rules nothing_held) true)) level
+
+  no_fault : level_fault s [] nothing_held rest false [] ≡ [] → faults_in names all ≡ []
+  unfolding defaults_fault
+  no_fault level = ap₂ (λ (x : Kinds) (w : Walk). or_else x (or_else (entered_fault (whole names) w.stopped)
+      (or_else (settle_fault (whole names).top.rules (whole names).top.args_override_self w.held)
+      (or_else (defaults_fault (settled (whole names).top.rules w.held).rows (whole names).top.rules)
+      (check_fault (whole names).top (finished (whole names).top.rules w.held)
+      (is_some (entered (whole names) w.stopped)))))))
+      walk_passes walk_is
+      ∙ below_passes level
+
+-- ---- who says the same
+
+-- a match is asked for alike
+record Agrees (v w : Values) : Type 0 where
+  white : v (codes "white") ≡ w (codes "white")
+  black : v (codes "black") ≡ w (codes "black")
+  level : v (codes "level") ≡ w (codes "level")
+  fen : v (codes "fen") ≡ w (codes "fen")
+  games : v (codes "games") ≡ w (codes "games")
+  date : v (codes "date") ≡ w (codes "date")
+  variant : v (codes "variant") ≡ w (codes "variant")
+  log : is_set (codes "log") v ≡ is_set (codes "log") w
+
+-- the start that these two options ask for
+abbrev start_by : Variant → Option Text → Result Setup FenFault
+start_by v fen = option_map_or (fen_reading_as v) fen (Ok (initial_setup_of v))
+
+same_start : (v w : Values) → Agrees v w → level_and_start v ≡ level_and_start w
+same_start v w a =
+    let variant : variant_in v ≡ variant_in w = ap (λ (o : Option Text).
+    if bytes_eq (unwrap_or o (codes "normal")) (codes "fischerandom") then Fischerandom else Normal) a.variant in
+    read_as v (level_of (text_or (codes "level") w (codes "40 5 0"))) (start_asked w) (is_date (date_asked w))
+    (ap (λ (o : Option Text). level_of (unwrap_or o (codes "40 5 0"))) a.level)
+    (ap₂ start_by variant a.fen)
+    (ap (λ (o : Option Text). is_date (unwrap_or o (codes "????.??.??"))) a.date)
+
+same_match : (v w : Values) → Agrees v w → (plan : MatchPlan) → IsMatchPlan v plan → IsMatchPlan w plan
+same_match v w a plan is = record {
+  white = sym a.white ∙ is.white;
+  black = sym a.black ∙ is.black;
+  read = sym (same_start v w a) ∙ is.read;
+  games = is.games ∙ ap (λ (o : Option Text). games_in (λ name. o)) a.games;
+  games_range = is.games_range;
+  date = is.date ∙ ap (λ (o : Option Text). unwrap_or o (codes "????.??.??")) a.date;
+  log = is.log ∙ a.log;
+}
+
+record SaysTheSame (a b : Said) : Type 0 where
+  command : a.command ≡ b.command
+  on_verify : a.command ≡ codes "verify" → verify_plan_of a.value ≡ verify_plan_of b.value
+  on_stub : a.command ≡ codes "stub" → a.replies ≡ b.replies
+  on_match : a.command ≡ codes "match" → Agrees a.value b.value
+
+read_alike : (a b : Said) → SaysTheSame a b → (r : Result Plan WordsFault) → IsReadAs a r → IsReadAs b r
+read_alike a b s (Ok Session) is = sym s.command ∙ is
+read_alike a b s (Ok (Verify v)) is = (sym s.command ∙ is.0, is.1 ∙ s.on_verify is.0)
+read_alike a b s (Ok (Stub x)) is = (sym s.command ∙ is.0, is.1 ∙ s.on_stub is.0)
+read_alike a b s (Ok (Match plan)) is =
+    (sym s.command ∙ is.0, same_match a.value b.value (s.on_match is.0) plan is.1)
+read_alike a b s (Err (Words e)) is = is
+read_alike a b s (Err NoMemory) is = is
+read_alike a b s (Err BadLevel) is =
+    (sym s.command ∙ is.0, sym (same_start a.value b.value (s.on_match is.0)) ∙ is.1)
+read_alike a b s (Err (BadFen f)) is =
+    (sym s.command ∙ is.0, sym (same_start a.value b.value (s.on_match is.0)) ∙ is.1)
+read_alike a b s (Err BadDate) is =
+    (sym s.command ∙ is.0, sym (same_start a.value b.value (s.on_match is.0)) ∙ is.1)
+
+-- arguments without a fault are read as what they say by the grammar
+read_as_asked : (names : Lent) (arguments : List Text) → faults_in names arguments ≡ [] → (r : Result Plan WordsFault)
+    → IsReadBy names arguments r → IsReadAs (said_by (asked names arguments)) r
+read_as_asked names arguments none (Ok plan) is = is.1
+read_as_asked names arguments none (Err (Words e)) among = subst (IsAmong (kind_of e)) none among
+read_as_asked names arguments none (Err NoMemory) is = tt
+read_as_asked names arguments none (Err BadLevel) is = is.1
+read_as_asked names arguments none (Err (BadFen f)) is = is.1
+read_as_asked names arguments none (Err BadDate) is = is.1
+
+-- ---- each kind of line
+
+record SaysIt (names : Lent) (line : CommandLine) : Type 0 where
+  passes : faults_in names (arguments_of line) ≡ []
+  says : SaysTheSame (said_by (asked names (arguments_of line))) (said_in line)
+
+-- a session, of which only the subcommand counts
+is_session : (a b : Said) → a.command ≡ codes "session" → b.command ≡ codes "session" → SaysTheSame a b
+is_session a b e f = record {
+  command = e ∙ sym f;
+  on_verify = λ is. absurd (shorter (codes "verify") (codes "session") (lit< tt) (sym is ∙ e));
+  on_stub = λ is. absurd (shorter (codes "stub") (codes "session") (lit< tt) (sym is ∙ e));
+  on_match = λ is. absurd (shorter (codes "match") (codes "session") (lit< tt) (sym is ∙ e));
+}
+
+or_default : (o : Option Text) → unwrap_or (option_or o (Some (codes "false"))) (codes "false")
+    ≡ unwrap_or o (codes "false")
+or_default None = refl
+or_default (Some t) = refl
+
+or_none : (o : Option Text) → option_or o None ≡ o
+or_none None = refl
+or_none (Some t) = refl
+
+-- a flag is set alike, and an option has the same value
+module _ (s : Shape) (options : List Given) (name : Text) where
+  flag_alike : default_in name s.rules ≡ Some (codes "false")
+      → is_set name (matched (rows_of_given s options)) ≡ is_set name (values_in options)
+  flag_alike default = ap (λ (o : Option Text). bytes_eq (unwrap_or o (codes "false")) (codes "true"))
+      (value_found name options s.rules ∙ ap (option_or (values_in options name)) default)
+      ∙ ap (λ (t : Text). bytes_eq t (codes "true")) (or_default (values_in options name))
+
+  value_alike : default_in name s.rules ≡ None → matched (rows_of_given s options) name ≡ values_in options name
+  value_alike default = value_found name options s.rules ∙ ap (option_or (values_in options name)) default
+      ∙ or_none (values_in options name)
+
+abbrev plan_with : Bool → Bool → Bool → Bool → VerifyPlan
+plan_with a b c d = record { keep_going = a; quiet = b; strict = c; explain = d }
+
+verify_alike : (options : List Given)
+    → verify_plan_of (matched (rows_of_given verify_shape options)) ≡ verify_plan_of (values_in options)
+verify_alike options =
+    let alike = flag_alike verify_shape options in
+    ap₂ (λ (a b : Bool). plan_with a b (is_set (codes "strict") (matched (rows_of_given verify_shape options)))
+    (is_set (codes "explain") (matched (rows_of_given verify_shape options))))
+    (alike (codes "keep-going") refl) (alike (codes "quiet") refl)
+    ∙ ap₂ (plan_with (is_set (codes "keep-going") (values_in options)) (is_set (codes "quiet") (values_in options)))
+    (alike (codes "strict") refl) (alike (codes "explain") refl)
+
+match_alike : (names : Lent) (options : List Given)
+    → Agrees (matched (rows_of_given (match_shape names) options)) (values_in options)
+match_alike names options =
+    let alike = value_alike (match_shape names) options in
+    record {
+      white = alike (codes "white") refl;
+      black = alike (codes "black") refl;
+      level = alike (codes "level") refl;
+      fen = alike (codes "fen") refl;
+      games = alike (codes "games") refl;
+      date = alike (codes "date") refl;
+      variant = alike (codes "variant") refl;
+      log = flag_alike (match_shape names) options (codes "log") refl;
+    }
+
+of_verify_only : (a b : Said) → a.command ≡ codes "verify" → b.command ≡ codes "verify"
+    → verify_plan_of a.value ≡ verify_plan_of b.value → SaysTheSame a b
+of_verify_only a b e f same = record {
+  command = e ∙ sym f;
+  on_verify = λ is. same;
+  on_stub = λ is. absurd (shorter (codes "stub") (codes "verify") (lit< tt) (sym is ∙ e));
+  on_match = λ is. absurd (shorter (codes "match") (codes "verify") (lit< tt) (sym is ∙ e));
+}
+
+of_stub_only : (a b : Said) → a.command ≡ codes "stub" → b.command ≡ codes "stub" → a.replies ≡ b.replies
+    → SaysTheSame a b
+of_stub_only a b e f same = record {
+  command = e ∙ sym f;
+  on_verify = λ is. absurd (shorter (codes "stub") (codes "verify") (lit< tt) (sym e ∙ is));
+  on_stub = λ is. same;
+  on_match = λ is. absurd (shorter (codes "stub") (codes "match") (lit< tt) (sym e ∙ is));
+}
+
+of_match_only : (a b : Said) → a.command ≡ codes "match" → b.command ≡ codes "match" → Agrees a.value b.value
+    → SaysTheSame a b
+of_match_only a b e f same = record {
+  command = e ∙ sym f;
+  on_verify = λ is. absurd (shorter (codes "match") (codes "verify") (lit< tt) (sym e ∙ is));
+  on_stub = λ is. absurd (shorter (codes "stub") (codes "match") (lit< tt) (sym is ∙ e));
+  on_match = λ is. same;
+}
+
+says_it : (names : Lent) → AreVariants names → (line : CommandLine) → IsPlain line → SaysIt names line
+unfolding walked
+says_it names are empty plain = record {
+  passes = literals.none_asked.taken names;
+  says = is_session _ _ (literals.none_asked.named names) refl;
+}
+says_it names are session plain = record {
+  passes = literals.session_asked.taken names;
+  says = is_session _ _ (literals.session_asked.named names) refl;
+}
+says_it names are (verify options) plain =
+    let rest = flat_map written options in
+    let known = all_known verify_shape IsOfVerify options of_verify plain.0 in
+    let takes = takes_options verify_shape options known plain.1 refl refl in
+    let is = asked_is names (codes "verify") verify_shape rest refl refl refl
+    ∙ ap (with_name (codes "verify")) takes.rows in
+    record {
+      passes = no_fault names (codes "verify") verify_shape rest refl refl refl takes.passes;
+      says = subst (λ (p : Text × List Row). SaysTheSame (said_by p) (said_in (verify options))) (sym is)
+          (of_verify_only _ _ refl refl (verify_alike options));
+    }
+says_it names are (stub replies) plain =
+    let is = asked_is names (codes "stub") stub_shape replies refl refl refl in
+    record {
+      passes = no_fault names (codes "stub") stub_shape replies refl refl refl (replies_pass replies plain);
+      says = subst (λ (p : Text × List Row). SaysTheSame (said_by p) (said_in (stub replies))) (sym is)
+          (of_stub_only _ _ refl refl (replies_are replies plain));
+    }
+says_it names are (match options) plain =
+    let s = match_shape names in
+    let rest = flat_map written options in
+    let white = value_given (codes "white") options s.rules plain.1 in
+    let black = value_given (codes "black") options s.rules plain.2 in
+    let check : check_fault s (rows_of_given s options) false ≡ [] =
+    ap₂ (λ (w b : Bool). check_kinds false false (not w || (not b || false))) white black in
+    let known = all_known s IsOfMatch options (of_match names are) plain.0.0 in
+    let takes = takes_options s options known plain.0.1 refl check in
+    let is = asked_is names (codes "match") s rest refl refl refl
+    ∙ ap (with_name (codes "match")) takes.rows in
+    record {
+      passes = no_fault names (codes "match") s rest refl refl refl takes.passes;
+      says = subst (λ (p : Text × List Row). SaysTheSame (said_by p) (said_in (match options))) (sym is)
+          (of_match_only _ _ refl refl (match_alike names options));
+    }
+
+pub plain_read : PlainArgumentsAreRead
+plain_read line r plain (names, are, by) =
+    let it = says_it names are line plain in
+    read_alike (said_by (asked names (arguments_of line))) (said_in line) it.says r
+    (read_as_asked names (arguments_of line) it.passes r by)

@@ -1,0 +1,78 @@
+-- What arguments do that ask for no plan.
+use Rattle.std.proofs.Common.{◌≡◌, ◌≢◌, ◌∙◌, ◌⊎◌, ℕ, List, [], ◌∷◌, Ok, Err, sym, subst, inl, inr}
+use Rattle.clap.specs.Words.{IsAmong, Kinds, Text, kind_of}
+use Rattle.clap.specs.declared.error.kind.ErrorKind.{ErrorKind}
+use Rattle.clap.specs.declared.error.kind.ErrorKind.TheVariants.{DisplayHelp, DisplayVersion}
+use Rattle.arbiter_cli.specs.Plans.{IsReading}
+use Rattle.arbiter_laws.specs.Arguments.{AreRefused}
+use Rattle.arbiter_cli.specs.declared.fault.WordsFault.{WordsFault}
+use Rattle.arbiter_cli.specs.declared.fault.WordsFault.TheVariants as faults
+use Rattle.arbiter_cli.specs.declared.plan.Plan.{Plan}
+use Rattle.byte_devices.specs.Devices.{OutputState}
+use Rattle.arbiter_laws.specs.Programs.{RefusesArguments, ShowsHelp}
+use Rattle.chess_arbiter.specs.Program.{WritesHelp, ReportsArguments}
+use Rattle.arbiter_laws.proofs.PlainArguments.{both_same}
+
+no_fault : (k : ErrorKind) (kinds : Kinds) → kinds ≡ [] → kinds ≡ k ∷ [] → ⊥
+no_fault k kinds none one = absurd (cc)
+
+only_one : (k x : ErrorKind) → IsAmong x (k ∷ []) → x ≡ k
+only_one k x (inl e) = e
+only_one k x (inr none) = absurd none
+
+the_fault : (k x : ErrorKind) (kinds : Kinds) → kinds ≡ k ∷ [] → IsAmong x kinds → x ≡ k
+the_fault k x kinds one among = only_one k x (subst (IsAmong x) one among)
+
+-- they are refused by that kind, or for being out of memory
+abbrev pub IsRefusal : ErrorKind → WordsFault → Type 0
+IsRefusal k (faults.Words e) = kind_of e ≡ k
+IsRefusal k faults.NoMemory = Unit {0}
+IsRefusal k _ = ⊥
+
+refusal : (ws : List Text) (k : ErrorKind) (fault : WordsFault) → AreRefused ws (k ∷ []) → IsReading ws (Err fault)
+    → IsRefusal k fault
+refusal ws k (faults.Words e) one (names, are, among) = the_fault k (kind_of e) _ (one names) among
+refusal ws k faults.NoMemory one is = tt
+refusal ws k faults.BadLevel one (names, are, (none, is)) = absurd (no_fault k _ none (one names))
+refusal ws k (faults.BadFen f) one (names, are, (none, is)) = absurd (no_fault k _ none (one names))
+refusal ws k faults.BadDate one (names, are, (none, is)) = absurd (no_fault k _ none (one names))
+
+no_plan : (ws : List Text) (k : ErrorKind) (plan : Plan) → AreRefused ws (k ∷ []) → IsReading ws (Ok plan) → ⊥
+no_plan ws k plan one (names, are, (none, is)) = no_fault k _ none (one names)
+
+-- ---- help and the version
+
+shown : (k : ErrorKind) (fault : WordsFault) (w w' : OutputState) (status : ℕ)
+    → (k ≡ DisplayHelp) ⊎ (k ≡ DisplayVersion) → IsRefusal k fault → ReportsArguments fault w w' status
+    → WritesHelp w w' status
+shown k (faults.Words e) w w' status help is reported =
+    reported.1 (subst (λ x. (x ≡ DisplayHelp) ⊎ (x ≡ DisplayVersion)) (sym is) help)
+shown k faults.NoMemory w w' status help is (same, ends) = inr (same, ends)
+shown k faults.BadLevel w w' status help is reported = absurd is
+shown k (faults.BadFen f) w w' status help is reported = absurd is
+shown k faults.BadDate w w' status help is reported = absurd is
+
+pub shows_help : (ws : List Text) (k : ErrorKind) → (k ≡ DisplayHelp) ⊎ (k ≡ DisplayVersion) → AreRefused ws (k ∷ [])
+    → ShowsHelp ws
+shows_help ws k help one d d' status (Ok plan, is, ran) = absurd (no_plan ws k plan one is)
+shows_help ws k help one d d' status (Err fault, is, (same, reported)) =
+    (same, shown k fault d.devices.output d'.devices.output status help (refusal ws k fault one is) reported)
+
+-- ---- other kinds
+
+refused : (k : ErrorKind) (fault : WordsFault) (w w' : OutputState) (status : ℕ) → k ≢ DisplayHelp → k ≢ DisplayVersion
+    → IsRefusal k fault → ReportsArguments fault w w' status → (w' ≡ w) × ((status ≡ 2) ⊎ (status ≡ 1))
+refused k (faults.Words e) w w' status help version is reported =
+    let t = reported.0 (λ x. help (sym is ∙ x)) (λ x. version (sym is ∙ x)) in (t.0, inl t.1)
+refused k faults.NoMemory w w' status help version is (same, ends) = (same, inr ends)
+refused k faults.BadLevel w w' status help version is reported = absurd is
+refused k (faults.BadFen f) w w' status help version is reported = absurd is
+refused k faults.BadDate w w' status help version is reported = absurd is
+
+pub refuses_arguments : (ws : List Text) (k : ErrorKind) → k ≢ DisplayHelp → k ≢ DisplayVersion → AreRefused ws (k ∷ [])
+    → RefusesArguments ws
+refuses_arguments ws k help version one d d' status (Ok plan, is, ran) = absurd (no_plan ws k plan one is)
+refuses_arguments ws k help version one d d' status (Err fault, is, (same, reported)) =
+    let t = refused k fault d.devices.output d'.devices.output status help version (refusal ws k fault one is)
+    reported in
+    (both_same d.devices d'.devices same t.0, t.1)

@@ -1,0 +1,40 @@
+//! Laws of the arguments. A caller learns one by calling its function, which does nothing.
+
+ghost use Rattle.std.specs.Prelude.{[], ◌∷◌, codes};
+ghost use Rattle.clap.specs.declared.error.kind.ErrorKind.TheVariants.{DisplayHelp, DisplayVersion, MissingRequiredArgument};
+ghost use Rattle.arbiter_laws.specs.Arguments.{AreRefused, AskFor, PlansAreNamed, VerifyAsBare, VerifyIsAsAsked};
+ghost use Rattle.arbiter_laws.specs.PlainArguments.{PlainArgumentsAreRead};
+
+/// States a law and does nothing: plain arguments are read as what they say. These are none; `session`; `verify` and
+/// `match` with their options, in any order and each at most once; and `stub` with what it plays.
+pub fn plain_arguments_are_read()
+    ensures { PlainArgumentsAreRead }
+{}
+
+/// States a law and does nothing: `clap` accepts the empty list of arguments, the one argument `session` and the one
+/// argument `verify`. The first two ask for a session, the last to verify without flags.
+pub fn plain_arguments_are_taken()
+    ensures none { AskFor [] (codes "session") }
+    ensures session { AskFor (codes "session" ∷ []) (codes "session") }
+    ensures verify { AskFor (codes "verify" ∷ []) (codes "verify") }
+    ensures bare { VerifyAsBare (codes "verify" ∷ []) }
+{}
+
+/// States a law and does nothing: `clap` refuses `--help` and `--version` with the fault that asks to show a text, and
+/// `match` without options with the fault that required options are missing.
+pub fn plain_arguments_are_refused()
+    ensures help { AreRefused (codes "--help" ∷ []) (DisplayHelp ∷ []) }
+    ensures version { AreRefused (codes "--version" ∷ []) (DisplayVersion ∷ []) }
+    ensures bare_match { AreRefused (codes "match" ∷ []) (MissingRequiredArgument ∷ []) }
+{}
+
+/// States a law and does nothing: each plan is asked for by the subcommand of its kind: `session`, `verify`, `stub` or
+/// `match`.
+pub fn plans_are_named()
+    ensures { PlansAreNamed }
+{}
+
+/// States a law and does nothing: a plan to verify has just the flags that were given after `verify`.
+pub fn verify_is_as_asked()
+    ensures { VerifyIsAsAsked }
+{}

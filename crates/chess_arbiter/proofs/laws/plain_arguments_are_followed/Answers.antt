@@ -1,5 +1,0 @@
-use Rattle.chess_arbiter.proofs.PlainArguments.{as_followed}
-use Rattle.chess_arbiter.proofs.laws.plain_arguments_are_followed.Goals as goal
-
-pub returns : goal.returns
-returns c = as_followed c.plain_arguments_are_read.ensures
