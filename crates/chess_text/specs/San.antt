@@ -71,12 +71,12 @@ check_mark p = list_if (is_in_check p.men p.side) (if length (moves p) == 0 then
 unfoldable pub san : Setup → Move → List ℕ
 san p m = optional (λ d. unmarked_san (rival_starts p (moves p) d) d ++ check_mark (after p m)) (described p m)
 
--- a move as lists of moves show it: by its squares, as e2e4, but castling in Chess960 as O-O or O-O-O. `castles` is the
--- side to which it castles, `None` if it is not castling
+-- the text of a move by its squares, as e2e4, except that castling in Chess960 is O-O or O-O-O. `castles` is the side
+-- to which the move castles, `None` if it is not castling
 abbrev pub shown_as : Variant → Option CastlingSide → Move → List ℕ
 shown_as Normal castles m = coordinate m
 shown_as Fischerandom castles m = option_map_or castling_text castles (coordinate m)
 
--- the move m of position p as lists of moves show it
+-- the text of the move m of position p by its squares, as e2e4, except that castling in Chess960 is O-O or O-O-O
 unfoldable pub shown_move : Setup → Move → List ℕ
 shown_move p m = shown_as p.variant (castling p m) m
