@@ -42,7 +42,7 @@ class Reach:
     def __init__(self):
         self.specs = Specs()
         self.sources = Sources()
-        self.order = reading_order(read("docs/DEFINITIONS.md"))
+        self.order = reading_order(read("tools/checks/reading_order.txt"))
         self.types = Types(TOP / "crates", used_crates(), self.sources.models)
         self.toolchain = Toolchain(guides()) if guides() else None
         self.closed = frozenset()

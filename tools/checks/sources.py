@@ -494,7 +494,7 @@ def target_of(label):
 
 
 def reading_order(text):
-    """The files of specs/ as docs/DEFINITIONS.md lists them: `CRATE: FILE, FILE..` for each crate, indented by four spaces."""
+    """The files of specs/ as reading_order.txt lists them: `CRATE: FILE, FILE..` for each crate, indented by four spaces."""
     lists = re.findall(r"^    (\w+): ([\w/]+(?:,\s+[\w/]+)*)$", text, re.M)
     return [f"crates/{crate}/specs/{file}.antt" for crate, files in lists for file in re.split(r",\s+", files)]
 

@@ -44,7 +44,7 @@ Commands, one per line:
   ping 7, protover 2                 print `pong 7`, or the features of the arbiter
   quit                               end the session
 
-A legal move is only answered if it ends the game, with the result.
+A legal move gets no answer, unless it ends the game: then the result is printed.
 
 Example:
   printf 'e2e4\\nshowfen\\n' | arbiter session";
@@ -54,12 +54,12 @@ Prints one line per game: `game 1: 40 half-moves, 1-0`, or its first fault: `gam
 counted from 0. The exit status is 1 if a game has a fault.
 
 Without --keep-going the first fault ends the run, and the input may have at most 16,777,216 bytes. For longer input
-use --keep-going: it reads piece by piece. A piece begins at a tag line after a line of moves, or at a second Event tag,
-and may have 16,777,216 bytes. The totals are `games 2 half-moves 91 faults 1`: the games without a fault, their
-half-moves, and the faults.
+use --keep-going: it reads piece by piece. A piece may have 16,777,216 bytes. It begins at a tag line after a line of
+moves, or at a second Event tag. The totals, `games 2 half-moves 91 faults 1`, count games without a fault, their
+half-moves, and faults.
 
-With --explain each fault is followed by its line, its column, the text there, the position, and the reason if there is
-one: `# line 2 column 4 Ke3 | rnbqkbnr/pppp1ppp/8/4p3/4P3/8/PPPP1PPP/RNBQKBNR w KQkq e6 0 2`.
+With --explain a second line shows the line and column of each fault, the text there, the position, and for some faults
+a reason: `# line 2 column 4 Ke3 | rnbqkbnr/pppp1ppp/8/4p3/4P3/8/PPPP1PPP/RNBQKBNR w KQkq e6 0 2`.
 
 Examples:
   arbiter verify < games.pgn
@@ -76,9 +76,10 @@ Examples:
   arbiter match --white \"arbiter stub f2f3 g2g4\" --black \"arbiter stub e7e5 d8h4\"";
 
 const MATCH_EXAMPLES: &str = "\
-The first engine plays White in odd games and Black in even ones. Both must send `feature ping=1` and `done=1`, and
-`setboard=1` unless games start from the initial position of normal chess. There are no time-outs: an engine that never
-answers is waited for. After the last game comes the score, which is not PGN: grep -v '^score ' removes it.
+The first engine plays White in odd games and Black in even ones. Both must send `feature ping=1` and `done=1`. They
+must also send `setboard=1`, except in normal chess from its initial position: in Chess960 it is always needed. There
+are no time-outs: an engine that never answers is waited for. After the last game comes the score, which is not PGN:
+grep -v '^score ' removes it.
 
 In the log, `312 <first : move e2e4` is a line from the first engine, whichever side it has, and `312 >second: e2e4` a
 line to the second; `!` marks an end of output, an I/O error, or a line that is too long and left out.
@@ -190,7 +191,7 @@ fn match_command<'a>(alloc: Global) -> Result<Command<'a>, AllocError>
         alloc,
         "level",
         "LEVEL",
-        "Moves per session (0: all), minutes or M:SS, seconds per move [default: 40 5 0]",
+        "Moves per time control (0: the whole game), minutes or M:SS, seconds added per move [default: 40 5 0]",
     ))?
     .arg(option(
         alloc,
@@ -247,7 +248,7 @@ fn verify_command<'a>(alloc: Global) -> Result<Command<'a>, AllocError>
         .arg(flag(
             alloc,
             "explain",
-            "After each fault print a line with its line, its column, the text there, the position and the reason",
+            "After each fault print a line that shows where it is (line, column, text, position) and why",
         ))
 }
 
