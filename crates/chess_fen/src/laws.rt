@@ -1,6 +1,6 @@
 //! Laws of FEN. A caller learns one by calling its function, which does nothing.
 
-ghost use Rattle.std.specs.Prelude.{◌≡◌, ◌∷◌, ◌++◌, ℕ, List, Option, Some, None, Ok, codes, length, replicate};
+ghost use Rattle.std.specs.Prelude.{◌≡◌, ◌∷◌, ◌++◌, ℕ, true, false, List, Option, Some, None, Ok, codes, length, replicate};
 ghost use Rattle.chess_base.specs.declared.man.CastlingSide.TheVariants.{KingSide, QueenSide};
 ghost use Rattle.chess_base.specs.declared.man.Colour.TheVariants.{White, Black};
 ghost use Rattle.chess_base.specs.declared.man.Kind.TheVariants.{Pawn};
@@ -9,10 +9,10 @@ ghost use Rattle.chess_base.specs.declared.man.Variant.TheVariants.{Normal, Fisc
 ghost use Rattle.chess_base.specs.declared.setup.Setup.{Setup};
 ghost use Rattle.chess_base.specs.Initial.{man_of};
 ghost use Rattle.chess_fen.specs.Reading.{denoted_in, fen_reading_as};
-ghost use Rattle.chess_fen.specs.RightNames.{right_in};
+ghost use Rattle.chess_fen.specs.RightNames.{right_in, names_well};
 ghost use Rattle.chess_fen.specs.Texts.{fields_of};
 ghost use Rattle.chess_fen.specs.Writing.{fen, fen_rank};
-ghost use Rattle.chess_fen.specs.laws.Examples.{kings_and_pawn, three_rooks};
+ghost use Rattle.chess_fen.specs.laws.Examples.{kings_and_pawn, kings_and_pawn_men, three_rooks};
 ghost use Rattle.chess_fen.specs.laws.Normal.{normal_fen, normal_fen_reading};
 ghost use Rattle.chess_fen.specs.laws.Laws.{WrittenIsDenoted, WrittenDenotesNoOther, WrittenIsReadBack, RightsAreNamed};
 ghost use Rattle.chess_fen.specs.laws.RankTexts.{IsRankText};
@@ -50,8 +50,9 @@ pub fn a_rank_has_one_text()
 /// A law: the contract says it, and the function does nothing. Small texts worked out: what six fields denote; a rank's
 /// text; and how letters name rights of Chess960, where White's king is on c1 and White's rooks are on b1, f1 and h1.
 pub fn fens_are_worked_out()
-    ensures fields { denoted_in Normal (fields_of (codes "4k3/8/8/8/8/8/4P3/4K3 b - - 5 39"))
-        ≡ Ok kings_and_pawn }
+    // The third field names no right, and no right wrongly.
+    ensures fields { (denoted_in Normal (fields_of (codes "4k3/8/8/8/8/8/4P3/4K3 b - - 5 39")) ≡ Ok kings_and_pawn)
+        × (names_well Normal kings_and_pawn_men (codes "-") ≡ true) }
     ensures rank { IsRankText (replicate 4 None ++ (man_of White Pawn ∷ replicate 3 None)) (codes "4P3") }
     // The outermost rook on the king's side is on h1, the only one on the queen's side on b1.
     ensures side { right_in Fischerandom three_rooks (codes "KQ") White KingSide ≡ Some (Some 7) }
@@ -63,4 +64,7 @@ pub fn fens_are_worked_out()
     // Two letters name one right, or the letter names no rook: that is wrong.
     ensures two { right_in Fischerandom three_rooks (codes "FK") White KingSide ≡ None }
     ensures no_rook { right_in Fischerandom three_rooks (codes "k") Black KingSide ≡ None }
+    // So these letters name each right well, or one of them wrongly.
+    ensures well { names_well Fischerandom three_rooks (codes "FB") ≡ true }
+    ensures wrongly { names_well Fischerandom three_rooks (codes "FK") ≡ false }
 {}

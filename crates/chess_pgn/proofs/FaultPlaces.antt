@@ -1,6 +1,6 @@
--- A fault's offset is in the text, and not before the offset where reading began; and each half-move takes at least a
--- byte.
-use Rattle.std.proofs.Common.{◌≡◌, ℕ, zero, suc, ◌+◌, ◌-◌, ◌≤◌, Bool, true, eqb, List, [], ◌∷◌, length, take, drop, Option, Some, None, IfSome, Result, Ok, Err, IfOk, IfErr, sym, ap, subst, arith}
+-- A fault's offset is in the text, and not before the offset where reading began; a game ends in the text, and each
+-- half-move takes at least a byte.
+use Rattle.std.proofs.Common.{◌≡◌, ℕ, zero, suc, ◌+◌, ◌-◌, ◌≤◌, ◌<◌, Bool, true, eqb, List, [], ◌∷◌, length, take, drop, Option, Some, None, IfSome, Result, Ok, Err, IfOk, IfErr, sym, ap, subst, arith}
 use Rattle.std.specs.Prelude.{◌&&◌}
 use Rattle.std.specs.Str.{bytes_eq}
 use Rattle.std.proofs.lemmas.Bool.{and_parts}
@@ -9,7 +9,7 @@ use Rattle.std.proofs.lemmas.Bool.Decides.{nat_tests}
 use Rattle.std.proofs.lemmas.Slice.Eq.{bytes_eq-Decides}
 use Rattle.chess_pgn.specs.declared.read.PgnEnd.{PgnEnd}
 use Rattle.chess_pgn.specs.declared.read.PgnFault.{PgnFault}
-use Rattle.chess_pgn.specs.GameRead.{GameRead, tagged_variant}
+use Rattle.chess_pgn.specs.GameRead.{GameRead, tagged_variant, pgn_read}
 use Rattle.chess_pgn.specs.LastTags.{own_tags}
 use Rattle.chess_pgn.specs.laws.TokenByToken.{SoFar, Step, On, Stop, step, read_rest_with, game_of, at_text_end, nothing_read, tokens_read}
 use Rattle.chess_pgn.specs.laws.Offsets.{FaultsHaveOffsets, HalfMovesHaveBytes}
@@ -21,30 +21,30 @@ use Rattle.chess_pgn.proofs.TokenPlaces.{within}
 use Rattle.chess_pgn.proofs.Walk.{shorter}
 
 -- what was read from an offset on, with `done` half-moves before it and `moves` in the end: a fault is from there to
--- the offset `last`, and an end leaves a byte for each half-move
+-- the offset `last`, and so is an end, which leaves a byte for each half-move and one more
 abbrev InPlace : ℕ → ℕ → ℕ → ℕ → Result (Option PgnEnd) PgnFault → Type 0
 InPlace first last done moves (Ok None) = Unit {0}
-InPlace first last done moves (Ok (Some e)) = moves + first ≤ done + e.offset
+InPlace first last done moves (Ok (Some e)) = (moves + first < done + e.offset) × (e.offset ≤ last)
 InPlace first last done moves (Err f) = (first ≤ f.offset) × (f.offset ≤ last)
 
 abbrev StepInPlace : ℕ → ℕ → ℕ → Step → Type 0
 StepInPlace first last done (On h) = length h.state.moves ≤ done + 1
 StepInPlace first last done (Stop r) = InPlace first last done (length r.state.moves) r.answer
 
-step_in_place : (first last : ℕ) (g : SoFar) {s : Step} → StepIs g first last s
-    → StepInPlace first last (length g.state.moves) s
-step_in_place first last g passes = omega arith
-step_in_place first last g (stays m b t) = omega arith
-step_in_place first last g (plays m) = let sum = length-append g.state.moves (m ∷ []) in omega (arith, sum)
-step_in_place first last g (starts p) = omega arith
-step_in_place first last g (stops kind offset low high) = (low, high)
-step_in_place first last g (finishes o offset low) = omega (arith, low)
+step_in_place : (left last : ℕ) (g : SoFar) {s : Step} → left ≤ last → StepIs g left last s
+    → StepInPlace (last - left) last (length g.state.moves) s
+step_in_place left last g few passes = omega arith
+step_in_place left last g few (stays m b t) = omega arith
+step_in_place left last g few (plays m) = let sum = length-append g.state.moves (m ∷ []) in omega (arith, sum)
+step_in_place left last g few (starts p) = omega arith
+step_in_place left last g few (stops kind offset low high) = (low, high)
+step_in_place left last g few (finishes o len some high) = (omega (arith, some), omega (arith, few, high))
 
 -- `more` bytes later, with at most so many half-moves more
 further : (first from last done most moves more : ℕ) (r : Result (Option PgnEnd) PgnFault) → first + more ≤ from
     → most ≤ done + more → InPlace from last most moves r → InPlace first last done moves r
 further first from last done most moves more (Ok None) h k f = tt
-further first from last done most moves more (Ok (Some e)) h k f = omega (arith, h, k, f)
+further first from last done most moves more (Ok (Some e)) h k f = let low = f.0 in (omega (arith, h, k, low), f.1)
 further first from last done most moves more (Err x) h k f = let low = f.0 in (omega (arith, h, low), f.1)
 
 gone_on : (first from last done : ℕ) (s : Step) (later : SoFar → GameRead) → first + 1 ≤ from
@@ -76,7 +76,7 @@ game_in_place limit total (suc n) begins g (c ∷ rest) h =
     let few : length t.1 ≤ total = omega (arith, fewer, h) in
     gone_on (total - suc (length rest)) (total - length t.1) total (length g.state.moves)
     (step limit total g (suc (length rest)) t.0) (λ u. game_of limit total u (tokens_of n (eqb c 10) t.1)) nearer
-    (step_in_place (total - suc (length rest)) total g
+    (step_in_place (suc (length rest)) total g h
     (step_is limit total g (suc (length rest)) t.0 (within begins c rest)))
     (λ u. game_in_place limit total n (eqb c 10) u t.1 few)
 
@@ -132,5 +132,18 @@ half_moves_have_bytes limit text at h =
     by_answer : (moves : ℕ) (r : Result (Option PgnEnd) PgnFault) → InPlace at (length text) 0 moves r
         → IfOk r (λ o. IfSome o (λ e. moves + at ≤ e.offset))
     by_answer moves (Ok None) k = tt
-    by_answer moves (Ok (Some e)) k = omega (arith, k)
+    by_answer moves (Ok (Some e)) k = let low = k.0 in omega (arith, low)
+    by_answer moves (Err f) k = tt
+
+-- a game ends in the text, after the offset where reading began
+pub ends_in_text : (limit : ℕ) (text : List ℕ) (at : ℕ) → at ≤ length text
+    → IfOk (pgn_read limit text at).answer (λ o. IfSome o (λ e. (at < e.offset) × (e.offset ≤ length text)))
+ends_in_text limit text at h =
+    subst (λ (r : GameRead). IfOk r.answer (λ o. IfSome o (λ e. (at < e.offset) × (e.offset ≤ length text))))
+    (sym (reads_alike limit text at)) (by_answer _ _ (in_place limit text at h))
+  where
+    by_answer : (moves : ℕ) (r : Result (Option PgnEnd) PgnFault) → InPlace at (length text) 0 moves r
+        → IfOk r (λ o. IfSome o (λ e. (at < e.offset) × (e.offset ≤ length text)))
+    by_answer moves (Ok None) k = tt
+    by_answer moves (Ok (Some e)) k = let low = k.0 in (omega (arith, low), k.1)
     by_answer moves (Err f) k = tt

@@ -1,17 +1,14 @@
 -- Tokens in full lines. They are written by how many bytes the line that is begun has; that gives the lines of the
 -- definitions, which are full, and no other lines are.
 use Rattle.std.proofs.Common.{◌≡◌, ℕ, ◌+◌, ◌<◌, ◌≤◌, Bool, true, false, cond, eqb, leb, List, [], ◌∷◌, ◌++◌, length, map, refl, sym, ap, subst, ◌∙◌, append_assoc, arith}
-use Rattle.std.specs.List.{flat_map, AllByRecursion}
+use Rattle.std.specs.List.{flat_map}
 use Rattle.std.proofs.lemmas.Bool.{leb-true, le-leb}
 use Rattle.std.proofs.lemmas.Bool.Decides.{nat_tests}
 use Rattle.std.proofs.lemmas.List.{append-nil, length-append}
 use Rattle.chess_pgn.specs.Written.{ended, lines_from, lines_of}
 use Rattle.chess_pgn.specs.PgnText.{line_text, AreFullLines}
+use Rattle.chess_pgn.specs.laws.Layout.{AreShort, AreFilled}
 use Rattle.chess_pgn.specs.ties.Lines.{line_close, wrapped_token, next_column}
-
--- each token fits into a line: it has 1 to 79 bytes
-abbrev pub AreShort : List (List ℕ) → Type 0
-AreShort tokens = AllByRecursion (λ t. (0 < length t) × (length t ≤ 79)) tokens
 
 -- ---- as they are written
 
@@ -219,3 +216,17 @@ pub only_lines : (lines : List (List (List ℕ))) → AreFullLines lines
 only_lines [] h = refl
 only_lines ([] ∷ lines) h = absurd (omega (arith, h.some.0))
 only_lines ((u ∷ us) ∷ lines) h = sym (full_lines u us lines h)
+
+-- ---- the law of short tokens
+
+pub are_filled : (tokens : List (List ℕ)) → AreShort tokens → AreFilled tokens (lines_of tokens)
+are_filled [] short = record { lines = []; full = full_none; all = refl; are = refl }
+are_filled (u ∷ us) short = record {
+  lines = grouped (u ∷ []) us;
+  full = grouped_full u [] us short.0.1 short.1;
+  all = grouped_all (u ∷ []) us;
+  are = sym (grouped_texts u [] us);
+}
+
+pub only_filled : (tokens texts : List (List ℕ)) → AreFilled tokens texts → texts ≡ lines_of tokens
+only_filled tokens texts h = h.are ∙ only_lines h.lines h.full ∙ ap lines_of h.all

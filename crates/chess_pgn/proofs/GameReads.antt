@@ -1,5 +1,5 @@
 -- Reading a game, token by token.
-use Rattle.std.proofs.Common.{◌≡◌, ℕ, ◌-◌, ◌≤◌, ◌<◌, Bool, true, false, cond, List, [], ◌∷◌, arith, rules, length, get_or, take, drop, Some, None, is_some, Result, Ok, Err, refl, sym, ap, subst, ◌∙◌, Option, IsNone, OnErr}
+use Rattle.std.proofs.Common.{◌≡◌, ℕ, ◌-◌, ◌≤◌, ◌<◌, Bool, true, false, cond, List, [], ◌∷◌, arith, length, get_or, take, drop, Some, None, is_some, Result, Ok, Err, refl, sym, ap, subst, ◌∙◌, Option, IsNone, OnErr}
 use Rattle.std.specs.Prelude.{codes}
 use Rattle.chess_base.specs.declared.man.Variant.{Variant}
 use Rattle.chess_base.specs.declared.man.Variant.TheVariants.{Normal}
@@ -7,11 +7,9 @@ use Rattle.chess_base.specs.declared.setup.Setup.{Setup}
 use Rattle.chess_base.specs.Initial.{initial_setup, initial_setup_of}
 use Rattle.chess_game.specs.Game.{State, Seen, from_start}
 use Rattle.chess_game.specs.Game.{with_state as left_at}
-use Rattle.chess_game.specs.declared.results.Outcome.{Outcome}
 use Rattle.chess_pgn.specs.declared.read.PgnEnd.{PgnEnd}
 use Rattle.chess_pgn.specs.declared.read.PgnFault.{PgnFault}
 use Rattle.chess_pgn.specs.declared.progress.Progress.{Progress}
-use Rattle.chess_pgn.specs.declared.word_kind.WordKind.TheVariants.{End}
 use Rattle.chess_pgn.specs.Words.{word_kind}
 use Rattle.chess_pgn.specs.Tokens.{Token, Skip, Word, after_byte_order_mark, after_brace, token_at, begins_line, tokens_from}
 use Rattle.chess_pgn.specs.GameRead.{tagged_variant, pgn_read}
@@ -36,13 +34,13 @@ keeps : (limit total : ℕ) (g : SoFar) (left : ℕ) (t : Token) → IsWithin le
     → Undeclared (step limit total g left t)
 keeps limit total g left t within h = by_kind (step_is limit total g left t within)
   where
-    by_kind : {s : Step} → StepIs g (total - left) total s → Undeclared s
+    by_kind : {s : Step} → StepIs g left total s → Undeclared s
     by_kind passes = h
     by_kind (stays m b o) = h
     by_kind (plays m) = h
     by_kind (starts p) = refl
     by_kind (stops kind offset low high) = h
-    by_kind (finishes o offset low) = tt
+    by_kind (finishes o len some high) = tt
 
 -- a step that ended at a fault left nothing declared, whatever is answered then
 pub bare_at_fault : (limit total : ℕ) (g : SoFar) (left : ℕ) (t : Token) (s : State) (fault : PgnFault)
@@ -55,12 +53,6 @@ bare_at_fault limit total g left t s fault r within h is =
     on_error : {P : Type 0} (r : Result (Option PgnEnd) PgnFault) → P → OnErr r P
     on_error (Ok end) p = tt
     on_error (Err f) p = p
-
--- ---- a termination has bytes
-
-pub termination_has_bytes : (word : List ℕ) (o : Outcome) → End o ≡ word_kind word → 0 < length word
-termination_has_bytes [] o h = cc
-termination_has_bytes (c ∷ word) o h = search rules
 
 -- ---- the loop: what is left gives the whole
 

@@ -22,7 +22,8 @@ use Rattle.chess_text.specs.San.{san}
 use Rattle.chess_pgn.specs.ties.Waiting.{TookSome, Adds}
 use Rattle.chess_pgn.specs.Written.{ended, lines_of}
 use Rattle.chess_pgn.proofs.Added.{added_more, added_break, break_longer, adds_more, finished}
-use Rattle.chess_pgn.proofs.FilledLines.{AreShort, filled_from, all_filled}
+use Rattle.chess_pgn.proofs.FilledLines.{filled_from, all_filled}
+use Rattle.chess_pgn.specs.laws.Layout.{AreShort}
 use Rattle.chess_pgn.proofs.ShortTokens.{game_is_short}
 
 -- ---- texts of three parts

@@ -66,14 +66,14 @@ module _ (limit total : ℕ) (termination : Option Termination) (met begun : Boo
   by_kind : {K : Type 0} (left : ℕ) (word : List ℕ) (end : Outcome → K) (number marks move : K) (steps : K → Step)
       (o : Option Outcome) (is_number is_mark : Bool)
       → ((o : Outcome) → read_rest_with (steps (end o)) later
-      ≡ after_row total termination s (left, Word word) (Ends o) next)
+      ≡ after_row total termination s (left, Word word) (Ends o (length word)) next)
       → read_rest_with (steps number) later ≡ next s
       → (option_map_or end o (cond is_number number (cond is_mark marks move)) ≡ marks
       → read_rest_with (steps marks) later ≡ next s)
       → read_rest_with (steps move) later
       ≡ after_row total termination s (left, Word word) (move_row limit s (reading (current s) word)) next
       → read_rest_with (steps (option_map_or end o (cond is_number number (cond is_mark marks move)))) later
-      ≡ after_row total termination s (left, Word word) (option_map_or Ends o
+      ≡ after_row total termination s (left, Word word) (option_map_or (λ k. Ends k (length word)) o
       (cond is_number Passes (cond is_mark Passes (move_row limit s (reading (current s) word))))) next
   by_kind left word end number marks move steps (Some o) is_number is_mark e n m r = e o
   by_kind left word end number marks move steps None true is_mark e n m r = n
@@ -314,7 +314,8 @@ none_before : (o : Option (List ℕ × ℕ)) → option_map_or (λ (tag : List �
 none_before None = refl
 none_before (Some tag) = refl
 
-tokens_are : (limit total : ℕ) (ts : List (ℕ × Token))
+-- what tags and moves say of tokens is what is read of them token by token
+pub tokens_are : (limit total : ℕ) (ts : List (ℕ × Token))
     → read_of_split limit total ts ≡ tokens_read limit total ts
 tokens_are limit total ts =
     let v : Variant = tagged_variant (own_tags ts) in

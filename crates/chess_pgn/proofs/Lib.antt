@@ -10,6 +10,7 @@ mod GameTexts
 mod LastTagReads
 mod LeftTokens
 mod NormalGames
+mod OfTokens
 mod PgnFen
 mod PgnMoves
 mod PgnPieces

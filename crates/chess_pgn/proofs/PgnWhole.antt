@@ -33,7 +33,8 @@ use Rattle.chess_pgn.specs.laws.PgnLaw.{AreTagTexts, IsReadBack, PgnIsReadBack, 
 use Rattle.chess_pgn.specs.Tokens.{Token, after_byte_order_mark, begins_line, tokens_of, tokens_from}
 use Rattle.chess_pgn.specs.declared.tagged_result.ResultTag.{ResultTag}
 use Rattle.chess_pgn.specs.Written.{escaped, tag_line, ended}
-use Rattle.chess_pgn.proofs.FilledLines.{AreShort, filled_from}
+use Rattle.chess_pgn.proofs.FilledLines.{filled_from}
+use Rattle.chess_pgn.specs.laws.Layout.{AreShort}
 use Rattle.chess_pgn.proofs.GameTexts.{pgn_filled}
 use Rattle.chess_pgn.proofs.ShortTokens.{game_is_short}
 use Rattle.chess_pgn.proofs.GamesByTags.{reads_alike}

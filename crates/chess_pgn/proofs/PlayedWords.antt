@@ -83,7 +83,7 @@ token_plays limit s (Word word) m e = by_kind (outcome_of word) (list_all is_dig
     (list_all (λ c. c == byte "!" || c == byte "?") word) e
   where
     by_kind : (o : Option Outcome) (is_number is_mark : Bool)
-        → option_map_or Ends o
+        → option_map_or (λ k. Ends k (length word)) o
         (cond is_number Passes (cond is_mark Passes (move_row limit s (reading (current s) word)))) ≡ Plays m
         → IsPlayed limit s m
     by_kind (Some o) is_number is_mark e = absurd (cc)
@@ -120,7 +120,7 @@ moves_words limit total termination s (t ∷ ts) h =
           all = sym (append_assoc s.moves (m ∷ []) more.moves) ∙ more.all;
           start = more.start;
         }
-    by_row (Ends o) e later k =
+    by_row (Ends o len) e later k =
         record { words = []; moves = []; are = tt; all = append-nil s.moves; start = refl }
     by_row (Fails kind) e later k = absurd k
 

@@ -19,7 +19,7 @@ use Rattle.chess_pgn.specs.GameText.{number_token, move_tokens, game_tokens}
 use Rattle.chess_text.specs.San.{san}
 use Rattle.chess_base.proofs.shared.LegalMoves.{IsSound-after}
 use Rattle.chess_text.proofs.shared.San.{san_short}
-use Rattle.chess_pgn.proofs.FilledLines.{AreShort}
+use Rattle.chess_pgn.specs.laws.Layout.{AreShort}
 
 short_outcome : (o : Outcome) → AreShort (outcome_text o ∷ [])
 short_outcome WhiteWins = ((omega arith, omega arith), tt)

@@ -1,5 +1,5 @@
 -- What a step of reading may do, and where it stops.
-use Rattle.std.proofs.Common.{ℕ, ◌+◌, ◌-◌, ◌≤◌, Bool, true, List, length, Option, Result, Ok, Err, arith}
+use Rattle.std.proofs.Common.{◌≡◌, ℕ, ◌+◌, ◌-◌, ◌≤◌, ◌<◌, Bool, true, List, [], ◌∷◌, length, Option, Result, Ok, Err, refl, arith, rules}
 use Rattle.std.specs.Prelude.{codes, is_some, nat_lt, if◌then◌else◌}
 use Rattle.std.specs.Str.{bytes_eq}
 use Rattle.chess_base.specs.declared.fen_fault.FenFault.{FenFault}
@@ -22,61 +22,66 @@ use Rattle.chess_pgn.specs.Tokens.{Token, Skip, Tag, Word, Bad_tag, Unclosed_com
 use Rattle.chess_pgn.specs.Words.{word_kind}
 use Rattle.chess_pgn.proofs.Cuts.{pick}
 
--- a step from the game `g` on: it leaves the game, plays a move, sets the start, stops at a fault, whose offset is from
--- `first` to `last`, or ends the game
-pub data StepIs (g : SoFar) (first last : ℕ) : Step → Type 0 where
-  passes : StepIs g first last (On g)
+-- a step from the game `g` on, at a token from which `left` of `total` bytes are left: it leaves the game, plays a move,
+-- sets the start, stops at a fault, whose offset is not before the token, or ends the game after `len` bytes of it
+pub data StepIs (g : SoFar) (left total : ℕ) : Step → Type 0 where
+  passes : StepIs g left total (On g)
   stays : (m b : Bool) (t : Option Termination)
-      → StepIs g first last (On (record { state = g.state; is_met = m; is_begun = b; termination = t }))
+      → StepIs g left total (On (record { state = g.state; is_met = m; is_begun = b; termination = t }))
   plays : (m : Played)
-      → StepIs g first last (On (record g { state = played g.state m; is_met = true; is_begun = true }))
-  starts : (p : Setup) → StepIs g first last (On (record g { state = from_start p; is_met = true }))
-  stops : (kind : PgnFaultKind) (offset : ℕ) → first ≤ offset → offset ≤ last
-      → StepIs g first last (fails g kind offset)
-  finishes : (o : Outcome) (offset : ℕ) → first ≤ offset → StepIs g first last (ends g o offset)
+      → StepIs g left total (On (record g { state = played g.state m; is_met = true; is_begun = true }))
+  starts : (p : Setup) → StepIs g left total (On (record g { state = from_start p; is_met = true }))
+  stops : (kind : PgnFaultKind) (offset : ℕ) → total - left ≤ offset → offset ≤ total
+      → StepIs g left total (fails g kind offset)
+  finishes : (o : Outcome) (len : ℕ) → 0 < len → len ≤ left → StepIs g left total (ends g o (total - left + len))
 
-module _ (limit first last : ℕ) (g : SoFar) where
-  full_is : (offset : ℕ) (next : Step) → first ≤ offset → offset ≤ last → StepIs g first last next
-      → StepIs g first last (unless_full limit g offset next)
+-- a termination has bytes
+pub termination_has_bytes : (word : List ℕ) (o : Outcome) → End o ≡ word_kind word → 0 < length word
+termination_has_bytes [] o h = cc
+termination_has_bytes (c ∷ word) o h = search rules
+
+module _ (limit left total : ℕ) (g : SoFar) where
+  full_is : (offset : ℕ) (next : Step) → total - left ≤ offset → offset ≤ total → StepIs g left total next
+      → StepIs g left total (unless_full limit g offset next)
   full_is offset next low high h =
-      pick (StepIs g first last) (is_some (verdict_now g.state)) _ _ (λ _. stops AfterEnd offset low high) (λ _.
-      pick (StepIs g first last) (nat_lt (length g.state.moves) limit) _ _ (λ _. h)
+      pick (StepIs g left total) (is_some (verdict_now g.state)) _ _ (λ _. stops AfterEnd offset low high) (λ _.
+      pick (StepIs g left total) (nat_lt (length g.state.moves) limit) _ _ (λ _. h)
       (λ _. stops TooLong offset low high))
 
-  move_is : (offset : ℕ) (r : Reading) → first ≤ offset → offset ≤ last
-      → StepIs g first last (move_step limit g offset r)
+  move_is : (offset : ℕ) (r : Reading) → total - left ≤ offset → offset ≤ total
+      → StepIs g left total (move_step limit g offset r)
   move_is offset reads.NotAMove low high = stops BadToken offset low high
   move_is offset (reads.Move m) low high = full_is offset _ low high (plays m)
   move_is offset reads.Ambiguous low high = full_is offset _ low high (stops AmbiguousMove offset low high)
   move_is offset reads.NoSuch low high = full_is offset _ low high (stops IllegalMove offset low high)
 
-  word_is : (offset : ℕ) (word : List ℕ) (kind : WordKind) → first ≤ offset → offset ≤ last
-      → StepIs g first last (word_step limit g offset word kind)
-  word_is offset word (End o) low high = finishes o (offset + length word) (omega (arith, low))
-  word_is offset word Number low high = stays true true g.termination
-  word_is offset word Marks low high = passes
-  word_is offset word Move low high = move_is offset (reading (current g.state) word) low high
+  word_is : (word : List ℕ) (kind : WordKind) → kind ≡ word_kind word → length word ≤ left
+      → StepIs g left total (word_step limit g (total - left) word kind)
+  word_is word (End o) is h = finishes o (length word) (termination_has_bytes word o is) h
+  word_is word Number is h = stays true true g.termination
+  word_is word Marks is h = passes
+  word_is word Move is h = move_is (total - left) (reading (current g.state) word) (omega arith) (omega arith)
 
-  fen_is : (offset : ℕ) (r : Result Setup FenFault) → first ≤ offset → offset ≤ last
-      → StepIs g first last (fen_step g offset r)
+  fen_is : (offset : ℕ) (r : Result Setup FenFault) → total - left ≤ offset → offset ≤ total
+      → StepIs g left total (fen_step g offset r)
   fen_is offset (Ok start) low high = starts start
   fen_is offset (Err fault) low high = stops (BadFen fault) offset low high
 
-  tag_is : (name text : List ℕ) (offset : ℕ) → first ≤ offset → offset ≤ last
-      → StepIs g first last (tag_step g name text offset)
-  tag_is name text offset low high = pick (StepIs g first last) (bytes_eq name (codes "FEN")) _ _
+  tag_is : (name text : List ℕ) (offset : ℕ) → total - left ≤ offset → offset ≤ total
+      → StepIs g left total (tag_step g name text offset)
+  tag_is name text offset low high = pick (StepIs g left total) (bytes_eq name (codes "FEN")) _ _
       (λ _. fen_is offset (fen_reading_as g.state.start.variant text) low high)
       (λ _. stays true g.is_begun (termination_after g.termination name text))
 
 pub step_is : (limit total : ℕ) (g : SoFar) (left : ℕ) (t : Token) → IsWithin left t
-    → StepIs g (total - left) total (step limit total g left t)
+    → StepIs g left total (step limit total g left t)
 step_is limit total g left Skip h = passes
 step_is limit total g left (Tag name text string) h =
-    pick (StepIs g (total - left) total) g.is_begun _ _
+    pick (StepIs g left total) g.is_begun _ _
     (λ _. stops NoResult (total - left) (omega arith) (omega arith))
-    (λ _. tag_is limit (total - left) total g name text (total - string) (omega (arith, h)) (omega arith))
+    (λ _. tag_is limit left total g name text (total - string) (omega (arith, h)) (omega arith))
 step_is limit total g left (Word word) h =
-    word_is limit (total - left) total g (total - left) word (word_kind word) (omega arith) (omega arith)
+    word_is limit left total g word (word_kind word) refl h
 step_is limit total g left Bad_tag h =
     stops (if g.is_begun then NoResult else BadTag) (total - left) (omega arith) (omega arith)
 step_is limit total g left (Unclosed_comment brace) h =

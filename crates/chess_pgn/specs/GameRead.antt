@@ -61,11 +61,12 @@ finished s o termination offset = record {
 
 -- ---- after the tags: a row for each kind of token
 
--- what a token does: it is passed over, its move is played, its outcome ends the game, or it can't be taken
+-- what a token does: it is passed over, its move is played, its outcome, a word of `len` bytes, ends the game, or it
+-- can't be taken
 pub data Row : Type 0 where
   Passes : Row
   Plays : (m : Move) → Row
-  Ends : (o : Outcome) → Row
+  Ends : (o : Outcome) (len : ℕ) → Row
   Fails : (kind : PgnFaultKind) → Row
 
 -- what a word that may be a move does by what it denotes, where a move may be played
@@ -86,7 +87,7 @@ move_row limit s denoted =
 
 -- a word: an outcome such as `1-0`, a number (digits alone), marks (`!` and `?` alone), or else a move's
 abbrev pub word_row : ℕ → State → List ℕ → Row
-word_row limit s word = option_map_or Ends (outcome_of word)
+word_row limit s word = option_map_or (λ o. Ends o (length word)) (outcome_of word)
     (if list_all is_digit word then Passes
     else if list_all (λ c. c == byte "!" || c == byte "?") word then Passes
     else move_row limit s (reading (current s) word))
@@ -107,16 +108,11 @@ abbrev pub left_at_fault : ℕ × Token → ℕ
 left_at_fault (to_end, Unclosed_comment brace) = brace
 left_at_fault (to_end, _) = to_end
 
--- the length of a word. It is asked only of a game's outcome mark, so that the 0 for other tokens is never used
-abbrev pub word_length : Token → ℕ
-word_length (Word word) = length word
-word_length _ = 0
-
 -- what is read where a token does this, and `later` is what is read of the tokens after it; the text has `total` bytes
 abbrev pub after_row : ℕ → Option Termination → State → ℕ × Token → Row → (State → GameRead) → GameRead
 after_row total termination s t Passes later = later s
 after_row total termination s t (Plays m) later = later (played s m)
-after_row total termination s t (Ends o) later = finished s o termination (total - t.0 + word_length t.1)
+after_row total termination s t (Ends o len) later = finished s o termination (total - t.0 + len)
 after_row total termination s t (Fails kind) later = failed s (record { kind = kind; offset = total - left_at_fault t })
 
 -- what is read of the tokens after the tags, in a text of `total` bytes, from the game `s` on

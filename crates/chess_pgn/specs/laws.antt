@@ -2,5 +2,7 @@
 pub mod PgnLaw
 pub mod Offsets
 pub mod TokenByToken
+pub mod GameOfTokens
+pub mod Layout
 pub mod Normal
 pub mod Examples

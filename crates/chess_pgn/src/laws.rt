@@ -7,8 +7,11 @@ ghost use Rattle.chess_pgn.specs.GameRead.{GameRead, pgn_read};
 ghost use Rattle.chess_pgn.specs.GameRead.{IsRead};
 ghost use Rattle.chess_pgn.specs.laws.TokenByToken.{tokens_read};
 ghost use Rattle.chess_pgn.specs.GameText.{pgn};
+ghost use Rattle.chess_pgn.specs.Written.{lines_of};
 ghost use Rattle.chess_pgn.specs.Tokens.{Token, after_byte_order_mark, tokens_from};
 ghost use Rattle.chess_pgn.specs.laws.Examples.{TextsAreLaidOut, TextsAreRead, TextsAreSplit};
+ghost use Rattle.chess_pgn.specs.laws.GameOfTokens.{GamesAreOfTokens};
+ghost use Rattle.chess_pgn.specs.laws.Layout.{AreFilled, AreShort};
 ghost use Rattle.chess_pgn.specs.laws.Normal.{NormalIsKept};
 ghost use Rattle.chess_pgn.specs.laws.Offsets.{FaultsHaveOffsets, HalfMovesHaveBytes};
 ghost use Rattle.chess_pgn.specs.laws.PgnLaw.{PgnIsReadBack, ResultIsWritten};
@@ -70,6 +73,21 @@ pub fn a_game_is_tags_and_moves()
         → r ≡ pgn_read limit text at }
     ensures token_by_token { (limit : ℕ) → (text : List ℕ) → (at : ℕ) → pgn_read limit text at
         ≡ tokens_read limit (length text) (tokens_from text (after_byte_order_mark text at)) }
+{}
+
+/// States a law and does nothing: a game that is read is that of its text's first tokens. Its start is what their last
+/// tag `FEN` denotes, each word of a move denotes a move in the position reached by then, and the next token ends the
+/// game, or can't be taken, or there is none; the offset is that token's.
+pub fn games_are_of_tokens()
+    ensures { GamesAreOfTokens }
+{}
+
+/// States a law and does nothing: tokens of 1 to 79 bytes that are put into lines from left to right are in lines as
+/// full as they can be: none has more than 79 bytes, and none could also have taken the first token of the next. They
+/// are in no other such lines.
+pub fn lines_are_filled()
+    ensures filled { (tokens : List (List ℕ)) → AreShort tokens → AreFilled tokens (lines_of tokens) }
+    ensures no_other { (tokens texts : List (List ℕ)) → AreFilled tokens texts → texts ≡ lines_of tokens }
 {}
 
 /// States a law and does nothing: the text that is written of a playable game has its tags, an empty line, its moves in

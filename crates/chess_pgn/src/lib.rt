@@ -33,7 +33,8 @@ mod write;
 pub use chess_game::{HowEnded, TagText};
 pub use laws::{
     a_game_is_tags_and_moves, a_text_has_one_split, faults_have_offsets, games_are_laid_out,
-    half_moves_have_bytes, normal_is_kept, pgn_is_read_back, texts_are_worked_out,
+    games_are_of_tokens, half_moves_have_bytes, lines_are_filled, normal_is_kept, pgn_is_read_back,
+    texts_are_worked_out,
 };
 pub use read::{PgnEnd, PgnFault, PgnFaultKind, read_pgn};
 pub use tagged_result::{ResultTag, result_tag};

@@ -151,7 +151,7 @@ fn end_game<B: Board>(game: &mut Game<B>, outcome: Outcome)
 
 // Takes a word, which begins at `offset` and is no move that is played: an outcome such as `1-0` ends the game, and
 // what may be a move is a fault. `progress` is what is known before the word.
-#[tactic(auto, using(crate::proofs::GameReads::termination_has_bytes))]
+#[tactic(auto, using(crate::proofs::StepKinds::termination_has_bytes))]
 #[inline(always)]
 fn apply_word<B: Board>(
     game: &mut Game<B>,

@@ -17,9 +17,10 @@ use Rattle.pgn_pieces.proofs.shared.Inputs.{nothing_read}
 use Rattle.pgn_verifier.specs.declared.options.VerifyOptions.{VerifyOptions}
 use Rattle.pgn_verifier.specs.declared.tally.Tally.{Tally}
 use Rattle.pgn_verifier.specs.declared.fault.VerifyFault.TheVariants.{WriteFailed}
-use Rattle.pgn_verifier.specs.Reports.{reports_in, report_lines, counts_line, counts_of}
-use Rattle.pgn_verifier.specs.Collection.{collection_reports, collection_lines, VerifiesCollection}
-use Rattle.pgn_verifier.specs.ties.OnTheWay.{WritesCollection, Writes, PieceStandsIf, GrowsBy, reports_of, counted}
+use Rattle.pgn_verifier.specs.Reports.{report_lines, counts_line, counts_of}
+use Rattle.pgn_verifier.specs.Collection.{VerifiesCollection}
+use Rattle.pgn_verifier.specs.laws.Reported.{reports_in, collection_reports}
+use Rattle.pgn_verifier.specs.ties.OnTheWay.{WritesCollection, Writes, PieceStandsIf, GrowsBy, reports_of, counted, collection_lines}
 use Rattle.pgn_verifier.specs.Faults.{of_piece}
 use Rattle.pgn_verifier.proofs.Placed.{piece_there}
 use Rattle.pgn_verifier.proofs.Verifying.{collection_broke_off, reading_stopped}

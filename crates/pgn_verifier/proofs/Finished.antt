@@ -11,10 +11,10 @@ use Rattle.pgn_verifier.specs.declared.tally.Verified.{Verified}
 use Rattle.pgn_pieces.specs.declared.pieces.PieceFault.TheVariants as piece
 use Rattle.pgn_pieces.proofs.shared.Inputs.{nothing_read}
 use Rattle.pgn_verifier.specs.declared.fault.VerifyFault.TheVariants.{WriteFailed, NoMemory}
-use Rattle.pgn_verifier.specs.Reports.{reports_on, report_lines, counts_line, counts_of, verified}
-use Rattle.pgn_verifier.specs.Verify.{text_lines}
-use Rattle.pgn_verifier.specs.Collection.{collection_reports, collection_lines, VerifiesCollection}
-use Rattle.pgn_verifier.specs.ties.OnTheWay.{WritesCollection, StandsIf, next_number, counted}
+use Rattle.pgn_verifier.specs.Reports.{report_lines, counts_line, counts_of, verified}
+use Rattle.pgn_verifier.specs.Collection.{VerifiesCollection}
+use Rattle.pgn_verifier.specs.laws.Reported.{reports_on, collection_reports}
+use Rattle.pgn_verifier.specs.ties.OnTheWay.{WritesCollection, StandsIf, next_number, counted, text_lines, collection_lines}
 use Rattle.pgn_verifier.proofs.Verifying.{collection_verified, collection_broke_off, reading_stopped}
 
 abbrev pub none : Tally

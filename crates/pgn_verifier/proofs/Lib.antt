@@ -5,6 +5,7 @@ mod InputRead
 mod LinesWritten
 mod Parts
 mod Placed
+mod ReportsAre
 mod TextVerified
 mod Verifying
 mod WrittenGames

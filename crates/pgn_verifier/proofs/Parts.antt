@@ -32,12 +32,13 @@ use Rattle.chess_pgn.specs.declared.read.PgnFaultKind.TheVariants.{NoResult}
 use Rattle.chess_pgn.specs.declared.tagged_result.ResultTag.{ResultTag}
 use Rattle.chess_pgn.specs.laws.TokenByToken.{SoFar, Step, On, Stop, ends, move_step, word_step, fen_step, step, read_rest_with, game_of, nothing_read, tokens_read}
 use Rattle.chess_pgn.proofs.shared.Tokens.{read_split, split_read}
-use Rattle.pgn_verifier.specs.GameFaults.{result_differs, board_says_otherwise, contradiction, judged, read_at}
+use Rattle.pgn_verifier.specs.GameFaults.{result_differs, board_says_otherwise, contradiction, judged}
 use Rattle.pgn_verifier.specs.declared.game_fault.GameFault.{GameFault}
 use Rattle.pgn_verifier.specs.laws.Parts.{BeginsAlike, GamesAreInParts, HoldsWhole, no_more, game, WholeGamesAreReportedAlike, AllHoldWhole, no_parts, next_part, TextsAreReportedInParts, PiecesAreReportedAlike}
 use Rattle.pgn_pieces.specs.Pieces.{lines_of, begins_piece, piece_of, cut_lines, cut, piece_at, with_offsets, pieces}
 use Rattle.pgn_pieces.specs.declared.pieces.TheConstants.{PIECE_LEN}
-use Rattle.pgn_verifier.specs.Reports.{Report, Game, report_then, reports_from, reports_on, reports_in, too_long_report}
+use Rattle.pgn_verifier.specs.Reports.{Report, Game, too_long_report}
+use Rattle.pgn_verifier.specs.laws.Reported.{read_at, report_then, reports_from, reports_on, reports_in}
 
 -- ---- steps
 

@@ -4,12 +4,12 @@ use Rattle.std.specs.Prelude.{if◌then◌else◌}
 use Rattle.byte_devices.specs.Devices.{OutputState, Took, BreaksOff}
 use Rattle.chess_game.specs.Game.{State}
 use Rattle.chess_pgn.specs.declared.read.PgnEnd.{PgnEnd}
-use Rattle.pgn_verifier.specs.GameFaults.{read_at, judged_at}
 use Rattle.pgn_verifier.specs.declared.game_fault.GameFault.{GameFault}
 use Rattle.pgn_verifier.specs.declared.options.VerifyOptions.{VerifyOptions}
 use Rattle.pgn_verifier.specs.declared.tally.Tally.{Tally}
 use Rattle.pgn_verifier.specs.Explanations.{explained}
-use Rattle.pgn_verifier.specs.Reports.{Report, Game, Faulty, report_then, reports_from, reports_on, game_line, written_line, report_lines, with_report}
+use Rattle.pgn_verifier.specs.Reports.{Report, Game, Faulty, game_line, written_line, report_lines, with_report}
+use Rattle.pgn_verifier.specs.laws.Reported.{read_at, judged_at, report_then, reports_from, reports_on}
 use Rattle.pgn_verifier.specs.ties.OnTheWay.{next_number, Writes, GrowsBy, moved, counted}
 use Rattle.pgn_verifier.proofs.LinesWritten.{wrote_none, took_after, broke_after, writes_after, one_line, first_broke, counted_after}
 

@@ -1,5 +1,5 @@
 -- What verifying reads and writes, from what its parts did to the devices.
-use Rattle.std.proofs.Common.{◌≡◌, ℕ, Bool, true, false, List, [], Result, Ok, Err, IsErr, refl}
+use Rattle.std.proofs.Common.{◌≡◌, ℕ, Bool, true, false, List, [], Result, Ok, Err, IsErr, refl, sym, subst, append-nil}
 use Rattle.std.specs.Prelude.{IfErr}
 use Rattle.byte_devices.specs.Devices.{InputState, OutputState, Took, Sent, BreaksOff}
 use Rattle.byte_devices.specs.Transfers.{InputGave, Ran, all_of, all_unflushed, nothing}
@@ -12,10 +12,12 @@ use Rattle.pgn_verifier.specs.declared.fault.VerifyFault.TheVariants.{ReadFailed
 use Rattle.pgn_verifier.specs.declared.options.VerifyOptions.{VerifyOptions}
 use Rattle.pgn_verifier.specs.declared.tally.Verified.{Verified}
 use Rattle.pgn_verifier.specs.Reports.{counts_of, verified}
-use Rattle.pgn_verifier.specs.Verify.{Verifies, text_lines}
-use Rattle.pgn_verifier.specs.Collection.{VerifiesCollection, collection_reports, collection_lines, collection_text}
+use Rattle.pgn_verifier.specs.Verify.{Verifies}
+use Rattle.pgn_verifier.specs.Collection.{VerifiesCollection, WritesPart}
+use Rattle.pgn_verifier.specs.laws.Reported.{reports_on, collection_reports}
 use Rattle.pgn_verifier.specs.Faults.{of_piece}
-use Rattle.pgn_verifier.specs.ties.OnTheWay.{IsAll, IsNotAll, WritesText}
+use Rattle.pgn_verifier.proofs.ReportsAre.{are_reports, are_collection_reports}
+use Rattle.pgn_verifier.specs.ties.OnTheWay.{IsAll, IsNotAll, WritesText, text_lines, collection_lines, collection_written}
 
 gave : (r r' : InputState) (text : List ℕ) (ended : Bool) → HasRead ended r r' text
     → InputGave r r' (came r' text ended false)
@@ -64,7 +66,7 @@ text_verified E options r r' w w' text verdict (read, few) (is, sent) = (
   all_of (text_lines options text),
   gave r r' text true read,
   took_all w w' (text_lines options text) sent,
-  ((refl, refl), few, refl, is),
+  ((refl, refl), few, reports_on options.strict 0 text, are_reports options.strict 0 text, refl, is),
 )
 
 pub text_broke_off : (options : VerifyOptions) (r r' : InputState) (w w' : OutputState) (text : List ℕ)
@@ -75,26 +77,32 @@ text_broke_off options r r' w w' text (read, few) (start, begins, failed) = (
   broke [] start,
   gave r r' text true read,
   took_some w w' start failed,
-  ((refl, refl), few, (refl, begins, refl)),
+  ((refl, refl), few, reports_on options.strict 0 text, are_reports options.strict 0 text, (refl, begins, refl)),
 )
 
 -- ---- a collection
 
 pub collection_verified : (options : VerifyOptions) (r r' : InputState) (w w' : OutputState) (text : List ℕ)
-    (verdict : Verified) → HasRead true r r' text → Sent w w' (collection_text options true text)
+    (verdict : Verified) → HasRead true r r' text → Sent w w' (collection_written options true text)
     → verdict ≡ verified (counts_of (collection_reports options.strict true text))
     → Ran (VerifiesCollection options (Ok verdict)) (record { input = r; output = w })
     (record { input = r'; output = w' })
 collection_verified options r r' w w' text verdict read sent is = (
   came r' text true false,
-  all_of (collection_text options true text),
+  all_of (collection_written options true text),
   gave r r' text true read,
-  took_all w w' (collection_text options true text) sent,
-  ((refl, refl), refl, is),
+  took_all w w' (collection_written options true text) sent,
+  (
+    (refl, refl),
+    collection_reports options.strict true text,
+    are_collection_reports options.strict true text,
+    refl,
+    is,
+  ),
 )
 
 pub collection_broke_off : (options : VerifyOptions) (r r' : InputState) (w w' : OutputState) (ended : Bool)
-    (text : List ℕ) → HasRead ended r r' text → BreaksOff w w' (collection_text options ended text)
+    (text : List ℕ) → HasRead ended r r' text → BreaksOff w w' (collection_written options ended text)
     → Ran (VerifiesCollection options (Err WriteFailed)) (record { input = r; output = w })
     (record { input = r'; output = w' })
 collection_broke_off options r r' w w' ended text read (start, begins, failed) = (
@@ -102,7 +110,12 @@ collection_broke_off options r r' w w' ended text read (start, begins, failed) =
   broke [] start,
   gave r r' text ended read,
   took_some w w' start failed,
-  (refl, (refl, begins, refl)),
+  (
+    refl,
+    collection_reports options.strict ended text,
+    are_collection_reports options.strict ended text,
+    (refl, begins, refl),
+  ),
 )
 
 -- the lines of the pieces whose end was read were written before reading stopped
@@ -110,24 +123,39 @@ pub reading_stopped : (options : VerifyOptions) (r r' : InputState) (w w' : Outp
     (fault : PieceFault) → IsCause r r' text fault → Took w w' (collection_lines options false text)
     → Ran (VerifiesCollection options (Err (of_piece fault))) (record { input = r; output = w })
     (record { input = r'; output = w' })
-reading_stopped options r r' w w' text piece.ReadFailed broke_off took = (
-  came r' text false true,
-  all_unflushed (collection_lines options false text),
-  gave_before_a_fault r r' text broke_off,
-  took_unflushed w w' (collection_lines options false text) took,
-  ((refl, refl), (refl, refl)),
-)
-reading_stopped options r r' w w' text piece.NoMemory read took = (
-  came r' text false false,
-  all_unflushed (collection_lines options false text),
-  gave r r' text false read,
-  took_unflushed w w' (collection_lines options false text) took,
-  (refl, (refl, refl)),
-)
-reading_stopped options r r' w w' text piece.InputTooLong (read, many) took = (
-  came r' text false false,
-  all_unflushed (collection_lines options false text),
-  gave r r' text false read,
-  took_unflushed w w' (collection_lines options false text) took,
-  (refl, many, (refl, refl)),
-)
+reading_stopped options r r' w w' text fault cause took = by_fault fault cause
+  where
+    written : List ℕ
+    written = collection_written options false text
+
+    part : Took w w' written
+    part = subst (Took w w') (sym (append-nil (collection_lines options false text))) took
+
+    part_written : (failed : Bool) → WritesPart options (came r' text false failed) (all_unflushed written)
+    part_written failed =
+        (refl, collection_reports options.strict false text, are_collection_reports options.strict false text, refl)
+
+    by_fault : (fault : PieceFault) → IsCause r r' text fault
+        → Ran (VerifiesCollection options (Err (of_piece fault))) (record { input = r; output = w })
+        (record { input = r'; output = w' })
+    by_fault piece.ReadFailed broke_off = (
+      came r' text false true,
+      all_unflushed written,
+      gave_before_a_fault r r' text broke_off,
+      took_unflushed w w' written part,
+      ((refl, refl), part_written true),
+    )
+    by_fault piece.NoMemory read = (
+      came r' text false false,
+      all_unflushed written,
+      gave r r' text false read,
+      took_unflushed w w' written part,
+      (refl, part_written false),
+    )
+    by_fault piece.InputTooLong (read, many) = (
+      came r' text false false,
+      all_unflushed written,
+      gave r r' text false read,
+      took_unflushed w w' written part,
+      (refl, many, part_written false),
+    )

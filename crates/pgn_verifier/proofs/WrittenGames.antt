@@ -1,5 +1,5 @@
 -- A game as it is written is read back, and neither its tag Result nor the board contradicts its outcome.
-use Rattle.std.proofs.Common.{◌≡◌, ℕ, Bool, true, false, List, [], ◌++◌, length, Option, Some, None, Ok, Err, refl, sym, ap, ◌∙◌}
+use Rattle.std.proofs.Common.{◌≡◌, ℕ, Bool, true, false, List, [], ◌++◌, length, Option, Some, None, Ok, Err, refl, sym, ap, subst, ◌∙◌}
 use Rattle.std.specs.Prelude.{option_and_then}
 use Rattle.std.specs.Option.{option_map_or}
 use Rattle.chess_game.specs.Ends.{verdict_outcome}
@@ -19,7 +19,8 @@ use Rattle.chess_pgn.specs.declared.read.PgnEnd.{PgnEnd}
 use Rattle.chess_pgn.specs.declared.tagged_result.ResultTag.{ResultTag}
 use Rattle.chess_pgn.specs.laws.PgnLaw.{PgnIsReadBack, ResultIsWritten}
 use Rattle.chess_pgn.proofs.shared.Tokens.{read_split}
-use Rattle.pgn_verifier.specs.GameFaults.{result_differs, board_says_otherwise, contradiction, judged}
+use Rattle.pgn_verifier.specs.GameFaults.{result_differs, board_says_otherwise, contradiction, judged, IsJudged}
+use Rattle.pgn_verifier.proofs.ReportsAre.{judged_is}
 use Rattle.pgn_verifier.specs.laws.WrittenGames.{WrittenGamesHaveNoFault}
 
 same_self : (o : Outcome) → same_outcome o o ≡ true
@@ -58,11 +59,14 @@ written_games read result strict tags s before after texts h =
       offset = back.offset;
     } in
     record {
+      read = r.state;
       end = end;
-      judged = ap (judged strict tag (verdict_now r.state)) back.answer
+      judged = subst (IsJudged strict text (length before) r.state)
+          (ap (judged strict tag (verdict_now r.state)) back.answer
           ∙ ap (λ fault. option_map_or Err fault (Ok (Some end)))
           (nothing_contradicts strict tag (verdict_now r.state) end (tag_agrees (outcome_now s) end tag refl named)
-          (board_agrees (verdict_now r.state) r.state.declared end (sym back.outcome)));
+          (board_agrees (verdict_now r.state) r.state.declared end (sym back.outcome))))
+          (judged_is strict text (length before));
       start = back.start;
       moves = back.moves;
       outcome = refl;

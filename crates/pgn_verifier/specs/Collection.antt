@@ -1,44 +1,44 @@
 -- What verifying a collection reads and writes: however the input is cut into reads and however long it is, the lines
 -- are those of its pieces.
 use Rattle.std.specs.Prelude.{◌≡◌, ◌≤◌, ◌^◌, ℕ, ◌+◌, Bool, true, false, if◌then◌else◌, List, [], ◌++◌, length, Result, Ok, Err}
-use Rattle.std.specs.List.{flat_map}
+use Rattle.std.specs.List.{AllZip, flat_map}
 use Rattle.byte_devices.specs.Transfers.{FromInput, ToOutput, IsWhole, IsCutOff, IsUnbroken, all_of, all_unflushed, BreaksOffIn}
 use Rattle.pgn_pieces.specs.Pieces.{pieces}
 use Rattle.pgn_verifier.specs.declared.fault.VerifyFault.{VerifyFault}
 use Rattle.pgn_verifier.specs.declared.fault.VerifyFault.TheVariants.{ReadFailed, WriteFailed, NoMemory, InputTooLong}
 use Rattle.pgn_verifier.specs.declared.options.VerifyOptions.{VerifyOptions}
 use Rattle.pgn_verifier.specs.declared.tally.Verified.{Verified}
-use Rattle.pgn_verifier.specs.Reports.{Report, reports_in, report_lines, counts_line, counts_of, verified}
+use Rattle.pgn_verifier.specs.Reports.{Report, AreReportsIn, report_lines, counts_line, counts_of, verified}
 
--- the reports on the games of a collection of which this text was read: on all its pieces, if the text is all of it
--- (`ended`), else on all but the last. `strict`: results are compared
-abbrev pub collection_reports : Bool → Bool → List ℕ → List Report
-collection_reports strict ended text = flat_map (reports_in strict) (pieces ended text)
+-- these are the reports on the games of a collection of which this text was read: on all its pieces, one after another,
+-- if the text is all of it (`ended`), else on all but the last. `strict`: results are compared
+abbrev pub AreCollectionReports : Bool → Bool → List ℕ → List Report → Type 0
+AreCollectionReports strict ended text reports = (by_piece : List (List Report))
+    × AllZip (λ piece part. AreReportsIn strict piece part) (pieces ended text) by_piece × (reports ≡ flat_map (λ part. part) by_piece)
 
--- the lines that report the games of a collection of which this text was read, numbered from 1: `game 1: 4 half-moves,
--- 0-1`. `ended`: the text is all of it; if not, its last piece isn't reported. `options` say whether results are
--- compared, whether only faults have a line, and whether faults are explained
-abbrev pub collection_lines : VerifyOptions → Bool → List ℕ → List ℕ
-collection_lines options ended text = report_lines options text 1 (collection_reports options.strict ended text)
-
--- all that is written of a collection of which this text was read: the lines of its games, and if the text is all of it
--- (`ended`) the line of counts
-abbrev pub collection_text : VerifyOptions → Bool → List ℕ → List ℕ
-collection_text options ended text = collection_lines options ended text
-    ++ (if ended then counts_line (counts_of (collection_reports options.strict ended text)) else [])
+-- all that is written of a collection whose games have these reports: their lines, numbered from 1, and if all of it
+-- was read (`ended`) the line of counts
+abbrev pub collection_text : VerifyOptions → Bool → List ℕ → List Report → List ℕ
+collection_text options ended text reports =
+    report_lines options text 1 reports ++ (if ended then counts_line (counts_of reports) else [])
 
 -- reading stopped before the input's end, and the lines of the pieces whose end was read were written, but not flushed
 abbrev pub WritesPart : VerifyOptions → FromInput → ToOutput → Type 0
-WritesPart options i o = (i.ended ≡ false) × (o ≡ all_unflushed (collection_lines options false i.text))
+WritesPart options i o = (i.ended ≡ false)
+    × ((reports : List Report) × AreCollectionReports options.strict false i.text reports
+    × (o ≡ all_unflushed (collection_text options false i.text reports)))
 
 -- what verifying a collection reads and writes, by its result. The whole input was read, and its text was written and
 -- flushed; or a write or the flush failed, and a beginning of the text was written. Or a read failed, memory ran out or
--- the input was too long, and the lines of the pieces whose end was read were written
+-- the input was too long, and the lines of the pieces whose end was read were written. `options` say whether results
+-- are compared, whether only faults have a line, and whether faults are explained
 abbrev pub VerifiesCollection : VerifyOptions → Result Verified VerifyFault → FromInput → ToOutput → Type 0
-VerifiesCollection options (Ok verdict) i o = IsWhole i × (o ≡ all_of (collection_text options true i.text))
-    × (verdict ≡ verified (counts_of (collection_reports options.strict true i.text)))
-VerifiesCollection options (Err WriteFailed) i o =
-    IsUnbroken i × BreaksOffIn [] (collection_text options i.ended i.text) o
+VerifiesCollection options (Ok verdict) i o = IsWhole i
+    × ((reports : List Report) × AreCollectionReports options.strict true i.text reports
+    × (o ≡ all_of (collection_text options true i.text reports)) × (verdict ≡ verified (counts_of reports)))
+VerifiesCollection options (Err WriteFailed) i o = IsUnbroken i
+    × ((reports : List Report) × AreCollectionReports options.strict i.ended i.text reports
+    × BreaksOffIn [] (collection_text options i.ended i.text reports) o)
 VerifiesCollection options (Err ReadFailed) i o = IsCutOff i × WritesPart options i o
 VerifiesCollection options (Err NoMemory) i o = IsUnbroken i × WritesPart options i o
 VerifiesCollection options (Err InputTooLong) i o =

@@ -1,13 +1,14 @@
 -- The faults of a game, and when its result contradicts its text or the board.
-use Rattle.std.specs.Prelude.{ℕ, ◌-◌, Bool, if◌then◌else◌, List, length, codes, Option, Some, None, Result, Ok, Err}
+use Rattle.std.specs.Prelude.{◌≡◌, ℕ, ◌-◌, Bool, if◌then◌else◌, List, length, codes, Option, Some, None, Result, Ok, Err}
 use Rattle.std.specs.Option.{option_eq, option_map_or, option_or}
-use Rattle.chess_game.specs.Game.{contradicts_verdict, verdict_now}
+use Rattle.chess_game.specs.Game.{State, contradicts_verdict, verdict_now}
 use Rattle.chess_game.specs.Results.{outcome_text, same_outcome}
 use Rattle.chess_game.specs.declared.verdicts.Verdict.{Verdict}
 use Rattle.chess_game.specs.declared.game.TheConstants.{MOST_MOVES}
-use Rattle.chess_pgn.specs.GameRead.{GameRead, pgn_read}
+use Rattle.chess_pgn.specs.GameRead.{read_of_split}
 use Rattle.chess_pgn.specs.LastTags.{result_tag_of}
-use Rattle.chess_pgn.specs.Tokens.{after_byte_order_mark, tokens_from}
+use Rattle.chess_pgn.specs.Split.{IsSplit}
+use Rattle.chess_pgn.specs.Tokens.{Token, after_byte_order_mark}
 use Rattle.chess_pgn.specs.declared.read.PgnEnd.{PgnEnd}
 use Rattle.chess_pgn.specs.declared.read.PgnFault.{PgnFault}
 use Rattle.chess_pgn.specs.declared.read.PgnFaultKind.{PgnFaultKind}
@@ -48,17 +49,16 @@ judged strict tag verdict (Ok None) = Ok None
 judged strict tag verdict (Ok (Some end)) = option_map_or Err (contradiction strict tag verdict end) (Ok (Some end))
 judged strict tag verdict (Err fault) = Err (record { kind = Pgn fault.kind; offset = fault.offset })
 
--- what is read of a text from an offset on: a game of at most 20,000 half-moves, none, or a fault
-abbrev pub read_at : List ℕ → ℕ → GameRead
-read_at = pgn_read MOST_MOVES
-
--- what is reported of the game from the offset `at` on: its end, its fault, or `None` if the text has no more games.
+-- what is reported of the game from the offset `at` on (`answer`): its end, its fault, or `None` if the text has no more
+-- games. `s` is the game that was read, of at most 20,000 half-moves. Both are by the text's only split into tokens;
 -- `strict`: results are compared
-abbrev pub judged_at : Bool → List ℕ → ℕ → Result (Option PgnEnd) GameFault
-judged_at strict text at =
-    let read = read_at text at in
-    let tag = result_tag_of (length text) (tokens_from text (after_byte_order_mark text at)) in
-    judged strict tag (verdict_now read.state) read.answer
+pub record IsJudged (strict : Bool) (text : List ℕ) (at : ℕ) (s : State)
+    (answer : Result (Option PgnEnd) GameFault) : Type 0 where
+  pub tokens : List (ℕ × Token)
+  pub split : IsSplit text (after_byte_order_mark text at) tokens
+  pub game : s ≡ (read_of_split MOST_MOVES (length text) tokens).state
+  pub is : answer ≡ judged strict (result_tag_of (length text) tokens) (verdict_now s)
+      (read_of_split MOST_MOVES (length text) tokens).answer
 
 -- ---- names
 

@@ -1,5 +1,5 @@
 -- The reports on the games of a text and of pieces, their lines and their counts.
-use Rattle.std.specs.Prelude.{ℕ, zero, suc, ◌+◌, ◌==◌, Bool, if◌then◌else◌, List, [], ◌∷◌, ◌++◌, length, drop, codes, decimal, Option, Some, None, Result, Ok, Err}
+use Rattle.std.specs.Prelude.{◌≡◌, ℕ, ◌+◌, ◌==◌, Bool, if◌then◌else◌, List, [], ◌∷◌, ◌++◌, length, drop, codes, decimal, Option, Some, None, Result, Ok, Err}
 use Rattle.std.specs.List.{fold}
 use Rattle.std.specs.Option.{option_map_or}
 use Rattle.chess_base.specs.Letters.{new_line}
@@ -12,7 +12,7 @@ use Rattle.chess_pgn.specs.declared.termination.Termination.{Termination}
 use Rattle.chess_pgn.specs.Terminations.{termination_text}
 use Rattle.pgn_pieces.specs.Pieces.{Piece}
 use Rattle.pgn_verifier.specs.Explanations.{Explanation, explained, too_long_explained, explanation_line}
-use Rattle.pgn_verifier.specs.GameFaults.{read_at, judged_at, fault_name}
+use Rattle.pgn_verifier.specs.GameFaults.{IsJudged, fault_name}
 use Rattle.pgn_verifier.specs.declared.game_fault.FaultKind.TheVariants.{Pgn}
 use Rattle.pgn_verifier.specs.declared.game_fault.GameFault.{GameFault}
 use Rattle.pgn_verifier.specs.declared.options.VerifyOptions.{VerifyOptions}
@@ -30,27 +30,17 @@ pub data Report : Type 0 where
 
 -- ---- the reports on the games of a text
 
--- the report on a game of a text, from how it was judged and the game that was read (`s`), and then what `later` gives
--- for the offset of its end; a fault is the last. `start` is the input's offset at which the text begins
-abbrev pub report_then : ℕ → List ℕ → Result (Option PgnEnd) GameFault → State → (ℕ → List Report) → List Report
-report_then start text (Ok None) s later = []
-report_then start text (Ok (Some end)) s later =
-    Game (length s.moves) end.outcome end.termination ∷ later end.offset
-report_then start text (Err fault) s later =
-    Faulty (record fault { offset = start + fault.offset }) (explained s (drop fault.offset text) fault.kind) ∷ []
-
--- the reports on at most n games (the third argument) of a text from its offset `at` on, up to its first fault. The
--- text begins at the offset `start` of the input; `strict`: results are compared
-unfoldable pub reports_from : Bool → ℕ → ℕ → List ℕ → ℕ → List Report
-reports_from strict start zero text at = []
-reports_from strict start (suc n) text at =
-    report_then start text (judged_at strict text at) (read_at text at).state
-    (λ next. reports_from strict start n text next)
-
--- the reports on all games of a text up to its first fault. The text begins at the offset `start` of the input;
--- `strict`: results are compared. Each game has at least one byte, so `length text + 1` games are enough
-abbrev pub reports_on : Bool → ℕ → List ℕ → List Report
-reports_on strict start text = reports_from strict start (length text + 1) text 0
+-- these are the reports on the games of a text from its offset `at` on: no game is left; or one is, and then come the
+-- reports from its end on; or its fault is the last. The text begins at the offset `start` of the input; `strict`:
+-- results are compared
+pub data AreReports (strict : Bool) (start : ℕ) (text : List ℕ) : ℕ → List Report → Type 0 where
+  none_left : {at : ℕ} {s : State} → IsJudged strict text at s (Ok None) → AreReports strict start text at []
+  next_game : {at : ℕ} {s : State} {end : PgnEnd} {reports : List Report} → IsJudged strict text at s (Ok (Some end))
+      → AreReports strict start text end.offset reports
+      → AreReports strict start text at (Game (length s.moves) end.outcome end.termination ∷ reports)
+  last_fault : {at : ℕ} {s : State} {fault : GameFault} → IsJudged strict text at s (Err fault)
+      → AreReports strict start text at (Faulty (record fault { offset = start + fault.offset })
+      (explained s (drop fault.offset text) fault.kind) ∷ [])
 
 -- ---- the reports on the games of pieces
 
@@ -59,10 +49,15 @@ abbrev pub too_long_report : Piece → Report
 too_long_report piece =
     Faulty (record { kind = Pgn TooLong; offset = piece.offset }) (too_long_explained piece.beginning)
 
--- the reports on the games of a piece, which is read as a text of its own; a piece that is too long, which has no bytes
--- here, has one report. `strict`: results are compared
-abbrev pub reports_in : Bool → Piece → List Report
-reports_in strict piece = option_map_or (reports_on strict piece.offset) piece.bytes (too_long_report piece ∷ [])
+-- these are the reports on the games of a piece with these bytes, which are read as a text of its own; a piece that is
+-- too long, whose bytes are `None`, has one report. `strict`: results are compared
+abbrev pub AreReportsOn : Bool → Piece → Option (List ℕ) → List Report → Type 0
+AreReportsOn strict piece (Some text) reports = AreReports strict piece.offset text 0 reports
+AreReportsOn strict piece None reports = reports ≡ too_long_report piece ∷ []
+
+-- these are the reports on the games of a piece
+abbrev pub AreReportsIn : Bool → Piece → List Report → Type 0
+AreReportsIn strict piece reports = AreReportsOn strict piece piece.bytes reports
 
 -- ---- their lines
 

@@ -4,7 +4,8 @@ ghost use Rattle.std.specs.Prelude.{◌≡◌, ◌≤◌, ◌<◌, ◌+◌, ◌*
 ghost use Rattle.byte_devices.specs.Devices.{Sends};
 ghost use Rattle.byte_devices.specs.Transfers.{Ran};
 ghost use Rattle.pgn_pieces.specs.Stream.{unread, current};
-ghost use Rattle.pgn_verifier.specs.Reports.{reports_in, counts_line};
+ghost use Rattle.pgn_verifier.specs.Reports.{counts_line};
+ghost use Rattle.pgn_verifier.specs.laws.Reported.{reports_in};
 ghost use Rattle.pgn_verifier.specs.Collection.{VerifiesCollection};
 ghost use Rattle.pgn_verifier.specs.ties.OnTheWay.{WritesCollection, PieceStandsIf, Writes, GrowsBy};
 ghost use Rattle.chess_game.specs.declared.game.TheConstants.{MOST_MOVES};

@@ -3,8 +3,7 @@
 ghost use Rattle.std.specs.Prelude.{◌≡◌, ◌≤◌, ◌<◌, ◌+◌, ◌^◌, List, ℕ, length, IfOk, IfErr};
 ghost use Rattle.std.specs.Option.{IfSome};
 ghost use Rattle.chess_game.specs.declared.game.TheConstants.{MOST_MOVES};
-ghost use Rattle.pgn_verifier.specs.GameFaults.{read_at, judged_at};
-ghost use Rattle.pgn_verifier.specs.Reports.{reports_on};
+ghost use Rattle.pgn_verifier.specs.laws.Reported.{read_at, judged_at, reports_on};
 ghost use Rattle.pgn_verifier.specs.ties.OnTheWay.{StandsIf, Writes, GrowsBy};
 
 use crate::contradiction::contradiction;

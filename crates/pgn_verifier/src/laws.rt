@@ -1,10 +1,36 @@
 //! Laws of the definitions, each the contract of a function that does nothing.
 
+ghost use Rattle.std.specs.Prelude.{◌≡◌, Bool, List, Option, Result, ℕ};
+ghost use Rattle.chess_game.specs.Game.{State};
+ghost use Rattle.chess_pgn.specs.declared.read.PgnEnd.{PgnEnd};
+ghost use Rattle.pgn_verifier.specs.declared.game_fault.GameFault.{GameFault};
+ghost use Rattle.pgn_verifier.specs.Collection.{AreCollectionReports};
+ghost use Rattle.pgn_verifier.specs.GameFaults.{IsJudged};
+ghost use Rattle.pgn_verifier.specs.Reports.{AreReports, Report};
+ghost use Rattle.pgn_verifier.specs.laws.Reported.{collection_reports, judged_at, read_at, reports_on};
 ghost use Rattle.pgn_verifier.specs.laws.Parts.{GamesAreInParts, WholeGamesAreReportedAlike};
 ghost use Rattle.pgn_verifier.specs.laws.Parts.{PiecesAreReportedAlike, TextsAreReportedInParts};
 ghost use Rattle.pgn_verifier.specs.laws.WrittenGames.{WrittenGamesHaveNoFault};
 
 use chess_pgn::{a_game_is_tags_and_moves, pgn_is_read_back};
+
+/// States a law and does nothing: a game is judged in one way, and a text and a collection have one list of reports. It
+/// is the one that is made by reading games one after another.
+pub fn reports_are_the_only_ones()
+    ensures game { (strict : Bool) (text : List ℕ) (at : ℕ)
+        → IsJudged strict text at (read_at text at).state (judged_at strict text at) }
+    ensures no_other_game { (strict : Bool) (text : List ℕ) (at : ℕ) (s : State)
+        (answer : Result (Option PgnEnd) GameFault) → IsJudged strict text at s answer
+        → (s ≡ (read_at text at).state) × (answer ≡ judged_at strict text at) }
+    ensures text { (strict : Bool) (start : ℕ) (text : List ℕ)
+        → AreReports strict start text 0 (reports_on strict start text) }
+    ensures no_other_of_text { (strict : Bool) (start : ℕ) (text : List ℕ) (reports : List Report)
+        → AreReports strict start text 0 reports → reports ≡ reports_on strict start text }
+    ensures collection { (strict ended : Bool) (text : List ℕ)
+        → AreCollectionReports strict ended text (collection_reports strict ended text) }
+    ensures no_other_of_collection { (strict ended : Bool) (text : List ℕ) (reports : List Report)
+        → AreCollectionReports strict ended text reports → reports ≡ collection_reports strict ended text }
+{}
 
 /// States a law and does nothing: the text that `write_pgn` of chess_pgn writes of a game has no fault when it is
 /// verified from its first byte on, with `strict` neither, whatever text comes before and after it.

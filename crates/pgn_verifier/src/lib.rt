@@ -33,6 +33,6 @@ mod token_reason;
 pub use buffered::verify;
 pub use collection::verify_collection;
 pub use fault::VerifyFault;
-pub use laws::{games_are_in_parts, written_games_have_no_fault};
+pub use laws::{games_are_in_parts, reports_are_the_only_ones, written_games_have_no_fault};
 pub use options::VerifyOptions;
 pub use tally::Verified;

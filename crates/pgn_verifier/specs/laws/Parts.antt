@@ -6,9 +6,8 @@ use Rattle.chess_pgn.specs.Tokens.{after_byte_order_mark, begins_line}
 use Rattle.chess_pgn.specs.declared.read.PgnEnd.{PgnEnd}
 use Rattle.pgn_pieces.specs.Pieces.{cut}
 use Rattle.pgn_pieces.specs.declared.pieces.TheConstants.{PIECE_LEN}
-use Rattle.pgn_verifier.specs.Collection.{collection_reports}
-use Rattle.pgn_verifier.specs.GameFaults.{read_at, judged_at}
-use Rattle.pgn_verifier.specs.Reports.{Report, Game, reports_from, reports_on}
+use Rattle.pgn_verifier.specs.Reports.{Report, Game}
+use Rattle.pgn_verifier.specs.laws.Reported.{collection_reports, read_at, judged_at, reports_from, reports_on}
 
 -- ---- one game
 

@@ -6,15 +6,16 @@ use Rattle.chess_pgn.specs.GameText.{pgn}
 use Rattle.chess_pgn.specs.declared.read.PgnEnd.{PgnEnd}
 use Rattle.chess_pgn.specs.declared.tags.Tags.{Tags}
 use Rattle.chess_pgn.specs.laws.PgnLaw.{AreTagTexts}
-use Rattle.pgn_verifier.specs.GameFaults.{read_at, judged_at}
+use Rattle.pgn_verifier.specs.GameFaults.{IsJudged}
 
--- the game from the offset `at` on has no fault, and is the game `s`, whose text ends at the offset `text_end`;
+-- the game from the offset `at` on (`read`) has no fault, and is the game `s`, whose text ends at the offset `text_end`;
 -- `strict`: results are compared
 pub record HasNoFault (strict : Bool) (text : List ℕ) (at : ℕ) (s : State) (text_end : ℕ) : Type 0 where
+  pub read : State
   pub end : PgnEnd
-  pub judged : judged_at strict text at ≡ Ok (Some end)
-  pub start : (read_at text at).state.start ≡ s.start
-  pub moves : (read_at text at).state.moves ≡ s.moves
+  pub judged : IsJudged strict text at read (Ok (Some end))
+  pub start : read.start ≡ s.start
+  pub moves : read.moves ≡ s.moves
   pub outcome : end.outcome ≡ outcome_now s
   pub two_before_end : end.offset + 2 ≡ text_end
 

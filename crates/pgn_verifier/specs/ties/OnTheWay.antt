@@ -13,9 +13,9 @@ use Rattle.pgn_verifier.specs.declared.game_fault.GameFault.{GameFault}
 use Rattle.pgn_verifier.specs.declared.options.VerifyOptions.{VerifyOptions}
 use Rattle.pgn_verifier.specs.declared.tally.Tally.{Tally}
 use Rattle.pgn_verifier.specs.declared.tally.Verified.{Verified}
-use Rattle.pgn_verifier.specs.Reports.{Report, reports_on, reports_in, with_report, counts_of, verified, report_lines}
-use Rattle.pgn_verifier.specs.Verify.{text_lines}
-use Rattle.pgn_verifier.specs.Collection.{collection_reports, collection_lines, VerifiesCollection}
+use Rattle.pgn_verifier.specs.Reports.{Report, with_report, counts_of, verified, report_lines}
+use Rattle.pgn_verifier.specs.Collection.{collection_text, VerifiesCollection}
+use Rattle.pgn_verifier.specs.laws.Reported.{reports_on, reports_in, collection_reports}
 use Rattle.pgn_verifier.specs.declared.start.TextStart.{TextStart}
 
 -- between the input's states `r` and `r'` all that was left of the input was read: this text, which has at most
@@ -31,12 +31,26 @@ IsNotAll r r' WriteFailed = ⊥
 IsNotAll r r' NoMemory = (text : List ℕ) × HasRead false r r' text
 IsNotAll r r' InputTooLong = (text : List ℕ) × HasRead false r r' text × (PIECE_LEN < length text)
 
+-- all that is written of a text: the lines of its games up to the first fault, numbered from 1
+abbrev pub text_lines : VerifyOptions → List ℕ → List ℕ
+text_lines options text = report_lines options text 1 (reports_on options.strict 0 text)
+
 -- between the output's states `w` and `w'` the lines of a text were written and flushed; or a write failed, and a
 -- beginning of them was written
 abbrev pub WritesText : {E : Type 0} → VerifyOptions → List ℕ → OutputState → OutputState → Result Verified E → Type 0
 WritesText options text w w' (Ok verdict) =
     (verdict ≡ verified (counts_of (reports_on options.strict 0 text))) × Sent w w' (text_lines options text)
 WritesText options text w w' (Err e) = BreaksOff w w' (text_lines options text)
+
+-- the lines that report the games of a collection of which this text was read, numbered from 1. `ended`: the text is
+-- all of it; if not, its last piece isn't reported
+abbrev pub collection_lines : VerifyOptions → Bool → List ℕ → List ℕ
+collection_lines options ended text = report_lines options text 1 (collection_reports options.strict ended text)
+
+-- all that is written of it: these lines, and if the text is all of it the line of counts
+abbrev pub collection_written : VerifyOptions → Bool → List ℕ → List ℕ
+collection_written options ended text =
+    collection_text options ended text (collection_reports options.strict ended text)
 
 -- from the input's state `r` to `r'` and the output's `w` to `w'`, the lines of all pieces were written, and their
 -- reports counted; the line of counts is still to be written

@@ -11,7 +11,7 @@ use Rattle.chess_fen.proofs.laws.fens_are_worked_out.Goals as goal
 
 pub returns-clause-fields : goal.returns-clause-fields
 unfolding may_name_right
-returns-clause-fields c = refl
+returns-clause-fields c = (refl, refl)
 
 pub returns-clause-rank : goal.returns-clause-rank
 returns-clause-rank c = rank_text_is (replicate 4 None ++ (man_of White Pawn ∷ replicate 3 None)) refl
@@ -39,3 +39,11 @@ returns-clause-two c = refl
 pub returns-clause-no_rook : goal.returns-clause-no_rook
 unfolding king_square is_man
 returns-clause-no_rook c = refl
+
+pub returns-clause-well : goal.returns-clause-well
+unfolding king_square is_man
+returns-clause-well c = refl
+
+pub returns-clause-wrongly : goal.returns-clause-wrongly
+unfolding king_square is_man
+returns-clause-wrongly c = refl

@@ -2,7 +2,7 @@
 use Rattle.std.proofs.Common.{subst}
 use Rattle.byte_devices.specs.Devices.{Took, BreaksOff}
 use Rattle.byte_devices.proofs.shared.Devices.{sent_on}
-use Rattle.pgn_verifier.specs.Verify.{text_lines}
+use Rattle.pgn_verifier.specs.ties.OnTheWay.{text_lines}
 use Rattle.pgn_verifier.proofs.Finished.{whole_there, whole_lines, whole_counted, not_flushed}
 use Rattle.std.proofs.lemmas.Result.{err_from_is_err_and}
 use Rattle.pgn_verifier.proofs.buffered.finish.Goals as goal

@@ -4,8 +4,7 @@ use Rattle.std.specs.Prelude.{IfErr}
 use Rattle.std.proofs.lemmas.Result.{err_from_is_err_and}
 use Rattle.byte_devices.specs.Devices.{BreaksOff}
 use Rattle.byte_devices.specs.declared.traits.WriteFault.{WriteFault}
-use Rattle.pgn_verifier.specs.Verify.{text_lines}
-use Rattle.pgn_verifier.specs.ties.OnTheWay.{IsNotAll, WritesText}
+use Rattle.pgn_verifier.specs.ties.OnTheWay.{IsNotAll, WritesText, text_lines}
 use Rattle.pgn_verifier.proofs.Verifying.{not_all_exit, no_memory, text_verified, text_broke_off}
 use Rattle.pgn_verifier.proofs.buffered.verify.Goals as goal
 

@@ -1,0 +1,203 @@
+-- The reports that are made one after another are those of the definitions, and no others are.
+use Rattle.std.proofs.Common.{◌≡◌, ℕ, zero, suc, ◌+◌, ◌<◌, ◌≤◌, Bool, List, [], ◌∷◌, ◌++◌, length, map, drop, Option, Some, None, IfSome, Result, Ok, Err, IfOk, refl, sym, ap, subst, ◌∙◌, arith}
+use Rattle.std.specs.List.{AllZip, flat_map}
+use Rattle.std.specs.Option.{option_map_or}
+use Rattle.chess_game.specs.Game.{State, verdict_now}
+use Rattle.chess_game.specs.declared.game.TheConstants.{MOST_MOVES}
+use Rattle.chess_game.specs.declared.verdicts.Verdict.{Verdict}
+use Rattle.chess_pgn.specs.GameRead.{pgn_read, read_of_split}
+use Rattle.chess_pgn.specs.LastTags.{result_tag_of}
+use Rattle.chess_pgn.specs.Tokens.{Token, after_byte_order_mark, tokens_from}
+use Rattle.chess_pgn.specs.declared.read.PgnEnd.{PgnEnd}
+use Rattle.chess_pgn.specs.declared.read.PgnFault.{PgnFault}
+use Rattle.chess_pgn.specs.declared.tagged_result.ResultTag.{ResultTag}
+use Rattle.chess_pgn.proofs.shared.Ends.{ends_in_text}
+use Rattle.chess_pgn.proofs.shared.Tokens.{read_split, split_read}
+use Rattle.pgn_pieces.specs.Pieces.{Piece, pieces}
+use Rattle.pgn_verifier.specs.Collection.{AreCollectionReports}
+use Rattle.pgn_verifier.specs.Explanations.{explained}
+use Rattle.pgn_verifier.specs.GameFaults.{contradiction, judged, IsJudged}
+use Rattle.pgn_verifier.specs.Reports.{Report, Game, Faulty, AreReports, none_left, next_game, last_fault, too_long_report, AreReportsOn, AreReportsIn}
+use Rattle.pgn_verifier.specs.declared.game_fault.GameFault.{GameFault}
+use Rattle.pgn_verifier.specs.laws.Reported.{read_at, judged_at, report_then, reports_from, reports_on, reports_in, collection_reports}
+
+-- ---- one game
+
+pub judged_is : (strict : Bool) (text : List ℕ) (at : ℕ)
+    → IsJudged strict text at (read_at text at).state (judged_at strict text at)
+unfolding pgn_read
+judged_is strict text at = record {
+  tokens = tokens_from text (after_byte_order_mark text at);
+  split = read_split text (after_byte_order_mark text at);
+  game = refl;
+  is = refl;
+}
+
+pub only_judged : (strict : Bool) (text : List ℕ) (at : ℕ) (s : State) (answer : Result (Option PgnEnd) GameFault)
+    → IsJudged strict text at s answer → (s ≡ (read_at text at).state) × (answer ≡ judged_at strict text at)
+unfolding pgn_read
+only_judged strict text at s answer j =
+    let all : List (ℕ × Token) = tokens_from text (after_byte_order_mark text at) in
+    let same : j.tokens ≡ all = split_read text j.split in
+    let state : s ≡ (read_of_split MOST_MOVES (length text) all).state =
+    j.game ∙ ap (λ (ts : List (ℕ × Token)). (read_of_split MOST_MOVES (length text) ts).state) same in (
+      state,
+      j.is
+          ∙ ap (λ (ts : List (ℕ × Token)). judged strict (result_tag_of (length text) ts) (verdict_now s)
+          (read_of_split MOST_MOVES (length text) ts).answer) same
+          ∙ ap (λ (g : State). judged strict (result_tag_of (length text) all) (verdict_now g)
+          (read_of_split MOST_MOVES (length text) all).answer) state,
+    )
+
+-- ---- a text has no other reports
+
+-- what reports are, by how their first game was judged
+abbrev ReportsBy : Bool → ℕ → List ℕ → State → Result (Option PgnEnd) GameFault → List Report → Type 0
+ReportsBy strict start text s (Ok None) reports = reports ≡ []
+ReportsBy strict start text s (Ok (Some end)) reports =
+    (more : List Report) × AreReports strict start text end.offset more
+    × (reports ≡ Game (length s.moves) end.outcome end.termination ∷ more)
+ReportsBy strict start text s (Err fault) reports =
+    reports ≡ Faulty (record fault { offset = start + fault.offset })
+    (explained s (drop fault.offset text) fault.kind) ∷ []
+
+abbrev ReportsAt : Bool → ℕ → List ℕ → ℕ → List Report → Type 0
+ReportsAt strict start text at reports =
+    ReportsBy strict start text (read_at text at).state (judged_at strict text at) reports
+
+reports_at : {strict : Bool} {start : ℕ} {text : List ℕ} {at : ℕ} {reports : List Report}
+    → AreReports strict start text at reports → ReportsAt strict start text at reports
+reports_at {strict} {start} {text} (none_left {at} {s} j) =
+    let is = only_judged strict text at s (Ok None) j in
+    subst (λ r. ReportsBy strict start text (read_at text at).state r []) is.1 refl
+reports_at {strict} {start} {text} (next_game {at} {s} {end} {reports} j h) =
+    let is = only_judged strict text at s (Ok (Some end)) j in
+    subst (λ r. ReportsBy strict start text (read_at text at).state r
+    (Game (length s.moves) end.outcome end.termination ∷ reports)) is.1
+    (reports, h, ap (λ (g : State). Game (length g.moves) end.outcome end.termination ∷ reports) is.0)
+reports_at {strict} {start} {text} (last_fault {at} {s} {fault} j) =
+    let is = only_judged strict text at s (Err fault) j in
+    subst (λ r. ReportsBy strict start text (read_at text at).state r
+    (Faulty (record fault { offset = start + fault.offset })
+    (explained s (drop fault.offset text) fault.kind) ∷ [])) is.1
+    (ap (λ (g : State). Faulty (record fault { offset = start + fault.offset })
+    (explained g (drop fault.offset text) fault.kind) ∷ []) is.0)
+
+one_list : {strict : Bool} {start : ℕ} {text : List ℕ} {at : ℕ} {reports : List Report}
+    → AreReports strict start text at reports → (others : List Report) → AreReports strict start text at others
+    → others ≡ reports
+one_list {strict} {start} {text} (none_left {at} {s} j) others k =
+    let is = only_judged strict text at s (Ok None) j in
+    subst (λ r. ReportsBy strict start text (read_at text at).state r others) (sym is.1) (reports_at k)
+one_list {strict} {start} {text} (next_game {at} {s} {end} {reports} j h) others k =
+    let is = only_judged strict text at s (Ok (Some end)) j in
+    let more = subst (λ r. ReportsBy strict start text (read_at text at).state r others) (sym is.1) (reports_at k) in
+    more.2 ∙ ap (λ rs. Game (length (read_at text at).state.moves) end.outcome end.termination ∷ rs)
+    (one_list h more.0 more.1)
+    ∙ ap (λ (g : State). Game (length g.moves) end.outcome end.termination ∷ reports) (sym is.0)
+one_list {strict} {start} {text} (last_fault {at} {s} {fault} j) others k =
+    let is = only_judged strict text at s (Err fault) j in
+    subst (λ r. ReportsBy strict start text (read_at text at).state r others) (sym is.1) (reports_at k)
+    ∙ ap (λ (g : State). Faulty (record fault { offset = start + fault.offset })
+    (explained g (drop fault.offset text) fault.kind) ∷ []) (sym is.0)
+
+-- ---- those that are made are its reports
+
+abbrev EndsIn : ℕ → ℕ → Result (Option PgnEnd) GameFault → Type 0
+EndsIn total at r = IfOk r (λ o. IfSome o (λ e. (at < e.offset) × (e.offset ≤ total)))
+
+judged_end : (strict : Bool) (tag : Option ResultTag) (verdict : Option Verdict) (total at : ℕ)
+    (r : Result (Option PgnEnd) PgnFault) → IfOk r (λ o. IfSome o (λ e. (at < e.offset) × (e.offset ≤ total)))
+    → EndsIn total at (judged strict tag verdict r)
+judged_end strict tag verdict total at (Ok None) h = tt
+judged_end strict tag verdict total at (Err f) h = tt
+judged_end strict tag verdict total at (Ok (Some end)) h = by_fault (contradiction strict tag verdict end)
+  where
+    by_fault : (o : Option GameFault) → EndsIn total at (option_map_or Err o (Ok (Some end)))
+    by_fault None = h
+    by_fault (Some f) = tt
+
+ends : (strict : Bool) (text : List ℕ) (at : ℕ) → at ≤ length text
+    → EndsIn (length text) at (judged_at strict text at)
+ends strict text at h =
+    judged_end strict (result_tag_of (length text) (tokens_from text (after_byte_order_mark text at)))
+    (verdict_now (read_at text at).state) (length text) at (read_at text at).answer (ends_in_text MOST_MOVES text at h)
+
+from_here : (strict : Bool) (start n : ℕ) (text : List ℕ) (at : ℕ) → at ≤ length text → length text < n + at
+    → AreReports strict start text at (reports_from strict start n text at)
+unfolding reports_from
+from_here strict start zero text at h k = absurd (omega (arith, h, k))
+from_here strict start (suc n) text at h k =
+    by_answer (judged_at strict text at) (judged_is strict text at) (ends strict text at h)
+    (λ m i j. from_here strict start n text m i j)
+  where
+    by_answer : (r : Result (Option PgnEnd) GameFault) → IsJudged strict text at (read_at text at).state r
+        → EndsIn (length text) at r
+        → ((m : ℕ) → m ≤ length text → length text < n + m
+        → AreReports strict start text m (reports_from strict start n text m))
+        → AreReports strict start text at
+        (report_then start text r (read_at text at).state (λ next. reports_from strict start n text next))
+    by_answer (Ok None) j i later = none_left j
+    by_answer (Ok (Some end)) j i later =
+        let low = i.0 in next_game j (later end.offset i.1 (omega (arith, k, low)))
+    by_answer (Err fault) j i later = last_fault j
+
+pub are_reports : (strict : Bool) (start : ℕ) (text : List ℕ)
+    → AreReports strict start text 0 (reports_on strict start text)
+are_reports strict start text = from_here strict start (length text + 1) text 0 (omega arith) (omega arith)
+
+pub only_reports : (strict : Bool) (start : ℕ) (text : List ℕ) (reports : List Report)
+    → AreReports strict start text 0 reports → reports ≡ reports_on strict start text
+only_reports strict start text reports h = one_list (are_reports strict start text) reports h
+
+-- ---- pieces
+
+reports_are_in : (strict : Bool) (piece : Piece) → AreReportsIn strict piece (reports_in strict piece)
+reports_are_in strict piece = by_bytes piece.bytes
+  where
+    by_bytes : (bytes : Option (List ℕ)) → AreReportsOn strict piece bytes
+        (option_map_or (reports_on strict piece.offset) bytes (too_long_report piece ∷ []))
+    by_bytes None = refl
+    by_bytes (Some text) = are_reports strict piece.offset text
+
+only_reports_in : (strict : Bool) (piece : Piece) (reports : List Report) → AreReportsIn strict piece reports
+    → reports ≡ reports_in strict piece
+only_reports_in strict piece reports h = by_bytes piece.bytes h
+  where
+    by_bytes : (bytes : Option (List ℕ)) → AreReportsOn strict piece bytes reports
+        → reports ≡ option_map_or (reports_on strict piece.offset) bytes (too_long_report piece ∷ [])
+    by_bytes None k = k
+    by_bytes (Some text) k = only_reports strict piece.offset text reports k
+
+each_piece : (strict : Bool) (ps : List Piece)
+    → AllZip (λ piece part. AreReportsIn strict piece part) ps (map (reports_in strict) ps)
+each_piece strict [] = tt
+each_piece strict (p ∷ ps) = (reports_are_in strict p, each_piece strict ps)
+
+joined : (strict : Bool) (ps : List Piece) → flat_map (reports_in strict) ps
+    ≡ flat_map (λ part. part) (map (reports_in strict) ps)
+joined strict [] = refl
+joined strict (p ∷ ps) = ap (λ rest. reports_in strict p ++ rest) (joined strict ps)
+
+only_pieces : (strict : Bool) (ps : List Piece) (parts : List (List Report))
+    → AllZip (λ piece part. AreReportsIn strict piece part) ps parts
+    → flat_map (λ part. part) parts ≡ flat_map (reports_in strict) ps
+only_pieces strict [] [] h = refl
+only_pieces strict [] (part ∷ parts) h = absurd h
+only_pieces strict (p ∷ ps) [] h = absurd h
+only_pieces strict (p ∷ ps) (part ∷ parts) h =
+    ap (λ first. first ++ flat_map (λ part. part) parts) (only_reports_in strict p part h.0)
+    ∙ ap (λ rest. reports_in strict p ++ rest) (only_pieces strict ps parts h.1)
+
+pub are_collection_reports : (strict ended : Bool) (text : List ℕ)
+    → AreCollectionReports strict ended text (collection_reports strict ended text)
+are_collection_reports strict ended text = (
+  map (reports_in strict) (pieces ended text),
+  each_piece strict (pieces ended text),
+  joined strict (pieces ended text),
+)
+
+pub only_collection_reports : (strict ended : Bool) (text : List ℕ) (reports : List Report)
+    → AreCollectionReports strict ended text reports → reports ≡ collection_reports strict ended text
+only_collection_reports strict ended text reports (parts, each, is) =
+    is ∙ only_pieces strict (pieces ended text) parts each

@@ -1,0 +1,60 @@
+-- What is reported of the games of texts, as functions: a text is cut into tokens one after another, and its games are
+-- read one after another. The law `reports_are_the_only_ones` says that just these are the reports.
+use Rattle.std.specs.Prelude.{ℕ, zero, suc, ◌+◌, Bool, List, [], ◌∷◌, length, drop, Option, Some, None, Result, Ok, Err}
+use Rattle.std.specs.List.{flat_map}
+use Rattle.std.specs.Option.{option_map_or}
+use Rattle.chess_game.specs.Game.{State, verdict_now}
+use Rattle.chess_game.specs.declared.game.TheConstants.{MOST_MOVES}
+use Rattle.chess_pgn.specs.GameRead.{GameRead, pgn_read}
+use Rattle.chess_pgn.specs.LastTags.{result_tag_of}
+use Rattle.chess_pgn.specs.Tokens.{after_byte_order_mark, tokens_from}
+use Rattle.chess_pgn.specs.declared.read.PgnEnd.{PgnEnd}
+use Rattle.pgn_pieces.specs.Pieces.{Piece, pieces}
+use Rattle.pgn_verifier.specs.Explanations.{explained}
+use Rattle.pgn_verifier.specs.GameFaults.{judged}
+use Rattle.pgn_verifier.specs.Reports.{Report, Game, Faulty, too_long_report}
+use Rattle.pgn_verifier.specs.declared.game_fault.GameFault.{GameFault}
+
+-- what is read of a text from an offset on: a game of at most 20,000 half-moves, none, or a fault
+abbrev pub read_at : List ℕ → ℕ → GameRead
+read_at = pgn_read MOST_MOVES
+
+-- what is reported of the game from the offset `at` on: its end, its fault, or `None` if the text has no more games.
+-- `strict`: results are compared
+abbrev pub judged_at : Bool → List ℕ → ℕ → Result (Option PgnEnd) GameFault
+judged_at strict text at =
+    let read = read_at text at in
+    let tag = result_tag_of (length text) (tokens_from text (after_byte_order_mark text at)) in
+    judged strict tag (verdict_now read.state) read.answer
+
+-- the report on a game of a text, from how it was judged and the game that was read (`s`), and then what `later` gives
+-- for the offset of its end; a fault is the last. `start` is the input's offset at which the text begins
+abbrev pub report_then : ℕ → List ℕ → Result (Option PgnEnd) GameFault → State → (ℕ → List Report) → List Report
+report_then start text (Ok None) s later = []
+report_then start text (Ok (Some end)) s later =
+    Game (length s.moves) end.outcome end.termination ∷ later end.offset
+report_then start text (Err fault) s later =
+    Faulty (record fault { offset = start + fault.offset }) (explained s (drop fault.offset text) fault.kind) ∷ []
+
+-- the reports on at most n games (the third argument) of a text from its offset `at` on, up to its first fault. The
+-- text begins at the offset `start` of the input; `strict`: results are compared
+unfoldable pub reports_from : Bool → ℕ → ℕ → List ℕ → ℕ → List Report
+reports_from strict start zero text at = []
+reports_from strict start (suc n) text at =
+    report_then start text (judged_at strict text at) (read_at text at).state
+    (λ next. reports_from strict start n text next)
+
+-- the reports on all games of a text up to its first fault. The text begins at the offset `start` of the input;
+-- `strict`: results are compared. Each game has at least one byte, so `length text + 1` games are enough
+abbrev pub reports_on : Bool → ℕ → List ℕ → List Report
+reports_on strict start text = reports_from strict start (length text + 1) text 0
+
+-- the reports on the games of a piece, which is read as a text of its own; a piece that is too long, which has no bytes
+-- here, has one report. `strict`: results are compared
+abbrev pub reports_in : Bool → Piece → List Report
+reports_in strict piece = option_map_or (reports_on strict piece.offset) piece.bytes (too_long_report piece ∷ [])
+
+-- the reports on the games of a collection of which this text was read: on all its pieces, if the text is all of it
+-- (`ended`), else on all but the last. `strict`: results are compared
+abbrev pub collection_reports : Bool → Bool → List ℕ → List Report
+collection_reports strict ended text = flat_map (reports_in strict) (pieces ended text)
