@@ -88,8 +88,9 @@ WritesHelp w w' status =
     ((result : Result (Unit {0}) WriteFault) × (text : List ℕ) × Sends w w' result text × (status ≡ status_of result))
     ⊎ ((w' ≡ w) × (status ≡ 1))
 
--- what is done with arguments that ask for nothing, by their fault: help and the version go to the output (`w` before,
--- `w'` after), all else to the error output, of which nothing is said here. `status` is the exit status
+-- what is done with arguments for which there is no plan, by the fault that says why. Help or the version is written
+-- to the output (`w` before, `w'` after). For any other fault the output stays as it is, and `status`, the exit
+-- status, is 2, or 1 if memory ran out. What is written to the error output is not said here
 abbrev pub ReportsArguments : WordsFault → OutputState → OutputState → ℕ → Type 0
 ReportsArguments (faults.Words e) w w' status =
     ((kind_of e ≢ DisplayHelp) → (kind_of e ≢ DisplayVersion) → (w' ≡ w) × (status ≡ 2))

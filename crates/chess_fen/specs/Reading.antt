@@ -59,7 +59,8 @@ abbrev pub castling_field : List ℕ → List ℕ
 castling_field text = slice_index_or (fields_of text) 2 []
 
 -- each fault with the condition whose failure it reports, in the order in which they are checked: the conditions of
--- soundness, and after four of them, before that of castling rights, that the letters name each right rightly
+-- soundness, and just before that of castling rights, which is the fifth, the condition that the castling field
+-- `letters` names no right wrongly
 abbrev pub conditions_of : List ℕ → Setup → List (FenFault × Bool)
 conditions_of letters p =
     take 4 (conditions p) ++ ((faults.Castling, names_well p.variant p.men letters) ∷ drop 4 (conditions p))

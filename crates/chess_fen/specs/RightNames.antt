@@ -44,12 +44,14 @@ abbrev pub from_edge : Colour → CastlingSide → List ℕ
 from_edge c KingSide = map (home_square c) (7 ∷ 6 ∷ 5 ∷ 4 ∷ 3 ∷ 2 ∷ 1 ∷ 0 ∷ [])
 from_edge c QueenSide = map (home_square c) (0 ∷ 1 ∷ 2 ∷ 3 ∷ 4 ∷ 5 ∷ 6 ∷ 7 ∷ [])
 
--- square s is nearer to the a-file than the king, both on one rank; false if there is no king (`None`)
+-- for a king and a square s on one rank, which is not tested: s is nearer to the a-file than the king. False if there
+-- is no king (`None`)
 abbrev pub is_left_of : Option ℕ → ℕ → Bool
 is_left_of king s = option_map_or (λ k. nat_lt s k) king false
 
--- square s is on the given side of the king, both on one rank: nearer to the a-file than he is for the queen's side,
--- else for the king's
+-- for a king and a square s on one rank, which is not tested: s is on that side of the king. The squares nearer to the
+-- a-file than the king are on the queen's side, all others on the king's, even the king's own, and all if there is no
+-- king
 abbrev pub is_towards : CastlingSide → Option ℕ → ℕ → Bool
 is_towards KingSide king s = not (is_left_of king s)
 is_towards QueenSide king s = is_left_of king s
@@ -60,8 +62,9 @@ abbrev pub names_right : Men → Colour → CastlingSide → ℕ → Bool
 names_right men c w letter = letter == side_letter c w
     || names_file c letter && is_towards w (king_square men c) (home_square c (letter - first_letter c))
 
--- the square of the rook that such a letter names: by the side's letter that of the rook nearest to the edge on that
--- side, if there is a rook on the first rank; by a file's letter the square on that file
+-- the square that a letter that names colour c's right on side w (`names_right`) gives for the rook: by the side's
+-- letter that of c's rook nearest to the board's edge on that side, if c has a rook on its first rank; by a file's
+-- letter the square on that file, with or without a rook
 abbrev pub rook_named : Men → Colour → CastlingSide → ℕ → Option ℕ
 rook_named men c w letter =
     if letter == side_letter c w then find (λ s. is_man c Rook (man_at men s)) (from_edge c w)

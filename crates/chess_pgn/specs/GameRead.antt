@@ -51,8 +51,8 @@ declared_after is_decided o =
 abbrev pub failed : State → PgnFault → GameRead
 failed s fault = record { state = s; answer = Err fault }
 
--- the game `s` was read, and then this outcome: it is declared, unless the board has a verdict or it is `*`; `offset`
--- is the one after it
+-- what is read if the game `s` was read and then the mark of this outcome: the outcome is declared, unless the board
+-- has a verdict or it is `*`. `offset` is that of the byte after the mark
 abbrev pub finished : State → Outcome → Option Termination → ℕ → GameRead
 finished s o termination offset = record {
   state = with_declared s (declared_after (is_some (verdict_now s)) o);
@@ -69,15 +69,16 @@ pub data Row : Type 0 where
   Ends : (o : Outcome) (len : ℕ) → Row
   Fails : (kind : PgnFaultKind) → Row
 
--- what a word that may be a move does by what it denotes, where a move may be played
+-- what a word does that is taken as a move, by what it denotes, in a game that is neither over nor full
 abbrev pub denoted_row : Reading → Row
 denoted_row (reads.Move m) = Plays m
 denoted_row reads.Ambiguous = Fails AmbiguousMove
 denoted_row reads.NoSuch = Fails IllegalMove
 denoted_row reads.NotAMove = Fails BadToken
 
--- a word that is no outcome, number or mark, in the game `s` of at most `limit` half-moves, by what it denotes in the
--- current position: the one move that it denotes is played, unless the game is over or full
+-- what a word does that is no outcome, number or marks, in the game `s` of at most `limit` half-moves, by what it
+-- denotes in the current position. The first of: without a move's shape it is a bad token; where the board has a
+-- verdict, a move after the end; where the game is full, too long; else see `denoted_row`
 abbrev pub move_row : ℕ → State → Reading → Row
 move_row limit s reads.NotAMove = Fails BadToken
 move_row limit s denoted =
@@ -85,14 +86,16 @@ move_row limit s denoted =
     else if not (nat_lt (length s.moves) limit) then Fails TooLong
     else denoted_row denoted
 
--- a word: an outcome such as `1-0`, a number (digits alone), marks (`!` and `?` alone), or else a move's
+-- what a word does in the game `s` of at most `limit` half-moves: an outcome such as `1-0` ends the game; a number
+-- (digits alone) and marks (`!` and `?` alone) are passed over; any other word is taken as a move (see `move_row`)
 abbrev pub word_row : ℕ → State → List ℕ → Row
 word_row limit s word = option_map_or (λ o. Ends o (length word)) (outcome_of word)
     (if list_all is_digit word then Passes
     else if list_all (λ c. c == byte "!" || c == byte "?") word then Passes
     else move_row limit s (reading (current s) word))
 
--- any token; a tag here is the next game's, so that this one has no outcome
+-- what a token does after the tags, in the game `s` of at most `limit` half-moves (for a word see `word_row`). A tag
+-- here, even a bad one, is the next game's, so this game has no outcome, which is a fault
 abbrev pub row : ℕ → State → Token → Row
 row limit s Skip = Passes
 row limit s (Word word) = word_row limit s word
@@ -102,13 +105,16 @@ row limit s Bad = Fails BadToken
 row limit s Bad_tag = Fails NoResult
 row limit s (Tag name string at_string) = Fails NoResult
 
--- how many bytes are left where a token's fault is reported: at its first byte; but for an unclosed comment at the
--- comment's `{`, which may be inside a variation
+-- how many bytes the text still has from the place on where this token is reported as a fault. That place is the
+-- token's first byte (the pair says how many bytes are left there), but for an unclosed comment the comment's `{`,
+-- which may be inside a variation
 abbrev pub left_at_fault : ℕ × Token → ℕ
 left_at_fault (to_end, Unclosed_comment brace) = brace
 left_at_fault (to_end, _) = to_end
 
--- what is read where a token does this, and `later` is what is read of the tokens after it; the text has `total` bytes
+-- what is read from the token `t` on, which does what the row says; `later` gives what is read of the tokens after it
+-- from the game as it is then. `t` is paired with how many bytes are left where it begins, of a text of `total` bytes;
+-- `termination` is what the tag Termination names
 abbrev pub after_row : ℕ → Option Termination → State → ℕ × Token → Row → (State → GameRead) → GameRead
 after_row total termination s t Passes later = later s
 after_row total termination s t (Plays m) later = later (played s m)
@@ -136,7 +142,8 @@ last_termination tags = option_and_then (λ tag. termination_named tag.0) (last_
 abbrev pub fens : Variant → List (ℕ × Token) → List (Result Setup FenFault × ℕ)
 fens v tags = map (λ tag. (fen_reading_as v tag.0, tag.1)) (tags_named (codes "FEN") tags)
 
--- the position that the last FEN denotes, of those before the first that denotes none; `start` if there is no such FEN
+-- the position that the last of these FENs denotes; only those before the first that denotes none are looked at.
+-- `start` if there are none of these
 abbrev pub last_start : Setup → List (Result Setup FenFault × ℕ) → Setup
 last_start start fs =
     unwrap_or (last_or None (filter_map (λ f. result_ok f.0) (take_while (λ f. is_ok f.0) fs))) start
@@ -166,8 +173,10 @@ tagged_variant tags = option_map_or (λ tag. variant_named tag.0) (last_tag (cod
 
 -- ---- the game
 
--- what is read after the tags, if each of their FENs denotes a position: a fault, if a tag comes that can't be read; no
--- game, if nothing comes and there was no tag; or else the moves
+-- what is read of a game after its tags, if each of their FENs denotes a position; the last argument is the tokens from
+-- the first one on that is no tag, is not skipped and is no marks. If that is a bad tag, its fault; no game, if there
+-- is no such token and there was no tag (`has_tags`); else the moves. `s` is the game at its start, `termination` what
+-- the tag Termination names, and the text has `total` bytes
 abbrev pub after_tags : ℕ → ℕ → Option Termination → State → Bool → List (ℕ × Token) → GameRead
 after_tags limit total termination s has_tags ((to_end, Bad_tag) ∷ rest) =
     failed s (record { kind = BadTag; offset = total - to_end })
@@ -189,8 +198,8 @@ read_of_split limit total tokens =
 unfoldable pub pgn_read : ℕ → List ℕ → ℕ → GameRead
 pgn_read limit text at = read_of_split limit (length text) (tokens_from text (after_byte_order_mark text at))
 
--- the same, with no reader of tokens: `r` is what is read of the text's split into tokens. By the law
--- `a_game_is_tags_and_moves` there is one and only one such `r`
+-- what `pgn_read` gives, defined without `tokens_from`: `r` is what is read of some split of the text into tokens
+-- (`IsSplit`). By the law `a_game_is_tags_and_moves` there is one and only one such `r`
 pub record IsRead (limit : ℕ) (text : List ℕ) (at : ℕ) (r : GameRead) : Type 0 where
   pub tokens : List (ℕ × Token)
   pub split : IsSplit text (after_byte_order_mark text at) tokens

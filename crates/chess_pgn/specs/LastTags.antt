@@ -28,8 +28,9 @@ abbrev pub named_tag : List ℕ → Token → Option (List ℕ × ℕ)
 named_tag name (Tag other text to_end) = if bytes_eq other name then Some (text, to_end) else None
 named_tag name _ = None
 
--- the tokens before a game's first number, move, outcome or fault: all tags of the game are among them. Each token is
--- paired with the number of bytes left where it begins
+-- the tokens of a game's tag section: those before its first number, move, outcome or fault. All tags of the game are
+-- among them, and with them what is skipped and marks such as `!?`. Each token is paired with the number of bytes left
+-- where it begins
 abbrev pub own_tags : List (ℕ × Token) → List (ℕ × Token)
 own_tags tokens = take_while (λ t. may_precede_tags t.1) tokens
 

@@ -41,17 +41,18 @@ is_white c = is_blank c || (c == 13) || (c == 10)
 abbrev pub tag_name : List ℕ → List ℕ
 tag_name front = take_while is_name_byte (drop 1 front)
 
--- the text after that name, and after any spaces and tabs that follow it
+-- what comes after the tag's name in the front of a line, and after any spaces and tabs that follow the name
 abbrev pub after_name : List ℕ → List ℕ
 after_name front =
     let rest = drop (length (tag_name front)) (drop 1 front) in drop (prefix_len is_blank rest) rest
 
--- whether it begins with `[`, a name of one byte or more, any spaces and tabs, and `"`
+-- whether the front of a line begins with `[`, a name of one byte or more, any spaces and tabs, and `"`
 abbrev pub begins_tag : List ℕ → Bool
 begins_tag front = bytes_eq (take 1 front) (codes "[") && nat_lt 0 (length (tag_name front))
     && bytes_eq (take 1 (after_name front)) (codes "\"")
 
--- whether it has nothing but spaces, tabs, `\r` and `\n`, or begins with `%` or `;`
+-- whether a line with this front counts as empty: the front has nothing but spaces, tabs, `\r` and `\n`, or begins
+-- with `%` or `;`
 abbrev pub is_nothing : List ℕ → Bool
 is_nothing front = bytes_eq (take 1 front) (codes "%") || bytes_eq (take 1 front) (codes ";")
     || list_all is_white front
@@ -64,7 +65,7 @@ is_tag_line line = begins_tag (front_of line)
 abbrev pub is_event_line : List ℕ → Bool
 is_event_line line = is_tag_line line && bytes_eq (tag_name (front_of line)) (codes "Event")
 
--- whether a line is empty
+-- whether a line counts as empty: its front has only white space, or begins with `%` or `;`
 abbrev pub is_empty_line : List ℕ → Bool
 is_empty_line line = is_nothing (front_of line)
 
@@ -74,8 +75,8 @@ is_moves_line line = not (is_tag_line line || is_empty_line line)
 
 -- ---- the pieces of a text
 
--- whether a piece begins at `line`, where `before` are the lines since the piece before it began: at a tag line after a
--- line of moves, and at an Event line after an Event line
+-- whether a new piece begins at `line`, where `before` are the lines of the piece so far: at a tag line, if a line of
+-- moves is among these; and at an Event line, if an Event line is among these
 abbrev pub begins_piece : List (List ℕ) → List ℕ → Bool
 begins_piece before line = is_tag_line line
     && (list_any is_moves_line before || (is_event_line line && list_any is_event_line before))
@@ -85,7 +86,8 @@ abbrev pub piece_of : List ℕ → List (List ℕ)
 piece_of [] = []
 piece_of (c ∷ cs) = (c ∷ cs) ∷ []
 
--- the pieces of lines, of which `before` belong to the first piece
+-- the pieces of the lines `before` and of those that follow them (the last argument), where `before` all belong to the
+-- first piece
 abbrev pub cut_lines : List (List ℕ) → List (List ℕ) → List (List ℕ)
 cut_lines before [] = piece_of (concat before)
 cut_lines before (line ∷ lines) =
@@ -118,13 +120,14 @@ abbrev pub with_offsets : ℕ → List (List ℕ) → List Piece
 with_offsets offset [] = []
 with_offsets offset (bytes ∷ rest) = piece_at offset bytes ∷ with_offsets (offset + length bytes) rest
 
--- the pieces that are known of an input from this offset on, where a piece begins, if this text follows there: all
--- pieces, if the input ends after the text (`ended`), else all but the last, which may go on
+-- the pieces that are known of an input, from an offset on at which a piece begins, if this text follows there. If the
+-- input ends after the text (`ended`), these are all its pieces, else all but the last, which may go on
 abbrev pub pieces_from : Bool → ℕ → List ℕ → List Piece
 pieces_from ended offset text =
     let all = cut text in with_offsets offset (if ended then all else take (length all - 1) all)
 
--- the pieces that are known of an input whose first bytes are this text
+-- the pieces that are known of an input whose first bytes are this text: all, if it has no more bytes (`ended`), else
+-- all but the last, which may go on
 unfoldable pub pieces : Bool → List ℕ → List Piece
 pieces ended text = pieces_from ended 0 text
 

@@ -37,12 +37,14 @@ shown text = shown_word (first_word text)
 
 -- ---- the part that is wrong; `text` is the text from the fault's byte on
 
--- how many bytes after the fault's byte it begins: of a FEN the field that the fault is about, else the byte itself
+-- how many bytes after the fault's byte the wrong part begins; `text` is the text from that byte on. The wrong part of
+-- a FEN is the field that the fault is about; of anything else it begins at the fault's byte
 abbrev pub part_offset : FaultKind → List ℕ → ℕ
 part_offset (Pgn (BadFen fault)) text = field_offset fault (fen_text text)
 part_offset _ text = 0
 
--- what an explanation shows of it: the FEN's field, at most 80 bytes of it; else the text's first word
+-- what an explanation shows of the wrong part; `text` is the text from the fault's byte on. Of a FEN it is the field
+-- that the fault is about, at most 80 bytes of it; else the text's first word
 abbrev pub shown_part : FaultKind → List ℕ → List ℕ
 shown_part (Pgn (BadFen fault)) text = shown_word (take 80 (wrong_field fault (fen_text text)))
 shown_part _ text = shown text
@@ -62,9 +64,10 @@ pgn_reason BadToken text verdict = Some (token_reason text)
 pgn_reason AfterEnd text verdict = verdict_reason verdict
 pgn_reason _ text verdict = None
 
--- the reason for a fault, if there is one to give: for a fault of reading as above; for `result differs` the text of
--- the tag Result and the outcome that ends the game's text; for `board says otherwise` the verdict. `text` is the text
--- from the fault's byte on, and `verdict` is the board's where reading stopped
+-- the reason for a fault, if there is one to give: for a fault of reading that of `pgn_reason`; for `result differs`
+-- the first word of the tag Result and the outcome that ends the game's text, as in `Result 1-0, ended 0-1`; for
+-- `board says otherwise` the verdict. `text` is the text from the fault's byte on, and `verdict` is the board's where
+-- reading stopped
 abbrev pub reason : FaultKind → List ℕ → Option Verdict → Option (List ℕ)
 reason (Pgn kind) text verdict = pgn_reason kind text verdict
 reason (ResultDiffers tag_len outcome) text verdict =
@@ -102,7 +105,7 @@ too_long_explained beginning = record { offset = 0; text = shown beginning; posi
 
 -- ---- its line
 
--- a part of the line that is not always there: ` | ` and its text
+-- a part of the explanation's line that may be missing: ` | ` and this text; empty without a text (`None`)
 abbrev pub part : Option (List ℕ) → List ℕ
 part text = option_map_or (λ t. codes " | " ++ t) text []
 

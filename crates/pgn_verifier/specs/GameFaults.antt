@@ -20,8 +20,8 @@ use Rattle.pgn_verifier.specs.declared.game_fault.GameFault.{GameFault}
 
 -- ---- contradictions
 
--- the fault of a game whose last tag Result (`tag`) names another outcome than the one that ends its text (`end`); none
--- without such a tag. Its offset is the first byte of the tag's string
+-- the fault of a game whose last tag Result (`tag`) does not name the outcome that ends its text (`end`), but another
+-- one or none; no fault without such a tag. Its offset is the first byte of the tag's string
 abbrev pub result_differs : Option ResultTag → PgnEnd → Option GameFault
 result_differs None end = None
 result_differs (Some tag) end = if option_eq same_outcome tag.outcome (Some end.outcome) then None
@@ -41,8 +41,8 @@ contradiction strict tag verdict end =
 
 -- ---- a game
 
--- what is reported of a game, from how its text was read (the last argument): its end, its fault, or `None` if there is
--- none. With `strict` it is a fault too if its end contradicts its tag Result (`tag`) or the board's verdict
+-- what is reported of a game, from how its text was read (the last argument): its end, its fault, or `None` if there
+-- was no more game. With `strict` an end that contradicts the tag Result (`tag`) or the board's verdict is a fault too
 abbrev pub judged : Bool → Option ResultTag → Option Verdict → Result (Option PgnEnd) PgnFault
     → Result (Option PgnEnd) GameFault
 judged strict tag verdict (Ok None) = Ok None

@@ -45,7 +45,7 @@ field_number _ fen = 0
 abbrev pub wrong_field : FenFault → List ℕ → List ℕ
 wrong_field fault fen = field_at (field_number fault fen) fen
 
--- how many bytes a FEN has before that field
+-- how many bytes a FEN has before the field that this fault of it is about
 abbrev pub field_offset : FenFault → List ℕ → ℕ
 field_offset fault fen = length fen - length (from_field (field_number fault fen) fen)
 
