@@ -9,7 +9,7 @@ use Rattle.std.proofs.lemmas.Grind.{common_steps}
 use Rattle.std.proofs.lemmas.List.{take-append-le, drop-append-le}
 use Rattle.std.proofs.lemmas.List.Folds.{prefix_len-append, length-prefix_len}
 use Rattle.std.proofs.lemmas.List.Sums.{prefix_len-le-length}
-use Rattle.pgn_pieces.specs.Pieces.{without_mark, front_of, is_name_byte, is_blank, tag_name, after_name, begins_tag, is_nothing, is_tag_line, is_event_line, is_moves_line}
+use Rattle.pgn_pieces.specs.Pieces.{without_mark, front_of, is_name_byte, is_blank, tag_name, after_name, begins_tag, is_empty_front, is_tag_line, is_event_line, is_moves_line}
 use Rattle.pgn_pieces.specs.ties.Held.{SameKind, IsDecided}
 
 -- ---- a line of 256 bytes or more
@@ -18,7 +18,7 @@ same_front : (a b : List ℕ) → front_of a ≡ front_of b → SameKind a b
 same_front a b h = record {
   tag = ap begins_tag h;
   event = ap (λ f. begins_tag f && bytes_eq (tag_name f) (codes "Event")) h;
-  moves = ap (λ f. not (begins_tag f || is_nothing f)) h;
+  moves = ap (λ f. not (begins_tag f || is_empty_front f)) h;
 }
 
 pub decided_long : (line : List ℕ) → 256 ≤ length line → IsDecided line
@@ -155,8 +155,8 @@ decided_short line h tag more =
       tag = tags;
       event = ap (λ b. b && bytes_eq (tag_name (front_of (line ++ more))) (codes "Event")) tags
           ∙ ap (λ xs. is_tag_line line && bytes_eq xs (codes "Event")) names;
-      moves = ap (λ b. not (b || is_nothing (front_of (line ++ more)))) (tags ∙ tag)
-          ∙ sym (ap (λ b. not (b || is_nothing (front_of line))) tag);
+      moves = ap (λ b. not (b || is_empty_front (front_of (line ++ more)))) (tags ∙ tag)
+          ∙ sym (ap (λ b. not (b || is_empty_front (front_of line))) tag);
     }
 
 pub decided_tag : (line : List ℕ) → is_tag_line line ≡ true → IsDecided line

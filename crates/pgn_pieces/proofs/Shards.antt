@@ -5,18 +5,18 @@ use Rattle.std.specs.List.{onto_first, concat, list_any, list_all}
 use Rattle.std.specs.Str.{bytes_eq}
 use Rattle.std.proofs.lemmas.Bool.{and_parts, and_left, or_parts, or_left, or_right, eqb-true, not-true}
 use Rattle.std.proofs.lemmas.List.Folds.{list_any-append}
-use Rattle.pgn_pieces.specs.Pieces.{lines_of, front_of, tag_name, after_name, begins_tag, is_nothing, is_tag_line, is_event_line, is_empty_line, is_moves_line, begins_piece, piece_of, cut_lines, cut}
+use Rattle.pgn_pieces.specs.Pieces.{lines_of, front_of, tag_name, after_name, begins_tag, is_empty_front, is_tag_line, is_event_line, is_empty_line, is_moves_line, begins_piece, piece_of, cut_lines, cut}
 use Rattle.pgn_pieces.specs.laws.Shards.{ends_in_moves, begins_in_tag, ShardsAreCut}
 use Rattle.pgn_pieces.proofs.CutLines.{lines_on, line_here, some_line, goes_on, ends_here, begun, some_bytes, piece_of_some}
 
 -- ---- no line is of two kinds
 
-front_kind : (front : List ℕ) → is_nothing front ≡ true → begins_tag front ≡ false
+front_kind : (front : List ℕ) → is_empty_front front ≡ true → begins_tag front ≡ false
 front_kind [] h = refl
 front_kind (c ∷ cs) h = by_test (begins_tag (c ∷ cs)) refl
   where
-    no : (c : ℕ) → c ≡ 91 → is_nothing (c ∷ cs) ≡ false
-    no c e = subst (λ d. is_nothing (d ∷ cs) ≡ false) (sym e) refl
+    no : (c : ℕ) → c ≡ 91 → is_empty_front (c ∷ cs) ≡ false
+    no c e = subst (λ d. is_empty_front (d ∷ cs) ≡ false) (sym e) refl
 
     by_test : (b : Bool) → begins_tag (c ∷ cs) ≡ b → begins_tag (c ∷ cs) ≡ false
     by_test true e =

@@ -53,8 +53,8 @@ begins_tag front = bytes_eq (take 1 front) (codes "[") && nat_lt 0 (length (tag_
 
 -- whether a line with this front counts as empty: the front has nothing but spaces, tabs, `\r` and `\n`, or begins
 -- with `%` or `;`
-abbrev pub is_nothing : List ℕ → Bool
-is_nothing front = bytes_eq (take 1 front) (codes "%") || bytes_eq (take 1 front) (codes ";")
+abbrev pub is_empty_front : List ℕ → Bool
+is_empty_front front = bytes_eq (take 1 front) (codes "%") || bytes_eq (take 1 front) (codes ";")
     || list_all is_white front
 
 -- whether a line is a tag line; each line is a tag line, or empty, or a line of moves
@@ -67,7 +67,7 @@ is_event_line line = is_tag_line line && bytes_eq (tag_name (front_of line)) (co
 
 -- whether a line counts as empty: its front has only white space, or begins with `%` or `;`
 abbrev pub is_empty_line : List ℕ → Bool
-is_empty_line line = is_nothing (front_of line)
+is_empty_line line = is_empty_front (front_of line)
 
 -- whether it is a line of moves: neither a tag line nor empty
 abbrev pub is_moves_line : List ℕ → Bool

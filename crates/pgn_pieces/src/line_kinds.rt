@@ -4,7 +4,7 @@
 ghost use Rattle.std.specs.Prelude.{◌≡◌, ◌≤◌, true, false, length, take, drop, codes};
 ghost use Rattle.std.specs.Str.{bytes_eq};
 ghost use Rattle.std.specs.List.{prefix_len, list_all};
-ghost use Rattle.pgn_pieces.specs.Pieces.{without_mark, front_of, after_name, is_name_byte, is_blank, is_white, tag_name, begins_tag, is_nothing, is_tag_line, is_event_line, is_moves_line};
+ghost use Rattle.pgn_pieces.specs.Pieces.{without_mark, front_of, after_name, is_name_byte, is_blank, is_white, tag_name, begins_tag, is_empty_front, is_tag_line, is_event_line, is_moves_line};
 ghost use Rattle.pgn_pieces.specs.Places.{line_ends};
 
 // The most bytes of a line that decide its kind.
@@ -34,7 +34,7 @@ pub(crate) fn kind_of(line: &[u8]) -> Kind
         return Kind {
             is_tag: false,
             is_event: false,
-            is_moves: !is_nothing(front),
+            is_moves: !is_empty_front(front),
         };
     }
     let name = tag_name(front);
@@ -42,7 +42,7 @@ pub(crate) fn kind_of(line: &[u8]) -> Kind
     Kind {
         is_tag,
         is_event: is_tag && name == b"Event".as_slice(),
-        is_moves: !(is_tag || is_nothing(front)),
+        is_moves: !(is_tag || is_empty_front(front)),
     }
 }
 
@@ -172,8 +172,8 @@ fn is_all_white(bytes: &[u8]) -> bool
 
 // Whether a line with this front is empty.
 #[inline(always)]
-fn is_nothing(front: &[u8]) -> bool
-    ensures { result ≡ is_nothing front.now }
+fn is_empty_front(front: &[u8]) -> bool
+    ensures { result ≡ is_empty_front front.now }
 {
     front.starts_with(b"%") || front.starts_with(b";") || is_all_white(front)
 }
