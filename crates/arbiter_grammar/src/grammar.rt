@@ -12,7 +12,7 @@ use clap::{Arg, ArgAction, Command};
 use std::alloc::{AllocError, Global};
 
 // The version that `--version` prints.
-const VERSION: &str = "0.1.0";
+const VERSION: &str = "0.2.0";
 
 // What the program is, in its help.
 const ABOUT: &str = "\
