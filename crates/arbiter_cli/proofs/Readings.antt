@@ -1,17 +1,12 @@
 -- What was parsed, taken as written and planned is a reading of the arguments.
-use Rattle.std.proofs.Common.{◌≡◌, ◌∙◌, ◌≤◌, Bool, true, false, refl, ap, ap₂, sym, subst, inl, inr, option_map, unwrap_or, [], codes, IfOk, IfErr, IfSome, List, Option, Some, None, Result, Ok, Err, Bor}
+use Rattle.std.proofs.Common.{◌≡◌, ◌∙◌, ◌≤◌, true, false, refl, ap, ap₂, sym, subst, inl, inr, option_map, unwrap_or, [], codes, IfOk, IfErr, IfSome, List, Option, Some, None, Result, Ok, Err, Bor}
 use Rattle.clap.specs.Words.{HasKind, IsAmong, Kinds, Row, Text, found_of, kind_of, rows_of, subcommand_of, subcommand_rows_of}
 use Rattle.clap.specs.declared.error.Error.{Error}
 use Rattle.clap.specs.declared.parser.matches.ArgMatches.{ArgMatches}
 use Rattle.arbiter_grammar.specs.Grammar.{AreVariants, IsComplete, IsParsed, Lent, arbiter_app, asked, faults_in}
 use Rattle.arbiter_cli.specs.Plans.{IsMatchPlan, IsPlanOf, IsReadBy, IsReading, Said, Values, date_asked, is_date, level_and_start, matched, said_by, start_asked, text_or}
 use Rattle.arbiter_cli.specs.ties.Requests.{IsJudged, IsJudgedFault, IsMatchOf, IsPlanFault, IsPlanned, IsRequestOf, Refuses, start_of}
-use Rattle.chess_base.specs.declared.fen_fault.FenFault.{FenFault}
-use Rattle.chess_base.specs.declared.setup.Setup.{Setup}
-use Rattle.chess_fen.specs.Reading.{◌>>=◌}
-use Rattle.cecp_engine.specs.Levels.{LevelSeen, level_of}
-use Rattle.std.specs.Prelude.{if◌then◌else◌, ok_or}
-use Rattle.std.specs.Result.{result_map_both}
+use Rattle.cecp_engine.specs.Levels.{level_of}
 use Rattle.arbiter_cli.specs.declared.plan.MatchPlan.{MatchPlan}
 use Rattle.arbiter_cli.specs.declared.fault.WordsFault.{WordsFault}
 use Rattle.arbiter_cli.specs.declared.fault.WordsFault.TheVariants.{Words, NoMemory, BadLevel, BadFen, BadDate}
