@@ -1,8 +1,9 @@
 -- The pieces fall into those taken and those left, and their legal moves fall so too (split of KindsCounted).
-use Rattle.std.proofs.Common.{◌+◌, length, ap, ◌∙◌}
+use Rattle.std.proofs.Common.{◌+◌, length, ap, sym, ◌∙◌}
 use Rattle.std.specs.List.{flat_map}
+use Rattle.std.proofs.lemmas.Bool.{and_parts}
 use Rattle.chess_moves.specs.shared.MovesBySquares.{moves_from}
-use Rattle.chess_moves.specs.Sets.{members}
+use Rattle.chess_moves.specs.Sets.{contains, members}
 use Rattle.chess_bits.proofs.Counted.{some_fit}
 use Rattle.chess_bits.proofs.KindsCounted.{split}
 use Rattle.chess_bits.proofs.bits.Bits.count_kind.Goals as goal
@@ -12,7 +13,8 @@ count_officers-requires-clause-few c = some_fit c.args.self.now c.intersection-t
 
 pub returns-then-is_pawn : goal.returns-then-is_pawn
 returns-then-is_pawn c =
-    ap (λ n. n + length (flat_map (λ a. moves_from c.args.self.now a) (members c.without.result))) c.count_pawns.ensures
+    ap (λ n. n + length (flat_map (λ a. moves_from c.args.self.now a) (members c.without.result)))
+    c.count_ordinary_pawns.ensures
     ∙ split (λ a. moves_from c.args.self.now a) c.args.men.now c.intersection-chosen.result c.intersection-taken.result
     c.without.result c.intersection-taken.ensures c.without.ensures
 
