@@ -1,6 +1,6 @@
 -- The first square that is left is of the set (first_in of Starts). If it passes, one does; if not, it does not matter for
 -- whether one does.
-use Rattle.std.proofs.Common.{◌≡◌, ℕ, Bool, ◌<◌, ◌==◌, ◌||◌, List, ◌∷◌, true, false, refl, sym, ap, ◌∙◌}
+use Rattle.std.proofs.Common.{◌≡◌, ℕ, Bool, ◌==◌, List, ◌∷◌, true, false, refl, sym, ap, ◌∙◌}
 use Rattle.std.specs.List.{list_any}
 use Rattle.std.proofs.lemmas.Bool.{or_right}
 use Rattle.chess_moves.specs.Sets.{contains}

@@ -1,9 +1,8 @@
 -- The pieces fall into those taken and those left, and their legal moves fall so too (split of KindsCounted).
-use Rattle.std.proofs.Common.{◌+◌, length, ap, sym, ◌∙◌}
+use Rattle.std.proofs.Common.{◌+◌, length, ap, ◌∙◌}
 use Rattle.std.specs.List.{flat_map}
-use Rattle.std.proofs.lemmas.Bool.{and_parts}
 use Rattle.chess_moves.specs.shared.MovesBySquares.{moves_from}
-use Rattle.chess_moves.specs.Sets.{contains, members}
+use Rattle.chess_moves.specs.Sets.{members}
 use Rattle.chess_bits.proofs.Counted.{some_fit}
 use Rattle.chess_bits.proofs.KindsCounted.{split}
 use Rattle.chess_bits.proofs.bits.Bits.count_kind.Goals as goal
