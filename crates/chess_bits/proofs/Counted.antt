@@ -1,37 +1,14 @@
 -- Legal moves counted.
-use Rattle.std.proofs.Common.{◌≡◌, ℕ, ◌+◌, ◌≤◌, inl, inr, Bool, true, false, cond, Some, None, List, [], ◌∷◌, length, map, refl, sym, ap, ◌∙◌, length-append, nat_lt, ◌<◌, arith}
-use Rattle.std.proofs.lemmas.Bool.{cases_Bool, lt-ltb, ltb-true}
-use Rattle.std.specs.List.{filter, flat_map}
-use Rattle.chess_base.specs.declared.man.Kind.{Kind}
+use Rattle.std.proofs.Common.{◌≡◌, ℕ, zero, suc, ◌+◌, ◌≤◌, inl, inr, Bool, true, ◌||◌, List, [], ◌∷◌, ◌++◌, length, refl, sym, ap, ◌∙◌, length-append, nat_lt, ◌<◌, arith}
+use Rattle.std.proofs.lemmas.Bool.{cases_Bool, cases_lt, lt-ltb, ltb-true}
+use Rattle.std.specs.List.{filter, flat_map, list_any, range_with_len}
 use Rattle.chess_base.specs.declared.setup.Setup.{Setup}
-use Rattle.chess_base.specs.MoveList.{move_of, squares, moves}
-use Rattle.chess_base.specs.Moves.{is_legal, promotion_fits}
+use Rattle.chess_base.specs.MoveList.{squares, moves}
 use Rattle.chess_base.specs.Sound.{IsSound}
-use Rattle.chess_moves.specs.shared.MovesBySquares.{moves_between, moves_from}
-use Rattle.chess_moves.specs.Promoting.{would_promote}
+use Rattle.chess_moves.specs.shared.MovesBySquares.{moves_from}
 use Rattle.chess_moves.specs.Sets.{contains, members}
-use Rattle.chess_moves.proofs.shared.MovesBySquares.{moves-by_start, promoting}
+use Rattle.chess_moves.proofs.shared.MovesBySquares.{moves-by_start}
 use Rattle.chess_moves.proofs.shared.LegalMoves.{moves_fit}
-use Rattle.chess_bits.proofs.Listed.{promotions_between, one_between}
-
--- the promotions to each kind are all moves of a pawn that promotes: four if they are legal, and none if they are not
-pub promotions_counted : (p : Setup) (a b : ℕ) (t : Bool) → would_promote p a b ≡ true
-    → ((k : Kind) → promotion_fits true (Some k) ≡ true → t ≡ is_legal p (move_of a b (Some k)))
-    → cond t 4 0 ≡ length (moves_between p a b)
-promotions_counted p a b t e h = sym (ap length (promotions_between p a b t e h) ∙ by t)
-  where
-    by : (t : Bool) → length (cond t (map (move_of a b) promoting) []) ≡ cond t 4 0
-    by true = refl
-    by false = refl
-
--- and elsewhere there is one move at most
-pub one_counted : (p : Setup) (a b : ℕ) → would_promote p a b ≡ false → cond (is_legal p (move_of a b None)) 1 0
-    ≡ length (moves_between p a b)
-one_counted p a b e = sym (ap length (one_between p a b e) ∙ by (is_legal p (move_of a b None)))
-  where
-    by : (t : Bool) → length (cond t (move_of a b None ∷ []) []) ≡ cond t 1 0
-    by true = refl
-    by false = refl
 
 -- before the first
 pub none_counted : {m n : ℕ} → m ≡ n → 0 + m ≡ n
@@ -65,3 +42,37 @@ some_fit p w sound =
     let all = ap length (moves-by_start p) in
     let fits = moves_fit p sound in
     omega (arith, less, all, fits)
+
+-- those from one square are among all
+one_among : {A : Type 0} (g : ℕ → List A) (k n a : ℕ) → a ≤ k → k < a + n
+    → length (g k) ≤ length (flat_map g (range_with_len a n))
+one_among g k zero a low high = absurd (omega (arith, low, high))
+one_among g k (suc n) a low high =
+    let all = length-append (g a) (flat_map g (range_with_len (a + 1) n)) in
+    elim (cases_lt a k) [
+      | inl before ↦
+          let rest = one_among g k n (a + 1) (omega (arith, before)) (omega (arith, high)) in
+          omega (arith, all, rest)
+      | inr on ↦ let same : k ≡ a = omega (arith, low, on) in rw same (omega (arith, all))
+    ]
+
+pub some_from : (p : Setup) (a : ℕ) → a < 64 → 0 < length (moves_from p a) → true ≡ nat_lt 0 (length (moves p))
+unfolding squares
+some_from p a low h =
+    let less : length (moves_from p a) ≤ length (flat_map (λ a. moves_from p a) squares) =
+    one_among (λ a. moves_from p a) a 64 0 (omega arith) (omega (arith, low)) in
+    let all = ap length (moves-by_start p) in
+    sym (lt-ltb 0 (length (moves p)) (omega (arith, less, all, h)))
+
+-- there are some if there are for one of the squares
+pub any_of : {A : Type 0} (g : ℕ → List A) (xs : List ℕ)
+    → list_any (λ a. nat_lt 0 (length (g a))) xs ≡ nat_lt 0 (length (flat_map g xs))
+any_of g [] = refl
+any_of {A = A} g (x ∷ xs) = by _ (g x) (flat_map g xs) (any_of g xs)
+  where
+    by : (t : Bool) (ys zs : List A) → t ≡ nat_lt 0 (length zs)
+        → (nat_lt 0 (length ys) || t) ≡ nat_lt 0 (length (ys ++ zs))
+    by t [] zs e = e
+    by t (y ∷ ys) zs e =
+        ap (λ s. s || t) (lt-ltb 0 (suc (length ys)) (omega arith))
+        ∙ sym (lt-ltb 0 (suc (length (ys ++ zs))) (omega arith))

@@ -1,9 +1,10 @@
 -- Which squares are left of a set when the first is taken out.
-use Rattle.std.proofs.Common.{◌≡◌, ℕ, zero, suc, ◌<◌, ◌≤◌, ◌+◌, inl, inr, Bool, false, ◌||◌, ◌==◌, List, [], ◌∷◌, refl, sym, ap, ◌∙◌, arith}
+use Rattle.std.proofs.Common.{◌≡◌, ℕ, zero, suc, ◌<◌, ◌≤◌, ◌+◌, inl, inr, Bool, true, false, ◌||◌, ◌==◌, List, [], ◌∷◌, refl, sym, ap, ◌∙◌, arith}
 use Rattle.std.specs.List.{filter, range_with_len}
 use Rattle.std.proofs.lemmas.Bool.{cases_Bool, cases_lt, eq-eqb, ne_eqb}
 use Rattle.chess_base.specs.MoveList.{squares}
 use Rattle.chess_moves.specs.Sets.{contains, members}
+use Rattle.chess_bits.proofs.Listed.{each_first, each_member}
 
 -- k is in the list
 abbrev is_in : ℕ → List ℕ → Bool
@@ -63,6 +64,12 @@ taken_first w v s k low e =
 pub first_gone : (w v s : ℕ) → s < 64 → members w ≡ s ∷ members v → contains v s ≡ false
 unfolding members squares
 first_gone w v s low e = sym (is_in-members v s low) ∙ head_once (λ x. contains w x) 64 0 s (members v) e
+
+-- the first member is a square of the set
+pub first_in : (w v s : ℕ) → members w ≡ s ∷ members v → (s < 64) × (contains w s ≡ true)
+first_in w v s e =
+    each_first (λ k. (k < 64) × (contains w k ≡ true)) _ s _ e
+    (each_member w (λ k. (k < 64) × (contains w k ≡ true)) (λ k low on. (low, on)))
 
 -- no square is in a set without members
 pub none_left : (w k : ℕ) → k < 64 → members w ≡ [] → contains w k ≡ false

@@ -9,7 +9,7 @@ ghost use Rattle.chess_base.specs.Squares.{rank, each_square};
 ghost use Rattle.chess_moves.specs.Sets.{contains};
 
 use crate::bits::Bits;
-use crate::filter::filter;
+use crate::squares::filter;
 use chess_base::rules::{Castle, Steps};
 use chess_base::{Kind, Man, Move, Square, Variant};
 use chess_moves::{Board, SquareSet};

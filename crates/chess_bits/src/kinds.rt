@@ -81,9 +81,7 @@ impl Kinds {
         let rest = self.sets[at].without(left);
         self.sets[at] = rest.union(entered);
     }
-}
 
-impl Kinds {
     /// The squares of the pieces of this kind, of the colour that these sets are of.
     pub fn of(&self, kind: Kind) -> SquareSet
         ensures { result ≡ slice_index self.now.sets (kind_number kind) }

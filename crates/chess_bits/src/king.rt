@@ -1,6 +1,6 @@
-//! The king's safety after a move, by the sets after it: no move is made.
+//! The king's safety after a move, found from the sets after it without making the move.
 
-ghost use Rattle.std.specs.Prelude.{◌≡◌, ◌==◌, ◌&&◌, ◌||◌, not, ◌<◌, ℕ, true, Option, None, Some};
+ghost use Rattle.std.specs.Prelude.{◌≡◌, ◌==◌, ◌&&◌, ◌||◌, not, ◌<◌, ℕ, map, true, Option, None, Some};
 ghost use Rattle.chess_base.specs.Men.{man_at, is_man};
 ghost use Rattle.chess_base.specs.MoveList.{move_of};
 ghost use Rattle.chess_base.specs.Moves.{is_pseudo_legal, is_legal, man_moves, men_after, promotion_fits, steps_of};
@@ -9,15 +9,16 @@ ghost use Rattle.chess_base.specs.declared.man.Kind.{Kind as ManKind};
 ghost use Rattle.chess_base.specs.declared.man.Kind.TheVariants.{King, Pawn};
 ghost use Rattle.chess_bits.specs.ties.Changes.{StepsPlainly, is_changed, is_filled};
 ghost use Rattle.chess_bits.specs.ties.Goes.{goes};
+ghost use Rattle.chess_moves.specs.shared.MovesBySquares.{moves_between};
 ghost use Rattle.chess_moves.specs.Promoting.{would_promote};
 ghost use Rattle.chess_moves.specs.Sets.{contains};
 
 use crate::bits::Bits;
-use crate::filter::filter;
 use crate::placing::is_target;
-use chess_base::rules::{Steps, is_man, steps_of};
+use crate::squares::filter;
+use chess_base::rules::{PROMOTIONS, Steps, is_man, steps_of};
 use chess_base::{Kind, Move, Square};
-use chess_moves::SquareSet;
+use chess_moves::{SquareSet, would_promote};
 
 // The set of the given square alone; the empty set if none is given.
 #[tactic(auto, using(crate::proofs::Attackers::eq_back))]
@@ -165,7 +166,7 @@ impl Bits<'_> {
 
     // Whether the pawn on `from` may legally promote on `to`: to all four kinds to which pawns do, or to none of them.
     // With a test for each kind, counting moves with three such pawns a side took 1.4 times as long.
-    pub(crate) fn promotes_legally(&self, from: Square, to: Square) -> bool
+    fn promotes_legally(&self, from: Square, to: Square) -> bool
         requires goes { goes self.now from to ≡ true }
         requires promotes { would_promote self.now from to ≡ true }
         ensures { (kind : ManKind) → promotion_fits true (Some kind) ≡ true
@@ -174,5 +175,28 @@ impl Bits<'_> {
         // The prover wants this fact: the position is sound.
         let _sound = &self.setup;
         self.is_safe_plain(from, to)
+    }
+
+    // The promotions with which moves from `from` to `to` are legal: the four kinds if a pawn promotes there, otherwise
+    // `None` for the one move without. The slice is empty if the king would be attacked.
+    #[inline(always)]
+    pub(crate) fn legal_promotions(&self, from: Square, to: Square) -> &'static [Option<Kind>]
+        requires { goes self.now from to ≡ true }
+        ensures { map (move_of from to) result.now ≡ moves_between self.now from to }
+    {
+        if would_promote(&self.setup, from, to) {
+            if self.promotes_legally(from, to) {
+                &PROMOTIONS
+            } else {
+                &[]
+            }
+        } else {
+            let m = Move {
+                from,
+                to,
+                promotion: None,
+            };
+            if self.is_safe_after(&m) { &[None] } else { &[] }
+        }
     }
 }

@@ -11,9 +11,9 @@ ghost use Rattle.chess_bits.specs.ties.Goes.{IsOfficer};
 ghost use Rattle.chess_moves.specs.Sets.{contains, HasLegalStarts};
 
 use crate::bits::Bits;
-use crate::filter::filter;
 use crate::placing::is_target;
 use crate::reaching::reached_among;
+use crate::squares::filter;
 use crate::targets::{is_king, is_pawn};
 use chess_base::rules::{first_rank, is_of, promotion_fits};
 use chess_base::{Colour, Kind, Man, Move, Square};

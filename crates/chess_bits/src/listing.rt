@@ -1,23 +1,23 @@
 //! The list of legal moves: piece by piece, and end square by end square.
 
-ghost use Rattle.std.specs.Prelude.{◌≡◌, ◌+◌, ◌≤◌, ◌<◌, ◌&&◌, ◌++◌, ℕ, length, map, true, false, None, []};
+ghost use Rattle.std.specs.Prelude.{◌≡◌, ◌+◌, ◌≤◌, ◌<◌, ◌++◌, ℕ, length, map, true, None, []};
 ghost use Rattle.arrayvec.specs.ArrayVec.{array_vec_len};
 ghost use Rattle.chess_base.specs.Men.{man_at, is_man};
 ghost use Rattle.chess_base.specs.MoveList.{moves, move_of};
-ghost use Rattle.chess_base.specs.declared.man.Kind.TheVariants.{King, Pawn};
+ghost use Rattle.chess_base.specs.declared.man.Kind.TheVariants.{King};
 ghost use Rattle.chess_bits.specs.ties.Pins.{AreEvasions, EndsOn};
-ghost use Rattle.chess_bits.specs.ties.Goes.{goes, goes_specially, IsFree};
+ghost use Rattle.chess_bits.specs.ties.Goes.{goes, GoesFreely};
 ghost use Rattle.chess_moves.specs.shared.MovesBySquares.{moves_between, moves_from};
 ghost use Rattle.chess_moves.specs.Sets.{contains, members};
 
 use crate::bits::Bits;
 use crate::pinning::Pins;
-use chess_base::rules::{PROMOTIONS, is_man};
+use chess_base::rules::is_man;
 use chess_base::{Kind, Move, Square};
-use chess_moves::{MoveList, SquareSet, would_promote};
+use chess_moves::{MoveList, SquareSet};
 
-// Appends to `list` the moves from `from` to `to` with each of `promotions`.
-fn add_promotions(from: Square, to: Square, promotions: &[Option<Kind>], list: &mut MoveList)
+// Appends to `list` the moves from `from` to `to` with each of `promotions` (`None` for a move that promotes nothing).
+fn add_moves_with(from: Square, to: Square, promotions: &[Option<Kind>], list: &mut MoveList)
     requires { array_vec_len list.old + length promotions.now ≤ 896 }
     ensures { list.new.items ≡ list.old.items ++ map (move_of from to) promotions.now }
 {
@@ -46,27 +46,13 @@ fn add_moves_onto(from: Square, ends: SquareSet, list: &mut MoveList)
 }
 
 impl Bits<'_> {
-    // Appends to `list` the legal moves from `from` to `to`, with a promotion or without. Four promotions are legal or
-    // none, so one test is enough.
+    // Appends to `list` the legal moves from `from` to `to`, with a promotion or without.
     fn add_moves_between(&self, from: Square, to: Square, list: &mut MoveList)
         requires goes { goes self.now from to ≡ true }
         requires room { array_vec_len list.old + length (moves_between self.now from to) ≤ 896 }
         ensures { list.new.items ≡ list.old.items ++ moves_between self.now from to }
     {
-        if would_promote(&self.setup, from, to) {
-            if self.promotes_legally(from, to) {
-                add_promotions(from, to, &PROMOTIONS, list);
-            }
-        } else {
-            let m = Move {
-                from,
-                to,
-                promotion: None,
-            };
-            if self.is_safe_after(&m) {
-                list.push(m);
-            }
-        }
+        add_moves_with(from, to, self.legal_promotions(from, to), list);
     }
 
     // Appends to `list` the legal moves from `from`, which all end on squares of the set `ends`.
@@ -82,20 +68,10 @@ impl Bits<'_> {
         }
     }
 
-    // Appends to `list` the legal moves of the piece on `from`.
-    fn add_moves_from(&self, from: Square, list: &mut MoveList)
-        requires { array_vec_len list.old + length (moves_from self.now from) ≤ 896 }
-        ensures { list.new.items ≡ list.old.items ++ moves_from self.now from }
-    {
-        self.add_moves_to(from, self.targets(from), list);
-    }
-
     // Appends to `list` the legal moves of the piece on `from`. It is free (its king is safe wherever it goes), and no
     // pawn that may promote or take en passant, so each of its end squares gives one move.
     fn add_ordinary_moves(&self, from: Square, list: &mut MoveList)
-        requires free { IsFree self.now from }
-        requires ordinary { (is_man (self.now).side Pawn (man_at (self.now).men from) && goes_specially self.now from)
-            ≡ false }
+        requires free { GoesFreely self.now from }
         requires room { array_vec_len list.old + length (moves_from self.now from) ≤ 896 }
         ensures { list.new.items ≡ list.old.items ++ moves_from self.now from }
     {
@@ -103,19 +79,6 @@ impl Bits<'_> {
         let _start = from.number();
         let _king = self.king(self.setup.side);
         add_moves_onto(from, self.targets(from), list);
-    }
-
-    // Appends to `list` the legal moves of the piece on `from`, which is free: its king is safe wherever it goes.
-    fn add_free_moves(&self, from: Square, list: &mut MoveList)
-        requires free { IsFree self.now from }
-        requires room { array_vec_len list.old + length (moves_from self.now from) ≤ 896 }
-        ensures { list.new.items ≡ list.old.items ++ moves_from self.now from }
-    {
-        if self.is_special(from) {
-            self.add_moves_from(from, list);
-        } else {
-            self.add_ordinary_moves(from, list);
-        }
     }
 
     // Appends to `list` the legal moves of the king on `king`.
@@ -127,8 +90,9 @@ impl Bits<'_> {
         add_moves_onto(king, self.king_ends(king), list);
     }
 
-    // Appends to `list` the legal moves of the piece on `from`, the king or another, given where the pieces may go.
-    fn add_unfree_moves(&self, from: Square, pins: &Pins, list: &mut MoveList)
+    // Appends to `list` the legal moves of the piece on `from`, the king or another. Each move is judged, but if the
+    // piece is not the king, only moves to the squares that `pins` leaves to it.
+    fn add_judged_moves(&self, from: Square, pins: &Pins, list: &mut MoveList)
         requires evasions { AreEvasions self.now pins.now.free pins.now.evasions }
         requires room { array_vec_len list.old + length (moves_from self.now from) ≤ 896 }
         ensures { list.new.items ≡ list.old.items ++ moves_from self.now from }
@@ -140,19 +104,20 @@ impl Bits<'_> {
         }
     }
 
-    // Appends to `list` the legal moves of the piece on `from`, given where the pieces may go.
-    fn add_moves_of(&self, from: Square, pins: &Pins, list: &mut MoveList)
-        requires free { (k : ℕ) → k < 64 → contains pins.now.free k ≡ true → IsFree self.now k }
+    // Appends to `list` the legal moves of the piece on `from`. Those of a piece in the set `ordinary` are legal as they
+    // are: it is free, and no pawn that may promote or take en passant. Those of another are judged one by one.
+    fn add_moves_of(&self, from: Square, ordinary: SquareSet, pins: &Pins, list: &mut MoveList)
+        requires ordinary { (k : ℕ) → k < 64 → contains ordinary k ≡ true → GoesFreely self.now k }
         requires evasions { AreEvasions self.now pins.now.free pins.now.evasions }
         requires room { array_vec_len list.old + length (moves_from self.now from) ≤ 896 }
         ensures { list.new.items ≡ list.old.items ++ moves_from self.now from }
     {
         // The prover wants this fact: the start's number is below 64.
         let _start = from.number();
-        if pins.free.contains(from) {
-            self.add_free_moves(from, list);
+        if ordinary.contains(from) {
+            self.add_ordinary_moves(from, list);
         } else {
-            self.add_unfree_moves(from, pins, list);
+            self.add_judged_moves(from, pins, list);
         }
     }
 
@@ -164,9 +129,10 @@ impl Bits<'_> {
         ensures { list.new.items ≡ moves self.now }
     {
         let pins = self.pins();
+        let ordinary = self.without_special_pawns(pins.free);
         let mut men = self.sets.all(self.setup.side);
         while let Some(from) = men.take_first() {
-            self.add_moves_of(from, &pins, list);
+            self.add_moves_of(from, ordinary, &pins, list);
         }
     }
 }

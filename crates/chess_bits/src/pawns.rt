@@ -7,13 +7,13 @@ ghost use Rattle.chess_base.specs.MoveList.{move_of};
 ghost use Rattle.chess_base.specs.Moves.{pawn_advances, pawn_captures};
 ghost use Rattle.chess_base.specs.Squares.{file};
 ghost use Rattle.chess_base.specs.declared.man.Kind.TheVariants.{Pawn};
-ghost use Rattle.chess_bits.specs.ties.Goes.{AreFree, goes_specially};
+ghost use Rattle.chess_bits.specs.ties.Goes.{AreFree, GoesFreely, IsFree, goes_specially};
 ghost use Rattle.chess_moves.specs.shared.MovesBySquares.{moves_from};
 ghost use Rattle.chess_moves.specs.Sets.{contains, members};
 
 use crate::bits::Bits;
 use crate::table::Shape;
-use chess_base::rules::{is_man, pawn_rank};
+use chess_base::rules::pawn_rank;
 use chess_base::{Colour, Kind, Square};
 use chess_moves::{Board, SquareSet};
 
@@ -87,7 +87,7 @@ impl Bits<'_> {
     // The squares from which a pawn of the side on move may promote or take en passant: those of the rank before its
     // last one, and those from which it attacks the en passant target.
     #[tactic(auto, using(crate::proofs::PawnsCounted::aims_back))]
-    pub(crate) fn special_squares(&self) -> SquareSet
+    fn special_squares(&self) -> SquareSet
         ensures { (k : ℕ) → k < 64 → contains result k ≡ goes_specially self.now k }
     {
         let theirs = self.setup.side.other();
@@ -98,14 +98,16 @@ impl Bits<'_> {
         }
     }
 
-    // Whether on `from` is a pawn of the side on move that may promote or take en passant.
-    pub(crate) fn is_special(&self, from: Square) -> bool
-        ensures { result ≡ (is_man (self.now).side Pawn (man_at (self.now).men from) && goes_specially self.now from) }
+    // The free pieces `free` (their king is safe wherever they go) without the pawns that may promote or take en
+    // passant: each square to which one of these pieces goes gives it one legal move.
+    #[inline(always)]
+    pub(crate) fn without_special_pawns(&self, free: SquareSet) -> SquareSet
+        requires { (k : ℕ) → k < 64 → contains free k ≡ true → IsFree self.now k }
+        ensures { (k : ℕ) → k < 64 → contains result k ≡ true → GoesFreely self.now k }
     {
-        // The prover wants this fact: the start's number is below 64.
-        let _start = from.number();
-        is_man(self.setup.side, Kind::Pawn, self.setup.men[from.index()])
-            && self.special_squares().contains(from)
+        let pawns = self.men_of(self.setup.side, Kind::Pawn);
+        let special = pawns.intersection(self.special_squares());
+        free.without(special)
     }
 
     // How many legal moves these pawns have. They are free (their king is safe wherever they go), and none may promote

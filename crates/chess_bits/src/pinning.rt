@@ -29,7 +29,7 @@ pub(crate) struct Pins {
 impl Bits<'_> {
     // The occupied squares between the king on `king` and the enemy piece on `from`, which are on one line.
     #[inline(always)]
-    fn hiding(&self, king: Square, from: Square) -> SquareSet
+    fn blockers(&self, king: Square, from: Square) -> SquareSet
         requires { aims_from self.now from king ≡ true }
         ensures { (k : ℕ) → k < 64
             → contains result k ≡ (is_between king from k && not (is_none (man_at (self.now).men k))) }
@@ -51,12 +51,12 @@ impl Bits<'_> {
     {
         // The prover wants this fact: the position is sound.
         let _sound = self.setup();
-        let hiding = self.hiding(king, from);
-        if hiding.is_empty() {
+        let blockers = self.blockers(king, from);
+        if blockers.is_empty() {
             return None;
         }
-        let shield = hiding.first();
-        let others = hiding.without(SquareSet::single(shield));
+        let shield = blockers.first();
+        let others = blockers.without(SquareSet::single(shield));
         if others.is_empty() {
             Some(shield)
         } else {

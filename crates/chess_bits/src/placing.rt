@@ -14,9 +14,9 @@ ghost use Rattle.chess_bits.specs.ties.Occupancy.{IsOccupied};
 ghost use Rattle.chess_moves.specs.Made.{IsMade};
 ghost use Rattle.chess_moves.specs.Sets.{contains};
 
-use crate::filter::single_if;
 use crate::keys::KeyTable;
 use crate::sets::Sets;
+use crate::squares::single_if;
 use crate::targets::is_pawn;
 use chess_base::rules::{
     Steps, fullmove_after, halfmove_after, is_man, rights_after, saved_of, steps_back, steps_of,

@@ -5,7 +5,7 @@ ghost use Rattle.chess_base.specs.Squares.{share_rank_or_file, share_diagonal};
 ghost use Rattle.chess_moves.specs.Sets.{contains};
 ghost use Rattle.chess_bits.specs.ties.Rays.{is_open};
 
-use crate::filter::filter;
+use crate::squares::filter;
 use crate::table::Shape;
 use crate::tables::AttackTables;
 use chess_base::Square;

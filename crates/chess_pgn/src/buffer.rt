@@ -86,8 +86,8 @@ impl TextBuffer {
     ///
     /// # Errors
     /// If the writer fails; a beginning of the buffer was written then.
-    pub(crate) fn finish<W: Output>(self, writer: &mut W) -> Result<(), WriteFault>
-        ensures { Puts (W.seen writer.old) (W.seen writer.new) result self }
+    pub(crate) fn finish<W: Output>(&self, writer: &mut W) -> Result<(), WriteFault>
+        ensures { Puts (W.seen writer.old) (W.seen writer.new) result self.now }
     {
         put(writer, self.text.as_slice())
     }

@@ -13,24 +13,28 @@ use byte_devices::{Output, WriteFault};
 // The most bytes of a line of moves, its prefix and its end not counted (PGN standard of 1994, section 4.3).
 const LINE_LEN: usize = 79;
 
-/// Writes lines through a buffer, each after a prefix. Tokens of moves go into a line of at most 79 bytes, which has
-/// `column` bytes so far; 0: no line is begun.
+/// Writes lines to `writer` through the buffer `waiting`, each after a prefix. Tokens of moves go into a line of at most
+/// 79 bytes, which has `column` bytes so far; 0: no line is begun.
 #[derive(Drop)]
-pub(crate) struct LineWriter<'a> {
+pub(crate) struct LineWriter<'a, 'b, W> {
+    writer: &'b mut W,
     prefix: &'a [u8],
     waiting: TextBuffer,
     column: usize,
     ghost short_line: { column ≤ 79 },
 }
 
-impl<'a> LineWriter<'a> {
-    /// A writer of lines with this prefix; no line is begun.
-    pub(crate) fn new(prefix: &'a [u8]) -> Self
+impl<'a, 'b, W: Output> LineWriter<'a, 'b, W> {
+    /// A writer of lines with this prefix to `writer`; no line is begun.
+    pub(crate) fn new(prefix: &'a [u8], writer: &'b mut W) -> Self
+        ensures old { result.writer.now ≡ writer.old }
+        ensures writer { result.writer.ghost_name ≡ writer.entry.ghost_name }
         ensures prefix { result.prefix.now ≡ prefix.now }
         ensures none { result.waiting ≡ [] }
         ensures column { result.column ≡ 0 }
     {
         LineWriter {
+            writer,
             prefix,
             waiting: TextBuffer::new(),
             column: 0,
@@ -41,17 +45,15 @@ impl<'a> LineWriter<'a> {
     ///
     /// # Errors
     /// If the writer fails; a beginning of the text was written then.
-    pub(crate) fn put_line<W: Output>(
-        &mut self,
-        writer: &mut W,
-        line: &[u8],
-    ) -> Result<(), WriteFault>
-        ensures added { Adds (W.seen writer.old) (W.seen writer.new) self.old.waiting self.new.waiting result
-            (self.old.prefix.now ++ line.now ++ new_line ∷ []) }
+    pub(crate) fn put_line(&mut self, line: &[u8]) -> Result<(), WriteFault>
+        ensures added { Adds (W.seen self.old.writer.now) (W.seen self.new.writer.now) self.old.waiting
+            self.new.waiting result (self.old.prefix.now ++ line.now ++ new_line ∷ []) }
         ensures prefix { self.new.prefix.now ≡ self.old.prefix.now }
+        ensures writer { self.new.writer.ghost_name ≡ self.old.writer.ghost_name }
         ensures column { self.new.column ≡ self.old.column }
     {
-        self.waiting.add_parts(writer, &[self.prefix, line, b"\n"])
+        self.waiting
+            .add_parts(self.writer, &[self.prefix, line, b"\n"])
     }
 
     /// Adds a token of moves: after a space on the line that is begun, if that has room (the prefix doesn't count);
@@ -59,27 +61,25 @@ impl<'a> LineWriter<'a> {
     ///
     /// # Errors
     /// If the writer fails; a beginning of the text was written then.
-    pub(crate) fn put_token<W: Output>(
-        &mut self,
-        writer: &mut W,
-        token: &[u8],
-    ) -> Result<(), WriteFault>
+    pub(crate) fn put_token(&mut self, token: &[u8]) -> Result<(), WriteFault>
         requires some { 0 < length token.now }
         requires short { length token.now ≤ LINE_LEN }
-        ensures added { Adds (W.seen writer.old) (W.seen writer.new) self.old.waiting self.new.waiting result
-            (wrapped_token self.old.prefix.now self.old.column token.now) }
+        ensures added { Adds (W.seen self.old.writer.now) (W.seen self.new.writer.now) self.old.waiting
+            self.new.waiting result (wrapped_token self.old.prefix.now self.old.column token.now) }
         ensures column { self.new.column ≡ next_column self.old.column token.now }
         ensures prefix { self.new.prefix.now ≡ self.old.prefix.now }
+        ensures writer { self.new.writer.ghost_name ≡ self.old.writer.ghost_name }
     {
         if self.column == 0 {
             self.column = token.len();
-            self.waiting.add_parts(writer, &[self.prefix, token])
+            self.waiting.add_parts(self.writer, &[self.prefix, token])
         } else if self.column + 1 + token.len() <= LINE_LEN {
             self.column += 1 + token.len();
-            self.waiting.add_parts(writer, &[b" ", token])
+            self.waiting.add_parts(self.writer, &[b" ", token])
         } else {
             self.column = token.len();
-            self.waiting.add_parts(writer, &[b"\n", self.prefix, token])
+            self.waiting
+                .add_parts(self.writer, &[b"\n", self.prefix, token])
         }
     }
 
@@ -87,26 +87,28 @@ impl<'a> LineWriter<'a> {
     ///
     /// # Errors
     /// If the writer fails; a beginning of the text was written then.
-    pub(crate) fn end_line<W: Output>(&mut self, writer: &mut W) -> Result<(), WriteFault>
-        ensures added { Adds (W.seen writer.old) (W.seen writer.new) self.old.waiting self.new.waiting result
-            (line_close self.old.column) }
+    pub(crate) fn end_line(&mut self) -> Result<(), WriteFault>
+        ensures added { Adds (W.seen self.old.writer.now) (W.seen self.new.writer.now) self.old.waiting
+            self.new.waiting result (line_close self.old.column) }
         ensures column { self.new.column ≡ 0 }
         ensures prefix { self.new.prefix.now ≡ self.old.prefix.now }
+        ensures writer { self.new.writer.ghost_name ≡ self.old.writer.ghost_name }
     {
         if self.column == 0 {
             return Ok(());
         }
         self.column = 0;
-        self.waiting.add(writer, b"\n")
+        self.waiting.add(self.writer, b"\n")
     }
 
     /// Writes what is in the buffer. The last line must be ended before.
     ///
     /// # Errors
     /// If the writer fails; a beginning of the text was written then.
-    pub(crate) fn finish<W: Output>(self, writer: &mut W) -> Result<(), WriteFault>
-        ensures { Puts (W.seen writer.old) (W.seen writer.new) result self.entry.waiting }
+    pub(crate) fn finish(&mut self) -> Result<(), WriteFault>
+        ensures put { Puts (W.seen self.old.writer.now) (W.seen self.new.writer.now) result self.old.waiting }
+        ensures writer { self.new.writer.ghost_name ≡ self.old.writer.ghost_name }
     {
-        self.waiting.finish(writer)
+        self.waiting.finish(self.writer)
     }
 }

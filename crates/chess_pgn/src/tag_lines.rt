@@ -48,18 +48,18 @@ fn tag_line(name: &[u8], text: &[u8]) -> TagLine
 /// # Errors
 /// If the writer fails; a beginning of the text was written then.
 pub(crate) fn put_tags<W: Output>(
-    lines: &mut LineWriter<'_>,
-    writer: &mut W,
+    lines: &mut LineWriter<'_, '_, W>,
     tags: &[TagPair<'_>],
 ) -> Result<(), WriteFault>
-    ensures added { Adds (W.seen writer.old) (W.seen writer.new) lines.old.waiting lines.new.waiting result
-        (ended lines.old.prefix.now (tag_lines_of tags.now)) }
+    ensures added { Adds (W.seen lines.old.writer.now) (W.seen lines.new.writer.now) lines.old.waiting
+        lines.new.waiting result (ended lines.old.prefix.now (tag_lines_of tags.now)) }
     ensures prefix { lines.new.prefix.now ≡ lines.old.prefix.now }
+    ensures writer { lines.new.writer.ghost_name ≡ lines.old.writer.ghost_name }
     ensures column { lines.new.column ≡ lines.old.column }
 {
     for tag in tags {
         let line = tag_line(tag.name, tag.text);
-        lines.put_line(writer, line.as_slice())?;
+        lines.put_line(line.as_slice())?;
     }
     Ok(())
 }

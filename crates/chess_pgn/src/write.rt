@@ -45,60 +45,60 @@ pub fn write_pgn<B: Board, W: Output>(
     ensures laid_out { (text : List ℕ) → IsPgn prefix.now tags.now game.now.state text
         → Puts (W.seen writer.old) (W.seen writer.new) result text }
 {
-    let mut lines = LineWriter::new(prefix);
-    put_game(&mut lines, writer, game, scratch, tags)?;
-    lines.finish(writer)
+    let mut lines = LineWriter::new(prefix, writer);
+    put_game(&mut lines, game, scratch, tags)?;
+    lines.finish()
 }
 
 // Writes a game's whole text through `lines`: tags, an empty line, moves, an empty line. The board `scratch` plays the
 // moves for their SAN.
 fn put_game<B: Board, W: Output>(
-    lines: &mut LineWriter<'_>,
-    writer: &mut W,
+    lines: &mut LineWriter<'_, '_, W>,
     game: &Game<B>,
     scratch: &mut B,
     tags: &Tags,
 ) -> Result<(), WriteFault>
     requires { lines.old.column ≡ 0 }
-    ensures { Adds (W.seen writer.old) (W.seen writer.new) lines.old.waiting lines.new.waiting result
-        (pgn lines.old.prefix.now tags.now game.now.state) }
+    ensures added { Adds (W.seen lines.old.writer.now) (W.seen lines.new.writer.now) lines.old.waiting lines.new.waiting
+        result (pgn lines.old.prefix.now tags.now game.now.state) }
+    ensures writer { lines.new.writer.ghost_name ≡ lines.old.writer.ghost_name }
 {
     let outcome = game.outcome();
-    put_tag_lines(lines, writer, game, outcome, tags)?;
-    put_move_text(lines, writer, game, outcome, scratch)?;
-    lines.put_line(writer, b"")
+    put_tag_lines(lines, game, outcome, tags)?;
+    put_move_text(lines, game, outcome, scratch)?;
+    lines.put_line(b"")
 }
 
 // Writes the lines of a game's tags, and an empty line; `outcome` is the game's.
 fn put_tag_lines<B: Board, W: Output>(
-    lines: &mut LineWriter<'_>,
-    writer: &mut W,
+    lines: &mut LineWriter<'_, '_, W>,
     game: &Game<B>,
     outcome: Outcome,
     tags: &Tags,
 ) -> Result<(), WriteFault>
     requires { outcome ≡ outcome_now game.now.state }
-    ensures added { Adds (W.seen writer.old) (W.seen writer.new) lines.old.waiting lines.new.waiting result
-        (ended lines.old.prefix.now (tag_lines tags.now game.now.state ++ [] ∷ [])) }
+    ensures added { Adds (W.seen lines.old.writer.now) (W.seen lines.new.writer.now) lines.old.waiting
+        lines.new.waiting result (ended lines.old.prefix.now (tag_lines tags.now game.now.state ++ [] ∷ [])) }
     ensures prefix { lines.new.prefix.now ≡ lines.old.prefix.now }
+    ensures writer { lines.new.writer.ghost_name ≡ lines.old.writer.ghost_name }
     ensures column { lines.new.column ≡ lines.old.column }
 {
-    put_roster(lines, writer, tags, outcome)?;
+    put_roster(lines, tags, outcome)?;
     let termination = Termination::of(tags.ended, outcome);
-    put_further(lines, writer, &game.start(), termination)?;
-    lines.put_line(writer, b"")
+    put_further(lines, &game.start(), termination)?;
+    lines.put_line(b"")
 }
 
 // Writes the lines of the seven tags that each game has, Event to Result; `outcome` is the text of Result.
 fn put_roster<W: Output>(
-    lines: &mut LineWriter<'_>,
-    writer: &mut W,
+    lines: &mut LineWriter<'_, '_, W>,
     tags: &Tags,
     outcome: Outcome,
 ) -> Result<(), WriteFault>
-    ensures added { Adds (W.seen writer.old) (W.seen writer.new) lines.old.waiting lines.new.waiting result
-        (ended lines.old.prefix.now (roster_lines tags.now outcome)) }
+    ensures added { Adds (W.seen lines.old.writer.now) (W.seen lines.new.writer.now) lines.old.waiting
+        lines.new.waiting result (ended lines.old.prefix.now (roster_lines tags.now outcome)) }
     ensures prefix { lines.new.prefix.now ≡ lines.old.prefix.now }
+    ensures writer { lines.new.writer.ghost_name ≡ lines.old.writer.ghost_name }
     ensures column { lines.new.column ≡ lines.old.column }
 {
     let roster = [
@@ -131,52 +131,49 @@ fn put_roster<W: Output>(
             text: outcome.text(),
         },
     ];
-    put_tags(lines, writer, &roster)
+    put_tags(lines, &roster)
 }
 
 // Writes the lines of the tags after the seven of each game: FEN and SetUp if the start needs them, Termination, and
 // Variant for Chess960.
 fn put_further<W: Output>(
-    lines: &mut LineWriter<'_>,
-    writer: &mut W,
+    lines: &mut LineWriter<'_, '_, W>,
     start: &Position,
     termination: Termination,
 ) -> Result<(), WriteFault>
-    ensures added { Adds (W.seen writer.old) (W.seen writer.new) lines.old.waiting lines.new.waiting result
-        (ended lines.old.prefix.now (further_lines start.now termination)) }
+    ensures added { Adds (W.seen lines.old.writer.now) (W.seen lines.new.writer.now) lines.old.waiting
+        lines.new.waiting result (ended lines.old.prefix.now (further_lines start.now termination)) }
     ensures prefix { lines.new.prefix.now ≡ lines.old.prefix.now }
+    ensures writer { lines.new.writer.ghost_name ≡ lines.old.writer.ghost_name }
     ensures column { lines.new.column ≡ lines.old.column }
 {
-    put_start(lines, writer, start)?;
-    put_last(lines, writer, start.variant(), termination)
+    put_start(lines, start)?;
+    put_last(lines, start.variant(), termination)
 }
 
 // Writes the tags that give the start: none for the initial position of normal chess.
 fn put_start<W: Output>(
-    lines: &mut LineWriter<'_>,
-    writer: &mut W,
+    lines: &mut LineWriter<'_, '_, W>,
     start: &Position,
 ) -> Result<(), WriteFault>
-    ensures added { Adds (W.seen writer.old) (W.seen writer.new) lines.old.waiting lines.new.waiting result
-        (ended lines.old.prefix.now (start_lines_in start.now.variant start.now)) }
+    ensures added { Adds (W.seen lines.old.writer.now) (W.seen lines.new.writer.now) lines.old.waiting
+        lines.new.waiting result (ended lines.old.prefix.now (start_lines_in start.now.variant start.now)) }
     ensures prefix { lines.new.prefix.now ≡ lines.old.prefix.now }
+    ensures writer { lines.new.writer.ghost_name ≡ lines.old.writer.ghost_name }
     ensures column { lines.new.column ≡ lines.old.column }
 {
     match start.variant() {
         Variant::Normal if is_initial(start) => Ok(()),
-        _ => put_fen(lines, writer, start),
+        _ => put_fen(lines, start),
     }
 }
 
 // Writes the tags `FEN` and `SetUp` of a start, each on its line.
-fn put_fen<W: Output>(
-    lines: &mut LineWriter<'_>,
-    writer: &mut W,
-    start: &Position,
-) -> Result<(), WriteFault>
-    ensures added { Adds (W.seen writer.old) (W.seen writer.new) lines.old.waiting lines.new.waiting result
-        (ended lines.old.prefix.now (fen_lines start.now)) }
+fn put_fen<W: Output>(lines: &mut LineWriter<'_, '_, W>, start: &Position) -> Result<(), WriteFault>
+    ensures added { Adds (W.seen lines.old.writer.now) (W.seen lines.new.writer.now) lines.old.waiting
+        lines.new.waiting result (ended lines.old.prefix.now (fen_lines start.now)) }
     ensures prefix { lines.new.prefix.now ≡ lines.old.prefix.now }
+    ensures writer { lines.new.writer.ghost_name ≡ lines.old.writer.ghost_name }
     ensures column { lines.new.column ≡ lines.old.column }
 {
     let fen = write_fen(start);
@@ -190,19 +187,19 @@ fn put_fen<W: Output>(
             text: b"1",
         },
     ];
-    put_tags(lines, writer, &tags)
+    put_tags(lines, &tags)
 }
 
 // Writes the tag `Termination`, and for Chess960 the tag `Variant`.
 fn put_last<W: Output>(
-    lines: &mut LineWriter<'_>,
-    writer: &mut W,
+    lines: &mut LineWriter<'_, '_, W>,
     variant: Variant,
     termination: Termination,
 ) -> Result<(), WriteFault>
-    ensures added { Adds (W.seen writer.old) (W.seen writer.new) lines.old.waiting lines.new.waiting result
-        (ended lines.old.prefix.now (last_lines variant termination)) }
+    ensures added { Adds (W.seen lines.old.writer.now) (W.seen lines.new.writer.now) lines.old.waiting
+        lines.new.waiting result (ended lines.old.prefix.now (last_lines variant termination)) }
     ensures prefix { lines.new.prefix.now ≡ lines.old.prefix.now }
+    ensures writer { lines.new.writer.ghost_name ≡ lines.old.writer.ghost_name }
     ensures column { lines.new.column ≡ lines.old.column }
 {
     let tags = [
@@ -216,52 +213,52 @@ fn put_last<W: Output>(
         },
     ];
     match variant {
-        Variant::Normal => put_tags(lines, writer, &tags[..1]),
-        Variant::Fischerandom => put_tags(lines, writer, &tags),
+        Variant::Normal => put_tags(lines, &tags[..1]),
+        Variant::Fischerandom => put_tags(lines, &tags),
     }
 }
 
 // Writes the lines of the moves, and the game's outcome as their last token; the board `scratch` plays the moves for
 // their SAN.
 fn put_move_text<B: Board, W: Output>(
-    lines: &mut LineWriter<'_>,
-    writer: &mut W,
+    lines: &mut LineWriter<'_, '_, W>,
     game: &Game<B>,
     outcome: Outcome,
     scratch: &mut B,
 ) -> Result<(), WriteFault>
     requires outcome { outcome ≡ outcome_now game.now.state }
     requires column { lines.old.column ≡ 0 }
-    ensures added { Adds (W.seen writer.old) (W.seen writer.new) lines.old.waiting lines.new.waiting result
-        (ended lines.old.prefix.now (lines_of (game_tokens game.now.state))) }
+    ensures added { Adds (W.seen lines.old.writer.now) (W.seen lines.new.writer.now) lines.old.waiting
+        lines.new.waiting result (ended lines.old.prefix.now (lines_of (game_tokens game.now.state))) }
     ensures prefix { lines.new.prefix.now ≡ lines.old.prefix.now }
+    ensures writer { lines.new.writer.ghost_name ≡ lines.old.writer.ghost_name }
 {
-    put_moves(lines, writer, game, scratch)?;
-    lines.put_token(writer, outcome.text())?;
-    lines.end_line(writer)
+    put_moves(lines, game, scratch)?;
+    lines.put_token(outcome.text())?;
+    lines.end_line()
 }
 
 // Writes the numbers and the SAN of all moves of the game; the board `scratch` is set to its start and plays them.
 fn put_moves<B: Board, W: Output>(
-    lines: &mut LineWriter<'_>,
-    writer: &mut W,
+    lines: &mut LineWriter<'_, '_, W>,
     game: &Game<B>,
     scratch: &mut B,
 ) -> Result<(), WriteFault>
-    ensures added { Adds (W.seen writer.old) (W.seen writer.new) lines.old.waiting lines.new.waiting result
-        (placed_all lines.old.prefix.now lines.old.column
-        (move_tokens true game.now.state.start game.now.state.moves)) }
+    ensures added { Adds (W.seen lines.old.writer.now) (W.seen lines.new.writer.now) lines.old.waiting
+        lines.new.waiting result (placed_all lines.old.prefix.now lines.old.column (move_tokens true
+        game.now.state.start game.now.state.moves)) }
     ensures column { OnOk result
         (lines.new.column
         ≡ column_after_all lines.old.column (move_tokens true game.now.state.start game.now.state.moves)) }
     ensures prefix { lines.new.prefix.now ≡ lines.old.prefix.now }
+    ensures writer { lines.new.writer.ghost_name ≡ lines.old.writer.ghost_name }
     ensures playable { IsPlayable game.now }
 {
     // The prover wants this fact: each move of a game is legal in the position before it.
     let _playable = game.position();
     scratch.set(&game.start());
     for ply in 0..game.ply() {
-        put_move(lines, writer, scratch, game.move_at(ply), ply == 0)?;
+        put_move(lines, scratch, game.move_at(ply), ply == 0)?;
     }
     Ok(())
 }
@@ -269,27 +266,28 @@ fn put_moves<B: Board, W: Output>(
 // Writes the legal move `m` of the board's position, with its number if one is due, and makes it on the board, which
 // stays where it is if writing fails; `is_first`: it is the game's first.
 fn put_move<B: Board, W: Output>(
-    lines: &mut LineWriter<'_>,
-    writer: &mut W,
+    lines: &mut LineWriter<'_, '_, W>,
     board: &mut B,
     m: Move,
     is_first: bool,
 ) -> Result<(), WriteFault>
     requires { IsTrue (is_legal (B.position board.old) m) }
-    ensures added { Adds (W.seen writer.old) (W.seen writer.new) lines.old.waiting lines.new.waiting result
-        (placed_all lines.old.prefix.now lines.old.column (tokens_of_move is_first (B.position board.old) m)) }
+    ensures added { Adds (W.seen lines.old.writer.now) (W.seen lines.new.writer.now) lines.old.waiting
+        lines.new.waiting result (placed_all lines.old.prefix.now lines.old.column (tokens_of_move is_first
+        (B.position board.old) m)) }
     ensures column { OnOk result
         (lines.new.column ≡ column_after_all lines.old.column (tokens_of_move is_first (B.position board.old) m)) }
     ensures prefix { lines.new.prefix.now ≡ lines.old.prefix.now }
+    ensures writer { lines.new.writer.ghost_name ≡ lines.old.writer.ghost_name }
     ensures position { OnOk result (B.position board.new ≡ after (B.position board.old) m) }
     ensures kept { OnErr result (B.position board.new ≡ B.position board.old) }
 {
     // The prover wants this law: the SAN of a legal move is short enough for a line.
     san_is_a_word();
-    put_number(lines, writer, board.setup(), is_first)?;
+    put_number(lines, board.setup(), is_first)?;
     let again = m;
     let (text, saved) = make_san(board, m);
-    match lines.put_token(writer, text.as_slice()) {
+    match lines.put_token(text.as_slice()) {
         Ok(()) => Ok(()),
         Err(fault) => {
             board.take_back(again, saved);
@@ -301,23 +299,24 @@ fn put_move<B: Board, W: Output>(
 // Writes the number before a move in the position `setup`: `12.` before each of White's, and `12...` if the game's
 // first move is Black's.
 fn put_number<W: Output>(
-    lines: &mut LineWriter<'_>,
-    writer: &mut W,
+    lines: &mut LineWriter<'_, '_, W>,
     setup: &Setup,
     is_first: bool,
 ) -> Result<(), WriteFault>
-    ensures added { Adds (W.seen writer.old) (W.seen writer.new) lines.old.waiting lines.new.waiting result
-        (placed_all lines.old.prefix.now lines.old.column (number_token setup.now.side is_first setup.now.fullmove)) }
+    ensures added { Adds (W.seen lines.old.writer.now) (W.seen lines.new.writer.now) lines.old.waiting
+        lines.new.waiting result (placed_all lines.old.prefix.now lines.old.column (number_token setup.now.side
+        is_first setup.now.fullmove)) }
     ensures column { lines.new.column
         ≡ column_after_all lines.old.column (number_token setup.now.side is_first setup.now.fullmove) }
     ensures prefix { lines.new.prefix.now ≡ lines.old.prefix.now }
+    ensures writer { lines.new.writer.ghost_name ≡ lines.old.writer.ghost_name }
 {
     let dots = match (setup.side, is_first) {
         (Colour::White, _) => b".".as_slice(),
         (Colour::Black, true) => b"...".as_slice(),
         (Colour::Black, false) => return Ok(()),
     };
-    lines.put_token(writer, number_text(setup.fullmove, dots).as_slice())
+    lines.put_token(number_text(setup.fullmove, dots).as_slice())
 }
 
 // A number with dots after it, such as `12.` or `12...`.

@@ -105,3 +105,9 @@ aims_at (Some t) c a = in_shape (shape.Pawn c) a t
 -- a pawn of the side on move on square a would promote by its next move, or attacks the en passant target
 abbrev pub goes_specially : Setup → ℕ → Bool
 goes_specially p a = aims_at p.target p.side a || (rank a == pawn_rank (other p.side))
+
+-- the piece on a is free, and no pawn that would promote by its next move or attacks the en passant target: so each
+-- square to which it goes gives it one legal move
+pub record GoesFreely (p : Setup) (a : ℕ) : Type 0 where
+  pub free : IsFree p a
+  pub ordinary : (is_man p.side Pawn (man_at p.men a) && goes_specially p a) ≡ false

@@ -22,5 +22,6 @@ loop-tag-preserved g c =
           l.invariant.prefix (c.as_slice.ensures.value ∙ c.tag_line-line.ensures) c.tag-item.is l.invariant.added
           c.in_ok-put_line.ensures.added;
       prefix = c.in_ok-put_line.ensures.prefix ∙ l.invariant.prefix;
+      writer = c.in_ok-put_line.ensures.writer ∙ l.invariant.writer;
       column = c.in_ok-put_line.ensures.column ∙ l.invariant.column;
     }

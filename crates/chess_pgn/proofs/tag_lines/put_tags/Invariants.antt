@@ -6,8 +6,9 @@ use Rattle.chess_pgn.proofs.tag_lines.put_tags.Given as goal
 
 abbrev pub invariant-loop-tag : goal.invariant-loop-tag
 invariant-loop-tag g l = let seen = g.W.Output.seen in record {
-  added : TookSome (seen l.fn.writer) (seen l.writer) l.fn.lines.waiting l.lines.waiting
+  added : TookSome (seen l.fn.lines.writer.now) (seen l.lines.writer.now) l.fn.lines.waiting l.lines.waiting
       (ended l.fn.lines.prefix.now (tag_lines_of (take l.tag-index l.tags)));
   prefix : l.lines.prefix.now ≡ l.fn.lines.prefix.now;
+  writer : l.lines.writer.ghost_name ≡ l.fn.lines.writer.ghost_name;
   column : l.lines.column ≡ l.fn.lines.column;
 }

@@ -10,9 +10,10 @@ invariant-loop-ply g l =
     let seen = g.W.Output.seen in
     let tokens = move_tokens true l.game.state.start (take l.ply l.game.state.moves) in
     record {
-      added : TookSome (seen l.fn.writer) (seen l.writer) l.fn.lines.waiting l.lines.waiting
+      added : TookSome (seen l.fn.lines.writer.now) (seen l.lines.writer.now) l.fn.lines.waiting l.lines.waiting
           (placed_all l.fn.lines.prefix.now l.fn.lines.column tokens);
       column : l.lines.column ≡ column_after_all l.fn.lines.column tokens;
       prefix : l.lines.prefix.now ≡ l.fn.lines.prefix.now;
+      writer : l.lines.writer.ghost_name ≡ l.fn.lines.writer.ghost_name;
       position : g.B.Board.position l.scratch ≡ position_after l.game.state.start (take l.ply l.game.state.moves);
     }

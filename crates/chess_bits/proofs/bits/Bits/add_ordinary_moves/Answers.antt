@@ -11,9 +11,9 @@ add_moves_onto-requires c =
     let p = c.args.self.now in
     let low : c.args.from < 64 = subst (λ n. n < 64) c.number-start.ensures.value c.number-start.ensures.in_range in
     let sound : IsSound p = rw (← c.self.view_is) c.self.invariant.0 in
-    let ordinary = ordinary_from p c.args.from sound low c.requires.ordinary in
+    let ordinary = ordinary_from p c.args.from sound low c.requires.free.ordinary in
     let alone = rw c.self.view_is at c.king-king.ensures.alone in
-    let counted = free_counted p c.args.from c.king-king.result c.targets.result sound c.requires.free ordinary low
+    let counted = free_counted p c.args.from c.king-king.result c.targets.result sound c.requires.free.free ordinary low
     c.king-king.ensures.in_range alone c.targets.ensures.sound c.targets.ensures.complete in
     omega (arith, counted, c.requires.room)
 
@@ -22,9 +22,9 @@ returns c =
     let p = c.args.self.now in
     let low : c.args.from < 64 = subst (λ n. n < 64) c.number-start.ensures.value c.number-start.ensures.in_range in
     let sound : IsSound p = rw (← c.self.view_is) c.self.invariant.0 in
-    let ordinary = ordinary_from p c.args.from sound low c.requires.ordinary in
+    let ordinary = ordinary_from p c.args.from sound low c.requires.free.ordinary in
     let alone = rw c.self.view_is at c.king-king.ensures.alone in
     c.add_moves_onto.ensures
     ∙ ap (λ (ms : List Move). c.args.list.now.items ++ ms)
-    (sym (free_listed p c.args.from c.king-king.result c.targets.result sound c.requires.free ordinary low
+    (sym (free_listed p c.args.from c.king-king.result c.targets.result sound c.requires.free.free ordinary low
     c.king-king.ensures.in_range alone c.targets.ensures.sound c.targets.ensures.complete))

@@ -7,8 +7,8 @@ use Rattle.chess_bits.proofs.Counted.{some_fit}
 use Rattle.chess_bits.proofs.Listed.{from_men}
 use Rattle.chess_bits.proofs.bits.Bits.count.Goals as goal
 
-pub count_unfree-others-requires-clause-few : goal.count_unfree-others-requires-clause-few
-count_unfree-others-requires-clause-few c = some_fit c.args.self.now c.count_kind-queens.new.men
+pub count_each-others-requires-clause-few : goal.count_each-others-requires-clause-few
+count_each-others-requires-clause-few c = some_fit c.args.self.now c.count_kind-queens.new.men
     c.setup-sound.ensures.sound
 
 pub overflow_add-result : goal.overflow_add-result

@@ -12,7 +12,8 @@ count_officers-requires-clause-few c = some_fit c.args.self.now c.intersection-t
 
 pub returns-then-is_pawn : goal.returns-then-is_pawn
 returns-then-is_pawn c =
-    ap (λ n. n + length (flat_map (λ a. moves_from c.args.self.now a) (members c.without.result))) c.count_pawns.ensures
+    ap (λ n. n + length (flat_map (λ a. moves_from c.args.self.now a) (members c.without.result)))
+    c.count_ordinary_pawns.ensures
     ∙ split (λ a. moves_from c.args.self.now a) c.args.men.now c.intersection-chosen.result c.intersection-taken.result
     c.without.result c.intersection-taken.ensures c.without.ensures
 

@@ -1,11 +1,16 @@
-use Rattle.std.proofs.Common.{◌≡◌, true}
-use Rattle.chess_bits.specs.ties.Goes.{goes}
-use Rattle.chess_bits.proofs.Listed.{from_targets, each_member}
+-- The moves to all targets are those from the square (from_targets of Listed), and there are some if there are to one of
+-- the targets (any_of of Counted).
+use Rattle.std.proofs.Common.{nat_lt, length, ap, ◌∙◌, rules}
+use Rattle.chess_moves.specs.shared.MovesBySquares.{moves_between}
+use Rattle.chess_moves.specs.Sets.{members}
+use Rattle.chess_bits.proofs.Counted.{any_of}
+use Rattle.chess_bits.proofs.Listed.{from_targets}
 use Rattle.chess_bits.proofs.bits.Bits.has_move_from.Goals as goal
 
-pub loop-to-init : goal.loop-to-init
-loop-to-init c = record {
-  moves = from_targets c.args.self.now c.args.from c.targets-targets.result c.targets-targets.ensures.complete;
-  goes = each_member c.targets-targets.result (λ b. goes c.args.self.now c.args.from b ≡ true)
-      c.targets-targets.ensures.sound;
-}
+pub returns : goal.returns
+returns c =
+    let p = c.args.self.now in
+    let a = c.args.from in
+    c.any.ensures (λ b. nat_lt 0 (length (moves_between p a b))) (λ k low on r e. search rules)
+    ∙ any_of (λ b. moves_between p a b) (members c.targets.result)
+    ∙ ap (λ ms. nat_lt 0 (length ms)) (from_targets p a c.targets.result c.targets.ensures.complete)

@@ -10,31 +10,31 @@ use Rattle.chess_bits.proofs.bits.Bits.shield.Goals as goal
 
 pub returns-then-is_empty : goal.returns-then-is_empty
 returns-then-is_empty c = λ a low clear.
-    none_hides c.args.self.now.men c.hiding-hiding.result c.args.from c.args.king c.hiding-hiding.ensures
-    (λ x l. none_there c.hiding-hiding.result x (sym c.is_empty.ensures.zero ∙ c.if-is_empty.true))
+    none_hides c.args.self.now.men c.blockers-blockers.result c.args.from c.args.king c.blockers-blockers.ensures
+    (λ x l. none_there c.blockers-blockers.result x (sym c.is_empty.ensures.zero ∙ c.if-is_empty.true))
 
 pub returns-then-is_empty-2 : goal.returns-then-is_empty-2
 returns-then-is_empty-2 c =
     let others : (x : ℕ) → x < 64 → contains c.without-others.result x
-    ≡ (contains c.hiding-hiding.result x && not (x == c.first-shield.result)) =
+    ≡ (contains c.blockers-blockers.result x && not (x == c.first-shield.result)) =
     λ x l. c.without-others.ensures x l
-    ∙ ap (λ t. contains c.hiding-hiding.result x && not t) (c.single.ensures.value x) in
-    one_hides c.args.self.now c.hiding-hiding.result c.without-others.result c.first-shield.result c.args.from c.args.king
-    c.setup-sound.ensures.sound.board c.first-shield.ensures.in_range c.hiding-hiding.ensures
+    ∙ ap (λ t. contains c.blockers-blockers.result x && not t) (c.single.ensures.value x) in
+    one_hides c.args.self.now c.blockers-blockers.result c.without-others.result c.first-shield.result c.args.from c.args.king
+    c.setup-sound.ensures.sound.board c.first-shield.ensures.in_range c.blockers-blockers.ensures
     c.first-shield.ensures.nearest.here others
     (λ x l. none_there c.without-others.result x (sym c.is_empty-2.ensures.zero ∙ c.if-is_empty-2.true))
 
 pub returns-else-is_empty-2 : goal.returns-else-is_empty-2
 returns-else-is_empty-2 c = λ a low clear.
     let others : (x : ℕ) → x < 64 → contains c.without-others.result x
-    ≡ (contains c.hiding-hiding.result x && not (x == c.first-shield.result)) =
+    ≡ (contains c.blockers-blockers.result x && not (x == c.first-shield.result)) =
     λ x l. c.without-others.ensures x l
-    ∙ ap (λ t. contains c.hiding-hiding.result x && not t) (c.single.ensures.value x) in
+    ∙ ap (λ t. contains c.blockers-blockers.result x && not t) (c.single.ensures.value x) in
     absurd
     (both_ways c.is_empty-2.result c.if-is_empty-2.false
     (c.is_empty-2.ensures.none
     ∙ ap not
     (some_square-none (λ x. contains c.without-others.result x)
-    (many_hide c.args.self.now c.hiding-hiding.result c.without-others.result c.first-shield.result a c.args.from
-    c.args.king c.setup-sound.ensures.sound.board c.first-shield.ensures.in_range low c.hiding-hiding.ensures
+    (many_hide c.args.self.now c.blockers-blockers.result c.without-others.result c.first-shield.result a c.args.from
+    c.args.king c.setup-sound.ensures.sound.board c.first-shield.ensures.in_range low c.blockers-blockers.ensures
     c.first-shield.ensures.nearest.here others clear))))

@@ -1,18 +1,16 @@
 -- The first square that is left is of the set, and what the test says of it is whether it is chosen; nothing changes for
 -- the others.
 use mathlib.Core.Bool.{and-false, and-true, or-false}
-use Rattle.std.proofs.Common.{◌≡◌, ℕ, ◌<◌, ◌==◌, ◌&&◌, ◌||◌, Bool, inl, inr, true, false, refl, sym, ap, subst, ◌∙◌}
+use Rattle.std.proofs.Common.{◌≡◌, ℕ, ◌<◌, ◌==◌, ◌&&◌, ◌||◌, Bool, inl, inr, false, refl, sym, ap, subst, ◌∙◌}
 use Rattle.std.proofs.lemmas.Bool.{both_ways, cases_Bool, eq-eqb, eqb-true, false_from_ne_true, or_right}
 use Rattle.chess_moves.specs.Sets.{contains}
 use Rattle.chess_bits.proofs.Attackers.{eq_back}
-use Rattle.chess_bits.proofs.Listed.{each_first, each_member}
-use Rattle.chess_bits.proofs.Starts.{first_gone, none_left, taken_first}
-use Rattle.chess_bits.proofs.filter.filter.Goals as goal
+use Rattle.chess_bits.proofs.Starts.{first_gone, first_in, none_left, taken_first}
+use Rattle.chess_bits.proofs.squares.filter.Goals as goal
 
 pub test-passed-requires : goal.test-passed-requires
 test-passed-requires g c =
-    let here = each_first (λ k. (k < 64) × (contains c.loop-square.rest k ≡ true)) _ c.in-Some.square _ c.in-Some.ensures
-    (each_member c.loop-square.rest (λ k. (k < 64) × (contains c.loop-square.rest k ≡ true)) (λ k low on. (low, on))) in
+    let here = first_in c.loop-square.rest c.take_first.new.self c.in-Some.square c.in-Some.ensures in
     c.requires c.in-Some.square here.0 (c.loop-square.invariant.within c.in-Some.square here.0 here.1)
 
 -- whether square k is chosen after square s was tested
@@ -25,8 +23,7 @@ loop-square-preserved g c =
     let s = c.in-Some.square in
     let left = c.take_first.new.self in
     let inv = c.loop-square.invariant in
-    let here = each_first (λ k. (k < 64) × (contains c.loop-square.rest k ≡ true)) _ s _ c.in-Some.ensures
-    (each_member c.loop-square.rest (λ k. (k < 64) × (contains c.loop-square.rest k ≡ true)) (λ k low on. (low, on))) in
+    let here = first_in c.loop-square.rest left s c.in-Some.ensures in
     let rest : (k : ℕ) → k < 64 → contains c.loop-square.rest k ≡ ((s == k) || contains left k) =
     λ k low. taken_first c.loop-square.rest left s k low c.in-Some.ensures in
     let gone : contains left s ≡ false = first_gone c.loop-square.rest left s here.0 c.in-Some.ensures in

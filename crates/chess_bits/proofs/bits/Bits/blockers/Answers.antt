@@ -2,7 +2,7 @@
 use Rattle.std.proofs.Common.{◌<◌, refl, subst, ◌∙◌}
 use Rattle.chess_bits.proofs.BetweenSquares.{by_line}
 use Rattle.chess_bits.proofs.Pins.{aims_on_line}
-use Rattle.chess_bits.proofs.bits.Bits.hiding.Goals as goal
+use Rattle.chess_bits.proofs.bits.Bits.blockers.Goals as goal
 
 pub returns : goal.returns
 returns c = λ k low.

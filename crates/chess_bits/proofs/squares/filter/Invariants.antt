@@ -1,6 +1,6 @@
 use Rattle.std.proofs.Common.{◌≡◌, ℕ, ◌<◌, true, false, length}
 use Rattle.chess_moves.specs.Sets.{contains, members}
-use Rattle.chess_bits.proofs.filter.filter.Given as goal
+use Rattle.chess_bits.proofs.squares.filter.Given as goal
 
 -- the squares that are left are of the set and not chosen yet; what was asked of the others is known
 abbrev pub invariant-loop-square : goal.invariant-loop-square

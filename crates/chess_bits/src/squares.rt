@@ -1,7 +1,8 @@
-//! The squares of a set that pass a test.
+//! The squares of a set one by one: those that pass a test, and whether there is one.
 
-ghost use Rattle.std.specs.Prelude.{◌≡◌, ℕ, ◌<◌, ◌==◌, ◌&&◌, true, false};
-ghost use Rattle.chess_moves.specs.Sets.{contains};
+ghost use Rattle.std.specs.Prelude.{◌≡◌, ℕ, Bool, ◌<◌, ◌==◌, ◌&&◌, true, false};
+ghost use Rattle.std.specs.List.{list_any};
+ghost use Rattle.chess_moves.specs.Sets.{contains, members};
 
 use chess_base::Square;
 use chess_moves::SquareSet;
@@ -32,4 +33,21 @@ pub(crate) fn filter<F: Fn(Square) -> bool>(set: SquareSet, test: F) -> SquareSe
         chosen = chosen.union(single_if(passed, square));
     }
     chosen
+}
+
+/// Whether some square of the set passes the test. No square after the first one that passes is tested.
+#[inline(always)]
+pub(crate) fn any<F: Fn(Square) -> bool>(set: SquareSet, test: F) -> bool
+    requires { (k : ℕ) → k < 64 → contains set k ≡ true → F.pre test k }
+    ensures { (q : ℕ → Bool)
+        → ((k : ℕ) → k < 64 → contains set k ≡ true → (r : Bool) → F.post test k r → r ≡ q k)
+        → result ≡ list_any q (members set) }
+{
+    let mut rest = set;
+    while let Some(square) = rest.take_first() {
+        if test(square) {
+            return true;
+        }
+    }
+    false
 }

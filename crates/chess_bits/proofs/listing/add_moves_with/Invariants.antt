@@ -1,6 +1,6 @@
 use Rattle.std.proofs.Common.{◌≡◌, ◌++◌, map, take}
 use Rattle.chess_base.specs.MoveList.{move_of}
-use Rattle.chess_bits.proofs.listing.add_promotions.Given as goal
+use Rattle.chess_bits.proofs.listing.add_moves_with.Given as goal
 
 abbrev pub invariant-loop-promotion : goal.invariant-loop-promotion
 invariant-loop-promotion l = l.list.items ≡ l.initial.list.items ++ map (move_of l.from l.to)

@@ -1,7 +1,7 @@
 use Rattle.std.proofs.Common.{lit<}
 use Rattle.chess_base.specs.MoveList.{move_of}
 use Rattle.chess_bits.proofs.Listed.{room_for_each}
-use Rattle.chess_bits.proofs.listing.add_promotions.Goals as goal
+use Rattle.chess_bits.proofs.listing.add_moves_with.Goals as goal
 
 pub push-requires : goal.push-requires
 push-requires c = (
