@@ -170,7 +170,7 @@ only_reports_in strict piece reports h = by_bytes piece.bytes h
     by_bytes (Some text) k = only_reports strict piece.offset text reports k
 
 each_piece : (strict : Bool) (ps : List Piece)
-    → AllZip (λ piece part. AreReportsIn strict piece part) ps (map (reports_in strict) ps)
+    → AllZip (AreReportsIn strict) ps (map (reports_in strict) ps)
 each_piece strict [] = tt
 each_piece strict (p ∷ ps) = (reports_are_in strict p, each_piece strict ps)
 
@@ -180,7 +180,7 @@ joined strict [] = refl
 joined strict (p ∷ ps) = ap (λ rest. reports_in strict p ++ rest) (joined strict ps)
 
 only_pieces : (strict : Bool) (ps : List Piece) (parts : List (List Report))
-    → AllZip (λ piece part. AreReportsIn strict piece part) ps parts
+    → AllZip (AreReportsIn strict) ps parts
     → flat_map (λ part. part) parts ≡ flat_map (reports_in strict) ps
 only_pieces strict [] [] h = refl
 only_pieces strict [] (part ∷ parts) h = absurd h

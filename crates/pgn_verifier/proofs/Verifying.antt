@@ -66,7 +66,7 @@ text_verified E options r r' w w' text verdict (read, few) (is, sent) = (
   all_of (text_lines options text),
   gave r r' text true read,
   took_all w w' (text_lines options text) sent,
-  ((refl, refl), few, reports_on options.strict 0 text, are_reports options.strict 0 text, refl, is),
+  ((refl, refl), few, (reports_on options.strict 0 text, are_reports options.strict 0 text, refl, is)),
 )
 
 pub text_broke_off : (options : VerifyOptions) (r r' : InputState) (w w' : OutputState) (text : List ℕ)
@@ -77,7 +77,7 @@ text_broke_off options r r' w w' text (read, few) (start, begins, failed) = (
   broke [] start,
   gave r r' text true read,
   took_some w w' start failed,
-  ((refl, refl), few, reports_on options.strict 0 text, are_reports options.strict 0 text, (refl, begins, refl)),
+  ((refl, refl), few, (reports_on options.strict 0 text, are_reports options.strict 0 text, (refl, begins, refl))),
 )
 
 -- ---- a collection
@@ -94,10 +94,7 @@ collection_verified options r r' w w' text verdict read sent is = (
   took_all w w' (collection_written options true text) sent,
   (
     (refl, refl),
-    collection_reports options.strict true text,
-    are_collection_reports options.strict true text,
-    refl,
-    is,
+    (collection_reports options.strict true text, are_collection_reports options.strict true text, refl, is),
   ),
 )
 
@@ -112,9 +109,11 @@ collection_broke_off options r r' w w' ended text read (start, begins, failed) =
   took_some w w' start failed,
   (
     refl,
-    collection_reports options.strict ended text,
-    are_collection_reports options.strict ended text,
-    (refl, begins, refl),
+    (
+      collection_reports options.strict ended text,
+      are_collection_reports options.strict ended text,
+      (refl, begins, refl),
+    ),
   ),
 )
 
@@ -133,7 +132,7 @@ reading_stopped options r r' w w' text fault cause took = by_fault fault cause
 
     part_written : (failed : Bool) → WritesPart options (came r' text false failed) (all_unflushed written)
     part_written failed =
-        (refl, collection_reports options.strict false text, are_collection_reports options.strict false text, refl)
+        (refl, (collection_reports options.strict false text, are_collection_reports options.strict false text, refl))
 
     by_fault : (fault : PieceFault) → IsCause r r' text fault
         → Ran (VerifiesCollection options (Err (of_piece fault))) (record { input = r; output = w })

@@ -14,7 +14,7 @@ use Rattle.pgn_verifier.specs.Reports.{Report, AreReportsIn, report_lines, count
 -- if the text is all of it (`ended`), else on all but the last. `strict`: results are compared
 abbrev pub AreCollectionReports : Bool → Bool → List ℕ → List Report → Type 0
 AreCollectionReports strict ended text reports = (by_piece : List (List Report))
-    × AllZip (λ piece part. AreReportsIn strict piece part) (pieces ended text) by_piece × (reports ≡ flat_map (λ part. part) by_piece)
+    × AllZip (AreReportsIn strict) (pieces ended text) by_piece × (reports ≡ flat_map (λ part. part) by_piece)
 
 -- all that is written of a collection whose games have these reports: their lines, numbered from 1, and if all of it
 -- was read (`ended`) the line of counts

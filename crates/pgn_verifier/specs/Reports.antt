@@ -1,5 +1,5 @@
 -- The reports on the games of a text and of pieces, their lines and their counts.
-use Rattle.std.specs.Prelude.{◌≡◌, ℕ, ◌+◌, ◌==◌, Bool, if◌then◌else◌, List, [], ◌∷◌, ◌++◌, length, drop, codes, decimal, Option, Some, None, Result, Ok, Err}
+use Rattle.std.specs.Prelude.{◌≡◌, ℕ, ◌+◌, ◌==◌, Bool, if◌then◌else◌, List, [], ◌∷◌, ◌++◌, length, drop, codes, decimal, Option, Some, None, Ok, Err}
 use Rattle.std.specs.List.{fold}
 use Rattle.std.specs.Option.{option_map_or}
 use Rattle.chess_base.specs.Letters.{new_line}
@@ -30,9 +30,9 @@ pub data Report : Type 0 where
 
 -- ---- the reports on the games of a text
 
--- these are the reports on the games of a text from its offset `at` on: no game is left; or one is, and then come the
--- reports from its end on; or its fault is the last. The text begins at the offset `start` of the input; `strict`:
--- results are compared
+-- these are the reports on the games of a text from its offset `at` on: none, if no game is left; or that on a game
+-- without a fault, and then those from its end on; or that on a fault, which is the last. The text begins at the offset
+-- `start` of the input; `strict`: results are compared
 pub data AreReports (strict : Bool) (start : ℕ) (text : List ℕ) : ℕ → List Report → Type 0 where
   none_left : {at : ℕ} {s : State} → IsJudged strict text at s (Ok None) → AreReports strict start text at []
   next_game : {at : ℕ} {s : State} {end : PgnEnd} {reports : List Report} → IsJudged strict text at s (Ok (Some end))
