@@ -16,7 +16,7 @@ use Rattle.chess_match.specs.laws.Machine.{kept_match, phase_of, view}
 use Rattle.chess_match.specs.Events.{Event, Line, Opened, OutputEnds, FailsToRead, FailsToWrite, Seat}
 use Rattle.chess_match.specs.Rules.{Rules}
 use Rattle.chess_base.specs.Options.{list_if}
-use Rattle.chess_match.specs.Lines.{SentLine, Says, answers_to, ping}
+use Rattle.chess_match.specs.Lines.{SentLine, Says, answers_to, ping, setup_lines}
 use Rattle.chess_match.specs.Reasons.{is_unwritten}
 use Rattle.chess_match.specs.laws.Blocks.{block, lines_on_entering, is_same_phase, end_lines, last_move_sent, clock_lines, opening_lines}
 use Rattle.chess_match.specs.laws.Transcript.{is_on, reads, fits_next}
@@ -31,7 +31,7 @@ use Rattle.chess_match.proofs.KeptMatches.{plays_kept, with_items}
 use Rattle.chess_match.proofs.Outcomes.{LineCases, TurnCases, and_first, answering, counting, ending, entering, line_cases, offering, playing, deciding}
 use Rattle.chess_match.specs.ties.SameEffects.{owed_in, Agrees, EventsAgree}
 use Rattle.chess_match.specs.Acts.{is_over}
-use Rattle.chess_match.specs.Effects.{Match, Phase, Handshake, Over, Effect, beginning, effect, farewell, ends, begins_turn, opening, moved, ping_number}
+use Rattle.chess_match.specs.Effects.{Match, Phase, Handshake, Setup, Over, Effect, beginning, effect, farewell, handshake_lines, ends, begins_turn, opening, moved, ping_number, sends_nothing}
 
 -- ---- the match after it
 
@@ -198,21 +198,26 @@ line_given r S kind moment m h u =
     let met : machine.Match = machine.take_items S items m in
     let w : met.white ≡ (machine.take_items S items m).white = refl in
     let b : met.black ≡ (machine.take_items S items m).black = refl in
+    let frame = seat_frame S (λ s. record s { items = s.items ++ items }) m in
     let none : (p : MachinePhase) → m.phase ≡ p → owed_in p ≡ None → met.unsent_to ≡ None =
-    λ p e o. (seat_frame S (λ s. record s { items = s.items ++ items }) m).0 ∙ u ∙ ap owed_in e ∙ o in
+    λ p e o. frame.0 ∙ u ∙ ap owed_in e ∙ o in
     record {
-      handshake_ends = λ p d. answers_given r S items m (machine.over (Faulted S NoDone) met) _ false w b (rw p refl)
+      handshake_ends = λ p d. answers_given r S items m (machine.over (Faulted S NoDone) met)
+          (ends r (Faulted S NoDone) (with_items S items m)) false w b (rw p refl)
           (items_end r S items m.count m p u (Faulted S NoDone)) (λ on. cc);
-      handshake_counts = λ p d few. answers_given r S items m (record met { count = m.count + 1 }) _ true w b
-          (rw ((seat_frame S (λ s. record s { items = s.items ++ items }) m).1, p) (same_colour-self S)) (λ X. refl)
-          (λ on. none (phases.Handshake S) p refl
-          ∙ sym (ap owed_in ((seat_frame S (λ s. record s { items = s.items ++ items }) m).1 ∙ p)));
-      handshake_next = λ p s d. answers_given r S items m (machine.enter (phases.Handshake Black) met) _ false w b
-          (rw p refl) (λ X. refl) (λ on. none (phases.Handshake White) p refl);
-      handshake_judged = λ p s d c f mild. answers_given r S items m (machine.enter (phases.Over (Faulted c f)) met) _
-          false w b (rw p refl) (items_end r S items 0 m (rw s p) u (Faulted c f)) (λ on. cc);
-      handshake_done = λ p s d. answers_given r S items m (machine.enter (phases.Setup White) met) _ false w b
-          (rw p refl) (λ X. refl) (λ on. none (phases.Handshake Black) p refl);
+      handshake_counts = λ p d few. answers_given r S items m (record met { count = m.count + 1 })
+          (sends_nothing (record (with_items S items m) { count = m.count + 1 })) true w b
+          (rw (frame.1, p) (same_colour-self S)) (λ X. refl)
+          (λ on. none (phases.Handshake S) p refl ∙ sym (ap owed_in (frame.1 ∙ p)));
+      handshake_next = λ p s d. answers_given r S items m (machine.enter (phases.Handshake Black) met)
+          (entering Black handshake_lines (Handshake Black) (with_items S items m)) false w b (rw p refl) (λ X. refl)
+          (λ on. none (phases.Handshake White) p refl);
+      handshake_judged = λ p s d c f mild. answers_given r S items m (machine.enter (phases.Over (Faulted c f)) met)
+          (ends r (Faulted c f) (record (with_items S items m) { count = 0 })) false w b (rw p refl)
+          (items_end r S items 0 m (rw s p) u (Faulted c f)) (λ on. cc);
+      handshake_done = λ p s d. answers_given r S items m (machine.enter (phases.Setup White) met)
+          (entering White (setup_lines r) (Setup White) (with_items S items m)) false w b (rw p refl) (λ X. refl)
+          (λ on. none (phases.Handshake Black) p refl);
       setup_ends = λ p reason mild. over_given r m reason (reads_on m.phase S h) u;
       setup_counts = λ p pong few. (
         λ X. sym (plain_block r m (record m { count = m.count + 1 }) true refl refl (reads_stays m.phase S h) X),
