@@ -182,14 +182,22 @@ answers_given r c items m m' e same w b d to o = (
 
 -- ---- a line
 
--- the match with the items of a handshake, before the end of which nobody is to be sent a move
-items_end : (r : Rules) (c : Colour) (items : List Item) (n : ℕ) (m : machine.Match) → m.phase ≡ phases.Handshake c
+-- the end of a match with the items of a handshake, before which nobody is to be sent a move; and of one that is judged
+items_end : (r : Rules) (c : Colour) (items : List Item) (m : machine.Match) → m.phase ≡ phases.Handshake c
     → m.unsent_to ≡ owed_in m.phase → (reason : Reason) (S : Colour)
-    → (ends r reason (record (with_items c items m) { count = n })).to S
-    ≡ lines_on_entering r (let m' = machine.take_items c items m in record m' { phase = phases.Over reason; count = n }) S
+    → (ends r reason (with_items c items m)).to S
+    ≡ lines_on_entering r (machine.over reason (machine.take_items c items m)) S
 unfolding end_lines last_move_sent
-items_end r White items n m p u reason S = grind (arith, p, u)
-items_end r Black items n m p u reason S = grind (arith, p, u)
+items_end r White items m p u reason S = grind (arith, p, u)
+items_end r Black items m p u reason S = grind (arith, p, u)
+
+judged_end : (r : Rules) (c : Colour) (items : List Item) (m : machine.Match) → m.phase ≡ phases.Handshake c
+    → m.unsent_to ≡ owed_in m.phase → (reason : Reason) (S : Colour)
+    → (ends r reason (record (with_items c items m) { count = 0 })).to S
+    ≡ lines_on_entering r (machine.enter (phases.Over reason) (machine.take_items c items m)) S
+unfolding end_lines last_move_sent
+judged_end r White items m p u reason S = grind (arith, p, u)
+judged_end r Black items m p u reason S = grind (arith, p, u)
 
 line_given : (r : Rules) (S : Colour) (kind : LineKind) (moment : ℕ) (m : machine.Match) → reads m.phase S ≡ true
     → m.unsent_to ≡ owed_in m.phase → LineCases r S kind moment m (Given r m)
@@ -204,7 +212,7 @@ line_given r S kind moment m h u =
     record {
       handshake_ends = λ p d. answers_given r S items m (machine.over (Faulted S NoDone) met)
           (ends r (Faulted S NoDone) (with_items S items m)) false w b (rw p refl)
-          (items_end r S items m.count m p u (Faulted S NoDone)) (λ on. cc);
+          (items_end r S items m p u (Faulted S NoDone)) (λ on. cc);
       handshake_counts = λ p d few. answers_given r S items m (record met { count = m.count + 1 })
           (sends_nothing (record (with_items S items m) { count = m.count + 1 })) true w b
           (rw (frame.1, p) (same_colour-self S)) (λ X. refl)
@@ -214,7 +222,7 @@ line_given r S kind moment m h u =
           (λ on. none (phases.Handshake White) p refl);
       handshake_judged = λ p s d c f mild. answers_given r S items m (machine.enter (phases.Over (Faulted c f)) met)
           (ends r (Faulted c f) (record (with_items S items m) { count = 0 })) false w b (rw p refl)
-          (items_end r S items 0 m (rw s p) u (Faulted c f)) (λ on. cc);
+          (judged_end r S items m (rw s p) u (Faulted c f)) (λ on. cc);
       handshake_done = λ p s d. answers_given r S items m (machine.enter (phases.Setup White) met)
           (entering White (setup_lines r) (Setup White) (with_items S items m)) false w b (rw p refl) (λ X. refl)
           (λ on. none (phases.Handshake Black) p refl);

@@ -1,8 +1,7 @@
 //! The table of separate devices.
 
-ghost use Rattle.std.specs.Prelude.{◌≡◌, ◌+◌, ◌∷◌, []};
+ghost use Rattle.std.specs.Prelude.{◌+◌, ◌∷◌, []};
 ghost use Rattle.chess_base.specs.ByColour.{by_colour, of_colour};
-ghost use Rattle.chess_base.specs.declared.man.Colour.{Colour};
 ghost use Rattle.text_lines.specs.Next.{work};
 ghost use Rattle.chess_match.specs.ties.AtDesk.{Did};
 
@@ -14,8 +13,7 @@ use byte_devices::{Input, Output, ReadFault, WriteFault, send};
 use chess_base::{ByColour, Colour};
 use text_lines::{Line, Lines};
 
-/// Both engines' pipes, the clock and the witness of a match, each on its own. Each step has clauses that say that all
-/// but its own device is as it was.
+/// Both engines' pipes, the clock and the witness of a match, each on its own.
 #[derive(Drop)]
 pub(crate) struct Desk<'a, 'b, 'c, 'd, 'e, 'f, R, W, M, L> {
     pub white_reader: &'a mut R,
@@ -42,10 +40,7 @@ impl<R: Input, W: Output, M: Moments, L: Witness> MatchTable
         work (R.seen d.white_reader.now) d.lines.white + work (R.seen d.black_reader.now) d.lines.black };
 
     // Sends this text by one call, and flushes.
-    fn send(&mut self, side: Colour, text: &[u8]) -> Result<(), WriteFault>
-        ensures white { side ≡ Colour.White → self.new ≡ (record self.old { white_writer = self.new.white_writer }) }
-        ensures black { side ≡ Colour.Black → self.new ≡ (record self.old { black_writer = self.new.black_writer }) }
-    {
+    fn send(&mut self, side: Colour, text: &[u8]) -> Result<(), WriteFault> {
         match side {
             Colour::White => send(self.white_writer, text),
             Colour::Black => send(self.black_writer, text),
@@ -57,16 +52,7 @@ impl<R: Input, W: Output, M: Moments, L: Witness> MatchTable
         &mut self,
         side: Colour,
         line: &mut Line<ENGINE_LINE_LEN>,
-    ) -> Result<bool, ReadFault>
-        ensures white { side ≡ Colour.White → self.new ≡ (record self.old {
-          white_reader = self.new.white_reader;
-          lines = record self.old.lines { white = self.new.lines.white };
-        }) }
-        ensures black { side ≡ Colour.Black → self.new ≡ (record self.old {
-          black_reader = self.new.black_reader;
-          lines = record self.old.lines { black = self.new.lines.black };
-        }) }
-    {
+    ) -> Result<bool, ReadFault> {
         match side {
             Colour::White => self.lines.white.read_line(self.white_reader, line),
             Colour::Black => self.lines.black.read_line(self.black_reader, line),
@@ -74,51 +60,37 @@ impl<R: Input, W: Output, M: Moments, L: Witness> MatchTable
     }
 
     // Reads the clock.
-    fn moment(&mut self, _side: Colour) -> u64
-        ensures others { self.new ≡ (record self.old { moments = self.new.moments }) }
-    {
+    fn moment(&mut self, _side: Colour) -> u64 {
         self.moments.now()
     }
 
     // Gives the witness the note of a line.
-    fn note_line(&mut self, side: Colour, line: &Line<ENGINE_LINE_LEN>, moment: u64)
-        ensures others { self.new ≡ (record self.old { witness = self.new.witness }) }
-    {
+    fn note_line(&mut self, side: Colour, line: &Line<ENGINE_LINE_LEN>, moment: u64) {
         self.witness.line(side, line, moment);
     }
 
     // Gives the witness the note of an opening.
-    fn note_opened(&mut self, side: Colour, moment: u64)
-        ensures others { self.new ≡ (record self.old { witness = self.new.witness }) }
-    {
+    fn note_opened(&mut self, side: Colour, moment: u64) {
         self.witness.opened(side, moment);
     }
 
     // Gives the witness the note of the end of an output.
-    fn note_output_ends(&mut self, side: Colour)
-        ensures others { self.new ≡ (record self.old { witness = self.new.witness }) }
-    {
+    fn note_output_ends(&mut self, side: Colour) {
         self.witness.output_ends(side);
     }
 
     // Gives the witness the note of a read that failed.
-    fn note_read_fails(&mut self, side: Colour)
-        ensures others { self.new ≡ (record self.old { witness = self.new.witness }) }
-    {
+    fn note_read_fails(&mut self, side: Colour) {
         self.witness.read_fails(side);
     }
 
     // Gives the witness the note of a write that failed.
-    fn note_write_fails(&mut self, side: Colour)
-        ensures others { self.new ≡ (record self.old { witness = self.new.witness }) }
-    {
+    fn note_write_fails(&mut self, side: Colour) {
         self.witness.write_fails(side);
     }
 
     // Gives the witness the note of what an engine is sent.
-    fn note_gives(&mut self, side: Colour, text: &[u8])
-        ensures others { self.new ≡ (record self.old { witness = self.new.witness }) }
-    {
+    fn note_gives(&mut self, side: Colour, text: &[u8]) {
         self.witness.gives(side, text);
     }
 }
