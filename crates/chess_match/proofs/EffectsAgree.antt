@@ -1,6 +1,6 @@
 -- The effects of events send what the code sends, kind by kind.
 use native.Mathlib.Omega.{arith}
-use Rattle.std.proofs.Common.{◌≡◌, ℕ, ◌+◌, ◌-◌, Bool, true, false, not, List, [], ◌∷◌, ◌++◌, refl, ap, sym, ◌∙◌, Option, None, Some}
+use Rattle.std.proofs.Common.{◌≡◌, ℕ, ◌+◌, ◌-◌, Bool, true, false, not, List, [], ◌∷◌, ◌++◌, refl, ap, sym, ◌∙◌, None}
 use Rattle.std.specs.Prelude.{if◌then◌else◌, codes}
 use Rattle.std.proofs.Math.Path.{fun_ext}
 use Rattle.chess_base.specs.declared.man.Colour.{Colour}
@@ -26,10 +26,10 @@ use Rattle.chess_match.specs.declared.reason.MatchFault.TheVariants.{Ended, NoDo
 use Rattle.chess_match.specs.declared.reason.Reason.{Reason}
 use Rattle.chess_match.specs.declared.reason.Reason.TheVariants.{Decided, Faulted}
 use Rattle.chess_match.specs.ties.Represents.{items_to, lines_if_to}
-use Rattle.chess_match.proofs.Going.{draw_to, items_block, items_phase, leaves, offered, offered_block, opens_at, plain_block, played_block, reads_on, reads_stays}
+use Rattle.chess_match.proofs.Going.{draw_to, items_block, leaves, offered_block, opens_at, plain_block, played_block, reads_on, reads_stays}
 use Rattle.chess_match.proofs.KeptMatches.{plays_kept, with_items}
-use Rattle.chess_match.proofs.Outcomes.{LineCases, TurnCases, and_first, answering, counting, ending, entering, line_cases, offering, playing, deciding}
-use Rattle.chess_match.specs.ties.SameEffects.{owed_in, Agrees, EventsAgree}
+use Rattle.chess_match.proofs.Outcomes.{LineCases, TurnCases, and_first, answering, ending, entering, line_cases, playing, deciding}
+use Rattle.chess_match.specs.ties.SameEffects.{owed_in, EventsAgree}
 use Rattle.chess_match.specs.Acts.{is_over}
 use Rattle.chess_match.specs.Effects.{Match, Phase, Handshake, Setup, Over, Effect, beginning, effect, farewell, handshake_lines, ends, begins_turn, opening, moved, ping_number, sends_nothing}
 

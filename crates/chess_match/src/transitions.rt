@@ -1,6 +1,6 @@
 //! Transitions that all phases share: to the end, into a phase, into a turn; and an ignored line.
 
-ghost use Rattle.std.specs.Prelude.{◌≡◌, ◌+◌, ◌<◌, ◌≤◌, List, [], true, false};
+ghost use Rattle.std.specs.Prelude.{◌≡◌, ◌+◌, ◌<◌, List, true, false};
 ghost use Rattle.chess_base.specs.declared.man.Move.{Move};
 ghost use Rattle.chess_match.specs.laws.Machine.{Match, over, enter, open_turn, kept_match, view};
 ghost use Rattle.chess_match.specs.Effects.{ignores};
