@@ -1,13 +1,14 @@
 -- The games of a match, one after another.
-use Rattle.std.proofs.Common.{◌≡◌, ◌∙◌, ◌<◌, ◌≤◌, ◌+◌, ℕ, Bool, true, false, List, [], ◌∷◌, ◌++◌, length, Bor, Some, None, Ok, Err, refl, sym, ap, subst, append-nil, length-append, arith, inr}
-use Rattle.std.specs.Prelude.{cond, count_by, flat_map, if◌then◌else◌}
+use Rattle.std.proofs.Common.{◌≡◌, ◌∙◌, ◌<◌, ◌≤◌, ◌+◌, ◌⊎◌, ℕ, Bool, true, false, List, [], ◌∷◌, ◌++◌, length, Bor, Option, Some, None, Ok, Err, Result, refl, sym, ap, subst, append-nil, append_assoc, length-append, arith, inl, inr}
+use Rattle.std.specs.Prelude.{IfErr, cond, count_by, flat_map, if◌then◌else◌}
 use Rattle.std.specs.List.{enumerate_from}
 use Rattle.std.proofs.lemmas.List.Concat.{flat_map-append}
 use Rattle.std.proofs.lemmas.List.FromFn.{length-enumerate_from}
 use Rattle.std.proofs.lemmas.List.Sums.{count_by-le-length, sum_by_push}
 use Rattle.match_runner.specs.declared.plan.GamesPlan.{GamesPlan}
-use Rattle.chess_base.specs.Men.{other}
+use Rattle.chess_base.specs.Men.{other, same_colour}
 use Rattle.chess_base.specs.declared.man.Colour.{Colour}
+use Rattle.chess_base.specs.declared.man.Colour.TheVariants.{White, Black}
 use Rattle.byte_devices.specs.Devices.{OutputState, Begins, BreaksOff, Sent}
 use Rattle.byte_devices.proofs.shared.Devices.{appends_more}
 use Rattle.chess_game.specs.Game.{Seen}
@@ -16,18 +17,19 @@ use Rattle.chess_game.specs.declared.results.Outcome.{Outcome}
 use Rattle.chess_game.specs.declared.results.Outcome.TheVariants.{Draw, Unfinished}
 use Rattle.chess_match.specs.Reasons.{comment_of, win_of}
 use Rattle.chess_match.specs.Run.{Flushed}
-use Rattle.chess_match.specs.Acts.{Act}
-use Rattle.chess_match.specs.ByDevice.{notes_given}
-use Rattle.chess_match.specs.Played.{World, PlayedBy}
-use Rattle.chess_match.specs.declared.reason.Reason.{Reason}
+use Rattle.chess_match.specs.Notes.{Note}
+use Rattle.chess_match.specs.Played.{World, PlayedNoting}
 use Rattle.chess_match.specs.declared.run.Setup.{Setup}
 use Rattle.chess_game.specs.declared.game.TheConstants.{MOST_MOVES}
 use Rattle.chess_match.specs.declared.reason.MatchFault.{MatchFault}
 use Rattle.chess_match.specs.declared.reason.Reason.TheVariants.{Faulted}
 use Rattle.chess_match.specs.declared.run.MatchEnd.{MatchEnd}
 use Rattle.chess_match.proofs.shared.Flushes.{flushed_none, failed_after}
-use Rattle.match_runner.specs.Games.{EndsGames, GameRecord, IsOfPlan, LogsGames, RanGames, SoundGames, count_of, first_side, game_logs, game_text, game_texts, match_text, score_line, score_of, setup_of}
-use Rattle.match_runner.specs.ties.Playing.{HasPlayed, LogsGame, PlayedGame, logged_side, no_score, plus, score_after}
+use Rattle.chess_pgn.specs.GameText.{pgn}
+use Rattle.chess_pgn.specs.declared.tags.Tags.{Tags}
+use Rattle.match_runner.specs.Games.{EndsGames, GameRecord, IsOfPlan, IsStartFault, LogsGame, LogsGames, RanGames, SoundGames, count_of, engine_command, first_side, game_logs, game_text, game_texts, match_text, score_line, score_of, tags_of}
+use Rattle.match_runner.specs.GamesTable.{Finishes, GamesPassing, GamesStep, Plays, StartFails, Starts, StepsPass, StepsRan, WriteFails, Writes, game_steps, games_steps, unstarted_steps, unwritten_steps}
+use Rattle.match_runner.specs.ties.Playing.{FailsToStart, HasPlayed, PlayedGame, logged_side, no_score, plus, score_after}
 use Rattle.match_runner.specs.Log.{LogSeen, Logged, log_text}
 use Rattle.match_runner.proofs.Logged.{logged_more, logs_none}
 use Rattle.match_runner.specs.declared.fault.GamesFault.{GamesFault}
@@ -47,15 +49,130 @@ flushed_more w w' w'' x y h k = record {
 -- ---- one game
 
 -- a match leaves the game its limit
-pub limit_kept : (setup : Setup) (end : MatchEnd) (w w' : World) (H : List Act) (reason : Reason)
-    → PlayedBy H reason setup end w w' → w'.game.limit ≡ w.game.limit
-limit_kept setup end w w' H reason (final, passed, reported, left) = ap (λ (v : Seen). v.limit) left
+pub limit_kept : (notes : List Note) (setup : Setup) (end : MatchEnd) (w w' : World)
+    → PlayedNoting (λ given. given ≡ notes) setup end w w' → w'.game.limit ≡ w.game.limit
+limit_kept notes setup end w w' (H, reason, given, (final, passed, reported, left)) = ap (λ (v : Seen). v.limit) left
 
--- a game that was played by the plan is one of the plan, with its notes
-pub of_plan : (plan : GamesPlan) (end : MatchEnd) (w w' : World) (H : List Act) (reason : Reason)
-    → PlayedBy H reason (setup_of plan) end w w' → w.game.limit ≡ MOST_MOVES
-    → IsOfPlan plan (record { game = w'.game; end = end; notes = notes_given reason H })
-of_plan plan end w w' H reason by most = (w, w', most, refl, (H, reason, refl, by))
+-- ---- engines that could not be started
+
+-- the fault is one of the two engines
+start_fault : (white black : List ℕ) (fault : GamesFault) → FailsToStart white fault ⊎ FailsToStart black fault
+    → IsStartFault white black fault
+start_fault white black (CanNotStart command) h = h
+start_fault white black NoMemory h = tt
+start_fault white black WriteFailed (inl h) = absurd h
+start_fault white black WriteFailed (inr h) = absurd h
+start_fault white black (Game number text) (inl h) = absurd h
+start_fault white black (Game number text) (inr h) = absurd h
+
+pub start_faults : {A : Type 0} (white black : List ℕ) (r : Result A GamesFault)
+    → IfErr r (λ f. FailsToStart white f ⊎ FailsToStart black f) → IfErr r (IsStartFault white black)
+start_faults white black (Ok v) h = tt
+start_faults white black (Err fault) h = start_fault white black fault h
+
+either : (x : Bool) (command white black : List ℕ) → command ≡ (if x then white else black)
+    → (command ≡ white) ⊎ (command ≡ black)
+either true command white black e = inl e
+either false command white black e = inr e
+
+-- the engines of a game are those of the plan
+pub plan_fault : (plan : GamesPlan) (number : ℕ) (fault : GamesFault)
+    → IsStartFault (engine_command plan number White) (engine_command plan number Black) fault
+    → IsStartFault plan.white.now plan.black.now fault
+plan_fault plan number (CanNotStart command) (inl e) =
+    either (same_colour White (first_side number)) command.now plan.white.now plan.black.now e
+plan_fault plan number (CanNotStart command) (inr e) =
+    either (same_colour Black (first_side number)) command.now plan.white.now plan.black.now e
+plan_fault plan number NoMemory h = tt
+plan_fault plan number WriteFailed h = absurd h
+plan_fault plan number (Game k text) h = absurd h
+
+-- ---- steps
+
+steps_none : (p : GamesPassing) → StepsPass p p []
+steps_none p = record {
+  extends = λ before h. subst (λ (K : List GamesStep). p K) (sym (append-nil before)) h;
+}
+
+pub steps_more : (p p' p'' : GamesPassing) (K J : List GamesStep) → StepsPass p p' K → StepsPass p' p'' J
+    → StepsPass p p'' (K ++ J)
+steps_more p p' p'' K J h k = record {
+  extends = λ before x. subst (λ (all : List GamesStep). p'' all) (append_assoc before K J)
+      (k.extends (before ++ K) (h.extends before x));
+}
+
+-- ---- one game, step by step
+
+module _ (plan : GamesPlan) (number : ℕ) (p p1 p2 p3 p4 : GamesPassing) (w w' : OutputState) (l l' : LogSeen)
+    (white black : List ℕ) (first : Option Colour) (played : GameRecord) (tags : Tags)
+    (for_white : white ≡ engine_command plan number White) (for_black : black ≡ engine_command plan number Black)
+    (side : first ≡ logged_side plan number) (tagged : tags ≡ tags_of plan number played.end)
+    (starts : StepsPass p p1 (Starts white black ∷ [])) (log : LogsGame first l l' played.notes)
+    (plays : StepsPass p1 p2 (Plays played ∷ [])) (finishes : StepsPass p3 p4 (Finishes ∷ [])) where
+  tagged_text : pgn [] tags played.after.game.state ≡ game_text plan number played
+  tagged_text = ap (λ (t : Tags). pgn [] t played.after.game.state) tagged
+
+  logs : LogsGame (logged_side plan number) l l' played.notes
+  logs = subst (λ (f : Option Colour). LogsGame f l l' played.notes) side log
+
+  all_steps : (write : List ℕ → GamesStep) → StepsPass p2 p3 (write (pgn [] tags played.after.game.state) ∷ [])
+      → StepsPass p p4 (Starts (engine_command plan number White) (engine_command plan number Black) ∷ Plays played
+      ∷ write (game_text plan number played) ∷ Finishes ∷ [])
+  all_steps write writes =
+      subst (λ (t : List ℕ). StepsPass p p4 (Starts (engine_command plan number White)
+      (engine_command plan number Black) ∷ Plays played ∷ write t ∷ Finishes ∷ [])) tagged_text
+      (subst (λ (b : List ℕ). StepsPass p p4 (Starts (engine_command plan number White) b ∷ Plays played
+      ∷ write (pgn [] tags played.after.game.state) ∷ Finishes ∷ [])) for_black
+      (subst (λ (a : List ℕ). StepsPass p p4 (Starts a black ∷ Plays played
+      ∷ write (pgn [] tags played.after.game.state) ∷ Finishes ∷ [])) for_white
+      (steps_more p p1 p4 (Starts white black ∷ [])
+      (Plays played ∷ write (pgn [] tags played.after.game.state) ∷ Finishes ∷ []) starts
+      (steps_more p1 p2 p4 (Plays played ∷ [])
+      (write (pgn [] tags played.after.game.state) ∷ Finishes ∷ []) plays
+      (steps_more p2 p3 p4 (write (pgn [] tags played.after.game.state) ∷ []) (Finishes ∷ []) writes finishes)))))
+
+  pub was_written : IsOfPlan plan played → Sent w w' (pgn [] tags played.after.game.state)
+      → StepsPass p2 p3 (Writes (pgn [] tags played.after.game.state) ∷ [])
+      → PlayedGame plan number p p4 w w' l l' (Ok played.end)
+  was_written of sent writes = (
+    played,
+    refl,
+    of,
+    subst (λ (t : List ℕ). Sent w w' t) tagged_text sent,
+    logs,
+    all_steps Writes writes,
+  )
+
+  pub was_not_written : IsOfPlan plan played → BreaksOff w w' (pgn [] tags played.after.game.state)
+      → StepsPass p2 p3 (WriteFails (pgn [] tags played.after.game.state) ∷ [])
+      → PlayedGame plan number p p4 w w' l l' (Err WriteFailed)
+  was_not_written of breaks fails = (
+    played,
+    of,
+    subst (λ (t : List ℕ). BreaksOff w w' t) tagged_text breaks,
+    logs,
+    all_steps WriteFails fails,
+  )
+
+-- the engines could not be started
+pub was_not_started : (plan : GamesPlan) (number : ℕ) (p p' : GamesPassing) (w : OutputState) (l : LogSeen)
+    (white black : List ℕ) (fault : GamesFault) → white ≡ engine_command plan number White
+    → black ≡ engine_command plan number Black → IsStartFault white black fault
+    → StepsPass p p' (StartFails white black ∷ []) → PlayedGame plan number p p' w w l l (Err fault)
+was_not_started plan number p p' w l white black fault for_white for_black is steps =
+    at fault
+    (plan_fault plan number fault
+    (subst (λ (b : List ℕ). IsStartFault (engine_command plan number White) b fault) for_black
+    (subst (λ (a : List ℕ). IsStartFault a black fault) for_white is)))
+    (subst (λ (b : List ℕ). StepsPass p p' (StartFails (engine_command plan number White) b ∷ [])) for_black
+    (subst (λ (a : List ℕ). StepsPass p p' (StartFails a black ∷ [])) for_white steps))
+  where
+    at : (f : GamesFault) → IsStartFault plan.white.now plan.black.now f
+        → StepsPass p p' (unstarted_steps plan number) → PlayedGame plan number p p' w w l l (Err f)
+    at NoMemory h k = (h, refl, refl, k)
+    at (CanNotStart command) h k = (h, refl, refl, k)
+    at WriteFailed h k = absurd h
+    at (Game n text) h k = absurd h
 
 -- ---- games with their numbers
 
@@ -67,13 +184,13 @@ numbers_more n (x ∷ games) g =
     ∙ ap (λ (k : ℕ). (n, x) ∷ (enumerate_from (n + 1) games ++ (k, g) ∷ [])) (omega arith)
 
 -- the texts of games by their numbers, of one game more
-joined_more : (f : ℕ × GameRecord → List ℕ) (games : List GameRecord) (g : GameRecord)
+joined_more : {A : Type 0} (f : ℕ × GameRecord → List A) (games : List GameRecord) (g : GameRecord)
     → flat_map f (enumerate_from 1 (games ++ g ∷ []))
     ≡ flat_map f (enumerate_from 1 games) ++ f (1 + length games, g)
-joined_more f games g =
+joined_more {A} f games g =
     ap (λ (l : List (ℕ × GameRecord)). flat_map f l) (numbers_more 1 games g)
     ∙ flat_map-append f (enumerate_from 1 games) ((1 + length games, g) ∷ [])
-    ∙ ap (λ (l : List ℕ). flat_map f (enumerate_from 1 games) ++ l) (append-nil (f (1 + length games, g)))
+    ∙ ap (λ (l : List A). flat_map f (enumerate_from 1 games) ++ l) (append-nil (f (1 + length games, g)))
 
 -- ---- logs of games
 
@@ -98,6 +215,12 @@ log_none true l = logs_none l.broken l.output
 texts_more : (plan : GamesPlan) (games : List GameRecord) (g : GameRecord)
     → game_texts plan (games ++ g ∷ []) ≡ game_texts plan games ++ game_text plan (1 + length games) g
 texts_more plan games g = joined_more (λ x. game_text plan x.0 x.1) games g
+
+-- ---- steps of games
+
+games_steps_more : (plan : GamesPlan) (games : List GameRecord) (g : GameRecord)
+    → games_steps plan (games ++ g ∷ []) ≡ games_steps plan games ++ game_steps plan (1 + length games) g
+games_steps_more plan games g = joined_more (λ x. game_steps plan x.0 x.1) games g
 
 -- ---- the score
 
@@ -151,8 +274,8 @@ sound_more plan (x ∷ games) g h of none = (h.0, h.1, sound_more plan games g h
 -- ---- so far
 
 -- games without a fault were played, written and logged
-pub record SoFar (plan : GamesPlan) (w w' : OutputState) (l l' : LogSeen) (number : ℕ) (score : Score)
-    (games : List GameRecord) : Type 0
+pub record SoFar (plan : GamesPlan) (p p' : GamesPassing) (w w' : OutputState) (l l' : LogSeen) (number : ℕ)
+    (score : Score) (games : List GameRecord) : Type 0
   where
     pub games_sound : SoundGames plan games
     pub numbered : number ≡ 1 + length games
@@ -160,19 +283,22 @@ pub record SoFar (plan : GamesPlan) (w w' : OutputState) (l l' : LogSeen) (numbe
     pub counted : score ≡ score_of games
     pub written : Flushed w w' (game_texts plan games)
     pub logged : LogsGames plan.log l l' games
+    pub passed : StepsPass p p' (games_steps plan games)
 
-pub start : (plan : GamesPlan) (w : OutputState) (l : LogSeen) → SoFar plan w w l l 1 no_score []
-start plan w l = record {
+pub start : (plan : GamesPlan) (p : GamesPassing) (w : OutputState) (l : LogSeen)
+    → SoFar plan p p w w l l 1 no_score []
+start plan p w l = record {
   games_sound = tt;
   numbered = omega arith;
   few = omega arith;
   counted = refl;
   written = flushed_none w;
   logged = log_none plan.log l;
+  passed = steps_none p;
 }
 
-module _ (plan : GamesPlan) (w w' w'' : OutputState) (l l' l'' : LogSeen) (number : ℕ) (score : Score)
-    (games : List GameRecord) (s : SoFar plan w w' l l' number score games) where
+module _ (plan : GamesPlan) (p p' p'' : GamesPassing) (w w' w'' : OutputState) (l l' l'' : LogSeen) (number : ℕ)
+    (score : Score) (games : List GameRecord) (s : SoFar plan p p' w w' l l' number score games) where
   logged_on : (g : GameRecord) → LogsGame (logged_side plan number) l' l'' g.notes
       → LogsGames plan.log l l'' (games ++ g ∷ [])
   logged_on g log =
@@ -186,6 +312,13 @@ module _ (plan : GamesPlan) (w w' w'' : OutputState) (l l' l'' : LogSeen) (numbe
       (game_text plan (1 + length games) g) s.written
       (subst (λ n. Sent w' w'' (game_text plan n g)) s.numbered sent))
 
+  passed_more : (g : GameRecord) → StepsPass p' p'' (game_steps plan number g)
+      → StepsPass p p'' (games_steps plan (games ++ g ∷ []))
+  passed_more g steps =
+      rw (games_steps_more plan games g) (steps_more p p' p'' (games_steps plan games)
+      (game_steps plan (1 + length games) g) s.passed
+      (subst (λ n. StepsPass p' p'' (game_steps plan n g)) s.numbered steps))
+
   counted_more : (g : GameRecord) → number ≤ 65535
       → score_after (first_side number) g.end.outcome score ≡ score_of (games ++ g ∷ [])
   counted_more g few =
@@ -196,8 +329,10 @@ module _ (plan : GamesPlan) (w w' w'' : OutputState) (l l' l'' : LogSeen) (numbe
 
   pub one_more : (g : GameRecord) → number ≤ plan.games → number ≤ 65535 → IsOfPlan plan g → g.end.fault ≡ None
       → Sent w' w'' (game_text plan number g) → LogsGame (logged_side plan number) l' l'' g.notes
-      → SoFar plan w w'' l l'' (number + 1) (score_after (first_side number) g.end.outcome score) (games ++ g ∷ [])
-  one_more g le small of none sent log =
+      → StepsPass p' p'' (game_steps plan number g)
+      → SoFar plan p p'' w w'' l l'' (number + 1) (score_after (first_side number) g.end.outcome score)
+      (games ++ g ∷ [])
+  one_more g le small of none sent log steps =
       let n = s.numbered in
       let longer = length-append games (g ∷ []) in
       record {
@@ -207,15 +342,16 @@ module _ (plan : GamesPlan) (w w' w'' : OutputState) (l l' l'' : LogSeen) (numbe
         counted = counted_more g small;
         written = written_more g sent;
         logged = logged_on g log;
+        passed = passed_more g steps;
       }
 
   pub with_fault : (g : GameRecord) (side : Colour) (fault : MatchFault) → number ≤ plan.games → number ≤ 65535
       → IsOfPlan plan g
       → g.end.fault ≡ Some (side, fault) → Sent w' w'' (game_text plan number g)
-      → LogsGame (logged_side plan number) l' l'' g.notes
-      → HasPlayed plan w w'' l l''
+      → LogsGame (logged_side plan number) l' l'' g.notes → StepsPass p' p'' (game_steps plan number g)
+      → HasPlayed plan p p'' w w'' l l''
       (Ok (record { score = score_after (first_side number) g.end.outcome score; fault = Some (number, side, fault) }))
-  with_fault g side fault le small of is sent log =
+  with_fault g side fault le small of is sent log steps =
       let n = s.numbered in
       let longer = length-append games (g ∷ []) in (
         games ++ g ∷ [],
@@ -223,78 +359,114 @@ module _ (plan : GamesPlan) (w w' w'' : OutputState) (l l' l'' : LogSeen) (numbe
         counted_more g small,
         written_more g sent,
         logged_on g log,
+        passed_more g steps,
       )
 
-  pub broke : (fault : GamesFault) → number ≤ plan.games → PlayedGame plan number w' w'' l' l'' (Err fault)
-      → HasPlayed plan w w'' l l'' (Err fault)
-  broke WriteFailed le (next, of, (begun, begins, failed), log) =
+  -- a game that was not written, or not started
+  passed_last : (last : ℕ → List GamesStep) → StepsPass p' p'' (last number)
+      → StepsPass p p'' (games_steps plan games ++ last (length games + 1))
+  passed_last last steps =
+      let n = s.numbered in
+      let m : number ≡ length games + 1 = omega (arith, n) in
+      steps_more p p' p'' (games_steps plan games) (last (length games + 1)) s.passed
+      (subst (λ n. StepsPass p' p'' (last n)) m steps)
+
+  -- an engine that could not be started
+  not_started : (fault : GamesFault) → number ≤ plan.games → IsStartFault plan.white.now plan.black.now fault
+      → w'' ≡ w' → l'' ≡ l' → StepsPass p' p'' (unstarted_steps plan number)
+      → (SoundGames plan games × (length games < plan.games) × IsStartFault plan.white.now plan.black.now fault
+      × Flushed w w'' (game_texts plan games) × LogsGames plan.log l l'' games)
+      × SoundGames plan games
+      × StepsPass p p'' (games_steps plan games ++ unstarted_steps plan (length games + 1))
+  not_started fault le is same log steps =
+      let n = s.numbered in (
+        (
+          s.games_sound,
+          omega (arith, n, le),
+          is,
+          subst (λ v. Flushed w v (game_texts plan games)) (sym same) s.written,
+          subst (λ v. LogsGames plan.log l v games) (sym log) s.logged,
+        ),
+        s.games_sound,
+        passed_last (λ n. unstarted_steps plan n) steps,
+      )
+
+  pub broke : (fault : GamesFault) → number ≤ plan.games → PlayedGame plan number p' p'' w' w'' l' l'' (Err fault)
+      → HasPlayed plan p p'' w w'' l l'' (Err fault)
+  broke WriteFailed le (next, of, (begun, begins, failed), log, steps) =
       let n = s.numbered in
       let m : number ≡ length games + 1 = omega (arith, n) in (
-        games,
-        next,
-        begun,
-        s.games_sound,
-        omega (arith, n, le),
-        of,
-        subst (λ k. Begins begun (game_text plan k next)) m begins,
-        failed_after w w' w'' (game_texts plan games) begun s.written failed,
-        logged_on next log,
+        (
+          games,
+          next,
+          begun,
+          s.games_sound,
+          omega (arith, n, le),
+          of,
+          subst (λ k. Begins begun (game_text plan k next)) m begins,
+          failed_after w w' w'' (game_texts plan games) begun s.written failed,
+          logged_on next log,
+        ),
+        (games, next, s.games_sound, of, passed_last (λ n. unwritten_steps plan n next) steps),
       )
-  broke NoMemory le (is, same, log) =
-      let n = s.numbered in (
-        games,
-        s.games_sound,
-        omega (arith, n, le),
-        is,
-        subst (λ v. Flushed w v (game_texts plan games)) (sym same) s.written,
-        subst (λ v. LogsGames plan.log l v games) (sym log) s.logged,
-      )
-  broke (CanNotStart command) le (is, same, log) =
-      let n = s.numbered in (
-        games,
-        s.games_sound,
-        omega (arith, n, le),
-        is,
-        subst (λ v. Flushed w v (game_texts plan games)) (sym same) s.written,
-        subst (λ v. LogsGames plan.log l v games) (sym log) s.logged,
-      )
-  broke (Game k text) le (is, same, log) = absurd is
+  broke NoMemory le (is, same, log, steps) =
+      let h = not_started NoMemory le is same log steps in
+      ((games, h.0.0, h.0.1, h.0.2, h.0.3, h.0.4), (games, h.1, h.2))
+  broke (CanNotStart command) le (is, same, log, steps) =
+      let h = not_started (CanNotStart command) le is same log steps in
+      ((games, h.0.0, h.0.1, h.0.2, h.0.3, h.0.4), (games, h.1, h.2))
+  broke (Game k text) le (is, same, log, steps) = absurd is
 
-pub all_played : (plan : GamesPlan) (w w' : OutputState) (l l' : LogSeen) (number : ℕ) (score : Score)
-    (games : List GameRecord) → SoFar plan w w' l l' number score games → plan.games < number
-    → HasPlayed plan w w' l l' (Ok (record { score = score; fault = None }))
-all_played plan w w' l l' number score games s past =
+pub all_played : (plan : GamesPlan) (p p' : GamesPassing) (w w' : OutputState) (l l' : LogSeen) (number : ℕ)
+    (score : Score) (games : List GameRecord) → SoFar plan p p' w w' l l' number score games → plan.games < number
+    → HasPlayed plan p p' w w' l l' (Ok (record { score = score; fault = None }))
+all_played plan p p' w w' l l' number score games s past =
     let n = s.numbered in
     let few = s.few in
-    (games, (s.games_sound, omega (arith, n, few, past)), s.counted, s.written, s.logged)
+    (games, (s.games_sound, omega (arith, n, few, past)), s.counted, s.written, s.logged, s.passed)
 
 -- ---- the end of a match
 
-module _ (plan : GamesPlan) (w w' w'' : OutputState) (l l' : LogSeen) (played : GamesPlayed)
-    (h : HasPlayed plan w w' l l' (Ok played)) where
+-- what a match that broke off did
+pub broken_off : (plan : GamesPlan) (p p' : GamesPassing) (w w' : OutputState) (l l' : LogSeen) (fault : GamesFault)
+    → HasPlayed plan p p' w w' l l' (Err fault) → RanGames plan w w' l l' (Err fault) × StepsRan plan p p' (Err fault)
+broken_off plan p p' w w' l l' WriteFailed (h, k) = (inl h, inl k)
+broken_off plan p p' w w' l l' NoMemory (h, k) = (inr h, k)
+broken_off plan p p' w w' l l' (CanNotStart command) (h, k) = (h, k)
+broken_off plan p p' w w' l l' (Game number text) ((games, sound, few, is, written, log), k) = absurd is
+
+module _ (plan : GamesPlan) (p p' : GamesPassing) (w w' w'' : OutputState) (l l' : LogSeen) (played : GamesPlayed)
+    (h : HasPlayed plan p p' w w' l l' (Ok played)) where
   score_sent : Sent w' w'' (score_line played.score) → Flushed w w'' (match_text plan h.0)
   score_sent sent =
       flushed_more w w' w'' (game_texts plan h.0) (score_line (score_of h.0)) h.3
       (subst (λ v. Sent w' w'' (score_line v)) h.2 sent)
 
   pub all_written : Sent w' w'' (score_line played.score) → played.fault ≡ None
-      → RanGames plan w w'' l l' (Ok (tt {0}))
-  all_written sent none = (h.0, subst (EndsGames plan h.0) none h.1, score_sent sent, h.4)
+      → RanGames plan w w'' l l' (Ok (tt {0})) × StepsRan plan p p' (Ok (tt {0}))
+  all_written sent none =
+      let ends = subst (EndsGames plan h.0) none h.1 in
+      ((h.0, ends, score_sent sent, h.4), (h.0, ends, h.5))
 
   pub fault_written : (number : ℕ) (side : Colour) (fault : MatchFault) (text : Bor (List ℕ))
       → text.now ≡ comment_of (Faulted side fault)
       → Sent w' w'' (score_line played.score) → played.fault ≡ Some (number, side, fault)
-      → RanGames plan w w'' l l' (Err (Game number text))
+      → RanGames plan w w'' l l' (Err (Game number text)) × StepsRan plan p p' (Err (Game number text))
   fault_written number side fault text written sent is =
-      (h.0, side, fault, subst (EndsGames plan h.0) is h.1, written, score_sent sent, h.4)
+      let ends = subst (EndsGames plan h.0) is h.1 in
+      ((h.0, side, fault, ends, written, score_sent sent, h.4), (h.0, side, fault, ends, h.5))
 
-  pub score_broken : BreaksOff w' w'' (score_line played.score) → RanGames plan w w'' l l' (Err WriteFailed)
-  score_broken (begun, begins, failed) = inr (
-    h.0,
-    played.fault,
-    begun,
-    h.1,
-    subst (λ v. Begins begun (score_line v)) h.2 begins,
-    failed_after w w' w'' (game_texts plan h.0) begun h.3 failed,
-    h.4,
+  pub score_broken : BreaksOff w' w'' (score_line played.score)
+      → RanGames plan w w'' l l' (Err WriteFailed) × StepsRan plan p p' (Err WriteFailed)
+  score_broken (begun, begins, failed) = (
+    inr (
+      h.0,
+      played.fault,
+      begun,
+      h.1,
+      subst (λ v. Begins begun (score_line v)) h.2 begins,
+      failed_after w w' w'' (game_texts plan h.0) begun h.3 failed,
+      h.4,
+    ),
+    inr (h.0, played.fault, h.1, h.5),
   )

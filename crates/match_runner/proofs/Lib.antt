@@ -1,3 +1,4 @@
 mod GamesWritten
+mod GameFaults
 mod Logged
 mod FaultTexts

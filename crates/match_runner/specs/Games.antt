@@ -10,7 +10,6 @@ use Rattle.chess_base.specs.Men.{other, same_colour}
 use Rattle.chess_base.specs.declared.man.Colour.{Colour}
 use Rattle.chess_base.specs.declared.man.Colour.TheVariants.{White, Black}
 use Rattle.byte_devices.specs.Devices.{OutputState, Begins}
-use Rattle.chess_game.specs.Game.{Seen}
 use Rattle.chess_match.specs.Reasons.{comment_of, win_of}
 use Rattle.chess_match.specs.Notes.{Note}
 use Rattle.chess_match.specs.Played.{World, PlayedNoting}
@@ -54,9 +53,11 @@ tags_of plan number end = record {
 
 -- ---- one game
 
--- a game that was played: its moves, how it ended, and the notes of what happened in it, of which the log is made
+-- a game that was played: the engines' pipes, the clock and the moves before it and after it, how it ended, and the
+-- notes of what happened in it, of which the log is made
 pub record GameRecord : Type 0 where
-  pub game : Seen
+  pub before : World
+  pub after : World
   pub end : MatchEnd
   pub notes : List Note
 
@@ -67,18 +68,24 @@ setup_of plan = record { start = plan.start; level = plan.level }
 -- the game `played` was played from the start of `plan` with its time control, with at most 20,000 half-moves, whatever
 -- the two engines sent
 abbrev pub IsOfPlan : GamesPlan → GameRecord → Type 0
-IsOfPlan plan played = (w : World) × (w' : World) × (w.game.limit ≡ MOST_MOVES) × (w'.game ≡ played.game)
-    × PlayedNoting (λ notes. notes ≡ played.notes) (setup_of plan) played.end w w'
+IsOfPlan plan played = (played.before.game.limit ≡ MOST_MOVES)
+    × PlayedNoting (λ notes. notes ≡ played.notes) (setup_of plan) played.end played.before played.after
 
 -- the PGN of the game `played`, which has this number
 abbrev pub game_text : GamesPlan → ℕ → GameRecord → List ℕ
-game_text plan number played = pgn [] (tags_of plan number played.end) played.game.state
+game_text plan number played = pgn [] (tags_of plan number played.end) played.after.game.state
 
--- the fault says that one of the plan's two engines could not be started, or that there was no memory
-abbrev pub IsStartFault : GamesPlan → GamesFault → Type 0
-IsStartFault plan (CanNotStart command) = (command.now ≡ plan.white.now) ⊎ (command.now ≡ plan.black.now)
-IsStartFault plan NoMemory = ⊤
-IsStartFault plan _ = ⊥
+-- the fault says that an engine with one of these two commands could not be started, or that there was no memory
+abbrev pub IsStartFault : List ℕ → List ℕ → GamesFault → Type 0
+IsStartFault one other (CanNotStart command) = (command.now ≡ one) ⊎ (command.now ≡ other)
+IsStartFault one other NoMemory = ⊤
+IsStartFault one other _ = ⊥
+
+-- from the log's state `l` to `l'` the game of these notes was logged, if a side of the engine of `--white` is given;
+-- without one (`None`) nothing was
+abbrev pub LogsGame : Option Colour → LogSeen → LogSeen → List Note → Type 0
+LogsGame None l l' notes = l' ≡ l
+LogsGame (Some first) l l' notes = Logged l l' (log_text first notes)
 
 -- ---- the games
 
@@ -139,7 +146,8 @@ GamesBrokeOff plan w w' l l' WriteFailed =
     × LogsGames plan.log l l' (games ++ next ∷ [])
 GamesBrokeOff plan w w' l l' fault =
     (games : List GameRecord) × SoundGames plan games × (length games < plan.games)
-    × IsStartFault plan fault × Flushed w w' (game_texts plan games) × LogsGames plan.log l l' games
+    × IsStartFault plan.white.now plan.black.now fault × Flushed w w' (game_texts plan games)
+    × LogsGames plan.log l l' games
 
 -- all that a match writes to the output: the PGN of each of these games, and then the line of the score
 abbrev pub match_text : GamesPlan → List GameRecord → List ℕ

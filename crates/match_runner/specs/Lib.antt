@@ -1,3 +1,5 @@
 pub mod Games
+pub mod GamesTable
 pub mod Log
+pub mod laws
 pub mod ties

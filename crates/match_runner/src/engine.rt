@@ -1,6 +1,6 @@
 //! Engines as processes.
 
-ghost use Rattle.std.specs.Prelude.{◌≡◌, ◌≢◌, IfErr};
+ghost use Rattle.std.specs.Prelude.{◌≡◌, ◌≢◌, ◌⊎◌, IfErr};
 ghost use Rattle.std.specs.IoError.{error_kind};
 ghost use Rattle.match_runner.specs.ties.Playing.{FailsToStart};
 
@@ -112,7 +112,7 @@ fn spawn<'a, R: Processes>(
 ///
 /// # Errors
 /// If the command is empty, the system can't start the program, or memory runs out.
-pub(crate) fn start<'a, R: Processes>(
+fn start<'a, R: Processes>(
     rt: &R,
     alloc: Global,
     text: &'a str,
@@ -164,7 +164,7 @@ fn await_end<C: Clock, P: OpenProcess + Drop>(
 }
 
 /// Closes an engine's input, gives it half a second to end by itself, closes its output and waits for its end.
-pub(crate) fn finish<C: Clock, P: OpenProcess + Drop>(rt: &C, engine: Engine<P>) {
+fn finish<C: Clock, P: OpenProcess + Drop>(rt: &C, engine: Engine<P>) {
     let Engine { child, ends } = engine;
     let Ends { reader, writer } = ends;
     drop(writer);
@@ -194,4 +194,26 @@ pub(crate) fn finish_both<C: Clock, P: OpenProcess + Drop>(rt: &C, engines: Engi
     drop(black_writer);
     await_end(rt, white_child, white_reader);
     await_end(rt, black_child, black_reader);
+}
+
+/// Starts both engines of a game; `white` and `black` are their commands. If Black's can't be started, White's is
+/// ended.
+///
+/// # Errors
+/// As [`start`] does for either.
+pub(crate) fn start_both<'a, P: Processes + Clock>(
+    host: &Host<'_, P>,
+    white: &'a str,
+    black: &'a str,
+) -> Result<Engines<P::Started>, GamesFault<'a>>
+    ensures { IfErr result (λ f. FailsToStart white.entry.now f ⊎ FailsToStart black.entry.now f) }
+{
+    let white_engine = start(host.rt, host.alloc, white)?;
+    match start(host.rt, host.alloc, black) {
+        Ok(black_engine) => Ok(Engines::of(white_engine, black_engine)),
+        Err(fault) => {
+            finish(host.rt, white_engine);
+            Err(fault)
+        }
+    }
 }

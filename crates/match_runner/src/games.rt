@@ -1,29 +1,29 @@
 //! The games of a match, one after another.
 
-ghost use Rattle.std.specs.Prelude.{◌≡◌, ◌≤◌, ◌⊎◌, [], IfErr, IfOk};
+ghost use Rattle.std.specs.Prelude.{◌≡◌, ◌≤◌};
 ghost use Rattle.byte_devices.specs.Devices.{Sends};
 ghost use Rattle.chess_match.specs.Reasons.{comment_of};
-ghost use Rattle.chess_match.specs.Played.{PlayedNoting};
-ghost use Rattle.chess_match.specs.Run.{ports_of};
 ghost use Rattle.chess_match.specs.declared.reason.Reason.TheVariants.{Faulted};
-ghost use Rattle.chess_pgn.specs.GameText.{pgn};
-ghost use Rattle.match_runner.specs.Games.{RanGames, engine_command, first_side, player_name, score_line, setup_of, tags_of};
-ghost use Rattle.match_runner.specs.ties.Playing.{FailsToStart, HasPlayed, LogsGame, PlayedGame, logged_side};
+ghost use Rattle.match_runner.specs.Games.{RanGames, engine_command, first_side, player_name, score_line, tags_of};
+ghost use Rattle.match_runner.specs.GamesTable.{StepsRan};
+ghost use Rattle.match_runner.specs.ties.Playing.{HasPlayed, PlayedGame, logged_side};
 ghost use Rattle.match_runner.specs.Log.{log_seen};
 ghost use Rattle.chess_game.specs.declared.game.TheConstants.{MOST_MOVES};
 
-use crate::engine::{Engines, Host, finish, finish_both, start};
+use crate::engine::Host;
 use crate::fault::GamesFault;
-use crate::log::{Log, run_match_logged};
+use crate::log::Log;
 use crate::moments::SinceStart;
 use crate::plan::GamesPlan;
+use crate::process_table::ProcessTable;
 use crate::score::Score;
-use byte_devices::{Input, Output, WriteFault, send};
-use chess_base::{ByColour, Colour, same_colour};
+use crate::table::GamesTable;
+use byte_devices::{Output, WriteFault, send};
+use chess_base::{Colour, same_colour};
 use chess_bits::{AttackTables, Bits};
 use chess_game::{Game, MOST_MOVES, TagText};
-use chess_match::{Ends, MatchEnd, MatchFault, Moments, Reason, Setup, run_match};
-use chess_pgn::{Tags, write_pgn};
+use chess_match::{MatchEnd, MatchFault, Reason, Setup};
+use chess_pgn::Tags;
 use itoa::Buffer;
 use std::alloc::Global;
 use std::process::Processes;
@@ -100,62 +100,6 @@ fn logged_side(plan: &GamesPlan<'_>, number: u32) -> Option<Colour>
     }
 }
 
-// What the games of a match are played on, one after another: the clock, the game, and a board on which its moves are
-// made again.
-#[derive(Drop)]
-struct Table<'t, M> {
-    moments: M,
-    game: Game<Bits<'t>>,
-    scratch: Bits<'t>,
-}
-
-// Plays one game between two engines, whose pipes are `ends`, and logs it if `first`, the side of the engine of
-// `--white`, is given.
-fn relay<'t, R: Input, D: Output, M: Moments, E: Output>(
-    ends: &mut ByColour<Ends<R, D>>,
-    table: &mut Table<'t, M>,
-    setup: &Setup,
-    first: Option<Colour>,
-    log: &mut Log<E>,
-) -> MatchEnd
-    ensures ran { PlayedNoting (λ notes. LogsGame first (log_seen (E.seen log.old.output) log.old.pending)
-        (log_seen (E.seen log.new.output) log.new.pending) notes) setup.now result
-        (record {
-          ports = ports_of R.seen D.seen ends.old.white ends.old.black;
-          coming = M.coming table.old.moments;
-          game = table.old.game;
-        })
-        (record {
-          ports = ports_of R.seen D.seen ends.new.white ends.new.black;
-          coming = M.coming table.new.moments;
-          game = table.new.game;
-        }) }
-{
-    let Some(first) = first else {
-        return run_match(
-            &mut ends.white,
-            &mut ends.black,
-            &mut table.moments,
-            setup,
-            &mut table.game,
-        );
-    };
-    run_match_logged(ends, &mut table.moments, setup, &mut table.game, first, log)
-}
-
-// Writes a game's PGN to the output, and flushes; `scratch` is a board on which its moves are made again.
-fn write_game<'t, W: Output>(
-    game: &Game<Bits<'t>>,
-    scratch: &mut Bits<'t>,
-    tags: &Tags,
-    output: &mut W,
-) -> Result<(), WriteFault>
-    ensures { Sends (W.seen output.old) (W.seen output.new) result (pgn [] tags.now game.now.state) }
-{
-    write_pgn(game, scratch, tags, b"", output)?;
-    output.flush()
-}
-
 // Writes the line `score first 1 second 0 ..` of the match so far to the output, and flushes.
 fn write_score<W: Output>(score: Score, output: &mut W) -> Result<(), WriteFault>
     ensures { Sends (W.seen output.old) (W.seen output.new) result (score_line score) }
@@ -163,89 +107,38 @@ fn write_score<W: Output>(score: Score, output: &mut W) -> Result<(), WriteFault
     send(output, score.line().as_slice())
 }
 
-// Starts both engines of a game; `white` and `black` are their commands. If Black's can't be started, White's is
-// ended.
-fn start_both<'a, P: Processes + Clock>(
-    host: &Host<'_, P>,
-    white: &'a str,
-    black: &'a str,
-) -> Result<Engines<P::Started>, GamesFault<'a>>
-    ensures { IfErr result (λ f. FailsToStart white.entry.now f ⊎ FailsToStart black.entry.now f) }
-{
-    let white_engine = start(host.rt, host.alloc, white)?;
-    match start(host.rt, host.alloc, black) {
-        Ok(black_engine) => Ok(Engines::of(white_engine, black_engine)),
-        Err(fault) => {
-            finish(host.rt, white_engine);
-            Err(fault)
-        }
-    }
-}
-
-// Plays the game of this number between two engines, whose pipes are `ends`, logs it if the plan asks for that, and
-// writes and flushes its PGN.
-fn play_game<'a, 't, R: Input, D: Output, M: Moments, W: Output, E: Output>(
-    ends: &mut ByColour<Ends<R, D>>,
+// Plays the game of this number between the plan's two engines, logs it if the plan asks for that, and writes and
+// flushes its PGN. The engines are started for it, and waited for when its PGN was written.
+fn play_game<'a, T: GamesTable, W: Output, E: Output>(
+    table: &mut T,
     plan: &GamesPlan<'a>,
     number: u32,
-    table: &mut Table<'t, M>,
     output: &mut W,
     log: &mut Log<E>,
 ) -> Result<MatchEnd, GamesFault<'a>>
-    requires limit { table.old.game.limit ≡ MOST_MOVES }
-    ensures limit { table.new.game.limit ≡ MOST_MOVES }
-    ensures played { PlayedGame plan.now number (W.seen output.old) (W.seen output.new)
+    requires limit { (T.game table.old).limit ≡ MOST_MOVES }
+    ensures limit { (T.game table.new).limit ≡ MOST_MOVES }
+    ensures played { PlayedGame plan.now number (T.passed table.old) (T.passed table.new)
+        (W.seen output.old) (W.seen output.new)
         (log_seen (E.seen log.old.output) log.old.pending) (log_seen (E.seen log.new.output) log.new.pending)
         result }
-    ensures ran { (end : _) × IfOk result (λ e. e ≡ end) × PlayedNoting (λ notes. LogsGame (logged_side plan.now number)
-        (log_seen (E.seen log.old.output) log.old.pending) (log_seen (E.seen log.new.output) log.new.pending) notes)
-        (setup_of plan.now) end
-        (record {
-          ports = ports_of R.seen D.seen ends.old.white ends.old.black;
-          coming = M.coming table.old.moments;
-          game = table.old.game;
-        })
-        (record {
-          ports = ports_of R.seen D.seen ends.new.white ends.new.black;
-          coming = M.coming table.new.moments;
-          game = table.new.game;
-        }) }
 {
     let setup = Setup {
         start: plan.start,
         level: plan.level,
     };
-    let first = logged_side(plan, number);
-    let end = relay(ends, table, &setup, first, log);
-    let tags = tags_of(plan, number, &end);
-    write_game(&table.game, &mut table.scratch, &tags, output)?;
-    Ok(end)
-}
-
-// Plays the game of this number between the plan's two engines, which are started for it and then ended, logs it if the
-// plan asks for that, and writes and flushes its PGN.
-fn start_and_play<'a, 't, P: Processes + Clock, M: Moments, W: Output, E: Output>(
-    host: &Host<'_, P>,
-    plan: &GamesPlan<'a>,
-    number: u32,
-    table: &mut Table<'t, M>,
-    output: &mut W,
-    log: &mut Log<E>,
-) -> Result<MatchEnd, GamesFault<'a>>
-    requires limit { table.old.game.limit ≡ MOST_MOVES }
-    ensures limit { table.new.game.limit ≡ MOST_MOVES }
-    ensures played { PlayedGame plan.now number (W.seen output.old) (W.seen output.new)
-        (log_seen (E.seen log.old.output) log.old.pending) (log_seen (E.seen log.new.output) log.new.pending)
-        result }
-{
-    let mut engines = start_both(
-        host,
+    let mut engines = table.start(
         command_of(plan, number, Colour::White),
         command_of(plan, number, Colour::Black),
     )?;
-    let played = play_game(&mut engines.ends, plan, number, table, output, log);
-    finish_both(host.rt, engines);
-    played
+    let end = table.play(&mut engines, &setup, logged_side(plan, number), log);
+    let tags = tags_of(plan, number, &end);
+    let written = table.write_game(&tags, output);
+    table.finish(engines);
+    match written {
+        Ok(()) => Ok(end),
+        Err(_) => Err(GamesFault::WriteFailed),
+    }
 }
 
 // The score of the games that were played; and, if an engine had a fault, the number of the last game, the engine's
@@ -266,15 +159,14 @@ fn game_count(plan: &GamesPlan<'_>) -> u32
 
 // Plays the plan's games one after another, up to and with the first in which an engine has a fault, and writes and
 // logs each. Returns the score, and that fault.
-fn play_each<'a, 't, P: Processes + Clock, M: Moments, W: Output, E: Output>(
-    host: &Host<'_, P>,
+fn play_each<'a, T: GamesTable, W: Output, E: Output>(
+    table: &mut T,
     plan: &GamesPlan<'a>,
-    table: &mut Table<'t, M>,
     output: &mut W,
     log: &mut Log<E>,
 ) -> Result<GamesPlayed, GamesFault<'a>>
-    requires { table.old.game.limit ≡ MOST_MOVES }
-    ensures { HasPlayed plan.now (W.seen output.old) (W.seen output.new)
+    requires { (T.game table.old).limit ≡ MOST_MOVES }
+    ensures { HasPlayed plan.now (T.passed table.old) (T.passed table.new) (W.seen output.old) (W.seen output.new)
         (log_seen (E.seen log.old.output) log.old.pending) (log_seen (E.seen log.new.output) log.new.pending)
         result }
 {
@@ -282,7 +174,7 @@ fn play_each<'a, 't, P: Processes + Clock, M: Moments, W: Output, E: Output>(
     let mut number: u32 = 0;
     while number < game_count(plan) {
         number += 1;
-        let end = start_and_play(host, plan, number, table, output, log)?;
+        let end = play_game(table, plan, number, output, log)?;
         score = score.after(first_side(number), end.outcome);
         if let Some((side, fault)) = end.fault {
             return Ok(GamesPlayed {
@@ -294,8 +186,40 @@ fn play_each<'a, 't, P: Processes + Clock, M: Moments, W: Output, E: Output>(
     Ok(GamesPlayed { score, fault: None })
 }
 
+/// Plays the games of a match as [`play_games`] does, at a table, whose game has room for 20,000 half-moves.
+///
+/// The contract says which steps passed at the table, in their order. For each game two engines are started, the plan's
+/// with their sides; it is played; its PGN is written and flushed; and then the engines are waited for. No engine is
+/// started after a game with a fault.
+///
+/// # Errors
+/// If an engine can't be started, memory runs out, the output fails, or an engine fails in a game, which is then the
+/// last.
+pub fn play_games_at<'a, T: GamesTable, W: Output, E: Output>(
+    table: &mut T,
+    plan: &GamesPlan<'a>,
+    output: &mut W,
+    log: &mut Log<E>,
+) -> Result<(), GamesFault<'a>>
+    requires { (T.game table.old).limit ≡ MOST_MOVES }
+    ensures ran { RanGames plan.now (W.seen output.old) (W.seen output.new)
+        (log_seen (E.seen log.old.output) log.old.pending) (log_seen (E.seen log.new.output) log.new.pending)
+        result }
+    ensures steps { StepsRan plan.now (T.passed table.old) (T.passed table.new) result }
+{
+    let played = play_each(table, plan, output, log)?;
+    write_score(played.score, output)?;
+    match played.fault {
+        None => Ok(()),
+        Some((number, side, fault)) => Err(GamesFault::Game(number, fault_text(side, fault))),
+    }
+}
+
 /// Plays the games of a match, with colours changed after each, and writes each game's PGN and then the score; if the
 /// plan asks for a log, each game is logged.
+///
+/// The contract sees only the output and the log; [`play_games_at`], which this calls, says in which order the engines
+/// are started, their games written, and their ends waited for.
 ///
 /// # Errors
 /// If an engine can't be started, memory runs out, the output fails, or an engine fails in a game, which is then the
@@ -313,16 +237,11 @@ pub fn play_games<'a, P: Processes + Clock, W: Output, E: Output>(
 {
     let tables = AttackTables::open(alloc)?;
     let game = Game::open(alloc, Bits::new(&tables), MOST_MOVES)?;
-    let mut table = Table {
+    let mut table = ProcessTable {
+        host: Host { rt, alloc },
         moments: SinceStart::new(rt),
         game,
         scratch: Bits::new(&tables),
     };
-    let host = Host { rt, alloc };
-    let played = play_each(&host, plan, &mut table, output, log)?;
-    write_score(played.score, output)?;
-    match played.fault {
-        None => Ok(()),
-        Some((number, side, fault)) => Err(GamesFault::Game(number, fault_text(side, fault))),
-    }
+    play_games_at(&mut table, plan, output, log)
 }

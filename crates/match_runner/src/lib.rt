@@ -20,13 +20,18 @@
 mod engine;
 mod fault;
 mod games;
+mod laws;
 mod log;
 mod moments;
 mod plan;
+mod process_table;
 mod score;
+mod table;
 
 pub use fault::GamesFault;
-pub use games::play_games;
+pub use games::{play_games, play_games_at};
+pub use laws::only_last_games_have_failed_writes;
 pub use log::{Log, run_match_logged};
 pub use moments::SinceStart;
 pub use plan::GamesPlan;
+pub use table::GamesTable;

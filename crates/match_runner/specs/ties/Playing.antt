@@ -4,20 +4,19 @@ use Rattle.match_runner.specs.declared.plan.GamesPlan.{GamesPlan}
 use Rattle.chess_base.specs.Men.{other}
 use Rattle.chess_base.specs.declared.man.Colour.{Colour}
 use Rattle.byte_devices.specs.Devices.{OutputState, BreaksOff, Sent}
-use Rattle.chess_game.specs.Game.{Seen}
 use Rattle.chess_game.specs.Results.{same_outcome}
 use Rattle.chess_game.specs.declared.results.Outcome.{Outcome}
 use Rattle.chess_game.specs.declared.results.Outcome.TheVariants.{Draw, Unfinished}
-use Rattle.chess_match.specs.Notes.{Note}
 use Rattle.chess_match.specs.Reasons.{win_of}
 use Rattle.chess_match.specs.Run.{Flushed}
 use Rattle.chess_match.specs.declared.run.MatchEnd.{MatchEnd}
-use Rattle.match_runner.specs.Log.{LogSeen, Logged, log_text}
+use Rattle.match_runner.specs.Log.{LogSeen}
 use Rattle.match_runner.specs.declared.fault.GamesFault.{GamesFault}
 use Rattle.match_runner.specs.declared.fault.GamesFault.TheVariants.{WriteFailed, NoMemory, CanNotStart}
 use Rattle.match_runner.specs.declared.games.GamesPlayed.{GamesPlayed}
 use Rattle.match_runner.specs.declared.score.Score.{Score}
-use Rattle.match_runner.specs.Games.{first_side, GameRecord, IsOfPlan, game_text, IsStartFault, game_texts, LogsGames, score_of, EndsGames, GamesBrokeOff}
+use Rattle.match_runner.specs.Games.{first_side, GameRecord, IsOfPlan, game_text, IsStartFault, LogsGame, game_texts, LogsGames, score_of, EndsGames, GamesBrokeOff}
+use Rattle.match_runner.specs.GamesTable.{GamesPassing, StepsPass, game_steps, unwritten_steps, unstarted_steps, games_steps, StepsBrokeOff}
 
 -- ---- the score, as it is counted
 
@@ -46,12 +45,6 @@ score_after first outcome s = record {
 abbrev pub logged_side : GamesPlan → ℕ → Option Colour
 logged_side plan number = if plan.log then Some (first_side number) else None
 
--- from the log's state `l` to `l'` the game of these notes was logged, if a side of the engine of `--white` is given;
--- without one (`None`) nothing was
-abbrev pub LogsGame : Option Colour → LogSeen → LogSeen → List Note → Type 0
-LogsGame None l l' notes = l' ≡ l
-LogsGame (Some first) l l' notes = Logged l l' (log_text first notes)
-
 -- the fault says that an engine of this command could not be started, or that there was no memory
 abbrev pub FailsToStart : List ℕ → GamesFault → Type 0
 FailsToStart command NoMemory = ⊤
@@ -59,24 +52,26 @@ FailsToStart command (CanNotStart c) = c.now ≡ command
 FailsToStart command _ = ⊥
 
 -- what playing the game of this number does, by its result: its PGN was written and flushed, and the game logged; or
--- only a beginning of the PGN was written; or its engines could not be started. `w` and `l` are output and log before,
--- `w'` and `l'` after
-abbrev pub PlayedGame : GamesPlan → ℕ → OutputState → OutputState → LogSeen → LogSeen → Result MatchEnd GamesFault
-    → Type 0
-PlayedGame plan number w w' l l' (Ok end) =
-    (game : Seen) × (notes : List Note) × IsOfPlan plan (record { game = game; end = end; notes = notes })
-    × Sent w w' (game_text plan number (record { game = game; end = end; notes = notes }))
-    × LogsGame (logged_side plan number) l l' notes
-PlayedGame plan number w w' l l' (Err WriteFailed) =
+-- only a beginning of the PGN was written; or its engines could not be started. `p` is what may have passed at the table
+-- before, `w` and `l` are output and log; `p'`, `w'` and `l'` after
+abbrev pub PlayedGame : GamesPlan → ℕ → GamesPassing → GamesPassing → OutputState → OutputState → LogSeen → LogSeen
+    → Result MatchEnd GamesFault → Type 0
+PlayedGame plan number p p' w w' l l' (Ok end) =
+    (played : GameRecord) × (played.end ≡ end) × IsOfPlan plan played × Sent w w' (game_text plan number played)
+    × LogsGame (logged_side plan number) l l' played.notes × StepsPass p p' (game_steps plan number played)
+PlayedGame plan number p p' w w' l l' (Err WriteFailed) =
     (played : GameRecord) × IsOfPlan plan played × BreaksOff w w' (game_text plan number played)
-    × LogsGame (logged_side plan number) l l' played.notes
-PlayedGame plan number w w' l l' (Err fault) = IsStartFault plan fault × (w' ≡ w) × (l' ≡ l)
+    × LogsGame (logged_side plan number) l l' played.notes × StepsPass p p' (unwritten_steps plan number played)
+PlayedGame plan number p p' w w' l l' (Err fault) =
+    IsStartFault plan.white.now plan.black.now fault × (w' ≡ w) × (l' ≡ l)
+    × StepsPass p p' (unstarted_steps plan number)
 
 -- what playing the games of a match does, by its result: each was written and logged, and the score counts them, up to
--- and with one that has a fault; or the match broke off. `w` and `l` are output and log before, `w'` and `l'` after
-abbrev pub HasPlayed : GamesPlan → OutputState → OutputState → LogSeen → LogSeen
+-- and with one that has a fault; or the match broke off. `p` is what may have passed at the table before, `w` and `l`
+-- are output and log; `p'`, `w'` and `l'` after
+abbrev pub HasPlayed : GamesPlan → GamesPassing → GamesPassing → OutputState → OutputState → LogSeen → LogSeen
     → Result GamesPlayed GamesFault → Type 0
-HasPlayed plan w w' l l' (Ok played) =
+HasPlayed plan p p' w w' l l' (Ok played) =
     (games : List GameRecord) × EndsGames plan games played.fault × (played.score ≡ score_of games)
-    × Flushed w w' (game_texts plan games) × LogsGames plan.log l l' games
-HasPlayed plan w w' l l' (Err fault) = GamesBrokeOff plan w w' l l' fault
+    × Flushed w w' (game_texts plan games) × LogsGames plan.log l l' games × StepsPass p p' (games_steps plan games)
+HasPlayed plan p p' w w' l l' (Err fault) = GamesBrokeOff plan w w' l l' fault × StepsBrokeOff plan p p' fault

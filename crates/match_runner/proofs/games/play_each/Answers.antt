@@ -1,7 +1,8 @@
 -- The games so far were played without a fault, written and logged, and the score counts them (GamesWritten.SoFar): a
 -- game more keeps that (GamesWritten.one_more), and one with a fault is the last (GamesWritten.with_fault).
 use Rattle.std.proofs.Common.{◌≡◌, ◌∙◌, ◌≤◌, ◌<◌, ◌+◌, ◌++◌, ◌∷◌, [], Ok, None, Some, subst, sym, ap, arith, rules}
-use Rattle.match_runner.specs.Games.{GameRecord, first_side}
+use Rattle.chess_match.specs.declared.run.MatchEnd.{MatchEnd}
+use Rattle.match_runner.specs.Games.{first_side}
 use Rattle.match_runner.specs.ties.Playing.{HasPlayed, score_after}
 use Rattle.match_runner.specs.Log.{log_seen}
 use Rattle.match_runner.specs.declared.score.Score.{Score}
@@ -11,83 +12,95 @@ use Rattle.match_runner.proofs.games.play_each.Goals as goal
 
 pub loop-number-init : goal.loop-number-init
 loop-number-init g c =
+    let p = g.T.GamesTable.passed c.args.table.now in
     let w = g.W.Output.seen c.args.output.now in
     let l = log_seen (g.E.Output.seen c.args.log.now.output) c.args.log.now.pending in (
       c.requires,
       [],
-      subst (λ (v : Score). SoFar c.args.plan.now w w l l 1 v []) (sym c.new-score.ensures)
-          (start c.args.plan.now w l),
+      subst (λ (v : Score). SoFar c.args.plan.now p p w w l l 1 v []) (sym c.new-score.ensures)
+          (start c.args.plan.now p w l),
     )
 
 pub returns-in_err-end : goal.returns-in_err-end
 returns-in_err-end g c =
+    let p = g.T.GamesTable.passed c.args.table.now in
     let w = g.W.Output.seen c.args.output.now in
+    let p' = g.T.GamesTable.passed c.loop-number.table in
     let w' = g.W.Output.seen c.loop-number.output in
-    let w'' = g.W.Output.seen c.start_and_play.new.output in
+    let p'' = g.T.GamesTable.passed c.play_game.new.table in
+    let w'' = g.W.Output.seen c.play_game.new.output in
     let l = log_seen (g.E.Output.seen c.args.log.now.output) c.args.log.now.pending in
     let l' = log_seen (g.E.Output.seen c.loop-number.log.output) c.loop-number.log.pending in
-    let l'' = log_seen (g.E.Output.seen c.start_and_play.new.log.output) c.start_and_play.new.log.pending in
+    let l'' = log_seen (g.E.Output.seen c.play_game.new.log.output) c.play_game.new.log.pending in
     let le : c.loop-number.number + 1 ≤ c.args.plan.now.games =
     (let t = c.loop-number-test.true in let e = c.game_count.ensures.value in omega (arith, t, e)) in
-    let p = err_from_is_err_and c.from_residual.result c.from_residual.ensures.1 in
-    rw (p.1, p.2) (broke c.args.plan.now w w' w'' l l' l'' (c.loop-number.number + 1) c.loop-number.score
+    let e = err_from_is_err_and c.from_residual.result c.from_residual.ensures.1 in
+    rw (e.1, e.2) (broke c.args.plan.now p p' p'' w w' w'' l l' l'' (c.loop-number.number + 1) c.loop-number.score
     c.loop-number.invariant.1 c.loop-number.invariant.2 c.in_err-end.field-0.0 le c.in_err-end.ensures.played)
 
 pub returns-in-Some : goal.returns-in-Some
 returns-in-Some g c =
     let plan = c.args.plan.now in
+    let p = g.T.GamesTable.passed c.args.table.now in
     let w = g.W.Output.seen c.args.output.now in
+    let p' = g.T.GamesTable.passed c.loop-number.table in
     let w' = g.W.Output.seen c.loop-number.output in
-    let w'' = g.W.Output.seen c.start_and_play.new.output in
+    let p'' = g.T.GamesTable.passed c.play_game.new.table in
+    let w'' = g.W.Output.seen c.play_game.new.output in
     let l = log_seen (g.E.Output.seen c.args.log.now.output) c.args.log.now.pending in
     let l' = log_seen (g.E.Output.seen c.loop-number.log.output) c.loop-number.log.pending in
-    let l'' = log_seen (g.E.Output.seen c.start_and_play.new.log.output) c.start_and_play.new.log.pending in
+    let l'' = log_seen (g.E.Output.seen c.play_game.new.log.output) c.play_game.new.log.pending in
     let number = c.loop-number.number + 1 in
     let le : number ≤ plan.games = (let t = c.loop-number-test.true in let e = c.game_count.ensures.value in
     omega (arith, t, e)) in
     let small : number ≤ 65535 =
     (let t = c.loop-number-test.true in let few = c.game_count.ensures.few in omega (arith, t, few)) in
     let one = c.in_ok-end.ensures.played in
-    let recorded : GameRecord = record { game = one.0; end = c.in_ok-end.end; notes = one.1 } in
-    let is : c.in_ok-end.end.fault ≡ Some (c.in-Some.side, c.in-Some.fault) = search rules in
-    let counted : c.after-score.result ≡ score_after (first_side number) c.in_ok-end.end.outcome c.loop-number.score =
+    let found : c.in_ok-end.end.fault ≡ Some (c.in-Some.side, c.in-Some.fault) = search rules in
+    let is = ap (λ (e : MatchEnd). e.fault) one.1 ∙ found in
+    let counted : c.after-score.result ≡ score_after (first_side number) one.0.end.outcome c.loop-number.score =
     c.after-score.ensures
     ∙ ap (λ side. score_after side c.in_ok-end.end.outcome c.loop-number.score) c.first_side.ensures
+    ∙ ap (λ (e : MatchEnd). score_after (first_side number) e.outcome c.loop-number.score) (sym one.1)
     in
     subst (λ (v : Score).
-    HasPlayed plan w w'' l l'' (Ok (record { score = v; fault = Some (number, c.in-Some.side, c.in-Some.fault) })))
+    HasPlayed plan p p'' w w'' l l'' (Ok (record { score = v; fault = Some (number, c.in-Some.side, c.in-Some.fault) })))
     (sym counted)
-    (with_fault plan w w' w'' l l' l'' number c.loop-number.score c.loop-number.invariant.1
-    c.loop-number.invariant.2 recorded
-    c.in-Some.side c.in-Some.fault le small one.2 is one.3 one.4)
+    (with_fault plan p p' p'' w w' w'' l l' l'' number c.loop-number.score c.loop-number.invariant.1
+    c.loop-number.invariant.2 one.0
+    c.in-Some.side c.in-Some.fault le small one.2 is one.3 one.4 one.5)
 
 pub loop-number-preserved : goal.loop-number-preserved
 loop-number-preserved g c =
     let plan = c.args.plan.now in
+    let p = g.T.GamesTable.passed c.args.table.now in
     let w = g.W.Output.seen c.args.output.now in
+    let p' = g.T.GamesTable.passed c.loop-number.table in
     let w' = g.W.Output.seen c.loop-number.output in
-    let w'' = g.W.Output.seen c.start_and_play.new.output in
+    let p'' = g.T.GamesTable.passed c.play_game.new.table in
+    let w'' = g.W.Output.seen c.play_game.new.output in
     let l = log_seen (g.E.Output.seen c.args.log.now.output) c.args.log.now.pending in
     let l' = log_seen (g.E.Output.seen c.loop-number.log.output) c.loop-number.log.pending in
-    let l'' = log_seen (g.E.Output.seen c.start_and_play.new.log.output) c.start_and_play.new.log.pending in
+    let l'' = log_seen (g.E.Output.seen c.play_game.new.log.output) c.play_game.new.log.pending in
     let number = c.loop-number.number + 1 in
     let le : number ≤ plan.games = (let t = c.loop-number-test.true in let e = c.game_count.ensures.value in
     omega (arith, t, e)) in
     let small : number ≤ 65535 =
     (let t = c.loop-number-test.true in let few = c.game_count.ensures.few in omega (arith, t, few)) in
     let one = c.in_ok-end.ensures.played in
-    let recorded : GameRecord = record { game = one.0; end = c.in_ok-end.end; notes = one.1 } in
-    let is : c.in_ok-end.end.fault ≡ None = search rules in
-    let counted : c.after-score.result ≡ score_after (first_side number) c.in_ok-end.end.outcome c.loop-number.score =
+    let found : c.in_ok-end.end.fault ≡ None = search rules in
+    let is = ap (λ (e : MatchEnd). e.fault) one.1 ∙ found in
+    let counted : c.after-score.result ≡ score_after (first_side number) one.0.end.outcome c.loop-number.score =
     c.after-score.ensures
     ∙ ap (λ side. score_after side c.in_ok-end.end.outcome c.loop-number.score) c.first_side.ensures
+    ∙ ap (λ (e : MatchEnd). score_after (first_side number) e.outcome c.loop-number.score) (sym one.1)
     in
-    let games = c.loop-number.invariant.1 ++ recorded ∷ [] in (
-      c.start_and_play.ensures.limit,
+    let games = c.loop-number.invariant.1 ++ one.0 ∷ [] in (
+      c.play_game.ensures.limit,
       games,
-      subst (λ (v : Score). SoFar plan w w'' l l'' (number + 1) v games) (sym counted)
-          (one_more plan w w' w'' l l' l'' number c.loop-number.score c.loop-number.invariant.1
-          c.loop-number.invariant.2 recorded le small one.2 is one.3 one.4),
+      subst (λ (v : Score). SoFar plan p p'' w w'' l l'' (number + 1) v games) (sym counted)
+          (one_more plan p p' p'' w w' w'' l l' l'' number c.loop-number.score c.loop-number.invariant.1
+          c.loop-number.invariant.2 one.0 le small one.2 is one.3 one.4 one.5),
     )
 
 pub returns : goal.returns
@@ -96,5 +109,6 @@ returns g c =
     (let t = c.loop-number-test.false in let e = c.game_count.ensures.value in omega (arith, t, e)) in
     let l = log_seen (g.E.Output.seen c.args.log.now.output) c.args.log.now.pending in
     let l' = log_seen (g.E.Output.seen c.loop-number.log.output) c.loop-number.log.pending in
-    all_played c.args.plan.now (g.W.Output.seen c.args.output.now) (g.W.Output.seen c.loop-number.output) l l'
+    all_played c.args.plan.now (g.T.GamesTable.passed c.args.table.now) (g.T.GamesTable.passed c.loop-number.table)
+    (g.W.Output.seen c.args.output.now) (g.W.Output.seen c.loop-number.output) l l'
     (c.loop-number.number + 1) c.loop-number.score c.loop-number.invariant.1 c.loop-number.invariant.2 past

@@ -8,8 +8,9 @@ use Rattle.chess_game.specs.declared.game.TheConstants.{MOST_MOVES}
 -- so many games were played, written and logged, none with a fault; the next has one number more
 abbrev pub invariant-loop-number : goal.invariant-loop-number
 invariant-loop-number g l =
-    (l.table.game.limit ≡ MOST_MOVES) × (games : List GameRecord)
-    × SoFar l.plan (g.W.Output.seen l.fn.output) (g.W.Output.seen l.output)
+    ((g.T.GamesTable.game l.table).limit ≡ MOST_MOVES) × (games : List GameRecord)
+    × SoFar l.plan (g.T.GamesTable.passed l.fn.table) (g.T.GamesTable.passed l.table)
+    (g.W.Output.seen l.fn.output) (g.W.Output.seen l.output)
     (log_seen (g.E.Output.seen l.fn.log.output) l.fn.log.pending)
     (log_seen (g.E.Output.seen l.log.output) l.log.pending)
     (l.number + 1) l.score games

@@ -1,87 +1,75 @@
--- The game that the match left is one of the plan, since it began with a limit of 20,000 half-moves, which stays
--- (GamesWritten.limit_kept, of_plan). What was written is its text with the tags of its end, or a beginning of it, and
--- it was logged.
-use Rattle.std.proofs.Common.{[], ◌∙◌, Option, refl, subst}
-use Rattle.byte_devices.specs.Devices.{BreaksOff, Sent}
+-- The steps of a game, one after another (GamesWritten.was_written, was_not_written); or its engines could not be
+-- started (GamesWritten.was_not_started). The match leaves the game its limit (GamesWritten.limit_kept).
+use Rattle.std.proofs.Common.{ℕ, List, ◌∙◌, Option, ap, refl}
 use Rattle.chess_base.specs.declared.man.Colour.{Colour}
-use Rattle.chess_match.specs.ByDevice.{notes_given}
-use Rattle.chess_pgn.specs.GameText.{pgn}
-use Rattle.match_runner.specs.Games.{setup_of}
-use Rattle.match_runner.specs.ties.Playing.{LogsGame}
+use Rattle.chess_game.specs.Game.{Seen}
+use Rattle.chess_match.specs.Notes.{Note}
+use Rattle.chess_match.specs.Played.{World}
+use Rattle.match_runner.specs.Games.{GameRecord, setup_of}
 use Rattle.match_runner.specs.Log.{log_seen}
-use Rattle.match_runner.proofs.GamesWritten.{limit_kept, of_plan}
+use Rattle.match_runner.proofs.GamesWritten.{limit_kept, was_not_started, was_not_written, was_written}
 use Rattle.std.proofs.lemmas.Result.{err_from_is_err_and}
 use Rattle.match_runner.proofs.games.play_game.Goals as goal
 
-pub returns-clause-limit : goal.returns-clause-limit
-returns-clause-limit g c =
-    let r = c.relay-end.ensures.ran in
-    limit_kept (setup_of c.args.plan.now) c.relay-end.result _ _ r.0 r.1 r.3 ∙ c.requires.limit
+pub returns-in_err-engines-clause-limit : goal.returns-in_err-engines-clause-limit
+returns-in_err-engines-clause-limit g c = ap (λ (v : Seen). v.limit) c.start.ensures.game ∙ c.requires.limit
 
-pub returns-clause-played : goal.returns-clause-played
-returns-clause-played g c =
-    let game = c.relay-end.new.table.game in
-    let w = g.W.Output.seen c.args.output.now in
-    let w' = g.W.Output.seen c.write_game.new.output in
-    let l = log_seen (g.E.Output.seen c.args.log.now.output) c.args.log.now.pending in
-    let l' = log_seen (g.E.Output.seen c.relay-end.new.log.output) c.relay-end.new.log.pending in
-    let r = c.relay-end.ensures.ran in (
-      game,
-      notes_given r.1 r.0,
-      of_plan c.args.plan.now c.relay-end.result _ _ r.0 r.1 r.3 c.requires.limit,
-      subst (λ t. Sent w w' (pgn [] t game.state)) c.tags_of-tags.ensures c.in_ok-write_game.ensures,
-      subst (λ (first : Option Colour). LogsGame first l l' (notes_given r.1 r.0)) c.logged_side-first.ensures r.2,
-    )
-
-pub returns-clause-ran : goal.returns-clause-ran
-returns-clause-ran g c =
-    let l = log_seen (g.E.Output.seen c.args.log.now.output) c.args.log.now.pending in
-    let l' = log_seen (g.E.Output.seen c.relay-end.new.log.output) c.relay-end.new.log.pending in
-    let r = c.relay-end.ensures.ran in (
-      c.relay-end.result,
-      refl,
-      (
-        r.0,
-        r.1,
-        subst (λ (first : Option Colour). LogsGame first l l' (notes_given r.1 r.0)) c.logged_side-first.ensures r.2,
-        r.3,
-      ),
-    )
-
-pub returns-in_err-write_game-clause-limit : goal.returns-in_err-write_game-clause-limit
-returns-in_err-write_game-clause-limit g c =
-    let r = c.relay-end.ensures.ran in
-    limit_kept (setup_of c.args.plan.now) c.relay-end.result _ _ r.0 r.1 r.3 ∙ c.requires.limit
-
-pub returns-in_err-write_game-clause-played : goal.returns-in_err-write_game-clause-played
-returns-in_err-write_game-clause-played g c =
-    let game = c.relay-end.new.table.game in
-    let w = g.W.Output.seen c.args.output.now in
-    let w' = g.W.Output.seen c.write_game.new.output in
-    let l = log_seen (g.E.Output.seen c.args.log.now.output) c.args.log.now.pending in
-    let l' = log_seen (g.E.Output.seen c.relay-end.new.log.output) c.relay-end.new.log.pending in
-    let r = c.relay-end.ensures.ran in
+pub returns-in_err-engines-clause-played : goal.returns-in_err-engines-clause-played
+returns-in_err-engines-clause-played g c =
     let p = err_from_is_err_and c.from_residual.result c.from_residual.ensures.1 in
-    rw (p.1, p.2) (
-      record { game = game; end = c.relay-end.result; notes = notes_given r.1 r.0 },
-      of_plan c.args.plan.now c.relay-end.result _ _ r.0 r.1 r.3 c.requires.limit,
-      subst (λ t. BreaksOff w w' (pgn [] t game.state)) c.tags_of-tags.ensures c.in_err-write_game.ensures,
-      subst (λ (first : Option Colour). LogsGame first l l' (notes_given r.1 r.0)) c.logged_side-first.ensures r.2,
-    )
+    rw (p.1, p.2) (was_not_started c.args.plan.now c.args.number _ _ _ _ _ _ c.in_err-engines.field-0.0
+    c.command_of.ensures c.command_of-2.ensures c.in_err-engines.ensures.fails c.in_err-engines.ensures.passes)
 
-pub returns-in_err-write_game-clause-ran : goal.returns-in_err-write_game-clause-ran
-returns-in_err-write_game-clause-ran g c =
-    let l = log_seen (g.E.Output.seen c.args.log.now.output) c.args.log.now.pending in
-    let l' = log_seen (g.E.Output.seen c.relay-end.new.log.output) c.relay-end.new.log.pending in
-    let r = c.relay-end.ensures.ran in
-    let p = err_from_is_err_and c.from_residual.result c.from_residual.ensures.1 in
-    rw p.1 (
-      c.relay-end.result,
-      tt,
-      (
-        r.0,
-        r.1,
-        subst (λ (first : Option Colour). LogsGame first l l' (notes_given r.1 r.0)) c.logged_side-first.ensures r.2,
-        r.3,
-      ),
-    )
+pub returns-in-Ok-clause-limit : goal.returns-in-Ok-clause-limit
+returns-in-Ok-clause-limit g c =
+    let r = c.play-end.ensures.played in
+    ap (λ (v : Seen). v.limit) (c.finish.ensures.game ∙ c.write_game-written.ensures.game)
+    ∙ limit_kept r.0 (setup_of c.args.plan.now) c.play-end.result _ _ r.2
+    ∙ ap (λ (v : Seen). v.limit) c.start.ensures.game ∙ c.requires.limit
+
+pub returns-in-Ok-clause-played : goal.returns-in-Ok-clause-played
+returns-in-Ok-clause-played g c =
+    let r = c.play-end.ensures.played in
+    let before : World = record {
+      ports = g.T.GamesTable.ports c.in_ok-engines.engines;
+      coming = g.T.GamesTable.coming c.start.new.self;
+      game = g.T.GamesTable.game c.start.new.self;
+    } in
+    let after : World = record {
+      ports = g.T.GamesTable.ports c.play-end.new.engines;
+      coming = g.T.GamesTable.coming c.play-end.new.self;
+      game = g.T.GamesTable.game c.play-end.new.self;
+    } in
+    was_written c.args.plan.now c.args.number _ _ _ _ _ _ _ _ _ _ _ _
+    (record { before = before; after = after; end = c.play-end.result; notes = r.0 }) c.tags_of-tags.result
+    c.command_of.ensures c.command_of-2.ensures c.logged_side.ensures c.tags_of-tags.ensures
+    c.in_ok-engines.ensures.passes r.1 r.3 c.finish.ensures.passes
+    (ap (λ (v : Seen). v.limit) c.start.ensures.game ∙ c.requires.limit, r.2) c.in-Ok.ensures.sends
+    c.in-Ok.ensures.passes
+
+pub returns-in-Err-clause-limit : goal.returns-in-Err-clause-limit
+returns-in-Err-clause-limit g c =
+    let r = c.play-end.ensures.played in
+    ap (λ (v : Seen). v.limit) (c.finish.ensures.game ∙ c.write_game-written.ensures.game)
+    ∙ limit_kept r.0 (setup_of c.args.plan.now) c.play-end.result _ _ r.2
+    ∙ ap (λ (v : Seen). v.limit) c.start.ensures.game ∙ c.requires.limit
+
+pub returns-in-Err-clause-played : goal.returns-in-Err-clause-played
+returns-in-Err-clause-played g c =
+    let r = c.play-end.ensures.played in
+    let before : World = record {
+      ports = g.T.GamesTable.ports c.in_ok-engines.engines;
+      coming = g.T.GamesTable.coming c.start.new.self;
+      game = g.T.GamesTable.game c.start.new.self;
+    } in
+    let after : World = record {
+      ports = g.T.GamesTable.ports c.play-end.new.engines;
+      coming = g.T.GamesTable.coming c.play-end.new.self;
+      game = g.T.GamesTable.game c.play-end.new.self;
+    } in
+    was_not_written c.args.plan.now c.args.number _ _ _ _ _ _ _ _ _ _ _ _
+    (record { before = before; after = after; end = c.play-end.result; notes = r.0 }) c.tags_of-tags.result
+    c.command_of.ensures c.command_of-2.ensures c.logged_side.ensures c.tags_of-tags.ensures
+    c.in_ok-engines.ensures.passes r.1 r.3 c.finish.ensures.passes
+    (ap (λ (v : Seen). v.limit) c.start.ensures.game ∙ c.requires.limit, r.2) c.in-Err.ensures.sends
+    c.in-Err.ensures.passes

@@ -2,9 +2,9 @@
 use Rattle.std.proofs.Common.{◌≡◌, Option, None, Some, refl, rules, subst, sym}
 use Rattle.chess_base.specs.declared.man.Colour.{Colour}
 use Rattle.chess_match.specs.ByDevice.{notes_given}
-use Rattle.match_runner.specs.ties.Playing.{LogsGame}
+use Rattle.match_runner.specs.Games.{LogsGame}
 use Rattle.match_runner.specs.Log.{log_seen}
-use Rattle.match_runner.proofs.games.relay.Goals as goal
+use Rattle.match_runner.proofs.process_table.relay.Goals as goal
 
 pub returns-in_default : goal.returns-in_default
 returns-in_default g c =

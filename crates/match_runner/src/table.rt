@@ -1,0 +1,85 @@
+//! The table of a match's games.
+
+ghost use Rattle.std.specs.Prelude.{◌≡◌, ◌∷◌, [], IfErr, List};
+ghost use Rattle.std.specs.Result.{is_err};
+ghost use Rattle.byte_devices.specs.Devices.{Sends};
+ghost use Rattle.chess_match.specs.Notes.{Note};
+ghost use Rattle.chess_match.specs.Played.{PlayedNoting};
+ghost use Rattle.chess_pgn.specs.GameText.{pgn};
+ghost use Rattle.match_runner.specs.Games.{IsStartFault, LogsGame};
+ghost use Rattle.match_runner.specs.GamesTable.{Finishes, Plays, StepsPass, starting, writing};
+ghost use Rattle.match_runner.specs.Log.{log_seen};
+
+use crate::fault::GamesFault;
+use crate::log::Log;
+use byte_devices::{Output, WriteFault};
+use chess_base::Colour;
+use chess_match::{MatchEnd, Setup};
+use chess_pgn::Tags;
+
+/// Where the games of a match are played: what starts and ends engines, plays their games and writes them. Each call is
+/// one step of the match, and contracts see in which order the steps come.
+pub trait GamesTable {
+    ghost use Rattle.std.specs.Prelude.{List, Option, ℕ};
+    ghost use Rattle.chess_game.specs.Game.{Seen};
+    ghost use Rattle.chess_match.specs.Run.{Ports};
+    ghost use Rattle.match_runner.specs.GamesTable.{GamesStep};
+
+    /// Two running engines. A value of this type can't be dropped: it must be given to `finish`.
+    type Engines;
+
+    /// What contracts see of it: which steps may have passed, in their order.
+    ghost passed: { Self → List GamesStep → Type 0 };
+
+    /// The game that is played, or was played last.
+    ghost game: { Self → Seen };
+
+    /// For each number from 0 on, which moment the clock will show then, as far as that is known.
+    ghost coming: { Self → ℕ → Option ℕ };
+
+    /// The pipes of two engines.
+    ghost ports: { Self.Engines → Ports };
+
+    /// Starts two engines by their commands, White's and Black's; or none, if one of them can't be started.
+    fn start<'a>(&mut self, white: &'a str, black: &'a str) -> Result<Self::Engines, GamesFault<'a>>
+        ensures fails { IfErr result (IsStartFault white.entry.now black.entry.now) }
+        ensures passes { StepsPass (passed self.old) (passed self.new)
+            (starting (is_err result) white.entry.now black.entry.now ∷ []) }
+        ensures game { game self.new ≡ game self.old };
+
+    /// Plays one game between these engines as `run_match` of chess_match does, and logs it if `first`, the side of the
+    /// engine of `--white`, is given.
+    fn play<E: Output>(
+        &mut self,
+        engines: &mut Self::Engines,
+        setup: &Setup,
+        first: Option<Colour>,
+        log: &mut Log<E>,
+    ) -> MatchEnd
+        ensures played { (notes : List Note)
+            × LogsGame first (log_seen (E.seen log.old.output) log.old.pending)
+            (log_seen (E.seen log.new.output) log.new.pending) notes
+            × PlayedNoting (λ given. given ≡ notes) setup.now result
+            (record { ports = ports engines.old; coming = coming self.old; game = game self.old })
+            (record { ports = ports engines.new; coming = coming self.new; game = game self.new })
+            × StepsPass (passed self.old) (passed self.new)
+            (Plays (record {
+              before = record { ports = ports engines.old; coming = coming self.old; game = game self.old };
+              after = record { ports = ports engines.new; coming = coming self.new; game = game self.new };
+              end = result;
+              notes = notes;
+            }) ∷ []) };
+
+    /// Writes the PGN of the game that was played, and flushes.
+    fn write_game<W: Output>(&mut self, tags: &Tags, output: &mut W) -> Result<(), WriteFault>
+        ensures sends { Sends (W.seen output.old) (W.seen output.new) result
+            (pgn [] tags.now (game self.old).state) }
+        ensures passes { StepsPass (passed self.old) (passed self.new)
+            (writing (is_err result) (pgn [] tags.now (game self.old).state) ∷ []) }
+        ensures game { game self.new ≡ game self.old };
+
+    /// Closes the inputs of these engines, and waits for their ends.
+    fn finish(&mut self, engines: Self::Engines)
+        ensures passes { StepsPass (passed self.old) (passed self.new) (Finishes ∷ []) }
+        ensures game { game self.new ≡ game self.old };
+}
