@@ -35,7 +35,7 @@ abbrev pub block_of : Colour → List SentLine → List Block
 block_of S [] = []
 block_of S (l ∷ ls) = record { to = S; lines = l ∷ ls } ∷ []
 
--- the blocks of these lines for each side, that of the side `first` first
+-- the blocks of the lines that each side is to be sent (`lines`): the block for the side `first`, then the other's
 abbrev pub blocks_from : Colour → (Colour → List SentLine) → List Block
 blocks_from first lines = block_of first (lines first) ++ block_of (other first) (lines (other first))
 
@@ -54,12 +54,14 @@ abbrev pub is_over : Phase → Bool
 is_over (Over reason) = true
 is_over _ = false
 
--- the blocks that are due when a line of the side `S` did this: that side is written to first; at the end White is
+-- the blocks that are due after a line of the side `S` had the effect `done`: the one for `S`, then the other side's;
+-- but if the match is then over, White's comes first
 abbrev pub blocks_after : Colour → Effect → List Block
 blocks_after S done = blocks_from (if is_over done.after.phase then White else S) done.to
 
--- a write to the side `S` failed in the match `m`, when the blocks `due` were still to be sent: the match after it, and
--- what is then due. It ends the match; a match that is over goes on to its end
+-- what follows where a block for the side `S` could not be sent in the match `m`, and `due` are the blocks after it:
+-- the match then, and the blocks then due. A match that is not over ends, and only the other side's lines of that end
+-- are due, in place of `due`; one that is over stays as it is, and `due` is still sent
 abbrev pub after_failed_send : Rules → Match → List Block → Colour → Match × List Block
 after_failed_send r m due S =
     let done = effect r m (FailsToWrite S) in

@@ -44,7 +44,7 @@ lines_sent S [] = []
 lines_sent S (Sends block ∷ H) = list_if (same_colour block.to S) block.lines ++ lines_sent S H
 lines_sent S (_ ∷ H) = lines_sent S H
 
--- the blocks for the side `S` that could not be sent: at most one
+-- the blocks for the side `S` that could not be sent, each as its lines; in a match there is at most one
 abbrev pub broken_blocks : Colour → List Act → List (List SentLine)
 broken_blocks S [] = []
 broken_blocks S (SendFails block ∷ H) = list_if (same_colour block.to S) (block.lines ∷ []) ++ broken_blocks S H

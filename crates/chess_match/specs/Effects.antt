@@ -1,4 +1,5 @@
--- What each event of a match does: the match after it, and the lines that each side is then sent.
+-- What each event of a match does: the match after it, and the lines that each side is then sent. A definition with the
+-- name `.._row` is the effect of a line, or of one kind of line.
 use Rattle.std.specs.Prelude.{ℕ, ◌+◌, ◌-◌, ◌/◌, ◌==◌, ◌&&◌, nat_le, nat_lt, Bool, true, false, not, if◌then◌else◌, List, [], ◌∷◌, ◌++◌, length, codes, sum, Option, None, Some, is_some}
 use Rattle.std.specs.Option.{option_map_or}
 use Rattle.chess_base.specs.declared.man.Colour.{Colour}
@@ -53,9 +54,9 @@ pub record Effect : Type 0 where
   pub after : Match
   pub to : Colour → List SentLine
 
--- ---- what the rows ask
+-- ---- what is asked of a match
 
--- the milliseconds that the side `S` has left
+-- the milliseconds that the side `S` has left after the moves that it has made; a turn that is on is not counted
 abbrev pub clock : Rules → Match → Colour → ℕ
 clock r m S = time_left r.level (length (m.seat S).used) (sum (m.seat S).used)
 
@@ -63,8 +64,8 @@ clock r m S = time_left r.level (length (m.seat S).used) (sum (m.seat S).used)
 abbrev pub ping_number : Match → Colour → ℕ
 ping_number m S = length (m.seat S).used + 1
 
--- whether the side `S` was ever sent a move, asked when a line of `S` is awaited. The other side's moves (each has one
--- used time) have all been sent by then
+-- whether the side `S` was ever sent a move, by whether the other side has made one: there is a used time for each
+-- move. Both are the same where this is asked: when a line of `S` is awaited, all moves of the other side were sent
 abbrev pub was_sent_move : Match → Colour → Bool
 was_sent_move m S = nat_lt 0 (length (m.seat (other S)).used)
 
@@ -117,7 +118,7 @@ farewell r m reason S =
     list_if (is_owed m.phase S) (move_line r m S ∷ [])
     ++ (Says (codes "result " ++ result_text (outcome_by_reason reason) (comment_of reason)) ∷ Says (codes "quit") ∷ [])
 
--- ---- what a row may do
+-- ---- the effects of which rows are made
 
 -- the match is then `m`; nothing is sent
 abbrev pub sends_nothing : Match → Effect
@@ -152,7 +153,7 @@ ignores r S m =
 abbrev pub begins_turn : Rules → Colour → Match → Effect
 begins_turn r S m = let m' = enter (Opening S) m in sends_to S (opening r m' S) m'
 
--- `otherwise`; but if the board has a verdict in the match `m`, that ends it
+-- the end of the match `m`, if the board has a verdict after its moves; else the effect `otherwise`
 abbrev pub unless_decided : Rules → Match → Effect → Effect
 unless_decided r m otherwise = option_map_or (λ verdict. ends r (Decided verdict) m) (r.verdict m.played) otherwise
 
@@ -167,8 +168,10 @@ offer_row r S m =
     else sends_to (other S) (list_if (takes (codes "draw") (m.seat (other S)).items) (Says (codes "draw") ∷ []))
     (with_seat S (λ s. record s { offers = true }) m)
 
--- a line of the side `S` that means the same before its move and after it. `1/2-1/2` is an offer where no draw may be
--- claimed; `Illegal move` is ignored from a side that was never sent a move
+-- what a line of the side `S` does that means the same before its move and after it. By `1-0` or `0-1` the side
+-- resigns if the other one wins, and makes a false claim, which loses, if it wins itself. `1/2-1/2` claims a draw, and
+-- is an offer where none may be claimed. `Illegal move` loses, but is ignored from a side that was never sent a move.
+-- Any other line is ignored
 abbrev pub turn_row : Rules → Colour → LineKind → Match → Effect
 turn_row r S Resigns m = ends r (over_by.Resigns S) m
 turn_row r S OffersDraw m = offer_row r S m
@@ -184,7 +187,9 @@ moved S move used m =
     with_seat (other S) (λ s. record s { offers = false }) (with_seat S (λ s. record s { used = s.used ++ used ∷ [] })
     (record m { phase = AfterMove S; played = m.played ++ move ∷ [] }))
 
--- `move M` of the side `S`, after `used` milliseconds; the option is the one legal move that M denotes
+-- what `move M` of the side `S` does, `used` milliseconds after its turn began; the option is the one legal move that
+-- M denotes. Without one the side loses. Else the move is made; then the board's verdict ends the match, if there is
+-- one, or else the side is sent the next `ping`
 abbrev pub move_row : Rules → Colour → ℕ → Option Move → Match → Effect
 move_row r S used None m = ends r (MovesIllegally S) m
 move_row r S used (Some move) m =
@@ -211,8 +216,9 @@ after_move r S kind m = turn_row r S kind m
 
 -- ---- a line before the game
 
--- both handshakes are done; the options are what is missing for White and for Black. White is judged first; if nothing
--- is missing, White is set up. Either way no line counts any more: those counted were of the handshake
+-- what follows once both handshakes are done; the options are what White's engine lacks and what Black's engine lacks.
+-- If one lacks something, the match ends, and White is judged first; else White's setup begins. The count of lines,
+-- which was that of the handshake, is 0 again in each case
 abbrev pub judged : Rules → Option MatchFault → Option MatchFault → Match → Effect
 judged r (Some fault) _ m = ends r (Faulted White fault) (record m { count = 0 })
 judged r None (Some fault) m = ends r (Faulted Black fault) (record m { count = 0 })
@@ -223,7 +229,7 @@ abbrev pub handshake_done : Rules → Colour → Match → Effect
 handshake_done r White m = sends_to Black handshake_lines (enter (Handshake Black) m)
 handshake_done r Black m = judged r (missing r (m.seat White).items) (missing r (m.seat Black).items) m
 
--- the same, but before all else the engine of this side is sent an answer to each of these items
+-- the effect `e`, except that the engine of this side is sent, before all else, an answer to each of these items
 abbrev pub with_answers : Colour → List Item → Effect → Effect
 with_answers side items e = record e { to = λ S. list_if (same_colour side S) (answers_to items) ++ e.to S }
 
@@ -263,7 +269,8 @@ line_row r (BeforeMove S opened) kind moment m =
 line_row r (AfterMove S) kind moment m = after_move r S kind m
 line_row r _ kind moment m = sends_nothing m
 
--- what an event does to the match `m`
+-- what an event does to the match `m`. Lines are read only of the side that `m` waits for (`awaits_line` in Acts), so
+-- `line_row` takes a line's side from the phase
 abbrev pub effect : Rules → Match → Event → Effect
 effect r m (Line S text moment) = line_row r m.phase (line_kind text) moment m
 effect r m (Opened S moment) = sends_nothing (record m { phase = BeforeMove S moment })

@@ -25,12 +25,13 @@ use Rattle.chess_match.specs.declared.run.Setup.{Setup}
 pub record World : Type 0 where
   -- both engines' outputs and inputs
   pub ports : Ports
-  -- for each number from 0 on, which moment the clock will show then, as far as that is known
+  -- the moment that each reading of the clock will give, where 0 is the next reading; `None` if it is not known
   pub coming : ℕ → Option ℕ
   pub game : game.Seen
 
--- the bytes `given` were read from the engine of the side `S`, from the state `old` of its output to `new`. The lines
--- read are the first of those bytes; all of them, if the output ended or a read failed
+-- from the state `old` of its output to `new` the engine of the side `S` gave the bytes `given`. The lines that the
+-- acts `H` read from it are the first lines of these bytes; all of them, if the output ended or a read failed. What
+-- follows the last `\n` is no line
 pub record ReadAs (S : Colour) (H : List Act) (old new : InputState) (given : List ℕ) : Type 0 where
   pub bytes : Consumes old.known_bytes new.known_bytes given
   pub lines : (rest : List (Option (List ℕ))) × (engine_lines given ≡ lines_read S H ++ rest)
@@ -46,8 +47,9 @@ WrittenAs sent [] old new = Flushed old new (bytes_of sent)
 WrittenAs sent (block ∷ more) old new =
     (start : List ℕ) × Begins start (bytes_of block) × FlushedThenFailed old new (bytes_of sent) start
 
--- these acts were done, as each device, seen apart, shows: they are a match by the rules `r`, which ended as `final`.
--- `w` is the world before, `w'` after
+-- the acts `H` are a match by the rules `r`, which ended as `final`; and from the world `w` to `w'` each engine's
+-- output, each engine's input and the clock did just what these acts say of it. Each device is looked at by itself:
+-- the order of acts at different devices is not claimed
 pub record Passed (r : Rules) (H : List Act) (final : Match) (w w' : World) : Type 0 where
   pub is_match : IsMatch r H final
   pub read : (S : Colour) → (given : List ℕ) × ReadAs S H (w.ports.reader S) (w'.ports.reader S) given
@@ -77,8 +79,8 @@ PlayedBy H reason setup end w w' =
       declared = declared_at (r.verdict final.played) reason;
     }))
 
--- a match was played as `setup` says, from the world `w` to `w'`, and reported as `end`: some acts were done, with
--- which devices, report and game agree
+-- a match was played as `setup` says, from the world `w` to `w'`, and reported as `end`: there are acts and a reason
+-- by which `PlayedBy` holds, so the devices, the report and the game agree with one and the same match
 abbrev pub Played : Setup → MatchEnd → World → World → Type 0
 Played setup end w w' = (H : List Act) × (reason : Reason) × PlayedBy H reason setup end w w'
 

@@ -1,4 +1,4 @@
-//! Kinds of bytes. All functions are inlined, since each byte of a text is asked.
+//! Kinds of bytes. Each byte of a text is asked, so the look-ups in tables are inlined.
 
 ghost use Rattle.std.specs.Prelude.{◌≡◌, ◌||◌, ◌==◌};
 ghost use Rattle.chess_pgn.specs.Tokens.{is_white_space, is_word_byte};

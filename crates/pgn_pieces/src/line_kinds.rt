@@ -1,4 +1,4 @@
-//! Which kind of line a line of a collection is. All functions here are inlined, since `verify --keep-going` asks this
+//! Which kind of line a line of a collection is. What `kind_of` calls is inlined, since `verify --keep-going` asks it
 //! of every line of a collection (the workload collections). What that gains was not measured apart.
 
 ghost use Rattle.std.specs.Prelude.{◌≡◌, ◌≤◌, true, false, length, take, drop, codes};

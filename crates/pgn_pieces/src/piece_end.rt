@@ -59,7 +59,8 @@ impl Seen {
         self.inside = goes_on;
     }
 
-    // Looks at what comes next: the rest of a line, with its `\n`.
+    // Looks at what comes next, the rest of a line with its `\n`, and returns whether a piece begins there; if not, the
+    // line is noted.
     #[inline(always)]
     fn see_whole(&mut self, line: &[u8]) -> bool
         requires whole { (body : List ℕ) × (line.now ≡ body ++ 10 ∷ []) × (has_line_end body ≡ false) }
@@ -77,7 +78,10 @@ impl Seen {
         false
     }
 
-    // Looks at what comes next: bytes of a line that may go on.
+    // Looks at what comes next, bytes of a line whose `\n` isn't read yet, and returns what they are: more of the
+    // piece's last line or a new line of it (`Belongs`), the beginning of the next piece (`Begins`), or too few to tell
+    // (`Waits`). A line that is no tag line so far may become one by more bytes, until it has the 256 (`FRONT_LEN`) that
+    // decide its kind; a line that is one stays one.
     #[inline(always)]
     fn see_open(&mut self, line: &[u8]) -> Step
         requires plain { (0 < length line.now) × (has_line_end line.now ≡ false) }

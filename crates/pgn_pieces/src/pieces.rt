@@ -21,7 +21,8 @@ pub const PIECE_LEN: usize = 16_777_216;
 // How many bytes a read asks for.
 const CHUNK_LEN: usize = 65_536;
 
-// The most bytes after which the input is read once more: 2^63 less those of a read, and less one.
+// The most bytes after which the input is read once more, 2^63 - 1 - `CHUNK_LEN`: after one more read all sums of
+// offsets stay below 2^63.
 const MOST_READ: usize = 9_223_372_036_854_710_271;
 
 /// Why there are no more pieces.
