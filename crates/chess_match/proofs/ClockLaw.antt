@@ -60,7 +60,7 @@ step r due m e f w =
           plays = λ text' move k rd room timely v. played r S move _ m timely w;
           decides = λ text' move v k rd room timely. played r S move _ m timely w;
         };
-        behind = λ p. record { row = row S (line_kind text); passes = λ k. w };
+        after = λ p. record { row = row S (line_kind text); passes = λ k. w };
       };
       opened = λ S moment is p. w;
       faulted = λ S x on u. w;

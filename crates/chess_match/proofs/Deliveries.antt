@@ -11,7 +11,7 @@ use Rattle.chess_match.specs.Effects as effects
 use Rattle.chess_match.specs.Effects.{Effect, effect}
 use Rattle.chess_match.specs.Events.{FailsToWrite}
 use Rattle.chess_match.specs.laws.Blocks.{block}
-use Rattle.chess_match.specs.laws.Machine.{Match, match_after}
+use Rattle.chess_match.specs.laws.Machine.{Match, match_after, view}
 use Rattle.chess_match.specs.laws.Transcript.{is_on}
 use Rattle.chess_match.specs.Lines.{SentLine, Says}
 use Rattle.chess_match.specs.Reasons.{is_unwritten}
@@ -24,7 +24,7 @@ use Rattle.chess_match.specs.declared.reason.Reason.TheVariants.{Faulted}
 use Rattle.chess_match.specs.declared.state.MatchState.{MatchState}
 use Rattle.chess_match.specs.ties.Driving.{Delivered, Leads, by_turn, giving, steps_of}
 use Rattle.chess_match.specs.ties.Represents.{Represents}
-use Rattle.chess_match.specs.ties.SameEffects.{Agrees, owed_in, view}
+use Rattle.chess_match.specs.ties.SameEffects.{Agrees, owed_in}
 use Rattle.chess_match.proofs.EffectsAgree.{events_agree, over_back, over_same}
 use Rattle.chess_match.proofs.Leading.{leads_as, leads_failed, leads_farewell, leads_on, leads_sent, none, one_block, only, over_first, unsent}
 use Rattle.chess_match.proofs.Outcomes.{not_other}

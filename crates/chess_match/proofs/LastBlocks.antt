@@ -76,7 +76,7 @@ line_ends r S text moment m =
         decides = λ t move v a b c d. ends_by e (machine.played_by S move (moment - m.opened) m) (Decided v)
             (λ O. refl);
       };
-      behind = λ h. record {
+      after = λ h. record {
         row = row_ends r S text moment m (phases.AwaitPong S) h refl;
         passes = λ a. not_yet e (machine.open_turn (other S) m) (phases.SendTurn (other S)) refl refl;
       };

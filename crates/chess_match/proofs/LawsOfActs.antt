@@ -10,7 +10,7 @@ use Rattle.cecp_engine.specs.Items.{takes}
 use Rattle.chess_match.proofs.ClockLaw.{clocks_do_not_underflow}
 use Rattle.chess_match.proofs.LineLaw.{lines_are_few}
 use Rattle.chess_match.proofs.MatchCases.{both_not, by_cases}
-use Rattle.chess_match.proofs.MoveLaw.{all_moves_are_told}
+use Rattle.chess_match.proofs.MoveLaw.{all_moves_are_sent}
 use Rattle.chess_match.proofs.NotesLaw.{all_events, all_lines}
 use Rattle.chess_match.proofs.OneLaw.{only_one}
 use Rattle.chess_match.proofs.ReadLaw.{moves_are_read}
@@ -31,7 +31,7 @@ use Rattle.chess_match.specs.declared.reason.Reason.{Reason}
 use Rattle.chess_match.specs.laws.TranscriptNotes.{notes_of}
 use Rattle.chess_match.specs.laws.Laws.{IsOf, Streams, centiseconds, ending, ending_in, events_in, given_in, line_count, otim_sent, time_sent}
 use Rattle.chess_match.specs.laws.OfActs.{AllMovesAreSentInMatches, AreOf, ClocksDoNotUnderflowInMatches, EachIsSentOthersMovesInMatches, ItemsAreSaidInMatches, LinesAreFewInMatches, MatchesAreTranscripts, MovesAreReadInMatches, NotesHaveAllLinesInMatches, NotesHaveTheEventsInMatches, OnlyOneMatch, OtherTimesAreClocksInMatches, TimesAreClocksInMatches, UsedTimesAreDifferencesInMatches, lines_given}
-use Rattle.chess_match.specs.ties.SameEffects.{view}
+use Rattle.chess_match.specs.laws.Machine.{view}
 use Rattle.chess_match.specs.ties.TranscriptActs.{acts_of}
 
 -- ---- the transcript of a match
@@ -122,7 +122,7 @@ pub all_moves_sent : AllMovesAreSentInMatches
 all_moves_sent r H final O h unbroken =
     let (reason, T, a) = has_acts r H final h in
     rw (a.same, all_sent O H unbroken, a.given O)
-    (all_moves_are_told r T O a.fitting (has_ending r reason H final T a) (none_fails r reason H final T a O unbroken))
+    (all_moves_are_sent r T O a.fitting (has_ending r reason H final T a) (none_fails r reason H final T a O unbroken))
 
 -- ---- clocks
 

@@ -73,7 +73,7 @@ lines r k S kind moment m w = record {
         grind (arith, p, w, room, length-append m.played (move ∷ []));
     decides = λ text move v is reading room timely. grind (arith, p, w, at_most_one (seat m S).offers);
   };
-  behind = λ p. record {
+  after = λ p. record {
     row = record {
       ends = λ reason n. grind (arith, p, w, at_most_one (seat m S).offers);
       counts = λ none few. grind (arith, p, w, few);

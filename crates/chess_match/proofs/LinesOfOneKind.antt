@@ -46,7 +46,7 @@ pub gathered : {A : Type 0} (f : SentLine → List A) → ((text : List ℕ) →
 gathered f a r S Q step unsent due m [] X fits q = rw (append-nil X) q
 gathered {A} f a r S Q step unsent due m (e ∷ T) X fits q =
     joined_more X (now f r S m (match_after r m e)) (flat_map f (joined_blocks (blocks_from r S (match_after r m e) T)))
-    (λ (l : List A). Q l (match_from r (match_after r m e) T)) (told (is_dropped e T S || is_fault Write S e) refl)
+    (λ (l : List A). Q l (match_from r (match_after r m e) T)) (joined_first (is_dropped e T S || is_fault Write S e) refl)
     (gathered f a r S Q step unsent (block r m (match_after r m e)) (match_after r m e) T
     (X ++ now f r S m (match_after r m e))
     (and_second (fits_next due m e) _ fits)
@@ -57,11 +57,11 @@ gathered {A} f a r S Q step unsent due m (e ∷ T) X fits q =
     at true h = sym (unsent due m e T fits h)
     at false h = of_block f a r m (match_after r m e) S
 
-    told : (b : Bool) → is_dropped e T S || is_fault Write S e ≡ b
+    joined_first : (b : Bool) → is_dropped e T S || is_fault Write S e ≡ b
         → flat_map f (joined_blocks ((if b then [] else block r m (match_after r m e) S ∷ [])
         ++ blocks_from r S (match_after r m e) T))
         ≡ now f r S m (match_after r m e) ++ flat_map f (joined_blocks (blocks_from r S (match_after r m e) T))
-    told b h =
+    joined_first b h =
         ap (λ (ls : List SentLine). flat_map f ls)
         (joined_at b (block r m (match_after r m e) S) (blocks_from r S (match_after r m e) T))
         ∙ flat_map-append f (if b then [] else block r m (match_after r m e) S)
@@ -137,7 +137,7 @@ lines_none f r S kind moment m i here = record {
     plays = λ text move is reading room timely undecided. plays_none f r S move (moment - m.opened) m i;
     decides = λ text move v is reading room timely on some. not_on on;
   };
-  behind = λ p. record { row = row; passes = λ none. opens_sends_none f r S (other S) m (rw p refl) };
+  after = λ p. record { row = row; passes = λ none. opens_sends_none f r S (other S) m (rw p refl) };
 }
   where
     row : InTurn r S kind m (λ m'. SendsNone f r S m m')

@@ -81,12 +81,12 @@ orderly_in r m p e o = subst (λ (q : Phase). OrderlyIn r.first q m.played m.uns
 abbrev last_text : Rules → Match → Colour → List (List ℕ)
 last_text r m O = r.move_text (takes (codes "san") (seat m O).items) m.played ∷ []
 
-abbrev untold_by : Rules → Colour → List Item → List Move → Option Colour → List (List ℕ)
-untold_by r O items ms None = []
-untold_by r O items ms (Some c) = if same_colour c O then r.move_text (takes (codes "san") items) ms ∷ [] else []
+abbrev unsent_by : Rules → Colour → List Item → List Move → Option Colour → List (List ℕ)
+unsent_by r O items ms None = []
+unsent_by r O items ms (Some c) = if same_colour c O then r.move_text (takes (codes "san") items) ms ∷ [] else []
 
-abbrev untold_text : Rules → Match → Colour → Option Colour → List (List ℕ)
-untold_text r m O unsent_to = untold_by r O (seat m O).items m.played unsent_to
+abbrev unsent_text : Rules → Match → Colour → Option Colour → List (List ℕ)
+unsent_text r m O unsent_to = unsent_by r O (seat m O).items m.played unsent_to
 
 abbrev entry_moves : Rules → Match → Colour → Phase → List (List ℕ)
 entry_moves r m O (Handshake c) = []
@@ -95,7 +95,7 @@ entry_moves r m O (SendTurn c) = if same_colour c O then (if nat_lt 0 (length m.
     else []
 entry_moves r m O (AwaitMove c) = []
 entry_moves r m O (AwaitPong c) = []
-entry_moves r m O (Over reason) = if is_unwritten reason O then [] else untold_text r m O m.unsent_to
+entry_moves r m O (Over reason) = if is_unwritten reason O then [] else unsent_text r m O m.unsent_to
 
 setup_moves : (r : Rules) → moves_sent (setup_lines r) ≡ []
 unfolding setup_lines
@@ -115,19 +115,19 @@ opening_moves : (r : Rules) (m : Match) (O : Colour) → moves_sent (opening_lin
 unfolding opening_lines
 opening_moves r m O = grind (arith, flat_map-append, clock_moves r m O, last_moves r m O, append-nil)
 
-untold_moves : (r : Rules) (m : Match) (O : Colour) (unsent_to : Option Colour)
-    → moves_sent (unsent_lines r m O unsent_to) ≡ untold_text r m O unsent_to
+unsent_moves : (r : Rules) (m : Match) (O : Colour) (unsent_to : Option Colour)
+    → moves_sent (unsent_lines r m O unsent_to) ≡ unsent_text r m O unsent_to
 unfolding last_move_sent
-untold_moves r m O unsent_to = grind arith
+unsent_moves r m O unsent_to = grind arith
 
 end_moves : (r : Rules) (m : Match) (O : Colour) (reason : Reason) → moves_sent (end_lines r m O reason)
-    ≡ untold_text r m O m.unsent_to
+    ≡ unsent_text r m O m.unsent_to
 unfolding end_lines
 end_moves r m O reason = flat_map-append move_sent (unsent_lines r m O m.unsent_to) _
-    ∙ append-nil (flat_map move_sent (unsent_lines r m O m.unsent_to)) ∙ untold_moves r m O m.unsent_to
+    ∙ append-nil (flat_map move_sent (unsent_lines r m O m.unsent_to)) ∙ unsent_moves r m O m.unsent_to
 
-entry_told : (r : Rules) (m : Match) (O : Colour) (p : Phase) → moves_sent (entry_to r m O p) ≡ entry_moves r m O p
-entry_told r m O p = grind (arith, setup_moves r, opening_moves r m O, end_moves r m O)
+entry_sent : (r : Rules) (m : Match) (O : Colour) (p : Phase) → moves_sent (entry_to r m O p) ≡ entry_moves r m O p
+entry_sent r m O p = grind (arith, setup_moves r, opening_moves r m O, end_moves r m O)
 
 -- ---- one event
 
@@ -136,19 +136,19 @@ all_texts r m O = move_texts r m O (other O)
 
 -- where a match goes to m' from a phase, what was sent before, what is sent now, and what is owed then are the other's
 -- moves
-abbrev Told : Rules → List (List ℕ) → Colour → Bool → Phase → Match → Type 0
-Told r X O failed p m' = (X ++ (if is_same_phase p m'.phase then [] else entry_moves r m' O m'.phase))
+abbrev AreSent : Rules → List (List ℕ) → Colour → Bool → Phase → Match → Type 0
+AreSent r X O failed p m' = (X ++ (if is_same_phase p m'.phase then [] else entry_moves r m' O m'.phase))
     ++ owed_to r m' O m'.unsent_to failed ≡ all_texts r m' O
 
 owed_on : (r : Rules) (m : Match) (O : Colour) (unsent_to : Option Colour) (failed : Bool) → is_on m.phase ≡ true
-    → owed_to r m O unsent_to failed ≡ untold_text r m O unsent_to
+    → owed_to r m O unsent_to failed ≡ unsent_text r m O unsent_to
 owed_on r m O unsent_to failed h1 = grind arith
 
 -- nothing is sent on the way into this phase
-quiet_told : (r : Rules) (X : List (List ℕ)) (O : Colour) (p : Phase) (m' : Match) → entry_moves r m' O m'.phase ≡ []
+quiet_sent : (r : Rules) (X : List (List ℕ)) (O : Colour) (p : Phase) (m' : Match) → entry_moves r m' O m'.phase ≡ []
     → is_on m'.phase ≡ true
-    → X ++ untold_text r m' O m'.unsent_to ≡ all_texts r m' O → Told r X O false p m'
-quiet_told r X O p m' none on h = rw (
+    → X ++ unsent_text r m' O m'.unsent_to ≡ all_texts r m' O → AreSent r X O false p m'
+quiet_sent r X O p m' none on h = rw (
   if_nil (is_same_phase p m'.phase) (entry_moves r m' O m'.phase) none,
   append-nil
       X,
@@ -156,23 +156,23 @@ quiet_told r X O p m' none on h = rw (
 ) h
 
 -- what is owed is sent where the match is over, unless a write failed
-ended_told : (r : Rules) (X A : List (List ℕ)) (O : Colour) (failed : Bool) (reason : Reason) (m : Match)
-    (unsent_to : Option Colour) → X ++ untold_text r (over reason m) O unsent_to ≡ A
-    → (X ++ (if failed then [] else untold_text r (over reason m) O unsent_to))
+ended_sent : (r : Rules) (X A : List (List ℕ)) (O : Colour) (failed : Bool) (reason : Reason) (m : Match)
+    (unsent_to : Option Colour) → X ++ unsent_text r (over reason m) O unsent_to ≡ A
+    → (X ++ (if failed then [] else unsent_text r (over reason m) O unsent_to))
     ++ owed_to r (over reason m) O unsent_to failed ≡ A
-ended_told r X A O failed reason m unsent_to h = grind (arith, append-nil)
+ended_sent r X A O failed reason m unsent_to h = grind (arith, append-nil)
 
-over_told : (r : Rules) (X : List (List ℕ)) (O : Colour) (failed : Bool) (p : Phase) (reason : Reason) (m : Match)
+over_sent : (r : Rules) (X : List (List ℕ)) (O : Colour) (failed : Bool) (p : Phase) (reason : Reason) (m : Match)
     → is_same_phase p (Over reason) ≡ false
-    → is_unwritten reason O ≡ failed → X ++ untold_text r (over reason m) O m.unsent_to
-    ≡ all_texts r (over reason m) O → Told r X O failed p (over reason m)
-over_told r X O failed p reason m out u h =
-    rw (out, u) (ended_told r X (all_texts r (over reason m) O) O failed reason m m.unsent_to h)
+    → is_unwritten reason O ≡ failed → X ++ unsent_text r (over reason m) O m.unsent_to
+    ≡ all_texts r (over reason m) O → AreSent r X O failed p (over reason m)
+over_sent r X O failed p reason m out u h =
+    rw (out, u) (ended_sent r X (all_texts r (over reason m) O) O failed reason m m.unsent_to h)
 
 -- ---- what was sent before is carried on
 
 abbrev SofarBy : Rules → List (List ℕ) → Colour → List Item → List Move → Option Colour → Type 0
-SofarBy r X O items ms unsent_to = X ++ untold_by r O items ms unsent_to
+SofarBy r X O items ms unsent_to = X ++ unsent_by r O items ms unsent_to
     ≡ texts_from r (takes (codes "san") items) (other O) r.first [] ms
 
 abbrev Sofar : Rules → List (List ℕ) → Colour → Match → Type 0
@@ -209,7 +209,7 @@ some_move ms move = let l : length (ms ++ move ∷ []) ≡ length ms + 1 = lengt
 -- ---- the lines
 
 abbrev Goes : Rules → List (List ℕ) → Colour → Match → Match → Type 0
-Goes r X O m m' = Told r X O false m.phase m' × Orderly r m'
+Goes r X O m m' = AreSent r X O false m.phase m' × Orderly r m'
 
 played_goes : (r : Rules) (X : List (List ℕ)) (S O : Colour) (move : Move) (used : ℕ) (m : Match) → m.phase
     ≡ AwaitMove S → Orderly r m → Sofar r X O m
@@ -244,34 +244,34 @@ decides_goes : (r : Rules) (X : List (List ℕ)) (S O : Colour) (move : Move) (u
     → m.phase ≡ AwaitMove S → Orderly r m → Sofar r X O m
     → Goes r X O m (over (Decided v) (played_by S move used m))
 decides_goes r X S O move used v m p o h = (
-  over_told r X O false m.phase (Decided v) (played_by S move used m) (rw p refl) refl
+  over_sent r X O false m.phase (Decided v) (played_by S move used m) (rw p refl) refl
       (carried r X O (played_by S move used m) (over (Decided v) (played_by S move used m)) refl refl refl refl
       (played_goes r X S O move used m p o h)),
   tt,
 )
 
 -- the turn passes to the other side, whose opening has the last move
-opening_told : (r : Rules) (X : List (List ℕ)) (O c : Colour) (items : List Item) (ms : List Move) → 0 < length ms
+opening_sent : (r : Rules) (X : List (List ℕ)) (O c : Colour) (items : List Item) (ms : List Move) → 0 < length ms
     → SofarBy r X O items ms (Some c)
     → X ++ (if same_colour c O then (if nat_lt 0 (length ms) then r.move_text (takes (codes "san") items) ms ∷ []
     else []) else []) ≡ texts_from r (takes (codes "san") items) (other O) r.first [] ms
-opening_told r X O c items ms some h = rw (lt-ltb 0 (length ms) some) h
+opening_sent r X O c items ms some h = rw (lt-ltb 0 (length ms) some) h
 
-passes_told : (r : Rules) (X : List (List ℕ)) (O c : Colour) (items : List Item) (m m' : Match) → (seat m' O).items
+passes_sent : (r : Rules) (X : List (List ℕ)) (O c : Colour) (items : List Item) (m m' : Match) → (seat m' O).items
     ≡ items → m'.played ≡ m.played → m'.unsent_to ≡ None → m'.phase ≡ SendTurn c
     → 0 < length m.played → is_same_phase m.phase (SendTurn c) ≡ false → SofarBy r X O items m.played (Some c)
-    → Told r X O false m.phase m'
-passes_told r X O c items m m' i p u e some out h =
+    → AreSent r X O false m.phase m'
+passes_sent r X O c items m m' i p u e some out h =
     rw (e, u, p, i, out) (append-nil (X ++ (if same_colour c O
     then (if nat_lt 0 (length m.played) then r.move_text (takes (codes "san") items) m.played ∷ [] else [])
     else []))
-    ∙ opening_told r X O c items m.played some h)
+    ∙ opening_sent r X O c items m.played some h)
 
 passes_goes : (r : Rules) (X : List (List ℕ)) (S O : Colour) (m : Match) → m.phase ≡ AwaitPong S → Orderly r m
     → Sofar r X O m → Goes r X O m (open_turn (other S) m)
 passes_goes r X S O m p o h =
     let known = orderly_in r m (AwaitPong S) p o in (
-      passes_told r X O (other S) (seat m O).items m (open_turn (other S) m)
+      passes_sent r X O (other S) (seat m O).items m (open_turn (other S) m)
           (items_same m (open_turn (other S) m) refl refl O) refl refl refl known.2 (rw p refl) (rw known.1 at h),
       (known.0, refl),
     )
@@ -284,15 +284,15 @@ handshake_counts : (r : Rules) (X : List (List ℕ)) (S O : Colour) (items : Lis
 handshake_counts r X S O items m here k o h =
     grind (arith, append-nil, reads_stays m.phase S here, reads_on m.phase S here, h, o, k.0, k.1)
 
-none_told : (c O : Colour) (t : List (List ℕ)) (ms : List Move) → ms ≡ []
+none_sent : (c O : Colour) (t : List (List ℕ)) (ms : List Move) → ms ≡ []
     → (if same_colour c O then (if nat_lt 0 (length ms) then t else []) else []) ≡ []
-none_told c O t ms e = rw e (if_nil (same_colour c O) [] refl)
+none_sent c O t ms e = rw e (if_nil (same_colour c O) [] refl)
 
 setup_opens : (r : Rules) (X : List (List ℕ)) (O : Colour) (m : Match) → (m.played ≡ []) × (m.unsent_to ≡ None)
     → Sofar r X O m → Goes r X O m (open_turn r.first m)
 setup_opens r X O m k h = (
-  quiet_told r X O m.phase (open_turn r.first m)
-      (none_told r.first O (last_text r (open_turn r.first m) O) m.played k.0) refl
+  quiet_sent r X O m.phase (open_turn r.first m)
+      (none_sent r.first O (last_text r (open_turn r.first m) O) m.played k.0) refl
       (fresh r X O m (open_turn r.first m) k.0 k.1 k.0 refl h),
   (rw (k.0) refl, refl),
 )
@@ -323,35 +323,35 @@ lines_go r X S O kind moment m here o h =
         plays = λ text move is reading room timely undecided. plays_goes r X S O move (moment - m.opened) m p o h;
         decides = λ text move v is reading room timely. decides_goes r X S O move (moment - m.opened) v m p o h;
       };
-      behind = λ p. record { row = row; passes = λ none. passes_goes r X S O m p o h };
+      after = λ p. record { row = row; passes = λ none. passes_goes r X S O m p o h };
     }
 
 step_goes : (r : Rules) (X : List (List ℕ)) (O : Colour) (due : Colour → List SentLine) (m : Match) (e : Event)
     → fits_next due m e ≡ true → Orderly r m → Sofar r X O m
-    → Told r X O (is_fault Write O e) m.phase (match_after r m e) × Orderly r (match_after r m e)
+    → AreSent r X O (is_fault Write O e) m.phase (match_after r m e) × Orderly r (match_after r m e)
 step_goes r X O due m (Line S t n) f o h =
     line_outcome r S (line_kind t) n m (λ m'. Goes r X O m m') f (lines_go r X S O (line_kind t) n m f o h)
 step_goes r X O due m (Opened S n) f o h = (
-  quiet_told r X O m.phase (record m { phase = AwaitMove S; opened = n }) refl refl
+  quiet_sent r X O m.phase (record m { phase = AwaitMove S; opened = n }) refl refl
       (carried r X O m (record m { phase = AwaitMove S; opened = n }) refl refl refl refl h),
   orderly_in r m (SendTurn S) (opens_at m.phase S f) o,
 )
 step_goes r X O due m (OutputEnds S) f o h = faulted (Faulted S Ended) (reads_on m.phase S f) refl
   where
     faulted : (reason : Reason) → is_on m.phase ≡ true → is_unwritten reason O ≡ false
-        → Told r X O false m.phase (over reason m) × Unit {0}
+        → AreSent r X O false m.phase (over reason m) × Unit {0}
     faulted reason on n = (
-      over_told r X O false m.phase reason m (leaves m.phase reason on) n
+      over_sent r X O false m.phase reason m (leaves m.phase reason on) n
           (carried r X O m (over reason m) refl refl refl refl h),
       tt,
     )
 step_goes r X O due m (FailsToRead S) f o h = (
-  over_told r X O false m.phase (Faulted S Read) m (leaves m.phase (Faulted S Read) (reads_on m.phase S f)) refl
+  over_sent r X O false m.phase (Faulted S Read) m (leaves m.phase (Faulted S Read) (reads_on m.phase S f)) refl
       (carried r X O m (over (Faulted S Read) m) refl refl refl refl h),
   tt,
 )
 step_goes r X O due m (FailsToWrite S) f o h = (
-  over_told r X O (same_colour S O) m.phase (Faulted S Write) m
+  over_sent r X O (same_colour S O) m.phase (Faulted S Write) m
       (leaves m.phase (Faulted S Write) (and_first (is_on m.phase) _ f)) refl
       (carried r X O m (over (Faulted S Write) m) refl refl refl refl h),
   tt,
@@ -360,7 +360,7 @@ step_goes r X O due m (FailsToWrite S) f o h = (
 -- ---- the transcript
 
 moves_in_openings : InOpenings move_sent
-moves_in_openings r m O p e on = entry_told r m O p ∙ at p e on
+moves_in_openings r m O p e on = entry_sent r m O p ∙ at p e on
   where
     at : (p : Phase) → is_opening p ≡ false → is_on p ≡ true → entry_moves r m O p ≡ []
     at (Handshake c) e on = refl
@@ -392,34 +392,34 @@ unwritten_by r due m e O f = at (match_after r m e).phase refl
     at (AwaitPong c) h = calm r m e O (ap is_on h)
 
 -- what was sent, and what is owed, are the other's moves
-abbrev ToldSo : Rules → Colour → List (List ℕ) → Match → Type 0
-ToldSo r O X m =
+abbrev AreSentSoFar : Rules → Colour → List (List ℕ) → Match → Type 0
+AreSentSoFar r O X m =
     (X ++ owed_to r m O m.unsent_to (unwritten_in m.phase O) ≡ all_texts r m O) × Orderly r m
 
-step_told : (r : Rules) (O : Colour) (due : Colour → List SentLine) (m : Match) (e : Event) (X : List (List ℕ))
-    → fits_next due m e ≡ true → ToldSo r O X m
-    → ToldSo r O (X ++ now move_sent r O m (match_after r m e)) (match_after r m e)
-step_told r O due m e X f (h, o) =
+step_sent : (r : Rules) (O : Colour) (due : Colour → List SentLine) (m : Match) (e : Event) (X : List (List ℕ))
+    → fits_next due m e ≡ true → AreSentSoFar r O X m
+    → AreSentSoFar r O (X ++ now move_sent r O m (match_after r m e)) (match_after r m e)
+step_sent r O due m e X f (h, o) =
     let m' : Match = match_after r m e in
-    let s : Told r X O (is_fault Write O e) m.phase m' × Orderly r m' = step_goes r X O due m e f o
+    let s : AreSent r X O (is_fault Write O e) m.phase m' × Orderly r m' = step_goes r X O due m e f o
     (ap (λ (l : List (List ℕ)). X ++ l)
     (sym (owed_on r m O m.unsent_to (unwritten_in m.phase O) (fits_on due m e f))) ∙ h) in
     let sent : now move_sent r O m m' ≡ (if is_same_phase m.phase m'.phase then [] else entry_moves r m' O m'.phase) =
-    ap (λ (l : List (List ℕ)). if is_same_phase m.phase m'.phase then [] else l) (entry_told r m' O m'.phase) in (
+    ap (λ (l : List (List ℕ)). if is_same_phase m.phase m'.phase then [] else l) (entry_sent r m' O m'.phase) in (
       ap (λ (l : List (List ℕ)). (X ++ l) ++ owed_to r m' O m'.unsent_to (unwritten_in m'.phase O)) sent
           ∙ ap (λ (b : Bool). (X ++ (if is_same_phase m.phase m'.phase then [] else entry_moves r m' O m'.phase))
           ++ owed_to r m' O m'.unsent_to b) (sym (unwritten_by r due m e O f)) ∙ s.0,
       s.1,
     )
 
-told_so : (r : Rules) (O : Colour) (T : List Event) → fits r T ≡ true
-    → ToldSo r O (moves_sent (sent r O T)) (match_of r T)
-told_so r O T f =
+sent_so_far : (r : Rules) (O : Colour) (T : List Event) → fits r T ≡ true
+    → AreSentSoFar r O (moves_sent (sent r O T)) (match_of r T)
+sent_so_far r O T f =
     rw (
       flat_map-append move_sent (lines_on_entering r start O) (joined_blocks (blocks_from r O start T)),
-      entry_told r start O (Handshake White),
+      entry_sent r start O (Handshake White),
     )
-    (gathered move_sent (λ text. refl) r O (ToldSo r O) (step_told r O) (unsent move_sent r O moves_in_openings)
+    (gathered move_sent (λ text. refl) r O (AreSentSoFar r O) (step_sent r O) (unsent move_sent r O moves_in_openings)
     (lines_on_entering r start) start T [] f (refl, (refl, refl)))
 
 -- a write to that side failed if the match ended so
@@ -434,23 +434,23 @@ written_from r O due m (e ∷ T) b f h quiet =
     (and_second (fits_next due m e) _ f) (unwritten_by r due m e O (and_first (fits_next due m e) _ f))
     (calm r m e O)
 
-pub moves_are_told : MovesAreSent
-moves_are_told r T O f =
+pub moves_are_sent : MovesAreSent
+moves_are_sent r T O f =
     ap (λ (b : Bool). moves_sent (sent r O T) ++ owed_to r (match_of r T) O (match_of r T).unsent_to b)
     (written_from r O (lines_on_entering r start) start T false f refl (λ on. refl))
-    ∙ (told_so r O T f).0
+    ∙ (sent_so_far r O T f).0
 
 -- every match is orderly
 pub orderly : (r : Rules) (T : List Event) → fits r T ≡ true → Orderly r (match_of r T)
-orderly r T f = (told_so r White T f).1
+orderly r T f = (sent_so_far r White T f).1
 
 pub nothing_owed : (r : Rules) (m : Match) (O : Colour) (unsent_to : Option Colour) → is_some (ending_in m.phase) ≡ true
     → owed_to r m O unsent_to false ≡ []
 nothing_owed r m O unsent_to h1 = grind arith
 
-pub all_moves_are_told : AllMovesAreSent
-all_moves_are_told r T O f ended quiet =
+pub all_moves_are_sent : AllMovesAreSent
+all_moves_are_sent r T O f ended quiet =
     sym (append-nil (moves_sent (sent r O T)))
     ∙ ap (λ (l : List (List ℕ)). moves_sent (sent r O T) ++ l)
     (sym (rw quiet (nothing_owed r (match_of r T) O (match_of r T).unsent_to ended)))
-    ∙ moves_are_told r T O f
+    ∙ moves_are_sent r T O f

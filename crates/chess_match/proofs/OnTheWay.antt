@@ -26,7 +26,7 @@ use Rattle.chess_match.specs.Effects as effects
 use Rattle.chess_match.specs.Effects.{Effect, beginning, effect}
 use Rattle.chess_match.specs.Events.{Event, Line, Opened, OutputEnds, FailsToRead, FailsToWrite}
 use Rattle.chess_match.specs.laws.Blocks.{block, lines_on_entering}
-use Rattle.chess_match.specs.laws.Machine.{Match, match_after, seat, start}
+use Rattle.chess_match.specs.laws.Machine.{Match, match_after, seat, start, phase_of, view}
 use Rattle.chess_match.specs.laws.Transcript.{fits_next, is_fault, is_on, opens, reads}
 use Rattle.chess_match.specs.Lines.{SentLine}
 use Rattle.chess_match.specs.Played.{PlayedAt}
@@ -44,7 +44,7 @@ use Rattle.chess_match.specs.ties.Chess.{Plays}
 use Rattle.chess_match.specs.ties.Driving.{Delivered, Leads, is_line_event, is_of_output, steps_of}
 use Rattle.chess_match.specs.ties.Reported.{IsReported}
 use Rattle.chess_match.specs.ties.Represents.{Goes, Represents, given_block, name_by, nothing_said}
-use Rattle.chess_match.specs.ties.SameEffects.{Agrees, owed_in, phase_of, view}
+use Rattle.chess_match.specs.ties.SameEffects.{Agrees, owed_in}
 use Rattle.chess_match.specs.ties.Steps.{IsSane}
 use Rattle.chess_match.proofs.Deliveries.{is_over_by}
 use Rattle.chess_match.proofs.EffectsAgree.{events_agree, start_same}
@@ -335,10 +335,10 @@ abbrev outcome_by : Option Verdict → Option Declared → Outcome
 outcome_by v d = option_map_or verdict_outcome v (option_map_or (λ (x : Declared). x.outcome) d Unfinished)
 
 -- where the game has no verdict, its outcome is the one that is reported
-pub told_outcome : (h h' : game.Seen) (reason : Reason) (outcome : Outcome)
+pub reported_outcome : (h h' : game.Seen) (reason : Reason) (outcome : Outcome)
     → h' ≡ game.with_state h (with_declared h.state (declared_at (verdict_now h.state) reason)) → outcome
     ≡ outcome_by_reason reason → verdict_now h'.state ≡ None → outcome_now h'.state ≡ outcome
-told_outcome h h' reason outcome e o none =
+reported_outcome h h' reason outcome e o none =
     subst (λ (x : game.Seen). verdict_now x.state ≡ None → outcome_now x.state ≡ outcome) (sym e)
     (undecided (verdict_now h.state)) none
   where
@@ -353,7 +353,7 @@ pub played_at : (setup : run_setup.Setup) (old new : Passing) (g h h' : game.See
     → end.black_name ≡ core.players.black.name → h.state.start ≡ setup.start → h.limit ≡ g.limit
     → h' ≡ game.with_state h (with_declared h.state (declared_at (verdict_now h.state) reason))
     → PlayedAt setup end old new g h'
-played_at setup old new g h h' core reason failed end (m, K, w) over told wn bn s l e =
+played_at setup old new g h h' core reason failed end (m, K, w) over reported wn bn s l e =
     let r : Rules = rules_of setup.start setup.level g.limit in
     let ended : (view m).phase ≡ effects.Over reason = ap (phase_of m.opened) (sym w.stands.phase ∙ over) in
     let (H, is_match, steps, broken) =
@@ -365,9 +365,9 @@ played_at setup old new g h h' core reason failed end (m, K, w) over told wn bn 
       passed_as old new K (watched reason H) (sym steps) w.passes,
       record {
         ended = ended;
-        report = one_report reason end.outcome end.comment end.ended told.outcome told.comment told.ended;
+        report = one_report reason end.outcome end.comment end.ended reported.outcome reported.comment reported.ended;
         name = λ S. names S;
-        fault = told.fault ∙ ap (first_fault reason) (fun_ext (λ S. sym (broken S)));
+        fault = reported.fault ∙ ap (first_fault reason) (fun_ext (λ S. sym (broken S)));
       },
       game_kept g h h' setup.start setup.level m reason s l w.stands.moves e,
     )

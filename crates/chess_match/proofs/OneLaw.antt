@@ -40,18 +40,18 @@ reads_or_opens p c d h1 h2 = grind arith
 
 -- ---- the streams after an event
 
-abbrev moments_behind : Event → (ℕ → ℕ) → ℕ → ℕ
-moments_behind (Line c t n) moments k = moments (suc k)
-moments_behind (Opened c n) moments k = moments (suc k)
-moments_behind (OutputEnds c) moments k = moments k
-moments_behind (FailsToRead c) moments k = moments k
-moments_behind (FailsToWrite c) moments k = moments k
+abbrev moments_after : Event → (ℕ → ℕ) → ℕ → ℕ
+moments_after (Line c t n) moments k = moments (suc k)
+moments_after (Opened c n) moments k = moments (suc k)
+moments_after (OutputEnds c) moments k = moments k
+moments_after (FailsToRead c) moments k = moments k
+moments_after (FailsToWrite c) moments k = moments k
 
-abbrev behind : Event → Streams → Streams
-behind e s = record {
+abbrev streams_after : Event → Streams → Streams
+streams_after e s = record {
   lines = λ S. drop (length (line_in S e)) (s.lines S);
   fails = s.fails;
-  moments = moments_behind e s.moments;
+  moments = moments_after e s.moments;
 }
 
 drop_front : {A : Type 0} (a b c xs : List A) → xs ≡ (a ++ b) ++ c → drop (length a) xs ≡ b ++ c
@@ -62,11 +62,11 @@ drop_exact a b xs e = rw e (drop-append_seam a b)
 
 next_moments : (e : Event) (T : List Event) (moments : ℕ → ℕ)
     → ((n : ℕ) → n < length (moments_of (e ∷ T)) → slice_get (moments_of (e ∷ T)) n ≡ Some (moments n))
-    → (n : ℕ) → n < length (moments_of T) → slice_get (moments_of T) n ≡ Some (moments_behind e moments n)
+    → (n : ℕ) → n < length (moments_of T) → slice_get (moments_of T) n ≡ Some (moments_after e moments n)
 next_moments e T moments h1 n h2 = grind arith
 
-is_of_behind : (s : Streams) (e : Event) (T : List Event) → IsOf s (e ∷ T) → IsOf (behind e s) T
-is_of_behind s e T i = record {
+is_of_after : (s : Streams) (e : Event) (T : List Event) → IsOf s (e ∷ T) → IsOf (streams_after e s) T
+is_of_after s e T i = record {
   lines = λ S. ((i.lines S).0, drop_front (line_in S e) (lines_of_engine S T) (i.lines S).0 (s.lines S) (i.lines S).1);
   ends = λ S h. (
     drop_exact (line_in S e) (lines_of_engine S T) (s.lines S)
@@ -207,12 +207,12 @@ one_from r s due due' m (e ∷ T) (d ∷ U) f g x y i j =
     let goes_too : Goes r m d U = and_second (fits_next due' m d) _ g in
     let same : e ≡ d = same_event r s due due' m e d T U (and_first (fits_next due m e) _ f)
     (and_first (fits_next due' m d) _ g) goes_on goes_too i j in
-    joined same (one_from r (behind e s) (block r m (match_after r m e)) (block r m (match_after r m e))
+    joined same (one_from r (streams_after e s) (block r m (match_after r m e)) (block r m (match_after r m e))
     (match_after r m e) T U goes_on
     (subst (λ (v : Event). Goes r m v U) (sym same) goes_too) x
     (subst (λ (v : Event). is_some (ending_in (match_from r (match_after r m v) U).phase) ≡ true) (sym same) y)
-    (is_of_behind s e T i)
-    (is_of_behind s e U (subst (λ (v : Event). IsOf s (v ∷ U)) (sym same) j)))
+    (is_of_after s e T i)
+    (is_of_after s e U (subst (λ (v : Event). IsOf s (v ∷ U)) (sym same) j)))
   where
     joined : e ≡ d → T ≡ U → e ∷ T ≡ d ∷ U
     joined a b = rw (a, b) refl

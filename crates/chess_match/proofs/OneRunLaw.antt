@@ -60,10 +60,10 @@ abbrev moment_or : Option ℕ → ℕ
 moment_or None = 0
 moment_or (Some n) = n
 
-told_moment : (o : Option ℕ) (told : Option ℕ) → is_some o ≡ true → IfSome o (λ t. told ≡ Some t) → told
+shown_moment : (o : Option ℕ) (shown : Option ℕ) → is_some o ≡ true → IfSome o (λ t. shown ≡ Some t) → shown
     ≡ Some (moment_or o)
-told_moment None told h k = cc
-told_moment (Some n) told h k = k
+shown_moment None shown h k = cc
+shown_moment (Some n) shown h k = k
 
 -- what the run's devices gave
 abbrev given_by : List Act → (Colour → List ℕ) → (ℕ → Option ℕ) → Streams
@@ -81,7 +81,7 @@ are_of r H K final w w' given p t outputs same = record {
   lines = λ S. (outputs S).lines;
   ends = λ S h. (((outputs S).at_end h).0, same S ∙ no_failure S K (all_reads_end r K final p.is_match) h);
   failures = λ S h. ((outputs S).at_failure h, same S ∙ h);
-  moments = λ n h. told_moment (w.coming n) (slice_get (moments_shown K) n) (t.moments n) (p.moments.known n h);
+  moments = λ n h. shown_moment (w.coming n) (slice_get (moments_shown K) n) (t.moments n) (p.moments.known n h);
   sent = λ S. none_broken (w.ports.writer S) (w'.ports.writer S) (lines_sent S K) (broken_blocks S K) (t.writes S)
       (t.quiet S) (p.written S);
 }

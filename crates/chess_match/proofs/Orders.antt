@@ -16,7 +16,7 @@ use Rattle.chess_match.specs.laws.Blocks.{lines_on_entering}
 use Rattle.chess_match.specs.laws.Transcript.{reads, match_of, fits, fits_next, has_fault}
 use Rattle.chess_match.specs.declared.phase.Phase.TheVariants.{Setup, SendTurn, AwaitMove, AwaitPong}
 use Rattle.chess_match.specs.declared.reason.MatchFault.TheVariants.{Write}
-use Rattle.chess_match.proofs.MoveLaw.{mover, mover-snoc, Orderly, orderly_in, some_move, moves_are_told}
+use Rattle.chess_match.proofs.MoveLaw.{mover, mover-snoc, Orderly, orderly_in, some_move, moves_are_sent}
 use Rattle.chess_match.proofs.Outcomes.{Lines, InTurn, line_outcome, kept_by}
 use Rattle.chess_match.proofs.Going.{opens_at}
 
@@ -108,7 +108,7 @@ lines_kept r S kind moment m k =
         decides = λ text move v is reading room timely.
             (tt, (plays_kept r S move (moment - m.opened) m p k).1, (plays_kept r S move (moment - m.opened) m p k).2);
       };
-      behind = λ p. record { row = row; passes = λ none. (((orderly_in r m (AwaitPong S) p k.0).0, refl), k.1, k.2) };
+      after = λ p. record { row = row; passes = λ none. (((orderly_in r m (AwaitPong S) p k.0).0, refl), k.1, k.2) };
     }
 
 pub step : (r : Rules) (due : Colour → List SentLine) (m : Match) (e : Event) → fits_next due m e ≡ true → Kept r m
@@ -137,11 +137,11 @@ pub moves_sent_are_known : MovesSentAreKnown
 moves_sent_are_known r T S f here =
     let m = match_of r T in
     let k = kept r T f in
-    let told : moves_sent (sent r S T) ≡ move_texts r m S (other S) =
+    let all_sent : moves_sent (sent r S T) ≡ move_texts r m S (other S) =
     sym (append-nil (moves_sent (sent r S T)))
     ∙ ap (λ (l : List (List ℕ)). moves_sent (sent r S T) ++ l)
     (sym (nothing_owed r m S (has_fault Write S T) here k.0))
-    ∙ moves_are_told r T S f in
+    ∙ moves_are_sent r T S f in
     ap (λ (n : ℕ). nat_lt 0 n) (used_length r m (other S) k
     ∙ sym (texts-length r (takes (codes "san") (seat m S).items) (other S) r.first [] m.played)
-    ∙ ap (λ (l : List (List ℕ)). length l) (sym told))
+    ∙ ap (λ (l : List (List ℕ)). length l) (sym all_sent))

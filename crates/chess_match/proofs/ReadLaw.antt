@@ -262,7 +262,7 @@ lines_step r d t n m o = record {
     plays = λ text move is reading room timely undecided. plays text move p is reading;
     decides = λ text move v is reading room timely. decides text move v p is reading;
   };
-  behind = λ p. record {
+  after = λ p. record {
     row = record {
       ends = λ reason w. over_steps r d t m (over reason m) refl refl;
       counts = λ none few. after_same r d t m (record m { count = m.count + 1 }) p refl refl none;

@@ -19,7 +19,7 @@ use Rattle.chess_match.specs.declared.phase.Phase.{Phase}
 use Rattle.chess_match.specs.declared.phase.Phase.TheVariants.{Handshake, Setup, SendTurn, AwaitMove, AwaitPong, Over}
 use Rattle.chess_match.specs.declared.reason.MatchFault.TheVariants.{NoDone, Write}
 use Rattle.chess_match.specs.declared.reason.Reason.TheVariants.{Decided, Faulted}
-use Rattle.chess_match.proofs.MoveLaw.{nothing_owed, moves_are_told}
+use Rattle.chess_match.proofs.MoveLaw.{nothing_owed, moves_are_sent}
 use Rattle.chess_match.proofs.OneLaw.{over_stops}
 use Rattle.chess_match.proofs.ReadLaw.{with_line, no_lines, lines_by, moves_are_read}
 use Rattle.chess_match.proofs.Outcomes.{Lines, InTurn, line_outcome, and_first, and_second, not_on}
@@ -50,21 +50,21 @@ Says d t m m' =
     ≡ (seat m' S).items)
 
 -- no handshake is on
-abbrev is_greeted : Phase → Bool
-is_greeted (Handshake c) = false
-is_greeted (Setup c) = true
-is_greeted (SendTurn c) = true
-is_greeted (AwaitMove c) = true
-is_greeted (AwaitPong c) = true
-is_greeted (Over x) = true
+abbrev handshakes_done : Phase → Bool
+handshakes_done (Handshake c) = false
+handshakes_done (Setup c) = true
+handshakes_done (SendTurn c) = true
+handshakes_done (AwaitMove c) = true
+handshakes_done (AwaitPong c) = true
+handshakes_done (Over x) = true
 
-none_ahead : (p : Phase) (S : Colour) (ls : List (Option (List ℕ))) → is_greeted p ≡ true → said_ahead p S ls ≡ []
+none_ahead : (p : Phase) (S : Colour) (ls : List (Option (List ℕ))) → handshakes_done p ≡ true → said_ahead p S ls ≡ []
 none_ahead p S ls h1 = grind arith
 
 -- after the handshakes nothing is said
-greeted_says : (d : Colour) (t : Option (List ℕ)) (m m' : Match) → is_greeted m.phase ≡ true → is_greeted m'.phase
+done_says : (d : Colour) (t : Option (List ℕ)) (m m' : Match) → handshakes_done m.phase ≡ true → handshakes_done m'.phase
     ≡ true → m'.white.items ≡ m.white.items → m'.black.items ≡ m.black.items → Says d t m m'
-greeted_says d t m m' g g' w b = (
+done_says d t m m' g g' w b = (
   (λ on lines S. rw (
     none_ahead m.phase S (with_line d t lines S) g,
     none_ahead m'.phase S (lines S) g',
@@ -159,41 +159,41 @@ lines_say r d t n m = record {
       (enter (Over (Faulted b f)) (take_items d (items_of_line (line_kind t)) m))
       (p ∙ ap Handshake (sym s)) refl refl refl;
   handshake_done = λ p s h. handshake_done d t m p s h;
-  setup_ends = λ p reason w. greeted_says d t m (over reason m) (rw p refl) refl refl refl;
-  setup_counts = λ p h few. greeted_says d t m (record m { count = m.count + 1 }) (rw p refl) (rw p refl) refl refl;
-  setup_next = λ p s h. greeted_says d t m (enter (Setup Black) m) (rw p refl) refl refl refl;
-  setup_done = λ p s h undecided. greeted_says d t m (open_turn r.first m) (rw p refl) refl refl refl;
+  setup_ends = λ p reason w. done_says d t m (over reason m) (rw p refl) refl refl refl;
+  setup_counts = λ p h few. done_says d t m (record m { count = m.count + 1 }) (rw p refl) (rw p refl) refl refl;
+  setup_next = λ p s h. done_says d t m (enter (Setup Black) m) (rw p refl) refl refl refl;
+  setup_done = λ p s h undecided. done_says d t m (open_turn r.first m) (rw p refl) refl refl refl;
   before = λ p. record {
     row = row (rw p refl);
     plays = λ text move is reading room timely undecided. plays d move (n - m.opened) (rw p refl);
     decides = λ text move v is reading room timely. decides d move (n - m.opened) v (rw p refl);
   };
-  behind = λ p. record {
+  after = λ p. record {
     row = row (rw p refl);
     passes =
-        λ none. greeted_says d t m (open_turn (other d) m) (rw p refl) refl refl refl;
+        λ none. done_says d t m (open_turn (other d) m) (rw p refl) refl refl refl;
   };
 }
   where
-    offers : (c : Colour) → is_greeted m.phase ≡ true → Says d t m (offered c m)
-    offers White g = greeted_says d t m (offered White m) g g refl refl
-    offers Black g = greeted_says d t m (offered Black m) g g refl refl
+    offers : (c : Colour) → handshakes_done m.phase ≡ true → Says d t m (offered c m)
+    offers White g = done_says d t m (offered White m) g g refl refl
+    offers Black g = done_says d t m (offered Black m) g g refl refl
 
-    row : is_greeted m.phase ≡ true → InTurn r d (line_kind t) m (λ m'. Says d t m m')
+    row : handshakes_done m.phase ≡ true → InTurn r d (line_kind t) m (λ m'. Says d t m m')
     row g = record {
-      ends = λ reason w. greeted_says d t m (over reason m) g refl refl refl;
-      counts = λ none few. greeted_says d t m (record m { count = m.count + 1 }) g g refl refl;
+      ends = λ reason w. done_says d t m (over reason m) g refl refl refl;
+      counts = λ none few. done_says d t m (record m { count = m.count + 1 }) g g refl refl;
       offers = λ none own theirs. offers d g;
     }
 
-    plays : (c : Colour) (move : Move) (used : ℕ) → is_greeted m.phase ≡ true → Says d t m (played_by c move used m)
-    plays White move used g = greeted_says d t m (played_by White move used m) g refl refl refl
-    plays Black move used g = greeted_says d t m (played_by Black move used m) g refl refl refl
+    plays : (c : Colour) (move : Move) (used : ℕ) → handshakes_done m.phase ≡ true → Says d t m (played_by c move used m)
+    plays White move used g = done_says d t m (played_by White move used m) g refl refl refl
+    plays Black move used g = done_says d t m (played_by Black move used m) g refl refl refl
 
-    decides : (c : Colour) (move : Move) (used : ℕ) (v : Verdict) → is_greeted m.phase ≡ true
+    decides : (c : Colour) (move : Move) (used : ℕ) (v : Verdict) → handshakes_done m.phase ≡ true
         → Says d t m (over (Decided v) (played_by c move used m))
-    decides White move used v g = greeted_says d t m (over (Decided v) (played_by White move used m)) g refl refl refl
-    decides Black move used v g = greeted_says d t m (over (Decided v) (played_by Black move used m)) g refl refl refl
+    decides White move used v g = done_says d t m (over (Decided v) (played_by White move used m)) g refl refl refl
+    decides Black move used v g = done_says d t m (over (Decided v) (played_by Black move used m)) g refl refl refl
 
 -- ---- the transcript
 
@@ -257,22 +257,22 @@ owed_short : (r : Rules) (m : Match) (O : Colour) (unsent_to : Option Colour) (f
 owed_short r m O unsent_to failed = grind arith
 
 pub each_is_sent_the_others : EachIsSentOthersMoves
-each_is_sent_the_others r T f = ((match_of r T).played, moves_are_read r T f, told)
+each_is_sent_the_others r T f = ((match_of r T).played, moves_are_read r T f, sent_to)
   where
-    all_told : (O : Colour) → is_some (ending r T) ≡ true → has_fault Write O T ≡ false
+    all_sent : (O : Colour) → is_some (ending r T) ≡ true → has_fault Write O T ≡ false
         → owed_to r (match_of r T) O (match_of r T).unsent_to (has_fault Write O T) ≡ []
-    all_told O ended quiet = rw quiet (nothing_owed r (match_of r T) O (match_of r T).unsent_to ended)
+    all_sent O ended quiet = rw quiet (nothing_owed r (match_of r T) O (match_of r T).unsent_to ended)
 
-    told : (O : Colour) → (rest : List (List ℕ)) × (length rest ≤ 1)
+    sent_to : (O : Colour) → (rest : List (List ℕ)) × (length rest ≤ 1)
         × (is_some (ending r T) ≡ true → has_fault Write O T ≡ false → rest ≡ [])
         × (moves_sent (sent r O T) ++ rest
         ≡ texts_from r (takes (codes "san") (items_said (lines_of_engine O T))) (other O) r.first []
         (match_of r T).played)
-    told O = (
+    sent_to O = (
       owed_to r (match_of r T) O (match_of r T).unsent_to (has_fault Write O T),
       owed_short r (match_of r T) O (match_of r T).unsent_to (has_fault Write O T),
-      all_told O,
-      moves_are_told r T O f
+      all_sent O,
+      moves_are_sent r T O f
           ∙ ap (λ (is : List Item). texts_from r (takes (codes "san") is) (other O) r.first [] (match_of r T).played)
           (items_are_said r T O f),
     )

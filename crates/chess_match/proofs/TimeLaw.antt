@@ -39,9 +39,9 @@ numbers true = time_sent
 numbers false = otim_sent
 
 -- whose clock they show to S
-abbrev told_of : Bool → Colour → Colour
-told_of true S = S
-told_of false S = other S
+abbrev whose : Bool → Colour → Colour
+whose true S = S
+whose false S = other S
 
 no_text : (own : Bool) (text : List ℕ) → numbers own (Says text) ≡ []
 no_text true text = refl
@@ -55,25 +55,25 @@ last_times : (own : Bool) (r : Rules) (m : Match) (S : Colour) → flat_map (num
 unfolding last_move_sent
 last_times own r m S = grind arith
 
-untold_times : (own : Bool) (r : Rules) (m : Match) (S : Colour) (unsent_to : Option Colour)
+unsent_times : (own : Bool) (r : Rules) (m : Match) (S : Colour) (unsent_to : Option Colour)
     → flat_map (numbers own) (unsent_lines r m S unsent_to) ≡ []
 unfolding last_move_sent
-untold_times own r m S unsent_to = grind arith
+unsent_times own r m S unsent_to = grind arith
 
 end_times : (own : Bool) (r : Rules) (m : Match) (S : Colour) (reason : Reason)
     → flat_map (numbers own) (end_lines r m S reason) ≡ []
 unfolding end_lines
 end_times true r m S reason = flat_map-append time_sent (unsent_lines r m S m.unsent_to) _
-    ∙ append-nil (flat_map time_sent (unsent_lines r m S m.unsent_to)) ∙ untold_times true r m S m.unsent_to
+    ∙ append-nil (flat_map time_sent (unsent_lines r m S m.unsent_to)) ∙ unsent_times true r m S m.unsent_to
 end_times false r m S reason = flat_map-append otim_sent (unsent_lines r m S m.unsent_to) _
-    ∙ append-nil (flat_map otim_sent (unsent_lines r m S m.unsent_to)) ∙ untold_times false r m S m.unsent_to
+    ∙ append-nil (flat_map otim_sent (unsent_lines r m S m.unsent_to)) ∙ unsent_times false r m S m.unsent_to
 
 -- the clock that is sent in an opening, where the engine takes `time`
-abbrev clock_told : Bool → Rules → Match → Colour → List ℕ
-clock_told own r m S = if takes (codes "time") (seat m S).items then clock r m (told_of own S) / 10 ∷ [] else []
+abbrev clock_shown : Bool → Rules → Match → Colour → List ℕ
+clock_shown own r m S = if takes (codes "time") (seat m S).items then clock r m (whose own S) / 10 ∷ [] else []
 
 clock_times : (own : Bool) (r : Rules) (m : Match) (S : Colour) → flat_map (numbers own) (clock_lines r m S)
-    ≡ clock_told own r m S
+    ≡ clock_shown own r m S
 unfolding clock_lines
 clock_times own r m S = grind arith
 
@@ -82,7 +82,7 @@ go_times true = refl
 go_times false = refl
 
 opening_times : (own : Bool) (r : Rules) (m : Match) (S : Colour) → flat_map (numbers own) (opening_lines r m S)
-    ≡ clock_told own r m S
+    ≡ clock_shown own r m S
 unfolding opening_lines
 opening_times own r m S =
     grind (arith, flat_map-append, last_times own r m S, clock_times own r m S, go_times own, append-nil)
@@ -91,9 +91,9 @@ in_openings : (own : Bool) (r : Rules) (m : Match) (S : Colour) (p : Phase) → 
     → flat_map (numbers own) (entry_to r m S p) ≡ []
 in_openings own r m S p h1 = grind (arith, setup_times own r, end_times own r m S, no_text own)
 
-opening_told : (own : Bool) (r : Rules) (m : Match) (S c : Colour)
-    → flat_map (numbers own) (entry_to r m S (SendTurn c)) ≡ (if same_colour c S then clock_told own r m S else [])
-opening_told own r m S c = grind (arith, opening_times own r m S)
+opening_shown : (own : Bool) (r : Rules) (m : Match) (S c : Colour)
+    → flat_map (numbers own) (entry_to r m S (SendTurn c)) ≡ (if same_colour c S then clock_shown own r m S else [])
+opening_shown own r m S c = grind (arith, opening_times own r m S)
 
 -- ---- the clocks
 
@@ -114,11 +114,11 @@ abbrev from : Bool → List ℕ → List ℕ
 from true xs = xs
 from false xs = drop 1 xs
 
-abbrev all_told : Bool → Rules → Bool → List ℕ → List ℕ
-all_told whole r takes used = if takes then from whole (centiseconds r.level 0 0 used) else []
+abbrev all_shown : Bool → Rules → Bool → List ℕ → List ℕ
+all_shown whole r takes used = if takes then from whole (centiseconds r.level 0 0 used) else []
 
-abbrev last_told : Rules → Bool → List ℕ → List ℕ
-last_told r takes used = if takes then time_left r.level (length used) (sum used) / 10 ∷ [] else []
+abbrev last_shown : Rules → Bool → List ℕ → List ℕ
+last_shown r takes used = if takes then time_left r.level (length used) (sum used) / 10 ∷ [] else []
 
 -- what is still to be sent in this phase: the last, where S's turn wasn't opened since the clock changed
 abbrev pending : Bool → Phase → Colour → List ℕ → List ℕ
@@ -134,17 +134,17 @@ is_whole own r S = own || same_colour S r.first
 abbrev TimesIn : Bool → Rules → Colour → Phase → List ℕ → Bool → List ℕ → Type 0
 TimesIn own r S (Handshake c) X takes used = (X ≡ []) × (used ≡ [])
 TimesIn own r S (Setup c) X takes used = (X ≡ []) × (used ≡ [])
-TimesIn own r S (SendTurn c) X takes used = X ++ pending own (SendTurn c) S (last_told r takes used)
-    ≡ all_told (is_whole own r S) r takes used
-TimesIn own r S (AwaitMove c) X takes used = X ++ pending own (AwaitMove c) S (last_told r takes used)
-    ≡ all_told (is_whole own r S) r takes used
-TimesIn own r S (AwaitPong c) X takes used = X ++ pending own (AwaitPong c) S (last_told r takes used)
-    ≡ all_told (is_whole own r S) r takes used
+TimesIn own r S (SendTurn c) X takes used = X ++ pending own (SendTurn c) S (last_shown r takes used)
+    ≡ all_shown (is_whole own r S) r takes used
+TimesIn own r S (AwaitMove c) X takes used = X ++ pending own (AwaitMove c) S (last_shown r takes used)
+    ≡ all_shown (is_whole own r S) r takes used
+TimesIn own r S (AwaitPong c) X takes used = X ++ pending own (AwaitPong c) S (last_shown r takes used)
+    ≡ all_shown (is_whole own r S) r takes used
 TimesIn own r S (Over reason) X takes used = (rest : List ℕ) × (length rest ≤ 1)
-    × (X ++ rest ≡ all_told (is_whole own r S) r takes used)
+    × (X ++ rest ≡ all_shown (is_whole own r S) r takes used)
 
 abbrev TimesOf : Bool → Rules → Colour → Phase → List ℕ → Match → Type 0
-TimesOf own r S p X m = TimesIn own r S p X (takes (codes "time") (seat m S).items) (seat m (told_of own S)).used
+TimesOf own r S p X m = TimesIn own r S p X (takes (codes "time") (seat m S).items) (seat m (whose own S)).used
 
 abbrev Times : Bool → Rules → Colour → List ℕ → Match → Type 0
 Times own r S X m = TimesOf own r S m.phase X m
@@ -155,41 +155,41 @@ times_in own r S X m p e h = subst (λ (q : Phase). TimesOf own r S q X m) e h
 
 -- ---- lists
 
-last_short : (r : Rules) (takes : Bool) (used : List ℕ) → length (last_told r takes used) ≤ 1
+last_short : (r : Rules) (takes : Bool) (used : List ℕ) → length (last_shown r takes used) ≤ 1
 last_short r true used = omega arith
 last_short r false used = omega arith
 
 pending_short : (own : Bool) (p : Phase) (S : Colour) (t : List ℕ) → length t ≤ 1 → length (pending own p S t) ≤ 1
 pending_short own p S t h1 = grind arith
 
-all_short : (whole : Bool) (r : Rules) (takes : Bool) → length (all_told whole r takes []) ≤ 1
+all_short : (whole : Bool) (r : Rules) (takes : Bool) → length (all_shown whole r takes []) ≤ 1
 all_short whole r takes = grind arith
 
 empty_over : (own : Bool) (r : Rules) (S : Colour) (X : List ℕ) (takes : Bool) (used : List ℕ) → X ≡ [] → used ≡ []
-    → (rest : List ℕ) × (length rest ≤ 1) × (X ++ rest ≡ all_told (is_whole own r S) r takes used)
+    → (rest : List ℕ) × (length rest ≤ 1) × (X ++ rest ≡ all_shown (is_whole own r S) r takes used)
 empty_over own r S X takes used x u = rw (x, u)
-    (all_told (is_whole own r S) r takes [], all_short (is_whole own r S) r takes, refl)
+    (all_shown (is_whole own r S) r takes [], all_short (is_whole own r S) r takes, refl)
 
 over_times : (own : Bool) (r : Rules) (S : Colour) (X : List ℕ) (takes : Bool) (used : List ℕ) (p : Phase)
     → TimesIn own r S p X takes used
-    → (rest : List ℕ) × (length rest ≤ 1) × (X ++ rest ≡ all_told (is_whole own r S) r takes used)
+    → (rest : List ℕ) × (length rest ≤ 1) × (X ++ rest ≡ all_shown (is_whole own r S) r takes used)
 over_times own r S X takes used (Handshake c) h = empty_over own r S X takes used h.0 h.1
 over_times own r S X takes used (Setup c) h = empty_over own r S X takes used h.0 h.1
 over_times own r S X takes used (SendTurn c) h = (
-  pending own (SendTurn c) S (last_told r takes used),
-  pending_short own (SendTurn c) S (last_told r takes used)
+  pending own (SendTurn c) S (last_shown r takes used),
+  pending_short own (SendTurn c) S (last_shown r takes used)
       (last_short r takes used),
   h,
 )
 over_times own r S X takes used (AwaitMove c) h = (
-  pending own (AwaitMove c) S (last_told r takes used),
-  pending_short own (AwaitMove c) S (last_told r takes used)
+  pending own (AwaitMove c) S (last_shown r takes used),
+  pending_short own (AwaitMove c) S (last_shown r takes used)
       (last_short r takes used),
   h,
 )
 over_times own r S X takes used (AwaitPong c) h = (
-  pending own (AwaitPong c) S (last_told r takes used),
-  pending_short own (AwaitPong c) S (last_told r takes used)
+  pending own (AwaitPong c) S (last_shown r takes used),
+  pending_short own (AwaitPong c) S (last_shown r takes used)
       (last_short r takes used),
   h,
 )
@@ -202,8 +202,8 @@ passes_times own c S X t A h = grind (arith, append-nil)
 
 -- the first turn is opened
 opens_times : (own : Bool) (r : Rules) (S c : Colour) (takes : Bool)
-    → (if same_colour c S then last_told r takes [] else []) ++ pending own (SendTurn c) S (last_told r takes [])
-    ≡ all_told (own || same_colour S c) r takes []
+    → (if same_colour c S then last_shown r takes [] else []) ++ pending own (SendTurn c) S (last_shown r takes [])
+    ≡ all_shown (own || same_colour S c) r takes []
 opens_times own r S c takes = grind arith
 
 from-append : (whole : Bool) (level : LevelSeen) (us : List ℕ) (t : List ℕ)
@@ -212,8 +212,8 @@ from-append true level us t = refl
 from-append false level [] t = refl
 from-append false level (u ∷ us) t = refl
 
-all_more : (whole : Bool) (r : Rules) (takes : Bool) (used : List ℕ) (u : ℕ) → all_told whole r takes (used ++ u ∷ [])
-    ≡ all_told whole r takes used ++ last_told r takes (used ++ u ∷ [])
+all_more : (whole : Bool) (r : Rules) (takes : Bool) (used : List ℕ) (u : ℕ) → all_shown whole r takes (used ++ u ∷ [])
+    ≡ all_shown whole r takes used ++ last_shown r takes (used ++ u ∷ [])
 all_more whole r false used u = refl
 all_more whole r true used u =
     let l : length (used ++ u ∷ []) ≡ length used + 1 = length-append used (u ∷ []) in
@@ -227,7 +227,7 @@ all_more whole r true used u =
 carried : (own : Bool) (r : Rules) (S : Colour) (p : Phase) (X : List ℕ) (m m' : Match) → m'.white.items ≡ m.white.items
     → m'.black.items ≡ m.black.items
     → m'.white.used ≡ m.white.used → m'.black.used ≡ m.black.used → TimesOf own r S p X m → TimesOf own r S p X m'
-carried own r S p X m m' wi bi wu bu h = rw (items_same m m' wi bi S, used_same m m' wu bu (told_of own S)) h
+carried own r S p X m m' wi bi wu bu h = rw (items_same m m' wi bi S, used_same m m' wu bu (whose own S)) h
 
 abbrev Goes : Bool → Rules → Colour → List ℕ → Match → Match → Type 0
 Goes own r S X m m' = Times own r S (X ++ now (numbers own) r S m m') m'
@@ -249,7 +249,7 @@ over_goes : (own : Bool) (r : Rules) (S : Colour) (X : List ℕ) (reason : Reaso
 over_goes own r S X reason m h =
     quiet_goes own r S X m (over reason m) refl
     (carried own r S (Over reason) X m (over reason m) refl refl refl refl
-    (over_times own r S X (takes (codes "time") (seat m S).items) (seat m (told_of own S)).used m.phase h))
+    (over_times own r S X (takes (codes "time") (seat m S).items) (seat m (whose own S)).used m.phase h))
 
 counts_goes : (own : Bool) (r : Rules) (S c : Colour) (X : List ℕ) (n : ℕ) (m : Match) → reads m.phase c ≡ true
     → Times own r S X m → Goes own r S X m (record m { count = n })
@@ -284,21 +284,21 @@ decides_goes own r S c X move used v m h =
     let m' = played_by c move used m in
     quiet_goes own r S X m (over (Decided v) m') refl
     (carried own r S (Over (Decided v)) X m' (over (Decided v) m') refl refl refl refl
-    (over_times own r S X (takes (codes "time") (seat m' S).items) (seat m' (told_of own S)).used (AwaitPong c)
+    (over_times own r S X (takes (codes "time") (seat m' S).items) (seat m' (whose own S)).used (AwaitPong c)
     (played_times own r S c X move used m h)))
 
 turn_goes : (own : Bool) (r : Rules) (S c : Colour) (X : List ℕ) (m : Match) → is_same_phase m.phase (SendTurn c)
     ≡ false
-    → (X ++ (if same_colour c S then clock_told own r m S else [])) ++ pending own (SendTurn c) S (clock_told own r m S)
-    ≡ all_told (is_whole own r S) r (takes (codes "time") (seat m S).items) (seat m (told_of own S)).used
+    → (X ++ (if same_colour c S then clock_shown own r m S else [])) ++ pending own (SendTurn c) S (clock_shown own r m S)
+    ≡ all_shown (is_whole own r S) r (takes (codes "time") (seat m S).items) (seat m (whose own S)).used
     → Goes own r S X m (open_turn c m)
 turn_goes own r S c X m out h =
-    rw (out, opening_told own r (open_turn c m) S c)
-    (carried_turn (items_same m (open_turn c m) refl refl S) (used_same m (open_turn c m) refl refl (told_of own S)))
+    rw (out, opening_shown own r (open_turn c m) S c)
+    (carried_turn (items_same m (open_turn c m) refl refl S) (used_same m (open_turn c m) refl refl (whose own S)))
   where
-    carried_turn : (seat (open_turn c m) S).items ≡ (seat m S).items → (seat (open_turn c m) (told_of own S)).used
-        ≡ (seat m (told_of own S)).used
-        → TimesOf own r S (SendTurn c) (X ++ (if same_colour c S then clock_told own r (open_turn c m) S else []))
+    carried_turn : (seat (open_turn c m) S).items ≡ (seat m S).items → (seat (open_turn c m) (whose own S)).used
+        ≡ (seat m (whose own S)).used
+        → TimesOf own r S (SendTurn c) (X ++ (if same_colour c S then clock_shown own r (open_turn c m) S else []))
         (open_turn c m)
     carried_turn i u = rw (i, u) h
 
@@ -311,7 +311,7 @@ handshake_goes : (own : Bool) (r : Rules) (S c d : Colour) (X : List ℕ) (items
 handshake_goes own r S c d X items m h reason =
     let u = items_used c items m in
     let used : (m' : Match) → m'.white.used ≡ m.white.used → m'.black.used ≡ m.black.used
-    → (seat m' (told_of own S)).used ≡ [] = λ m' w b. used_same m m' w b (told_of own S) ∙ h.1 in (
+    → (seat m' (whose own S)).used ≡ [] = λ m' w b. used_same m m' w b (whose own S) ∙ h.1 in (
       (h.0, used (enter (Handshake Black) (take_items c items m)) u.0 u.1),
       (h.0, used (enter (Setup White) (take_items c items m)) u.0 u.1),
       empty_over own r S X _ _ h.0 (used (enter (Over reason) (take_items c items m)) u.0 u.1),
@@ -324,8 +324,8 @@ handshake_counts : (own : Bool) (r : Rules) (S c : Colour) (X : List ℕ) (items
 handshake_counts own r S c X items n m p h = grind (arith, p, h.0, h.1, same_colour-self c, append-nil)
 
 first_turn : (own : Bool) (r : Rules) (S : Colour) (X : List ℕ) (takes : Bool) (used : List ℕ) → X ≡ [] → used ≡ []
-    → (X ++ (if same_colour r.first S then last_told r takes used else []))
-    ++ pending own (SendTurn r.first) S (last_told r takes used) ≡ all_told (is_whole own r S) r takes used
+    → (X ++ (if same_colour r.first S then last_shown r takes used else []))
+    ++ pending own (SendTurn r.first) S (last_shown r takes used) ≡ all_shown (is_whole own r S) r takes used
 first_turn own r S X takes used x u = rw (x, u) (opens_times own r S r.first takes)
 
 lines_go : (own : Bool) (r : Rules) (S c : Colour) (X : List ℕ) (kind : LineKind) (moment : ℕ) (m : Match)
@@ -353,7 +353,7 @@ lines_go own r S c X kind moment m here h = record {
       (carried own r S (Setup Black) X m (enter (Setup Black) m) refl refl refl refl
       (times_in own r S X m (Setup White) p h));
   setup_done = λ p s pong undecided. turn_goes own r S r.first X m (rw p refl)
-      (first_turn own r S X (takes (codes "time") (seat m S).items) (seat m (told_of own S)).used
+      (first_turn own r S X (takes (codes "time") (seat m S).items) (seat m (whose own S)).used
       (times_in own r S X m (Setup Black) p h).0 (times_in own r S X m (Setup Black) p h).1);
   before = λ p. record {
     row = row;
@@ -362,10 +362,10 @@ lines_go own r S c X kind moment m here h = record {
     decides = λ text move v is reading room timely. decides_goes own r S c X move (moment - m.opened) v m
         (times_in own r S X m (AwaitMove c) p h);
   };
-  behind = λ p. record {
+  after = λ p. record {
     row = row;
     passes = λ none. turn_goes own r S (other c) X m (rw p refl)
-        (passes_times own c S X (clock_told own r m S) _ (times_in own r S X m (AwaitPong c) p h));
+        (passes_times own c S X (clock_shown own r m S) _ (times_in own r S X m (AwaitPong c) p h));
   };
 }
   where
@@ -406,7 +406,7 @@ times_so own r S T f =
     (unsent (numbers own) r S (λ r m S p e on. in_openings own r m S p e)) (lines_on_entering r start) start T [] f
     (refl, none S own))
   where
-    none : (S : Colour) (own : Bool) → (seat start (told_of own S)).used ≡ []
+    none : (S : Colour) (own : Bool) → (seat start (whose own S)).used ≡ []
     none White true = refl
     none Black true = refl
     none White false = refl
@@ -425,7 +425,7 @@ other_times_are_clocks r T S f =
   where
     at : (whole : Bool) → (rest : List ℕ) × (length rest ≤ 1)
         × (flat_map otim_sent (sent r S T) ++ rest
-        ≡ all_told whole r (takes (codes "time") (seat (match_of r T) S).items) (seat (match_of r T) (other S)).used)
+        ≡ all_shown whole r (takes (codes "time") (seat (match_of r T) S).items) (seat (match_of r T) (other S)).used)
         → (rest : List ℕ) × (length rest ≤ 1) × (flat_map otim_sent (sent r S T) ++ rest
         ≡ (if takes (codes "time") (seat (match_of r T) S).items
         then (if whole then centiseconds r.level 0 0 (seat (match_of r T) (other S)).used else drop 1

@@ -28,7 +28,8 @@ use Rattle.chess_match.specs.laws.Machine as machine
 use Rattle.chess_match.specs.laws.OfActs.{lines_given, move_times}
 use Rattle.chess_match.specs.laws.Transcript.{blocks_from as blocks_at_all, block_at, fits, fits_from, fits_next, has_fault, is_dropped, is_fault, is_on, joined_blocks, lines_of_engine, match_of, moments_of, opens, reads}
 use Rattle.chess_match.specs.laws.TranscriptNotes.{both_notes, first_sent, given_note, notes_from, notes_of}
-use Rattle.chess_match.specs.ties.SameEffects.{Agrees, owed_in, phase_of, view}
+use Rattle.chess_match.specs.ties.SameEffects.{Agrees, owed_in}
+use Rattle.chess_match.specs.laws.Machine.{phase_of, view}
 use Rattle.chess_match.specs.ties.Steps.{match_from}
 use Rattle.chess_match.specs.ties.TranscriptActs.{acts_from, acts_of, send_act, up_to}
 use Rattle.chess_match.proofs.Blocks.{if_nil, joined_at, joined_block}
@@ -149,7 +150,7 @@ Has H T = ((S : Colour) → lines_read S H ≡ lines_of_engine S T) × ((S : Col
 
 -- these acts follow in the match `m`, where `x` is due for the side `first` and `y` for the other, and end it as
 -- `final` for this reason. They are the acts of the events `T`, which follow in the match `M` of the code
-pub record Told (r : Rules) (reason : Reason) (final : Match) (first : Colour) (x y : List SentLine) (m : Match)
+pub record IsTranscribed (r : Rules) (reason : Reason) (final : Match) (first : Colour) (x y : List SentLine) (m : Match)
     (M : machine.Match) (H : List Act) (T : List Event) : Type 0 where
   pub fitting : fits_from r (two first x y) M T ≡ true
   pub same : final ≡ view (match_from r M T)
@@ -168,10 +169,10 @@ abbrev Apart : Reason → Match → (Colour → List SentLine) → Type 0
 Apart reason m due = m.phase ≡ Over reason → (S : Colour) → is_unwritten reason S ≡ true → due S ≡ []
 
 -- there are such events, whatever is due
-abbrev Tells : Rules → Reason → Match → Match → List Block → List Act → Type 0
-Tells r reason final m due H = (first : Colour) (x y : List SentLine) (M : machine.Match) → due ≡ both_due first x y
+abbrev HasTranscript : Rules → Reason → Match → Match → List Block → List Act → Type 0
+HasTranscript r reason final m due H = (first : Colour) (x y : List SentLine) (M : machine.Match) → due ≡ both_due first x y
     → m ≡ view M → (is_on M.phase ≡ true → M.unsent_to ≡ owed_in M.phase) → Apart reason m (two first x y)
-    → (T : List Event) × Told r reason final first x y m M H T
+    → (T : List Event) × IsTranscribed r reason final first x y m M H T
 
 -- ---- a block is sent
 
@@ -266,7 +267,7 @@ broken_other b H =
 -- a block is the first's, and `y` is due for the other
 module _ (r : Rules) (reason : Reason) (final : Match) (over : final.phase ≡ Over reason) (first : Colour)
     (l : SentLine) (ls y : List SentLine) (m : Match) (M : machine.Match) (q : m ≡ view M) (H : List Act)
-    (T : List Event) (t : Told r reason final first [] y m M H T) where
+    (T : List Event) (t : IsTranscribed r reason final first [] y m M H T) where
   less_own : (b : Bool) → (if b then l ∷ ls else y) ≡ [] → (if b then [] else y) ≡ []
   less_own true h = refl
   less_own false h = h
@@ -279,12 +280,12 @@ module _ (r : Rules) (reason : Reason) (final : Match) (over : final.phase ≡ O
   fits_own : fits_from r (two first (l ∷ ls) y) M T ≡ true
   fits_own = fits_more r (two first [] y) (two first (l ∷ ls) y) M T (λ S h. more_own (same_colour first S) h) t.fitting
 
-  told_own : (S : Colour) → list_if (same_colour first S) (l ∷ ls) ++ lines_given S H
+  transcribed_own : (S : Colour) → list_if (same_colour first S) (l ∷ ls) ++ lines_given S H
       ≡ kept first T (two first (l ∷ ls) y) S ++ joined_blocks (blocks_at_all r S M T)
-  told_own S = given_own (same_colour first S) (dropped first T S) (l ∷ ls) y (lines_given S H)
+  transcribed_own S = given_own (same_colour first S) (dropped first T S) (l ∷ ls) y (lines_given S H)
       (joined_blocks (blocks_at_all r S M T)) (own_kept first T S) (t.given S)
 
-  sent_own : Told r reason final first (l ∷ ls) y m M (Sends (record { to = first; lines = l ∷ ls }) ∷ H) T
+  sent_own : IsTranscribed r reason final first (l ∷ ls) y m M (Sends (record { to = first; lines = l ∷ ls }) ∷ H) T
   sent_own = record {
     fitting = fits_own;
     same = t.same;
@@ -295,12 +296,12 @@ module _ (r : Rules) (reason : Reason) (final : Match) (over : final.phase ≡ O
         (λ n. e first ∙ t.quiet (ap is_over (at_end r reason final m M T over q t.same n)) first (two_first first [] y))
         (λ d U n. not_first r first d y M T U t.fitting n) (t.acts failed e);
     has = t.has;
-    given = told_own;
+    given = transcribed_own;
     notes = kept_own reason first l ls y T H (notes_from r M T) t.notes;
   }
 
   late_own : is_over m.phase ≡ true → Apart reason m (two first (l ∷ ls) y)
-      → Told r reason final first (l ∷ ls) y m M (SendFails (record { to = first; lines = l ∷ ls }) ∷ H) T
+      → IsTranscribed r reason final first (l ∷ ls) y m M (SendFails (record { to = first; lines = l ∷ ls }) ∷ H) T
   late_own o apart =
       let b : Block = record { to = first; lines = l ∷ ls } in
       let none : T ≡ [] = t.stops o in
@@ -321,7 +322,7 @@ module _ (r : Rules) (reason : Reason) (final : Match) (over : final.phase ≡ O
             (t.acts (is_broken H) (λ S. refl))
             ∙ same_sends (other first) y (is_broken H) failed (sym (e (other first) ∙ broken_other b H))));
         has = t.has;
-        given = told_own;
+        given = transcribed_own;
         notes = ap (λ (x : Bool). Gives first (bytes_of (l ∷ ls))
             ∷ (list_if x (Happened (FailsToWrite first) ∷ []) ++ notes_given reason H)) written
             ∙ kept_own reason first l ls y T H (notes_from r M T) t.notes;
@@ -341,8 +342,8 @@ noted_turned White g e = rw (e, given_none White) (append-nil (given_note Black 
 noted_turned Black g e = rw (e, given_none Black) (append-nil (given_note White (bytes_of (g White))))
 
 swapped : (r : Rules) (reason : Reason) (final : Match) (c : Colour) (y : List SentLine) (m : Match)
-    (M : machine.Match) (H : List Act) (T : List Event) → Told r reason final (other c) y [] m M H T
-    → Told r reason final c [] y m M H T
+    (M : machine.Match) (H : List Act) (T : List Event) → IsTranscribed r reason final (other c) y [] m M H T
+    → IsTranscribed r reason final c [] y m M H T
 swapped r reason final c y m M H T t =
     let fits : fits_from r (two c [] y) M T ≡ true = fits_more r (two (other c) y []) (two c [] y) M T
     (λ S h. ap (λ (z : List SentLine). nat_lt 0 (length z)) (sym (turned c y S)) ∙ h) t.fitting in
@@ -384,13 +385,13 @@ own_keeps : (first : Colour) (x y : List SentLine) (S : Colour)
     → kept first (FailsToWrite first ∷ []) (two first x y) S ≡ list_if (same_colour first S) x
 own_keeps first x y S = grind arith
 
-told_failure : (r : Rules) (reason : Reason) (final : Match) (over : final.phase ≡ Over reason) (c : Colour)
+transcribed_failure : (r : Rules) (reason : Reason) (final : Match) (over : final.phase ≡ Over reason) (c : Colour)
     (l : SentLine) (ls y : List SentLine) (m : Match) (M : machine.Match) (H : List Act) → m ≡ view M
     → (is_on M.phase ≡ true → M.unsent_to ≡ owed_in M.phase) → is_over m.phase ≡ false
     → (let u = effect r m (FailsToWrite c) in
-    Told r reason final White (u.to White) (u.to Black) u.after (machine.match_after r M (FailsToWrite c)) H [])
-    → Told r reason final c (l ∷ ls) y m M (SendFails (record { to = c; lines = l ∷ ls }) ∷ H) (FailsToWrite c ∷ [])
-told_failure r reason final over c l ls y m M H q owed on t =
+    IsTranscribed r reason final White (u.to White) (u.to Black) u.after (machine.match_after r M (FailsToWrite c)) H [])
+    → IsTranscribed r reason final c (l ∷ ls) y m M (SendFails (record { to = c; lines = l ∷ ls }) ∷ H) (FailsToWrite c ∷ [])
+transcribed_failure r reason final over c l ls y m M H q owed on t =
     let b : Block = record { to = c; lines = l ∷ ls } in
     let u : Effect = effect r m (FailsToWrite c) in
     let M' : machine.Match = machine.match_after r M (FailsToWrite c) in
@@ -453,7 +454,7 @@ opens_back : (o : ℕ) (p : MachinePhase) (S : Colour) → phase_of o p ≡ Open
 opens_back o p S h1 = grind arith
 
 -- one event that is no failed write: `A` are its acts and then `H`, which give no more to send
-told_event : (r : Rules) (reason : Reason) (final : Match) (first start : Colour) (m : Match) (M : machine.Match)
+transcribed_event : (r : Rules) (reason : Reason) (final : Match) (first start : Colour) (m : Match) (M : machine.Match)
     (e : Event) (u : Effect) (A H : List Act) (T : List Event) → is_over m.phase ≡ false
     → fits_next (two first [] []) M e ≡ true → Agrees r M (machine.match_after r M e) u
     → start ≡ first_sent (machine.match_after r M e) e
@@ -464,9 +465,9 @@ told_event : (r : Rules) (reason : Reason) (final : Match) (first start : Colour
     → notes_given reason A ≡ Happened e ∷ notes_given reason H
     → ((failed : Colour → Bool) → H ≡ acts_from r failed u.after (blocks_from start u.to) T
     → A ≡ acts_from r failed m [] (e ∷ T)) → (Has H T → Has A (e ∷ T))
-    → Told r reason final start (u.to start) (u.to (other start)) u.after (machine.match_after r M e) H T
-    → Told r reason final first [] [] m M A (e ∷ T)
-told_event r reason final first start m M e u A H T on f agrees is drops quiet breaks gives notes acts has t =
+    → IsTranscribed r reason final start (u.to start) (u.to (other start)) u.after (machine.match_after r M e) H T
+    → IsTranscribed r reason final first [] [] m M A (e ∷ T)
+transcribed_event r reason final first start m M e u A H T on f agrees is drops quiet breaks gives notes acts has t =
     let M' : machine.Match = machine.match_after r M e in
     let sent : (S : Colour) → two start (u.to start) (u.to (other start)) S ≡ block r M M' S =
     λ S. two_same start u.to S ∙ agrees.to S in
@@ -528,24 +529,24 @@ nothing_due first x y h1 = grind arith
 
 on_then : (r : Rules) (reason : Reason) (final m : Match) (H : List Act)
     → ((first : Colour) (M : machine.Match) → m ≡ view M → (is_on M.phase ≡ true → M.unsent_to ≡ owed_in M.phase)
-    → (T : List Event) × Told r reason final first [] [] m M H T) → Tells r reason final m [] H
+    → (T : List Event) × IsTranscribed r reason final first [] [] m M H T) → HasTranscript r reason final m [] H
 on_then r reason final m H k first x y M e q owed apart =
     let none = nothing_due first x y e in
-    subst (λ (z : List SentLine). (T : List Event) × Told r reason final first z y m M H T) (sym none.0)
-    (subst (λ (z : List SentLine). (T : List Event) × Told r reason final first [] z m M H T) (sym none.1)
+    subst (λ (z : List SentLine). (T : List Event) × IsTranscribed r reason final first z y m M H T) (sym none.0)
+    (subst (λ (z : List SentLine). (T : List Event) × IsTranscribed r reason final first [] z m M H T) (sym none.1)
     (k first M q owed))
 
 -- a block is sent, or it fails late, where it is the first's
-told_first : (r : Rules) (reason : Reason) (final : Match) → final.phase ≡ Over reason → (late : Bool) (first : Colour)
+transcribed_first : (r : Rules) (reason : Reason) (final : Match) → final.phase ≡ Over reason → (late : Bool) (first : Colour)
     (l : SentLine) (ls y : List SentLine) (m : Match) (M : machine.Match) (due : List Block) (H : List Act)
     → (late ≡ true → is_over m.phase ≡ true) → due ≡ block_of (other first) y → m ≡ view M
     → (is_on M.phase ≡ true → M.unsent_to ≡ owed_in M.phase) → Apart reason m (two first (l ∷ ls) y)
-    → Tells r reason final m due H
-    → (T : List Event) × Told r reason final first (l ∷ ls) y m M ((if late then SendFails (record {
+    → HasTranscript r reason final m due H
+    → (T : List Event) × IsTranscribed r reason final first (l ∷ ls) y m M ((if late then SendFails (record {
       to = first;
       lines = l ∷ ls;
     }) else Sends (record { to = first; lines = l ∷ ls })) ∷ H) T
-told_first r reason final over late first l ls y m M due H is e q owed apart p =
+transcribed_first r reason final over late first l ls y m M due H is e q owed apart p =
     let (T, t) = p (other first) y [] M (e ∙ sym (append-nil (block_of (other first) y))) q owed
     (λ o S u. turned first y S ∙ less (same_colour first S) (apart o S u)) in
     (T, at late is (swapped r reason final first y m M H T t))
@@ -555,83 +556,83 @@ told_first r reason final over late first l ls y m M due H is e q owed apart p =
     less false h = h
 
     at : (late : Bool) → (late ≡ true → is_over m.phase ≡ true) → {T : List Event}
-        → Told r reason final first [] y m M H T → Told r reason final first (l ∷ ls) y m M ((if late then SendFails
+        → IsTranscribed r reason final first [] y m M H T → IsTranscribed r reason final first (l ∷ ls) y m M ((if late then SendFails
         (record { to = first; lines = l ∷ ls }) else Sends (record { to = first; lines = l ∷ ls })) ∷ H) T
     at true is {T} t = late_own r reason final over first l ls y m M q H T t (is refl) apart
     at false is {T} t = sent_own r reason final over first l ls y m M q H T t
 
 -- a write of it fails
-told_breaks : (r : Rules) (reason : Reason) (final : Match) → final.phase ≡ Over reason → (c : Colour) (l : SentLine)
+transcribed_breaks : (r : Rules) (reason : Reason) (final : Match) → final.phase ≡ Over reason → (c : Colour) (l : SentLine)
     (ls y : List SentLine) (m : Match) (M : machine.Match) (H : List Act) → is_over m.phase ≡ false → m ≡ view M
     → (is_on M.phase ≡ true → M.unsent_to ≡ owed_in M.phase)
-    → Tells r reason final (effect r m (FailsToWrite c)).after (blocks_from White (effect r m (FailsToWrite c)).to) H
-    → (T : List Event) × Told r reason final c (l ∷ ls) y m M (SendFails (record { to = c; lines = l ∷ ls }) ∷ H) T
-told_breaks r reason final over c l ls y m M H on q owed p =
+    → HasTranscript r reason final (effect r m (FailsToWrite c)).after (blocks_from White (effect r m (FailsToWrite c)).to) H
+    → (T : List Event) × IsTranscribed r reason final c (l ∷ ls) y m M (SendFails (record { to = c; lines = l ∷ ls }) ∷ H) T
+transcribed_breaks r reason final over c l ls y m M H on q owed p =
     let u : Effect = effect r m (FailsToWrite c) in
     let (T, t) = p White (u.to White) (u.to Black) (machine.match_after r M (FailsToWrite c)) refl
     (ap (λ (n : Match). (effect r n (FailsToWrite c)).after) q) (λ o. cc)
     (λ o S un. two_same White u.to S ∙ quiet S (let same : Faulted c Write ≡ reason = cc in
     ap (λ (x : Reason). is_unwritten x S) same ∙ un)) in (
       FailsToWrite c ∷ [],
-      told_failure r reason final over c l ls y m M H q owed on
-          (subst (λ (U : List Event). Told r reason final White (u.to White) (u.to Black) u.after
+      transcribed_failure r reason final over c l ls y m M H q owed on
+          (subst (λ (U : List Event). IsTranscribed r reason final White (u.to White) (u.to Black) u.after
           (machine.match_after r M (FailsToWrite c)) H U) (t.stops refl) t),
     )
   where
     quiet : (S : Colour) → same_colour c S ≡ true → (effect r m (FailsToWrite c)).to S ≡ []
     quiet S h = subst (λ (X : Colour). (effect r m (FailsToWrite c)).to X ≡ []) (same_colour-true c S h) (unsent r m c)
 
-told_block : (r : Rules) (reason : Reason) (final : Match) → final.phase ≡ Over reason → (late : Bool) (m : Match)
+transcribed_block : (r : Rules) (reason : Reason) (final : Match) → final.phase ≡ Over reason → (late : Bool) (m : Match)
     (b : Block) (due : List Block) (H : List Act) → (late ≡ true → is_over m.phase ≡ true)
-    → Tells r reason final m due H
-    → Tells r reason final m (b ∷ due) ((if late then SendFails b else Sends b) ∷ H)
-told_block r reason final over late m b due H is p first [] [] M e q owed apart = absurd cc
-told_block r reason final over late m b due H is p first (l ∷ ls) y M e q owed apart =
+    → HasTranscript r reason final m due H
+    → HasTranscript r reason final m (b ∷ due) ((if late then SendFails b else Sends b) ∷ H)
+transcribed_block r reason final over late m b due H is p first [] [] M e q owed apart = absurd cc
+transcribed_block r reason final over late m b due H is p first (l ∷ ls) y M e q owed apart =
     let own : record { to = first; lines = l ∷ ls } ≡ b = cc in
     let rest : due ≡ block_of (other first) y = cc in
     subst (λ (c : Block). (T : List Event)
-    × Told r reason final first (l ∷ ls) y m M ((if late then SendFails c else Sends c) ∷ H) T) own
-    (told_first r reason final over late first l ls y m M due H is rest q owed apart p)
-told_block r reason final over late m b due H is p first [] (k ∷ ks) M e q owed apart =
+    × IsTranscribed r reason final first (l ∷ ls) y m M ((if late then SendFails c else Sends c) ∷ H) T) own
+    (transcribed_first r reason final over late first l ls y m M due H is rest q owed apart p)
+transcribed_block r reason final over late m b due H is p first [] (k ∷ ks) M e q owed apart =
     let own : record { to = other first; lines = k ∷ ks } ≡ b = cc in
     let rest : due ≡ [] = cc in
-    let (T, t) = told_first r reason final over late (other first) k ks [] m M due H is rest q owed
+    let (T, t) = transcribed_first r reason final over late (other first) k ks [] m M due H is rest q owed
     (λ o S u. turned first (k ∷ ks) S ∙ apart o S u) p in
     subst (λ (c : Block). (T : List Event)
-    × Told r reason final first [] (k ∷ ks) m M ((if late then SendFails c else Sends c) ∷ H) T) own
+    × IsTranscribed r reason final first [] (k ∷ ks) m M ((if late then SendFails c else Sends c) ∷ H) T) own
     (T, swapped r reason final first (k ∷ ks) m M _ T t)
 
-told_fails : (r : Rules) (reason : Reason) (final : Match) → final.phase ≡ Over reason → (m : Match) (b : Block)
+transcribed_fails : (r : Rules) (reason : Reason) (final : Match) → final.phase ≡ Over reason → (m : Match) (b : Block)
     (due : List Block) (H : List Act) → is_over m.phase ≡ false
-    → Tells r reason final (effect r m (FailsToWrite b.to)).after
+    → HasTranscript r reason final (effect r m (FailsToWrite b.to)).after
     (blocks_from White (effect r m (FailsToWrite b.to)).to) H
-    → Tells r reason final m (b ∷ due) (SendFails b ∷ H)
-told_fails r reason final over m b due H on p first x y M e q owed apart = at x y e
+    → HasTranscript r reason final m (b ∷ due) (SendFails b ∷ H)
+transcribed_fails r reason final over m b due H on p first x y M e q owed apart = at x y e
   where
-    broken : (c : Block) → c ≡ b → Tells r reason final (effect r m (FailsToWrite c.to)).after
+    broken : (c : Block) → c ≡ b → HasTranscript r reason final (effect r m (FailsToWrite c.to)).after
         (blocks_from White (effect r m (FailsToWrite c.to)).to) H
-    broken c e = subst (λ (d : Block). Tells r reason final (effect r m (FailsToWrite d.to)).after
+    broken c e = subst (λ (d : Block). HasTranscript r reason final (effect r m (FailsToWrite d.to)).after
         (blocks_from White (effect r m (FailsToWrite d.to)).to) H) (sym e) p
 
     at : (x y : List SentLine) → (b ∷ due) ≡ both_due first x y
-        → (T : List Event) × Told r reason final first x y m M (SendFails b ∷ H) T
+        → (T : List Event) × IsTranscribed r reason final first x y m M (SendFails b ∷ H) T
     at [] [] e = absurd cc
     at (l ∷ ls) y e =
         let own : record { to = first; lines = l ∷ ls } ≡ b = cc in
-        subst (λ (d : Block). (T : List Event) × Told r reason final first (l ∷ ls) y m M (SendFails d ∷ H) T) own
-        (told_breaks r reason final over first l ls y m M H on q owed (broken _ own))
+        subst (λ (d : Block). (T : List Event) × IsTranscribed r reason final first (l ∷ ls) y m M (SendFails d ∷ H) T) own
+        (transcribed_breaks r reason final over first l ls y m M H on q owed (broken _ own))
     at [] (k ∷ ks) e =
         let own : record { to = other first; lines = k ∷ ks } ≡ b = cc in
-        let (T, t) = told_breaks r reason final over (other first) k ks [] m M H on q owed (broken _ own) in
-        subst (λ (d : Block). (T : List Event) × Told r reason final first [] (k ∷ ks) m M (SendFails d ∷ H) T) own
+        let (T, t) = transcribed_breaks r reason final over (other first) k ks [] m M H on q owed (broken _ own) in
+        subst (λ (d : Block). (T : List Event) × IsTranscribed r reason final first [] (k ∷ ks) m M (SendFails d ∷ H) T) own
         (T, swapped r reason final first (k ∷ ks) m M _ T t)
 
 -- a line
-told_line : (r : Rules) (reason : Reason) (final m : Match) (S : Colour) (text : Option (List ℕ)) (n : ℕ)
+transcribed_line : (r : Rules) (reason : Reason) (final m : Match) (S : Colour) (text : Option (List ℕ)) (n : ℕ)
     (H : List Act) → awaits_line m.phase S ≡ true
-    → Tells r reason final (effect r m (Line S text n)).after (blocks_after S (effect r m (Line S text n))) H
-    → Tells r reason final m [] (Reads S text ∷ ReadsClock S n ∷ H)
-told_line r reason final m S text n H awaits p =
+    → HasTranscript r reason final (effect r m (Line S text n)).after (blocks_after S (effect r m (Line S text n))) H
+    → HasTranscript r reason final m [] (Reads S text ∷ ReadsClock S n ∷ H)
+transcribed_line r reason final m S text n H awaits p =
     on_then r reason final m (Reads S text ∷ ReadsClock S n ∷ H) (λ first M q owed.
     let e : Event = Line S text n in
     let u : Effect = effect r m e in
@@ -648,7 +649,7 @@ told_line r reason final m S text n H awaits p =
     ap (λ (k : Match). if is_over k.phase then White else S) agrees.after
     ∙ ap (λ (b : Bool). if b then White else S) (over_same M'.opened M'.phase) ∙ turn (is_on M'.phase) S in (
       e ∷ T,
-      told_event r reason final first start m M e u (Reads S text ∷ ReadsClock S n ∷ H) H T
+      transcribed_event r reason final first start m M e u (Reads S text ∷ ReadsClock S n ∷ H) H T
           (on_when_read m.phase S awaits) f agrees is
           (λ X. ap (λ (c : Colour). kept c T (block r M M') X) is
           ∙ ap (λ (b : Bool). if b then [] else block r M M' X) (sym (line_drops S (is_on M'.phase) T text n X
@@ -670,10 +671,10 @@ told_line r reason final m S text n H awaits p =
     turn false S = refl
 
 -- the opening of a turn
-told_opened : (r : Rules) (reason : Reason) (final m : Match) (S : Colour) (n : ℕ) (H : List Act)
-    → m.phase ≡ Opening S → Tells r reason final (effect r m (Opened S n)).after [] H
-    → Tells r reason final m [] (ReadsClock S n ∷ H)
-told_opened r reason final m S n H opening p =
+transcribed_opened : (r : Rules) (reason : Reason) (final m : Match) (S : Colour) (n : ℕ) (H : List Act)
+    → m.phase ≡ Opening S → HasTranscript r reason final (effect r m (Opened S n)).after [] H
+    → HasTranscript r reason final m [] (ReadsClock S n ∷ H)
+transcribed_opened r reason final m S n H opening p =
     on_then r reason final m (ReadsClock S n ∷ H) (λ first M q owed.
     let e : Event = Opened S n in
     let u : Effect = effect r m e in
@@ -686,7 +687,7 @@ told_opened r reason final m S n H opening p =
     let (T, t) = p White [] [] M' refl agrees.after agrees.owed
     (event_apart r reason (two first [] []) (two White [] []) u.after M e f agrees.after (λ X. refl)) in (
       e ∷ T,
-      told_event r reason final first White m M e u (ReadsClock S n ∷ H) H T (ap is_over opening) f agrees refl
+      transcribed_event r reason final first White m M e u (ReadsClock S n ∷ H) H T (ap is_over opening) f agrees refl
           (λ X. if_nil (dropped White T X) (block r M M' X) (sym (agrees.to X)) ∙ agrees.to X)
           (λ X. refl) (λ X. refl) (λ X. refl) refl (λ failed h. ap (λ (l : List Act). ReadsClock S n ∷ l) h)
           (λ h. (
@@ -699,10 +700,10 @@ told_opened r reason final m S n H opening p =
     ))
 
 -- the end of an output
-told_end : (r : Rules) (reason : Reason) (final m : Match) (S : Colour) (H : List Act) → awaits_line m.phase S ≡ true
-    → Tells r reason final (effect r m (OutputEnds S)).after (blocks_from White (effect r m (OutputEnds S)).to) H
-    → Tells r reason final m [] (ReadsEnd S ∷ H)
-told_end r reason final m S H awaits p =
+transcribed_end : (r : Rules) (reason : Reason) (final m : Match) (S : Colour) (H : List Act) → awaits_line m.phase S ≡ true
+    → HasTranscript r reason final (effect r m (OutputEnds S)).after (blocks_from White (effect r m (OutputEnds S)).to) H
+    → HasTranscript r reason final m [] (ReadsEnd S ∷ H)
+transcribed_end r reason final m S H awaits p =
     on_then r reason final m (ReadsEnd S ∷ H) (λ first M q owed.
     let e : Event = OutputEnds S in
     let u : Effect = effect r m e in
@@ -715,18 +716,18 @@ told_end r reason final m S H awaits p =
     (event_apart r reason (two first [] []) (two White (u.to White) (u.to Black)) u.after M e f agrees.after
     (λ X. refl)) in (
       e ∷ T,
-      told_event r reason final first White m M e u (ReadsEnd S ∷ H) H T (on_when_read m.phase S awaits) f agrees refl
+      transcribed_event r reason final first White m M e u (ReadsEnd S ∷ H) H T (on_when_read m.phase S awaits) f agrees refl
           (λ X. stopped White T (block r M M' X) X (t.stops refl))
           (λ X. refl) (λ X. refl) (λ X. refl) refl (λ failed h. ap (λ (l : List Act). ReadsEnd S ∷ l) h)
           (λ h. (h.0, λ X. ap (λ (b : Bool). same_colour S X || b) (h.1 X), h.2, h.3, h.4)) t,
     ))
 
 -- a read that failed
-told_read_fails : (r : Rules) (reason : Reason) (final m : Match) (S : Colour) (H : List Act)
+transcribed_read_fails : (r : Rules) (reason : Reason) (final m : Match) (S : Colour) (H : List Act)
     → awaits_line m.phase S ≡ true
-    → Tells r reason final (effect r m (FailsToRead S)).after (blocks_from White (effect r m (FailsToRead S)).to) H
-    → Tells r reason final m [] (ReadFails S ∷ H)
-told_read_fails r reason final m S H awaits p =
+    → HasTranscript r reason final (effect r m (FailsToRead S)).after (blocks_from White (effect r m (FailsToRead S)).to) H
+    → HasTranscript r reason final m [] (ReadFails S ∷ H)
+transcribed_read_fails r reason final m S H awaits p =
     on_then r reason final m (ReadFails S ∷ H) (λ first M q owed.
     let e : Event = FailsToRead S in
     let u : Effect = effect r m e in
@@ -739,14 +740,14 @@ told_read_fails r reason final m S H awaits p =
     (event_apart r reason (two first [] []) (two White (u.to White) (u.to Black)) u.after M e f agrees.after
     (λ X. refl)) in (
       e ∷ T,
-      told_event r reason final first White m M e u (ReadFails S ∷ H) H T (on_when_read m.phase S awaits) f agrees refl
+      transcribed_event r reason final first White m M e u (ReadFails S ∷ H) H T (on_when_read m.phase S awaits) f agrees refl
           (λ X. stopped White T (block r M M' X) X (t.stops refl))
           (λ X. refl) (λ X. refl) (λ X. refl) refl (λ failed h. ap (λ (l : List Act). ReadFails S ∷ l) h)
           (λ h. (h.0, h.1, λ X. ap (λ (b : Bool). same_colour S X || b) (h.2 X), h.3, h.4)) t,
     ))
 
-told_over : (r : Rules) (reason : Reason) (final : Match) → Tells r reason final final [] []
-told_over r reason final = on_then r reason final final [] (λ first M q owed. (
+transcribed_over : (r : Rules) (reason : Reason) (final : Match) → HasTranscript r reason final final [] []
+transcribed_over r reason final = on_then r reason final final [] (λ first M q owed. (
   [],
   record {
     fitting = refl;
@@ -762,17 +763,17 @@ told_over r reason final = on_then r reason final final [] (λ first M q owed. (
   },
 ))
 
-told : (r : Rules) (reason : Reason) (final m : Match) (due : List Block) (H : List Act) → final.phase ≡ Over reason
-    → IsMatchFrom r m due H final → Tells r reason final m due H
-told r reason final m due H over g = by_cases r final (Tells r reason final) (record {
-  sends = λ m b due H p. told_block r reason final over false m b due H (λ h. cc) p;
-  fails = told_fails r reason final over;
-  fails_late = λ m b due H o p. told_block r reason final over true m b due H (λ h. o) p;
-  reads = told_line r reason final;
-  opens = told_opened r reason final;
-  ends = told_end r reason final;
-  read_fails = told_read_fails r reason final;
-  over = λ o. told_over r reason final;
+transcript : (r : Rules) (reason : Reason) (final m : Match) (due : List Block) (H : List Act) → final.phase ≡ Over reason
+    → IsMatchFrom r m due H final → HasTranscript r reason final m due H
+transcript r reason final m due H over g = by_cases r final (HasTranscript r reason final) (record {
+  sends = λ m b due H p. transcribed_block r reason final over false m b due H (λ h. cc) p;
+  fails = transcribed_fails r reason final over;
+  fails_late = λ m b due H o p. transcribed_block r reason final over true m b due H (λ h. o) p;
+  reads = transcribed_line r reason final;
+  opens = transcribed_opened r reason final;
+  ends = transcribed_end r reason final;
+  read_fails = transcribed_read_fails r reason final;
+  over = λ o. transcribed_over r reason final;
 }) m due H g
 
 -- ---- a whole match
@@ -796,7 +797,7 @@ pub record Transcribed (r : Rules) (reason : Reason) (H : List Act) (final : Mat
 pub transcribed : (r : Rules) (reason : Reason) (H : List Act) (final : Match) → IsMatch r H final
     → final.phase ≡ Over reason → (T : List Event) × Transcribed r reason H final T
 transcribed r reason H final g over =
-    let (T, t) = told r reason final beginning.after (blocks_from White beginning.to) H over g White
+    let (T, t) = transcript r reason final beginning.after (blocks_from White beginning.to) H over g White
     (beginning.to White) (beginning.to Black) machine.start refl start_same (λ on. refl) (λ o. cc) in
     let begun : (S : Colour) → two White (beginning.to White) (beginning.to Black) S
     ≡ lines_on_entering r machine.start S = two_same White beginning.to in

@@ -156,7 +156,7 @@ lines_grow r S c kind n m = record {
     plays = λ text move is reading room timely undecided. rw is (plays_grow S c text move n m p);
     decides = λ text move v is reading room timely. rw is (decides_grow S c text move n m (Decided v) p);
   };
-  behind = λ p. record {
+  after = λ p. record {
     row = row;
     passes =
         λ none. apart_grow S kind n m (open_turn (other c) m) (AwaitPong c) p refl refl refl refl;

@@ -23,13 +23,13 @@ ghost use Rattle.chess_match.specs.declared.phase.Phase.TheVariants.{Over};
 ghost use Rattle.chess_match.specs.declared.reason.Reason.{Reason};
 ghost use Rattle.chess_match.specs.declared.run.TheConstants.{ENGINE_LINE_LEN};
 ghost use Rattle.chess_match.specs.laws.Blocks.{block};
-ghost use Rattle.chess_match.specs.laws.Machine.{Match, match_after};
+ghost use Rattle.chess_match.specs.laws.Machine.{Match, match_after, view};
 ghost use Rattle.chess_match.specs.laws.Transcript.{is_on, reads};
 ghost use Rattle.chess_match.specs.ties.Awaits.{IsAwaited};
 ghost use Rattle.chess_match.specs.ties.Driving.{Delivered, after_line, by_turn, giving, is_line_event, is_of_output, line_event, steps_of};
 ghost use Rattle.chess_match.specs.ties.Reported.{IsReported};
 ghost use Rattle.chess_match.specs.ties.Represents.{Represents, Goes, given_block, items_to};
-ghost use Rattle.chess_match.specs.ties.SameEffects.{view, owed_in};
+ghost use Rattle.chess_match.specs.ties.SameEffects.{owed_in};
 ghost use Rattle.chess_match.specs.ties.Steps.{IsSane};
 
 use crate::block::{Block, Blocks};

@@ -1,8 +1,9 @@
 //! Transitions that all phases share: to the end, into a phase, into a turn; and an ignored line.
 
-ghost use Rattle.std.specs.Prelude.{◌≡◌, ◌+◌, ◌<◌, ◌≤◌, List, [], true, false};
+ghost use Rattle.std.specs.Prelude.{◌≡◌, ◌+◌, ◌<◌, List, true, false};
 ghost use Rattle.chess_base.specs.declared.man.Move.{Move};
-ghost use Rattle.chess_match.specs.laws.Machine.{Match, over, ignore, enter, open_turn};
+ghost use Rattle.chess_match.specs.laws.Machine.{Match, over, enter, open_turn, kept_match, view};
+ghost use Rattle.chess_match.specs.Effects.{ignores};
 ghost use Rattle.chess_match.specs.Rules.{Rules};
 ghost use Rattle.chess_match.specs.laws.Blocks.{is_same_phase};
 ghost use Rattle.chess_match.specs.ties.Represents.{Represents, Goes, nothing_said};
@@ -60,7 +61,8 @@ impl MatchState {
     pub(crate) fn ignore(&mut self, side: Colour) -> Actions
         requires { self.old.count < FLOOD_LEN }
         ensures { (r : Rules) (played : List Move) (m : Match) → reads m.phase side ≡ true
-            → Represents r self.old played m → Goes r self.new played result nothing_said m (ignore side m) }
+            → Represents r self.old played m
+            → Goes r self.new played result nothing_said m (kept_match m (ignores r side (view m)).after) }
     {
         if self.count + 1 >= FLOOD_LEN {
             return self.finish(Reason::Faulted(side, MatchFault::Flood));

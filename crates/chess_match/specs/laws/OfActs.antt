@@ -25,7 +25,7 @@ use Rattle.chess_match.specs.laws.Transcript.{fits, match_of, is_on, has_fault}
 use Rattle.chess_match.specs.declared.reason.MatchFault.TheVariants.{Write}
 use Rattle.chess_match.specs.declared.reason.Reason.{Reason}
 use Rattle.chess_match.specs.declared.reason.Reason.TheVariants.{Decided, Resigns, MovesIllegally, MovesOutOfTurn, ClaimsFalsely, RejectsLegalMove, Forfeits}
-use Rattle.chess_match.specs.ties.SameEffects.{view}
+use Rattle.chess_match.specs.laws.Machine.{view}
 use Rattle.chess_match.specs.ties.TranscriptActs.{acts_of}
 
 -- in every match: when a line is read nothing is due, and the next act is to read the clock for that side

@@ -10,7 +10,7 @@ use Rattle.chess_match.specs.Acts.{Act, Block, Reads, ReadsEnd, ReadFails, Reads
 use Rattle.chess_match.specs.ByDevice.{is_broken}
 use Rattle.chess_match.specs.Effects as effects
 use Rattle.chess_match.specs.Events.{Event, Line, Opened, OutputEnds, FailsToRead, FailsToWrite}
-use Rattle.chess_match.specs.laws.Machine.{Match}
+use Rattle.chess_match.specs.laws.Machine.{Match, view}
 use Rattle.chess_match.specs.laws.Transcript.{is_on}
 use Rattle.chess_match.specs.Lines.{SentLine, bytes_of}
 use Rattle.chess_match.specs.Notes.{Happened, Gives}
@@ -20,7 +20,6 @@ use Rattle.chess_match.specs.Table.{Step, Does, Notes, Passing, Passes, sending,
 use Rattle.chess_match.specs.declared.reason.Reason.{Reason}
 use Rattle.chess_match.specs.declared.state.MatchState.{MatchState}
 use Rattle.chess_match.specs.ties.Represents.{Represents}
-use Rattle.chess_match.specs.ties.SameEffects.{view}
 use Rattle.chess_match.specs.ties.Steps.{IsSane}
 
 -- ---- steps

@@ -1,8 +1,9 @@
--- How the effects of events agree with the state of the code (laws/Machine) and the blocks that it sends (laws/Blocks).
-use Rattle.std.specs.Prelude.{◌≡◌, ℕ, true, List, Option, Some, None}
+-- How the effects of events agree with the blocks that the code sends (laws/Blocks).
+use Rattle.std.specs.Prelude.{◌≡◌, true, List, Option, Some, None}
 use Rattle.chess_base.specs.declared.man.Colour.{Colour}
 use Rattle.chess_base.specs.Men.{other}
 use Rattle.chess_match.specs.laws.Machine as machine
+use Rattle.chess_match.specs.laws.Machine.{view}
 use Rattle.chess_match.specs.Events.{Event}
 use Rattle.chess_match.specs.Rules.{Rules}
 use Rattle.chess_match.specs.Lines.{SentLine}
@@ -10,20 +11,7 @@ use Rattle.chess_match.specs.laws.Blocks.{block}
 use Rattle.chess_match.specs.laws.Transcript.{is_on, fits_next}
 use Rattle.chess_match.specs.declared.phase.Phase.{Phase as MachinePhase}
 use Rattle.chess_match.specs.declared.phase.Phase.TheVariants as phases
-use Rattle.chess_match.specs.Effects.{Match, Phase, Handshake, Setup, Opening, BeforeMove, AfterMove, Over, Effect, effect}
-
--- a phase of the code, as a phase of a match; `opened` is when the turn was opened
-abbrev pub phase_of : ℕ → MachinePhase → Phase
-phase_of opened (phases.Handshake c) = Handshake c
-phase_of opened (phases.Setup c) = Setup c
-phase_of opened (phases.SendTurn c) = Opening c
-phase_of opened (phases.AwaitMove c) = BeforeMove c opened
-phase_of opened (phases.AwaitPong c) = AfterMove c
-phase_of opened (phases.Over reason) = Over reason
-
--- a match as the code has it, without what its phase says anyway
-abbrev pub view : machine.Match → Match
-view m = record { phase = phase_of m.opened m.phase; seat = λ S. machine.seat m S; played = m.played; count = m.count }
+use Rattle.chess_match.specs.Effects.{Effect, effect}
 
 -- who is still to be sent the last move in a match that is on and in this phase: after its move, the other
 abbrev pub owed_in : MachinePhase → Option Colour

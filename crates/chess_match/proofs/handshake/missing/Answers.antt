@@ -2,7 +2,7 @@
 use Rattle.std.proofs.Common.{◌≡◌, List, Bool, not, ◌&&◌, refl, ◌∙◌, ap, Option, Some, None}
 use Rattle.std.specs.Prelude.{is_some, if◌then◌else◌}
 use Rattle.cecp_engine.specs.Items.{Item}
-use Rattle.chess_match.specs.laws.Machine.{missing}
+use Rattle.chess_match.specs.Effects.{missing}
 use Rattle.chess_match.specs.Rules.{Rules, is_fischerandom}
 use Rattle.cecp_engine.specs.Seen.{features_of}
 use Rattle.cecp_engine.specs.declared.features.Features.{Features}

@@ -16,7 +16,7 @@ use Rattle.chess_match.specs.Table.{Does, Notes}
 use Rattle.chess_match.specs.declared.phase.Phase.{Phase}
 use Rattle.chess_match.specs.ties.Represents.{Represents, items_to, nothing_said}
 use Rattle.chess_match.proofs.Going.{to_other, to_own}
-use Rattle.chess_match.proofs.OnTheWay.{agrees_at, apart_at, begun, opened_less, opened_on, played_at, plays_anew, plays_on, rules_level, told_outcome, went_less, went_on}
+use Rattle.chess_match.proofs.OnTheWay.{agrees_at, apart_at, begun, opened_less, opened_on, played_at, plays_anew, plays_on, rules_level, reported_outcome, went_less, went_on}
 use Rattle.chess_match.proofs.Passings.{passed_more}
 use Rattle.chess_match.proofs.Sends.{no_answers}
 use Rattle.chess_match.proofs.run.run_match_at.Goals as goal
@@ -56,7 +56,7 @@ returns-in-Nothing-clause-limit g c =
 
 pub returns-in-Nothing-clause-outcome : goal.returns-in-Nothing-clause-outcome
 returns-in-Nothing-clause-outcome g c =
-    told_outcome c.events.game c.end_of.new.game c.in-Nothing.reason c.end_of.result.outcome c.end_of.ensures.game
+    reported_outcome c.events.game c.end_of.new.game c.in-Nothing.reason c.end_of.result.outcome c.end_of.ensures.game
     c.end_of.ensures.report.outcome
 
 pub events-smaller-in-Moment : goal.events-smaller-in-Moment

@@ -11,10 +11,10 @@ in_parts items front text =
 pub returns-in-Some-clause-text : goal.returns-in-Some-clause-text
 unfolding rules_of bytes_of
 returns-in-Some-clause-text g c r p =
-    let told : Some c.in-Some.text.items ≡ r.start_fen =
+    let sent : Some c.in-Some.text.items ≡ r.start_fen =
     c.in-Some.ensures.text ∙ ap fen_sent c.start.ensures ∙ ap (λ (x : Rules). x.start_fen) (sym p.1) in
     rw (
-      ← told,
+      ← sent,
       c.append-in-Some-2.ensures.text,
       c.append-in-Some.ensures.text,
       c.append.ensures.text,

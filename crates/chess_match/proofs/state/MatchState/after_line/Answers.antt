@@ -2,7 +2,7 @@
 -- its moves, and so the number of the ping that it is to answer (Going.clocks_moves).
 use Rattle.std.proofs.Common.{◌≡◌, true, false, refl, ◌∙◌, arith, length, eq-eqb, ne_eqb}
 use Rattle.std.specs.Prelude.{◌==◌}
-use Rattle.chess_match.specs.laws.Machine.{seat, ping_number, after_line}
+use Rattle.chess_match.specs.laws.Machine.{seat, ping_number, view}
 use Rattle.chess_match.specs.laws.Blocks.{is_same_phase}
 use Rattle.chess_match.specs.laws.Transcript.{reads, is_on}
 use Rattle.chess_match.specs.declared.phase.Phase.TheVariants.{SendTurn}
@@ -12,13 +12,11 @@ use Rattle.chess_match.proofs.state.MatchState.after_line.Goals as goal
 use Rattle.chess_base.proofs.shared.Men.{same_colour-self}
 
 pub returns-in-Move : goal.returns-in-Move
-unfolding after_line
 returns-in-Move g c r m p at s =
     let on : is_on m.phase ≡ true = rw at refl in
     rw c.in-Move.is (c.finish.ensures r _ m on s)
 
 pub returns-then-number-moves : goal.returns-then-number-moves
-unfolding after_line
 returns-then-number-moves g c r m p at s =
     let moved : c.moves.result ≡ length (seat m c.args.side).used = c.moves.ensures.value
     ∙ clocks_moves r _ _ m s c.args.side in
@@ -28,7 +26,6 @@ returns-then-number-moves g c r m p at s =
     rw (c.in-Pong.is, answered, ← c.other.ensures) (c.open_turn.ensures r _ m differs s)
 
 pub returns-else-number-moves : goal.returns-else-number-moves
-unfolding after_line
 returns-else-number-moves g c r m p at s =
     let moved : c.moves.result ≡ length (seat m c.args.side).used = c.moves.ensures.value
     ∙ clocks_moves r _ _ m s c.args.side in
@@ -40,5 +37,5 @@ returns-else-number-moves g c r m p at s =
 pub returns-in_default : goal.returns-in_default
 returns-in_default g c r m p at s =
     let h : reads m.phase c.args.side ≡ true = rw at (same_colour-self c.args.side) in
-    rw (after_other r c.args.side c.args.line m c.in_default.not-Move c.in_default.not-Pong)
+    rw (after_other r c.args.side c.args.line (view m) c.in_default.not-Move c.in_default.not-Pong)
     (c.turn_line.ensures r m p h s)

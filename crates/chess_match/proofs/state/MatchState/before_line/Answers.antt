@@ -4,7 +4,7 @@ use Rattle.std.proofs.Common.{◌≡◌, ◌-◌, ℕ, Bool, true, false, refl, 
 use Rattle.std.specs.Prelude.{nat_lt}
 use Rattle.chess_base.specs.Men.{other}
 use Rattle.cecp_engine.specs.Clocks.{remaining}
-use Rattle.chess_match.specs.laws.Machine.{clock, before_line}
+use Rattle.chess_match.specs.laws.Machine.{clock, view}
 use Rattle.chess_match.specs.laws.Transcript.{reads, is_on}
 use Rattle.chess_match.proofs.Going.{clocks_left}
 use Rattle.chess_match.proofs.OtherLines.{before_other}
@@ -17,7 +17,6 @@ flag_kept : (left used clock elapsed : ℕ) (b : Bool) → left ≡ clock → us
 flag_kept left used clock elapsed b e f h = rw (← e, ← f) h
 
 pub returns-then-has_bare_king-clause-goes : goal.returns-then-has_bare_king-clause-goes
-unfolding before_line
 returns-then-has_bare_king-clause-goes g c r m p at s =
     let left : remaining c.args.self.now.clocks c.args.side ≡ clock r m c.args.side =
     clocks_left r _ _ m s c.args.side in
@@ -31,7 +30,6 @@ returns-then-has_bare_king-clause-goes g c r m p at s =
     rw (flag, bare) (c.finish.ensures r _ m on s)
 
 pub returns-else-has_bare_king-clause-goes : goal.returns-else-has_bare_king-clause-goes
-unfolding before_line
 returns-else-has_bare_king-clause-goes g c r m p at s =
     let left : remaining c.args.self.now.clocks c.args.side ≡ clock r m c.args.side =
     clocks_left r _ _ m s c.args.side in
@@ -45,7 +43,6 @@ returns-else-has_bare_king-clause-goes g c r m p at s =
     rw (flag, bare) (c.finish-else-has_bare_king.ensures r _ m on s)
 
 pub returns-in-Move-clause-goes : goal.returns-in-Move-clause-goes
-unfolding before_line
 returns-in-Move-clause-goes g c r m p at s =
     let left : remaining c.args.self.now.clocks c.args.side ≡ clock r m c.args.side =
     clocks_left r _ _ m s c.args.side in
@@ -56,7 +53,6 @@ returns-in-Move-clause-goes g c r m p at s =
     rw (c.in-Move.is, flag) (c.move_line.ensures.goes r m c.args.moment p at used s)
 
 pub returns-in_default-clause-goes : goal.returns-in_default-clause-goes
-unfolding before_line
 returns-in_default-clause-goes g c r m p at s =
     let left : remaining c.args.self.now.clocks c.args.side ≡ clock r m c.args.side =
     clocks_left r _ _ m s c.args.side in
@@ -65,5 +61,5 @@ returns-in_default-clause-goes g c r m p at s =
     let flag : nat_lt (clock r m c.args.side) (c.args.moment - m.opened) ≡ false =
     flag_kept _ _ _ _ false left used (sym c.is_flagged.ensures ∙ c.if-is_flagged.false) in
     let h : reads m.phase c.args.side ≡ true = rw at (same_colour-self c.args.side) in
-    rw (flag, before_other r c.args.side c.args.line c.args.moment m c.in_default.not-Move)
+    rw (flag, before_other r c.args.side c.args.line (c.args.moment - m.opened) (view m) c.in_default.not-Move)
     (c.turn_line.ensures r m p h s)

@@ -5,7 +5,8 @@ use Rattle.std.specs.Prelude.{nat_le}
 use Rattle.chess_match.specs.laws.Blocks.{is_same_phase}
 use Rattle.chess_match.specs.laws.Transcript.{is_on}
 use Rattle.chess_match.specs.declared.phase.Phase.TheVariants.{AwaitPong}
-use Rattle.chess_match.proofs.Going.{played_goes, played_over_goes}
+use Rattle.chess_match.proofs.Going.{goes_at, played_goes, played_over_goes}
+use Rattle.chess_match.proofs.KeptMatches.{decides_kept, plays_kept}
 use Rattle.chess_match.proofs.state.MatchState.move_line.Goals as goal
 
 pub returns-then-is_full-clause-goes : goal.returns-then-is_full-clause-goes
@@ -32,10 +33,11 @@ returns-in-Some-verdict-clause-goes g c r m moment p at u s =
     let decided : r.verdict (m.played ++ c.in-Some.chosen ∷ []) ≡ Some c.in-Some-verdict.verdict =
     rw (← now) (sym (c.in-Some-verdict.ensures r (c.play-texts.ensures.rules r p))) in
     rw (full, says, decided, ← u, c.play-texts.ensures.moves)
+    (goes_at r _ _ _ _ m _ _ (decides_kept c.args.side c.in-Some.chosen c.args.used c.in-Some-verdict.verdict m at)
     (played_over_goes r c.args.self.now _ (g.G.MatchGame.played c.args.game.now) c.args.side c.in-Some.chosen
     c.args.used m
     c.play-texts.result _ on s (rw c.play-texts.ensures.moves at (c.play-texts.ensures.texts r p))
-    (rw c.note_move.ensures refl))
+    (rw c.note_move.ensures refl)))
 
 pub returns-in-None-verdict-clause-goes : goal.returns-in-None-verdict-clause-goes
 returns-in-None-verdict-clause-goes g c r m moment p at u s =
@@ -48,6 +50,7 @@ returns-in-None-verdict-clause-goes g c r m moment p at u s =
     let open_still : r.verdict (m.played ++ c.in-Some.chosen ∷ []) ≡ None =
     rw (← now) (sym (c.in-None-verdict.ensures r (c.play-texts.ensures.rules r p))) in
     rw (full, says, open_still, ← u, c.play-texts.ensures.moves)
+    (goes_at r _ _ _ _ m _ _ (plays_kept c.args.side c.in-Some.chosen c.args.used m at)
     (played_goes r c.args.self.now _ (g.G.MatchGame.played c.args.game.now) c.args.side c.in-Some.chosen c.args.used m
     c.play-texts.result differs s (rw c.play-texts.ensures.moves at (c.play-texts.ensures.texts r p))
-    c.note_move.ensures)
+    c.note_move.ensures))

@@ -7,7 +7,8 @@ use Rattle.cecp_engine.specs.Items.{takes}
 use Rattle.chess_match.specs.laws.Machine.{seat}
 use Rattle.chess_match.specs.ties.Represents.{Keeps, player}
 use Rattle.cecp_engine.specs.declared.features.Features.{Features}
-use Rattle.chess_match.proofs.Going.{kept, reads_on, offered_goes, features-draw}
+use Rattle.chess_match.proofs.Going.{goes_at, kept, reads_on, offered_goes, features-draw}
+use Rattle.chess_match.proofs.KeptMatches.{offers_kept}
 use Rattle.chess_match.proofs.state.MatchState.offer.Goals as goal
 
 pub returns-then-offers : goal.returns-then-offers
@@ -38,7 +39,8 @@ returns-then-draws c r played m h s =
     ap (λ (x : Features). x.draw) k.features ∙ features-draw (seat m (other c.args.side)).items in
     let t : takes (codes "draw") (seat m (other c.args.side)).items ≡ true = cc in
     rw (o, o2, c.other-other.ensures)
-    (offered_goes r c.args.self.now _ played c.args.side m true h s o2 t c.note_offer.ensures)
+    (goes_at r _ played _ _ m _ _ (offers_kept c.args.side m h)
+    (offered_goes r c.args.self.now _ played c.args.side m true h s o2 t c.note_offer.ensures))
 
 pub returns-else-draws : goal.returns-else-draws
 returns-else-draws c r played m h s =
@@ -51,4 +53,5 @@ returns-else-draws c r played m h s =
     (seat m (other c.args.side)).items =
     ap (λ (x : Features). x.draw) k.features ∙ features-draw (seat m (other c.args.side)).items in
     let t : takes (codes "draw") (seat m (other c.args.side)).items ≡ false = cc in
-    rw (o, o2) (offered_goes r c.args.self.now _ played c.args.side m false h s o2 t c.note_offer.ensures)
+    rw (o, o2) (goes_at r _ played _ _ m _ _ (offers_kept c.args.side m h)
+    (offered_goes r c.args.self.now _ played c.args.side m false h s o2 t c.note_offer.ensures))

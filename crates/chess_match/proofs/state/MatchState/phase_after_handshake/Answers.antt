@@ -1,6 +1,6 @@
 -- What is kept of an engine is what its items say, so the same is missing: White is judged first, then Black.
 use Rattle.std.proofs.Common.{◌≡◌, refl, sym, Some, None}
-use Rattle.chess_match.specs.laws.Machine.{missing}
+use Rattle.chess_match.specs.Effects.{missing}
 use Rattle.chess_match.proofs.state.MatchState.phase_after_handshake.Goals as goal
 
 pub returns-in-Some-clause-handshake_ended : goal.returns-in-Some-clause-handshake_ended

@@ -1,10 +1,15 @@
 -- The game and its verdict are those of the match: after White's setup comes Black's, and after that the end by the
 -- verdict of the start or the turn of the side on move there.
-use Rattle.std.proofs.Common.{◌≡◌, List, true, false, refl, sym, Some, None, subst}
+use Rattle.std.proofs.Common.{◌≡◌, List, true, false, refl, ap, sym, Some, None, subst}
 use Rattle.chess_base.specs.declared.man.Colour.{Colour}
 use Rattle.chess_base.specs.declared.man.Colour.TheVariants.{Black}
 use Rattle.chess_base.specs.declared.man.Move.{Move}
-use Rattle.chess_match.specs.laws.Machine.{Match, open_turn}
+use Rattle.chess_match.specs.laws.Machine.{Match, open_turn, unsent_kept}
+use Rattle.chess_match.specs.Effects as effects
+use Rattle.chess_match.specs.declared.phase.Phase.{Phase}
+use Rattle.chess_match.specs.declared.reason.Reason.TheVariants.{Decided}
+use Rattle.chess_match.proofs.Going.{goes_at}
+use Rattle.chess_match.proofs.KeptMatches.{over_kept}
 use Rattle.chess_match.specs.Rules.{Rules}
 use Rattle.chess_match.specs.laws.Blocks.{is_same_phase}
 use Rattle.chess_match.specs.ties.Represents.{Goes, nothing_said}
@@ -28,7 +33,9 @@ pub returns-in-Some : goal.returns-in-Some
 returns-in-Some g c r m p at s =
     let on : is_on m.phase ≡ true = rw at refl in
     let says : r.verdict m.played ≡ Some c.in-Some.verdict = rw (← s.moves) (sym (c.in-Some.ensures r p)) in
-    rw (c.in-Black.is, says) (c.finish.ensures r _ m on s)
+    rw (c.in-Black.is, says) (goes_at r _ _ _ _ m _ _ (over_kept m (Decided c.in-Some.verdict)
+    (ap (λ (q : Phase). unsent_kept (effects.Over (Decided c.in-Some.verdict)) q m.unsent_to) at))
+    (c.finish.ensures r _ m on s))
 
 pub returns-in-None : goal.returns-in-None
 returns-in-None g c r m p at s =

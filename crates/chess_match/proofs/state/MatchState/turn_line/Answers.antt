@@ -2,7 +2,7 @@
 -- kind of line has here the row that it has there; an end needs only that the match is on (Going.reads_on).
 use Rattle.std.proofs.Common.{◌≡◌, true, false, sym, ◌∙◌, Some, None, arith, length, lt-ltb, le-ltb}
 use Rattle.chess_base.specs.Men.{other, same_colour}
-use Rattle.chess_match.specs.laws.Machine.{seat, was_sent_move}
+use Rattle.chess_match.specs.laws.Machine.{seat, was_sent_move, view}
 use Rattle.chess_match.proofs.Going.{reads_on, clocks_moves}
 use Rattle.chess_match.proofs.OtherLines.{ignored_other}
 use Rattle.chess_match.proofs.state.MatchState.turn_line.Goals as goal
@@ -39,17 +39,17 @@ pub returns-then-moves-gt0 : goal.returns-then-moves-gt0
 returns-then-moves-gt0 g c r m p h s =
     let moved : c.moves.result ≡ length (seat m (other c.args.side)).used = c.moves.ensures.value
     ∙ rw c.other.ensures (clocks_moves r _ _ m s (other c.args.side)) in
-    let told : was_sent_move m c.args.side ≡ true = lt-ltb 0 _ (omega (arith, moved)) in
-    rw (c.in-Rejection.is, told) (c.finish-then-moves-gt0.ensures r _ m (reads_on m.phase c.args.side h) s)
+    let known : was_sent_move m c.args.side ≡ true = lt-ltb 0 _ (omega (arith, moved)) in
+    rw (c.in-Rejection.is, known) (c.finish-then-moves-gt0.ensures r _ m (reads_on m.phase c.args.side h) s)
 
 pub returns-else-moves-gt0 : goal.returns-else-moves-gt0
 returns-else-moves-gt0 g c r m p h s =
     let moved : c.moves.result ≡ length (seat m (other c.args.side)).used = c.moves.ensures.value
     ∙ rw c.other.ensures (clocks_moves r _ _ m s (other c.args.side)) in
-    let told : was_sent_move m c.args.side ≡ false = le-ltb 0 _ (omega (arith, moved)) in
-    rw (c.in-Rejection.is, told) (c.ignore.ensures r _ m h s)
+    let known : was_sent_move m c.args.side ≡ false = le-ltb 0 _ (omega (arith, moved)) in
+    rw (c.in-Rejection.is, known) (c.ignore.ensures r _ m h s)
 
 pub returns-in_default : goal.returns-in_default
 returns-in_default g c r m p h s =
-    rw (ignored_other r c.args.side c.args.line m c.in_default.not-Resign c.in_default.not-Offer c.in_default.not-Draw
+    rw (ignored_other r c.args.side c.args.line (view m) c.in_default.not-Resign c.in_default.not-Offer c.in_default.not-Draw
     c.in_default.not-Win c.in_default.not-Rejection) (c.ignore-in_default.ensures r _ m h s)
