@@ -1,9 +1,16 @@
 //! The table of separate devices.
 
-ghost use Rattle.std.specs.Prelude.{◌+◌, ◌∷◌, []};
-ghost use Rattle.chess_base.specs.ByColour.{by_colour, of_colour};
-ghost use Rattle.text_lines.specs.Next.{work};
-ghost use Rattle.chess_match.specs.ties.AtDesk.{Did};
+ghost use Rattle.std.specs.Prelude.{◌≡◌, ◌<◌, List, true};
+ghost use Rattle.std.specs.Result.{is_err};
+ghost use Rattle.chess_base.specs.declared.man.Colour.{Colour};
+ghost use Rattle.text_lines.specs.Next.{line_read};
+ghost use Rattle.chess_match.specs.Acts.{ReadsClock};
+ghost use Rattle.chess_match.specs.Events as events;
+ghost use Rattle.chess_match.specs.Lines.{SentLine, bytes_of};
+ghost use Rattle.chess_match.specs.Notes.{Happened, Gives};
+ghost use Rattle.chess_match.specs.Run.{text_read};
+ghost use Rattle.chess_match.specs.Table.{Does, Notes, is_line, reading_of, sending};
+ghost use Rattle.chess_match.specs.ties.AtDesk.{PassesAt, left_at, passed_at};
 
 use crate::moments::Moments;
 use crate::run::ENGINE_LINE_LEN;
@@ -13,7 +20,8 @@ use byte_devices::{Input, Output, ReadFault, WriteFault, send};
 use chess_base::{ByColour, Colour};
 use text_lines::{Line, Lines};
 
-/// Both engines' pipes, the clock and the witness of a match, each on its own.
+/// Both engines' pipes, the clock and the witness of a match, each on its own. Each step says what the trait says of it,
+/// and that all but its own device is as it was (`white`, `black`, `others`).
 #[derive(Drop)]
 pub(crate) struct Desk<'a, 'b, 'c, 'd, 'e, 'f, R, W, M, L> {
     pub white_reader: &'a mut R,
@@ -27,20 +35,19 @@ pub(crate) struct Desk<'a, 'b, 'c, 'd, 'e, 'f, R, W, M, L> {
 
 impl<R: Input, W: Output, M: Moments, L: Witness> MatchTable
     for Desk<'_, '_, '_, '_, '_, '_, R, W, M, L> {
-    ghost passed = { λ d begun steps. Did begun
-        (record {
-          reader = by_colour (R.seen d.white_reader.now) (R.seen d.black_reader.now);
-          writer = by_colour (W.seen d.white_writer.now) (W.seen d.black_writer.now);
-        })
-        (of_colour d.lines) (M.coming d.moments.now) (L.noted d.witness.now)
-        (d.white_reader.ghost_name ∷ d.white_writer.ghost_name ∷ d.black_reader.ghost_name ∷ d.black_writer.ghost_name
-        ∷ d.moments.ghost_name ∷ d.witness.ghost_name ∷ []) steps };
+    ghost passed = { λ d begun steps. passed_at R.seen W.seen M.coming L.noted d begun steps };
 
-    ghost left = { λ d.
-        work (R.seen d.white_reader.now) d.lines.white + work (R.seen d.black_reader.now) d.lines.black };
+    ghost left = { λ d. left_at R.seen d };
 
     // Sends this text by one call, and flushes.
-    fn send(&mut self, side: Colour, text: &[u8]) -> Result<(), WriteFault> {
+    fn send(&mut self, side: Colour, text: &[u8]) -> Result<(), WriteFault>
+        ensures passes { (lines : List SentLine) → bytes_of lines ≡ text.now
+            → PassesAt R.seen W.seen M.coming L.noted self.old self.new
+            (Does (sending (is_err result) (record { to = side; lines = lines }))) }
+        ensures left { left_at R.seen self.new ≡ left_at R.seen self.old }
+        ensures white { side ≡ Colour.White → self.new ≡ (record self.old { white_writer = self.new.white_writer }) }
+        ensures black { side ≡ Colour.Black → self.new ≡ (record self.old { black_writer = self.new.black_writer }) }
+    {
         match side {
             Colour::White => send(self.white_writer, text),
             Colour::Black => send(self.black_writer, text),
@@ -52,7 +59,20 @@ impl<R: Input, W: Output, M: Moments, L: Witness> MatchTable
         &mut self,
         side: Colour,
         line: &mut Line<ENGINE_LINE_LEN>,
-    ) -> Result<bool, ReadFault> {
+    ) -> Result<bool, ReadFault>
+        ensures passes { PassesAt R.seen W.seen M.coming L.noted self.old self.new
+            (Does (reading_of side (line_read result line.new))) }
+        ensures less { is_line (reading_of side (line_read result line.new)) ≡ true
+            → left_at R.seen self.new < left_at R.seen self.old }
+        ensures white { side ≡ Colour.White → self.new ≡ (record self.old {
+          white_reader = self.new.white_reader;
+          lines = record self.old.lines { white = self.new.lines.white };
+        }) }
+        ensures black { side ≡ Colour.Black → self.new ≡ (record self.old {
+          black_reader = self.new.black_reader;
+          lines = record self.old.lines { black = self.new.lines.black };
+        }) }
+    {
         match side {
             Colour::White => self.lines.white.read_line(self.white_reader, line),
             Colour::Black => self.lines.black.read_line(self.black_reader, line),
@@ -60,37 +80,72 @@ impl<R: Input, W: Output, M: Moments, L: Witness> MatchTable
     }
 
     // Reads the clock.
-    fn moment(&mut self, _side: Colour) -> u64 {
+    fn moment(&mut self, _side: Colour) -> u64
+        ensures passes { PassesAt R.seen W.seen M.coming L.noted self.old self.new
+            (Does (ReadsClock _side result)) }
+        ensures left { left_at R.seen self.new ≡ left_at R.seen self.old }
+        ensures others { self.new ≡ (record self.old { moments = self.new.moments }) }
+    {
         self.moments.now()
     }
 
     // Gives the witness the note of a line.
-    fn note_line(&mut self, side: Colour, line: &Line<ENGINE_LINE_LEN>, moment: u64) {
+    fn note_line(&mut self, side: Colour, line: &Line<ENGINE_LINE_LEN>, moment: u64)
+        ensures passes { PassesAt R.seen W.seen M.coming L.noted self.old self.new
+            (Notes (Happened (events.Line side (text_read line.now) moment))) }
+        ensures left { left_at R.seen self.new ≡ left_at R.seen self.old }
+        ensures others { self.new ≡ (record self.old { witness = self.new.witness }) }
+    {
         self.witness.line(side, line, moment);
     }
 
     // Gives the witness the note of an opening.
-    fn note_opened(&mut self, side: Colour, moment: u64) {
+    fn note_opened(&mut self, side: Colour, moment: u64)
+        ensures passes { PassesAt R.seen W.seen M.coming L.noted self.old self.new
+            (Notes (Happened (events.Opened side moment))) }
+        ensures left { left_at R.seen self.new ≡ left_at R.seen self.old }
+        ensures others { self.new ≡ (record self.old { witness = self.new.witness }) }
+    {
         self.witness.opened(side, moment);
     }
 
     // Gives the witness the note of the end of an output.
-    fn note_output_ends(&mut self, side: Colour) {
+    fn note_output_ends(&mut self, side: Colour)
+        ensures passes { PassesAt R.seen W.seen M.coming L.noted self.old self.new
+            (Notes (Happened (events.OutputEnds side))) }
+        ensures left { left_at R.seen self.new ≡ left_at R.seen self.old }
+        ensures others { self.new ≡ (record self.old { witness = self.new.witness }) }
+    {
         self.witness.output_ends(side);
     }
 
     // Gives the witness the note of a read that failed.
-    fn note_read_fails(&mut self, side: Colour) {
+    fn note_read_fails(&mut self, side: Colour)
+        ensures passes { PassesAt R.seen W.seen M.coming L.noted self.old self.new
+            (Notes (Happened (events.FailsToRead side))) }
+        ensures left { left_at R.seen self.new ≡ left_at R.seen self.old }
+        ensures others { self.new ≡ (record self.old { witness = self.new.witness }) }
+    {
         self.witness.read_fails(side);
     }
 
     // Gives the witness the note of a write that failed.
-    fn note_write_fails(&mut self, side: Colour) {
+    fn note_write_fails(&mut self, side: Colour)
+        ensures passes { PassesAt R.seen W.seen M.coming L.noted self.old self.new
+            (Notes (Happened (events.FailsToWrite side))) }
+        ensures left { left_at R.seen self.new ≡ left_at R.seen self.old }
+        ensures others { self.new ≡ (record self.old { witness = self.new.witness }) }
+    {
         self.witness.write_fails(side);
     }
 
     // Gives the witness the note of what an engine is sent.
-    fn note_gives(&mut self, side: Colour, text: &[u8]) {
+    fn note_gives(&mut self, side: Colour, text: &[u8])
+        ensures passes { PassesAt R.seen W.seen M.coming L.noted self.old self.new
+            (Notes (Gives side text.now)) }
+        ensures left { left_at R.seen self.new ≡ left_at R.seen self.old }
+        ensures others { self.new ≡ (record self.old { witness = self.new.witness }) }
+    {
         self.witness.gives(side, text);
     }
 }

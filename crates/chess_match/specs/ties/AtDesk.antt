@@ -1,16 +1,19 @@
 -- What passed at a desk, as each of its devices, seen apart, shows.
-use Rattle.std.specs.Prelude.{◌≡◌, ℕ, List, [], ◌∷◌, ◌++◌, Option, None, Some}
+use Rattle.std.specs.Prelude.{◌≡◌, ℕ, ◌+◌, List, [], ◌∷◌, ◌++◌, Option, None, Some}
 use Rattle.std.specs.Bool.{MatchBool}
 use Rattle.byte_devices.specs.Devices.{InputState, OutputState, BreaksOff}
 use Rattle.chess_base.specs.declared.man.Colour.{Colour}
+use Rattle.chess_base.specs.ByColour.{by_colour, of_colour}
 use Rattle.chess_base.specs.Men.{same_colour}
 use Rattle.text_lines.specs.Lines.{Held, nothing_held}
+use Rattle.text_lines.specs.Next.{work}
 use Rattle.chess_match.specs.Acts.{Act, Sends, SendFails}
 use Rattle.chess_match.specs.ByDevice.{moments_shown}
 use Rattle.chess_match.specs.Lines.{bytes_of}
 use Rattle.chess_match.specs.Notes.{Note, Noted}
 use Rattle.chess_match.specs.Run.{Ports, Flushed, ClockReadings}
-use Rattle.chess_match.specs.Table.{Step, Does, Notes, Beginning}
+use Rattle.chess_match.specs.Table.{Step, Does, Notes, Beginning, Passing, Passes}
+use Rattle.chess_match.specs.declared.desk.Desk.{Desk}
 use Rattle.chess_match.specs.ties.EngineOutput.{OutputAt}
 
 -- the acts among these steps
@@ -60,3 +63,24 @@ pub record Did (begun : Beginning) (ports : Ports) (held : Colour → Held) (com
   pub written : (S : Colour) → WritesOf S (acts_in steps) (begun.ports.writer S) (ports.writer S)
   pub moments : ClockReadings begun.coming coming (moments_shown (acts_in steps))
   pub noted : NotedSince witness begun.noted (notes_in steps)
+
+-- which steps may have passed at the desk `d`. What contracts see of its devices is given by `input`, `output`, `shown`
+-- and `noted`
+abbrev pub passed_at : {R W M L : Type 0} → (R → InputState) → (W → OutputState) → (M → ℕ → Option ℕ) → (L → Noted)
+    → Desk R W M L → Passing
+passed_at input output shown noted d = λ begun steps. Did begun (record {
+  reader = by_colour (input d.white_reader.now) (input d.black_reader.now);
+  writer = by_colour (output d.white_writer.now) (output d.black_writer.now);
+}) (of_colour d.lines) (shown d.moments.now) (noted d.witness.now)
+    (d.white_reader.ghost_name ∷ d.white_writer.ghost_name ∷ d.black_reader.ghost_name ∷ d.black_writer.ghost_name
+    ∷ d.moments.ghost_name ∷ d.witness.ghost_name ∷ []) steps
+
+-- from the desk `old` to `new` just this step passed
+abbrev pub PassesAt : {R W M L : Type 0} → (R → InputState) → (W → OutputState) → (M → ℕ → Option ℕ) → (L → Noted)
+    → Desk R W M L → Desk R W M L → Step → Type 0
+PassesAt input output shown noted old new step =
+    Passes (passed_at input output shown noted old) (passed_at input output shown noted new) (step ∷ [])
+
+-- how much can still be read at the desk `d` at most
+abbrev pub left_at : {R W M L : Type 0} → (R → InputState) → Desk R W M L → ℕ
+left_at input d = work (input d.white_reader.now) d.lines.white + work (input d.black_reader.now) d.lines.black
