@@ -1,10 +1,14 @@
 mod CollectionVerified
+mod FaultlessTexts
 mod FaultsInText
 mod Finished
 mod InputRead
 mod LinesWritten
 mod Parts
+mod PartsAlike
+mod PartsRead
 mod Placed
 mod TextVerified
 mod Verifying
 mod WrittenGames
+mod WrittenTexts
