@@ -3,7 +3,7 @@ use Rattle.std.proofs.Common.{◌≡◌, ℕ, zero, suc, ◌+◌, ◌-◌, ◌<�
 use Rattle.std.specs.Prelude.{◌&&◌, ◌||◌}
 use Rattle.std.specs.List.{list_all, list_any, prefix_len, take_while}
 use Rattle.std.proofs.lemmas.Bool.{and_parts, or_parts, or_cases, eqb-true}
-use Rattle.std.proofs.lemmas.List.{take-append-drop, append_assoc, length-append, length-drop, nil_from_length}
+use Rattle.std.proofs.lemmas.List.{take-append-drop, append-nil, append_assoc, length-append, length-drop, nil_from_length}
 use Rattle.std.proofs.lemmas.List.Folds.{list_all-append}
 use Rattle.chess_base.specs.Letters.{is_digit}
 use Rattle.chess_pgn.specs.Tokens.{Token, Skip, Tag, Word, Bad_tag, Unclosed_comment, Unclosed_variation, Bad, is_white_space, is_word_byte, line_end, after_brace, comment_at, variation_at, token_at, begins_line, tokens_from}
@@ -208,6 +208,99 @@ token_read b Variation front r h = variation_read b front r h.is
 token_read b (Tag_pair name string closing) front r h = tag_first b name string closing front r h.is
 token_read b Asterisk front r h = asterisk_read b front r h.is
 token_read b Symbol front r h = word_read b front r h
+
+-- ---- where more text follows
+
+pub token_some : (b : Bool) (kind : Kind) (front : List ℕ) → IsOf b kind front → 0 < length front
+token_some b Blank front (c, is, h) = omega (arith, ap length is)
+token_some b Line front (c, rest, is, skip, lack) = omega (arith, ap length is)
+token_some b Comment front (body, is, lack) = omega (arith, ap length is)
+token_some b Nag front (digits, is, all) = omega (arith, ap length is)
+token_some b Variation front (body, is, h) = omega (arith, ap length is)
+token_some b (Tag_pair name string closing) front h =
+    let head = tag_begins name string closing front h in omega (arith, ap length head.1)
+token_some b Asterisk front is = omega (arith, ap length is)
+token_some b Symbol front h = h.0
+
+-- a byte 10 is in no line, glyph or word
+ten_skips_none : (b : Bool) → skips_line b 10 ≡ false
+ten_skips_none true = refl
+ten_skips_none false = refl
+
+line_no_end : (b : Bool) (front : List ℕ) → IsOf b Line (front ++ 10 ∷ []) → ⊥
+line_no_end b [] (c, rest, is, skip, lack) =
+    let ten : c ≡ 10 = cc in
+    let no : true ≡ false = sym skip ∙ ap (skips_line b) ten ∙ ten_skips_none b in absurd (cc)
+line_no_end b (k ∷ front) (c, rest, is, skip, lack) =
+    let same : rest ≡ front ++ 10 ∷ [] = cc in
+    let no : false ≡ true = last_one (λ j. not (eqb j 10)) front 10 [] (subst (λ xs. lacks 10 xs ≡ true) same lack) in
+    absurd (cc)
+
+glyph_no_end : (b : Bool) (front : List ℕ) → IsOf b Nag (front ++ 10 ∷ []) → ⊥
+glyph_no_end b [] (digits, is, all) = let ten : ◌≡◌ {A = ℕ} 10 36 = cc in absurd (omega (arith, ten))
+glyph_no_end b (k ∷ front) (digits, is, all) =
+    let same : digits ≡ front ++ 10 ∷ [] = cc in
+    let no : false ≡ true = last_one is_digit front 10 [] (subst (λ xs. list_all is_digit xs ≡ true) same all) in
+    absurd (cc)
+
+word_no_end : (b : Bool) (front : List ℕ) → IsOf b Symbol (front ++ 10 ∷ []) → ⊥
+word_no_end b front h = let no : false ≡ true = last_one is_word_byte front 10 [] h.1 in absurd (cc)
+
+-- a byte that continues one passes its test
+line_passes : (b : Bool) (front : List ℕ) → IsOf b Line front → (d : ℕ) (ds : List ℕ) → IsOf b Line (front ++ d ∷ ds)
+    → not (eqb d 10) ≡ true
+line_passes b [] (c, rest, is, skip, lack) d ds h = absurd (cc)
+line_passes b (k ∷ front) h d ds (c, rest, is, skip, lack) =
+    let same : rest ≡ front ++ d ∷ ds = cc in
+    last_one (λ j. not (eqb j 10)) front d ds (subst (λ xs. lacks 10 xs ≡ true) same lack)
+
+glyph_passes : (b : Bool) (front : List ℕ) → IsOf b Nag front → (d : ℕ) (ds : List ℕ) → IsOf b Nag (front ++ d ∷ ds)
+    → is_digit d ≡ true
+glyph_passes b [] (digits, is, all) d ds h = absurd (cc)
+glyph_passes b (k ∷ front) h d ds (digits, is, all) =
+    let same : digits ≡ front ++ d ∷ ds = cc in
+    last_one is_digit front d ds (subst (λ xs. list_all is_digit xs ≡ true) same all)
+
+stops_still : (p : ℕ → Bool) (d : ℕ) (ds more : List ℕ) → prefix_len p (d ∷ ds) ≡ 0
+    → prefix_len p (d ∷ (ds ++ more)) ≡ 0
+stops_still p d ds more = by_test (p d)
+  where
+    by_test : (t : Bool) → cond t (1 + prefix_len p ds) 0 ≡ 0 → cond t (1 + prefix_len p (ds ++ more)) 0 ≡ 0
+    by_test true h = absurd (omega (arith, h))
+    by_test false h = refl
+
+run_stays : (b : Bool) (kind : Kind) (p : ℕ → Bool) (front r text after : List ℕ) → IsOf b kind front
+    → prefix_len p r ≡ 0 → ((f : List ℕ) → IsOf b kind (f ++ 10 ∷ []) → ⊥)
+    → ((d : ℕ) (ds : List ℕ) → IsOf b kind (front ++ d ∷ ds) → p d ≡ true) → front ++ r ≡ text ++ 10 ∷ []
+    → IsLongest (IsOf b kind) front (r ++ after)
+run_stays b kind p front [] text after is stop no_end passes same =
+    absurd (no_end text (subst (IsOf b kind) (sym (append-nil front) ∙ same) is))
+run_stays b kind p front (d ∷ ds) text after is stop no_end passes same =
+    longest_run (IsOf b kind) p front (d ∷ (ds ++ after)) passes (stops_still p d ds after stop) is
+
+-- the longest token of a text that ends with byte 10 is the longest whatever follows that text
+pub stays_longest : (b : Bool) (kind : Kind) (front r text after : List ℕ) → IsLongest (IsOf b kind) front r
+    → front ++ r ≡ text ++ 10 ∷ [] → IsLongest (IsOf b kind) front (r ++ after)
+stays_longest b Blank front r text after h same =
+    fixed b Blank front (r ++ after) (λ f s k. ap (λ t. t.1) (blank_read b f s k)) h.is
+stays_longest b Line front r text after h same =
+    run_stays b Line (λ k. not (eqb k 10)) front r text after h.is (line_stops b front r h) (line_no_end b)
+    (line_passes b front h.is) same
+stays_longest b Comment front r text after h same =
+    fixed b Comment front (r ++ after) (λ f s k. ap (λ t. t.1) (comment_read b f s k)) h.is
+stays_longest b Nag front r text after h same =
+    run_stays b Nag is_digit front r text after h.is (glyph_stops b front r h) (glyph_no_end b)
+    (glyph_passes b front h.is) same
+stays_longest b Variation front r text after h same =
+    fixed b Variation front (r ++ after) (λ f s k. ap (λ t. t.1) (variation_read b f s k)) h.is
+stays_longest b (Tag_pair name string closing) front r text after h same =
+    fixed b (Tag_pair name string closing) front (r ++ after)
+    (λ f s k. ap (λ t. t.1) (tag_first b name string closing f s k)) h.is
+stays_longest b Asterisk front r text after h same =
+    fixed b Asterisk front (r ++ after) (λ f s k. ap (λ t. t.1) (asterisk_read b f s k)) h.is
+stays_longest b Symbol front r text after h same =
+    run_stays b Symbol is_word_byte front r text after h.is (word_stops b front r h) (word_no_end b)
+    (λ d ds k. last_one is_word_byte front d ds k.1) same
 
 abbrev pub is_fault : Token → Bool
 is_fault Skip = false

@@ -80,7 +80,7 @@ pub ends_here : (before : List (List ℕ)) (line : List ℕ) (lines : List (List
 ends_here before line lines h =
     ap (λ b. if b then concat before ∷ cut_lines (line ∷ []) lines else cut_lines (before ++ line ∷ []) lines) h
 
-first_begins : (line : List ℕ) → begins_piece [] line ≡ false
+pub first_begins : (line : List ℕ) → begins_piece [] line ≡ false
 first_begins line = none (is_tag_line line) (is_event_line line)
   where
     none : (a b : Bool) → (a && (false || (b && false))) ≡ false

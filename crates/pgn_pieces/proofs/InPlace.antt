@@ -60,7 +60,7 @@ pieces_are_all before (line ∷ lines) =
         ap concat (goes_on before line lines e) ∙ on ∙ ap (λ l. l ++ concat lines) (concat_more before line)
         ∙ append_assoc (concat before) line (concat lines)
 
-cut_is_all : (text : List ℕ) → concat (cut text) ≡ text
+pub cut_is_all : (text : List ℕ) → concat (cut text) ≡ text
 cut_is_all text = pieces_are_all [] (lines_of text) ∙ lines_are_all text
 
 -- ---- where lines begin

@@ -9,3 +9,4 @@ mod SeenLines
 mod Shards
 mod Steps
 mod Views
+mod WholePieces

@@ -1,2 +1,3 @@
 -- Lemmas for crates above: all are about definitions, none about functions. They can cite no other module of proofs/.
 pub mod Inputs
+pub mod Cuts

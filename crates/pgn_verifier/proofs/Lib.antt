@@ -1,11 +1,15 @@
 mod CollectionVerified
+mod FaultlessTexts
 mod FaultsInText
 mod Finished
 mod InputRead
 mod LinesWritten
 mod Parts
+mod PartsAlike
+mod PartsRead
 mod Placed
 mod ReportsAre
 mod TextVerified
 mod Verifying
 mod WrittenGames
+mod WrittenTexts

@@ -2,3 +2,4 @@
 pub mod Reported
 pub mod WrittenGames
 pub mod Parts
+pub mod NoFaults

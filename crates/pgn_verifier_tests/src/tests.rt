@@ -459,3 +459,53 @@ fn texts_without_a_fault_have_the_same_games(rt: HostRuntime) {
         b"game 1: 1 half-moves, *\ngame 2: 2 half-moves, 1-0\ngame 3: 1 half-moves, *\ngames 3 half-moves 4 faults 0\n",
     );
 }
+
+// A byte order mark at the front of a later piece is skipped there, but not within the text.
+const MARKED: &[u8] = b"[Event \"a\"]\n1. e4 *\n\xEF\xBB\xBF[Event \"b\"]\n1. d4 *\n";
+
+// So the law `a_text_without_faults_is_reported_alike` needs its premise on such marks.
+#[test]
+fn a_mark_before_a_later_piece_is_a_fault_of_the_text(rt: HostRuntime) {
+    check_cuts(
+        &rt,
+        &rt,
+        true,
+        ALL,
+        MARKED,
+        Verified::EachGame,
+        b"game 1: 1 half-moves, *\ngame 2: 1 half-moves, *\ngames 2 half-moves 2 faults 0\n",
+    );
+    check_cuts(
+        &rt,
+        &rt,
+        false,
+        ALL,
+        MARKED,
+        Verified::FaultReported,
+        b"game 1: 1 half-moves, *\ngame 2: bad token at byte 20\n",
+    );
+}
+
+// The law has no converse: a game with two tags Event has no fault, but it is cut between them.
+#[test]
+fn a_game_that_is_cut_between_its_tags_has_a_fault(rt: HostRuntime) {
+    let text = b"[Event \"a\"]\n[Event \"b\"]\n1. e4 *\n";
+    check_cuts(
+        &rt,
+        &rt,
+        false,
+        ALL,
+        text,
+        Verified::EachGame,
+        b"game 1: 1 half-moves, *\n",
+    );
+    check_cuts(
+        &rt,
+        &rt,
+        true,
+        ALL,
+        text,
+        Verified::FaultReported,
+        b"game 1: no result at byte 12\ngame 2: 1 half-moves, *\ngames 1 half-moves 1 faults 1\n",
+    );
+}

@@ -1,12 +1,16 @@
 -- Games as they are written have no fault.
-use Rattle.std.specs.Prelude.{◌≡◌, ℕ, ◌+◌, Bool, List, [], ◌++◌, length, Some, Ok}
+use Rattle.std.specs.Prelude.{◌≡◌, ℕ, ◌+◌, Bool, List, [], ◌∷◌, ◌++◌, length, map, Some, Ok}
+use Rattle.std.specs.List.{flat_map}
 use Rattle.chess_game.specs.Game.{State, outcome_now, IsPlayable}
 use Rattle.chess_game.specs.declared.game.TheConstants.{MOST_MOVES}
 use Rattle.chess_pgn.specs.GameText.{pgn}
+use Rattle.chess_pgn.specs.Terminations.{termination_of}
 use Rattle.chess_pgn.specs.declared.read.PgnEnd.{PgnEnd}
 use Rattle.chess_pgn.specs.declared.tags.Tags.{Tags}
 use Rattle.chess_pgn.specs.laws.PgnLaw.{AreTagTexts}
 use Rattle.pgn_verifier.specs.GameFaults.{IsJudged}
+use Rattle.pgn_verifier.specs.Reports.{Report, Game}
+use Rattle.pgn_verifier.specs.laws.Reported.{reports_on}
 
 -- the game from the offset `at` on (`read`) has no fault, and is the game `s`, whose text ends at the offset `text_end`;
 -- `strict`: results are compared
@@ -26,3 +30,31 @@ WrittenGamesHaveNoFault =
     (strict : Bool) → (tags : Tags) → (s : State) → (before after : List ℕ) → AreTagTexts tags
     → IsPlayable (record { limit = MOST_MOVES; state = s })
     → HasNoFault strict (before ++ pgn [] tags s ++ after) (length before) s (length (before ++ pgn [] tags s))
+
+-- ---- several games
+
+-- a game, and the tags with which it is written
+pub record TaggedGame : Type 0 where
+  pub tags : Tags
+  pub state : State
+
+-- each of these games is playable, with tag texts in its tags
+abbrev pub AreWritable : List TaggedGame → Type 0
+AreWritable [] = Unit {0}
+AreWritable (g ∷ games) =
+    AreTagTexts g.tags × IsPlayable (record { limit = MOST_MOVES; state = g.state }) × AreWritable games
+
+-- the texts that are written of these games, one after another, with no line prefix: so a match writes its games
+abbrev pub written_text : List TaggedGame → List ℕ
+written_text games = flat_map (λ g. pgn [] g.tags g.state) games
+
+-- the report on a game's text: the game's half-moves and its outcome, and the termination that its tag names
+abbrev pub report_of : TaggedGame → Report
+report_of g =
+    Game (length g.state.moves) (outcome_now g.state) (Some (termination_of g.tags.ended (outcome_now g.state)))
+
+-- the texts of such games, one after another, have no fault: the reports are on just these games, whether or not
+-- results are compared. `start` is the offset of the input at which the text begins
+abbrev pub WrittenTextsHaveNoFault : Type 0
+WrittenTextsHaveNoFault = (strict : Bool) (start : ℕ) (games : List TaggedGame) → AreWritable games
+    → reports_on strict start (written_text games) ≡ map report_of games

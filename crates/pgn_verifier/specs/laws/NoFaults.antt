@@ -1,0 +1,21 @@
+-- A text in which `verify --keep-going` finds no fault is reported alike without `--keep-going`.
+use Rattle.std.specs.Prelude.{◌≡◌, Bool, true, false, List, [], ◌∷◌, take, drop, ℕ}
+use Rattle.std.specs.List.{list_any}
+use Rattle.std.specs.Str.{bytes_eq}
+use Rattle.pgn_pieces.specs.Pieces.{cut}
+use Rattle.pgn_verifier.specs.declared.tally.Verified.TheVariants.{EachGame}
+use Rattle.pgn_verifier.specs.Reports.{counts_of, verified}
+use Rattle.pgn_verifier.specs.laws.Reported.{collection_reports, reports_on}
+
+-- whether a text begins with a byte order mark: EF BB BF
+abbrev pub begins_with_mark : List ℕ → Bool
+begins_with_mark text = bytes_eq (take 3 text) (239 ∷ 187 ∷ 191 ∷ [])
+
+-- if the reports on a text's pieces have no fault, then they are the reports on the text, unless a piece after the
+-- first begins with a byte order mark, which is skipped at the front of a piece but not within a text. `strict`:
+-- results are compared
+abbrev pub FaultlessTextsAreReportedAlike : Type 0
+FaultlessTextsAreReportedAlike = (strict : Bool) (text : List ℕ)
+    → verified (counts_of (collection_reports strict true text)) ≡ EachGame
+    → list_any begins_with_mark (drop 1 (cut text)) ≡ false
+    → collection_reports strict true text ≡ reports_on strict 0 text
