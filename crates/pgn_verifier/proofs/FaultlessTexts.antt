@@ -70,7 +70,8 @@ module _ (law : TokenByToken) (strict : Bool) (start : ℕ) (before part after :
             → Holds strict before part after at
         by_judged (Ok None) e again all = record {
           games = [];
-          holds = no_more e (λ from most. skips_to_end law strict before part after at begins closed within e from most);
+          holds = no_more e
+              (λ from most. skips_to_end law strict before part after at begins closed within e from most);
         }
         by_judged (Ok (Some end)) e again all =
             let found = in_text law strict before part after at end begins closed e in

@@ -1,4 +1,4 @@
--- A part of a text that ends with a line, or with the text, is read alone as it is read in the text, if it has no fault.
+-- A part of a text that ends with a line, or with the text, is read alone as it is in the text, if it has no fault.
 use Rattle.std.proofs.Common.{◌≡◌, ℕ, zero, suc, ◌+◌, ◌-◌, ◌<◌, ◌≤◌, Bool, true, false, cond, eqb, List, [], ◌∷◌, ◌++◌, length, take, drop, Option, Some, None, Result, Ok, Err, refl, sym, ap, subst, ◌∙◌, inl, inr, ◌⊎◌, append_assoc, append-nil, length-append, arith}
 use Rattle.std.specs.Prelude.{is_some, nat_lt, codes, ◌&&◌, ◌||◌, ◌==◌}
 use Rattle.std.specs.List.{last_or, list_all}
@@ -306,7 +306,8 @@ module _ (limit : ℕ) (before part after : List ℕ)
               let offset : length part - (length part - at) + length front ≡ end.offset =
               ap (λ (p : PgnEnd). p.offset) ends_so.1 in
               let place : at + length front ≡ end.offset = omega (arith, offset, fit.few) in
-              let mine : List (ℕ × Token) = tokens_from (before ++ (part ++ after)) (length before + at + length front) in
+              let mine : List (ℕ × Token) =
+              tokens_from (before ++ (part ++ after)) (length before + at + length front) in
               let moved : total - (total - (length before + at)) + length front ≡ length before + end.offset =
               omega (arith, place, fit.few, lengths) in
               record {
@@ -437,8 +438,8 @@ module _ (limit : ℕ) (before part after : List ℕ)
 
 -- ---- a game of the part is one of the text
 
--- the text has a game without a fault from the part's offset `at` on: the one that the part alone has, which ends at its
--- offset `end`
+-- the text has a game without a fault from the part's offset `at` on: the one that the part alone has, which ends at
+-- its offset `end`
 pub record IsInText (strict : Bool) (before part after : List ℕ) (at : ℕ) (end : PgnEnd) : Type 0 where
   pub judged : judged_at strict (before ++ (part ++ after)) (length before + at)
       ≡ Ok (Some (record end { offset = length before + end.offset }))

@@ -42,8 +42,8 @@ pub fn written_games_have_no_fault()
     pgn_is_read_back();
 }
 
-/// States a law and does nothing: if the texts that `write_pgn` of chess_pgn writes of some games come one after another,
-/// as a match writes them, then the reports are on just these games, and none is a fault.
+/// States a law and does nothing: if the texts that `write_pgn` of chess_pgn writes of some games come one after
+/// another, as a match writes them, then the reports are on just these games, and none is a fault.
 pub fn written_texts_have_no_fault()
     ensures { WrittenTextsHaveNoFault }
 {
