@@ -16,7 +16,7 @@ use Rattle.chess_match.specs.declared.reason.Reason.{Reason}
 use Rattle.chess_match.specs.declared.reason.Reason.TheVariants.{Decided, Claimed, Agreed, Resigns, MovesIllegally, MovesOutOfTurn, ClaimsFalsely, RejectsLegalMove, Forfeits, ForfeitsToBareKing, GameTooLong, Faulted}
 use Rattle.chess_match.specs.declared.run.MatchEnd.{MatchEnd}
 use Rattle.chess_match.specs.declared.run.Setup.{Setup}
-use Rattle.match_runner.specs.Games.{EndsGames, GameRecord, IsOfPlan, SoundGames, setup_of}
+use Rattle.match_runner.specs.Games.{GameRecord, SoundGames, setup_of}
 use Rattle.match_runner.specs.declared.plan.GamesPlan.{GamesPlan}
 use Rattle.match_runner.specs.laws.Faults.{OnlyLastGamesHaveFailedWrites}
 

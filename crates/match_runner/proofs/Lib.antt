@@ -1,4 +1,5 @@
 mod GamesWritten
 mod GameFaults
+mod EntriesRead
 mod Logged
 mod FaultTexts

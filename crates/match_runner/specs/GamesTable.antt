@@ -1,5 +1,5 @@
 -- What passes at the table of a match's games, step by step.
-use Rattle.std.specs.Prelude.{◌≡◌, ◌⊎◌, ℕ, ◌+◌, Bool, if◌then◌else◌, List, [], ◌∷◌, ◌++◌, length, flat_map, Option, None, Some, Result, Ok, Err}
+use Rattle.std.specs.Prelude.{◌⊎◌, ℕ, ◌+◌, Bool, if◌then◌else◌, List, [], ◌∷◌, ◌++◌, length, flat_map, Option, None, Some, Result, Ok, Err}
 use Rattle.std.specs.List.{enumerate_from}
 use Rattle.chess_base.specs.declared.man.Colour.{Colour}
 use Rattle.chess_base.specs.declared.man.Colour.TheVariants.{White, Black}

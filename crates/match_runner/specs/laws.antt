@@ -1,2 +1,3 @@
 -- Claims about the definitions: each is the contract of a function that does nothing.
 pub mod Faults
+pub mod Entries

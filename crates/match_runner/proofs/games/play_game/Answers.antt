@@ -1,12 +1,9 @@
 -- The steps of a game, one after another (GamesWritten.was_written, was_not_written); or its engines could not be
 -- started (GamesWritten.was_not_started). The match leaves the game its limit (GamesWritten.limit_kept).
-use Rattle.std.proofs.Common.{ℕ, List, ◌∙◌, Option, ap, refl}
-use Rattle.chess_base.specs.declared.man.Colour.{Colour}
+use Rattle.std.proofs.Common.{◌∙◌, ap}
 use Rattle.chess_game.specs.Game.{Seen}
-use Rattle.chess_match.specs.Notes.{Note}
 use Rattle.chess_match.specs.Played.{World}
-use Rattle.match_runner.specs.Games.{GameRecord, setup_of}
-use Rattle.match_runner.specs.Log.{log_seen}
+use Rattle.match_runner.specs.Games.{setup_of}
 use Rattle.match_runner.proofs.GamesWritten.{limit_kept, was_not_started, was_not_written, was_written}
 use Rattle.std.proofs.lemmas.Result.{err_from_is_err_and}
 use Rattle.match_runner.proofs.games.play_game.Goals as goal
