@@ -29,6 +29,7 @@ use Rattle.pgn_verifier.proofs.FaultlessTexts.{is_game, Holds, part_holds, begin
 use Rattle.pgn_verifier.proofs.Parts.{all_reported_alike}
 use Rattle.pgn_verifier.proofs.PartsAlike.{TokenByToken, read_so, judged_so, no_mark}
 use Rattle.pgn_verifier.proofs.PartsRead.{in_text}
+use Rattle.pgn_verifier.proofs.ReportsAre.{only_judged}
 use Rattle.pgn_verifier.proofs.WrittenGames.{written_games}
 use Rattle.pgn_verifier.specs.laws.Reported.{judged_at, read_at, report_then, reports_from, reports_on}
 
@@ -126,11 +127,15 @@ module _ (law : TokenByToken) (read : PgnIsReadBack) (result : ResultIsWritten) 
       let found : HasNoFault strict text 0 g.state (length text) =
       subst (λ t. HasNoFault strict t 0 g.state (length text)) all
       (written_games read result strict g.tags g.state [] [] texts playable) in
+      let only = only_judged strict text 0 found.read (Ok (Some found.end)) found.judged in
+      let is : judged_at strict text 0 ≡ Ok (Some found.end) = sym only.1 in
+      let moves : (read_at text 0).state.moves ≡ g.state.moves =
+      sym (ap (λ (x : State). x.moves) only.0) ∙ found.moves in
       let back : IsReadBack g.state T (length text) (pgn_read MOST_MOVES text 0) =
       subst (λ t. IsReadBack g.state T (length text) (pgn_read MOST_MOVES t 0)) all
       (read MOST_MOVES g.tags g.state [] [] texts playable) in
       let said = judged_so strict (result_tag_of (length text) (tokens_from text (after_byte_order_mark text 0)))
-      (verdict_now (read_at text 0).state) found.end (read_at text 0).answer found.judged in
+      (verdict_now (read_at text 0).state) found.end (read_at text 0).answer is in
       let termination : found.end.termination ≡ Some T =
       same_termination found.end (outcome_now g.state) T back.offset (sym said.0 ∙ back.answer) in
       let tail = text_ends g.tags g.state in
@@ -141,7 +146,7 @@ module _ (law : TokenByToken) (read : PgnIsReadBack) (result : ResultIsWritten) 
         length-append tail.0 (10 ∷ 10 ∷ []),
       ) in
       let some : 0 < found.end.offset =
-      (in_text law strict [] text [] 0 found.end (begins_first text [] (inr refl)) (inr refl) found.judged).some_bytes
+      (in_text law strict [] text [] 0 found.end (begins_first text [] (inr refl)) (inr refl) is).some_bytes
       in
       let none : judged_at strict text found.end.offset ≡ Ok None =
       ap (λ t. judged_at strict t found.end.offset) tail.1 ∙ ap (judged_at strict (tail.0 ++ 10 ∷ 10 ∷ [])) place
@@ -149,10 +154,10 @@ module _ (law : TokenByToken) (read : PgnIsReadBack) (result : ResultIsWritten) 
       let count : length text + 1 ≡ suc (length text) = omega arith in
       ap (λ k. reports_from strict start k text 0) count
       ∙ ap (λ j. report_then start text j (read_at text 0).state
-      (λ next. reports_from strict start (length text) text next)) found.judged
+      (λ next. reports_from strict start (length text) text next)) is
       ∙ ap (λ l. Game (length (read_at text 0).state.moves) found.end.outcome found.end.termination ∷ l)
       (nothing_more strict start (length text) text found.end.offset none)
-      ∙ ap (λ ms. Game (length ms) found.end.outcome found.end.termination ∷ []) found.moves
+      ∙ ap (λ ms. Game (length ms) found.end.outcome found.end.termination ∷ []) moves
       ∙ ap (λ o. Game (length g.state.moves) o found.end.termination ∷ []) found.outcome
       ∙ ap (λ t. Game (length g.state.moves) (outcome_now g.state) t ∷ []) termination
 
