@@ -85,8 +85,9 @@ abbrev pub right_in : Variant → Men → List ℕ → Colour → CastlingSide �
 right_in Normal men letters c w = Some (right_named letters (side_letter c w) (home_square c (rook_file w)))
 right_in Fischerandom men letters c w = right_by (map (rook_named men c w) (filter (names_right men c w) letters))
 
--- whether no right is named wrongly, that is by two letters or by one that names no rook; a right without a letter is
--- not there, which is no fault. In normal chess this is always true
+-- whether no right is named wrongly. In Chess960 a right is, by two letters, or by a side's letter (K, Q, k or q) if
+-- its colour has no rook on its first rank; whether a file's letter finds a rook is not tested here. A right without a
+-- letter is not there, which is no fault. In normal chess no right is named wrongly
 abbrev pub names_well : Variant → Men → List ℕ → Bool
 names_well v men letters = list_all
     (λ c. is_some (right_in v men letters c KingSide) && is_some (right_in v men letters c QueenSide))

@@ -168,10 +168,10 @@ offer_row r S m =
     else sends_to (other S) (list_if (takes (codes "draw") (m.seat (other S)).items) (Says (codes "draw") ∷ []))
     (with_seat S (λ s. record s { offers = true }) m)
 
--- what a line of the side `S` does that means the same before its move and after it. By `1-0` or `0-1` the side
--- resigns if the other one wins, and makes a false claim, which loses, if it wins itself. `1/2-1/2` claims a draw, and
--- is an offer where none may be claimed. `Illegal move` loses, but is ignored from a side that was never sent a move.
--- Any other line is ignored
+-- what a line of the side `S` does, if its kind does the same before the side's move and after it. `resign` loses.
+-- `1-0` or `0-1` resigns if the other side is its winner, and is a false claim, which loses, if `S` is. `1/2-1/2`
+-- claims a draw, and where none may be claimed it is an offer, as `offer draw` is (see `offer_row`). `Illegal move`
+-- loses, but is ignored from a side that was never sent a move. A line of any other kind is ignored
 abbrev pub turn_row : Rules → Colour → LineKind → Match → Effect
 turn_row r S Resigns m = ends r (over_by.Resigns S) m
 turn_row r S OffersDraw m = offer_row r S m

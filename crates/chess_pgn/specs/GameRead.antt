@@ -183,8 +183,9 @@ after_tags limit total termination s has_tags ((to_end, Bad_tag) ∷ rest) =
 after_tags limit total termination s false [] = record { state = s; answer = Ok None }
 after_tags limit total termination s has_tags rest = moves_read limit total termination s rest
 
--- what is read of these tokens, in a text of `total` bytes: the fault of a FEN, or else what is read after the tags
--- from the start that they give, in the variant that they name
+-- what is read of the game at the front of these tokens, of at most `limit` half-moves, in a text of `total` bytes.
+-- `tags` are the tokens before its first number, move, outcome or fault; its tags, which are all among them, give the
+-- variant and the start. The first of their FENs that denotes no position is the fault; else see `after_tags`
 abbrev pub read_of_split : ℕ → ℕ → List (ℕ × Token) → GameRead
 read_of_split limit total tokens =
     let tags = own_tags tokens in

@@ -118,7 +118,8 @@ pub record IsLongest (P : List ℕ → Type 0) (front rest : List ℕ) : Type 0 
   pub is : P front
   pub longest : (more others : List ℕ) → rest ≡ more ++ others → P (front ++ more) → more ≡ []
 
--- a token of this kind, as reading a game takes it: `text` is the token's, and `to_end` bytes come after it
+-- the token (see `Token`) that reading a game makes of a text of this kind, after which `to_end` bytes come. A tag is
+-- given with the number of bytes that are left at the first byte of its string
 abbrev pub token_of : Kind → List ℕ → ℕ → Token
 token_of (Tag_pair name string closing) text to_end = Tag name string (length (string ++ closing) + to_end)
 token_of Asterisk text to_end = Word text
@@ -135,8 +136,9 @@ token_of Variation text to_end = Skip
 abbrev pub HasNoToken : Bool → List ℕ → Type 0
 HasNoToken b text = (kind : Kind) (front rest : List ℕ) → text ≡ front ++ rest → IsOf b kind front → ⊥
 
--- the text is the inside of a variation, up to the text's end, in which a comment isn't closed: after whole parts comes
--- its `{`, or the `(` of a variation in which it is. So many bytes are left at that `{` (the last argument)
+-- the text, which begins inside a variation, has a comment that isn't closed: after whole parts comes the comment's
+-- `{`, or the `(` of a variation for whose inside the same holds. The flag says whether the text's first byte is its
+-- line's first, and the number how many bytes are left at that `{`
 pub data HasOpenComment : Bool → List ℕ → ℕ → Type 0 where
   here : {b : Bool} {parts : List ℕ} (text : List ℕ) → IsInside b parts → lacks (byte "}") text ≡ true
       → HasOpenComment b (parts ++ byte "{" ∷ text) (length (byte "{" ∷ text))
@@ -150,7 +152,9 @@ HasUnclosedComment text to_end =
     ((comment : List ℕ) × (text ≡ byte "{" ∷ comment) × (lacks (byte "}") comment ≡ true) × (to_end ≡ length text))
     ⊎ ((inner : List ℕ) × (text ≡ byte "(" ∷ inner) × HasOpenComment false inner to_end)
 
--- the fault of a text that begins with no token
+-- this token is the fault of a text that begins with no token (`HasNoToken`, which is not claimed here), by the text's
+-- first byte. If that is `(`, the fault is an unclosed comment in the variation if there is one, else the unclosed
+-- variation
 abbrev pub IsFaultOf : List ℕ → Token → Type 0
 IsFaultOf text (Unclosed_comment to_end) = HasUnclosedComment text to_end
 IsFaultOf text Unclosed_variation =
@@ -163,7 +167,8 @@ IsFaultOf text (Word word) = ⊥
 
 -- ---- the split
 
--- the text from the offset `at` on is split into these tokens, each after how many bytes are left where it begins
+-- the text from the offset `at` on is split into these tokens, each paired with the number of bytes left where it
+-- begins
 pub data IsSplit (text : List ℕ) : ℕ → List (ℕ × Token) → Type 0 where
   -- at the text's end
   ended : {at : ℕ} → drop at text ≡ [] → IsSplit text at []

@@ -31,7 +31,8 @@ use Rattle.chess_game.specs.declared.game.TheConstants.{MOST_MOVES}
 abbrev pub first_side : ℕ → Colour
 first_side number = if number % 2 == 1 then White else Black
 
--- the command of the engine that has this side in the game of this number
+-- the command of the engine that has this side in the game of this number; `plan.white` is the command of the first
+-- engine, that of `--white`, which has White in odd games and Black in even ones
 abbrev pub engine_command : GamesPlan → ℕ → Colour → List ℕ
 engine_command plan number side = if same_colour side (first_side number) then plan.white.now else plan.black.now
 
@@ -65,8 +66,9 @@ pub record GameRecord : Type 0 where
 abbrev pub setup_of : GamesPlan → Setup
 setup_of plan = record { start = plan.start; level = plan.level }
 
--- the game `played` was played from the start of `plan` with its time control, with at most 20,000 half-moves, whatever
--- the two engines sent
+-- the game `played` was played from the start of `plan`, with its time control and with at most 20,000 half-moves: its
+-- states before and after, its end and its notes are of one and the same game (`PlayedNoting`). Which engines played it
+-- is not said here
 abbrev pub IsOfPlan : GamesPlan → GameRecord → Type 0
 IsOfPlan plan played = (played.before.game.limit ≡ MOST_MOVES)
     × PlayedNoting (λ notes. notes ≡ played.notes) (setup_of plan) played.end played.before played.after
@@ -81,8 +83,8 @@ IsStartFault one other (CanNotStart command) = (command.now ≡ one) ⊎ (comman
 IsStartFault one other NoMemory = ⊤
 IsStartFault one other _ = ⊥
 
--- from the log's state `l` to `l'` the game of these notes was logged, if a side of the engine of `--white` is given;
--- without one (`None`) nothing was
+-- from the log's state `l` to `l'` a game with these notes was logged, in which the engine of `--white` had the side
+-- `first`; or, if no side is given (`None`), nothing was logged
 abbrev pub LogsGame : Option Colour → LogSeen → LogSeen → List Note → Type 0
 LogsGame None l l' notes = l' ≡ l
 LogsGame (Some first) l l' notes = Logged l l' (log_text first notes)
@@ -161,9 +163,10 @@ BrokeOffAtScore plan w w' l l' =
     × EndsGames plan games last × Begins start (score_line (score_of games))
     × FlushedThenFailed w w' (game_texts plan games) start × LogsGames plan.log l l' games
 
--- what playing a match does, by its result: all games, or all up to and with one that has a fault, were written and
--- logged, and then the score was written; or the match broke off. `w` and `l` are output and log before, `w'` and `l'`
--- after
+-- what playing a match does, by its result. `Ok`: all games were written and logged, and then the score was written.
+-- `Game`: the same, up to and with the game of this number, in which an engine had the fault that `text` names. Else
+-- the match broke off, at a game or (`WriteFailed`) at the score; or memory ran out (`NoMemory`), and nothing was
+-- written or logged. `w` and `l` are output and log before, `w'` and `l'` after
 abbrev pub RanGames : GamesPlan → OutputState → OutputState → LogSeen → LogSeen → Result (Unit {0}) GamesFault → Type 0
 RanGames plan w w' l l' (Ok _) = (games : List GameRecord) × EndsGames plan games None
     × Flushed w w' (match_text plan games) × LogsGames plan.log l l' games

@@ -9,7 +9,8 @@ use Rattle.match_runner.specs.declared.fault.GamesFault.TheVariants.{WriteFailed
 use Rattle.match_runner.specs.declared.plan.GamesPlan.{GamesPlan}
 use Rattle.match_runner.specs.Games.{GameRecord, IsOfPlan, SoundGames, EndsGames, engine_command, game_text}
 
--- one step at the table of a match's games
+-- one step of playing a match's games: one call at their table (the trait `GamesTable`), which is what starts the
+-- engines, plays the games, writes them, and waits for the engines
 pub data GamesStep : Type 0 where
   -- the engines with these commands, White's and Black's, were started
   Starts : (white : List ℕ) → (black : List ℕ) → GamesStep
@@ -40,8 +41,8 @@ writing failed text = if failed then WriteFails text else Writes text
 abbrev pub GamesPassing : Type 1
 GamesPassing = List GamesStep → Type 0
 
--- from its state `old` to `new` just these steps passed at a table, in this order: whatever may have passed up to
--- `old`, up to `new` that and then these may have passed
+-- from the state `old` of a table to `new` these steps passed, in this order: each list of steps that may have passed
+-- up to `old`, with these steps at its end, may have passed up to `new`
 pub record StepsPass (old new : GamesPassing) (steps : List GamesStep) : Type 0 where
   pub extends : (before : List GamesStep) → old before → new (before ++ steps)
 
@@ -69,8 +70,9 @@ unstarted_steps plan number =
 abbrev pub games_steps : GamesPlan → List GameRecord → List GamesStep
 games_steps plan games = flat_map (λ g. game_steps plan g.0 g.1) (enumerate_from 1 games)
 
--- from the state `p` of a table to `p'` all steps passed of a match that broke off with this fault: those of games
--- without a fault, and then those of a game that could not be written or started
+-- the steps that passed at a table, from its state `p` to `p'`, are those of a match that broke off with this fault: of
+-- some games without a fault, and then of one more game, whose PGN could not be written (`WriteFailed`) or whose
+-- engines could not be started (any other fault)
 abbrev pub StepsBrokeOff : GamesPlan → GamesPassing → GamesPassing → GamesFault → Type 0
 StepsBrokeOff plan p p' WriteFailed =
     (games : List GameRecord) × (next : GameRecord) × SoundGames plan games × IsOfPlan plan next
@@ -79,8 +81,9 @@ StepsBrokeOff plan p p' fault =
     (games : List GameRecord) × SoundGames plan games
     × StepsPass p p' (games_steps plan games ++ unstarted_steps plan (length games + 1))
 
--- from the state `p` of a table to `p'` all steps of a match passed, by its result: those of all games, or of all up to
--- and with one that has a fault; or those of a match that broke off
+-- the steps that passed at a table, from its state `p` to `p'`, are those of a match with this result: of all games; of
+-- all up to and with one that has a fault (`Game`); or of a match that broke off. Writing the score is no step at the
+-- table: if that fails (the second case of `WriteFailed`), the steps are those of all games that were played
 abbrev pub StepsRan : GamesPlan → GamesPassing → GamesPassing → Result (Unit {0}) GamesFault → Type 0
 StepsRan plan p p' (Ok _) =
     (games : List GameRecord) × EndsGames plan games None × StepsPass p p' (games_steps plan games)

@@ -30,16 +30,16 @@ head moment mark is_first = decimal moment ++ ((32 ∷ mark ∷ []) ++ engine_te
 abbrev pub log_line : ℕ → ℕ → Bool → List ℕ → List ℕ
 log_line moment mark is_first text = head moment mark is_first ++ (map shown text ++ new_line ∷ [])
 
--- bytes that an engine is sent, as the log shows them: each line begins with `front` (`312 >first : `), a first one
--- only if the bytes begin at the start of a line (`at_start`)
+-- the bytes that an engine is sent, as the log shows them, with `?` for what can't be shown. `front` (as
+-- `312 >first : `) comes before each byte that begins a line: each one after a `\n`, and the first of all if `at_start`
 abbrev pub given_text : List ℕ → Bool → List ℕ → List ℕ
 given_text front at_start [] = []
 given_text front at_start (b ∷ bs) =
     (if at_start then front else [])
     ++ ((if b == new_line then new_line else shown b) ∷ given_text front (b == new_line) bs)
 
--- whether the byte after these begins a line: the last of them is `\n`; if there are none, whether the first of them
--- would have begun one (`at_start`)
+-- whether a byte after this text would begin a line: the text's last byte is `\n`; or the text is empty, and a byte in
+-- its place would begin one (`at_start`)
 abbrev pub ends_line : Bool → List ℕ → Bool
 ends_line at_start text = fold (λ before b. b == new_line) at_start text
 
@@ -84,8 +84,8 @@ pub record LogSeen : Type 0 where
   pub output : OutputState
   pub broken : Bool
 
--- what contracts see of a log: its output, and whether a call failed, which is kept with the bytes `p` that wait to be
--- written
+-- what contracts see of a log: its output `o`, and whether a call failed. `p` has this flag, and the bytes that wait to
+-- be written
 abbrev pub log_seen : OutputState → Pending → LogSeen
 log_seen o p = record { output = o; broken = p.broken }
 

@@ -28,10 +28,12 @@ WritesPart options i o = (i.ended ≡ false)
     × ((reports : List Report) × AreCollectionReports options.strict false i.text reports
     × (o ≡ all_unflushed (collection_text options false i.text reports)))
 
--- what verifying a collection reads and writes, by its result. The whole input was read, and its text was written and
--- flushed; or a write or the flush failed, and a beginning of the text was written. Or a read failed, memory ran out or
--- the input was too long, and the lines of the pieces whose end was read were written. `options` say whether results
--- are compared, whether only faults have a line, and whether faults are explained
+-- what verifying a collection reads and writes, by its result. `Ok`: the whole input was read, the reports on it
+-- (`collection_text`) were written and flushed, and `verdict` says whether there was a fault. `WriteFailed`: no read
+-- failed, and a write or the flush failed after a beginning of the reports on what was read. In the other cases reading
+-- stopped before the input's end, and the lines of the pieces whose end was read were written, but not flushed: a read
+-- failed, memory ran out, or the input has nearly 2^63 bytes or more. `options` say whether results are compared,
+-- whether only faults have a line, and whether faults are explained
 abbrev pub VerifiesCollection : VerifyOptions → Result Verified VerifyFault → FromInput → ToOutput → Type 0
 VerifiesCollection options (Ok verdict) i o = IsWhole i
     × ((reports : List Report) × AreCollectionReports options.strict true i.text reports

@@ -51,7 +51,7 @@ shown_part _ text = shown text
 
 -- ---- the reason
 
--- the board's verdict as a session writes it, such as `0-1 {Black mates}`; none without one
+-- the board's verdict as its outcome and its comment in braces, such as `0-1 {Black mates}`; none without a verdict
 abbrev pub verdict_reason : Option Verdict → Option (List ℕ)
 verdict_reason verdict = option_map (λ v. result_text (verdict_outcome v) (verdict_comment v)) verdict
 

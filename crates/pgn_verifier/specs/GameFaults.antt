@@ -49,9 +49,9 @@ judged strict tag verdict (Ok None) = Ok None
 judged strict tag verdict (Ok (Some end)) = option_map_or Err (contradiction strict tag verdict end) (Ok (Some end))
 judged strict tag verdict (Err fault) = Err (record { kind = Pgn fault.kind; offset = fault.offset })
 
--- what is reported of the game from the offset `at` on (`answer`): its end, its fault, or `None` if the text has no more
--- games. `s` is the game that was read, of at most 20,000 half-moves. Both are by the text's only split into tokens;
--- `strict`: results are compared
+-- `answer` is what is reported of the game from the offset `at` of the text on: its end, its fault, or `None` if the
+-- text has no more games; and `s` is this game as far as it was read, of at most 20,000 half-moves. Both follow from
+-- `tokens`, the only split of the text into tokens from there on; `strict`: results are compared
 pub record IsJudged (strict : Bool) (text : List ℕ) (at : ℕ) (s : State)
     (answer : Result (Option PgnEnd) GameFault) : Type 0 where
   pub tokens : List (ℕ × Token)

@@ -9,11 +9,12 @@ use Rattle.pgn_verifier.specs.declared.tally.Verified.{Verified}
 use Rattle.pgn_verifier.specs.Reports.{Report, AreReports, report_lines, counts_of, verified}
 
 -- what verifying a text reads and writes, by its result. `Ok`: the whole input was read, of at most `PIECE_LEN`
--- (16,777,216) bytes, the lines of its games up to the first fault, numbered from 1, were written and flushed, and the
--- verdict is that on these games. `WriteFailed`: the same was read, but a write or the flush failed after a beginning
--- of the lines. In the other three cases (a read failed; memory ran out, before or at the input's end; the input is
--- longer) nothing was written. `options` say whether results are compared, whether only faults have a line, and whether
--- faults are explained
+-- (16,777,216) bytes; the lines of its games up to and with the first fault, numbered from 1, were written and flushed;
+-- and `verdict` says whether there was a fault. `WriteFailed`: the same was read, and a write or the flush failed after
+-- a beginning of the lines. In the other cases nothing was written: a read failed before the input's end
+-- (`ReadFailed`); memory ran out before the end, or at the end of an input of at most `PIECE_LEN` bytes (`NoMemory`);
+-- or more than `PIECE_LEN` bytes were read, and the end was not reached (`InputTooLong`). `options` say whether results
+-- are compared, whether only faults have a line, and whether faults are explained
 abbrev pub Verifies : VerifyOptions → Result Verified VerifyFault → FromInput → ToOutput → Type 0
 Verifies options (Ok verdict) i o = IsWhole i × (length i.text ≤ PIECE_LEN)
     × ((reports : List Report) × AreReports options.strict 0 i.text 0 reports

@@ -32,8 +32,9 @@ from_field (suc number) fen = from_field number (from_space (after_spaces fen))
 abbrev pub field_at : ℕ → List ℕ → List ℕ
 field_at number fen = take_while (λ c. not (c == space)) (from_field number fen)
 
--- the number of the field that a FEN's fault is about. Of the counters (4 and 5) it is the first that is no number; a
--- fault of the whole FEN, or of the pieces together, is about the first field
+-- the number of the field that this fault of a FEN is about, 0 for the first field. For a counter it is 5 (the fullmove
+-- number) if field 4 (the halfmove clock) is a number of one to six digits, else 4. A fault of the whole FEN, or of the
+-- pieces together, is about the first field
 abbrev pub field_number : FenFault → List ℕ → ℕ
 field_number Side fen = 1
 field_number Castling fen = 2
