@@ -76,8 +76,8 @@ pub fn a_game_is_tags_and_moves()
 {}
 
 /// States a law and does nothing: a game that is read is that of its text's first tokens. Its start is what their last
-/// tag `FEN` denotes, each word of a move denotes a move in the position reached by then, and the next token ends the
-/// game, or can't be taken, or there is none; the offset is that token's.
+/// tag `FEN` denotes, or the initial position if there is none; each word of a move denotes a move in the position
+/// reached by then, and the next token ends the game, or can't be taken, or there is none; the offset is that token's.
 pub fn games_are_of_tokens()
     ensures { GamesAreOfTokens }
 {}

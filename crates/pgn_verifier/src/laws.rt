@@ -43,7 +43,8 @@ pub fn written_games_have_no_fault()
 }
 
 /// States a law and does nothing: if the texts that `write_pgn` of chess_pgn writes of some games come one after
-/// another, as a match writes them, then the reports are on just these games, and none is a fault.
+/// another, as a match writes its games before the line of the score, then the reports on the whole text are on just
+/// these games, and none is a fault.
 pub fn written_texts_have_no_fault()
     ensures { WrittenTextsHaveNoFault }
 {
@@ -54,7 +55,7 @@ pub fn written_texts_have_no_fault()
 
 /// States a law and does nothing: a game that is read in a text without a fault, from a place in one of its parts on,
 /// and that ends in that part, is read in the part alone, if the part begins where a line begins. So where the pieces
-/// of a text hold whole games, `verify` and `verify_collection` report the same games.
+/// of a text of at most 16,777,216 bytes hold whole games, `verify` and `verify_collection` report the same games.
 pub fn games_are_in_parts()
     ensures game { GamesAreInParts }
     ensures reports { WholeGamesAreReportedAlike }
@@ -65,8 +66,9 @@ pub fn games_are_in_parts()
     a_game_is_tags_and_moves();
 }
 
-/// States a law and does nothing: if `verify_collection` reports no fault of a text, then `verify` reports the same
-/// games, unless a piece of the text after the first begins with a byte order mark.
+/// States a law and does nothing: if `verify_collection` reports no fault of a text, then the reports on the text as a
+/// whole are on the same games, unless a piece of the text after the first begins with a byte order mark. `verify`
+/// writes these reports if the text has at most 16,777,216 bytes; it takes no longer one.
 pub fn a_text_without_faults_is_reported_alike()
     ensures { FaultlessTextsAreReportedAlike }
 {

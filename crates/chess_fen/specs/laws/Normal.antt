@@ -1,7 +1,7 @@
 -- FEN as it is defined for normal chess alone (PGN standard of 1994, section 16.1): rights are named by the letters K,
 -- Q, k and q, and king and rook of each are at home. Nothing here takes a variant; what FEN says of pieces, side,
 -- target and counters is shared.
-use Rattle.std.specs.Prelude.{ℕ, max, ◌==◌, nat_lt, nat_le, Bool, ◌&&◌, ◌||◌, List, [], ◌∷◌, ◌++◌, length, take, drop, decimal, codes, Option, Some, None, Result, Ok, Err, if◌then◌else◌}
+use Rattle.std.specs.Prelude.{ℕ, max, ◌==◌, nat_lt, nat_le, Bool, not, ◌&&◌, ◌||◌, List, [], ◌∷◌, ◌++◌, length, decimal, codes, Option, Some, None, Result, Ok, Err, if◌then◌else◌}
 use Rattle.std.specs.List.{list_all, join_with_byte}
 use Rattle.std.specs.Option.{ok_or}
 use Rattle.std.specs.Str.{bytes_eq}
@@ -12,8 +12,11 @@ use Rattle.chess_base.specs.declared.man.CastlingSide.TheVariants.{KingSide, Que
 use Rattle.chess_base.specs.declared.man.Rights.{Rights}
 use Rattle.chess_base.specs.declared.man.Variant.TheVariants.{Normal}
 use Rattle.chess_base.specs.declared.setup.Setup.{Setup}
-use Rattle.chess_base.specs.Faults.{conditions, first_failing}
+use Rattle.chess_base.specs.Attacks.{is_in_check}
+use Rattle.chess_base.specs.Faults.{counters_fit, first_failing}
 use Rattle.chess_base.specs.Letters.{byte, space}
+use Rattle.chess_base.specs.Men.{other}
+use Rattle.chess_base.specs.Sound.{has_one_king, no_pawn_on_end_ranks, has_at_most_16, target_is_sound}
 use Rattle.chess_base.specs.laws.Normal.{normal_right_is_sound_at}
 use Rattle.chess_fen.specs.Reading.{◌>>=◌, side_of, unless_fault}
 use Rattle.chess_fen.specs.RightNames.{right_named}
@@ -102,11 +105,18 @@ normal_rights_are_sound p =
     && normal_right_is_sound_at p.men Black KingSide p.rights.black.king_side
     && normal_right_is_sound_at p.men Black QueenSide p.rights.black.queen_side
 
--- the fault of the first condition of soundness that the position fails, of which the one on castling rights (the fifth)
--- is that of normal chess; none if it meets them all
+-- the fault of the first condition of soundness that the position fails; none if it meets them all
 unfoldable pub normal_fault : Setup → Option FenFault
 normal_fault p =
-    first_failing (take 4 (conditions p) ++ ((faults.Castling, normal_rights_are_sound p) ∷ drop 5 (conditions p)))
+    first_failing
+    ((faults.Counters, counters_fit p)
+    ∷ (faults.Kings, has_one_king p.men White && has_one_king p.men Black)
+    ∷ (faults.Pawns, no_pawn_on_end_ranks p.men)
+    ∷ (faults.Men, has_at_most_16 p.men White && has_at_most_16 p.men Black)
+    ∷ (faults.Castling, normal_rights_are_sound p)
+    ∷ (faults.EnPassant, target_is_sound p)
+    ∷ (faults.Check, not (is_in_check p.men (other p.side)))
+    ∷ [])
 
 -- `Ok p` if position p of normal chess is sound, else the fault of the first condition of soundness that it fails
 abbrev pub normal_sound : Setup → Result Setup FenFault

@@ -1,4 +1,4 @@
--- A text in which `verify --keep-going` finds no fault is reported alike without `--keep-going`.
+-- A text whose pieces have no fault has the same reports as a whole.
 use Rattle.std.specs.Prelude.{◌≡◌, Bool, true, false, List, [], ◌∷◌, take, drop, ℕ}
 use Rattle.std.specs.List.{list_any}
 use Rattle.std.specs.Str.{bytes_eq}
