@@ -1,4 +1,4 @@
--- The games are played at the table of processes, and their steps there are not told (GamesWritten.ran_games).
+-- What the match does at the table of processes, without the steps there (GamesWritten.ran_games).
 use Rattle.match_runner.proofs.GamesWritten.{ran_games}
 use Rattle.match_runner.proofs.games.play_games.Goals as goal
 
