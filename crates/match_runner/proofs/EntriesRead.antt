@@ -1,6 +1,6 @@
 -- The lines of a log, from notes and from its text.
 use Rattle.std.proofs.Common.{◌≡◌, ◌∙◌, ℕ, Bool, true, false, List, [], ◌∷◌, ◌++◌, map, refl, sym, ap, subst, append_assoc, append-nil, Some, None, arith, rules}
-use Rattle.std.specs.Prelude.{◌==◌, codes, cond, decimal, flat_map, if◌then◌else◌}
+use Rattle.std.specs.Prelude.{◌==◌, ◌&&◌, codes, cond, decimal, flat_map, if◌then◌else◌}
 use Rattle.std.proofs.lemmas.Bool.{and_parts}
 use Rattle.std.proofs.lemmas.Bool.Decides.{nat_tests}
 use Rattle.std.specs.Str.Parse.{digits_value}
@@ -12,11 +12,17 @@ use Rattle.std.proofs.lemmas.Str.Parse.{IsNumeralModel, numerals_by_value}
 use Rattle.chess_base.specs.Letters.{byte, is_digit, new_line}
 use Rattle.chess_base.specs.declared.man.Colour.{Colour}
 use Rattle.chess_base.specs.Men.{same_colour}
+use Rattle.chess_base.specs.Options.{list_if}
+use Rattle.chess_match.specs.Acts.{Act, Sends, SendFails, Reads, ReadsEnd, ReadFails, ReadsClock}
+use Rattle.chess_match.specs.ByDevice.{notes_given}
 use Rattle.chess_match.specs.Events.{Line, Opened, OutputEnds, FailsToRead, FailsToWrite}
+use Rattle.chess_match.specs.Lines.{SentLine, bytes_of, text_of}
 use Rattle.chess_match.specs.Notes.{Note, Happened, Gives}
+use Rattle.chess_match.specs.Reasons.{is_unwritten}
+use Rattle.chess_match.specs.declared.reason.Reason.{Reason}
 use Rattle.text_lines.specs.Lines.{parts}
 use Rattle.match_runner.specs.Log.{ends_line, engine_text, given_text, head, log_from, log_line, shown}
-use Rattle.match_runner.specs.laws.Entries.{Entry, IsShown, LogsAreEntries, LogsHaveOneReading, ended_parts, entries_from, entries_text, is_printable, is_whole, note_entries}
+use Rattle.match_runner.specs.laws.Entries.{Entry, IsShown, LogsAreEntries, LogsHaveOneReading, ended_parts, entries_from, entries_text, is_printable, note_entries}
 
 -- ---- the lines of a block
 
@@ -81,6 +87,54 @@ module _ (front : List ℕ) where
       (λ x. i.1 (subst (λ (y : Bool). ends_line y bs ≡ true) x e)) in
       (λ e. (h e).0, λ e. (h e).1)
 
+-- ---- whole lines
+
+-- whether the note, if it is of bytes that an engine is sent, has whole lines: the last byte is `\n`
+abbrev is_whole : Note → Bool
+is_whole (Gives c bytes) = ends_line true bytes
+is_whole _ = true
+
+line_ended : (before : Bool) (text rest : List ℕ) → ends_line true rest ≡ true
+    → ends_line before (text ++ new_line ∷ rest) ≡ true
+line_ended before [] rest e = e
+line_ended before (b ∷ bs) rest e = line_ended (b == new_line) bs rest e
+
+lines_ended : (ls : List SentLine) → ends_line true (bytes_of ls) ≡ true
+unfolding bytes_of
+lines_ended [] = refl
+lines_ended (l ∷ ls) = line_ended true (text_of l) (bytes_of ls) (lines_ended ls)
+
+both_true : (a b : Bool) → a ≡ true → b ≡ true → (a && b) ≡ true
+both_true true b e f = f
+both_true false b e f = e
+
+block_whole : (ls : List SentLine) (notes : List Note) (c : Colour) → list_all is_whole notes ≡ true
+    → list_all is_whole (Gives c (bytes_of ls) ∷ notes) ≡ true
+block_whole ls notes c e = both_true (ends_line true (bytes_of ls)) (list_all is_whole notes) (lines_ended ls) e
+
+failure_whole : (x : Bool) (c : Colour) (notes : List Note) → list_all is_whole notes ≡ true
+    → list_all is_whole (list_if x (Happened (FailsToWrite c) ∷ []) ++ notes) ≡ true
+failure_whole true c notes e = e
+failure_whole false c notes e = e
+
+-- the notes of any acts are of whole lines
+notes_whole : (reason : Reason) (H : List Act) → list_all is_whole (notes_given reason H) ≡ true
+notes_whole reason [] = refl
+notes_whole reason (Sends b ∷ H) = block_whole b.lines (notes_given reason H) b.to (notes_whole reason H)
+notes_whole reason (SendFails b ∷ H) =
+    block_whole b.lines (list_if (is_unwritten reason b.to) (Happened (FailsToWrite b.to) ∷ []) ++ notes_given reason H)
+    b.to (failure_whole (is_unwritten reason b.to) b.to (notes_given reason H) (notes_whole reason H))
+notes_whole reason (Reads S t ∷ ReadsClock c n ∷ H) = notes_whole reason H
+notes_whole reason (ReadsClock c n ∷ H) = notes_whole reason H
+notes_whole reason (ReadsEnd c ∷ H) = notes_whole reason H
+notes_whole reason (ReadFails c ∷ H) = notes_whole reason H
+notes_whole reason (Reads S t ∷ []) = refl
+notes_whole reason (Reads S t ∷ Sends b ∷ H) = notes_whole reason (Sends b ∷ H)
+notes_whole reason (Reads S t ∷ SendFails b ∷ H) = notes_whole reason (SendFails b ∷ H)
+notes_whole reason (Reads S t ∷ Reads c u ∷ H) = notes_whole reason (Reads c u ∷ H)
+notes_whole reason (Reads S t ∷ ReadsEnd c ∷ H) = notes_whole reason (ReadsEnd c ∷ H)
+notes_whole reason (Reads S t ∷ ReadFails c ∷ H) = notes_whole reason (ReadFails c ∷ H)
+
 -- ---- the lines of notes
 
 -- the lines of a block are entries
@@ -126,7 +180,7 @@ from_notes first moment (Gives c text ∷ notes) e =
     ≡ entries_text (entries_from first moment notes)) (sym p.0) (from_notes first moment notes p.1))
 
 pub logs_are_entries : LogsAreEntries
-logs_are_entries first notes e = from_notes first 0 notes e
+logs_are_entries first reason H = from_notes first 0 (notes_given reason H) (notes_whole reason H)
 
 -- ---- one reading
 

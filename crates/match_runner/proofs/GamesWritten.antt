@@ -27,7 +27,7 @@ use Rattle.chess_match.proofs.shared.Flushes.{flushed_none, failed_after}
 use Rattle.chess_pgn.specs.GameText.{pgn}
 use Rattle.chess_pgn.specs.declared.tags.Tags.{Tags}
 use Rattle.match_runner.specs.Games.{EndsGames, GameRecord, IsOfPlan, IsStartFault, LogsGame, LogsGames, RanGames, SoundGames, count_of, engine_command, first_side, game_logs, game_text, game_texts, match_text, score_line, score_of, tags_of}
-use Rattle.match_runner.specs.GamesTable.{Finishes, GamesPassing, GamesStep, Plays, StartFails, Starts, StepsPass, StepsRan, WriteFails, Writes, game_steps, games_steps, unstarted_steps, unwritten_steps}
+use Rattle.match_runner.specs.GamesTable.{Finishes, GamesPassing, GamesStep, Plays, StartFails, Starts, StepsPass, RanGamesAt, WriteFails, Writes, game_steps, games_steps, unstarted_steps, unwritten_steps}
 use Rattle.match_runner.specs.ties.Playing.{FailsToStart, HasPlayed, PlayedGame, logged_side, no_score, plus, score_after}
 use Rattle.match_runner.specs.Log.{LogSeen, Logged, log_text}
 use Rattle.match_runner.proofs.Logged.{logged_more, logs_none}
@@ -373,20 +373,18 @@ module _ (plan : GamesPlan) (p p' p'' : GamesPassing) (w w' w'' : OutputState) (
   -- an engine that could not be started
   not_started : (fault : GamesFault) → number ≤ plan.games → IsStartFault plan.white.now plan.black.now fault
       → w'' ≡ w' → l'' ≡ l' → StepsPass p' p'' (unstarted_steps plan number)
-      → (SoundGames plan games × (length games < plan.games) × IsStartFault plan.white.now plan.black.now fault
-      × Flushed w w'' (game_texts plan games) × LogsGames plan.log l l'' games)
-      × SoundGames plan games
+      → (games : List GameRecord) × SoundGames plan games × (length games < plan.games)
+      × IsStartFault plan.white.now plan.black.now fault × Flushed w w'' (game_texts plan games)
+      × LogsGames plan.log l l'' games
       × StepsPass p p'' (games_steps plan games ++ unstarted_steps plan (length games + 1))
   not_started fault le is same log steps =
       let n = s.numbered in (
-        (
-          s.games_sound,
-          omega (arith, n, le),
-          is,
-          subst (λ v. Flushed w v (game_texts plan games)) (sym same) s.written,
-          subst (λ v. LogsGames plan.log l v games) (sym log) s.logged,
-        ),
+        games,
         s.games_sound,
+        omega (arith, n, le),
+        is,
+        subst (λ v. Flushed w v (game_texts plan games)) (sym same) s.written,
+        subst (λ v. LogsGames plan.log l v games) (sym log) s.logged,
         passed_last (λ n. unstarted_steps plan n) steps,
       )
 
@@ -395,25 +393,19 @@ module _ (plan : GamesPlan) (p p' p'' : GamesPassing) (w w' w'' : OutputState) (
   broke WriteFailed le (next, of, (begun, begins, failed), log, steps) =
       let n = s.numbered in
       let m : number ≡ length games + 1 = omega (arith, n) in (
-        (
-          games,
-          next,
-          begun,
-          s.games_sound,
-          omega (arith, n, le),
-          of,
-          subst (λ k. Begins begun (game_text plan k next)) m begins,
-          failed_after w w' w'' (game_texts plan games) begun s.written failed,
-          logged_on next log,
-        ),
-        (games, next, s.games_sound, of, passed_last (λ n. unwritten_steps plan n next) steps),
+        games,
+        next,
+        begun,
+        s.games_sound,
+        omega (arith, n, le),
+        of,
+        subst (λ k. Begins begun (game_text plan k next)) m begins,
+        failed_after w w' w'' (game_texts plan games) begun s.written failed,
+        logged_on next log,
+        passed_last (λ n. unwritten_steps plan n next) steps,
       )
-  broke NoMemory le (is, same, log, steps) =
-      let h = not_started NoMemory le is same log steps in
-      ((games, h.0.0, h.0.1, h.0.2, h.0.3, h.0.4), (games, h.1, h.2))
-  broke (CanNotStart command) le (is, same, log, steps) =
-      let h = not_started (CanNotStart command) le is same log steps in
-      ((games, h.0.0, h.0.1, h.0.2, h.0.3, h.0.4), (games, h.1, h.2))
+  broke NoMemory le (is, same, log, steps) = not_started NoMemory le is same log steps
+  broke (CanNotStart command) le (is, same, log, steps) = not_started (CanNotStart command) le is same log steps
   broke (Game k text) le (is, same, log, steps) = absurd is
 
 pub all_played : (plan : GamesPlan) (p p' : GamesPassing) (w w' : OutputState) (l l' : LogSeen) (number : ℕ)
@@ -428,11 +420,11 @@ all_played plan p p' w w' l l' number score games s past =
 
 -- what a match that broke off did
 pub broken_off : (plan : GamesPlan) (p p' : GamesPassing) (w w' : OutputState) (l l' : LogSeen) (fault : GamesFault)
-    → HasPlayed plan p p' w w' l l' (Err fault) → RanGames plan w w' l l' (Err fault) × StepsRan plan p p' (Err fault)
-broken_off plan p p' w w' l l' WriteFailed (h, k) = (inl h, inl k)
-broken_off plan p p' w w' l l' NoMemory (h, k) = (inr h, k)
-broken_off plan p p' w w' l l' (CanNotStart command) (h, k) = (h, k)
-broken_off plan p p' w w' l l' (Game number text) ((games, sound, few, is, written, log), k) = absurd is
+    → HasPlayed plan p p' w w' l l' (Err fault) → RanGamesAt plan p p' w w' l l' (Err fault)
+broken_off plan p p' w w' l l' WriteFailed h = inl h
+broken_off plan p p' w w' l l' NoMemory h = h
+broken_off plan p p' w w' l l' (CanNotStart command) h = h
+broken_off plan p p' w w' l l' (Game number text) (games, sound, few, is, written, log, steps) = absurd is
 
 module _ (plan : GamesPlan) (p p' : GamesPassing) (w w' w'' : OutputState) (l l' : LogSeen) (played : GamesPlayed)
     (h : HasPlayed plan p p' w w' l l' (Ok played)) where
@@ -442,30 +434,41 @@ module _ (plan : GamesPlan) (p p' : GamesPassing) (w w' w'' : OutputState) (l l'
       (subst (λ v. Sent w' w'' (score_line v)) h.2 sent)
 
   pub all_written : Sent w' w'' (score_line played.score) → played.fault ≡ None
-      → RanGames plan w w'' l l' (Ok (tt {0})) × StepsRan plan p p' (Ok (tt {0}))
-  all_written sent none =
-      let ends = subst (EndsGames plan h.0) none h.1 in
-      ((h.0, ends, score_sent sent, h.4), (h.0, ends, h.5))
+      → RanGamesAt plan p p' w w'' l l' (Ok (tt {0}))
+  all_written sent none = (h.0, subst (EndsGames plan h.0) none h.1, score_sent sent, h.4, h.5)
 
   pub fault_written : (number : ℕ) (side : Colour) (fault : MatchFault) (text : Bor (List ℕ))
       → text.now ≡ comment_of (Faulted side fault)
       → Sent w' w'' (score_line played.score) → played.fault ≡ Some (number, side, fault)
-      → RanGames plan w w'' l l' (Err (Game number text)) × StepsRan plan p p' (Err (Game number text))
+      → RanGamesAt plan p p' w w'' l l' (Err (Game number text))
   fault_written number side fault text written sent is =
-      let ends = subst (EndsGames plan h.0) is h.1 in
-      ((h.0, side, fault, ends, written, score_sent sent, h.4), (h.0, side, fault, ends, h.5))
+      (h.0, side, fault, subst (EndsGames plan h.0) is h.1, written, score_sent sent, h.4, h.5)
 
-  pub score_broken : BreaksOff w' w'' (score_line played.score)
-      → RanGames plan w w'' l l' (Err WriteFailed) × StepsRan plan p p' (Err WriteFailed)
-  score_broken (begun, begins, failed) = (
-    inr (
-      h.0,
-      played.fault,
-      begun,
-      h.1,
-      subst (λ v. Begins begun (score_line v)) h.2 begins,
-      failed_after w w' w'' (game_texts plan h.0) begun h.3 failed,
-      h.4,
-    ),
-    inr (h.0, played.fault, h.1, h.5),
+  pub score_broken : BreaksOff w' w'' (score_line played.score) → RanGamesAt plan p p' w w'' l l' (Err WriteFailed)
+  score_broken (begun, begins, failed) = inr (
+    h.0,
+    played.fault,
+    begun,
+    h.1,
+    subst (λ v. Begins begun (score_line v)) h.2 begins,
+    failed_after w w' w'' (game_texts plan h.0) begun h.3 failed,
+    h.4,
+    h.5,
   )
+
+-- ---- without the steps
+
+-- a match at a table is a match: the steps are dropped
+pub ran_games : (plan : GamesPlan) (p p' : GamesPassing) (w w' : OutputState) (l l' : LogSeen)
+    (result : Result (Unit {0}) GamesFault) → RanGamesAt plan p p' w w' l l' result → RanGames plan w w' l l' result
+ran_games plan p p' w w' l l' (Ok v) (games, ends, written, log, steps) = (games, ends, written, log)
+ran_games plan p p' w w' l l' (Err (Game number text)) (games, side, fault, ends, is, written, log, steps) =
+    (games, side, fault, ends, is, written, log)
+ran_games plan p p' w w' l l' (Err WriteFailed) (inl (games, next, begun, sound, few, of, begins, failed, log, steps)) =
+    inl (games, next, begun, sound, few, of, begins, failed, log)
+ran_games plan p p' w w' l l' (Err WriteFailed) (inr (games, last, begun, ends, begins, failed, log, steps)) =
+    inr (games, last, begun, ends, begins, failed, log)
+ran_games plan p p' w w' l l' (Err NoMemory) (games, sound, few, is, written, log, steps) =
+    inr (games, sound, few, is, written, log)
+ran_games plan p p' w w' l l' (Err (CanNotStart command)) (games, sound, few, is, written, log, steps) =
+    (games, sound, few, is, written, log)

@@ -1,13 +1,18 @@
 -- What passes at the table of a match's games, step by step.
-use Rattle.std.specs.Prelude.{◌⊎◌, ℕ, ◌+◌, Bool, if◌then◌else◌, List, [], ◌∷◌, ◌++◌, length, flat_map, Option, None, Some, Result, Ok, Err}
+use Rattle.std.specs.Prelude.{◌≡◌, ◌⊎◌, ℕ, ◌+◌, ◌<◌, Bool, if◌then◌else◌, List, [], ◌∷◌, ◌++◌, length, flat_map, Option, None, Some, Result, Ok, Err}
 use Rattle.std.specs.List.{enumerate_from}
 use Rattle.chess_base.specs.declared.man.Colour.{Colour}
 use Rattle.chess_base.specs.declared.man.Colour.TheVariants.{White, Black}
+use Rattle.byte_devices.specs.Devices.{OutputState, Begins}
+use Rattle.chess_match.specs.Reasons.{comment_of}
+use Rattle.chess_match.specs.Run.{Flushed, FlushedThenFailed}
 use Rattle.chess_match.specs.declared.reason.MatchFault.{MatchFault}
+use Rattle.chess_match.specs.declared.reason.Reason.TheVariants.{Faulted}
 use Rattle.match_runner.specs.declared.fault.GamesFault.{GamesFault}
 use Rattle.match_runner.specs.declared.fault.GamesFault.TheVariants.{WriteFailed, Game}
 use Rattle.match_runner.specs.declared.plan.GamesPlan.{GamesPlan}
-use Rattle.match_runner.specs.Games.{GameRecord, IsOfPlan, SoundGames, EndsGames, engine_command, game_text}
+use Rattle.match_runner.specs.Games.{GameRecord, IsOfPlan, IsStartFault, LogsGames, SoundGames, EndsGames, engine_command, game_text, game_texts, match_text, score_line, score_of}
+use Rattle.match_runner.specs.Log.{LogSeen}
 
 -- one step of playing a match's games: one call at their table (the trait `GamesTable`), which is what starts the
 -- engines, plays the games, writes them, and waits for the engines
@@ -70,28 +75,48 @@ unstarted_steps plan number =
 abbrev pub games_steps : GamesPlan → List GameRecord → List GamesStep
 games_steps plan games = flat_map (λ g. game_steps plan g.0 g.1) (enumerate_from 1 games)
 
--- the steps that passed at a table, from its state `p` to `p'`, are those of a match that broke off with this fault: of
--- some games without a fault, and then of one more game, whose PGN could not be written (`WriteFailed`) or whose
--- engines could not be started (any other fault)
-abbrev pub StepsBrokeOff : GamesPlan → GamesPassing → GamesPassing → GamesFault → Type 0
-StepsBrokeOff plan p p' WriteFailed =
-    (games : List GameRecord) × (next : GameRecord) × SoundGames plan games × IsOfPlan plan next
+-- ---- a match at a table
+
+-- the match broke off with this fault (`GamesBrokeOff`), and the steps that passed at the table are those of the games
+-- before, and then of the next one, whose PGN could not be written (`WriteFailed`) or whose engines could not be
+-- started (any other fault). `p` is what may have passed at the table before, `w` and `l` are output and log; `p'`,
+-- `w'` and `l'` after
+abbrev pub GamesBrokeOffAt : GamesPlan → GamesPassing → GamesPassing → OutputState → OutputState → LogSeen → LogSeen
+    → GamesFault → Type 0
+GamesBrokeOffAt plan p p' w w' l l' WriteFailed =
+    (games : List GameRecord) × (next : GameRecord) × (start : List ℕ)
+    × SoundGames plan games × (length games < plan.games) × IsOfPlan plan next
+    × Begins start (game_text plan (length games + 1) next) × FlushedThenFailed w w' (game_texts plan games) start
+    × LogsGames plan.log l l' (games ++ next ∷ [])
     × StepsPass p p' (games_steps plan games ++ unwritten_steps plan (length games + 1) next)
-StepsBrokeOff plan p p' fault =
-    (games : List GameRecord) × SoundGames plan games
+GamesBrokeOffAt plan p p' w w' l l' fault =
+    (games : List GameRecord) × SoundGames plan games × (length games < plan.games)
+    × IsStartFault plan.white.now plan.black.now fault × Flushed w w' (game_texts plan games)
+    × LogsGames plan.log l l' games
     × StepsPass p p' (games_steps plan games ++ unstarted_steps plan (length games + 1))
 
--- the steps that passed at a table, from its state `p` to `p'`, are those of a match with this result: of all games; of
--- all up to and with one that has a fault (`Game`); or of a match that broke off. Writing the score is no step at the
--- table: if that fails (the second case of `WriteFailed`), the steps are those of all games that were played
-abbrev pub StepsRan : GamesPlan → GamesPassing → GamesPassing → Result (Unit {0}) GamesFault → Type 0
-StepsRan plan p p' (Ok _) =
-    (games : List GameRecord) × EndsGames plan games None × StepsPass p p' (games_steps plan games)
-StepsRan plan p p' (Err (Game number text)) =
+-- the PGN of all games was written, but of the line of the score only a beginning (`BrokeOffAtScore`), and the steps
+-- are those of all games: writing the score is no step at the table. `p` is what may have passed there before, `w` and
+-- `l` are output and log; `p'`, `w'` and `l'` after
+abbrev pub BrokeOffAtScoreAt : GamesPlan → GamesPassing → GamesPassing → OutputState → OutputState → LogSeen → LogSeen
+    → Type 0
+BrokeOffAtScoreAt plan p p' w w' l l' =
+    (games : List GameRecord) × (last : Option (ℕ × Colour × MatchFault)) × (start : List ℕ)
+    × EndsGames plan games last × Begins start (score_line (score_of games))
+    × FlushedThenFailed w w' (game_texts plan games) start × LogsGames plan.log l l' games
+    × StepsPass p p' (games_steps plan games)
+
+-- what playing a match at a table does, by its result: what `RanGames` says, and the games that were written, logged
+-- and counted are just those whose steps passed at the table. `p` is what may have passed there before, `w` and `l` are
+-- output and log; `p'`, `w'` and `l'` after
+abbrev pub RanGamesAt : GamesPlan → GamesPassing → GamesPassing → OutputState → OutputState → LogSeen → LogSeen
+    → Result (Unit {0}) GamesFault → Type 0
+RanGamesAt plan p p' w w' l l' (Ok _) = (games : List GameRecord) × EndsGames plan games None
+    × Flushed w w' (match_text plan games) × LogsGames plan.log l l' games × StepsPass p p' (games_steps plan games)
+RanGamesAt plan p p' w w' l l' (Err (Game number text)) =
     (games : List GameRecord) × (side : Colour) × (fault : MatchFault)
-    × EndsGames plan games (Some (number, side, fault)) × StepsPass p p' (games_steps plan games)
-StepsRan plan p p' (Err WriteFailed) =
-    StepsBrokeOff plan p p' WriteFailed
-    ⊎ ((games : List GameRecord) × (last : Option (ℕ × Colour × MatchFault)) × EndsGames plan games last
-    × StepsPass p p' (games_steps plan games))
-StepsRan plan p p' (Err fault) = StepsBrokeOff plan p p' fault
+    × EndsGames plan games (Some (number, side, fault)) × (text.now ≡ comment_of (Faulted side fault))
+    × Flushed w w' (match_text plan games) × LogsGames plan.log l l' games × StepsPass p p' (games_steps plan games)
+RanGamesAt plan p p' w w' l l' (Err WriteFailed) =
+    GamesBrokeOffAt plan p p' w w' l l' WriteFailed ⊎ BrokeOffAtScoreAt plan p p' w w' l l'
+RanGamesAt plan p p' w w' l l' (Err fault) = GamesBrokeOffAt plan p p' w w' l l' fault

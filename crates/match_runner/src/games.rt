@@ -5,7 +5,7 @@ ghost use Rattle.byte_devices.specs.Devices.{Sends};
 ghost use Rattle.chess_match.specs.Reasons.{comment_of};
 ghost use Rattle.chess_match.specs.declared.reason.Reason.TheVariants.{Faulted};
 ghost use Rattle.match_runner.specs.Games.{RanGames, engine_command, first_side, player_name, score_line, tags_of};
-ghost use Rattle.match_runner.specs.GamesTable.{StepsRan};
+ghost use Rattle.match_runner.specs.GamesTable.{RanGamesAt};
 ghost use Rattle.match_runner.specs.ties.Playing.{HasPlayed, PlayedGame, logged_side};
 ghost use Rattle.match_runner.specs.Log.{log_seen};
 ghost use Rattle.chess_game.specs.declared.game.TheConstants.{MOST_MOVES};
@@ -190,7 +190,8 @@ fn play_each<'a, T: GamesTable, W: Output, E: Output>(
 ///
 /// The contract says which steps passed at the table, in their order. For each game two engines are started, the plan's
 /// with their sides; it is played; its PGN is written and flushed; and then the engines are waited for. No engine is
-/// started after a game with a fault.
+/// started after a game with a fault. The games in the output, in the log and in the score are just those that were
+/// played at the table.
 ///
 /// # Errors
 /// If an engine can't be started, memory runs out, the output fails, or an engine fails in a game, which is then the
@@ -202,10 +203,10 @@ pub fn play_games_at<'a, T: GamesTable, W: Output, E: Output>(
     log: &mut Log<E>,
 ) -> Result<(), GamesFault<'a>>
     requires { (T.game table.old).limit ≡ MOST_MOVES }
-    ensures ran { RanGames plan.now (W.seen output.old) (W.seen output.new)
+    ensures ran { RanGamesAt plan.now (T.passed table.old) (T.passed table.new)
+        (W.seen output.old) (W.seen output.new)
         (log_seen (E.seen log.old.output) log.old.pending) (log_seen (E.seen log.new.output) log.new.pending)
         result }
-    ensures steps { StepsRan plan.now (T.passed table.old) (T.passed table.new) result }
 {
     let played = play_each(table, plan, output, log)?;
     write_score(played.score, output)?;

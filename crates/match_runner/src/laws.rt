@@ -3,8 +3,8 @@
 ghost use Rattle.match_runner.specs.laws.Entries.{LogsAreEntries, LogsHaveOneReading};
 ghost use Rattle.match_runner.specs.laws.Faults.{OnlyLastGamesHaveFailedWrites};
 
-/// States a law and does nothing: if another game follows a game, no write to its engines failed, also not when they
-/// were sent their end lines.
+/// States a law and does nothing: a game without a fault of an engine leaves the counts of failed writes and flushes of
+/// both engines' inputs as they were, also at its end lines. So only the last game of a match can raise them.
 pub fn only_last_games_have_failed_writes()
     ensures { OnlyLastGamesHaveFailedWrites }
 {}

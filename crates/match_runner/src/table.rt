@@ -25,7 +25,7 @@ pub trait GamesTable {
     ghost use Rattle.chess_match.specs.Run.{Ports};
     ghost use Rattle.match_runner.specs.GamesTable.{GamesStep};
 
-    /// Two running engines. A value of this type can't be dropped: it must be given to `finish`.
+    /// Two running engines. Code that is generic in the table can't drop such a value: it must be given to `finish`.
     type Engines;
 
     /// What contracts see of it: which steps may have passed, in their order.

@@ -5,10 +5,13 @@ use Rattle.std.specs.List.{AllByRecursion, list_all}
 use Rattle.chess_base.specs.Letters.{byte}
 use Rattle.chess_base.specs.declared.man.Colour.{Colour}
 use Rattle.chess_base.specs.Men.{same_colour}
+use Rattle.chess_match.specs.Acts.{Act}
+use Rattle.chess_match.specs.ByDevice.{notes_given}
 use Rattle.chess_match.specs.Events.{Line, Opened, OutputEnds, FailsToRead, FailsToWrite}
 use Rattle.chess_match.specs.Notes.{Note, Happened, Gives}
+use Rattle.chess_match.specs.declared.reason.Reason.{Reason}
 use Rattle.text_lines.specs.Lines.{parts}
-use Rattle.match_runner.specs.Log.{ends_line, log_line, log_text}
+use Rattle.match_runner.specs.Log.{log_line, log_text}
 
 -- a line of a log: its milliseconds, its mark (`<`, `>` or `!`), whether its engine is that of `--white`, and its text
 pub record Entry : Type 0 where
@@ -58,15 +61,10 @@ abbrev pub entries_from : Colour → ℕ → List Note → List Entry
 entries_from first moment [] = []
 entries_from first moment (n ∷ notes) = note_entries first moment n ++ entries_from first (moment_after moment n) notes
 
--- whether the note, if it is of bytes that an engine is sent, has whole lines: the last byte is `\n`
-abbrev pub is_whole : Note → Bool
-is_whole (Gives c bytes) = ends_line true bytes
-is_whole _ = true
-
--- in every log of whole lines: its text is that of its lines
+-- in the log of every match: its text is that of its lines. `H` are the acts of the match, which ended for this reason
 abbrev pub LogsAreEntries : Type 0
-LogsAreEntries = (first : Colour) (notes : List Note) → list_all is_whole notes ≡ true
-    → log_text first notes ≡ entries_text (entries_from first 0 notes)
+LogsAreEntries = (first : Colour) (reason : Reason) (H : List Act)
+    → log_text first (notes_given reason H) ≡ entries_text (entries_from first 0 (notes_given reason H))
 
 -- ---- one reading
 

@@ -1,14 +1,18 @@
 -- Laws of the faults in the games of a match.
-use Rattle.std.specs.Prelude.{◌≡◌, ℕ, List, ◌∷◌, ◌++◌, Option}
+use Rattle.std.specs.Prelude.{◌≡◌, List}
+use Rattle.std.specs.List.{AllByRecursion}
 use Rattle.chess_base.specs.declared.man.Colour.{Colour}
-use Rattle.chess_match.specs.declared.reason.MatchFault.{MatchFault}
 use Rattle.match_runner.specs.declared.plan.GamesPlan.{GamesPlan}
-use Rattle.match_runner.specs.Games.{GameRecord, EndsGames}
+use Rattle.match_runner.specs.Games.{GameRecord, SoundGames}
 
--- in every match: if another game follows a game, then in this game no write and no flush of an engine's input failed,
--- also not in its end lines
+-- after this game the count of failed writes and flushes of each engine's input is as before it; the end lines belong
+-- to the game
+abbrev pub KeepsFailureCounts : GameRecord → Type 0
+KeepsFailureCounts played = (S : Colour)
+    → (played.after.ports.writer S).failure_count ≡ (played.before.ports.writer S).failure_count
+
+-- in every match: each game without a fault of an engine leaves these counts as they were. All games of a match but the
+-- last are such games, whether it was played to its end (`EndsGames`) or broke off (`GamesBrokeOff`)
 abbrev pub OnlyLastGamesHaveFailedWrites : Type 0
-OnlyLastGamesHaveFailedWrites = (plan : GamesPlan) (fault : Option (ℕ × Colour × MatchFault))
-    (before after : List GameRecord) (played next : GameRecord)
-    → EndsGames plan (before ++ played ∷ next ∷ after) fault
-    → (S : Colour) → (played.after.ports.writer S).failure_count ≡ (played.before.ports.writer S).failure_count
+OnlyLastGamesHaveFailedWrites = (plan : GamesPlan) (games : List GameRecord) → SoundGames plan games
+    → AllByRecursion KeepsFailureCounts games

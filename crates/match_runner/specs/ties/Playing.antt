@@ -15,8 +15,8 @@ use Rattle.match_runner.specs.declared.fault.GamesFault.{GamesFault}
 use Rattle.match_runner.specs.declared.fault.GamesFault.TheVariants.{WriteFailed, NoMemory, CanNotStart}
 use Rattle.match_runner.specs.declared.games.GamesPlayed.{GamesPlayed}
 use Rattle.match_runner.specs.declared.score.Score.{Score}
-use Rattle.match_runner.specs.Games.{first_side, GameRecord, IsOfPlan, game_text, IsStartFault, LogsGame, game_texts, LogsGames, score_of, EndsGames, GamesBrokeOff}
-use Rattle.match_runner.specs.GamesTable.{GamesPassing, StepsPass, game_steps, unwritten_steps, unstarted_steps, games_steps, StepsBrokeOff}
+use Rattle.match_runner.specs.Games.{first_side, GameRecord, IsOfPlan, game_text, IsStartFault, LogsGame, game_texts, LogsGames, score_of, EndsGames}
+use Rattle.match_runner.specs.GamesTable.{GamesPassing, StepsPass, game_steps, unwritten_steps, unstarted_steps, games_steps, GamesBrokeOffAt}
 
 -- ---- the score, as it is counted
 
@@ -74,4 +74,4 @@ abbrev pub HasPlayed : GamesPlan → GamesPassing → GamesPassing → OutputSta
 HasPlayed plan p p' w w' l l' (Ok played) =
     (games : List GameRecord) × EndsGames plan games played.fault × (played.score ≡ score_of games)
     × Flushed w w' (game_texts plan games) × LogsGames plan.log l l' games × StepsPass p p' (games_steps plan games)
-HasPlayed plan p p' w w' l l' (Err fault) = GamesBrokeOff plan w w' l l' fault × StepsBrokeOff plan p p' fault
+HasPlayed plan p p' w w' l l' (Err fault) = GamesBrokeOffAt plan p p' w w' l l' fault

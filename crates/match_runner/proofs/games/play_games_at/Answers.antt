@@ -10,7 +10,7 @@ pub returns-in_err-played : goal.returns-in_err-played
 returns-in_err-played g c =
     let e = err_from_is_err_and c.from_residual.result c.from_residual.ensures.1 in
     let h = broken_off c.args.plan.now _ _ _ _ _ _ c.in_err-played.field-0.0 c.in_err-played.ensures in
-    rw (e.1, e.2) (record { ran = h.0; steps = h.1 })
+    rw (e.1, e.2) (record { ran = h })
 
 pub returns-in_err-write_score : goal.returns-in_err-write_score
 returns-in_err-write_score g c =
@@ -18,14 +18,14 @@ returns-in_err-write_score g c =
     in
     let h = score_broken c.args.plan.now _ _ _ _ _ _ _ c.in_ok-played.played c.in_ok-played.ensures
     c.in_err-write_score.ensures in
-    rw (e.1, e.2) (record { ran = h.0; steps = h.1 })
+    rw (e.1, e.2) (record { ran = h })
 
 pub returns-in-None : goal.returns-in-None
 returns-in-None g c =
     let none : c.in_ok-played.played.fault ≡ None = search rules in
     let h = all_written c.args.plan.now _ _ _ _ _ _ _ c.in_ok-played.played c.in_ok-played.ensures
     c.in_ok-write_score.ensures none in
-    record { ran = h.0; steps = h.1 }
+    record { ran = h }
 
 pub returns-in-Some : goal.returns-in-Some
 returns-in-Some g c =
@@ -33,4 +33,4 @@ returns-in-Some g c =
     let h = fault_written c.args.plan.now _ _ _ _ _ _ _ c.in_ok-played.played c.in_ok-played.ensures
     c.in-Some.number c.in-Some.side c.in-Some.fault c.fault_text.result c.fault_text.ensures
     c.in_ok-write_score.ensures is in
-    record { ran = h.0; steps = h.1 }
+    record { ran = h }
