@@ -7,11 +7,12 @@ use Rattle.std.proofs.lemmas.List.Sums.{sum_by_push}
 use Rattle.std.proofs.Math.Path.{ap₂}
 use Rattle.std.proofs.Math.Seq.{take-length, drop-length}
 use Rattle.pgn_pieces.specs.declared.pieces.TheConstants.{PIECE_LEN}
-use Rattle.pgn_pieces.specs.Pieces.{Piece, lines_of, begins_piece, piece_of, cut_lines, cut, piece_at, with_offsets, pieces}
+use Rattle.pgn_pieces.specs.Pieces.{Piece, lines_of, begins_piece, cut, piece_at, with_offsets, pieces}
+use Rattle.pgn_pieces.specs.ties.Cutting.{cut_lines, piece_of}
 use Rattle.pgn_pieces.specs.Places.{ends_line, line_ends, last_line_len}
 use Rattle.pgn_pieces.specs.laws.Places.{IsInPlace, PiecesAreInPlace}
 use Rattle.pgn_pieces.proofs.LineEnds.{count_append}
-use Rattle.pgn_pieces.proofs.CutLines.{lines_on, line_here, concat_more, goes_on, ends_here}
+use Rattle.pgn_pieces.proofs.CutLines.{lines_on, line_here, concat_more, goes_on, ends_here, cut_is}
 
 -- ---- texts one after another
 
@@ -61,7 +62,7 @@ pieces_are_all before (line ∷ lines) =
         ∙ append_assoc (concat before) line (concat lines)
 
 pub cut_is_all : (text : List ℕ) → concat (cut text) ≡ text
-cut_is_all text = pieces_are_all [] (lines_of text) ∙ lines_are_all text
+cut_is_all text = ap concat (cut_is text) ∙ pieces_are_all [] (lines_of text) ∙ lines_are_all text
 
 -- ---- where lines begin
 
@@ -130,7 +131,7 @@ pieces_begin front before (line ∷ lines) h (here, later) =
         (append_assoc front (concat before) line ∙ ap (λ l. front ++ l) (sym (concat_more before line))) later))
 
 cut_begins : (text : List ℕ) → BeginLines [] (cut text)
-cut_begins text = pieces_begin [] [] (lines_of text) refl (with_first [] (lines_of text) refl (lines_begin [] text))
+cut_begins text = subst (BeginLines []) (sym (cut_is text)) (pieces_begin [] [] (lines_of text) refl (with_first [] (lines_of text) refl (lines_begin [] text)))
 
 begin_front : (front : List ℕ) (xs ys : List (List ℕ)) → BeginLines front (xs ++ ys) → BeginLines front xs
 begin_front front [] ys h = tt

@@ -5,14 +5,15 @@ use Rattle.std.specs.List.{list_any, concat}
 use Rattle.std.proofs.lemmas.Bool.{and_parts, and_left}
 use Rattle.std.proofs.lemmas.List.Folds.{list_any-append}
 use Rattle.pgn_pieces.specs.declared.piece_end.Seen.{Seen}
-use Rattle.pgn_pieces.specs.Pieces.{lines_of, is_tag_line, is_event_line, is_moves_line, begins_piece, cut_lines, cut, piece_of}
+use Rattle.pgn_pieces.specs.Pieces.{lines_of, is_tag_line, is_event_line, is_moves_line, begins_piece, cut}
+use Rattle.pgn_pieces.specs.ties.Cutting.{cut_lines, piece_of}
 use Rattle.pgn_pieces.specs.ties.Held.{HasSeen, MayGoOn, IsDecided, SameKind, Ends, Steps, Looks, has_line_end}
 use Rattle.std.proofs.Math.Seq.{take-length, take-add}
 use Rattle.std.proofs.lemmas.List.{take-append-drop}
 use Rattle.std.proofs.lemmas.Grind.{common_steps}
 use Rattle.pgn_pieces.specs.declared.piece_end.Step.TheVariants.{Begins, Waits, Belongs}
 use Rattle.pgn_pieces.proofs.LineKinds.{decided_on, decided_tag, whole}
-use Rattle.pgn_pieces.proofs.CutLines.{whole_line, first_line, concat_more, goes_on, ends_here, begun, last_line, some_bytes}
+use Rattle.pgn_pieces.proofs.CutLines.{whole_line, first_line, concat_more, goes_on, ends_here, begun, last_line, some_bytes, cut_is}
 
 or_false : (b : Bool) → (b || false) ≡ b
 or_false true = refl
@@ -67,7 +68,7 @@ ends_before seen piece h none text some first =
           h.cuts (text ++ rest) ∙ ap (λ xs. cut_lines h.before (lines_of (xs ++ (text ++ rest)))) none
           ∙ ap (cut_lines h.before) f.2 ∙ ends_here h.before f.0 f.1 f.3
           ∙ ap (λ xs. xs ∷ cut_lines (f.0 ∷ []) f.1) (sym is)
-          ∙ ap (λ xs. piece ∷ xs) (sym (ap (cut_lines []) f.2 ∙ begun f.0 f.1)));
+          ∙ ap (λ xs. piece ∷ xs) (sym (cut_is (text ++ rest) ∙ ap (cut_lines []) f.2 ∙ begun f.0 f.1)));
       some = subst (λ xs. 0 < length xs) (sym is) (ended_some h.before (first []).0 (first []).3);
       more = some;
     }

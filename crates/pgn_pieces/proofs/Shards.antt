@@ -1,13 +1,14 @@
 -- A text that is cut in two where a piece begins has the pieces of the one part and then those of the other.
-use Rattle.std.proofs.Common.{◌≡◌, ℕ, eqb, Bool, true, false, List, [], ◌∷◌, ◌++◌, length, take, refl, sym, ap, subst, ◌∙◌}
+use Rattle.std.proofs.Common.{◌≡◌, ℕ, eqb, Bool, true, false, List, [], ◌∷◌, ◌++◌, length, take, refl, sym, ap, ap₂, subst, ◌∙◌}
 use Rattle.std.specs.Prelude.{if◌then◌else◌, ◌&&◌, ◌||◌, nat_lt, codes}
 use Rattle.std.specs.List.{onto_first, concat, list_any, list_all}
 use Rattle.std.specs.Str.{bytes_eq}
 use Rattle.std.proofs.lemmas.Bool.{and_parts, and_left, or_parts, or_left, or_right, eqb-true, not-true}
 use Rattle.std.proofs.lemmas.List.Folds.{list_any-append}
-use Rattle.pgn_pieces.specs.Pieces.{lines_of, front_of, tag_name, after_name, begins_tag, is_empty_front, is_tag_line, is_event_line, is_empty_line, is_moves_line, begins_piece, piece_of, cut_lines, cut}
+use Rattle.pgn_pieces.specs.Pieces.{lines_of, front_of, tag_name, after_name, begins_tag, is_empty_front, is_tag_line, is_event_line, is_empty_line, is_moves_line, begins_piece, cut}
+use Rattle.pgn_pieces.specs.ties.Cutting.{cut_lines, piece_of}
 use Rattle.pgn_pieces.specs.laws.Shards.{ends_in_moves, begins_in_tag, ShardsAreCut}
-use Rattle.pgn_pieces.proofs.CutLines.{lines_on, line_here, some_line, goes_on, ends_here, begun, some_bytes, piece_of_some}
+use Rattle.pgn_pieces.proofs.CutLines.{lines_on, line_here, some_line, goes_on, ends_here, begun, some_bytes, piece_of_some, cut_is}
 
 -- ---- no line is of two kinds
 
@@ -149,9 +150,11 @@ lines_joined (c ∷ cs) rest = by_test (eqb c 10) refl (lines_joined cs rest)
 
 pub shards_are_cut : ShardsAreCut
 shards_are_cut front rest moves tag =
-    ap (cut_lines []) (lines_joined front rest) ∙ by_lines (lines_of rest) tag
+    cut_is ((front ++ 10 ∷ []) ++ rest) ∙ ap (cut_lines []) (lines_joined front rest) ∙ by_lines (lines_of rest) tag
+    ∙ sym (ap₂ (λ xs ys. xs ++ ys) (cut_is (front ++ 10 ∷ [])) (cut_is rest))
   where
     by_lines : (lines : List (List ℕ)) → begins_in_tag lines ≡ true
-        → cut_lines [] (lines_of (front ++ 10 ∷ []) ++ lines) ≡ cut (front ++ 10 ∷ []) ++ cut_lines [] lines
+        → cut_lines [] (lines_of (front ++ 10 ∷ []) ++ lines)
+        ≡ cut_lines [] (lines_of (front ++ 10 ∷ [])) ++ cut_lines [] lines
     by_lines [] h = absurd (cc)
     by_lines (line ∷ lines) h = joins line lines h [] (lines_of (front ++ 10 ∷ [])) moves

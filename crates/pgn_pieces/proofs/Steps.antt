@@ -1,6 +1,7 @@
 -- A call for the next piece: what was looked through, and what it comes to.
 use Rattle.std.proofs.Common.{◌≡◌, ◌≤◌, ◌<◌, ℕ, suc, ◌+◌, ◌-◌, ◌^◌, ◌==◌, nat_lt, Bool, true, false, List, [], ◌∷◌, ◌++◌, length, take, drop, Some, None, Ok, Err, refl, sym, ap, subst, ◌∙◌, append_assoc, append-nil, length-append, arith}
 use Rattle.std.specs.Prelude.{if◌then◌else◌, nat_le, Option}
+use Rattle.std.specs.List.{concat}
 use Rattle.std.proofs.lemmas.Bool.Decides.{nat_tests}
 use Rattle.std.proofs.Math.Path.{ap₂}
 use Rattle.std.proofs.Math.Seq.{take-length, drop-length}
@@ -10,11 +11,13 @@ use Rattle.byte_devices.specs.Devices.{InputState, GavePiece}
 use Rattle.pgn_pieces.specs.declared.piece_end.Seen.{Seen}
 use Rattle.pgn_pieces.specs.declared.pieces.PieceFault.{PieceFault}
 use Rattle.pgn_pieces.specs.declared.pieces.PieceFault.TheVariants.{ReadFailed, NoMemory, InputTooLong}
-use Rattle.pgn_pieces.specs.Pieces.{piece_at, with_offsets, pieces_from, piece_of, cut, HasRead, IsCause}
+use Rattle.pgn_pieces.specs.Pieces.{piece_at, with_offsets, pieces_from, cut, HasRead, IsCause}
 use Rattle.pgn_pieces.specs.Stream.{State, IsStateOf, Next, MayFollow, past_piece, current, pieces_held}
 use Rattle.pgn_pieces.specs.Places.{line_ends}
+use Rattle.pgn_pieces.specs.ties.Cutting.{piece_of}
 use Rattle.pgn_pieces.specs.ties.Held.{HasSeen, Ends, FindsEnd, SameCounts, IsLike, LetGo, Adds, passed, with_more}
-use Rattle.pgn_pieces.proofs.CutLines.{has_piece, piece_of_some}
+use Rattle.pgn_pieces.proofs.CutLines.{piece_of_some}
+use Rattle.pgn_pieces.proofs.InPlace.{cut_is_all}
 use Rattle.pgn_pieces.proofs.shared.Inputs.{read_on, broke_off}
 
 -- ---- what is held of a piece
@@ -67,21 +70,24 @@ told_right offset p q (counts, is) =
 
 -- ---- the pieces of what comes
 
+-- a text with a byte has a piece
+some_pieces : (pieces : List (List ℕ)) (text : List ℕ) → concat pieces ≡ text → 0 < length text → 0 < length pieces
+some_pieces [] text e some = let l = ap length e in omega (arith, l, some)
+some_pieces (piece ∷ pieces) text e some = omega arith
+
 -- all pieces but the last, of a list that goes on after its first
-but_last : {A : Type 0} (x : A) (all : List A) (y : A) (ys : List A) → all ≡ y ∷ ys
+but_last : {A : Type 0} (x : A) (all : List A) → 0 < length all
     → take (length (x ∷ all) - 1) (x ∷ all) ≡ x ∷ take (length all - 1) all
-but_last x all y ys e =
-    let l = ap length e in
-    let n : length (x ∷ all) - 1 ≡ suc (length all - 1) = omega (arith, l) in ap (λ k. take k (x ∷ all)) n
+but_last x all some =
+    let n : length (x ∷ all) - 1 ≡ suc (length all - 1) = omega (arith, some) in ap (λ k. take k (x ∷ all)) n
 
 -- a text whose first piece is known
 first_known : (ended : Bool) (offset : ℕ) (text piece rest : List ℕ) → cut text ≡ piece ∷ cut rest → 0 < length rest
     → pieces_from ended offset text ≡ piece_at offset piece ∷ pieces_from ended (offset + length piece) rest
 first_known true offset text piece rest e some = ap (with_offsets offset) e
 first_known false offset text piece rest e some =
-    let more = has_piece rest some in
     ap (λ all. with_offsets offset (take (length all - 1) all)) e
-    ∙ ap (with_offsets offset) (but_last piece (cut rest) more.0 more.1 more.2)
+    ∙ ap (with_offsets offset) (but_last piece (cut rest) (some_pieces (cut rest) rest (cut_is_all rest) some))
 
 -- a text that is one piece, which may go on
 none_known : (offset : ℕ) (text : List ℕ) → cut text ≡ piece_of text → pieces_from false offset text ≡ []

@@ -2,8 +2,9 @@
 use Rattle.std.proofs.Common.{◌≡◌, ℕ, eqb, Bool, true, false, List, [], ◌∷◌, ◌++◌, refl, sym, ap, subst, ◌∙◌, inl, inr, ◌⊎◌, append_assoc, append-nil}
 use Rattle.std.specs.List.{onto_first, concat}
 use Rattle.std.proofs.lemmas.Bool.{eqb-true}
-use Rattle.pgn_pieces.specs.Pieces.{lines_of, begins_piece, piece_of, cut_lines, cut}
-use Rattle.pgn_pieces.proofs.CutLines.{lines_on, line_here, concat_more, goes_on, ends_here, first_begins}
+use Rattle.pgn_pieces.specs.Pieces.{lines_of, begins_piece, cut}
+use Rattle.pgn_pieces.specs.ties.Cutting.{cut_lines, piece_of}
+use Rattle.pgn_pieces.proofs.CutLines.{lines_on, line_here, concat_more, goes_on, ends_here, first_begins, cut_is}
 
 -- texts of which each but perhaps the last ends with byte 10
 pub data AreLines : List (List ℕ) → Type 0 where
@@ -70,4 +71,4 @@ pieces_end before (next_text front {texts} rest) so =
     by_test false e next on = subst AreLines (sym (goes_on before (front ++ 10 ∷ []) texts e)) on
 
 pub cut_ends : (text : List ℕ) → AreLines (cut text)
-cut_ends text = pieces_end [] (lines_end text) (inl refl)
+cut_ends text = subst AreLines (sym (cut_is text)) (pieces_end [] (lines_end text) (inl refl))
