@@ -20,12 +20,13 @@ parts : (c : ℕ) (cs : List ℕ) → has_line_end (c ∷ cs) ≡ false → (eqb
 parts c cs h = or_parts (eqb c 10) (has_line_end cs) h
 
 -- a text that begins with a whole line
-pub whole_line : (body rest : List ℕ) → has_line_end body ≡ false
-    → lines_of (body ++ 10 ∷ rest) ≡ (body ++ 10 ∷ []) ∷ lines_of rest
-whole_line [] rest h = refl
-whole_line (c ∷ cs) rest h =
+pub whole_line : (body line rest : List ℕ) → line ≡ body ++ 10 ∷ [] → has_line_end body ≡ false
+    → lines_of (line ++ rest) ≡ line ∷ lines_of rest
+whole_line [] line rest is h = ap (λ l. lines_of (l ++ rest)) is ∙ ap (λ l. l ∷ lines_of rest) (sym is)
+whole_line (c ∷ cs) line rest is h =
     let both = parts c cs h in
-    lines_on c (cs ++ 10 ∷ rest) both.0 ∙ ap (onto_first c) (whole_line cs rest both.1)
+    ap (λ l. lines_of (l ++ rest)) is ∙ lines_on c ((cs ++ 10 ∷ []) ++ rest) both.0
+    ∙ ap (onto_first c) (whole_line cs (cs ++ 10 ∷ []) rest refl both.1) ∙ ap (λ l. l ∷ lines_of rest) (sym is)
 
 -- a text without a line's end
 one_line : (line : List ℕ) → has_line_end line ≡ false → lines_of line ≡ piece_of line
@@ -53,12 +54,13 @@ some_line c cs = by_test (eqb c 10) refl
     by_test false e = onto (lines_of cs) (lines_on c cs e)
 
 -- the first line of a text that begins so
-pub first_line : (c : ℕ) (cs rest : List ℕ) → has_line_end (c ∷ cs) ≡ false
-    → (more : List ℕ) × (lines : List (List ℕ)) × (lines_of ((c ∷ cs) ++ rest) ≡ ((c ∷ cs) ++ more) ∷ lines)
-first_line c [] rest h = some_line c rest
-first_line c (d ∷ ds) rest h =
+pub first_line : (line rest : List ℕ) → 0 < length line → has_line_end line ≡ false
+    → (more : List ℕ) × (lines : List (List ℕ)) × (lines_of (line ++ rest) ≡ (line ++ more) ∷ lines)
+first_line [] rest some h = absurd (omega (arith, some))
+first_line (c ∷ []) rest some h = some_line c rest
+first_line (c ∷ d ∷ ds) rest some h =
     let both = parts c (d ∷ ds) h in
-    let w = first_line d ds rest both.1 in
+    let w = first_line (d ∷ ds) rest (omega arith) both.1 in
     (w.0, w.1, lines_on c ((d ∷ ds) ++ rest) both.0 ∙ ap (onto_first c) w.2)
 
 -- ---- pieces

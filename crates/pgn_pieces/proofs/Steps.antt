@@ -6,7 +6,7 @@ use Rattle.std.proofs.lemmas.Bool.Decides.{nat_tests}
 use Rattle.std.proofs.Math.Path.{ap₂}
 use Rattle.std.proofs.Math.Seq.{take-length, drop-length}
 use Rattle.pgn_pieces.proofs.LineEnds.{count_append, take_append}
-use Rattle.std.proofs.lemmas.List.{take-append-drop}
+use Rattle.std.proofs.lemmas.List.{take-append-drop, nil_from_length}
 use Rattle.byte_devices.specs.Devices.{InputState, GavePiece}
 use Rattle.pgn_pieces.specs.declared.piece_end.Seen.{Seen}
 use Rattle.pgn_pieces.specs.declared.pieces.PieceFault.{PieceFault}
@@ -100,10 +100,6 @@ none_known offset text e = ap (λ all. with_offsets offset (take (length all - 1
 last_known : (offset : ℕ) (text : List ℕ) → cut text ≡ piece_of text → 0 < length text
     → pieces_from true offset text ≡ piece_at offset text ∷ []
 last_known offset text e some = ap (with_offsets offset) (e ∙ piece_of_some text some)
-
-no_bytes : (xs : List ℕ) → length xs ≡ 0 → xs ≡ []
-no_bytes [] h = refl
-no_bytes (x ∷ xs) h = absurd (omega (arith, h))
 
 -- ---- what was looked through
 
@@ -322,7 +318,7 @@ module _ (s s1 s2 : State) (seen seen' : Seen) (r1 r2 : InputState) (looked : Lo
           subst (λ b. HasRead b r r2 (text ++ looked.more)) (sym (keeps_by s1 s2 n is).ended ∙ over)
               (looked.stands r text stands).read,
           λ h. (looked.over h).1,
-          ap (pieces_from true (s.offset + length s.part)) (no_bytes all none),
+          ap (pieces_from true (s.offset + length s.part)) (nil_from_length all none),
         )
 
   pub next_last : (s3 : State) (b : Bool) → FindsEnd s1 s2 seen seen' false → s2.ended ≡ true

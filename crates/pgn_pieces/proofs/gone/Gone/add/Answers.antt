@@ -1,9 +1,10 @@
 -- The bytes are kept or counted (Kept.counts_added).
 use Rattle.std.proofs.Common.{◌≡◌, ◌≤◌, ◌+◌, ◌-◌, ◌⊎◌, ◌++◌, length, take, drop, sym, ap, subst, inl, inr, ◌∙◌, arith}
 use Rattle.std.proofs.lemmas.Bool.{cases_lt}
+use Rattle.std.proofs.lemmas.List.{take_rest}
 use Rattle.pgn_pieces.specs.Places.{line_ends}
 use Rattle.pgn_pieces.specs.ties.Held.{SameCounts}
-use Rattle.pgn_pieces.proofs.Kept.{known, counts_added, rest_is}
+use Rattle.pgn_pieces.proofs.Kept.{known, counts_added}
 use Rattle.pgn_pieces.proofs.gone.Gone.add.Goals as goal
 
 pub returns : goal.returns
@@ -21,7 +22,7 @@ returns c =
       | inl lt ↦ inl (omega (arith, here, len, lt))
       | inr ge ↦ inr (omega (arith, here, len, ge, few))
     ] in
-    let rest = rest_is k bytes in
+    let rest = take_rest bytes k in
     let ends : c.line_ends-ends.result ≡ line_ends (drop k bytes) = c.line_ends-ends.ensures.value ∙ ap line_ends rest in
     subst (λ xs. SameCounts (xs ++ bytes) (known c.append.new.buffer.items (s.line_ends + c.line_ends-ends.result)
     (s.plain + (length (take (length bytes - k) (drop k bytes)) - c.line_ends-ends.result)))) c.self.view_is

@@ -10,8 +10,6 @@ returns c = record {
   all = refl;
   plain = refl;
   cuts = cut_is;
-  belongs = refl;
+  are = record { belongs = refl; moves = refl; event = refl };
   inside = refl;
-  moves = refl;
-  event = refl;
 }
