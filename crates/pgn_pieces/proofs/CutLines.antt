@@ -13,9 +13,6 @@ use Rattle.pgn_pieces.specs.ties.Held.{has_line_end}
 pub lines_on : (c : ℕ) (cs : List ℕ) → eqb c 10 ≡ false → lines_of (c ∷ cs) ≡ onto_first c (lines_of cs)
 lines_on c cs h = ap (λ b. if b then (c ∷ []) ∷ lines_of cs else onto_first c (lines_of cs)) h
 
-pub line_here : (c : ℕ) (cs : List ℕ) → eqb c 10 ≡ true → lines_of (c ∷ cs) ≡ (c ∷ []) ∷ lines_of cs
-line_here c cs h = ap (λ b. if b then (c ∷ []) ∷ lines_of cs else onto_first c (lines_of cs)) h
-
 parts : (c : ℕ) (cs : List ℕ) → has_line_end (c ∷ cs) ≡ false → (eqb c 10 ≡ false) × (has_line_end cs ≡ false)
 parts c cs h = or_parts (eqb c 10) (has_line_end cs) h
 
@@ -41,17 +38,13 @@ one_line (c ∷ cs) h =
 -- a text with a byte has a line with that byte
 pub some_line : (c : ℕ) (cs : List ℕ)
     → (more : List ℕ) × (lines : List (List ℕ)) × (lines_of (c ∷ cs) ≡ (c ∷ more) ∷ lines)
-some_line c cs = by_test (eqb c 10) refl
+some_line c cs = by_test (eqb c 10) (lines_of cs)
   where
-    onto : (all : List (List ℕ)) → lines_of (c ∷ cs) ≡ onto_first c all
-        → (more : List ℕ) × (lines : List (List ℕ)) × (lines_of (c ∷ cs) ≡ (c ∷ more) ∷ lines)
-    onto [] e = ([], [], e)
-    onto (line ∷ lines) e = (line, lines, e)
-
-    by_test : (b : Bool) → eqb c 10 ≡ b
-        → (more : List ℕ) × (lines : List (List ℕ)) × (lines_of (c ∷ cs) ≡ (c ∷ more) ∷ lines)
-    by_test true e = ([], lines_of cs, line_here c cs e)
-    by_test false e = onto (lines_of cs) (lines_on c cs e)
+    by_test : (b : Bool) (all : List (List ℕ)) → (more : List ℕ) × (lines : List (List ℕ))
+        × ((if b then (c ∷ []) ∷ all else onto_first c all) ≡ (c ∷ more) ∷ lines)
+    by_test true all = ([], all, refl)
+    by_test false [] = ([], [], refl)
+    by_test false (line ∷ lines) = (line, lines, refl)
 
 -- the first line of a text that begins so
 pub first_line : (line rest : List ℕ) → 0 < length line → has_line_end line ≡ false
@@ -125,36 +118,30 @@ cut_on [] back last before e some =
     ap texts e ∙ reverse-append (concat last ∷ []) (map concat before)
     ∙ ap (λ ps. texts before ++ ps) (sym (piece_of_some (concat last) some))
 cut_on (line ∷ lines) back last before e some =
-    by_test (begins_piece last line) refl (cut_on lines (line ∷ back) (line ∷ []) (last ∷ before))
-    (cut_on lines (line ∷ back) (last ++ line ∷ []) before)
+    ap (λ ls. texts (pieces_back (ls ++ back))) (reverse-append (line ∷ []) lines)
+    ∙ ap (λ ls. texts (pieces_back ls)) (append_assoc (reverse lines) (line ∷ []) back)
+    ∙ by_test (begins_piece last line) refl (ap (with_line line) e)
+    (cut_on lines (line ∷ back) (line ∷ []) (last ∷ before)) (cut_on lines (line ∷ back) (last ++ line ∷ []) before)
   where
-    moved : texts (pieces_back (reverse (line ∷ lines) ++ back)) ≡ texts (pieces_back (reverse lines ++ line ∷ back))
-    moved =
-        ap (λ ls. texts (pieces_back ls))
-        (ap (λ ls. ls ++ back) (reverse-append (line ∷ []) lines) ∙ append_assoc (reverse lines) (line ∷ []) back)
-
-    next : (b : Bool) → begins_piece last line ≡ b
-        → pieces_back (line ∷ back) ≡ (if b then (line ∷ []) ∷ last ∷ before else (last ++ line ∷ []) ∷ before)
-    next b t =
-        ap (with_line line) e ∙ ap (λ b. if b then (line ∷ []) ∷ last ∷ before else (last ++ line ∷ []) ∷ before) t
+    all : List (List ℕ)
+    all = texts (pieces_back (reverse lines ++ line ∷ back))
 
     by_test : (b : Bool) → begins_piece last line ≡ b
+        → pieces_back (line ∷ back) ≡ (if b then (line ∷ []) ∷ last ∷ before else (last ++ line ∷ []) ∷ before)
         → (pieces_back (line ∷ back) ≡ (line ∷ []) ∷ last ∷ before → 0 < length (concat (line ∷ []))
-        → texts (pieces_back (reverse lines ++ line ∷ back)) ≡ texts (last ∷ before) ++ cut_lines (line ∷ []) lines)
+        → all ≡ texts (last ∷ before) ++ cut_lines (line ∷ []) lines)
         → (pieces_back (line ∷ back) ≡ (last ++ line ∷ []) ∷ before → 0 < length (concat (last ++ line ∷ []))
-        → texts (pieces_back (reverse lines ++ line ∷ back)) ≡ texts before ++ cut_lines (last ++ line ∷ []) lines)
-        → texts (pieces_back (reverse (line ∷ lines) ++ back)) ≡ texts before ++ cut_lines last (line ∷ lines)
-    by_test true t new on =
-        moved ∙ new (next true t) (tag_some line
+        → all ≡ texts before ++ cut_lines (last ++ line ∷ []) lines)
+        → all ≡ texts before
+        ++ (if b then concat last ∷ cut_lines (line ∷ []) lines else cut_lines (last ++ line ∷ []) lines)
+    by_test true t is new on =
+        new is (tag_some line
         (and_parts (is_tag_line line) (list_any is_moves_line last || (is_event_line line && list_any is_event_line last)) t).0)
         ∙ ap (λ ps. ps ++ cut_lines (line ∷ []) lines) (reverse-append (concat last ∷ []) (map concat before))
         ∙ append_assoc (texts before) (concat last ∷ []) (cut_lines (line ∷ []) lines)
-        ∙ ap (λ ps. texts before ++ ps) (sym (ends_here last line lines t))
-    by_test false t new on =
+    by_test false t is new on =
         let bytes = ap length (concat_more last line) in
-        let all = length-append (concat last) line in
-        moved ∙ on (next false t) (omega (arith, bytes, all, some))
-        ∙ ap (λ ps. texts before ++ ps) (sym (goes_on last line lines t))
+        let l = length-append (concat last) line in on is (omega (arith, bytes, l, some))
 
 -- a text is cut from its first line on
 pub cut_is : (text : List ℕ) → cut text ≡ cut_lines [] (lines_of text)

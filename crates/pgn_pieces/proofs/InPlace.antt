@@ -1,5 +1,5 @@
 -- Each piece of a text is in its place.
-use Rattle.std.proofs.Common.{◌≡◌, ℕ, ◌+◌, ◌-◌, eqb, Bool, true, false, List, [], ◌∷◌, ◌++◌, length, take, drop, Some, None, refl, sym, ap, subst, ◌∙◌, append_assoc, append-nil, length-append, arith}
+use Rattle.std.proofs.Common.{◌≡◌, ℕ, ◌+◌, ◌-◌, Bool, true, false, List, [], ◌∷◌, ◌++◌, length, take, drop, Some, None, refl, sym, ap, subst, ◌∙◌, append_assoc, append-nil, length-append, arith}
 use Rattle.std.specs.Prelude.{if◌then◌else◌, nat_le, not}
 use Rattle.std.specs.List.{onto_first, concat, sum_by, prefix_len}
 use Rattle.std.proofs.lemmas.List.{take-append-drop, reverse-append}
@@ -8,7 +8,7 @@ use Rattle.std.proofs.Math.Path.{ap₂}
 use Rattle.std.proofs.Math.Seq.{take-append_seam, drop-append_seam}
 use Rattle.std.proofs.lemmas.List.Folds.{concat-append}
 use Rattle.pgn_pieces.specs.declared.pieces.TheConstants.{PIECE_LEN}
-use Rattle.pgn_pieces.specs.Pieces.{Piece, lines_of, begins_piece, cut, piece_at, with_offsets, pieces}
+use Rattle.pgn_pieces.specs.Pieces.{Piece, lines_of, cut, piece_at, with_offsets, pieces}
 use Rattle.pgn_pieces.specs.ties.Cutting.{cut_lines, piece_of}
 use Rattle.pgn_pieces.specs.Places.{ends_line, line_ends, last_line_len}
 use Rattle.pgn_pieces.specs.laws.Places.{IsInPlace, PiecesAreInPlace}

@@ -1,6 +1,6 @@
 -- The kind of a line that may go on.
 use Rattle.std.proofs.Common.{◌≡◌, ◌≤◌, ◌<◌, ℕ, zero, suc, ◌+◌, eqb, leb, Bool, true, false, List, [], ◌∷◌, ◌++◌, length, take, drop, cond, refl, sym, ap, ◌∙◌, length-drop, append_assoc, arith}
-use Rattle.std.specs.Prelude.{if◌then◌else◌, ◌&&◌, ◌||◌, not, nat_lt, codes}
+use Rattle.std.specs.Prelude.{◌&&◌, ◌||◌, not, nat_lt, codes}
 use Rattle.std.specs.List.{prefix_len, take_while}
 use Rattle.std.specs.Str.{bytes_eq}
 use Rattle.std.proofs.lemmas.Bool.{and_parts, leb-true}

@@ -1,14 +1,14 @@
 -- A text that is cut in two where a piece begins has the pieces of the one part and then those of the other.
-use Rattle.std.proofs.Common.{◌≡◌, ℕ, eqb, Bool, true, false, List, [], ◌∷◌, ◌++◌, length, take, refl, sym, ap, ap₂, subst, ◌∙◌, arith}
+use Rattle.std.proofs.Common.{◌≡◌, ℕ, eqb, Bool, true, false, List, [], ◌∷◌, ◌++◌, length, take, refl, sym, ap, ap₂, ◌∙◌, arith}
 use Rattle.std.specs.Prelude.{if◌then◌else◌, ◌&&◌, ◌||◌, nat_lt, codes}
 use Rattle.std.specs.List.{onto_first, concat, list_any, list_all}
 use Rattle.std.specs.Str.{bytes_eq}
-use Rattle.std.proofs.lemmas.Bool.{and_parts, and_left, or_parts, or_left, or_right, eqb-true, not-true}
+use Rattle.std.proofs.lemmas.Bool.{and_left, or_left, eqb-true}
 use Rattle.std.proofs.lemmas.List.Folds.{list_any-append}
-use Rattle.pgn_pieces.specs.Pieces.{lines_of, front_of, tag_name, after_name, begins_tag, is_empty_front, is_tag_line, is_event_line, is_empty_line, is_moves_line, begins_piece, cut}
+use Rattle.pgn_pieces.specs.Pieces.{lines_of, front_of, tag_name, after_name, begins_tag, is_empty_front, is_tag_line, is_event_line, is_empty_line, is_moves_line, begins_piece}
 use Rattle.pgn_pieces.specs.ties.Cutting.{cut_lines, piece_of}
 use Rattle.pgn_pieces.specs.laws.Shards.{ends_in_moves, begins_in_tag, ShardsAreCut}
-use Rattle.pgn_pieces.proofs.CutLines.{lines_on, line_here, some_line, goes_on, ends_here, begun, some_bytes, piece_of_some, cut_is}
+use Rattle.pgn_pieces.proofs.CutLines.{some_line, ends_here, begun, some_bytes, piece_of_some, cut_is}
 
 -- ---- no line is of two kinds
 

@@ -1,6 +1,6 @@
 -- A call for the next piece: what was looked through, and what it comes to.
 use Rattle.std.proofs.Common.{◌≡◌, ◌≤◌, ◌<◌, ℕ, suc, ◌+◌, ◌-◌, ◌^◌, ◌==◌, nat_lt, Bool, true, false, List, [], ◌∷◌, ◌++◌, length, take, drop, Some, None, Ok, Err, refl, sym, ap, subst, ◌∙◌, append_assoc, append-nil, length-append, arith}
-use Rattle.std.specs.Prelude.{if◌then◌else◌, nat_le, Option}
+use Rattle.std.specs.Prelude.{if◌then◌else◌, nat_le}
 use Rattle.std.specs.List.{concat}
 use Rattle.std.proofs.lemmas.Bool.Decides.{nat_tests}
 use Rattle.std.proofs.Math.Path.{ap₂}
@@ -52,21 +52,23 @@ like_on p q r (counts, is) (counts', is') =
 
 -- the piece that is returned is the one with these bytes
 told_right : (offset : ℕ) (p q : List ℕ) → IsLike p q → piece_at offset p ≡ piece_at offset q
-told_right offset p q (counts, is) =
-    ap₂ (λ xs n. record { offset = offset; beginning = xs; line_ends = n; bytes = bytes_of p }) (sym counts.beginning)
-    (sym counts.line_ends)
-    ∙ ap (λ b. record { offset = offset; beginning = take 40 q; line_ends = line_ends q; bytes = b })
-    (by_test (nat_le (length p) 16777216) refl)
+told_right offset p q (counts, is) = by_test (nat_le (length p) 16777216) refl
   where
-    bytes_of : List ℕ → Option (List ℕ)
-    bytes_of xs = if nat_le (length xs) 16777216 then Some xs else None
+    too_long : (xs : List ℕ) → nat_le (length xs) 16777216 ≡ false → piece_at offset xs
+        ≡ record { offset = offset; beginning = take 40 xs; line_ends = line_ends xs; bytes = None }
+    too_long xs e = ap (λ b. record {
+      offset = offset;
+      beginning = take 40 xs;
+      line_ends = line_ends xs;
+      bytes = if b then Some xs else None;
+    }) e
 
-    by_test : (b : Bool) → nat_le (length p) 16777216 ≡ b → bytes_of p ≡ bytes_of q
-    by_test true e = ap bytes_of (sym (is (grind (arith, nat_tests, e))))
+    by_test : (b : Bool) → nat_le (length p) 16777216 ≡ b → piece_at offset p ≡ piece_at offset q
+    by_test true e = ap (piece_at offset) (sym (is (grind (arith, nat_tests, e))))
     by_test false e =
-        ap (λ b. if b then Some p else None) e
-        ∙ sym (ap (λ n. if nat_le n 16777216 then Some q else None) counts.len
-        ∙ ap (λ b. if b then Some q else None) e)
+        too_long p e
+        ∙ ap₂ (λ xs n. record { offset = offset; beginning = xs; line_ends = n; bytes = None }) (sym counts.beginning)
+        (sym counts.line_ends) ∙ sym (too_long q (ap (λ n. nat_le n 16777216) counts.len ∙ e))
 
 -- ---- the pieces of what comes
 
@@ -147,15 +149,12 @@ stands_on s s' r r' text stands kept =
       all = omega (arith, all, k, p);
     }
 
-keeps_passed : (n : ℕ) (s : State) → Keeps s (passed n s)
-keeps_passed n s =
+keeps_by : (s s' : State) (n : ℕ) → s' ≡ passed n s → Keeps s s'
+keeps_by s s' n is =
     let front = length-append s.part (take n s.coming) in
     let all = length-append (take n s.coming) (drop n s.coming) in
     let same = ap length (take-append-drop n s.coming) in
-    record { offset = refl; ended = refl; all = omega (arith, front, all, same) }
-
-keeps_by : (s s' : State) (n : ℕ) → s' ≡ passed n s → Keeps s s'
-keeps_by s s' n is = subst (Keeps s) (sym is) (keeps_passed n s)
+    subst (Keeps s) (sym is) (record { offset = refl; ended = refl; all = omega (arith, front, all, same) })
 
 keeps_let_go : (s s' s'' : State) → Keeps s s' → LetGo s' s'' → Keeps s s''
 keeps_let_go s s' s'' kept gone =
@@ -259,8 +258,7 @@ module _ (s s1 s2 : State) (seen seen' : Seen) (r1 r2 : InputState) (looked : Lo
       let l = (like_to n is).0.len in omega (arith, some, l)
 
   pub kept_on : (b : Bool) → FindsEnd s1 s2 seen seen' b → (s2.offset ≡ s.offset + length s.part) × (s2.ended ≡ s1.ended)
-  kept_on true (n, is, found) = let kept = keeps_by s1 s2 n is in (kept.offset ∙ looked.begins, kept.ended)
-  kept_on false (n, is, found) = let kept = keeps_by s1 s2 n is in (kept.offset ∙ looked.begins, kept.ended)
+  kept_on b (n, is, found) = let kept = keeps_by s1 s2 n is in (kept.offset ∙ looked.begins, kept.ended)
 
   -- at the input's end
   module _ (s3 : State) (n : ℕ) (is : s2 ≡ passed n s1) (is' : s3 ≡ passed (length s2.coming) s2) where

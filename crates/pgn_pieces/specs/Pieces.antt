@@ -12,7 +12,7 @@ use Rattle.pgn_pieces.specs.declared.pieces.TheConstants.{PIECE_LEN}
 
 -- ---- the lines of a text
 
--- the lines of a text, with their ends: each up to and with its `\n`, the last one perhaps without
+-- the lines of a text, each with the `\n` that ends it; the last one may have none
 abbrev pub lines_of : List ℕ → List (List ℕ)
 lines_of [] = []
 lines_of (c ∷ cs) = if c == 10 then (c ∷ []) ∷ lines_of cs else onto_first c (lines_of cs)
