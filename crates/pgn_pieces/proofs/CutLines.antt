@@ -136,7 +136,8 @@ cut_on (line ∷ lines) back last before e some =
         ++ (if b then concat last ∷ cut_lines (line ∷ []) lines else cut_lines (last ++ line ∷ []) lines)
     by_test true t is new on =
         new is (tag_some line
-        (and_parts (is_tag_line line) (list_any is_moves_line last || (is_event_line line && list_any is_event_line last)) t).0)
+        (and_parts (is_tag_line line)
+        (list_any is_moves_line last || (is_event_line line && list_any is_event_line last)) t).0)
         ∙ ap (λ ps. ps ++ cut_lines (line ∷ []) lines) (reverse-append (concat last ∷ []) (map concat before))
         ∙ append_assoc (texts before) (concat last ∷ []) (cut_lines (line ∷ []) lines)
     by_test false t is new on =

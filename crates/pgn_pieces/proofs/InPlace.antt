@@ -57,7 +57,8 @@ after_end front line =
     ∙ ap (prefix_len (λ d. not (ends_line d))) (reverse-append (front ++ line) (10 ∷ []))
 
 -- texts of which each but perhaps the last ends with a line begin so
-lines_begin : (front : List ℕ) {texts : List (List ℕ)} → last_line_len front ≡ 0 → AreLines texts → BeginLines front texts
+lines_begin : (front : List ℕ) {texts : List (List ℕ)} → last_line_len front ≡ 0 → AreLines texts
+    → BeginLines front texts
 lines_begin front h no_texts = tt
 lines_begin front h (last_text text) = (h, tt)
 lines_begin front h (next_text line rest) = (h, lines_begin (front ++ (line ++ 10 ∷ [])) (after_end front line) rest)

@@ -73,7 +73,8 @@ module _ (first bytes : List ℕ) (ends plain k : ℕ) (few : length first ≤ 4
       by_cases (inl e) =
           let l = length_kept in
           let n = none (omega (arith, l, short)) in
-          let rest : drop k bytes ≡ [] = nil_from_length (drop k bytes) (let d = length-drop k bytes in omega (arith, d, e)) in
+          let d = length-drop k bytes in
+          let rest : drop k bytes ≡ [] = nil_from_length (drop k bytes) (omega (arith, d, e)) in
           let m : more ≡ 0 = ap line_ends rest in
           let o : length (drop k bytes) ≡ 0 = ap length rest in omega (arith, n, m, o)
       by_cases (inr e) = let l = length_kept in absurd (omega (arith, l, short, e))

@@ -28,10 +28,12 @@ same_begin before a b h =
 -- a piece that ends has bytes
 ended_some : (before : List (List ℕ)) (line : List ℕ) → begins_piece before line ≡ true → 0 < length (concat before)
 ended_some before line h =
-    let so = (and_parts (is_tag_line line) (list_any is_moves_line before || (is_event_line line && list_any is_event_line before)) h).1 in
+    let so = (and_parts (is_tag_line line)
+    (list_any is_moves_line before || (is_event_line line && list_any is_event_line before)) h).1 in
     elim (or_cases (list_any is_moves_line before) (is_event_line line && list_any is_event_line before) so) [
       | inl moves ↦ some_bytes is_moves_line refl before moves
-      | inr event ↦ some_bytes is_event_line refl before (and_parts (is_event_line line) (list_any is_event_line before) event).1
+      | inr event ↦
+          some_bytes is_event_line refl before (and_parts (is_event_line line) (list_any is_event_line before) event).1
     ]
 
 -- ---- pieces of whole lines
@@ -86,8 +88,10 @@ ends_before seen piece k text some first = record {
 
 -- ---- lines that come to a piece
 
-no_end : (line text : List ℕ) → has_line_end line ≡ false → has_line_end text ≡ false → has_line_end (line ++ text) ≡ false
-no_end line text plain plain' = list_any-append (λ c. c == 10) line text ∙ ap (λ b. b || has_line_end text) plain ∙ plain'
+no_end : (line text : List ℕ) → has_line_end line ≡ false → has_line_end text ≡ false
+    → has_line_end (line ++ text) ≡ false
+no_end line text plain plain' =
+    list_any-append (λ c. c == 10) line text ∙ ap (λ b. b || has_line_end text) plain ∙ plain'
 
 -- a line's rest, with its end
 add_whole : (seen seen' : Seen) (piece : List ℕ) (h : HasSeen seen piece) (body line : List ℕ)
@@ -108,7 +112,8 @@ add_whole seen seen' piece h body line is plain out are =
       event = are.event ∙ one_more is_event_line whole;
     }) out
   where
-    one_more : (p : List ℕ → Bool) (line : List ℕ) → (list_any p h.before || p line) ≡ list_any p (h.before ++ line ∷ [])
+    one_more : (p : List ℕ → Bool) (line : List ℕ)
+        → (list_any p h.before || p line) ≡ list_any p (h.before ++ line ∷ [])
     one_more p line =
         ap (λ b. list_any p h.before || b) (sym (or_false (p line))) ∙ sym (list_any-append p h.before (line ∷ []))
 
@@ -116,16 +121,17 @@ add_whole seen seen' piece h body line is plain out are =
 add_open : (seen seen' : Seen) (piece : List ℕ) (h : HasSeen seen piece) (text : List ℕ) → has_line_end text ≡ false
     → IsDecided (h.line ++ text) → seen'.inside ≡ true → AreSeen seen' h.before (h.line ++ text)
     → HasSeen seen' (piece ++ take (length text) text)
-add_open seen seen' piece h text plain told inside are = subst (λ xs. HasSeen seen' (piece ++ xs)) (sym (take-length text)) (record {
-  before = h.before;
-  line = h.line ++ text;
-  all = ap (λ xs. xs ++ text) h.all ∙ append_assoc (concat h.before) h.line text;
-  plain = no_end h.line text h.plain plain;
-  cuts = λ rest. ap cut (append_assoc piece text rest) ∙ h.cuts (text ++ rest)
-      ∙ ap (λ xs. cut_lines h.before (lines_of xs)) (sym (append_assoc h.line text rest));
-  are = are;
-  inside = subst (λ b. MayGoOn b (h.line ++ text)) (sym inside) told;
-})
+add_open seen seen' piece h text plain told inside are =
+    subst (λ xs. HasSeen seen' (piece ++ xs)) (sym (take-length text)) (record {
+      before = h.before;
+      line = h.line ++ text;
+      all = ap (λ xs. xs ++ text) h.all ∙ append_assoc (concat h.before) h.line text;
+      plain = no_end h.line text h.plain plain;
+      cuts = λ rest. ap cut (append_assoc piece text rest) ∙ h.cuts (text ++ rest)
+          ∙ ap (λ xs. cut_lines h.before (lines_of xs)) (sym (append_assoc h.line text rest));
+      are = are;
+      inside = subst (λ b. MayGoOn b (h.line ++ text)) (sym inside) told;
+    })
 
 -- the text so far is one piece
 one_piece : (seen : Seen) (piece : List ℕ) (h : HasSeen seen piece) (text : List ℕ) → has_line_end text ≡ false
@@ -180,7 +186,8 @@ module _ (seen : Seen) (out : seen.inside ≡ false) (kind : Kind) (line : List 
       ∙ ap (λ b. is_tag_line line && (list_any is_moves_line so.before || (is_event_line line && b))) so.event
 
   pub whole_ends : (body : List ℕ) → line ≡ body ++ 10 ∷ [] → has_line_end body ≡ false
-      → (kind.is_tag && (seen.moves || (kind.is_event && seen.event))) ≡ true → (more : List ℕ) → Ends piece (line ++ more)
+      → (kind.is_tag && (seen.moves || (kind.is_event && seen.event))) ≡ true
+      → (more : List ℕ) → Ends piece (line ++ more)
   whole_ends body is plain begins more =
       let l = length-append line more in
       let n = length-append body (10 ∷ []) in
@@ -211,7 +218,8 @@ module _ (seen : Seen) (out : seen.inside ≡ false) (kind : Kind) (line : List 
   open_waits plain not_tag =
       one_piece seen piece (has_seen seen piece so out) line plain
       (and_left (is_tag_line line)
-      (list_any is_moves_line so.before || (is_event_line line && list_any is_event_line so.before)) (sym tag ∙ not_tag))
+      (list_any is_moves_line so.before || (is_event_line line && list_any is_event_line so.before))
+      (sym tag ∙ not_tag))
 
   module _ (seen' : Seen) (moves : kind.is_moves ≡ is_moves_line line)
       (belongs : (kind.is_tag && (seen.moves || (kind.is_event && seen.event))) ≡ false)
@@ -227,12 +235,14 @@ module _ (seen : Seen) (out : seen.inside ≡ false) (kind : Kind) (line : List 
     pub whole_comes : (body : List ℕ) → line ≡ body ++ 10 ∷ [] → has_line_end body ≡ false → seen'.inside ≡ false
         → HasSeen seen' (piece ++ line)
     unfolding has_seen so
-    whole_comes body is plain out' = add_whole seen seen' piece (has_seen seen piece so out) body line is plain out' came
+    whole_comes body is plain out' =
+        add_whole seen seen' piece (has_seen seen piece so out) body line is plain out' came
 
     pub open_comes : has_line_end line ≡ false → IsDecided line → seen'.inside ≡ true
         → HasSeen seen' (piece ++ take (length line) line)
     unfolding has_seen so
-    open_comes plain decided inside = add_open seen seen' piece (has_seen seen piece so out) line plain decided inside came
+    open_comes plain decided inside =
+        add_open seen seen' piece (has_seen seen piece so out) line plain decided inside came
 
 -- ---- lines in a text
 

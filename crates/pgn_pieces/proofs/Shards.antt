@@ -20,7 +20,8 @@ front_kind (c ∷ cs) h = by_test (eqb c 91) refl
     by_test true e =
         let no : is_empty_front (c ∷ cs) ≡ false = ap (λ d. is_empty_front (d ∷ cs)) (eqb-true c 91 e) in absurd (cc)
     by_test false e =
-        ap (λ b. (b && true && nat_lt 0 (length (tag_name (c ∷ cs)))) && bytes_eq (take 1 (after_name (c ∷ cs))) (codes "\"")) e
+        ap (λ b. (b && true && nat_lt 0 (length (tag_name (c ∷ cs))))
+        && bytes_eq (take 1 (after_name (c ∷ cs))) (codes "\"")) e
 
 stays : (before : List (List ℕ)) (line : List ℕ) → is_empty_line line ≡ true → begins_piece before line ≡ false
 stays before line h =
@@ -34,7 +35,8 @@ abbrev moves_last : List (List ℕ) → List (List ℕ) → Bool
 moves_last before lines = (list_any is_moves_line before && list_all is_empty_line lines) || ends_in_moves lines
 
 -- so it is after one line more (moves m, empty e), if all others are empty (es) or have such a line (en)
-last_on : (m e es en k : Bool) → ((k && (e && es)) || (if es then m else en)) ≡ true → (((k || (m || false)) && es) || en) ≡ true
+last_on : (m e es en k : Bool) → ((k && (e && es)) || (if es then m else en)) ≡ true
+    → (((k || (m || false)) && es) || en) ≡ true
 last_on m e es en k h = grind (arith, h)
 
 last_new : (m e es en k : Bool) → ((k && (e && es)) || (if es then m else en)) ≡ true → e ≡ false
@@ -76,14 +78,16 @@ module _ (tag_line : List ℕ) (others : List (List ℕ)) (tag : is_tag_line tag
           ≡ (if b then concat before ∷ cut_lines (line ∷ []) lines else cut_lines (before ++ line ∷ []) lines)
           ++ cut_lines [] later
       by_test true e new on =
-          ap (λ ps. concat before ∷ ps) (new (last_new (is_moves_line line) (is_empty_line line) (list_all is_empty_line lines)
-          (ends_in_moves lines) (list_any is_moves_line before) h (no_empty (is_empty_line line) refl)))
+          ap (λ ps. concat before ∷ ps)
+          (new (last_new (is_moves_line line) (is_empty_line line) (list_all is_empty_line lines) (ends_in_moves lines)
+          (list_any is_moves_line before) h (no_empty (is_empty_line line) refl)))
         where
           no_empty : (b : Bool) → is_empty_line line ≡ b → b ≡ false
           no_empty true is = let no = stays before line is in absurd (cc)
           no_empty false is = refl
       by_test false e new on =
-          on (ap (λ b. (b && list_all is_empty_line lines) || ends_in_moves lines) (list_any-append is_moves_line before (line ∷ []))
+          on (ap (λ b. (b && list_all is_empty_line lines) || ends_in_moves lines)
+          (list_any-append is_moves_line before (line ∷ []))
           ∙ last_on (is_moves_line line) (is_empty_line line) (list_all is_empty_line lines) (ends_in_moves lines)
           (list_any is_moves_line before) h)
 
@@ -100,7 +104,8 @@ lines_joined (c ∷ cs) rest = by_test (eqb c 10) (lines_joined cs rest) (has_li
 
     by_test : (b : Bool) → lines_of ((cs ++ 10 ∷ []) ++ rest) ≡ lines_of (cs ++ 10 ∷ []) ++ lines_of rest
         → (line : List ℕ) × (lines : List (List ℕ)) × (lines_of (cs ++ 10 ∷ []) ≡ line ∷ lines)
-        → (if b then (c ∷ []) ∷ lines_of ((cs ++ 10 ∷ []) ++ rest) else onto_first c (lines_of ((cs ++ 10 ∷ []) ++ rest)))
+        → (if b then (c ∷ []) ∷ lines_of ((cs ++ 10 ∷ []) ++ rest)
+        else onto_first c (lines_of ((cs ++ 10 ∷ []) ++ rest)))
         ≡ (if b then (c ∷ []) ∷ lines_of (cs ++ 10 ∷ []) else onto_first c (lines_of (cs ++ 10 ∷ []))) ++ lines_of rest
     by_test true on some = ap (λ xs. (c ∷ []) ∷ xs) on
     by_test false on (line, lines, is) =

@@ -44,7 +44,8 @@ line_on before lines line so new on = by_test (begins_piece before line) refl so
         → AreLines (if b then concat before ∷ cut_lines (line ∷ []) lines else cut_lines (before ++ line ∷ []) lines)
     by_test true e (inl none) =
         let no : true ≡ false = sym e ∙ ap (λ l. begins_piece l line) none ∙ first_begins line in absurd (cc)
-    by_test true e (inr (front, is)) = subst (λ l. AreLines (l ∷ cut_lines (line ∷ []) lines)) (sym is) (next_text front new)
+    by_test true e (inr (front, is)) =
+        subst (λ l. AreLines (l ∷ cut_lines (line ∷ []) lines)) (sym is) (next_text front new)
     by_test false e so = on
 
 pieces_end : (before : List (List ℕ)) {lines : List (List ℕ)} → AreLines lines → EndSo before

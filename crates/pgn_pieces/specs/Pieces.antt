@@ -75,8 +75,8 @@ is_moves_line line = not (is_tag_line line || is_empty_line line)
 
 -- ---- the pieces of a text
 
--- whether a line begins a new piece, where `piece` are the lines of the last piece before it: a tag line does, if a line
--- of moves is among these; and an Event line does, if an Event line is among these
+-- whether a line begins a new piece, where `piece` are the lines of the last piece before it: a tag line does, if a
+-- line of moves is among these; and an Event line does, if an Event line is among these
 abbrev pub begins_piece : List (List ℕ) → List ℕ → Bool
 begins_piece piece line = is_tag_line line
     && (list_any is_moves_line piece || (is_event_line line && list_any is_event_line piece))

@@ -7,8 +7,8 @@ use Rattle.pgn_pieces.proofs.piece_end.Seen.find_end.Goals as goal
 pub loop-offset-preserved : goal.loop-offset-preserved
 loop-offset-preserved c =
     let i = c.loop-offset.invariant in
-    let on = look_on c.args.self.now c.loop-offset.self c.args.text.now c.loop-offset.offset i.within i.seen c.step.new.self
-    c.in-Belongs.len (rw (take_rest c.args.text.now c.loop-offset.offset) at c.in-Belongs.ensures) in
+    let on = look_on c.args.self.now c.loop-offset.self c.args.text.now c.loop-offset.offset i.within i.seen
+    c.step.new.self c.in-Belongs.len (rw (take_rest c.args.text.now c.loop-offset.offset) at c.in-Belongs.ensures) in
     record { within = on.0; seen = on.1 }
 
 pub returns-in-Begins : goal.returns-in-Begins
@@ -27,4 +27,5 @@ pub returns : goal.returns
 returns c =
     let i = c.loop-offset.invariant in
     let all = c.loop-offset-test.false in
-    look_all c.args.self.now c.loop-offset.self c.args.text.now c.loop-offset.offset i.within i.seen (omega (arith, all))
+    look_all c.args.self.now c.loop-offset.self c.args.text.now c.loop-offset.offset i.within i.seen
+    (omega (arith, all))

@@ -39,6 +39,6 @@ returns c =
       c.requires.plain.0,
       omega arith,
       λ piece h. open_comes c.args.self.now c.if-self.false c.kind_of-kind.result c.args.line.now k.tag k.event piece h
-          c.add.new.self k.moves (sym c.ends_at.ensures ∙ c.if-ends_at.false) new.moves new.event c.requires.plain.1 told
-          new.inside,
+          c.add.new.self k.moves (sym c.ends_at.ensures ∙ c.if-ends_at.false) new.moves new.event
+          c.requires.plain.1 told new.inside,
     )

@@ -20,5 +20,5 @@ returns c piece h =
     let (body, is, plain) = c.requires.whole in
     let k = c.kind_of-kind.ensures in
     let new = c.add.ensures in
-    whole_comes c.args.self.now c.if-self.false c.kind_of-kind.result c.args.line.now k.tag k.event piece h c.add.new.self
-    k.moves (sym c.ends_at.ensures ∙ c.if-ends_at.false) new.moves new.event body is plain new.inside
+    whole_comes c.args.self.now c.if-self.false c.kind_of-kind.result c.args.line.now k.tag k.event piece h
+    c.add.new.self k.moves (sym c.ends_at.ensures ∙ c.if-ends_at.false) new.moves new.event body is plain new.inside
