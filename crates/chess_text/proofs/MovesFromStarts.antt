@@ -25,7 +25,7 @@ use Rattle.chess_text.specs.ties.Forms.{is_denoted, denoted_with, named_square, 
 use Rattle.chess_text.proofs.Legal.{legal_move, MovesAs, described_as}
 use Rattle.chess_text.proofs.Origins.{man_is, fits_told, letter_fits, pawn_named, denoted_from}
 use Rattle.chess_text.proofs.DenotedMoves.{denoted_ends}
-use Rattle.chess_text.proofs.DenotedStart.{denoted_of}
+use Rattle.chess_text.proofs.DenotedStart.{denoted_of, kind_lettered}
 
 -- ---- no promotion
 
@@ -82,17 +82,9 @@ by_kind p q letter square (Some x) k l s n e m denoted legal = absurd cc
 by_kind p q None (Some s') None k l s n e m denoted legal = absurd cc
 by_kind p q None None None k l s n e m denoted legal =
     let pawn : Pawn ≡ k = cc in subst (λ k. OfKind p k m) pawn (of_pawn p q m l s n denoted legal)
-by_kind p q (Some Pawn) square None k l s n e m denoted legal = absurd cc
-by_kind p q (Some King) square None k l s n e m denoted legal = let is : King ≡ k = cc in
-    subst (λ k. OfKind p k m) is (lettered p q King m l refl denoted legal)
-by_kind p q (Some Queen) square None k l s n e m denoted legal = let is : Queen ≡ k = cc in
-    subst (λ k. OfKind p k m) is (lettered p q Queen m l refl denoted legal)
-by_kind p q (Some Rook) square None k l s n e m denoted legal = let is : Rook ≡ k = cc in
-    subst (λ k. OfKind p k m) is (lettered p q Rook m l refl denoted legal)
-by_kind p q (Some Bishop) square None k l s n e m denoted legal = let is : Bishop ≡ k = cc in
-    subst (λ k. OfKind p k m) is (lettered p q Bishop m l refl denoted legal)
-by_kind p q (Some Knight) square None k l s n e m denoted legal = let is : Knight ≡ k = cc in
-    subst (λ k. OfKind p k m) is (lettered p q Knight m l refl denoted legal)
+by_kind p q (Some x) square None k l s n e m denoted legal =
+    let is = kind_lettered x square k e in
+    subst (λ k. OfKind p k m) is.0 (lettered p q x m l is.1 denoted legal)
 
 pub of_kind : (p : Setup) (q : Parts) (k : Kind) → one_kind q ≡ Some k
     → (m : Move) → is_denoted (Piece q) p m ≡ true → is_legal p m ≡ true → OfKind p k m
