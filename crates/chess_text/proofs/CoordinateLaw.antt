@@ -16,7 +16,7 @@ use Rattle.chess_text.specs.Parts.{unmarked}
 use Rattle.chess_text.specs.ties.Fitting.{promotion_text, parts_text}
 use Rattle.chess_text.specs.Moves.{shape, reading}
 use Rattle.chess_text.specs.ties.Fitting.{has_equals, is_form, parts_fit, is_by_squares, is_by_letter, is_straight, is_by_file}
-use Rattle.chess_text.proofs.OneMoveFits.{read_alone, denoted_parts, shape_parts, denotes_move, move_is, written, promotes-self, promotes-same}
+use Rattle.chess_text.proofs.OneMoveFits.{read_alone, denoted_parts, shape_parts, denotes_move, move_is, written, promotion_part, promotes-self, promotes-same}
 use Rattle.chess_text.proofs.Legal.{IsMove, legal_move, described_as}
 use Rattle.chess_text.proofs.Solid.{bare_parts}
 use Rattle.chess_text.proofs.WrittenStarts.{same_square}
@@ -41,17 +41,13 @@ text_is m = ap (λ v. (97 + file m.from) ∷ (49 + rank m.from) ∷ (97 + file m
 bare : (m : Move) → m.to < 64 → unmarked (coordinate m) ≡ parts_text (squares_named m)
 bare m h = ap unmarked (text_is m) ∙ bare_parts (squares_named m) h
 
-promotion_part : (o : Option Kind) → IfSome o CanPromote → IfSome (written false true o) (λ p. CanPromote p.kind)
-promotion_part None h = tt
-promotion_part (Some k) h = h
-
 are_parts : (p : Setup) (m : Move) → IsMove p m → AreParts (squares_named m)
 are_parts p m h = record {
   letter_is = tt;
   file_is = (let from = h.from_in in omega arith);
   rank_is = (let from = h.from_in in omega arith);
   to_is = h.to_in;
-  promotion_is = promotion_part m.promotion h.promotion_is;
+  promotion_is = promotion_part false true m.promotion h.promotion_is;
 }
 
 no_equals : (o : Option Kind) → not (has_equals (written false true o)) ≡ true

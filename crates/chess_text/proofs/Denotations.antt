@@ -292,10 +292,7 @@ in_signed (Some k) (Some x) so t e = grind (arith, e, same_kind-true x.kind k so
 
 in_start : (from : ℕ) (f r : Option ℕ) → admits f (file from) ≡ true → admits r (rank from) ≡ true
     → IsIn Text (start_texts from) (optional file_text f ++ optional rank_text r)
-in_start from None None a b t e = grind (arith, e)
-in_start from (Some x) None a b t e = grind (arith, e, eqb-true x (file from) a)
-in_start from None (Some y) a b t e = grind (arith, e, eqb-true y (rank from) b)
-in_start from (Some x) (Some y) a b t e = grind (arith, e, eqb-true x (file from) a, eqb-true y (rank from) b)
+in_start from f r a b t e = grind (arith, nat_tests, a, b, e)
 
 in_capture : (c takes : Bool) → (not takes || c) ≡ true → IsIn Text (capture_texts c) (list_if takes (120 ∷ []))
 in_capture c takes e t h = grind (arith, e, h)
@@ -382,8 +379,7 @@ straight_in d letter f r takes to p e =
 
 in_file : (from : ℕ) (r : Option ℕ) → admits r (rank from) ≡ true
     → IsIn Text (file_texts from) (file_text (file from) ++ optional rank_text r)
-in_file from None a t e = grind (arith, e)
-in_file from (Some y) a t e = grind (arith, e, eqb-true y (rank from) a)
+in_file from r a t e = grind (arith, nat_tests, a, e)
 
 file_in : (d : Described) (letter : Option Kind) (f r : Option ℕ) (takes : Bool) (to : ℕ) (p : Option Promotion)
     → is_by_file (of letter f r takes to p) d ≡ true

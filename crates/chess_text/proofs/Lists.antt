@@ -36,13 +36,7 @@ pub in-append-right : {A : Type 0} (xs ys : List A) (x : A) → IsIn A ys x → 
 in-append-right xs ys x h t e = list_any-append t xs ys ∙ or_right (list_any t xs) (list_any t ys) (h t e)
 
 pub promotion_in : (o : Option Kind) → IfSome o CanPromote → IsIn (Option Kind) promotions o
-promotion_in None h t e = grind (arith, e)
-promotion_in (Some King) h t e = absurd h
-promotion_in (Some Pawn) h t e = absurd h
-promotion_in (Some Queen) h t e = grind (arith, e)
-promotion_in (Some Rook) h t e = grind (arith, e)
-promotion_in (Some Bishop) h t e = grind (arith, e)
-promotion_in (Some Knight) h t e = grind (arith, e)
+promotion_in o h t e = grind (arith, e, h)
 
 -- ---- each element of a list
 

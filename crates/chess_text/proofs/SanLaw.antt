@@ -35,7 +35,7 @@ use Rattle.chess_text.specs.Moves.{captures, passes, shape, reading}
 use Rattle.chess_text.specs.ties.Forms.{same_side}
 use Rattle.chess_text.specs.San.{castling_text, is_rival, rival_starts, piece_text, unmarked_san, check_mark, san}
 use Rattle.chess_text.specs.ties.SanParts.{disambiguate, if_written, pawn_parts, lettered_parts, piece_parts}
-use Rattle.chess_text.proofs.OneMoveFits.{read_alone, denoted_parts, shape_parts, denoted_castling, shape_castling, denotes_move, move_is, written, promotes-self, promotes-same}
+use Rattle.chess_text.proofs.OneMoveFits.{read_alone, denoted_parts, shape_parts, denoted_castling, shape_castling, denotes_move, move_is, written, promotion_part, promotes-self, promotes-same}
 use Rattle.chess_text.proofs.DenotedMoves.{same_side-true}
 use Rattle.chess_text.proofs.AllMoves.{any-move}
 use Rattle.chess_text.proofs.Lists.{any-map}
@@ -92,15 +92,6 @@ pawn_named c from to promotion = record {
   end = record { to = to; promotion = promotion };
 }
 
-as_written : (o : Option Kind) → option_map (λ k. record { kind = k; equals = true; small = false }) o
-    ≡ written true false o
-as_written None = refl
-as_written (Some k) = refl
-
-pawn_is : (p : Setup) (m : Move) (k : Kind)
-    → pawn_parts (described_as p m k) ≡ pawn_named (captures p m) m.from m.to (written true false m.promotion)
-pawn_is p m k = ap (pawn_named (captures p m) m.from m.to) (as_written m.promotion)
-
 written_file : (c : Bool) (s : ℕ) → IfSome (if_written c (file s)) (λ f. f < 8)
 written_file true s = omega arith
 written_file false s = tt
@@ -109,10 +100,6 @@ written_rank : (c : Bool) (s : ℕ) → s < 64 → IfSome (if_written c (rank s)
 written_rank true s h = omega arith
 written_rank false s h = tt
 
-promotion_part : (o : Option Kind) → IfSome o CanPromote → IfSome (written true false o) (λ p. CanPromote p.kind)
-promotion_part None h = tt
-promotion_part (Some k) h = h
-
 pawn_are_parts : (c : Bool) (from to : ℕ) (o : Option Kind) → to < 64 → IfSome o CanPromote
     → AreParts (pawn_named c from to (written true false o))
 pawn_are_parts c from to o h k = record {
@@ -120,7 +107,7 @@ pawn_are_parts c from to o h k = record {
   file_is = written_file c from;
   rank_is = tt;
   to_is = h;
-  promotion_is = promotion_part o k;
+  promotion_is = promotion_part true false o k;
 }
 
 pawn_form : (c : Bool) (from to : ℕ) (o : Option Promotion) → is_form (pawn_named c from to o) ≡ true
@@ -376,20 +363,17 @@ lettered_parts_of p m k lettered walks none f t = record {
   alone = λ n legal g fit. lettered_alone p m n k lettered none legal g fit;
 }
 
-along : (p : Setup) (m : Move) (k : Kind) (q r : Parts) → r ≡ q → HasParts p m k q → HasParts p m k r
-along p m k q r e h = rw e h
-
 lettered_by : (p : Setup) (m : Move) (h : IsMove p m) → castling p m ≡ None → (k : Kind) → HasLetter k → h.man ≡ k
     → HasParts p m k (lettered_parts (rivals p m k) (described_as p m k))
 lettered_by p m h walks k lettered is =
     let so : MovesAs p m k = subst (MovesAs p m) is h.moves_as in
     let none = no_promotion p m k lettered so in
-    along p m k _ _ (lettered_is p m k (rivals p m k) none) (lettered_parts_of p m k lettered walks none h.from_in h.to_in)
+    subst (HasParts p m k) (sym (lettered_is p m k (rivals p m k) none)) (lettered_parts_of p m k lettered walks none h.from_in h.to_in)
 
 piece_by : (p : Setup) (m : Move) → IsSound p → (h : IsMove p m) → castling p m ≡ None → (k : Kind) → h.man ≡ k
     → HasParts p m k (piece_parts (rivals p m k) (described_as p m k))
 unfolding piece_parts
-piece_by p m sound h walks Pawn is = along p m Pawn _ _ (pawn_is p m Pawn) (pawn_parts_of p m sound h is)
+piece_by p m sound h walks Pawn is = pawn_parts_of p m sound h is
 piece_by p m sound h walks King is = lettered_by p m h walks King tt is
 piece_by p m sound h walks Queen is = lettered_by p m h walks Queen tt is
 piece_by p m sound h walks Rook is = lettered_by p m h walks Rook tt is

@@ -39,21 +39,13 @@ abbrev kinds : List Kind
 kinds = King ∷ Queen ∷ Rook ∷ Bishop ∷ Knight ∷ Pawn ∷ []
 
 kind_in : (k : Kind) → IsIn Kind kinds k
-kind_in King t e = grind (arith, e)
-kind_in Queen t e = grind (arith, e)
-kind_in Rook t e = grind (arith, e)
-kind_in Bishop t e = grind (arith, e)
-kind_in Knight t e = grind (arith, e)
-kind_in Pawn t e = grind (arith, e)
+kind_in k t e = grind (arith, e)
 
 both_in : (b : Bool) → IsIn Bool both b
-both_in false t e = grind (arith, e)
-both_in true t e = grind (arith, e)
+both_in b t e = grind (arith, e)
 
 side_in : (o : Option CastlingSide) → IsIn (Option CastlingSide) sides o
-side_in None t e = grind (arith, e)
-side_in (Some KingSide) t e = grind (arith, e)
-side_in (Some QueenSide) t e = grind (arith, e)
+side_in o t e = grind (arith, e)
 
 abbrev Becomes : Option Kind → Type 0
 Becomes o = IfSome o CanPromote
