@@ -1,8 +1,7 @@
 -- In Chess960, the letters that are written for available rights name them.
 use Rattle.std.proofs.Common.{◌≡◌, ℕ, ◌+◌, ◌-◌, ◌%◌, ◌<◌, ◌≤◌, ◌⊎◌, inl, inr, Bool, true, false, cond, eqb, leb, ltb, ◌&&◌, List, [], ◌∷◌, ◌++◌, length, map, Option, Some, None, refl, sym, ap, ◌∙◌, append-nil, arith}
-use Rattle.std.specs.Prelude.{IsTrue, codes}
+use Rattle.std.specs.Prelude.{IsTrue}
 use Rattle.std.specs.List.{AllByRecursion, filter, list_all}
-use Rattle.std.specs.Str.{bytes_eq}
 use Rattle.std.proofs.lemmas.Bool.{and_parts, and_from, eqb-true, ltb-true, or_left, or_right}
 use Rattle.std.proofs.lemmas.Bool.Decides.{nat_tests}
 use Rattle.std.proofs.lemmas.List.{length-append}
@@ -20,10 +19,11 @@ use Rattle.chess_base.specs.Squares.{file, rank}
 use Rattle.chess_base.specs.Men.{Men, man_at, is_man, other, first_rank}
 use Rattle.chess_base.specs.Castling.{home_square, king_square, is_to_side, is_beside, right_of}
 use Rattle.chess_base.specs.shared.Splits.{right_is_sound_at}
-use Rattle.chess_fen.specs.Texts.{times, first_letter, names_file, may_name_right, are_right_letters, is_castling}
+use Rattle.chess_fen.specs.Texts.{times, first_letter, names_file, may_name_right, is_castling}
 use Rattle.chess_fen.specs.RightNames.{side_letter, is_towards, names_right, rook_named, right_by, right_in}
 use Rattle.chess_fen.specs.ties.Reader.{names_once}
 use Rattle.chess_fen.specs.Writing.{right_text, or_dash, rights_text}
+use Rattle.chess_fen.proofs.Joined.{all_append}
 
 -- what an available right says of king and rook
 pub record Beside (men : Men) (c : Colour) (w : CastlingSide) (s : ℕ) : Type 0 where
@@ -60,14 +60,7 @@ other_side QueenSide = KingSide
 
 pub no_side_letter : (c d : Colour) (w : CastlingSide) (f : ℕ) → f < 8
     → eqb (first_letter c + f) (side_letter d w) ≡ false
-no_side_letter White White KingSide f h = grind (arith, nat_tests)
-no_side_letter White White QueenSide f h = grind (arith, nat_tests)
-no_side_letter White Black KingSide f h = grind (arith, nat_tests)
-no_side_letter White Black QueenSide f h = grind (arith, nat_tests)
-no_side_letter Black White KingSide f h = grind (arith, nat_tests)
-no_side_letter Black White QueenSide f h = grind (arith, nat_tests)
-no_side_letter Black Black KingSide f h = grind (arith, nat_tests)
-no_side_letter Black Black QueenSide f h = grind (arith, nat_tests)
+no_side_letter c d w f h = grind (arith, nat_tests)
 
 pub own_file : (c : Colour) (f : ℕ) → f < 8 → names_file c (first_letter c + f) ≡ true
 own_file c f h = grind (arith, nat_tests)
@@ -235,10 +228,6 @@ each_one : (c : Colour) (w : CastlingSide) (o : Option ℕ)
 each_one c w None = tt
 each_one c w (Some s) = (may_name c (file s) (file_in s), tt)
 
-all_append : (P : ℕ → Type 0) (xs ys : List ℕ) → AllByRecursion P xs → AllByRecursion P ys → AllByRecursion P (xs ++ ys)
-all_append P [] ys p q = q
-all_append P (x ∷ xs) ys p q = (p.0, all_append P xs ys p.1 q)
-
 one_at_most : (c : Colour) (w : CastlingSide) (o : Option ℕ) → length (right_text Fischerandom c w o) ≤ 1
 one_at_most c w None = omega arith
 one_at_most c w (Some s) = omega arith
@@ -357,14 +346,9 @@ castling_or_dash : (text : List ℕ) → length text ≤ 4 → AllByRecursion (�
 castling_or_dash [] few each distinct = refl
 castling_or_dash (x ∷ xs) few each distinct =
     let short : leb (length (x ∷ xs)) 4 ≡ true = grind (arith, nat_tests, few) in
-    or_right (bytes_eq (x ∷ xs) (codes "-")) (are_right_letters Fischerandom (x ∷ xs))
-    (and_from (ltb 0 (length (x ∷ xs)) && leb (length (x ∷ xs)) 4)
-    (list_all (names_once Fischerandom (x ∷ xs)) (x ∷ xs))
-    (and_from (ltb 0 (length (x ∷ xs))) (leb (length (x ∷ xs)) 4) some short)
-    (each_once (x ∷ xs) (x ∷ xs) (λ c. omega arith) distinct each))
-  where
-    some : ltb 0 (length (x ∷ xs)) ≡ true
-    some = grind (arith, nat_tests)
+    let once = each_once (x ∷ xs) (x ∷ xs) (λ c. omega arith) distinct each in
+    let some : ltb 0 (length (x ∷ xs)) ≡ true = grind (arith, nat_tests) in
+    grind (arith, short, once, some)
 
 pub text_is_castling : (men : Men) (r : Rights) → Stand Fischerandom men r
     → is_castling Fischerandom (rights_text Fischerandom r) ≡ true
