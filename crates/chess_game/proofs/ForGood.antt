@@ -52,13 +52,6 @@ same_reserve men others e =
     (λ k h. same_weight k (man_at men k) (man_at others k)
     (each_below-at 64 (λ s. same_man (man_at men s) (man_at others s)) e k h)))
 
-second : (a b c d : Bool) → (a && b && c && d) ≡ true → b ≡ true
-second true true true true e = refl
-second true false c d e = cc
-second true true false d e = refl
-second true true true false e = refl
-second false b c d e = cc
-
 -- a position whose pieces have more in reserve is another
 pub other_by_reserve : (p q : Setup) → reserve q.men < reserve p.men → is_same_position p q ≡ false
 unfolding is_same_position
@@ -66,9 +59,7 @@ other_by_reserve p q h =
     elim (cases_Bool (is_same_position p q)) [
       | inr fails ↦ fails
       | inl passes ↦
-          let alike = same_reserve p.men q.men
-          (second (same_colour p.side q.side) (same_men p.men q.men) (same_rights p.rights q.rights)
-          (same_square (legal_en_passant_square p) (legal_en_passant_square q)) passes) in
+          let alike = same_reserve p.men q.men (grind (arith, passes)) in
           absurd (omega (arith, alike))
     ]
 
