@@ -1,6 +1,6 @@
 -- The coordinate text of a legal move denotes it alone.
 use Rattle.std.proofs.Common.{◌≡◌, ◌+◌, ◌<◌, true, false, not, ◌∷◌, Option, Some, None, refl, sym, ap, ◌∙◌, arith}
-use Rattle.std.specs.Prelude.{IfSome, IsTrue}
+use Rattle.std.specs.Prelude.{IsTrue}
 use Rattle.std.proofs.lemmas.Bool.Decides.{nat_tests}
 use Rattle.std.proofs.lemmas.Bool.{eq-eqb}
 use Rattle.chess_base.specs.declared.man.Kind.{Kind}
@@ -11,7 +11,7 @@ use Rattle.chess_base.specs.Moves.{is_legal}
 use Rattle.chess_base.specs.Squares.{file, rank}
 use Rattle.chess_text.specs.declared.parts.Parts.{Parts}
 use Rattle.chess_text.specs.declared.reading.Reading.TheVariants as reads
-use Rattle.chess_text.specs.laws.Laws.{DenotesAlone, AreParts, CanPromote}
+use Rattle.chess_text.specs.laws.Laws.{DenotesAlone, AreParts}
 use Rattle.chess_text.specs.Parts.{unmarked}
 use Rattle.chess_text.specs.ties.Fitting.{promotion_text, parts_text}
 use Rattle.chess_text.specs.Moves.{shape, reading}

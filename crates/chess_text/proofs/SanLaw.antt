@@ -34,7 +34,7 @@ use Rattle.chess_text.specs.ties.Fitting.{parts_text, admits, is_form, parts_fit
 use Rattle.chess_text.specs.Moves.{captures, passes, shape, reading}
 use Rattle.chess_text.specs.ties.Forms.{same_side}
 use Rattle.chess_text.specs.San.{castling_text, is_rival, rival_starts, piece_text, unmarked_san, check_mark, san}
-use Rattle.chess_text.specs.ties.SanParts.{disambiguate, if_written, pawn_parts, lettered_parts, piece_parts}
+use Rattle.chess_text.specs.ties.SanParts.{disambiguate, if_written, lettered_parts, piece_parts}
 use Rattle.chess_text.proofs.OneMoveFits.{read_alone, denoted_parts, shape_parts, denoted_castling, shape_castling, denotes_move, move_is, written, promotion_part, promotes-self, promotes-same}
 use Rattle.chess_text.proofs.DenotedMoves.{same_side-true}
 use Rattle.chess_text.proofs.AllMoves.{any-move}
