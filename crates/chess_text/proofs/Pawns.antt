@@ -59,26 +59,21 @@ advance_of p m e = by_test (m.to == forward p.side m.from) refl
         (is_none-None (man_at p.men (forward p.side m.from)) (grind (arith, e, other)))
 
 one_on_file : (c : Colour) (a b : ℕ) → 8 ≤ a → b ≡ forward c a → file a ≡ file b
-one_on_file White a b h e = omega arith
-one_on_file Black a b h e = omega arith
+one_on_file c a b h e = grind arith
 
 two_on_file : (c : Colour) (a b : ℕ) → rank a ≡ pawn_rank c → b ≡ forward c (forward c a) → file a ≡ file b
-two_on_file White a b h e = omega arith
-two_on_file Black a b h e = omega arith
+two_on_file c a b h e = grind arith
 
 same_by_ones : (c : Colour) (a b t : ℕ) → 8 ≤ a → 8 ≤ b → t ≡ forward c a → t ≡ forward c b → b ≡ a
-same_by_ones White a b t h k e f = omega arith
-same_by_ones Black a b t h k e f = omega arith
+same_by_ones c a b t h k e f = grind arith
 
 same_by_twos : (c : Colour) (a b t : ℕ) → rank a ≡ pawn_rank c → rank b ≡ pawn_rank c → t ≡ forward c (forward c a)
     → t ≡ forward c (forward c b) → b ≡ a
-same_by_twos White a b t h k e f = omega arith
-same_by_twos Black a b t h k e f = omega arith
+same_by_twos c a b t h k e f = grind arith
 
 one_stands_between : (c : Colour) (a b t : ℕ) → 8 ≤ a → rank b ≡ pawn_rank c → t ≡ forward c a
     → t ≡ forward c (forward c b) → forward c b ≡ a
-one_stands_between White a b t h k e f = omega arith
-one_stands_between Black a b t h k e f = omega arith
+one_stands_between c a b t h k e f = grind arith
 
 pub advances_on_file : (p : Setup) (m : Move) → 8 ≤ m.from → Advance p m → file m.from ≡ file m.to
 advances_on_file p m h (Single to) = one_on_file p.side m.from m.to h to
@@ -169,11 +164,4 @@ captures_ahead p m at e takes =
 
 pub same_ahead : (c : Colour) (a b t : ℕ) → is_rank_ahead c a t ≡ true → is_rank_ahead c b t ≡ true → file a ≡ file b
     → b ≡ a
-same_ahead White a b t e f on =
-    let ea = eqb-true (rank t) (rank a + 1) e in
-    let eb = eqb-true (rank t) (rank b + 1) f in
-    omega arith
-same_ahead Black a b t e f on =
-    let ea = eqb-true (rank a) (rank t + 1) e in
-    let eb = eqb-true (rank b) (rank t + 1) f in
-    omega arith
+same_ahead c a b t e f on = grind (arith, nat_tests, e, f)

@@ -54,12 +54,7 @@ lettered j k e other = (same k j (same_kind-true j k e), apart k other)
     same k j e = rw e (same_kind-self k)
 
     apart : (k : Kind) → same_kind k Pawn ≡ false → same_kind Pawn k ≡ false
-    apart King h = refl
-    apart Queen h = refl
-    apart Rook h = refl
-    apart Bishop h = refl
-    apart Knight h = refl
-    apart Pawn h = absurd cc
+    apart k h = grind (arith, h)
 
 stays : (p : Setup) (d : Described) (m : Move) → same_kind d.man Pawn ≡ false → legal_rival p d m ≡ true
     → m.promotion ≡ None

@@ -136,10 +136,7 @@ abbrev start_of : Option ℕ → Option ℕ → ℕ
 start_of f r = 8 * or_zero r + or_zero f
 
 start_in : (f r : Option ℕ) → IfSome f (λ x. x < 8) → IfSome r (λ x. x < 8) → start_of f r < 64
-start_in None None a b = omega arith
-start_in (Some x) None a b = omega arith
-start_in None (Some y) a b = omega arith
-start_in (Some x) (Some y) a b = omega arith
+start_in f r a b = grind arith
 
 admits_file : (f r : Option ℕ) → IfSome f (λ x. x < 8) → IfSome r (λ x. x < 8)
     → admits f (file (start_of f r)) ≡ true
@@ -154,8 +151,7 @@ admits_rank None (Some y) a b = eq-eqb y (rank (8 * y + 0)) (omega arith)
 admits_rank (Some x) (Some y) a b = eq-eqb y (rank (8 * y + x)) (omega arith)
 
 may_take : (t : Bool) → (not t || true) ≡ true
-may_take true = refl
-may_take false = refl
+may_take t = grind arith
 
 own_promotion : (p : Option Promotion) → promotes_so p (kind_of p) ≡ true
 own_promotion None = refl
