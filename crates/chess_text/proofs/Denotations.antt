@@ -162,7 +162,7 @@ each_capture : (c : Bool) → AllByRecursion (IsCaptureText c) (capture_texts c)
 each_capture true = ((false, refl, refl), ((true, refl, refl), tt))
 each_capture false = ((false, refl, refl), tt)
 
-has_letter : (k : Kind) → same_kind k Pawn ≡ false → HasLetter k
+pub has_letter : (k : Kind) → same_kind k Pawn ≡ false → HasLetter k
 has_letter King h = tt
 has_letter Queen h = tt
 has_letter Rook h = tt

@@ -19,6 +19,7 @@ use Rattle.chess_text.specs.declared.described.Described.{Described}
 use Rattle.chess_text.specs.declared.form.Form.TheVariants.{Piece}
 use Rattle.chess_text.specs.declared.parts.Parts.{Parts}
 use Rattle.chess_text.specs.declared.parts.Promotion.{Promotion}
+use Rattle.chess_text.specs.laws.Laws.{HasLetter}
 use Rattle.chess_text.specs.ties.Fitting.{is_by_squares, is_by_letter, is_straight, is_by_file, parts_fit}
 use Rattle.chess_text.specs.ties.Forms.{is_denoted, is_denoted_by_letter, is_denoted_by_pawn, is_denoted_of, kind_by, named_square, one_kind}
 use Rattle.chess_text.proofs.Legal.{castling_says, legal_move, IsMove, described_as, described_is}
@@ -88,12 +89,12 @@ Denoted q p k m = parts_fit q (described_as p m k) ≡ is_denoted_of q p k m
 
 -- a letter names its own kind, no pawn's
 pub kind_lettered : (x : Kind) (square : Option ℕ) (k : Kind) → kind_by (Some x) square ≡ Some k
-    → (x ≡ k) × (same_kind Pawn x ≡ false)
-kind_lettered King square k e = (cc, refl)
-kind_lettered Queen square k e = (cc, refl)
-kind_lettered Rook square k e = (cc, refl)
-kind_lettered Bishop square k e = (cc, refl)
-kind_lettered Knight square k e = (cc, refl)
+    → (x ≡ k) × HasLetter x
+kind_lettered King square k e = (cc, tt)
+kind_lettered Queen square k e = (cc, tt)
+kind_lettered Rook square k e = (cc, tt)
+kind_lettered Bishop square k e = (cc, tt)
+kind_lettered Knight square k e = (cc, tt)
 kind_lettered Pawn square k e = absurd cc
 
 -- the letter's kind, or a pawn

@@ -40,7 +40,7 @@ use Rattle.chess_text.proofs.DenotedMoves.{same_side-true}
 use Rattle.chess_text.proofs.AllMoves.{any-move}
 use Rattle.chess_text.proofs.Lists.{any-map}
 use Rattle.chess_text.proofs.CastlingTexts.{IsCastling, letters_kingside, letters_queenside}
-use Rattle.chess_text.proofs.Legal.{MovesAs, IsMove, legal_move, described_as, described_is, castling_says, names_end}
+use Rattle.chess_text.proofs.Legal.{MovesAs, IsMove, unpromoted, legal_move, described_as, described_is, castling_says, names_end}
 use Rattle.chess_text.proofs.Pawns.{pawn_of, pawn_stands, advances_on_file, same_advance, advances_without, advances_straight, captures_ahead, same_ahead}
 use Rattle.chess_text.proofs.Solid.{bare_parts, bare_castling, bare_marked}
 use Rattle.chess_text.proofs.PieceText.{piece_written}
@@ -290,14 +290,6 @@ rival_is p m n k g man to apart =
     let c : same_kind g.man k ≡ true = ap (λ v. same_kind v k) man ∙ same_kind-self k in
     rw (a, apart, b, c) refl
 
-no_promotion : (p : Setup) (n : Move) (k : Kind) → HasLetter k → MovesAs p n k → n.promotion ≡ None
-no_promotion p n Pawn lettered h = absurd lettered
-no_promotion p n King lettered h = h
-no_promotion p n Queen lettered h = h
-no_promotion p n Rook lettered h = h
-no_promotion p n Bishop lettered h = h
-no_promotion p n Knight lettered h = h
-
 lettered_alone : (p : Setup) (m n : Move) (k : Kind) → HasLetter k → m.promotion ≡ None → is_legal p n ≡ true
     → (g : IsMove p n)
     → parts_fit (lettered_named k (disambiguate m.from (rivals p m k)) (captures p m) m.from m.to) (described_as p n g.man) ≡ true
@@ -310,7 +302,7 @@ lettered_alone p m n k lettered none legal g fit = by_start (n.from == m.from) r
     by_start : (t : Bool) → (n.from == m.from) ≡ t → n ≡ m
     by_start true e =
         let so : MovesAs p n k = subst (MovesAs p n) goes.man g.moves_as in
-        move_is n m (eqb-true n.from m.from e) goes.to (no_promotion p n k lettered so ∙ sym none)
+        move_is n m (eqb-true n.from m.from e) goes.to (unpromoted p n k lettered so ∙ sym none)
     by_start false e =
         let rival = rival_is p m n k g goes.man goes.to e in
         absurd (start_is_apart m.from n.from (rivals p m k)
@@ -367,7 +359,7 @@ lettered_by : (p : Setup) (m : Move) (h : IsMove p m) → castling p m ≡ None 
     → HasParts p m k (lettered_parts (rivals p m k) (described_as p m k))
 lettered_by p m h walks k lettered is =
     let so : MovesAs p m k = subst (MovesAs p m) is h.moves_as in
-    let none = no_promotion p m k lettered so in
+    let none = unpromoted p m k lettered so in
     subst (HasParts p m k) (sym (lettered_is p m k (rivals p m k) none)) (lettered_parts_of p m k lettered walks none h.from_in h.to_in)
 
 piece_by : (p : Setup) (m : Move) → IsSound p → (h : IsMove p m) → castling p m ≡ None → (k : Kind) → h.man ≡ k
