@@ -96,17 +96,11 @@ right_is men letters c w =
 no_rook : (men : Men) (c : Colour) (w : CastlingSide) → are_placed_for_castling Fischerandom men c w nowhere ≡ false
 no_rook men c w = by_king c (king_square men c)
   where
-    by_first : (a b d : Bool) → ((a && false && b) && d) ≡ false
-    by_first true b d = refl
-    by_first false b d = refl
-
     by_king : (c : Colour) (king : Option ℕ) → (is_beside c w king nowhere && is_man c Rook (man_at men nowhere))
         ≡ false
     by_king c None = refl
-    by_king White (Some k) = by_first (rank k == first_rank White) (is_to_side w k nowhere)
-        (is_man White Rook (man_at men nowhere))
-    by_king Black (Some k) = by_first (rank k == first_rank Black) (is_to_side w k nowhere)
-        (is_man Black Rook (man_at men nowhere))
+    by_king White (Some k) = grind arith
+    by_king Black (Some k) = grind arith
 
 -- ---- the position, or the fault
 

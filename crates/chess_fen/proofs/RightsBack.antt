@@ -37,14 +37,12 @@ beside_by : (men : Men) (c : Colour) (w : CastlingSide) (s : ℕ) (o : Option �
     → is_beside c w o s ≡ true → Beside men c w s
 beside_by men c w s None at e = cc
 beside_by men c w s (Some k) at e =
-    let two = and_parts (eqb (rank k) (first_rank c) && eqb (rank s) (first_rank c)) (is_to_side w k s) e in
-    let one = and_parts (eqb (rank k) (first_rank c)) (eqb (rank s) (first_rank c)) two.0 in
     record {
       king = k;
       at = at;
-      king_rank = eqb-true (rank k) (first_rank c) one.0;
-      rook_rank = eqb-true (rank s) (first_rank c) one.1;
-      side = two.1;
+      king_rank = grind (arith, nat_tests, e);
+      rook_rank = grind (arith, nat_tests, e);
+      side = grind (arith, e);
     }
 
 pub beside : (men : Men) (c : Colour) (w : CastlingSide) (s : ℕ) → right_is_sound_at Fischerandom men c w (Some s)
@@ -66,20 +64,17 @@ pub own_file : (c : Colour) (f : ℕ) → f < 8 → names_file c (first_letter c
 own_file c f h = grind (arith, nat_tests)
 
 other_file : (c : Colour) (f : ℕ) → f < 8 → names_file (other c) (first_letter c + f) ≡ false
-other_file White f h = grind (arith, nat_tests)
-other_file Black f h = grind (arith, nat_tests)
+other_file c f h = grind (arith, nat_tests)
 
 pub file_back : (c : Colour) (s : ℕ) → rank s ≡ first_rank c
     → home_square c ((first_letter c + file s) - first_letter c) ≡ s
 file_back c s e = omega arith
 
 towards_own : (w : CastlingSide) (k s : ℕ) → is_to_side w k s ≡ true → is_towards w (Some k) s ≡ true
-towards_own KingSide k s e = grind (arith, nat_tests, e)
-towards_own QueenSide k s e = e
+towards_own w k s e = grind (arith, nat_tests, e)
 
 towards_other : (w : CastlingSide) (k s : ℕ) → is_to_side w k s ≡ true → is_towards (other_side w) (Some k) s ≡ false
-towards_other KingSide k s e = grind (arith, nat_tests, e)
-towards_other QueenSide k s e = grind (arith, nat_tests, e)
+towards_other w k s e = grind (arith, nat_tests, e)
 
 pub file_in : (s : ℕ) → file s < 8
 file_in s = omega arith
@@ -220,8 +215,8 @@ right_back men r c w s =
 
 may_name : (c : Colour) (f : ℕ) → f < 8 → may_name_right Fischerandom (first_letter c + f) ≡ true
 unfolding may_name_right
-may_name White f h = or_left _ _ (or_right _ _ (own_file White f h))
-may_name Black f h = or_right _ _ (own_file Black f h)
+may_name White f h = grind (arith, own_file White f h)
+may_name Black f h = grind (arith, own_file Black f h)
 
 each_one : (c : Colour) (w : CastlingSide) (o : Option ℕ)
     → AllByRecursion (λ l. IsTrue (may_name_right Fischerandom l)) (right_text Fischerandom c w o)
@@ -337,9 +332,9 @@ each_once whole (x ∷ xs) within one p =
     let count : times x (x ∷ xs) ≡ 1 + times x xs = times-cons x x xs ∙ ap (λ b. cond b 1 0 + times x xs) here in
     let is : times x whole ≡ 1 = omega (arith, within x, one x, count) in
     let t : eqb (times x whole) 1 ≡ true = grind (arith, nat_tests, is) in
-    and_from (names_once Fischerandom whole x) (list_all (names_once Fischerandom whole) xs)
-    (and_from (may_name_right Fischerandom x) (eqb (times x whole) 1) p.0 t)
-    (each_once whole xs (λ c. omega (arith, within c, times-cons c x xs)) one p.1)
+    let may : may_name_right Fischerandom x ≡ true = p.0 in
+    let rest = each_once whole xs (λ c. omega (arith, within c, times-cons c x xs)) one p.1 in
+    rw (may, t, rest) refl
 
 castling_or_dash : (text : List ℕ) → length text ≤ 4 → AllByRecursion (λ l. IsTrue (may_name_right Fischerandom l)) text
     → ((n : ℕ) → times n text ≤ 1) → is_castling Fischerandom (or_dash text) ≡ true
