@@ -1,5 +1,5 @@
 -- A pawn's move is fixed by where it ends and by its file.
-use Rattle.std.proofs.Common.{◌≡◌, ◌≢◌, ℕ, ◌+◌, ◌<◌, ◌≤◌, inl, inr, Bool, true, false, ◌||◌, Option, Some, None, is_none, refl, sym, ap, ◌∙◌, arith, ◌==◌}
+use Rattle.std.proofs.Common.{◌≡◌, ◌≢◌, ℕ, ◌<◌, ◌≤◌, inl, inr, Bool, true, false, ◌||◌, Option, Some, None, is_none, refl, sym, ap, ◌∙◌, arith, ◌==◌}
 use Rattle.std.proofs.lemmas.Bool.Decides.{nat_tests}
 use Rattle.std.proofs.lemmas.Bool.{or_cases, both_ways, eqb-true}
 use Rattle.std.specs.Int.{abs_diff}

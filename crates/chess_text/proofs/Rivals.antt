@@ -6,7 +6,7 @@ use Rattle.std.proofs.lemmas.Bool.{cases_Bool, and_parts, false_from_ne_true, eq
 use Rattle.std.proofs.lemmas.List.{map-append}
 use Rattle.std.specs.List.{filter, flat_map, list_any, range_with_len}
 use Rattle.chess_base.specs.declared.man.Kind.{Kind}
-use Rattle.chess_base.specs.declared.man.Kind.TheVariants.{King, Queen, Rook, Bishop, Knight, Pawn}
+use Rattle.chess_base.specs.declared.man.Kind.TheVariants.{Queen, Rook, Bishop, Knight, Pawn}
 use Rattle.chess_base.specs.declared.man.Move.{Move}
 use Rattle.chess_base.specs.declared.setup.Setup.{Setup}
 use Rattle.chess_base.specs.Squares.{file, rank, some_square}
@@ -22,7 +22,7 @@ use Rattle.chess_text.specs.declared.described.Described.{Described}
 use Rattle.chess_text.specs.Moves.{described, passes}
 use Rattle.chess_text.specs.San.{is_rival, rival_starts}
 use Rattle.chess_text.specs.ties.SanParts.{distinction, some_on_file, some_on_rank, disambiguate}
-use Rattle.chess_base.proofs.shared.Men.{same_kind-self, same_kind-true, same_colour-self}
+use Rattle.chess_base.proofs.shared.Men.{same_kind-true, same_colour-self}
 use Rattle.chess_text.proofs.AllMoves.{filter-both, none-kept, kept, alone-square}
 use Rattle.chess_text.proofs.Legal.{IsMove, MovesAs, unpromoted, legal_move, described_is}
 use Rattle.chess_text.proofs.Denotations.{has_letter}

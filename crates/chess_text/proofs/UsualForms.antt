@@ -6,7 +6,6 @@ use Rattle.std.proofs.lemmas.Bool.Decides.{nat_tests}
 use Rattle.chess_base.specs.Coordinates.{optional}
 use Rattle.chess_base.specs.declared.man.CastlingSide.TheVariants.{KingSide, QueenSide}
 use Rattle.chess_base.specs.declared.man.Kind.{Kind}
-use Rattle.chess_base.specs.declared.man.Kind.TheVariants.{King, Queen, Rook, Bishop, Knight, Pawn}
 use Rattle.std.specs.Option.{option_map}
 use Rattle.chess_base.proofs.shared.Choices.{chosen}
 use Rattle.chess_text.specs.declared.form.Form.TheVariants.{Piece}
