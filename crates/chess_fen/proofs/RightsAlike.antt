@@ -15,9 +15,8 @@ use Rattle.chess_base.specs.declared.man.Rights.{Rights}
 use Rattle.chess_base.specs.declared.setup.Setup.{Setup}
 use Rattle.chess_base.specs.declared.fen_fault.FenFault.{FenFault}
 use Rattle.chess_base.specs.declared.fen_fault.FenFault.TheVariants as faults
-use Rattle.chess_base.specs.Squares.{rank}
-use Rattle.chess_base.specs.Men.{Men, man_at, is_man, first_rank}
-use Rattle.chess_base.specs.Castling.{home_square, king_square, is_beside, are_placed_for_castling, right_is_sound, is_to_side, rights_by}
+use Rattle.chess_base.specs.Men.{Men, man_at, is_man}
+use Rattle.chess_base.specs.Castling.{home_square, king_square, is_beside, are_placed_for_castling, right_is_sound, rights_by}
 use Rattle.chess_base.specs.Faults.{conditions, rights_are_sound, first_failing, setup_fault}
 use Rattle.chess_base.specs.Faults as base
 use Rattle.chess_base.specs.Sound.{IsSound}

@@ -1,8 +1,8 @@
 -- No position before a capture or a pawn move is the same as one after it.
-use Rattle.std.proofs.Common.{◌≡◌, ◌∙◌, inl, inr, ℕ, zero, suc, ◌+◌, ◌<◌, ◌≤◌, Bool, true, false, List, [], ◌∷◌, ◌++◌, length, get_or, Option, None, Some, refl, sym, ap, subst, arith}
+use Rattle.std.proofs.Common.{◌≡◌, ◌∙◌, inl, inr, ℕ, zero, suc, ◌+◌, ◌<◌, ◌≤◌, true, false, List, [], ◌∷◌, ◌++◌, length, get_or, Option, None, Some, refl, sym, ap, subst, arith}
 use Rattle.std.proofs.Math.Seq.{get_or-append_seam}
 use Rattle.std.proofs.lemmas.List.{length-append, get_or_append_left}
-use Rattle.std.specs.Prelude.{◌==◌, ◌&&◌, sum, if◌then◌else◌}
+use Rattle.std.specs.Prelude.{◌==◌, sum, if◌then◌else◌}
 use Rattle.chess_base.specs.declared.man.Move.{Move}
 use Rattle.std.proofs.lemmas.Bool.{cases_Bool, and_parts, eqb-true}
 use Rattle.chess_base.specs.declared.man.Kind.TheVariants.{Pawn}
@@ -18,7 +18,7 @@ use Rattle.chess_base.proofs.shared.Squares.{each_below-at}
 use Rattle.chess_base.proofs.shared.Men.{same_colour-true}
 use Rattle.chess_moves.specs.Made.{WasMade}
 use Rattle.chess_game.specs.Line.{position_after}
-use Rattle.chess_game.specs.Same.{is_same_position, same_man, same_men, same_rights, same_square, legal_en_passant_square}
+use Rattle.chess_game.specs.Same.{is_same_position, same_man, same_men}
 use Rattle.chess_game.specs.ties.PlayedMoves.{moves_of, IsKnown, Follows}
 use Rattle.chess_game.specs.ties.Buckets.{known_at, is_same_at}
 use Rattle.chess_game.specs.declared.game.PlayedMove.{PlayedMove}
