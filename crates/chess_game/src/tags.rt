@@ -12,6 +12,7 @@ const TAG_LEN: usize = 60;
 
 /// The value of a PGN tag, such as a player's name: at most 60 printable bytes of ASCII. In contracts it is the list of
 /// its bytes.
+// A type beside `Comment`, in which braces are replaced too: one for both would need a parameter for the bytes it keeps.
 #[derive(Drop)]
 pub struct TagText {
     text: ArrayVec<u8, 60>,
