@@ -10,7 +10,7 @@ use Rattle.chess_base.specs.Men.{Men, man_at, is_of, is_man, other, kind_number}
 use Rattle.chess_moves.specs.Sets.{contains}
 use Rattle.std.proofs.lemmas.List.{set-get_or}
 use Rattle.chess_base.proofs.shared.Men.{is_man-none, is_of-none}
-use Rattle.chess_bits.specs.ties.KindSets.{IsKinds}
+use Rattle.chess_bits.specs.ties.KindSets.{IsAll, IsKinds}
 
 -- the sets of a colour none of whose pieces came or went
 pub kinds_kept : (sets : List ℕ) (men : Men) (c : Colour) (s : ℕ) (o : Option Man) → length men ≡ 64 → s < 64
@@ -24,9 +24,6 @@ kinds_kept sets men c s o all ls same h = record { of_kind = at }
           | inl here ↦ rw (here, get_or-set_same) (h.of_kind y s ls ∙ same y)
           | inr away ↦ rw (get_or-set_other men s k o None away) (h.of_kind y k l)
         ]
-
-abbrev pub IsAll : ℕ → Colour → Men → Type 0
-IsAll w c men = (k : ℕ) → k < 64 → contains w k ≡ is_of c (man_at men k)
 
 pub all_kept : (w : ℕ) (men : Men) (c : Colour) (s : ℕ) (o : Option Man) → length men ≡ 64 → s < 64
     → is_of c (man_at men s) ≡ is_of c o → IsAll w c men → IsAll w c (set men s o)
