@@ -28,10 +28,11 @@ use Rattle.chess_bits.specs.ties.Shapes.{in_shape}
 use Rattle.chess_bits.specs.ties.Goes.{goes, aims_at, OpensNoLine, OpensNoDiagonal, IsFree, lifted}
 use Rattle.chess_bits.proofs.AfterSets.{check_is}
 use Rattle.chess_bits.proofs.KingAfter.{mover_some, mover_own, king_stays, check_after, legal_is}
-use Rattle.chess_bits.proofs.Listed.{all_ones, each_member, from_targets, one_between, pattern_of}
+use Rattle.chess_bits.proofs.Listed.{all_ones, each_member, from_targets, one_between, unpromoted}
 use Rattle.chess_bits.proofs.OriginsOf.{off_lowest}
 use Rattle.chess_bits.proofs.Patterns.{pawn_goes}
-use Rattle.chess_bits.proofs.Quiet.{IsPlain, lands_same, stays_safe}
+use Rattle.chess_bits.proofs.Quiet.{IsPlain, attacked_before, capture_before, enemy_before, lands_same, stays_safe}
+use Rattle.chess_base.proofs.shared.Men.{is_of-none}
 use Rattle.chess_bits.proofs.Reached.{pawn_from}
 use Rattle.chess_bits.proofs.TargetsOf.{man_told, no_king_castles}
 
@@ -44,7 +45,7 @@ pub free_is_legal : (p : Setup) (a b king : ℕ) → IsSound p → IsFree p a �
 unfolding second_square_emptied castling_rook_to
 free_is_legal p a b king sound free low there one go stays no_passing =
     let m = move_of a b None in
-    let pattern : is_pseudo_legal p m ≡ true = pattern_of p a b None go (rw stays refl) in
+    let pattern : is_pseudo_legal p m ≡ true = unpromoted p a b go stays in
     let here : is_man p.side King (man_at p.men king) ≡ true = one king there ∙ eq-eqb king king refl in
     let no_king : is_man p.side King (man_at p.men a) ≡ false = one a low ∙ free.apart king there here in
     let no_castle : castle_of p m ≡ None = no_king_castles p m no_king in
@@ -178,36 +179,6 @@ at_king : (p : Setup) (a king : ℕ) (P : ℕ → Type 0)
 at_king p a king P one h k low man = subst P (sym (eqb-true k king (sym (one k low) ∙ man))) h
 
 -- what attacks with that piece taken off attacks as it is, if that opens nothing
-last_told : (n s t u : Bool) → ((n && s) ≡ true → t ≡ true → u ≡ true) → (n && s && t) ≡ true → (n && s && u) ≡ true
-last_told true true t u h e = h refl e
-last_told true false t u h e = e
-last_told false s t u h e = e
-
-queen_told : (n s d t u : Bool) → ((n && s) ≡ true → t ≡ true → u ≡ true) → ((n && d) ≡ true → t ≡ true → u ≡ true)
-    → (n && (s || d) && t) ≡ true → (n && (s || d) && u) ≡ true
-queen_told true true d t u h g e = h refl e
-queen_told true false true t u h g e = g refl e
-queen_told true false false t u h g e = e
-queen_told false s d t u h g e = e
-
-capture_before : (men later : Men) (c : Colour) (k : Kind) (a b : ℕ)
-    → ((same_kind Rook k || same_kind Queen k) ≡ true → (not (a == b) && share_rank_or_file a b) ≡ true
-    → is_clear later a b ≡ true → is_clear men a b ≡ true)
-    → ((same_kind Bishop k || same_kind Queen k) ≡ true → (not (a == b) && share_diagonal a b) ≡ true
-    → is_clear later a b ≡ true → is_clear men a b ≡ true)
-    → could_capture later c k a b ≡ true → could_capture men c k a b ≡ true
-unfolding could_capture
-capture_before men later c King a b l d e = e
-capture_before men later c Knight a b l d e = e
-capture_before men later c Pawn a b l d e = e
-capture_before men later c Queen a b l d e =
-    queen_told (not (a == b)) (share_rank_or_file a b) (share_diagonal a b) (is_clear later a b) (is_clear men a b)
-    (l refl) (d refl) e
-capture_before men later c Rook a b l d e =
-    last_told (not (a == b)) (share_rank_or_file a b) (is_clear later a b) (is_clear men a b) (l refl) e
-capture_before men later c Bishop a b l d e =
-    last_told (not (a == b)) (share_diagonal a b) (is_clear later a b) (is_clear men a b) (d refl) e
-
 of_kinds : (c : Colour) (x : Man) (j k : Kind) → is_of c (Some x) ≡ true
     → (same_kind j x.kind || same_kind k x.kind) ≡ true → (is_man c j (Some x) || is_man c k (Some x)) ≡ true
 unfolding is_of is_man
@@ -223,34 +194,18 @@ hits_before p a b king (Some x) low at own lines diagonals e =
     (λ h. diagonals b low (rw at (of_kinds (other p.side) x Bishop Queen own h)))
     e
 
-lifted_enemy : (t : Bool) (o : Option Man) (c : Colour) → is_of c (cond t None o) ≡ true → cond t None o ≡ o
-unfolding is_of
-lifted_enemy true o c h = cc
-lifted_enemy false o c h = refl
-
 pub freed : (p : Setup) (a king : ℕ) → IsSound p → a < 64 → king < 64 → is_in_check p.men p.side ≡ false
     → ((k : ℕ) → k < 64 → is_man p.side King (man_at p.men k) ≡ (k == king))
     → (a == king) ≡ false → OpensNoLine p a king → OpensNoDiagonal p a king → IsFree p a
-unfolding is_attacked attacks
 freed p a king sound low there calm one out lines diagonals = record {
   apart = at_king p a king (λ k. (a == k) ≡ false) one out;
-  safe = at_king p a king
-      (λ k. some_square (λ b. is_of (other p.side) (man_at (lifted p.men a) b)
-      && could_capture_as (lifted p.men a) (man_at (lifted p.men a) b) b k) ≡ false) one
-      (some_square-none _
-      (λ b l.
-      false_from_ne_true _
-      (λ e.
-      let both = and_parts (is_of (other p.side) (man_at (lifted p.men a) b))
-      (could_capture_as (lifted p.men a) (man_at (lifted p.men a) b) b king) e in
-      let stood : man_at (lifted p.men a) b ≡ man_at p.men b =
-      lifted_at p.men a b sound.board low ∙ lifted_enemy (b == a) (man_at p.men b) (other p.side)
-      (rw (lifted_at p.men a b sound.board low) at both.0) in
-      let was : is_of (other p.side) (man_at p.men b) ≡ true = rw (← stood) both.0 in
-      let hit : could_capture_as p.men (man_at p.men b) b king ≡ true =
-      hits_before p a b king (man_at p.men b) l refl was lines diagonals (rw (← stood) both.1) in
-      both_ways (is_attacked p.men king (other p.side)) (sym (check_is p.men p.side king there one) ∙ calm)
-      (some_square-at _ b l (and_from _ _ was hit)))));
+  safe = at_king p a king (λ k. is_attacked (lifted p.men a) k (other p.side) ≡ false) one
+      (attacked_before p.men (lifted p.men a) king (other p.side)
+      (λ b l own. lifted_at p.men a b sound.board low
+      ∙ enemy_before (b == a) None (man_at p.men b) (other p.side) (is_of-none (other p.side) None refl)
+      (rw (lifted_at p.men a b sound.board low) at own))
+      (λ b l was. hits_before p a b king (man_at p.men b) l refl was lines diagonals)
+      (sym (check_is p.men p.side king there one) ∙ calm));
 }
 
 -- a test whose negation fails holds

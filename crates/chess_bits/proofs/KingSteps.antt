@@ -30,7 +30,7 @@ use Rattle.chess_bits.specs.ties.Goes.{goes, legal_or, lifted}
 use Rattle.chess_bits.proofs.Attackers.{eq_back}
 use Rattle.chess_bits.proofs.KingAfter.{mover_some, mover_own, king_lands, check_after, legal_is}
 use Rattle.chess_bits.proofs.Lifted.{lifted_at}
-use Rattle.chess_bits.proofs.Listed.{pattern_of}
+use Rattle.chess_bits.proofs.Listed.{unpromoted}
 use Rattle.chess_bits.proofs.Patterns.{man_sound, not_promoting}
 use Rattle.chess_bits.proofs.Quiet.{IsPlain, lands_same, plain_after, not_passing}
 use Rattle.chess_bits.proofs.TargetsOf.{man_told, none_castles, steps_of_man}
@@ -172,7 +172,7 @@ step_is p a b sound king moves low high =
     let go : goes p a b ≡ true = man_sound p a b _ at refl refl low high
     (ap (λ o. legal_or p m o (man_moves p m)) none ∙ moves) in
     let stays : would_promote p a b ≡ false = not_promoting p a b _ at refl in
-    let pattern : is_pseudo_legal p m ≡ true = pattern_of p a b None go (rw stays refl) in
+    let pattern : is_pseudo_legal p m ≡ true = unpromoted p a b go stays in
     let lands : mover_end p m ≡ b = ap (mover_to m) none in
     let there : is_man p.side King (man_at (men_after p m) b) ≡ true =
     king_lands p m b (sym lands) high (ap (λ o. is_man p.side King o) (lands_same (man_at p.men a)) ∙ king) in

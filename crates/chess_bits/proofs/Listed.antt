@@ -17,7 +17,7 @@ use Rattle.chess_moves.proofs.shared.Members.{flat_map_members}
 use Rattle.chess_moves.proofs.shared.MovesBySquares.{moves-by_start, none_from, promoting, all_promote, none_promotes}
 use Rattle.chess_moves.proofs.shared.LegalMoves.{moves_fit}
 use Rattle.chess_bits.specs.ties.Goes.{goes}
-use Rattle.chess_bits.proofs.Patterns.{pattern_is}
+use Rattle.chess_bits.proofs.Patterns.{pattern_from}
 
 -- ---- members
 
@@ -87,15 +87,10 @@ room_for g now whole ms s ns n e h fits =
 
 -- ---- legal moves
 
-pub pattern_of : (p : Setup) (a b : ℕ) (k : Option Kind) → goes p a b ≡ true → promotion_fits (would_promote p a b) k
-    ≡ true → is_pseudo_legal p (move_of a b k) ≡ true
-pattern_of p a b k g f = pattern_is p (move_of a b k) ∙ and_from (goes p a b) (promotion_fits (would_promote p a b) k) g
-    f
-
 -- a move without a promotion has the pattern where no pawn would promote
 pub unpromoted : (p : Setup) (a b : ℕ) → goes p a b ≡ true → would_promote p a b ≡ false
     → is_pseudo_legal p (move_of a b None) ≡ true
-unpromoted p a b g e = pattern_of p a b None g (rw e refl)
+unpromoted p a b g e = pattern_from p (move_of a b None) g (rw e refl)
 
 all_or_none : {A : Type 0} (q : A → Bool) (w x y z : A) (t : Bool) → t ≡ q w → t ≡ q x → t ≡ q y → t ≡ q z
     → filter q (w ∷ x ∷ y ∷ z ∷ []) ≡ cond t (w ∷ x ∷ y ∷ z ∷ []) []

@@ -22,6 +22,7 @@ use Rattle.chess_base.specs.shared.Splits.{could_capture_as}
 use Rattle.chess_base.proofs.shared.Men.{is_none-None}
 use Rattle.chess_base.proofs.shared.MoveKinds.{Moves, MoveKind, ManMoves, Castles, PawnMoves, moves_from_pattern, castles_unpromoted}
 use Rattle.chess_base.proofs.shared.Squares.{each_square-all, each_square-at, some_square-at}
+use Rattle.chess_moves.proofs.shared.Origins.{begins_below}
 use Rattle.chess_moves.specs.Sets.{contains}
 use Rattle.chess_bits.specs.ties.Pins.{aims_from, IsShield}
 use Rattle.chess_bits.specs.ties.Goes.{lifted}
@@ -30,7 +31,7 @@ use Rattle.chess_base.specs.declared.line.Line.TheVariants.{Rank, File, Diagonal
 use Rattle.chess_base.specs.shared.Lines.{line_number, same_line}
 use Rattle.chess_bits.proofs.Attackers.{de_morgan, eq_back}
 use Rattle.chess_bits.proofs.BetweenSquares.{are_on_line}
-use Rattle.chess_bits.proofs.BoardSets.{own_of, theirs_of}
+use Rattle.chess_bits.proofs.BoardSets.{theirs_of}
 use Rattle.chess_bits.proofs.Freely.{from_not}
 use Rattle.chess_base.proofs.shared.Geometry.{share_diagonal_is, between_back}
 use Rattle.chess_bits.proofs.KingAfter.{mover_some, mover_own, king_stays, check_after, legal_is}
@@ -113,27 +114,6 @@ clear_lifted men a b k all low clear =
     either false i o h = h
 
 -- ---- the way to the king
-
-pub to_in : (p : Setup) (m : Move) → is_legal p m ≡ true → m.to < 64
-unfolding is_legal
-to_in p m legal =
-    let moves = moves_from_pattern p m (and_parts (is_pseudo_legal p m) (not (is_in_check (after p m).men p.side)) legal).0
-    in
-    moves.to_in
-
-from_in : (p : Setup) (m : Move) → is_legal p m ≡ true → m.from < 64
-unfolding is_legal
-from_in p m legal =
-    let moves = moves_from_pattern p m (and_parts (is_pseudo_legal p m) (not (is_in_check (after p m).men p.side)) legal).0
-    in
-    moves.from_in
-
-pub mover_told : (p : Setup) (m : Move) → is_legal p m ≡ true → is_of p.side (man_at p.men m.from) ≡ true
-unfolding is_legal
-mover_told p m legal =
-    let moves = moves_from_pattern p m (and_parts (is_pseudo_legal p m) (not (is_in_check (after p m).men p.side)) legal).0
-    in
-    ap (is_of p.side) moves.at_from ∙ own_of p.side moves.mover moves.own
 
 -- an enemy that attacks the king once the mover is off the board is captured, or the mover comes between them
 pub must_end : (p : Setup) (m : Move) (king b : ℕ) → IsSound p → is_legal p m ≡ true → king < 64
@@ -425,7 +405,7 @@ pub check_met : (p : Setup) (m : Move) (king b : ℕ) → IsSound p → is_legal
 unfolding attacks
 check_met p m king b sound legal there one no_king low gives =
     let both = and_parts (is_of (other p.side) (man_at p.men b)) (attacks p.men b king) gives in
-    let start = from_in p m legal in
+    let start = begins_below p m legal in
     answered p m king b sound legal there one no_king low both.0
     (could_capture_as_clear (lifted p.men m.from) p.men (man_at p.men b) b king
     (clear_lifted p.men m.from b king sound.board start) both.1)

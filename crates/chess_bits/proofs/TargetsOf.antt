@@ -1,7 +1,7 @@
 -- Where each kind of piece goes, as its sets say.
 use Rattle.chess_base.proofs.shared.Changes.{no_castling}
 use mathlib.Core.Bool.{or-false}
-use Rattle.std.proofs.Common.{◌≡◌, ℕ, ◌<◌, ◌≤◌, Bool, true, false, not, ◌&&◌, ◌||◌, ◌==◌, Option, Some, None, is_none, refl, sym, ap, subst, ◌∙◌, arith, get_or, [], ◌∷◌}
+use Rattle.std.proofs.Common.{◌≡◌, ℕ, ◌<◌, ◌≤◌, Bool, true, false, not, ◌&&◌, ◌||◌, ◌==◌, Option, Some, None, is_none, refl, sym, ap, subst, ◌∙◌, arith}
 use Rattle.std.specs.Prelude.{if◌then◌else◌}
 use Rattle.std.specs.Option.{is_some}
 use Rattle.std.proofs.lemmas.Bool.Decides.{nat_tests}
@@ -12,7 +12,7 @@ use Rattle.chess_base.specs.declared.man.Colour.TheVariants.{White, Black}
 use Rattle.chess_base.specs.declared.man.CastlingSide.{CastlingSide}
 use Rattle.chess_base.specs.declared.man.CastlingSide.TheVariants.{KingSide, QueenSide}
 use Rattle.chess_base.specs.declared.man.Kind.{Kind}
-use Rattle.chess_base.specs.declared.man.Kind.TheVariants.{King, Queen, Rook, Bishop, Knight, Pawn}
+use Rattle.chess_base.specs.declared.man.Kind.TheVariants.{King, Pawn}
 use Rattle.chess_base.specs.declared.man.Man.{Man}
 use Rattle.chess_base.specs.declared.man.Move.{Move}
 use Rattle.chess_base.specs.declared.man.Variant.{Variant}
@@ -21,12 +21,12 @@ use Rattle.chess_base.specs.declared.setup.Setup.{Setup}
 use Rattle.chess_base.specs.Attacks.{attacks, could_capture}
 use Rattle.chess_base.specs.shared.Splits.{could_capture_as, names_castling}
 use Rattle.chess_base.specs.Castling.{home_square, king_home_file, castled_king_file, right_of, is_castling_to, castling, castle_of}
-use Rattle.chess_base.specs.Men.{man_at, other, is_of, is_man, same_kind, same_colour, kind_number, forward, pawn_rank}
+use Rattle.chess_base.specs.Men.{man_at, other, is_of, is_man, same_kind, same_colour, forward, pawn_rank}
 use Rattle.chess_base.specs.MoveList.{move_of}
 use Rattle.chess_base.specs.Moves.{is_legal, is_pseudo_legal, man_moves, pawn_advances, pawn_captures, is_double_advance}
 use Rattle.chess_base.specs.Squares.{rank, is_square}
 use Rattle.chess_base.proofs.shared.Castling.{no_castle}
-use Rattle.chess_base.proofs.shared.Men.{same_colour-self, same_colour-true}
+use Rattle.chess_base.proofs.shared.Men.{same_colour-self, same_colour-true, same_kind-true}
 use Rattle.chess_moves.specs.Sets.{contains}
 use Rattle.chess_moves.proofs.shared.LegalMoves.{own_man_moves}
 use Rattle.chess_bits.specs.ties.Goes.{goes, names_end, legal_or, castling_or, man_goes}
@@ -126,20 +126,6 @@ ends_are p a b z f t none far near =
 
 -- ---- pawns
 
-abbrev kind_at : ℕ → Kind
-kind_at n = get_or (King ∷ Queen ∷ Rook ∷ Bishop ∷ Knight ∷ Pawn ∷ []) n King
-
-kind_back : (k : Kind) → kind_at (kind_number k) ≡ k
-kind_back King = refl
-kind_back Queen = refl
-kind_back Rook = refl
-kind_back Bishop = refl
-kind_back Knight = refl
-kind_back Pawn = refl
-
-pub same_kind-true : (k l : Kind) → same_kind k l ≡ true → l ≡ k
-same_kind-true k l h = sym (kind_back l) ∙ ap kind_at (sym (eqb-true (kind_number k) (kind_number l) h)) ∙ kind_back k
-
 -- the piece that passes a test
 pub man_told : (c : Colour) (k : Kind) (o : Option Man) → is_man c k o ≡ true
     → o ≡ Some (record { colour = c; kind = k })
@@ -149,7 +135,7 @@ man_told c k (Some x) h =
     let both = and_parts (same_colour c x.colour) (same_kind k x.kind) h in
     ap (λ (d : Colour). let y : Man = record { colour = d; kind = x.kind } in Some y)
     (sym (same_colour-true c x.colour both.0))
-    ∙ ap (λ (l : Kind). let y : Man = record { colour = c; kind = l } in Some y) (same_kind-true k x.kind both.1)
+    ∙ ap (λ (l : Kind). let y : Man = record { colour = c; kind = l } in Some y) (sym (same_kind-true k x.kind both.1))
 
 pub captures_is : (p : Setup) (a b : ℕ) → is_man p.side Pawn (man_at p.men a) ≡ true
     → (could_capture p.men p.side Pawn a b && (is_of (other p.side) (man_at p.men b) || is_square p.target b))

@@ -138,7 +138,7 @@ impl Board for Bits<'_> {
         if is_pawn(kind) {
             return self.pawns_to(to);
         }
-        reached_among(self.tables, self.sets.occupied(), side, kind, to, own)
+        reached_among(self.tables, self.sets.occupied(), kind, to, own)
     }
 
     // The squares of this colour's pieces of this kind.

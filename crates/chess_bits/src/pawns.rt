@@ -103,7 +103,9 @@ impl Bits<'_> {
     #[inline(always)]
     pub(crate) fn without_special_pawns(&self, free: SquareSet) -> SquareSet
         requires { (k : ℕ) → k < 64 → contains free k ≡ true → IsFree self.now k }
-        ensures { (k : ℕ) → k < 64 → contains result k ≡ true → GoesFreely self.now k }
+        ensures squares { (k : ℕ) → k < 64
+            → contains result k ≡ (contains free k && not (is_man (self.now).side Pawn (man_at (self.now).men k) && goes_specially self.now k)) }
+        ensures freely { (k : ℕ) → k < 64 → contains result k ≡ true → GoesFreely self.now k }
     {
         let pawns = self.men_of(self.setup.side, Kind::Pawn);
         let special = pawns.intersection(self.special_squares());

@@ -10,7 +10,7 @@ use Rattle.chess_base.specs.Men.{man_at, is_man, is_of, other}
 use Rattle.chess_base.specs.Squares.{share_rank_or_file, share_diagonal}
 use Rattle.chess_bits.specs.ties.Pins.{aims_from, KeepsClosed}
 use Rattle.chess_moves.specs.Sets.{contains}
-use Rattle.chess_bits.proofs.Pins.{mover_told}
+use Rattle.chess_moves.proofs.shared.LegalMoves.{own_man_moves}
 use Rattle.chess_bits.proofs.Freely.{freed}
 use Rattle.chess_bits.proofs.Listed.{each_member, each_first}
 use Rattle.chess_bits.proofs.OneKing.{alone}
@@ -37,7 +37,7 @@ loop-from-init c =
           (both_ways (contains c.without.result a) outside
           (own a low
           ∙ and_from (is_of p.side (man_at p.men a)) (not (a == king))
-          (ap (λ k. is_of p.side (man_at p.men k)) (sym at) ∙ mover_told p m legal)
+          (ap (λ k. is_of p.side (man_at p.men k)) (sym at) ∙ own_man_moves p m legal)
           (ap not (sym (one a low) ∙ no_king))));
     })
 
