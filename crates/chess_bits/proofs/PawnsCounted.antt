@@ -142,108 +142,16 @@ record AreApart (n t l r : ℕ) : Type 0 where
 
 apart : (c : Colour) (a : ℕ) → Inside c a
     → AreApart (forward c a) (forward c (forward c a)) (forward c a - 1) (forward c a + 1)
-apart White a i = record {
-  low_n = omega (arith, i.1);
-  low_t = omega (arith, i.1);
-  low_l = omega (arith, i.1);
-  low_r = omega (arith, i.1);
-  nt = λ e. omega (arith, e);
-  nl = λ e. omega (arith, e);
-  nr = λ e. omega (arith, e);
-  tl = λ e. omega (arith, e);
-  tr = λ e. omega (arith, e);
-  lr = λ e. omega (arith, e);
-}
-apart Black a i = record {
-  low_n = omega (arith, i.1);
-  low_t = omega (arith, i.1);
-  low_l = omega (arith, i.1);
-  low_r = omega (arith, i.1);
-  nt = λ e. omega (arith, e, i.0);
-  nl = λ e. omega (arith, e, i.0);
-  nr = λ e. omega (arith, e, i.0);
-  tl = λ e. omega (arith, e, i.0);
-  tr = λ e. omega (arith, e, i.0);
-  lr = λ e. omega (arith, e, i.0);
-}
-
-same_tests : (s t : Bool) → (s ≡ true → t ≡ true) → (t ≡ true → s ≡ true) → s ≡ t
-same_tests true t h g = sym (h refl)
-same_tests false true h g = g refl
-same_tests false false h g = refl
-
--- one file apart is to the left or to the right
-aside : (m n : ℕ) → abs_diff m n ≡ 1 → (m ≡ n + 1) ⊎ (n ≡ m + 1)
-aside m n e = grind (arith, e)
-
-off_edge : (n m : ℕ) → not (n == m) ≡ true → n ≡ m → ⊥
-off_edge n m h e = both_ways (n == m) (not-true _ h) (eq-eqb n m e)
-
-off_edge' : (n m : ℕ) → (n ≡ m → ⊥) → not (n == m) ≡ true
-off_edge' n m h = rw (ne_eqb n m h) refl
+apart White a i = let low = i.0 in let high = i.1 in grind arith
+apart Black a i = let low = i.0 in let high = i.1 in grind arith
 
 -- where a pawn attacks
-left_of : (c : Colour) (a b : ℕ) → Inside c a → file a ≡ file b + 1 → is_rank_ahead c a b ≡ true → b ≡ forward c a - 1
-left_of White a b i f e = let r = eqb-true (rank b) (rank a + 1) e in omega (arith, f, r)
-left_of Black a b i f e = let r = eqb-true (rank a) (rank b + 1) e in omega (arith, f, r)
-
-right_of : (c : Colour) (a b : ℕ) → Inside c a → file b ≡ file a + 1 → is_rank_ahead c a b ≡ true
-    → b ≡ forward c a + 1
-right_of White a b i f e = let r = eqb-true (rank b) (rank a + 1) e in omega (arith, f, r)
-right_of Black a b i f e = let r = eqb-true (rank a) (rank b + 1) e in omega (arith, f, r)
-
-to_left : (men : Men) (c : Colour) (a b : ℕ) → Inside c a → (file a ≡ 0 → ⊥) → b ≡ forward c a - 1
-    → could_capture men c Pawn a b ≡ true
-unfolding could_capture
-to_left men White a b i off e =
-    and_from (abs_diff (file a) (file b) == 1) (rank b == rank a + 1)
-    (eq-eqb (abs_diff (file a) (file b)) 1 (omega (arith, e, off)))
-    (eq-eqb (rank b) (rank a + 1) (omega (arith, e, off)))
-to_left men Black a b i off e =
-    and_from (abs_diff (file a) (file b) == 1) (rank a == rank b + 1)
-    (eq-eqb (abs_diff (file a) (file b)) 1 (omega (arith, e, off, i.0)))
-    (eq-eqb (rank a) (rank b + 1) (omega (arith, e, off, i.0)))
-
-to_right : (men : Men) (c : Colour) (a b : ℕ) → Inside c a → (file a ≡ 7 → ⊥) → b ≡ forward c a + 1
-    → could_capture men c Pawn a b ≡ true
-unfolding could_capture
-to_right men White a b i off e =
-    and_from (abs_diff (file a) (file b) == 1) (rank b == rank a + 1)
-    (eq-eqb (abs_diff (file a) (file b)) 1 (omega (arith, e, off)))
-    (eq-eqb (rank b) (rank a + 1) (omega (arith, e, off)))
-to_right men Black a b i off e =
-    and_from (abs_diff (file a) (file b) == 1) (rank a == rank b + 1)
-    (eq-eqb (abs_diff (file a) (file b)) 1 (omega (arith, e, off, i.0)))
-    (eq-eqb (rank a) (rank b + 1) (omega (arith, e, off, i.0)))
-
-attacked : (men : Men) (c : Colour) (a b : ℕ) → Inside c a → could_capture men c Pawn a b ≡ true
-    → ((not (file a == 0) && (b == forward c a - 1)) || (not (file a == 7) && (b == forward c a + 1))) ≡ true
-unfolding could_capture
-attacked men c a b i h =
-    let both = and_parts (abs_diff (file a) (file b) == 1) (is_rank_ahead c a b) h in
-    elim (aside (file a) (file b) (eqb-true (abs_diff (file a) (file b)) 1 both.0)) [
-      | inl left ↦
-          or_left (not (file a == 0) && (b == forward c a - 1)) (not (file a == 7) && (b == forward c a + 1))
-          (and_from (not (file a == 0)) (b == forward c a - 1) (off_edge' (file a) 0 (λ e. omega (arith, e, left)))
-          (eq-eqb b (forward c a - 1) (left_of c a b i left both.1)))
-      | inr right ↦
-          or_right (not (file a == 0) && (b == forward c a - 1)) (not (file a == 7) && (b == forward c a + 1))
-          (and_from (not (file a == 7)) (b == forward c a + 1) (off_edge' (file a) 7 (λ e. omega (arith, e, right)))
-          (eq-eqb b (forward c a + 1) (right_of c a b i right both.1)))
-    ]
-
 attacks_so : (men : Men) (c : Colour) (a b : ℕ) → Inside c a
     → could_capture men c Pawn a b
     ≡ ((not (file a == 0) && (b == forward c a - 1)) || (not (file a == 7) && (b == forward c a + 1)))
-attacks_so men c a b i = same_tests _ _ (attacked men c a b i) (λ h.
-    elim (or_cases (not (file a == 0) && (b == forward c a - 1)) (not (file a == 7) && (b == forward c a + 1)) h) [
-      | inl left ↦
-          let two = and_parts (not (file a == 0)) (b == forward c a - 1) left in
-          to_left men c a b i (off_edge (file a) 0 two.0) (eqb-true b (forward c a - 1) two.1)
-      | inr right ↦
-          let two = and_parts (not (file a == 7)) (b == forward c a + 1) right in
-          to_right men c a b i (off_edge (file a) 7 two.0) (eqb-true b (forward c a + 1) two.1)
-    ])
+unfolding could_capture
+attacks_so men White a b i = grind (arith, nat_tests, i.0, i.1)
+attacks_so men Black a b i = grind (arith, nat_tests, i.0, i.1)
 
 -- it attacks a square from where an enemy pawn there attacks
 pub aims_back : (c : Colour) (k t : ℕ) → in_shape (shape.Pawn (other c)) t k ≡ in_shape (shape.Pawn c) k t

@@ -2,7 +2,8 @@
 -- would attack it, or to that piece.
 use Rattle.chess_base.proofs.shared.Changes.{at_target}
 use Rattle.chess_bits.proofs.TargetsOf.{no_king_castles}
-use Rattle.std.proofs.Common.{◌≡◌, ℕ, ◌<◌, ◌⊎◌, inl, inr, Bool, true, false, not, ◌&&◌, ◌||◌, ◌==◌, cond, Option, Some, None, is_none, length, refl, sym, ap, ◌∙◌, arith}
+use Rattle.std.specs.Int.{abs_diff}
+use Rattle.std.proofs.Common.{◌≡◌, ℕ, ◌+◌, ◌-◌, ◌<◌, ◌⊎◌, inl, inr, Bool, true, false, not, ◌&&◌, ◌||◌, ◌==◌, cond, Option, Some, None, is_none, length, refl, sym, ap, ◌∙◌, arith}
 use Rattle.std.proofs.lemmas.Bool.Decides.{nat_tests}
 use Rattle.std.proofs.lemmas.Bool.{and_parts, and_from, and_right, or_parts, or_cases, or_left, or_right, both_ways, cases_Bool, eqb-true, eq-eqb, false_from_ne_true, not-true}
 use Rattle.chess_base.specs.declared.man.Colour.{Colour}
@@ -320,74 +321,44 @@ many_hide p h r s a b k all low high hides here others clear x l =
 
 -- ---- what has squares between it is on one line
 
+not_level : (f g h r s t : ℕ) (over along : Bool)
+    → ((((h == f) && (h == g)) && over) || (((t == r) && (t == s)) && along)) ≡ true → (f == g) ≡ false
+    → (r == s) ≡ false → ⊥
+not_level f g h r s t over along e level upright = grind (arith, nat_tests, e, level, upright)
+
+aslant : (f r g s h t : ℕ) → f < 8 → g < 8 → h < 8
+    → ((((abs_diff f h == abs_diff r t) && (abs_diff h g == abs_diff t s)) && is_strictly_between r s t)
+    && is_strictly_between f g h) ≡ true
+    → (r + 7 - f == s + 7 - g) ≡ false → (r + f == s + g) ≡ true
+aslant f r g s h t lf lg lh e off = grind (arith, nat_tests, e, off, lf, lg, lh)
+
 pub line_between : (a b x : ℕ) → a < 64 → b < 64 → x < 64 → is_between a b x ≡ true
     → (l : Line) × (same_line l a b ≡ true)
 unfolding is_between is_between_on_file is_between_on_rank is_between_on_diagonal
 line_between a b x la lb lx h =
-    elim (or_cases (is_between_on_file a b x || is_between_on_rank a b x) (is_between_on_diagonal a b x) h) [
-      | inl straight ↦
-          elim (or_cases (is_between_on_file a b x) (is_between_on_rank a b x) straight) [
-            | inl f ↦
-                let one = and_parts ((file x == file a) && (file x == file b))
-                (is_strictly_between (rank a) (rank b) (rank x))
-                f in
-                let two = and_parts (file x == file a) (file x == file b) one.0 in (
-                  File,
-                  eq-eqb (file a) (file b)
-                      (sym (eqb-true (file x) (file a) two.0) ∙ eqb-true (file x) (file b) two.1),
-                )
-            | inr r ↦
-                let one = and_parts ((rank x == rank a) && (rank x == rank b))
-                (is_strictly_between (file a) (file b) (file x))
-                r in
-                let two = and_parts (rank x == rank a) (rank x == rank b) one.0 in (
-                  Rank,
-                  eq-eqb (rank a) (rank b)
-                      (sym (eqb-true (rank x) (rank a) two.0) ∙ eqb-true (rank x) (rank b) two.1),
-                )
+    elim (cases_Bool (same_line File a b)) [
+      | inl e ↦ (File, e)
+      | inr level ↦
+          elim (cases_Bool (same_line Rank a b)) [
+            | inl e ↦ (Rank, e)
+            | inr upright ↦
+                elim (cases_Bool (same_line Diagonal a b)) [
+                  | inl e ↦ (Diagonal, e)
+                  | inr off ↦
+                      elim (or_cases (is_between_on_file a b x || is_between_on_rank a b x)
+                      (is_between_on_diagonal a b x) h) [
+                        | inl straight ↦ absurd (not_level (file a) (file b) (file x) (rank a) (rank b) (rank x)
+                            (is_strictly_between (rank a) (rank b) (rank x))
+                            (is_strictly_between (file a) (file b) (file x)) straight level upright)
+                        | inr d ↦ (
+                          Antidiagonal,
+                          aslant (file a) (rank a) (file b) (rank b) (file x) (rank x) (omega arith) (omega arith)
+                              (omega arith) d off,
+                        )
+                      ]
+                ]
           ]
-      | inr d ↦
-          let one = and_parts
-          ((share_diagonal a x && share_diagonal x b) && is_strictly_between (rank a) (rank b) (rank x))
-          (is_strictly_between (file a) (file b) (file x)) d in
-          let two = and_parts (share_diagonal a x && share_diagonal x b)
-          (is_strictly_between (rank a) (rank b) (rank x)) one.0
-          in
-          let both = and_parts (share_diagonal a x) (share_diagonal x b) two.0 in
-          aslant (or_cases (same_line Diagonal a x) (same_line Antidiagonal a x)
-          (sym (share_diagonal_is a x la lx) ∙ both.0))
-          (or_cases (same_line Diagonal x b) (same_line Antidiagonal x b)
-          (sym (share_diagonal_is x b lx lb) ∙ both.1)) two.1 one.1
     ]
-  where
-    bent : same_line Diagonal a x ≡ true → same_line Antidiagonal x b ≡ true
-        → is_strictly_between (rank a) (rank b) (rank x) ≡ true → is_strictly_between (file a) (file b) (file x) ≡ true
-        → ⊥
-    bent e f r s = grind (arith, nat_tests, e, f, r, s)
-
-    bent_back : same_line Antidiagonal a x ≡ true → same_line Diagonal x b ≡ true
-        → is_strictly_between (rank a) (rank b) (rank x) ≡ true → is_strictly_between (file a) (file b) (file x) ≡ true
-        → ⊥
-    bent_back e f r s = grind (arith, nat_tests, e, f, r, s)
-
-    aslant : ((same_line Diagonal a x ≡ true) ⊎ (same_line Antidiagonal a x ≡ true))
-        → ((same_line Diagonal x b ≡ true) ⊎ (same_line Antidiagonal x b ≡ true))
-        → is_strictly_between (rank a) (rank b) (rank x) ≡ true → is_strictly_between (file a) (file b) (file x) ≡ true
-        → (l : Line) × (same_line l a b ≡ true)
-    aslant (inl e) (inl f) r s = (
-      Diagonal,
-      eq-eqb (line_number Diagonal a) (line_number Diagonal b)
-          (eqb-true (line_number Diagonal a) (line_number Diagonal x) e
-          ∙ eqb-true (line_number Diagonal x) (line_number Diagonal b) f),
-    )
-    aslant (inr e) (inr f) r s = (
-      Antidiagonal,
-      eq-eqb (line_number Antidiagonal a) (line_number Antidiagonal b)
-          (eqb-true (line_number Antidiagonal a) (line_number Antidiagonal x) e
-          ∙ eqb-true (line_number Antidiagonal x) (line_number Antidiagonal b) f),
-    )
-    aslant (inl e) (inr f) r s = absurd (bent e f r s)
-    aslant (inr e) (inl f) r s = absurd (bent_back e f r s)
 
 -- a square that is no longer in a set was taken out of it, or was not in it
 pub taken_out : (before now one : Bool) → now ≡ (before && not one) → now ≡ false

@@ -24,7 +24,8 @@ use chess_base::rules::{
 use chess_base::{CastlingSide, Colour, Kind, Move, Square, Variant};
 use chess_moves::SquareSet;
 
-// The square straight ahead of `square` for a pawn of this colour. From its last rank, where no pawn stands, it is
+// The square straight ahead of `square` for a pawn of this colour: `behind` of pawns.rt goes back from a set, but lists of
+// moves are made pawn by pawn. From its last rank, where no pawn stands, it is
 // `None` for White, and a1 for Black, since the number 0 gets no lower.
 fn ahead(colour: Colour, square: Square) -> Option<Square>
     ensures { MatchOption result (64 ≤ forward colour square) (λ s. s ≡ forward colour square) }

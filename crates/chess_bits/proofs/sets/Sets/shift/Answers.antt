@@ -1,10 +1,10 @@
 -- The piece's square leaves the sets of its colour and the other comes into them; no set of the other colour gets or
 -- loses one (BoardSets).
-use Rattle.std.proofs.Common.{◌≡◌, slice_set, length, length-set, Some, None, sym, ◌∙◌, subst}
+use Rattle.std.proofs.Common.{◌≡◌, slice_set, length, length-set, Some, None, refl, sym, ◌∙◌, subst}
 use Rattle.chess_base.specs.declared.man.Colour.TheVariants.{White, Black}
 use Rattle.chess_base.specs.Men.{man_at}
 use Rattle.chess_bits.specs.ties.KindSets.{IsKinds}
-use Rattle.chess_bits.proofs.BoardSets.{theirs_put, theirs_lifted, all_theirs_put, all_theirs_lifted, own_of, as_own, still_empty}
+use Rattle.chess_bits.proofs.BoardSets.{kinds_kept, all_kept, none_of, theirs_at, theirs_of, own_of, as_own, still_empty}
 use Rattle.chess_moves.proofs.shared.PositionHash.{word_put, word_lifted}
 use Rattle.chess_bits.proofs.sets.Sets.shift.Goals as goal
 
@@ -20,11 +20,11 @@ returns-in-White c = λ men all at bare h.
     record {
       of_white = subst (λ v. IsKinds c.shift.new.self.sets White (slice_set rest c.args.to v)) (sym (as_own White x white))
           (c.shift.ensures.kinds men White all (at ∙ as_own White x white) bare h.of_white);
-      of_black = theirs_put _ rest White c.args.to x whole high white free
-          (theirs_lifted _ men White c.args.from x all low white at h.of_black);
+      of_black = kinds_kept _ rest Black c.args.to (Some x) whole high (none_of Black _ free) (theirs_of White x white)
+          (kinds_kept _ men Black c.args.from None all low (theirs_at White x _ at white) (none_of Black None refl) h.of_black);
       all_white = c.shift.ensures.all men White (Some x) all (own_of White x white) h.all_white;
-      all_black = all_theirs_put _ rest White c.args.to x whole high white free
-          (all_theirs_lifted _ men White c.args.from x all low white at h.all_black);
+      all_black = all_kept _ rest Black c.args.to (Some x) whole high (none_of Black _ free) (theirs_of White x white)
+          (all_kept _ men Black c.args.from None all low (theirs_at White x _ at white) (none_of Black None refl) h.all_black);
       men_word = word_put rest c.args.to x _ _ whole high free
           (word_lifted men c.args.from x _ _ all low at h.men_word c.man_key.ensures) c.man_key-in-White.ensures;
     }
@@ -42,11 +42,11 @@ returns-in-Black c = λ men all at bare h.
       of_black = subst (λ v. IsKinds c.shift-in-Black.new.self.sets Black (slice_set rest c.args.to v))
           (sym (as_own Black x black))
           (c.shift-in-Black.ensures.kinds men Black all (at ∙ as_own Black x black) bare h.of_black);
-      of_white = theirs_put _ rest Black c.args.to x whole high black free
-          (theirs_lifted _ men Black c.args.from x all low black at h.of_white);
+      of_white = kinds_kept _ rest White c.args.to (Some x) whole high (none_of White _ free) (theirs_of Black x black)
+          (kinds_kept _ men White c.args.from None all low (theirs_at Black x _ at black) (none_of White None refl) h.of_white);
       all_black = c.shift-in-Black.ensures.all men Black (Some x) all (own_of Black x black) h.all_black;
-      all_white = all_theirs_put _ rest Black c.args.to x whole high black free
-          (all_theirs_lifted _ men Black c.args.from x all low black at h.all_white);
+      all_white = all_kept _ rest White c.args.to (Some x) whole high (none_of White _ free) (theirs_of Black x black)
+          (all_kept _ men White c.args.from None all low (theirs_at Black x _ at black) (none_of White None refl) h.all_white);
       men_word = word_put rest c.args.to x _ _ whole high free
           (word_lifted men c.args.from x _ _ all low at h.men_word c.man_key.ensures) c.man_key-in-Black.ensures;
     }
