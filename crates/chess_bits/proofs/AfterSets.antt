@@ -41,7 +41,7 @@ occupied_after p m k h l =
     (is_square (second_square_emptied p m) k || (m.from == k))
     (arriving_man (man_at p.men m.from) m.promotion) (man_at p.men k) p.side h)
 
-kept_by : (t r l : Bool) (a k : Option Man) (c d : Colour) (kind : Kind)
+pub kept_by : (t r l : Bool) (a k : Option Man) (c d : Colour) (kind : Kind)
     → is_man d kind a ≡ false → is_man d kind (Some (record { colour = c; kind = Rook })) ≡ false
     → (is_man d kind k && not (t || r || l))
     ≡ is_man d kind (cond t a (cond r (Some (record { colour = c; kind = Rook })) (cond l None k)))

@@ -1,6 +1,5 @@
 -- Pieces without which their king is not attacked: where they go, they go legally.
 use Rattle.std.proofs.Common.{◌≡◌, ℕ, ◌+◌, ◌<◌, ◌≤◌, ◌⊎◌, inl, inr, Bool, true, false, not, ◌&&◌, ◌||◌, ◌==◌, Option, Some, None, cond, [], ◌∷◌, length, map, refl, sym, ap, ◌∙◌, subst, arith}
-use Rattle.std.proofs.lemmas.List.{length-map}
 use Rattle.std.proofs.lemmas.Bool.{and_parts, and_from, false_from_ne_true, and_right, or_cases, or_parts, eqb-true, eq-eqb, ne_eqb, both_ways, cases_Bool, and_left}
 use Rattle.chess_base.specs.declared.man.Colour.{Colour}
 use Rattle.chess_base.specs.declared.man.Colour.TheVariants.{White, Black}
@@ -161,15 +160,6 @@ free_listed p a king w sound free ordinary low there one sets all =
     ∙ all_ones (λ b. moves_between p a b) (λ b. move_of a b None) (members w)
     (each_member w (λ b. moves_between p a b ≡ move_of a b None ∷ [])
     (λ b high h. free_between p a b king sound free ordinary low high there one (sets b high h)))
-
-pub free_counted : (p : Setup) (a king w : ℕ) → IsSound p → IsFree p a → IsOrdinary p a → a < 64 → king < 64
-    → ((k : ℕ) → k < 64 → is_man p.side King (man_at p.men k) ≡ (k == king))
-    → ((k : ℕ) → k < 64 → contains w k ≡ true → goes p a k ≡ true)
-    → ((m : Move) → is_legal p m ≡ true → m.from ≡ a → contains w m.to ≡ true)
-    → length (members w) ≡ length (moves_from p a)
-free_counted p a king w sound free ordinary low there one sets all =
-    sym (ap length (free_listed p a king w sound free ordinary low there one sets all)
-    ∙ length-map (members w) (λ b. move_of a b None))
 
 -- ---- the set of the free pieces
 

@@ -1,7 +1,8 @@
 -- The list of legal moves, over the members of sets.
 use Rattle.std.proofs.Common.{◌≡◌, ℕ, zero, suc, ◌+◌, ◌<◌, ◌≤◌, inl, inr, Bool, true, false, Option, Some, None, List, [], ◌∷◌, ◌++◌, length, map, take, cond, refl, sym, ap, subst, ◌∙◌, arith, length-append}
 use Rattle.std.specs.List.{filter, flat_map, range_with_len}
-use Rattle.std.proofs.lemmas.Bool.{cases_Bool, and_from, false_from_ne_true, both_ways}
+use Rattle.std.proofs.lemmas.List.{length-map, length-take-le}
+use Rattle.std.proofs.lemmas.Bool.{cases_Bool, false_from_ne_true, both_ways}
 use Rattle.chess_base.specs.declared.man.Kind.{Kind}
 use Rattle.chess_base.specs.declared.man.Kind.TheVariants.{Queen, Rook, Bishop, Knight}
 use Rattle.chess_base.specs.declared.man.Move.{Move}
@@ -61,19 +62,12 @@ room_onto f now whole ms s ns n e h fits =
     ∙ ap length all in
     omega (arith, long, fits)
 
-more_than : {A B : Type 0} (f : A → B) (xs : List A) (i : ℕ) → i < length xs
-    → length (map f (take i xs)) < length xs
-more_than f [] i h = absurd (omega (arith, h))
-more_than f (x ∷ xs) zero h = omega arith
-more_than f (x ∷ xs) (suc i) h = let rest = more_than f xs i (omega (arith, h)) in omega (arith, rest)
-
 -- where all of a list fit, there is room for the next of them
 pub room_for_each : {A B : Type 0} (f : A → B) (xs : List A) (i : ℕ) (start now : List B) (room : ℕ) → i < length xs
     → now ≡ start ++ map f (take i xs) → length start + length xs ≤ room → length now < room
 room_for_each f xs i start now room h e fits =
-    let more = more_than f xs i h in
-    let all : length now ≡ length start + length (map f (take i xs)) = rw e (length-append start (map f (take i xs))) in
-    omega (arith, more, all, fits)
+    let long = ap length e ∙ length-append start (map f (take i xs)) in
+    omega (arith, long, length-map (take i xs) f, length-take-le i xs (omega (arith, h)), h, fits)
 
 -- there is room for the next
 pub room_for : {A : Type 0} (g : ℕ → List A) (now whole : List A) (ms : List ℕ) (s : ℕ) (ns : List ℕ) (n : ℕ)

@@ -36,5 +36,5 @@ returns c = λ k low h.
     (freed p k king c.self.invariant.0 low there calm alone apart
     (λ b high theirs on clear. off_line p.men k b king c.self.invariant.0.board low line
     (and_parts (not (b == king)) (share_rank_or_file b king) on).1 clear)
-    (λ b high theirs on clear. off_diagonal p.men k b king c.self.invariant.0.board low high there diagonal
+    (λ b high theirs on clear. off_diagonal p.men k b king c.self.invariant.0.board low diagonal
     (and_parts (not (b == king)) (share_diagonal b king) on).1 clear))
