@@ -18,6 +18,7 @@ use Rattle.chess_base.proofs.shared.MenAfter.{man_after, man_at-men_after}
 use Rattle.chess_base.proofs.shared.Men.{not_is_man}
 use Rattle.chess_base.proofs.shared.Squares.{some_square-at, some_square-none}
 use Rattle.chess_moves.specs.Sets.{contains}
+use Rattle.chess_bits.proofs.BoardSets.{theirs_of}
 use Rattle.chess_bits.specs.ties.Changes.{is_changed, is_filled}
 use Rattle.chess_bits.specs.ties.Occupancy.{IsLater}
 
@@ -51,12 +52,6 @@ kept_by false true l a k c d x h e = rw e (and_right (is_man d x k) false refl)
 kept_by false false true a k c d x h e = and_right (is_man d x k) false refl
 kept_by false false false a k c d x h e = and-true (is_man d x k)
 
-other_not_own : (c : Colour) (k : Kind) (kind : Kind) → is_man (other c) kind (Some (record { colour = c; kind = k }))
-    ≡ false
-unfolding is_man
-other_not_own White k x = refl
-other_not_own Black k x = refl
-
 -- the enemy's pieces after a move: those on squares that did not change
 pub enemy_after : (p : Setup) (m : Move) (kind : Kind) (k : ℕ)
     → is_of (other p.side) (arriving_man (man_at p.men m.from) m.promotion) ≡ false → k < 64
@@ -68,7 +63,7 @@ enemy_after p m x k h l =
     (kept_by (mover_end p m == k) (is_square (castling_rook_to p m) k)
     (is_square (second_square_emptied p m) k || (m.from == k))
     (arriving_man (man_at p.men m.from) m.promotion) (man_at p.men k) p.side (other p.side) x
-    (not_is_man (other p.side) x (arriving_man (man_at p.men m.from) m.promotion) h) (other_not_own p.side Rook x))
+    (not_is_man (other p.side) x (arriving_man (man_at p.men m.from) m.promotion) h) (not_is_man (other p.side) x _ (theirs_of p.side (record { colour = p.side; kind = Rook }) refl)))
 
 -- where the king's square is known, a check is an attack on it
 pub check_is : (men : Men) (c : Colour) (king : ℕ) → king < 64

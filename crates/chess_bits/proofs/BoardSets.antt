@@ -9,7 +9,8 @@ use Rattle.chess_base.specs.declared.man.Man.{Man}
 use Rattle.chess_base.specs.Men.{Men, man_at, is_of, is_man, other, kind_number}
 use Rattle.chess_moves.specs.Sets.{contains}
 use Rattle.std.proofs.lemmas.List.{set-get_or}
-use Rattle.chess_base.proofs.shared.Men.{not_is_man, is_of-none}
+use Rattle.chess_base.proofs.shared.Changes.{not_same_other}
+use Rattle.chess_base.proofs.shared.Men.{not_is_man, is_of-none, same_colour-self}
 use Rattle.chess_bits.specs.ties.KindSets.{IsAll, IsKinds}
 
 -- the sets of a colour none of whose pieces came or went
@@ -58,13 +59,11 @@ all_lift w v men c s all ls made h = λ k l.
 
 pub theirs_of : (d : Colour) (m : Man) → m.colour ≡ d → is_of (other d) (Some m) ≡ false
 unfolding is_of
-theirs_of White m e = rw e refl
-theirs_of Black m e = rw e refl
+theirs_of d m e = rw e (not_same_other d)
 
 pub own_of : (d : Colour) (m : Man) → m.colour ≡ d → is_of d (Some m) ≡ true
 unfolding is_of
-own_of White m e = rw e refl
-own_of Black m e = rw e refl
+own_of d m e = rw e (same_colour-self d)
 
 pub as_own : (d : Colour) (m : Man) → m.colour ≡ d → Some m ≡ Some (record { colour = d; kind = m.kind })
 as_own d m e = ap (λ (c : Colour). let man : Man = record { colour = c; kind = m.kind } in Some man) e

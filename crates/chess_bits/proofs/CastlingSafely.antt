@@ -25,6 +25,7 @@ use Rattle.chess_base.proofs.shared.Castling.{right_is_sound_of, placed_for_righ
 use Rattle.chess_base.proofs.shared.Changes.{no_en_passant}
 use Rattle.chess_base.proofs.shared.MenAfter.{man_after, man_at-men_after}
 use Rattle.chess_base.proofs.shared.Men.{in_board, is_man-kind}
+use Rattle.chess_bits.proofs.BoardSets.{theirs_of}
 use Rattle.chess_bits.proofs.CastlingAtHome.{at_home, stands}
 use Rattle.chess_base.proofs.shared.Squares.{each_square-all, each_square-at, some_square-at, some_square-none}
 use Rattle.chess_bits.proofs.CastlingBySets.{king_goes, castle_pattern, king_end_low, rook_end_low}
@@ -86,11 +87,6 @@ enemy_stood true r l arr rook o c n g e = absurd (both_ways _ n e)
 enemy_stood false true l arr rook o c n g e = absurd (both_ways _ g e)
 enemy_stood false false true arr rook o c n g e = cc
 enemy_stood false false false arr rook o c n g e = refl
-
-own_rook : (c : Colour) → is_of (other c) (Some (record { colour = c; kind = Rook })) ≡ false
-unfolding is_of
-own_rook White = refl
-own_rook Black = refl
 
 -- king to t, rook to r; f and a are left
 abbrev Castled : Men → Men → ℕ → ℕ → ℕ → ℕ → Option Man → Option Man → Type 0
@@ -186,7 +182,7 @@ safe_by p m w r sound normal says right e pattern safe =
     let k = castle_from p.side w m.from r in
     still_safe p.men (men_after p m) (other p.side) t (home_square p.side (castled_rook_file w)) r m.from
     (arriving_man (man_at p.men m.from) m.promotion) (Some (record { colour = p.side; kind = Rook }))
-    (λ s l. after_castling p m k s e l) refl (mover_own p m pattern) (own_rook p.side) (ends_apart p.side w)
+    (λ s l. after_castling p m k s e l) refl (mover_own p m pattern) (theirs_of p.side (record { colour = p.side; kind = Rook }) refl) (ends_apart p.side w)
     (home_low p.side (castled_rook_file w) (rook_end_low w))
     (λ b i. past_king p.side w b (ap (λ y. is_between b t y) (sym home.0) ∙ i))
     (λ b. ap (λ y. is_between b t y) home.1 ∙ past_rook p.side w b)

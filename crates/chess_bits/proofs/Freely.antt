@@ -1,6 +1,6 @@
 -- Pieces without which their king is not attacked: where they go, they go legally.
 use Rattle.std.proofs.Common.{◌≡◌, ℕ, ◌+◌, ◌<◌, ◌≤◌, ◌⊎◌, inl, inr, Bool, true, false, not, ◌&&◌, ◌||◌, ◌==◌, Option, Some, None, cond, [], ◌∷◌, length, map, refl, sym, ap, ◌∙◌, subst, arith}
-use Rattle.std.proofs.lemmas.Bool.{and_parts, and_from, false_from_ne_true, and_right, or_cases, or_parts, eqb-true, eq-eqb, ne_eqb, both_ways, cases_Bool, and_left}
+use Rattle.std.proofs.lemmas.Bool.{and_parts, and_from, false_from_ne_true, and_right, or_cases, or_left, or_right, or_parts, eqb-false, eqb-true, eq-eqb, ne_eqb, both_ways, cases_Bool, and_left}
 use Rattle.chess_base.specs.declared.man.Colour.{Colour}
 use Rattle.chess_base.specs.declared.man.Colour.TheVariants.{White, Black}
 use Rattle.chess_base.specs.declared.man.Kind.{Kind}
@@ -24,7 +24,8 @@ use Rattle.chess_moves.specs.Promoting.{would_promote}
 use Rattle.chess_moves.specs.Sets.{contains, members}
 use Rattle.chess_bits.specs.declared.table.Shape.TheVariants as shape
 use Rattle.chess_bits.specs.ties.Shapes.{in_shape}
-use Rattle.chess_bits.specs.ties.Goes.{goes, aims_at, OpensNoLine, OpensNoDiagonal, IsFree, lifted}
+use Rattle.chess_bits.specs.ties.Goes.{goes, aims_at, IsFree, lifted}
+use Rattle.chess_bits.specs.ties.Pins.{aims_from, KeepsClosed}
 use Rattle.chess_bits.proofs.AfterSets.{check_is}
 use Rattle.chess_bits.proofs.KingAfter.{mover_some, mover_own, king_stays, check_after, legal_is}
 use Rattle.chess_bits.proofs.Listed.{all_ones, each_member, from_targets, one_between, unpromoted}
@@ -136,8 +137,7 @@ ordinary_from p a sound low h = by (is_man p.side Pawn (man_at p.men a)) refl h
     by false e g = no_pawn_ordinary p a e
     by true e g =
         let neither = or_parts (aims_at p.target p.side a) (rank a == pawn_rank (other p.side)) g in
-        pawn_ordinary p a sound low e neither.0 (λ same. both_ways (rank a == pawn_rank (other p.side)) neither.1
-        (eq-eqb (rank a) (pawn_rank (other p.side)) same))
+        pawn_ordinary p a sound low e neither.0 (eqb-false (rank a) (pawn_rank (other p.side)) neither.1)
 
 -- ---- so each square is the end of one legal move
 
@@ -174,27 +174,36 @@ of_kinds : (c : Colour) (x : Man) (j k : Kind) → is_of c (Some x) ≡ true
 unfolding is_of is_man
 of_kinds c x j k own h = rw own h
 
-hits_before : (p : Setup) (a b king : ℕ) (o : Option Man) → b < 64 → man_at p.men b ≡ o → is_of (other p.side) o ≡ true
-    → OpensNoLine p a king → OpensNoDiagonal p a king
+hits_before : (p : Setup) (a b king : ℕ) (o : Option Man) → man_at p.men b ≡ o → is_of (other p.side) o ≡ true
+    → (aims_from p b king ≡ true → KeepsClosed p a b king)
     → could_capture_as (lifted p.men a) o b king ≡ true → could_capture_as p.men o b king ≡ true
-hits_before p a b king None low at own lines diagonals e = cc
-hits_before p a b king (Some x) low at own lines diagonals e =
+hits_before p a b king None at own keeps e = cc
+hits_before p a b king (Some x) at own keeps e =
     capture_before p.men (lifted p.men a) x.colour x.kind b king
-    (λ h. lines b low (rw at (of_kinds (other p.side) x Rook Queen own h)))
-    (λ h. diagonals b low (rw at (of_kinds (other p.side) x Bishop Queen own h)))
-    e
+    (λ h on. keeps (or_left (straight && (not (b == king) && share_rank_or_file b king))
+    (aslant && (not (b == king) && share_diagonal b king))
+    (and_from straight _ (rw at (of_kinds (other p.side) x Rook Queen own h)) on)))
+    (λ h on. keeps (or_right (straight && (not (b == king) && share_rank_or_file b king))
+    (aslant && (not (b == king) && share_diagonal b king))
+    (and_from aslant _ (rw at (of_kinds (other p.side) x Bishop Queen own h)) on))) e
+  where
+    straight : Bool
+    straight = is_man (other p.side) Rook (man_at p.men b) || is_man (other p.side) Queen (man_at p.men b)
+
+    aslant : Bool
+    aslant = is_man (other p.side) Bishop (man_at p.men b) || is_man (other p.side) Queen (man_at p.men b)
 
 pub freed : (p : Setup) (a king : ℕ) → IsSound p → a < 64 → king < 64 → is_in_check p.men p.side ≡ false
     → ((k : ℕ) → k < 64 → is_man p.side King (man_at p.men k) ≡ (k == king))
-    → (a == king) ≡ false → OpensNoLine p a king → OpensNoDiagonal p a king → IsFree p a
-freed p a king sound low there calm one out lines diagonals = record {
+    → (a == king) ≡ false → ((b : ℕ) → b < 64 → aims_from p b king ≡ true → KeepsClosed p a b king) → IsFree p a
+freed p a king sound low there calm one out keeps = record {
   apart = at_king p a king (λ k. (a == k) ≡ false) one out;
   safe = at_king p a king (λ k. is_attacked (lifted p.men a) k (other p.side) ≡ false) one
       (attacked_before p.men (lifted p.men a) king (other p.side)
       (λ b l own. lifted_at p.men a b sound.board low
       ∙ enemy_before (b == a) None (man_at p.men b) (other p.side) (is_of-none (other p.side) None refl)
       (rw (lifted_at p.men a b sound.board low) at own))
-      (λ b l was. hits_before p a b king (man_at p.men b) l refl was lines diagonals)
+      (λ b l was. hits_before p a b king (man_at p.men b) refl was (keeps b l))
       (sym (check_is p.men p.side king there one) ∙ calm));
 }
 

@@ -1,7 +1,7 @@
 -- The square of the king of the side on move after a move, and when it is attacked there.
 use Rattle.chess_base.proofs.shared.Kings.{one_king_of}
 use Rattle.std.proofs.Common.{◌≡◌, ℕ, ◌<◌, inl, inr, Bool, true, false, not, ◌||◌, ◌==◌, cond, count_by, Option, Some, None, is_none, refl, sym, ap, ◌∙◌, arith}
-use Rattle.std.proofs.lemmas.Bool.{and_left, cases_Bool, eqb-true}
+use Rattle.std.proofs.lemmas.Bool.{and_left, and_right, cases_Bool, eqb-true}
 use Rattle.chess_base.specs.declared.man.Colour.{Colour}
 use Rattle.chess_base.specs.declared.man.Colour.TheVariants.{White, Black}
 use Rattle.chess_base.specs.declared.man.Kind.{Kind}
@@ -9,7 +9,7 @@ use Rattle.chess_base.specs.declared.man.Kind.TheVariants.{King, Rook}
 use Rattle.chess_base.specs.declared.man.Man.{Man}
 use Rattle.chess_base.specs.declared.man.Move.{Move}
 use Rattle.chess_base.specs.declared.setup.Setup.{Setup}
-use Rattle.chess_base.specs.Men.{man_at, other, is_of, is_man}
+use Rattle.chess_base.specs.Men.{man_at, other, is_of, is_man, same_colour}
 use Rattle.chess_base.specs.Attacks.{is_attacked, is_in_check}
 use Rattle.chess_base.specs.Squares.{is_square}
 use Rattle.chess_base.specs.Castling.{mover_end, castling_rook_to}
@@ -46,8 +46,7 @@ mover_own p m e = let moves = moves_from_pattern p m e in
 
 rook_is_no_king : (c : Colour) → is_man c King (Some (record { colour = c; kind = Rook })) ≡ false
 unfolding is_man
-rook_is_no_king White = refl
-rook_is_no_king Black = refl
+rook_is_no_king c = and_right (same_colour c c) false refl
 
 king_only : (t r l : Bool) (a o : Option Man) (c : Colour) → is_man c King a ≡ false → is_man c King o ≡ false
     → is_man c King (cond t a (cond r (Some (record { colour = c; kind = Rook })) (cond l None o))) ≡ false

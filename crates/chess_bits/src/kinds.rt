@@ -15,7 +15,7 @@ use crate::tables::AttackTables;
 use chess_base::{Colour, Kind, Square};
 use chess_moves::SquareSet;
 
-/// The pieces of one colour: a set of squares for each kind, at the kind's index (king 0 to pawn 5), and the set of all.
+/// The pieces of one colour: the set of all, and for each kind one, at the kind's index (king 0 to pawn 5).
 #[derive(Clone, Copy)]
 pub struct Kinds {
     sets: [SquareSet; 6],
@@ -41,7 +41,8 @@ impl Kinds {
     /// The sets of a colour that has no pieces.
     #[tactic(auto, using(crate::proofs::Standing::no_kinds))]
     pub fn empty() -> Kinds
-        ensures kinds { (c : Side) → (men : Men) → ((k : ℕ) → k < 64 → man_at men k ≡ None) → IsKinds result.sets c men }
+        ensures kinds { (c : Side) → (men : Men) → ((k : ℕ) → k < 64 → man_at men k ≡ None)
+            → IsKinds result.sets c men }
         ensures none { (k : ℕ) → contains result.all k ≡ false }
     {
         let none = SquareSet::empty();

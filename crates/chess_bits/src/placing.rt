@@ -1,6 +1,6 @@
 //! A setup and its sets changed in place by a move, and back.
 
-ghost use Rattle.std.specs.Prelude.{◌≡◌, ℕ, ◌==◌, ◌&&◌, ◌||◌, length, IsTrue, Some, None, if◌then◌else◌};
+ghost use Rattle.std.specs.Prelude.{◌≡◌, ◌==◌, ◌&&◌, ◌||◌, IsTrue, Some, None, if◌then◌else◌};
 ghost use Rattle.chess_base.specs.Before.{before, saved_of};
 ghost use Rattle.chess_base.specs.Men.{man_at, other};
 ghost use Rattle.chess_base.specs.shared.OneSquare.{with_man};
@@ -12,7 +12,6 @@ ghost use Rattle.chess_bits.specs.ties.BoardSets.{IsSets};
 ghost use Rattle.chess_bits.specs.ties.Changes.{clock_left, goes_plainly, has_no_right, is_king_or_rook, shifted, shifts};
 ghost use Rattle.chess_bits.specs.ties.Occupancy.{IsOccupied};
 ghost use Rattle.chess_moves.specs.Made.{IsMade};
-ghost use Rattle.chess_moves.specs.Sets.{contains};
 
 use crate::keys::KeyTable;
 use crate::sets::Sets;
@@ -208,7 +207,7 @@ fn halfmove_left(setup: &Setup, man: Man, taken: Option<Man>) -> u32
     }
 }
 
-// Passes the turn to the other side, with these rights, this en passant target and this halfmove clock. The pieces stay.
+// Passes the turn to the other side, with these rights, this en passant target and this halfmove clock.
 #[inline(always)]
 fn pass_turn(setup: &mut Setup, rights: Rights, target: Option<Square>, halfmove: u32)
     ensures { setup.new ≡ record {

@@ -40,9 +40,9 @@ pub fn reached_from(
     }
 }
 
-/// Those of the squares `men` on which a queen, rook, bishop or knight (which of them says `kind`) on `from` could
-/// capture; `occupied` are the occupied squares of the board. It looks at each of `men` alone, which costs less than the
-/// sweeps of `reached_from` where they are few.
+/// Those of the squares `men` on which a queen, rook, bishop or knight (`kind` says which) on `from` could capture;
+/// `occupied` are the occupied squares of the board. It looks at each of `men` alone, which costs less than the sweeps
+/// of `reached_from` where they are few.
 #[inline(always)]
 #[tactic(auto, using(crate::proofs::Reached::queen_met, crate::proofs::Reached::rook_from, crate::proofs::Reached::bishop_from, crate::proofs::Reached::knight_from))]
 pub fn reached_among(

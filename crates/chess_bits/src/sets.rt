@@ -2,7 +2,6 @@
 
 ghost use Rattle.std.specs.Prelude.{◌≡◌, ℕ, ◌<◌, length, slice_set, Some, None};
 ghost use Rattle.chess_base.specs.Men.{Men, man_at, is_of};
-ghost use Rattle.chess_base.specs.declared.man.Colour.{Colour as Side};
 ghost use Rattle.chess_bits.specs.ties.BoardSets.{IsSets};
 ghost use Rattle.chess_bits.specs.ties.KindSets.{IsKinds};
 ghost use Rattle.chess_bits.specs.ties.Occupancy.{IsOccupied};

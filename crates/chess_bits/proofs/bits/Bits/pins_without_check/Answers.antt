@@ -80,13 +80,4 @@ returns-clause-free c =
     (λ k low h.
     let mine = and_parts (is_of p.side (man_at p.men k)) (not (k == king)) (own k low h) in
     freed p k king c.self.invariant.0 low there calm one (not-true _ mine.1)
-    (λ b high theirs on clear.
-    closed k b low high h
-    (or_left _ ((is_man (other p.side) Bishop (man_at p.men b) || is_man (other p.side) Queen (man_at p.men b))
-    && (not (b == king) && share_diagonal b king)) (and_from _ _ theirs on))
-    (none_left c.loop-from.rest b high c.in_default.ensures.0) clear)
-    (λ b high theirs on clear.
-    closed k b low high h
-    (or_right ((is_man (other p.side) Rook (man_at p.men b) || is_man (other p.side) Queen (man_at p.men b))
-    && (not (b == king) && share_rank_or_file b king)) _ (and_from _ _ theirs on))
-    (none_left c.loop-from.rest b high c.in_default.ensures.0) clear))
+    (λ b high aims. closed k b low high h aims (none_left c.loop-from.rest b high c.in_default.ensures.0)))
