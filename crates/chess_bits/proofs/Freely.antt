@@ -1,23 +1,23 @@
 -- Pieces without which their king is not attacked: where they go, they go legally.
-use Rattle.std.proofs.Common.{◌≡◌, ℕ, ◌+◌, ◌<◌, ◌≤◌, ◌⊎◌, inl, inr, Bool, true, false, not, ◌&&◌, ◌||◌, ◌==◌, Option, Some, None, cond, [], ◌∷◌, length, map, refl, sym, ap, ◌∙◌, subst, arith}
-use Rattle.std.proofs.lemmas.Bool.{and_parts, and_from, false_from_ne_true, and_right, or_cases, or_left, or_right, or_parts, eqb-false, eqb-true, eq-eqb, ne_eqb, both_ways, cases_Bool, and_left}
+use Rattle.std.proofs.Common.{◌≡◌, ℕ, ◌+◌, ◌<◌, ◌≤◌, ◌⊎◌, inl, inr, Bool, true, false, not, ◌&&◌, ◌||◌, ◌==◌, Option, Some, None, cond, [], ◌∷◌, map, refl, sym, ap, ◌∙◌, subst, arith}
+use Rattle.std.proofs.lemmas.Bool.{and_parts, and_from, and_right, or_cases, or_left, or_right, or_parts, eqb-false, eqb-true, eq-eqb, ne_eqb, cases_Bool, and_left}
 use Rattle.chess_base.specs.declared.man.Colour.{Colour}
 use Rattle.chess_base.specs.declared.man.Colour.TheVariants.{White, Black}
 use Rattle.chess_base.specs.declared.man.Kind.{Kind}
-use Rattle.chess_base.specs.declared.man.Kind.TheVariants.{King, Queen, Rook, Bishop, Knight, Pawn}
+use Rattle.chess_base.specs.declared.man.Kind.TheVariants.{King, Queen, Rook, Bishop, Pawn}
 use Rattle.chess_base.specs.declared.man.Man.{Man}
 use Rattle.chess_base.specs.declared.man.Move.{Move}
 use Rattle.chess_base.specs.declared.setup.Setup.{Setup}
-use Rattle.chess_base.specs.Attacks.{attacks, is_clear, is_in_check, is_attacked, is_rank_ahead, could_capture}
+use Rattle.chess_base.specs.Attacks.{attacks, is_in_check, is_attacked, is_rank_ahead, could_capture}
 use Rattle.chess_base.specs.shared.Splits.{could_capture_as}
-use Rattle.chess_base.specs.Castling.{castle_of, castling_rook_to}
-use Rattle.chess_base.specs.Men.{Men, man_at, same_kind, other, is_of, is_man, forward, first_rank, pawn_rank}
+use Rattle.chess_base.specs.Castling.{castle_of}
+use Rattle.chess_base.specs.Men.{man_at, same_kind, other, is_of, is_man, forward, first_rank, pawn_rank}
 use Rattle.chess_base.specs.MoveList.{move_of}
-use Rattle.chess_base.specs.Moves.{is_pseudo_legal, is_legal, is_en_passant, men_after, second_square_emptied, pawn_advances, pawn_captures}
+use Rattle.chess_base.specs.Moves.{is_pseudo_legal, is_legal, is_en_passant, men_after, pawn_advances, pawn_captures}
 use Rattle.chess_base.specs.Sound.{IsSound, no_pawn_on_end_ranks}
-use Rattle.chess_base.specs.Squares.{rank, some_square, is_square, share_rank_or_file, share_diagonal}
+use Rattle.chess_base.specs.Squares.{rank, is_square, share_rank_or_file, share_diagonal}
 use Rattle.chess_base.proofs.shared.Changes.{advance_goes, pawn_attack}
-use Rattle.chess_base.proofs.shared.Squares.{each_square-at, some_square-at, some_square-none}
+use Rattle.chess_base.proofs.shared.Squares.{each_square-at}
 use Rattle.chess_bits.proofs.Lifted.{lifted_at}
 use Rattle.chess_moves.specs.shared.MovesBySquares.{moves_between, moves_from}
 use Rattle.chess_moves.specs.Promoting.{would_promote}
@@ -27,11 +27,11 @@ use Rattle.chess_bits.specs.ties.Shapes.{in_shape}
 use Rattle.chess_bits.specs.ties.Goes.{goes, aims_at, IsFree, lifted}
 use Rattle.chess_bits.specs.ties.Pins.{aims_from, KeepsClosed}
 use Rattle.chess_bits.proofs.AfterSets.{check_is}
-use Rattle.chess_bits.proofs.KingAfter.{mover_some, mover_own, king_stays, check_after, legal_is}
+use Rattle.chess_bits.proofs.KingAfter.{king_stays, check_after, legal_is}
 use Rattle.chess_bits.proofs.Listed.{all_ones, each_member, from_targets, one_between, unpromoted}
 use Rattle.chess_bits.proofs.OriginsOf.{off_lowest}
 use Rattle.chess_bits.proofs.Patterns.{pawn_goes}
-use Rattle.chess_bits.proofs.Quiet.{IsPlain, attacked_before, capture_before, enemy_before, lands_same, stays_safe}
+use Rattle.chess_bits.proofs.Quiet.{attacked_before, capture_before, enemy_before, lands_same, plain_by, stays_safe}
 use Rattle.chess_base.proofs.shared.Men.{is_of-none}
 use Rattle.chess_bits.proofs.Reached.{pawn_from}
 use Rattle.chess_bits.proofs.TargetsOf.{man_told, no_king_castles}
@@ -42,19 +42,13 @@ pub free_is_legal : (p : Setup) (a b king : ℕ) → IsSound p → IsFree p a �
     → ((k : ℕ) → k < 64 → is_man p.side King (man_at p.men k) ≡ (k == king))
     → goes p a b ≡ true → would_promote p a b ≡ false → is_en_passant p (move_of a b None) ≡ false
     → is_legal p (move_of a b None) ≡ true
-unfolding second_square_emptied castling_rook_to
 free_is_legal p a b king sound free low there one go stays no_passing =
     let m = move_of a b None in
     let pattern : is_pseudo_legal p m ≡ true = unpromoted p a b go stays in
     let here : is_man p.side King (man_at p.men king) ≡ true = one king there ∙ eq-eqb king king refl in
     let no_king : is_man p.side King (man_at p.men a) ≡ false = one a low ∙ free.apart king there here in
     let no_castle : castle_of p m ≡ None = no_king_castles p m no_king in
-    let plain : IsPlain p m = record {
-      also = rw (no_passing, no_castle) refl;
-      rook = rw no_castle refl;
-      mover = mover_some p m pattern;
-      own = mover_own p m pattern;
-    } in
+    let plain = plain_by p m pattern no_castle no_passing in
     let safe : is_attacked (men_after p m) king (other p.side) ≡ false =
     stays_safe p m king sound.board low plain (free.safe king there here) in
     let king_there : is_man p.side King (man_at (men_after p m) king) ≡ true =
@@ -130,14 +124,13 @@ pawn_ordinary p a sound low pawn no_target off = record {
 pub ordinary_from : (p : Setup) (a : ℕ) → IsSound p → a < 64
     → (is_man p.side Pawn (man_at p.men a) && (aims_at p.target p.side a || (rank a == pawn_rank (other p.side))))
     ≡ false → IsOrdinary p a
-ordinary_from p a sound low h = by (is_man p.side Pawn (man_at p.men a)) refl h
-  where
-    by : (b : Bool) → is_man p.side Pawn (man_at p.men a) ≡ b
-        → (b && (aims_at p.target p.side a || (rank a == pawn_rank (other p.side)))) ≡ false → IsOrdinary p a
-    by false e g = no_pawn_ordinary p a e
-    by true e g =
-        let neither = or_parts (aims_at p.target p.side a) (rank a == pawn_rank (other p.side)) g in
-        pawn_ordinary p a sound low e neither.0 (eqb-false (rank a) (pawn_rank (other p.side)) neither.1)
+ordinary_from p a sound low h =
+    elim (cases_Bool (is_man p.side Pawn (man_at p.men a))) [
+      | inr e ↦ no_pawn_ordinary p a e
+      | inl e ↦
+          let neither = or_parts (aims_at p.target p.side a) (rank a == pawn_rank (other p.side)) (rw e at h) in
+          pawn_ordinary p a sound low e neither.0 (eqb-false (rank a) (pawn_rank (other p.side)) neither.1)
+    ]
 
 -- ---- so each square is the end of one legal move
 

@@ -1,6 +1,6 @@
 -- A piece put on an empty square, or taken from its square.
 use mathlib.Core.Bool.{and-true, and-false, or-true, or-false}
-use Rattle.std.proofs.Common.{◌≡◌, ℕ, ◌<◌, inl, inr, Bool, true, false, not, ◌&&◌, ◌||◌, ◌==◌, refl, sym, ap, ◌∙◌, arith, Option, Some, None, List, length, length-set, subst, get_or, set, get_or-set_same, get_or-set_other}
+use Rattle.std.proofs.Common.{◌≡◌, ℕ, ◌<◌, inl, inr, Bool, false, not, ◌&&◌, ◌||◌, ◌==◌, refl, sym, ap, ◌∙◌, arith, Option, Some, None, List, length, length-set, subst, get_or, set, get_or-set_same, get_or-set_other}
 use Rattle.std.proofs.lemmas.Bool.{and_left, and_right, cases_Bool, eq-eqb, ne_eqb, cases_eq}
 use Rattle.std.proofs.lemmas.List.{get_or_default}
 use Rattle.chess_base.specs.declared.man.Colour.{Colour}
@@ -8,8 +8,8 @@ use Rattle.chess_base.specs.declared.man.Kind.{Kind}
 use Rattle.chess_base.specs.declared.man.Kind.TheVariants.{King, Queen, Rook, Bishop, Knight, Pawn}
 use Rattle.chess_base.specs.declared.man.Man.{Man}
 use Rattle.chess_base.specs.Attacks.{attacks}
-use Rattle.chess_base.specs.Men.{Men, man_at, is_man, is_of, same_colour, same_kind, kind_number}
-use Rattle.chess_base.proofs.shared.Men.{same_colour-self, is_man-none}
+use Rattle.chess_base.specs.Men.{Men, man_at, is_man, is_of, same_colour, kind_number}
+use Rattle.chess_base.proofs.shared.Men.{same_colour-self, same_kind-self, is_man-none}
 use Rattle.chess_moves.specs.Sets.{contains}
 use Rattle.chess_bits.specs.ties.Occupancy.{IsLater}
 use Rattle.chess_bits.specs.ties.KindSets.{AreKindsAt, IsKinds}
@@ -107,13 +107,8 @@ shift_kinds sets men c x a b v w d six all la lb there bare h lifted put =
 nobody_there : (c : Colour) (o : Option Man) → ((kind : Kind) → is_man c kind o ≡ false) → is_of c o ≡ false
 unfolding is_of is_man
 nobody_there c None h = refl
-nobody_there c (Some x) h = other_colour (same_colour c x.colour) (same_kind x.kind x.kind)
-    (eq-eqb (kind_number x.kind) (kind_number x.kind) refl) (h x.kind)
-  where
-    other_colour : (s t : Bool) → t ≡ true → (s && t) ≡ false → s ≡ false
-    other_colour true true e f = f
-    other_colour true false e f = cc
-    other_colour false t e f = refl
+nobody_there c (Some x) h =
+    sym (ap (λ t. same_colour c x.colour && t) (same_kind-self x.kind) ∙ and-true (same_colour c x.colour)) ∙ h x.kind
 
 -- those who attack a square later are those who would attack it now, but for the squares that change
 pub left_out : (sets : List ℕ) (changed filled a w : ℕ) (c : Colour) (men later : Men) (square : ℕ)

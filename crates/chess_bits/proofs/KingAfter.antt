@@ -3,7 +3,6 @@ use Rattle.chess_base.proofs.shared.Kings.{one_king_of}
 use Rattle.std.proofs.Common.{◌≡◌, ℕ, ◌<◌, inl, inr, Bool, true, false, not, ◌||◌, ◌==◌, cond, count_by, Option, Some, None, is_none, refl, sym, ap, ◌∙◌, arith}
 use Rattle.std.proofs.lemmas.Bool.{and_left, and_right, cases_Bool, eqb-true}
 use Rattle.chess_base.specs.declared.man.Colour.{Colour}
-use Rattle.chess_base.specs.declared.man.Colour.TheVariants.{White, Black}
 use Rattle.chess_base.specs.declared.man.Kind.{Kind}
 use Rattle.chess_base.specs.declared.man.Kind.TheVariants.{King, Rook}
 use Rattle.chess_base.specs.declared.man.Man.{Man}

@@ -4,7 +4,7 @@ use Rattle.std.proofs.Common.{◌≡◌, ℕ, ◌<◌, inl, inr, Bool, true, fal
 use Rattle.std.proofs.lemmas.Bool.{cases_eq, eq-eqb, ne_eqb}
 use Rattle.chess_base.specs.declared.man.Colour.{Colour}
 use Rattle.chess_base.specs.declared.man.Man.{Man}
-use Rattle.chess_base.specs.Men.{Men, man_at, is_of, is_man}
+use Rattle.chess_base.specs.Men.{Men, man_at, is_of}
 use Rattle.chess_moves.specs.Sets.{contains}
 use Rattle.chess_bits.specs.ties.Goes.{lifted}
 use Rattle.chess_bits.proofs.BoardSets.{kinds_kept, none_of}

@@ -8,7 +8,7 @@ use Rattle.chess_base.specs.declared.man.Kind.{Kind}
 use Rattle.chess_base.specs.declared.man.Kind.TheVariants.{King, Queen, Rook, Bishop, Knight, Pawn}
 use Rattle.chess_base.specs.declared.man.Move.{Move}
 use Rattle.chess_base.specs.declared.setup.Setup.{Setup}
-use Rattle.chess_base.specs.Attacks.{is_clear, could_capture}
+use Rattle.chess_base.specs.Attacks.{could_capture}
 use Rattle.chess_base.specs.Men.{Men, man_at, is_of, is_man, same_kind, forward}
 use Rattle.chess_base.specs.MoveList.{move_of}
 use Rattle.chess_base.specs.Moves.{is_legal, pawn_advances, pawn_captures}

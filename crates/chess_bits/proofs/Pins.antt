@@ -29,15 +29,15 @@ use Rattle.chess_bits.specs.ties.Pins.{aims_from, IsShield}
 use Rattle.chess_bits.specs.ties.Goes.{lifted}
 use Rattle.chess_base.specs.declared.line.Line.{Line}
 use Rattle.chess_base.specs.declared.line.Line.TheVariants.{Rank, File, Diagonal, Antidiagonal}
-use Rattle.chess_base.specs.shared.Lines.{line_number, same_line}
+use Rattle.chess_base.specs.shared.Lines.{same_line}
 use Rattle.chess_bits.proofs.Attackers.{de_morgan, eq_back}
 use Rattle.chess_bits.proofs.BetweenSquares.{are_on_line}
 use Rattle.chess_bits.proofs.BoardSets.{theirs_of}
 use Rattle.chess_bits.proofs.Freely.{from_not}
-use Rattle.chess_base.proofs.shared.Geometry.{share_diagonal_is, between_back}
-use Rattle.chess_bits.proofs.KingAfter.{mover_some, mover_own, king_stays, check_after, legal_is}
+use Rattle.chess_base.proofs.shared.Geometry.{between_back}
+use Rattle.chess_bits.proofs.KingAfter.{king_stays, check_after, legal_is}
 use Rattle.chess_bits.proofs.Lifted.{lifted_at}
-use Rattle.chess_bits.proofs.Quiet.{IsPlain, lands_over, lands_same, not_passing, could_capture_as_clear}
+use Rattle.chess_bits.proofs.Quiet.{IsPlain, lands_over, lands_same, not_passing, plain_by, could_capture_as_clear}
 
 -- ---- no king arrives but one that leaves
 
@@ -136,15 +136,8 @@ must_end p m king b sound legal there one no_king low theirs hits no_target =
     no_castle = no_king_castles p m no_king
 
     plain : IsPlain p m
-    plain =
-        let no_passing = not_passing p m (and_right (is_man p.side Pawn (man_at p.men m.from)) (is_square p.target m.to)
-        no_target) in
-        record {
-          also = rw (no_passing, no_castle) refl;
-          rook = rw no_castle refl;
-          mover = mover_some p m pattern;
-          own = mover_own p m pattern;
-        }
+    plain = plain_by p m pattern no_castle (not_passing p m
+        (and_right (is_man p.side Pawn (man_at p.men m.from)) (is_square p.target m.to) no_target))
 
     moves : Moves p m
     moves = moves_from_pattern p m pattern

@@ -13,14 +13,14 @@ use Rattle.chess_base.specs.Men.{Men, man_at, other, is_man, is_of, same_kind}
 use Rattle.chess_base.specs.Attacks.{is_clear, could_capture, attacks, is_attacked}
 use Rattle.chess_base.specs.shared.Splits.{could_capture_as}
 use Rattle.chess_base.specs.declared.setup.Setup.{Setup}
-use Rattle.chess_base.specs.Moves.{is_en_passant, arriving_man, men_after, second_square_emptied, steps_of}
+use Rattle.chess_base.specs.Moves.{is_en_passant, is_pseudo_legal, arriving_man, men_after, second_square_emptied}
 use Rattle.chess_base.specs.Castling.{castle_of, mover_end, castling_rook_to}
 use Rattle.chess_base.proofs.shared.MenAfter.{man_after, man_at-men_after}
 use Rattle.chess_base.proofs.shared.Squares.{some_square-at, some_square-none, each_square-all, each_square-at}
-use Rattle.chess_base.specs.declared.steps.Steps.{Steps}
 use Rattle.chess_bits.specs.ties.Changes.{is_changed, is_filled}
 use Rattle.chess_bits.specs.ties.Goes.{lifted}
 use Rattle.chess_bits.proofs.Attackers.{eq_back}
+use Rattle.chess_bits.proofs.KingAfter.{mover_some, mover_own}
 use Rattle.chess_bits.proofs.Lifted.{lifted_at}
 
 -- a piece could capture no less where the lines that it uses are as clear
@@ -151,23 +151,6 @@ not_passing p m h = out (is_man p.side Pawn (man_at p.men m.from)) (attacks p.me
     out : (a b c : Bool) → (a && c) ≡ false → ((a && b) && c) ≡ false
     out a b c e = grind (arith, e)
 
-pub plain_steps : (p : Setup) (m : Move) → is_man p.side King (man_at p.men m.from) ≡ false
-    → (is_man p.side Pawn (man_at p.men m.from) && is_square p.target m.to) ≡ false
-    → record {
-      from = m.from;
-      second_from = None;
-      second_to = None;
-      second = Some (record { colour = p.side; kind = Rook });
-      to = m.to;
-      mover =
-          arriving_man (man_at p.men m.from) m.promotion;
-    } ≡ steps_of p m
-unfolding second_square_emptied castling_rook_to mover_end
-plain_steps p m no_king no_passing =
-    let still = not_passing p m no_passing in
-    let no_castle : castle_of p m ≡ None = no_king_castles p m no_king in
-    rw (still, no_castle) refl
-
 pub lands_same : (o : Option Man) → arriving_man o None ≡ o
 lands_same None = refl
 lands_same (Some x) = refl
@@ -175,15 +158,24 @@ lands_same (Some x) = refl
 -- such a move fills its end square, and changes that and its start
 pub fills_end : (p : Setup) (m : Move) (k : ℕ) → is_man p.side King (man_at p.men m.from) ≡ false
     → (is_man p.side Pawn (man_at p.men m.from) && is_square p.target m.to) ≡ false → (k == m.to) ≡ is_filled p m k
+unfolding castling_rook_to mover_end
 fills_end p m k no_king no_passing =
-    eq_back k m.to ∙ sym (or-false (m.to == k))
-    ∙ ap (λ (t : Steps). (t.to == k) || is_square t.second_to k) (plain_steps p m no_king no_passing)
+    rw (no_king_castles p m no_king) (eq_back k m.to ∙ sym (or-false (m.to == k)))
 
 pub changes_both : (p : Setup) (m : Move) (k : ℕ) → is_man p.side King (man_at p.men m.from) ≡ false
     → (is_man p.side Pawn (man_at p.men m.from) && is_square p.target m.to) ≡ false
     → ((k == m.to) || (k == m.from)) ≡ is_changed p m k
+unfolding second_square_emptied castling_rook_to mover_end
 changes_both p m k no_king no_passing =
-    ap (λ f. f || (k == m.from)) (fills_end p m k no_king no_passing)
-    ∙ ap (λ e. is_filled p m k || e)
-    (eq_back k m.from
-    ∙ ap (λ (t : Steps). is_square t.second_from k || (t.from == k)) (plain_steps p m no_king no_passing))
+    rw (not_passing p m no_passing, no_king_castles p m no_king, eq_back k m.to, eq_back k m.from) (grind arith)
+
+-- it is plain, as any move that is neither castling nor en passant
+pub plain_by : (p : Setup) (m : Move) → is_pseudo_legal p m ≡ true → castle_of p m ≡ None → is_en_passant p m ≡ false
+    → IsPlain p m
+unfolding second_square_emptied castling_rook_to
+plain_by p m pattern none still = record {
+  also = rw (still, none) refl;
+  rook = rw none refl;
+  mover = mover_some p m pattern;
+  own = mover_own p m pattern;
+}

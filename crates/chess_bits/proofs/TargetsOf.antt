@@ -49,14 +49,10 @@ steps_of_man p a b x at own =
 pub no_king_castles : (p : Setup) (m : Move) → is_man p.side King (man_at p.men m.from) ≡ false → castle_of p m ≡ None
 no_king_castles p m h = no_castle p m (no_castling p m h)
 
-neither : (p : Setup) (m : Move) → is_castling_to p m KingSide ≡ false → is_castling_to p m QueenSide ≡ false
-    → castling p m ≡ None
-unfolding castling
-neither p m k q = rw (k, q) refl
-
 pub none_castles : (p : Setup) (m : Move) → is_castling_to p m KingSide ≡ false → is_castling_to p m QueenSide ≡ false
     → castle_of p m ≡ None
-none_castles p m k q = no_castle p m (neither p m k q)
+unfolding castling
+none_castles p m k q = no_castle p m (rw (k, q) refl)
 
 pub other_man : (c : Colour) (k : Kind) (o : Option Man) (x : Man) → o ≡ Some x → same_kind k x.kind ≡ false
     → is_man c k o ≡ false
@@ -97,29 +93,23 @@ told p m (Some x) true q s h = refl
 told p m (Some x) false true s h = refl
 told p m (Some x) false false s h = let none = h refl refl in absurd cc
 
+-- corrected for castling to both sides
+pub corrected : (p : Setup) (a b : ℕ) (s f t : Bool) → f ≡ castling_or p QueenSide a b s
+    → t ≡ castling_or p KingSide a b f → t ≡ legal_or p (move_of a b None) (castle_of p (move_of a b None)) s
+corrected p a b s f t far near =
+    near ∙ ap (castling_or p KingSide a b) far
+    ∙ told p (move_of a b None) (castle_of p (move_of a b None))
+    (names_end p.variant p.side KingSide (right_of p.rights p.side KingSide) b)
+    (names_end p.variant p.side QueenSide (right_of p.rights p.side QueenSide) b) s
+    (λ k q. none_castles p (move_of a b None) (not_said p a b KingSide k) (not_said p a b QueenSide q))
+
 pub king_is : (p : Setup) (a b : ℕ) (x : Man) (s f t : Bool) → man_at p.men a ≡ Some x
     → is_of p.side (man_at p.men a) ≡ true
     → s ≡ (could_capture p.men p.side x.kind a b && not (is_of p.side (man_at p.men b)))
     → f ≡ castling_or p QueenSide a b s → t ≡ castling_or p KingSide a b f → t ≡ man_goes p a b
 king_is p a b x s f t at own steps far near =
-    near ∙ ap (castling_or p KingSide a b)
-    (far ∙ ap (castling_or p QueenSide a b)
-    (steps ∙ sym (steps_of_man p a b x at (own_colour p.side x (man_at p.men a) at own))))
-    ∙ told p (move_of a b None) (castle_of p (move_of a b None))
-    (names_end p.variant p.side KingSide (right_of p.rights p.side KingSide) b)
-    (names_end p.variant p.side QueenSide (right_of p.rights p.side QueenSide) b) (man_moves p (move_of a b None))
-    (λ k q. none_castles p (move_of a b None) (not_said p a b KingSide k) (not_said p a b QueenSide q))
-
--- castling alone
-pub ends_are : (p : Setup) (a b : ℕ) (z f t : Bool) → z ≡ false → f ≡ castling_or p QueenSide a b z
-    → t ≡ castling_or p KingSide a b f
-    → t ≡ legal_or p (move_of a b None) (castle_of p (move_of a b None)) false
-ends_are p a b z f t none far near =
-    near ∙ ap (castling_or p KingSide a b) (far ∙ ap (castling_or p QueenSide a b) none)
-    ∙ told p (move_of a b None) (castle_of p (move_of a b None))
-    (names_end p.variant p.side KingSide (right_of p.rights p.side KingSide) b)
-    (names_end p.variant p.side QueenSide (right_of p.rights p.side QueenSide) b) false
-    (λ k q. none_castles p (move_of a b None) (not_said p a b KingSide k) (not_said p a b QueenSide q))
+    corrected p a b s f t far near ∙ ap (legal_or p (move_of a b None) (castle_of p (move_of a b None)))
+    (steps ∙ sym (steps_of_man p a b x at (own_colour p.side x (man_at p.men a) at own)))
 
 -- ---- pawns
 

@@ -211,13 +211,13 @@ fn halfmove_left(setup: &Setup, man: Man, taken: Option<Man>) -> u32
 #[inline(always)]
 fn pass_turn(setup: &mut Setup, rights: Rights, target: Option<Square>, halfmove: u32)
     ensures { setup.new ≡ record {
-        variant = setup.old.variant;
-        men = setup.old.men;
-        side = other setup.old.side;
-        rights = rights;
-        target = target;
-        halfmove = halfmove;
-        fullmove = fullmove_after setup.old.side setup.old.fullmove;
+      variant = setup.old.variant;
+      men = setup.old.men;
+      side = other setup.old.side;
+      rights = rights;
+      target = target;
+      halfmove = halfmove;
+      fullmove = fullmove_after setup.old.side setup.old.fullmove;
     } }
 {
     setup.fullmove = fullmove_after(setup.side, setup.fullmove);

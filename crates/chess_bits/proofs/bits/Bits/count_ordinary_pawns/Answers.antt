@@ -1,6 +1,6 @@
 -- Each pawn has as many legal moves as ways are open to it (pawns_counted of PawnsCounted), and the sets computed are
 -- those of the pawns to which each way is open (ways_are).
-use Rattle.std.proofs.Common.{◌≡◌, ◌<◌, ◌==◌, ℕ, true, false, ap, ◌∙◌, arith}
+use Rattle.std.proofs.Common.{◌≡◌, ◌<◌, ◌==◌, ℕ, true, false, ap, ◌∙◌}
 use Rattle.chess_base.specs.declared.man.Kind.TheVariants.{Pawn}
 use Rattle.chess_base.specs.Men.{man_at, is_of}
 use Rattle.chess_base.specs.Squares.{rank}
