@@ -6,8 +6,10 @@ use Rattle.std.proofs.lemmas.Bool.Decides.{nat_tests}
 use Rattle.std.proofs.lemmas.List.{take-append-drop}
 use Rattle.chess_pgn.specs.Tokens.{Token, Unclosed_comment, Unclosed_variation, is_white_space, is_word_byte, after_brace, after_gap, string_at, onto, after_byte, after_next, variation_at, comment_at, token_at}
 use Rattle.text_lines.specs.Words.{is_name_byte}
+use Rattle.chess_pgn.specs.ties.Gaps.{gap_left}
 use Rattle.chess_pgn.specs.ties.TagParts.{closed, with_text, with_string, with_tag_name, tag_by_parts}
 use Rattle.chess_base.specs.Letters.{is_digit}
+use Rattle.chess_pgn.proofs.Gaps.{gap_same}
 use Rattle.chess_pgn.proofs.TagParts.{parts_are}
 
 -- the rest of a text after a byte other than 10
@@ -129,13 +131,16 @@ cut_suffix text rest k = record {
   is = k.is ∙ sym (append_assoc k.front (k.last ∷ []) rest);
 }
 
-pub gap_suffix : (skips begins : Bool) (text : List ℕ) → Suffix text (after_gap skips begins text)
-gap_suffix skips begins [] = suffix_all []
-gap_suffix true begins (c ∷ rest) = suffix_more c rest _ (gap_suffix (not (eqb c 10)) true rest)
-gap_suffix false begins (c ∷ rest) =
-    pick (Suffix (c ∷ rest)) (begins && eqb c 37) _ _ (λ _. suffix_more c rest _ (gap_suffix true false rest)) (λ _.
-    pick (Suffix (c ∷ rest)) (is_white_space c) _ _ (λ _. suffix_more c rest _ (gap_suffix false (eqb c 10) rest))
+left_suffix : (skips begins : Bool) (text : List ℕ) → Suffix text (gap_left skips begins text)
+left_suffix skips begins [] = suffix_all []
+left_suffix true begins (c ∷ rest) = suffix_more c rest _ (left_suffix (not (eqb c 10)) true rest)
+left_suffix false begins (c ∷ rest) =
+    pick (Suffix (c ∷ rest)) (begins && eqb c 37) _ _ (λ _. suffix_more c rest _ (left_suffix true false rest)) (λ _.
+    pick (Suffix (c ∷ rest)) (is_white_space c) _ _ (λ _. suffix_more c rest _ (left_suffix false (eqb c 10) rest))
     (λ _. suffix_all (c ∷ rest)))
+
+pub gap_suffix : (text : List ℕ) → Suffix text (after_gap text)
+gap_suffix text = subst (Suffix text) (gap_same text) (left_suffix false false text)
 
 abbrev LeavesSuffix : List ℕ → Option (List ℕ × List ℕ) → Type 0
 LeavesSuffix text o = IfSome o (λ (f : List ℕ × List ℕ). Suffix text f.1)
@@ -170,11 +175,11 @@ byte_cut b (c ∷ rest) e = pick (λ (o : Option (List ℕ)). IfSome o (Cut (c �
     (λ k. cut_here c rest (grind (arith, nat_tests, e, k))) (λ _. tt)
 
 pub next_cut : (b : ℕ) (text : List ℕ) → eqb b 10 ≡ false → IfSome (after_next b text) (Cut text)
-next_cut b text e = by_option (after_next b text) (byte_cut b (after_gap false false text) e)
+next_cut b text e = by_option (after_next b text) (byte_cut b (after_gap text) e)
   where
-    by_option : (o : Option (List ℕ)) → IfSome o (Cut (after_gap false false text)) → IfSome o (Cut text)
+    by_option : (o : Option (List ℕ)) → IfSome o (Cut (after_gap text)) → IfSome o (Cut text)
     by_option None h = tt
-    by_option (Some rest) h = suffix_cut text (after_gap false false text) rest (gap_suffix false false text) h
+    by_option (Some rest) h = suffix_cut text (after_gap text) rest (gap_suffix text) h
 
 closed_left : (name text from : List ℕ) (left : ℕ) (o : Option (List ℕ)) → IfSome o (Cut from)
     → LeavesOf from (closed name left text o)
@@ -197,7 +202,7 @@ name_left [] from = inl refl
 name_left (n ∷ ns) from = string_left (n ∷ ns) from (after_next 34 from) (next_cut 34 from refl)
 
 tag_left : (text : List ℕ) → LeavesOf text (tag_by_parts text)
-tag_left text = by_name (after_gap false false text) (gap_suffix false false text)
+tag_left text = by_name (after_gap text) (gap_suffix text)
   where
     by_name : (inner : List ℕ) → Suffix text inner
         → LeavesOf text (with_tag_name (take_while is_name_byte inner) (drop (prefix_len is_name_byte inner) inner))

@@ -5,6 +5,7 @@ mod Cuts
 mod FaultPlaces
 mod FenVariants
 mod FilledLines
+mod Gaps
 mod GameReads
 mod GameTexts
 mod LastTagReads

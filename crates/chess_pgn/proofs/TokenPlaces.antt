@@ -63,7 +63,7 @@ name_within n [] from h = tt
 name_within n (c ∷ cs) from h = string_within n (c ∷ cs) from (after_next 34 from) h (next_cut 34 from refl)
 
 tag_within : (n : ℕ) (text : List ℕ) → length text ≤ n → Within n (tag_by_parts text)
-tag_within n text h = by_name (after_gap false false text) (gap_suffix false false text)
+tag_within n text h = by_name (after_gap text) (gap_suffix text)
   where
     by_name : (inner : List ℕ) → Suffix text inner
         → Within n (with_tag_name (take_while is_name_byte inner) (drop (prefix_len is_name_byte inner) inner))

@@ -11,6 +11,7 @@ use Rattle.chess_pgn.specs.ties.TagParts.{tag_by_parts}
 use Rattle.chess_pgn.proofs.TagParts.{parts_are}
 use Rattle.chess_pgn.proofs.Walk.{no_token, token_more, token_nearer}
 use Rattle.chess_pgn.proofs.Cuts.{pick}
+use Rattle.chess_pgn.proofs.PgnWords.{begins_word, no_percent}
 use Rattle.chess_pgn.specs.Split.{lacks, skips_line, Kind, Blank, Line, Comment, Nag, Variation, Tag_pair, Asterisk, Symbol, IsOf, IsLongest, token_of, HasNoToken, HasOpenComment, HasUnclosedComment, IsFaultOf, IsSplit, ended, token, stopped}
 use Rattle.chess_pgn.proofs.ByteRuns.{differs, run_drop, run_take, run_passes, run_stops, longest_run, stops_run, brace_found, brace_missing, BraceSays, brace_says}
 use Rattle.chess_pgn.proofs.VariationInsides.{Leaves, closed, commented, unclosed, leaves, inside_read, open_read, open_comment}
@@ -21,66 +22,39 @@ abbrev pub first : Bool → List ℕ → Token × List ℕ
 first b [] = (Bad, [])
 first b (c ∷ rest) = token_at b c rest
 
-token_free : (b : Bool) (c : ℕ) (rest : List ℕ) → eqb c 37 ≡ false → token_at b c rest ≡ token_at false c rest
-unfolding token_at
-token_free true c rest e = rw e refl
-token_free false c rest e = refl
-
 -- ---- by the first byte
 
 line_at : (b : Bool) (c : ℕ) (rest : List ℕ) → skips_line b c ≡ true → token_at b c rest ≡ (Skip, line_end rest)
 unfolding token_at
 line_at b c rest h = elim (or_cases (b && eqb c 37) (eqb c 59) h) [
   | inl e ↦ rw e refl
-  | inr e ↦ (let is : c ≡ 59 = eqb-true c 59 e in ap (λ k. token_at b k rest) is ∙ token_free b 59 rest refl)
+  | inr e ↦ (let is : c ≡ 59 = eqb-true c 59 e in ap (λ k. token_at b k rest) is ∙ no_percent b 59 rest refl)
 ]
 
 glyph_at : (b : Bool) (rest : List ℕ) → token_at b 36 rest ≡ (Skip, drop (prefix_len is_digit rest) rest)
 unfolding token_at
-glyph_at b rest = token_free b 36 rest refl
-
-word_at : (b : Bool) (c : ℕ) (rest : List ℕ) → is_word_byte c ≡ true
-    → token_at b c rest
-    ≡ (Word (take_while is_word_byte (c ∷ rest)), drop (prefix_len is_word_byte (c ∷ rest)) (c ∷ rest))
-unfolding token_at
-word_at b c rest h =
-    let no : (k : ℕ) → is_word_byte k ≡ false → eqb c k ≡ false = λ k e. differs is_word_byte c k h e in
-    token_free b c rest (no 37 refl)
-    ∙ rw (
-      no 32 refl,
-      no 9 refl,
-      no 10 refl,
-      no 13 refl,
-      no 46 refl,
-      no 123 refl,
-      no 59 refl,
-      no 36 refl,
-      no 40 refl,
-      no 91 refl,
-      no 42 refl,
-      h,
-    ) refl
+glyph_at b rest = no_percent b 36 rest refl
 
 blank_at : (b : Bool) (c : ℕ) (rest : List ℕ) → (is_white_space c || eqb c 46) ≡ true → token_at b c rest ≡ (Skip, rest)
 unfolding token_at
 blank_at b c rest h =
-    token_free b c rest (differs (λ k. is_white_space k || eqb k 46) c 37 h refl) ∙ rw h refl
+    no_percent b c rest (differs (λ k. is_white_space k || eqb k 46) c 37 h refl) ∙ rw h refl
 
 brace_at : (b : Bool) (rest : List ℕ) → token_at b 123 rest ≡ comment_at (suc (length rest)) (after_brace rest)
 unfolding token_at
-brace_at b rest = token_free b 123 rest refl
+brace_at b rest = no_percent b 123 rest refl
 
 open_at : (b : Bool) (rest : List ℕ) → token_at b 40 rest ≡ variation_at None false 1 rest
 unfolding token_at
-open_at b rest = token_free b 40 rest refl
+open_at b rest = no_percent b 40 rest refl
 
 bracket_at : (b : Bool) (rest : List ℕ) → token_at b 91 rest ≡ tag_by_parts rest
 unfolding token_at
-bracket_at b rest = token_free b 91 rest refl ∙ parts_are rest
+bracket_at b rest = no_percent b 91 rest refl ∙ parts_are rest
 
 asterisk_at : (b : Bool) (rest : List ℕ) → token_at b 42 rest ≡ (Word (42 ∷ []), rest)
 unfolding token_at
-asterisk_at b rest = token_free b 42 rest refl
+asterisk_at b rest = no_percent b 42 rest refl
 
 -- ---- from the relation to the reader: kinds of which no token begins another
 
@@ -191,7 +165,7 @@ word_read : (b : Bool) (front r : List ℕ) → IsLongest (IsOf b Symbol) front 
 word_read b [] r h = absurd (omega (arith, h.is.0))
 word_read b (c ∷ front) r h =
     let stop = word_stops b (c ∷ front) r h in
-    word_at b c (front ++ r) (and_parts (is_word_byte c) (list_all is_word_byte front) h.is.1).0
+    begins_word b c (front ++ r) (and_parts (is_word_byte c) (list_all is_word_byte front) h.is.1).0
     ∙ ap (λ xs. (Word xs, drop (prefix_len is_word_byte (c ∷ (front ++ r))) (c ∷ (front ++ r))))
     (run_take is_word_byte (c ∷ front) r h.is.1 stop)
     ∙ ap (λ xs. (Word (c ∷ front), xs)) (run_drop is_word_byte (c ∷ front) r h.is.1 stop)
@@ -325,7 +299,7 @@ readable b Asterisk front r h = ap (λ t. is_fault t.0) (asterisk_read b front r
 readable b Symbol [] r h = absurd (omega (arith, h.0))
 readable b Symbol (c ∷ front) r h =
     ap (λ t. is_fault t.0)
-    (word_at b c (front ++ r) (and_parts (is_word_byte c) (list_all is_word_byte front) h.1).0)
+    (begins_word b c (front ++ r) (and_parts (is_word_byte c) (list_all is_word_byte front) h.1).0)
 
 no_token_of : (b : Bool) (text : List ℕ) → is_fault (first b text).0 ≡ true → HasNoToken b text
 no_token_of b text fault kind front r is h =
@@ -471,75 +445,49 @@ token_says b c rest = by_line (skips_line b c) refl
 same_first : (c d : ℕ) (xs ys : List ℕ) → c ∷ xs ≡ d ∷ ys → c ≡ d
 same_first c d xs ys e = cc
 
--- the first byte of a text with a comment that isn't closed
-comment_first : (c : ℕ) (rest : List ℕ) (n : ℕ) → HasUnclosedComment (c ∷ rest) n → (c ≡ 123) ⊎ (c ≡ 40)
-comment_first c rest n (inl (comment, is, lack, here)) = inl (same_first c 123 rest comment is)
-comment_first c rest n (inr (inner, is, h)) = inr (same_first c 40 rest inner is)
+-- only a text that begins with `{` or `(` has a comment that isn't closed
+no_comment : (c : ℕ) (rest : List ℕ) → eqb c 123 ≡ false → eqb c 40 ≡ false → (n : ℕ) → HasUnclosedComment (c ∷ rest) n
+    → ⊥
+no_comment c rest brace opens n (inl (comment, is, lack, here)) =
+    let no : true ≡ false = sym (ap (λ j. eqb j 123) (same_first c 123 rest comment is)) ∙ brace in absurd (cc)
+no_comment c rest brace opens n (inr (inner, is, h)) =
+    let no : true ≡ false = sym (ap (λ j. eqb j 40) (same_first c 40 rest inner is)) ∙ opens in absurd (cc)
 
--- whether a fault may be that of a text whose first byte is c
-abbrev MayBe : ℕ → Token → Type 0
-MayBe c (Unclosed_comment left) = (c ≡ 123) ⊎ (c ≡ 40)
-MayBe c Unclosed_variation = c ≡ 40
-MayBe c Bad_tag = c ≡ 91
-MayBe c Bad = list_any (λ k. eqb c k) (123 ∷ 40 ∷ 91 ∷ []) ≡ false
-MayBe c Skip = ⊥
-MayBe c (Tag name string left) = ⊥
-MayBe c (Word word) = ⊥
+-- the fault of a text with this first byte, unless it is a comment that isn't closed
+abbrev fault_by : ℕ → Token
+fault_by c = cond (eqb c 40) Unclosed_variation (cond (eqb c 91) Bad_tag Bad)
 
-may_be : (c : ℕ) (rest : List ℕ) (fault : Token) → IsFaultOf (c ∷ rest) fault → MayBe c fault
-may_be c rest (Unclosed_comment left) h = comment_first c rest left h
-may_be c rest Unclosed_variation ((r, is), none) = same_first c 40 rest r is
-may_be c rest Bad_tag (r, is) = same_first c 91 rest r is
-may_be c rest Bad (d, r, is, none) =
-    let same : c ≡ d = same_first c d rest r is in
-    ap (λ j. list_any (λ k. eqb j k) (123 ∷ 40 ∷ 91 ∷ [])) same ∙ none
-may_be c rest Skip h = h
-may_be c rest (Tag name string left) h = h
-may_be c rest (Word word) h = h
+data FaultSays (c : ℕ) (rest : List ℕ) : Token → Type 0 where
+  of_comment : (n : ℕ) → HasUnclosedComment (c ∷ rest) n → FaultSays c rest (Unclosed_comment n)
+  of_byte : (fault : Token) → fault ≡ fault_by c → ((n : ℕ) → HasUnclosedComment (c ∷ rest) n → ⊥)
+      → FaultSays c rest fault
 
-not_other : (c : ℕ) → (c ≡ 123) ⊎ (c ≡ 40) → list_any (λ k. eqb c k) (123 ∷ 40 ∷ 91 ∷ []) ≡ false → ⊥
-not_other c (inl e) h = let t : true ≡ false = sym (ap (λ j. list_any (λ k. eqb j k) (123 ∷ 40 ∷ 91 ∷ [])) e)
-    ∙ h in absurd (cc)
-not_other c (inr e) h = let t : true ≡ false = sym (ap (λ j. list_any (λ k. eqb j k) (123 ∷ 40 ∷ 91 ∷ [])) e)
-    ∙ h in absurd (cc)
+fault_says : (c : ℕ) (rest : List ℕ) (fault : Token) → IsFaultOf (c ∷ rest) fault → FaultSays c rest fault
+fault_says c rest (Unclosed_comment n) h = of_comment n h
+fault_says c rest Unclosed_variation ((r, is), none) =
+    of_byte Unclosed_variation (sym (ap fault_by (same_first c 40 rest r is))) none
+fault_says c rest Bad_tag (r, is) =
+    let first : c ≡ 91 = same_first c 91 rest r is in
+    of_byte Bad_tag (sym (ap fault_by first))
+    (no_comment c rest (ap (λ j. eqb j 123) first) (ap (λ j. eqb j 40) first))
+fault_says c rest Bad (d, r, is, none) =
+    let same : list_any (λ k. eqb c k) (123 ∷ 40 ∷ 91 ∷ []) ≡ false =
+    ap (λ j. list_any (λ k. eqb j k) (123 ∷ 40 ∷ 91 ∷ [])) (same_first c d rest r is) ∙ none in
+    let brace = or_parts (eqb c 123) _ same in
+    let opens = or_parts (eqb c 40) _ brace.1 in
+    let bracket = or_parts (eqb c 91) _ opens.1 in
+    of_byte Bad (rw (opens.0, bracket.0) refl) (no_comment c rest brace.0 opens.0)
+fault_says c rest Skip h = absurd h
+fault_says c rest (Tag name string left) h = absurd h
+fault_says c rest (Word word) h = absurd h
 
-not_bracket : (c : ℕ) → (c ≡ 123) ⊎ (c ≡ 40) → c ≡ 91 → ⊥
-not_bracket c (inl e) h = absurd (omega arith)
-not_bracket c (inr e) h = absurd (omega arith)
-
-bracket_not_other : (c : ℕ) → c ≡ 91 → list_any (λ k. eqb c k) (123 ∷ 40 ∷ 91 ∷ []) ≡ false → ⊥
-bracket_not_other c e h = let t : true ≡ false = sym (ap (λ j. list_any (λ k. eqb j k) (123 ∷ 40 ∷ 91 ∷ [])) e)
-    ∙ h in absurd (cc)
-
--- a text has one fault; the reader's (`g`) is that of the relation (`f`)
-faults_agree : (b : Bool) (c : ℕ) (rest : List ℕ) (f g : Token) → IsFaultOf (c ∷ rest) f → IsFaultOf (c ∷ rest) g
-    → MayBe c f → MayBe c g → (first b (c ∷ rest)).0 ≡ g → g ≡ f
-faults_agree b c rest (Unclosed_comment left) g h k mf mg e =
-    sym e ∙ ap (λ (t : Token × List ℕ). t.0) (comment_fault b (c ∷ rest) left h)
-faults_agree b c rest Unclosed_variation (Unclosed_comment left) h k mf mg e = absurd (h.1 left k)
-faults_agree b c rest Unclosed_variation Unclosed_variation h k mf mg e = refl
-faults_agree b c rest Unclosed_variation Bad_tag h k mf mg e = absurd (not_bracket c (inr mf) mg)
-faults_agree b c rest Unclosed_variation Bad h k mf mg e = absurd (not_other c (inr mf) mg)
-faults_agree b c rest Unclosed_variation Skip h k mf mg e = absurd mg
-faults_agree b c rest Unclosed_variation (Tag name string left) h k mf mg e = absurd mg
-faults_agree b c rest Unclosed_variation (Word word) h k mf mg e = absurd mg
-faults_agree b c rest Bad_tag (Unclosed_comment left) h k mf mg e = absurd (not_bracket c mg mf)
-faults_agree b c rest Bad_tag Unclosed_variation h k mf mg e = absurd (not_bracket c (inr mg) mf)
-faults_agree b c rest Bad_tag Bad_tag h k mf mg e = refl
-faults_agree b c rest Bad_tag Bad h k mf mg e = absurd (bracket_not_other c mf mg)
-faults_agree b c rest Bad_tag Skip h k mf mg e = absurd mg
-faults_agree b c rest Bad_tag (Tag name string left) h k mf mg e = absurd mg
-faults_agree b c rest Bad_tag (Word word) h k mf mg e = absurd mg
-faults_agree b c rest Bad (Unclosed_comment left) h k mf mg e = absurd (not_other c mg mf)
-faults_agree b c rest Bad Unclosed_variation h k mf mg e = absurd (not_other c (inr mg) mf)
-faults_agree b c rest Bad Bad_tag h k mf mg e = absurd (bracket_not_other c mg mf)
-faults_agree b c rest Bad Bad h k mf mg e = refl
-faults_agree b c rest Bad Skip h k mf mg e = absurd mg
-faults_agree b c rest Bad (Tag name string left) h k mf mg e = absurd mg
-faults_agree b c rest Bad (Word word) h k mf mg e = absurd mg
-faults_agree b c rest Skip g h k mf mg e = absurd mf
-faults_agree b c rest (Tag name string left) g h k mf mg e = absurd mf
-faults_agree b c rest (Word word) g h k mf mg e = absurd mf
+-- a text has one fault
+faults_agree : (b : Bool) (c : ℕ) (rest : List ℕ) (f g : Token) → FaultSays c rest f → FaultSays c rest g → f ≡ g
+faults_agree b c rest f g (of_comment n h) (of_comment m k) =
+    ap (λ (t : Token × List ℕ). t.0) (sym (comment_fault b (c ∷ rest) n h) ∙ comment_fault b (c ∷ rest) m k)
+faults_agree b c rest f g (of_comment n h) (of_byte other is none) = absurd (none n h)
+faults_agree b c rest f g (of_byte one is none) (of_comment m k) = absurd (none m k)
+faults_agree b c rest f g (of_byte one is none) (of_byte other same none_too) = is ∙ sym same
 
 -- the fault of a text that begins with no token is the one that is read
 fault_read : (b : Bool) (c : ℕ) (rest : List ℕ) (fault : Token) → HasNoToken b (c ∷ rest) → IsFaultOf (c ∷ rest) fault
@@ -550,8 +498,7 @@ fault_read b c rest fault none h = by_result (token_at b c rest) refl (token_say
     by_result t e (known kind front r is long) = absurd (none kind front r is long.is)
     by_result t e (faulty g is_one k) =
         ap (λ (f : Token). (f, []))
-        (faults_agree b c rest fault g h k (may_be c rest fault h) (may_be c rest g k)
-        (ap (λ (u : Token × List ℕ). u.0) e))
+        (faults_agree b c rest g fault (fault_says c rest g k) (fault_says c rest fault h))
 
 -- ---- a whole text
 

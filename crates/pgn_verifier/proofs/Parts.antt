@@ -10,7 +10,7 @@ use Rattle.chess_game.specs.Game.{State, verdict_now, with_declared}
 use Rattle.chess_game.specs.declared.game.TheConstants.{MOST_MOVES}
 use Rattle.chess_game.specs.declared.verdicts.Verdict.{Verdict}
 use Rattle.chess_pgn.specs.GameRead.{GameRead, declared_after, pgn_read, read_of_split, tagged_variant}
-use Rattle.chess_pgn.specs.LastTags.{may_precede_tags, own_tags, result_tag_of}
+use Rattle.chess_pgn.specs.LastTags.{may_precede_tags, tag_section, result_tag_of}
 use Rattle.chess_pgn.specs.Split.{IsSplit, IsOf, IsLongest, Kind, token_of, Blank, Line, Comment, Nag, Variation, Tag_pair, Asterisk, Symbol, ended, token, stopped}
 use Rattle.chess_pgn.specs.Tokens.{Token, Word, after_byte_order_mark, begins_line, tokens_from}
 use Rattle.chess_pgn.specs.Words.{word_kind}
@@ -267,7 +267,7 @@ in_parts law strict before part after at end begins is inside =
     sym (law MOST_MOVES text (length before + at)) ∙ ap (λ a. record { state = r.state; answer = a }) said.0 in
     let f = found MOST_MOVES before part after begins.line r.state end inside
     (read_split text (after_byte_order_mark text (length before + at))) here begins.first
-    (nothing_read (tagged_variant (own_tags ts))) whole in
+    (nothing_read (tagged_variant (tag_section ts))) whole in
     let own : f.own ≡ us = split_read part f.split in
     let back : PgnEnd = record end { offset = end.offset - length before } in
     let alone : pgn_read MOST_MOVES part at ≡ over r.state back =

@@ -1,7 +1,7 @@
 -- A part of a text that ends with a line, or with the text, is read alone as it is in the text, if it has no fault.
 use Rattle.std.proofs.Common.{◌≡◌, ℕ, zero, suc, ◌+◌, ◌-◌, ◌<◌, ◌≤◌, Bool, true, false, cond, eqb, List, [], ◌∷◌, ◌++◌, length, take, drop, Option, Some, None, Result, Ok, Err, refl, sym, ap, subst, ◌∙◌, inl, inr, ◌⊎◌, append_assoc, append-nil, length-append, arith}
-use Rattle.std.specs.Prelude.{is_some, nat_lt, codes, ◌&&◌, ◌||◌, ◌==◌}
-use Rattle.std.specs.List.{last_or, list_all}
+use Rattle.std.specs.Prelude.{is_some, nat_lt, codes, ◌&&◌, ◌==◌}
+use Rattle.std.specs.List.{last_or}
 use Rattle.std.specs.Option.{option_map, option_map_or}
 use Rattle.std.specs.Str.{bytes_eq}
 use Rattle.std.proofs.lemmas.Bool.{and_parts}
@@ -20,7 +20,7 @@ use Rattle.chess_text.specs.declared.reading.Reading.{Reading}
 use Rattle.chess_text.specs.declared.reading.Reading.TheVariants as reads
 use Rattle.chess_text.specs.Moves.{reading}
 use Rattle.chess_pgn.specs.GameRead.{GameRead, declared_after, pgn_read, tagged_variant, variant_named}
-use Rattle.chess_pgn.specs.LastTags.{is_marks, may_precede_tags, own_tags, tags_named, result_tag_of}
+use Rattle.chess_pgn.specs.LastTags.{may_precede_tags, tag_section, tags_named, result_tag_of}
 use Rattle.chess_pgn.specs.Split.{IsSplit, IsOf, IsLongest, Kind, token_of, Blank, Line, Comment, Nag, Variation, Tag_pair, Asterisk, Symbol, ended, token, stopped}
 use Rattle.chess_pgn.specs.Tokens.{Token, Skip, Tag, Word, Bad_tag, Unclosed_comment, Unclosed_variation, Bad, after_byte_order_mark, begins_line, tokens_from}
 use Rattle.chess_pgn.specs.Words.{word_kind, outcome_of}
@@ -28,9 +28,8 @@ use Rattle.chess_pgn.specs.declared.read.PgnEnd.{PgnEnd}
 use Rattle.chess_pgn.specs.declared.read.PgnFault.{PgnFault}
 use Rattle.chess_pgn.specs.declared.read.PgnFaultKind.TheVariants.{NoResult}
 use Rattle.chess_pgn.specs.declared.tagged_result.ResultTag.{ResultTag}
-use Rattle.chess_base.specs.Letters.{byte, is_digit}
-use Rattle.chess_game.specs.declared.results.Outcome.{Outcome}
 use Rattle.chess_pgn.specs.laws.TokenByToken.{SoFar, Step, On, Stop, ends, move_step, word_step, fen_step, step, read_rest_with, game_of, nothing_read, tokens_read}
+use Rattle.chess_pgn.proofs.shared.Words.{word_cases}
 use Rattle.chess_pgn.proofs.shared.Tokens.{read_split, split_read, stays_longest, token_some}
 use Rattle.pgn_verifier.specs.GameFaults.{contradiction, judged}
 use Rattle.pgn_verifier.specs.declared.game_fault.GameFault.{GameFault}
@@ -88,26 +87,11 @@ move_pass limit g m reads.NoSuch =
     one_of false g (is_some (verdict_now g.state)) _ _ (fails _ _ refl)
     (one_of false g (nat_lt (length g.state.moves) limit) _ _ (fails _ _ refl) (fails _ _ refl))
 
--- by the kind of a word, whatever kinds are
-by_word : {K : Type 0} (end : Outcome → K) (number marks move : K) (steps : SoFar → ℕ → K → Step)
-    (precedes : K → Bool) (o : Option Outcome) (is_number is_mark : Bool)
-    → ((o : Outcome) (g : SoFar) (m : ℕ) → Pass (precedes (end o)) g (steps g m (end o)))
-    → ((g : SoFar) (m : ℕ) → Pass (precedes number) g (steps g m number))
-    → ((g : SoFar) (m : ℕ) → Pass (precedes marks) g (steps g m marks))
-    → ((g : SoFar) (m : ℕ) → Pass (precedes move) g (steps g m move)) → (g : SoFar) (m : ℕ)
-    → Pass (precedes (option_map_or end o (cond is_number number (cond is_mark marks move)))) g
-    (steps g m (option_map_or end o (cond is_number number (cond is_mark marks move))))
-by_word end number marks move steps precedes (Some o) a b e n k v g m = e o g m
-by_word end number marks move steps precedes None true b e n k v g m = n g m
-by_word end number marks move steps precedes None false true e n k v g m = k g m
-by_word end number marks move steps precedes None false false e n k v g m = v g m
-
 word_pass : (limit : ℕ) (word : List ℕ) (g : SoFar) (m : ℕ)
     → Pass (may_precede_tags (Word word)) g (word_step limit g m word (word_kind word))
 word_pass limit word =
-    by_word _ _ _ _ (λ g m k. word_step limit g m word k) is_marks (outcome_of word) (list_all is_digit word)
-    (list_all (λ c. c == byte "!" || c == byte "?") word) (λ o g m. wins _ _ refl) (λ g m. meets _ refl refl)
-    (λ g m. passes refl) (λ g m. move_pass limit g m (reading (current g.state) word))
+    word_cases (λ steps precedes. (g : SoFar) (m : ℕ) → Pass precedes g (steps g m)) limit word (λ o g m. wins _ _ refl)
+    (λ g m. meets _ refl refl) (λ g m. passes refl) (λ g m. move_pass limit g m (reading (current g.state) word))
 
 fen_pass : (g : SoFar) (m : ℕ) (r : Result Setup FenFault) → Pass false g (fen_step g m r)
 fen_pass g m (Ok start) = meets _ refl refl
@@ -135,10 +119,10 @@ passed_step : (limit total : ℕ) (g : SoFar) (x : ℕ) (t : Token) → is_passe
 passed_step limit total g x t p = is_on (is_passed t) g (step limit total g x t) (pass limit total g x t) p
 
 passed_tags : (name : List ℕ) (x : ℕ) (t : Token) (ts : List (ℕ × Token)) → is_passed t ≡ true
-    → tags_named name (own_tags ((x, t) ∷ ts)) ≡ tags_named name (own_tags ts)
+    → tags_named name (tag_section ((x, t) ∷ ts)) ≡ tags_named name (tag_section ts)
 passed_tags name x Skip ts p = ap (tags_named name) (own_more (x, Skip) ts)
 passed_tags name x (Word word) ts p =
-    ap (tags_named name) (own_more (x, Word word) ts ∙ ap (λ b. cond b ((x, Word word) ∷ own_tags ts) []) p)
+    ap (tags_named name) (own_more (x, Word word) ts ∙ ap (λ b. cond b ((x, Word word) ∷ tag_section ts) []) p)
 passed_tags name x (Tag other text left) ts p = absurd (cc)
 passed_tags name x Bad_tag ts p = absurd (cc)
 passed_tags name x (Unclosed_comment left) ts p = absurd (cc)
@@ -384,8 +368,8 @@ module _ (limit : ℕ) (before part after : List ℕ)
       reads_on : (g : SoFar) → game_of limit (length (before ++ (part ++ after))) g own
           ≡ game_of limit (length (before ++ (part ++ after))) g
           (tokens_from (before ++ (part ++ after)) (length before + length part))
-      tags : (name : List ℕ) → tags_named name (own_tags own)
-          ≡ tags_named name (own_tags (tokens_from (before ++ (part ++ after)) (length before + length part)))
+      tags : (name : List ℕ) → tags_named name (tag_section own)
+          ≡ tags_named name (tag_section (tokens_from (before ++ (part ++ after)) (length before + length part)))
 
     one_more : (at : ℕ) (kind : Kind) (front rest : List ℕ) → is_passed (token_of kind front (length rest)) ≡ true
         → Same at kind front rest → Passes (at + length front) → Passes at
@@ -460,7 +444,7 @@ in_text law strict before part after at end begins closed is =
     let alone : tokens_read MOST_MOVES (length part) us ≡ over r.state end =
     sym (law MOST_MOVES part at) ∙ ap (λ a. record { state = r.state; answer = a }) said.0 in
     let k = kept MOST_MOVES before part after begins.line closed r.state end (read_split part here)
-    (nothing_read (tagged_variant (own_tags us))) alone in
+    (nothing_read (tagged_variant (tag_section us))) alone in
     let own : k.own ≡ ts = split_read text k.split ∙ ap (tokens_from text) (sym begins.first) in
     let moved : PgnEnd = record end { offset = length before + end.offset } in
     let whole : pgn_read MOST_MOVES text (length before + at) ≡ over r.state moved =
@@ -531,7 +515,7 @@ skips_to_end law strict before part after at begins closed within none start (su
         let some : 0 < length before + length part = grind (arith, nat_tests, e) in
         let p = passed MOST_MOVES before part after begins.line closed
         (read_split part (after_byte_order_mark part at)) (mark_within part at within)
-        (nothing_read (tagged_variant (own_tags (tokens_from part (after_byte_order_mark part at)))))
+        (nothing_read (tagged_variant (tag_section (tokens_from part (after_byte_order_mark part at)))))
         (ap (λ (r : GameRead). r.answer) (sym (law MOST_MOVES part at))
         ∙ judged_none strict (result_tag_of (length part) (tokens_from part (after_byte_order_mark part at)))
         (verdict_now (read_at part at).state) (read_at part at).answer none) in
@@ -541,17 +525,17 @@ skips_to_end law strict before part after at begins closed within none start (su
         let ending : tokens_from text (length before + length part) ≡ us =
         ap (tokens_from text) (sym (no_mark text (length before + length part) some)) in
         let own : p.own ≡ ts = split_read text p.split ∙ ap (tokens_from text) (sym begins.first) in
-        let tags : (name : List ℕ) → tags_named name (own_tags ts) ≡ tags_named name (own_tags us) =
-        λ name. ap (λ l. tags_named name (own_tags l)) (sym own) ∙ p.tags name
-        ∙ ap (λ l. tags_named name (own_tags l)) ending in
-        let variants : tagged_variant (own_tags ts) ≡ tagged_variant (own_tags us) =
+        let tags : (name : List ℕ) → tags_named name (tag_section ts) ≡ tags_named name (tag_section us) =
+        λ name. ap (λ l. tags_named name (tag_section l)) (sym own) ∙ p.tags name
+        ∙ ap (λ l. tags_named name (tag_section l)) ending in
+        let variants : tagged_variant (tag_section ts) ≡ tagged_variant (tag_section us) =
         ap variant_in (tags (codes "Variant")) in
         let results : result_tag_of (length text) ts ≡ result_tag_of (length text) us =
         ap (result_in (length text)) (tags (codes "Result")) in
         let games : tokens_read MOST_MOVES (length text) ts ≡ tokens_read MOST_MOVES (length text) us =
-        ap (game_of MOST_MOVES (length text) (nothing_read (tagged_variant (own_tags ts)))) (sym own)
-        ∙ p.reads_on (nothing_read (tagged_variant (own_tags ts)))
-        ∙ ap (game_of MOST_MOVES (length text) (nothing_read (tagged_variant (own_tags ts)))) ending
+        ap (game_of MOST_MOVES (length text) (nothing_read (tagged_variant (tag_section ts)))) (sym own)
+        ∙ p.reads_on (nothing_read (tagged_variant (tag_section ts)))
+        ∙ ap (game_of MOST_MOVES (length text) (nothing_read (tagged_variant (tag_section ts)))) ending
         ∙ ap (λ v. game_of MOST_MOVES (length text) (nothing_read v) us) variants in
         let same_read : pgn_read MOST_MOVES text (length before + at)
         ≡ pgn_read MOST_MOVES text (length before + length part) =

@@ -9,7 +9,7 @@ use Rattle.chess_game.specs.declared.game.TheConstants.{MOST_MOVES}
 use Rattle.chess_game.specs.declared.results.Outcome.{Outcome}
 use Rattle.chess_pgn.specs.GameRead.{GameRead, pgn_read, tagged_variant}
 use Rattle.chess_pgn.specs.GameText.{pgn, tag_lines, game_tokens}
-use Rattle.chess_pgn.specs.LastTags.{own_tags, result_tag_of}
+use Rattle.chess_pgn.specs.LastTags.{tag_section, result_tag_of}
 use Rattle.chess_pgn.specs.Split.{IsSplit, IsOf, IsLongest, Blank, ended, token}
 use Rattle.chess_pgn.specs.Terminations.{termination_of}
 use Rattle.chess_pgn.specs.Tokens.{Token, Skip, after_byte_order_mark, begins_line, tokens_from}
