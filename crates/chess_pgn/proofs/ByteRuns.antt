@@ -14,6 +14,11 @@ differs p c k h other = by_test (eqb c k) refl
     by_test true e = let is : c ≡ k = grind (arith, nat_tests) in let same : p c ≡ p k = ap p is in absurd (cc)
     by_test false e = refl
 
+-- a property of both values of a choice
+pub pick : {A : Type 0} (P : A → Type 0) (t : Bool) (x y : A) → (t ≡ true → P x) → (t ≡ false → P y) → P (cond t x y)
+pick P true x y f g = f refl
+pick P false x y f g = g refl
+
 -- ---- the bytes that pass a test
 
 pub run_drop : (p : ℕ → Bool) (front rest : List ℕ) → list_all p front ≡ true → prefix_len p rest ≡ 0

@@ -15,7 +15,7 @@ use Rattle.chess_pgn.specs.laws.TokenByToken.{SoFar, Step, On, Stop, step, read_
 use Rattle.chess_pgn.specs.laws.Offsets.{FaultsHaveOffsets, HalfMovesHaveBytes}
 use Rattle.chess_pgn.specs.Tokens.{Token, token_at, tokens_of, after_byte_order_mark, begins_line, tokens_from}
 use Rattle.chess_pgn.proofs.GamesByTags.{reads_alike}
-use Rattle.chess_pgn.proofs.Cuts.{pick}
+use Rattle.chess_pgn.proofs.ByteRuns.{pick}
 use Rattle.chess_pgn.proofs.StepKinds.{StepIs, passes, stays, plays, starts, stops, finishes, step_is}
 use Rattle.chess_pgn.proofs.TokenPlaces.{within}
 use Rattle.chess_pgn.proofs.Walk.{shorter}

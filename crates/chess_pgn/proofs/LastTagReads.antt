@@ -8,7 +8,7 @@ use Rattle.chess_pgn.specs.Tokens as tokens
 use Rattle.chess_pgn.specs.declared.tag.Tag.{Tag}
 use Rattle.chess_pgn.specs.ties.GameSteps.{IsWithin}
 use Rattle.chess_pgn.specs.ties.Seen.{found_seen, SkipsTo}
-use Rattle.chess_pgn.proofs.Cuts.{pick}
+use Rattle.chess_pgn.proofs.ByteRuns.{pick}
 use Rattle.chess_pgn.proofs.SkippedTokens.{skips_last}
 use Rattle.chess_pgn.proofs.TagScans.{last_from, last_step}
 use Rattle.chess_pgn.proofs.TokenPlaces.{token_within}

@@ -34,6 +34,7 @@ mod Walk
 mod ByteRuns
 mod VariationInsides
 mod TagSplits
+mod TokenKinds
 mod TokenSplits
 mod GamesByTags
 mod LaidOut

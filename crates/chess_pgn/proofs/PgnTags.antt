@@ -8,7 +8,8 @@ use Rattle.text_lines.specs.Words.{is_name_byte}
 use Rattle.chess_pgn.specs.ties.TagParts.{closed, with_text, with_string, with_tag_name, tag_by_parts}
 use Rattle.chess_game.specs.Results.{IsTagText}
 use Rattle.chess_pgn.specs.Written.{escaped, tag_line}
-use Rattle.chess_pgn.proofs.PgnWords.{whole_run, no_percent}
+use Rattle.chess_pgn.proofs.PgnWords.{whole_run}
+use Rattle.chess_pgn.proofs.TokenKinds.{no_percent}
 use Rattle.chess_pgn.proofs.ByteRuns.{differs}
 use Rattle.chess_pgn.proofs.Gaps.{gap_same}
 use Rattle.chess_pgn.proofs.TagParts.{parts_are}

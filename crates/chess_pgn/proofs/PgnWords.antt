@@ -1,10 +1,9 @@
 -- Words as they are written in a game: each is one token where a byte of no word follows, and of its own kind.
 use Rattle.std.proofs.Common.{◌≡◌, ℕ, ◌<◌, ◌≤◌, Bool, true, false, ◌&&◌, ◌||◌, eqb, List, [], ◌∷◌, ◌++◌, length, get_or, take, drop, Option, None, refl, sym, ap, subst, ◌-◌, ◌∙◌, inl, inr, arith}
-use Rattle.std.proofs.Math.Seq.{take-append_seam}
 use Rattle.std.proofs.lemmas.Bool.{and_parts, and_from, or_cases}
 use Rattle.std.proofs.lemmas.Bool.Decides.{nat_tests}
 use Rattle.std.proofs.lemmas.Fmt.{decimal_is_IsNumeral}
-use Rattle.std.proofs.lemmas.List.{drop_at, take_rest}
+use Rattle.std.proofs.lemmas.List.{take_rest}
 use Rattle.std.proofs.lemmas.Slice.Eq.{bytes_eq-Decides}
 use Rattle.std.proofs.lemmas.Str.Parse.{digit_from_value}
 use Rattle.std.specs.Fmt.{decimal}
@@ -24,7 +23,8 @@ use Rattle.chess_pgn.specs.Tokens.{Word, is_word_byte, token_at, begins_line}
 use Rattle.chess_pgn.specs.ties.Begins.{begins_as_move}
 use Rattle.chess_base.specs.Letters.{is_digit, is_letter}
 use Rattle.chess_pgn.specs.Words.{outcome_of, word_kind}
-use Rattle.chess_pgn.proofs.ByteRuns.{differs, run_drop, run_take}
+use Rattle.chess_pgn.proofs.ByteRuns.{run_drop, run_take}
+use Rattle.chess_pgn.proofs.TokenKinds.{begins_word}
 use Rattle.chess_pgn.proofs.Walk.{NextToken, next_token}
 
 -- ---- a run of bytes that pass
@@ -42,37 +42,7 @@ whole_run p run d rest all ends =
 
 -- ---- a word
 
--- a byte that begins no `%` line begins the same token where a line begins and where none does
-pub no_percent : (begins : Bool) (c : ℕ) (rest : List ℕ) → eqb c 37 ≡ false
-    → token_at begins c rest ≡ token_at false c rest
-unfolding token_at
-no_percent true c rest e = rw e refl
-no_percent false c rest e = refl
-
--- a byte of a word begins one, wherever it is
-pub begins_word : (begins : Bool) (c : ℕ) (rest : List ℕ) → is_word_byte c ≡ true
-    → token_at begins c rest
-    ≡ (Word (take_while is_word_byte (c ∷ rest)), drop (prefix_len is_word_byte (c ∷ rest)) (c ∷ rest))
-unfolding token_at
-begins_word begins c rest h =
-    let no : (k : ℕ) → is_word_byte k ≡ false → eqb c k ≡ false = λ k e. differs is_word_byte c k h e in
-    no_percent begins c rest (no 37 refl)
-    ∙ rw (
-      no 32 refl,
-      no 9 refl,
-      no 10 refl,
-      no 13 refl,
-      no 46 refl,
-      no 123 refl,
-      no 59 refl,
-      no 36 refl,
-      no 40 refl,
-      no 91 refl,
-      no 42 refl,
-      h,
-    ) refl
-
--- the same, with its text as code meets it
+-- the first word of a text, with its text as code meets it
 word_first : (begins : Bool) (xs : List ℕ) → 1 ≤ length xs → is_word_byte (get_or xs 0 0) ≡ true
     → (Word (take_while is_word_byte xs), drop (prefix_len is_word_byte xs) xs)
     ≡ token_at begins (get_or xs 0 0) (take (length xs - 1) (drop 1 xs))

@@ -21,7 +21,7 @@ use Rattle.chess_pgn.specs.laws.TokenByToken.{SoFar, Step, On, fails, ends, unle
 use Rattle.chess_pgn.specs.ties.GameSteps.{IsWithin}
 use Rattle.chess_pgn.specs.Tokens.{Token, Skip, Tag, Word, Bad_tag, Unclosed_comment, Unclosed_variation, Bad}
 use Rattle.chess_pgn.specs.Words.{word_kind}
-use Rattle.chess_pgn.proofs.Cuts.{pick}
+use Rattle.chess_pgn.proofs.ByteRuns.{pick}
 
 -- a step from the game `g` on, at a token from which `left` of `total` bytes are left: it leaves the game, plays a move,
 -- sets the start, stops at a fault, whose offset is not before the token, or ends the game after `len` bytes of it

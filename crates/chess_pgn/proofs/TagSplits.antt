@@ -1,5 +1,5 @@
 -- Gaps, strings and tags: the relation and the reader agree.
-use Rattle.std.proofs.Common.{◌≡◌, ℕ, zero, suc, ◌+◌, ◌<◌, ◌≤◌, Bool, true, false, cond, not, eqb, List, [], ◌∷◌, ◌++◌, length, take, drop, Option, Some, None, IfSome, refl, sym, ap, subst, ◌∙◌, inl, inr, ◌⊎◌, arith}
+use Rattle.std.proofs.Common.{◌≡◌, ℕ, zero, suc, ◌+◌, ◌<◌, ◌≤◌, Bool, true, false, cond, eqb, List, [], ◌∷◌, ◌++◌, length, drop, Option, Some, None, IfSome, refl, sym, ap, subst, ◌∙◌, inl, inr, ◌⊎◌, arith}
 use Rattle.std.specs.Prelude.{◌&&◌}
 use Rattle.std.specs.List.{list_all, list_any, prefix_len, take_while}
 use Rattle.std.proofs.lemmas.Bool.{and_parts, or_parts, or_cases, eqb-true}
@@ -11,10 +11,9 @@ use Rattle.chess_pgn.specs.ties.Gaps.{gap_left}
 use Rattle.chess_pgn.specs.ties.TagParts.{closed, with_text, with_string, with_tag_name, tag_by_parts}
 use Rattle.chess_pgn.proofs.Skipped.{gap_line}
 use Rattle.chess_pgn.proofs.Strings.{string_after, string_quote, string_other}
-use Rattle.chess_pgn.proofs.Cuts.{pick}
 use Rattle.chess_pgn.proofs.Gaps.{gap_same}
-use Rattle.chess_pgn.specs.Split.{lacks, IsGap, nothing, blank, line, IsString, kept, other, IsTag}
-use Rattle.chess_pgn.proofs.ByteRuns.{differs, run_drop, run_take, run_passes, LineSays, unended, line_then, line_says}
+use Rattle.chess_pgn.specs.Split.{IsGap, nothing, blank, line, IsString, kept, other, IsTag}
+use Rattle.chess_pgn.proofs.ByteRuns.{differs, pick, run_drop, run_take, run_passes, LineSays, unended, line_then, line_says}
 use Rattle.chess_pgn.proofs.VariationInsides.{line_end_is}
 
 -- ---- gaps
