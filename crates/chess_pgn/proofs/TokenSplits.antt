@@ -5,7 +5,7 @@ use Rattle.std.proofs.lemmas.Bool.{or_parts}
 use Rattle.std.proofs.lemmas.List.{length-append, length-drop, nil_from_length}
 use Rattle.chess_pgn.specs.Tokens.{Token, Skip, Tag, Word, Bad_tag, Unclosed_comment, Unclosed_variation, Bad, token_at, begins_line, tokens_from}
 use Rattle.chess_pgn.proofs.Walk.{no_token, token_more, token_nearer}
-use Rattle.chess_pgn.proofs.TokenKinds.{first, not_empty, token_read, is_fault, no_token_of, TokenSays, known, faulty, token_says, comment_fault}
+use Rattle.chess_pgn.proofs.TokenKinds.{not_empty, token_read, is_fault, no_token_of, TokenSays, known, faulty, token_says, comment_fault}
 use Rattle.chess_pgn.specs.Split.{IsOf, IsLongest, token_of, HasNoToken, HasUnclosedComment, IsFaultOf, IsSplit, ended, token, stopped}
 
 -- ---- faults

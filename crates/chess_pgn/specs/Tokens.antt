@@ -2,7 +2,7 @@
 -- comments, `%` lines, `$` glyphs and variations are skipped; tags and words are kept; the first token that can't be
 -- read is the last. This project's own: the bytes of a word; that a `%` line is skipped also in a tag and in a
 -- variation; that a string may have tabs and more than 255 bytes; and that the bytes EF BB BF at offset 0 are skipped.
-use Rattle.std.specs.Prelude.{ℕ, zero, suc, ◌-◌, Bool, true, false, not, ◌&&◌, ◌||◌, List, [], ◌∷◌, ◌++◌, length, take, drop, slice_index, Option, Some, None, codes, ◌==◌, if◌then◌else◌}
+use Rattle.std.specs.Prelude.{ℕ, zero, suc, ◌-◌, Bool, false, not, ◌&&◌, ◌||◌, List, [], ◌∷◌, ◌++◌, length, take, drop, slice_index, Option, Some, None, codes, ◌==◌, if◌then◌else◌}
 use Rattle.chess_base.specs.Options.{◌>>=◌}
 use Rattle.chess_base.specs.Letters.{is_digit, byte, carriage_return, new_line, space, tab}
 use Rattle.std.specs.List.{list_all, list_any, join_with_byte, prefix_len, position_or_len, take_while}

@@ -1,5 +1,5 @@
 -- A tag by its parts, each with what is left after it.
-use Rattle.std.specs.Prelude.{ℕ, false, List, [], ◌∷◌, length, drop, Option, Some, None}
+use Rattle.std.specs.Prelude.{ℕ, List, [], ◌∷◌, length, drop, Option, Some, None}
 use Rattle.std.specs.List.{prefix_len, take_while}
 use Rattle.chess_base.specs.Letters.{byte}
 use Rattle.chess_pgn.specs.Tokens.{Token, Tag, Bad_tag, after_gap, after_next, string_at}
