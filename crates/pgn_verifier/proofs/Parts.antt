@@ -11,10 +11,10 @@ use Rattle.chess_game.specs.declared.game.TheConstants.{MOST_MOVES}
 use Rattle.chess_game.specs.declared.verdicts.Verdict.{Verdict}
 use Rattle.chess_pgn.specs.GameRead.{GameRead, pgn_read, read_of_split, tagged_variant}
 use Rattle.chess_pgn.specs.LastTags.{tag_section, result_tag_of}
-use Rattle.chess_pgn.specs.Split.{IsOf, IsLongest, Kind, ended, token}
+use Rattle.chess_pgn.specs.Split.{IsOf, IsLongest, Kind, ended}
 use Rattle.chess_pgn.specs.Tokens.{Token, after_byte_order_mark, begins_line, tokens_from}
 use Rattle.chess_pgn.specs.declared.read.PgnEnd.{PgnEnd}
-use Rattle.chess_pgn.specs.laws.TokenByToken.{ends, game_of, nothing_read, tokens_read}
+use Rattle.chess_pgn.specs.laws.TokenByToken.{game_of, nothing_read, tokens_read}
 use Rattle.chess_pgn.proofs.shared.Tokens.{read_split, split_read}
 use Rattle.pgn_verifier.specs.GameFaults.{judged}
 use Rattle.pgn_verifier.specs.laws.Parts.{BeginsAlike, GamesAreInParts, HoldsWhole, no_more, game, WholeGamesAreReportedAlike, AllHoldWhole, no_parts, next_part, TextsAreReportedInParts, PiecesAreReportedAlike}

@@ -28,14 +28,14 @@ use Rattle.chess_pgn.specs.declared.read.PgnEnd.{PgnEnd}
 use Rattle.chess_pgn.specs.declared.read.PgnFault.{PgnFault}
 use Rattle.chess_pgn.specs.declared.read.PgnFaultKind.TheVariants.{NoResult}
 use Rattle.chess_pgn.specs.declared.tagged_result.ResultTag.{ResultTag}
-use Rattle.chess_pgn.specs.laws.TokenByToken.{SoFar, Step, On, Stop, ends, move_step, word_step, fen_step, step, read_rest_with, game_of, nothing_read, tokens_read}
+use Rattle.chess_pgn.specs.laws.TokenByToken.{SoFar, Step, On, Stop, move_step, word_step, fen_step, step, read_rest_with, game_of, nothing_read, tokens_read}
 use Rattle.chess_pgn.proofs.shared.Words.{word_cases}
 use Rattle.chess_pgn.proofs.shared.Tokens.{read_split, split_read, stays_longest, token_some}
 use Rattle.pgn_verifier.specs.GameFaults.{contradiction, judged}
 use Rattle.pgn_verifier.specs.declared.game_fault.GameFault.{GameFault}
 use Rattle.pgn_verifier.specs.laws.Parts.{BeginsAlike}
 use Rattle.pgn_verifier.proofs.GamesAlike.{Fits, found}
-use Rattle.pgn_verifier.proofs.PartsAlike.{TokenByToken, there, lines, over, on, does, own_more, same_variant, outcome_in, same_result, faults_stop, read_so, found_so, judged_so, agrees, not_before, no_mark}
+use Rattle.pgn_verifier.proofs.PartsAlike.{TokenByToken, there, lines, over, own_more, same_variant, outcome_in, same_result, faults_stop, read_so, found_so, judged_so, agrees, not_before, no_mark}
 use Rattle.pgn_verifier.specs.laws.Reported.{judged_at, read_at, report_then, reports_from}
 
 abbrev no_game : Result (Option PgnEnd) PgnFault
