@@ -148,8 +148,8 @@ abbrev pub last_start : Setup → List (Result Setup FenFault × ℕ) → Setup
 last_start start fs =
     unwrap_or (last_or None (filter_map (λ f. result_ok f.0) (take_while (λ f. is_ok f.0) fs))) start
 
--- the fault of a FEN as it was read (see `fens`), in a text of `total` bytes: none if it denotes a position; else what is
--- wrong with it, at the FEN's first byte, where `to_end` bytes are left
+-- the fault of a FEN as it was read (see `fens`), in a text of `total` bytes: none if it denotes a position; else what
+-- is wrong with it, at the FEN's first byte, where `to_end` bytes are left
 abbrev pub bad_fen : ℕ → Result Setup FenFault × ℕ → Option PgnFault
 bad_fen total (Ok start, to_end) = None
 bad_fen total (Err fault, to_end) = Some (record { kind = BadFen fault; offset = total - to_end })

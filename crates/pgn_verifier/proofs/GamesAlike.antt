@@ -49,11 +49,11 @@ module _ (limit : ℕ) (old new : List ℕ) (a b size : ℕ)
       further : (at x : ℕ) (kind : Kind) (front rest : List ℕ) (tokens : List (ℕ × Token)) (g : SoFar)
           → drop (a + at) old ≡ front ++ rest
           → IsLongest (IsOf (begins_line old (a + at)) kind) front rest
-          → ((m : ℕ) → OnOrFails (step limit (length old) g x (token_of kind front (length
-          rest)))
+          → ((m : ℕ) → OnOrFails (step limit (length old) g x (token_of kind front (length rest)))
           (step limit (length new) g (length new - (b + at)) (token_of kind front m)))
           → ((m : ℕ) (us : List (ℕ × Token)) → HaveSameTags us tokens
-          → HaveSameTags ((length new - (b + at), token_of kind front m) ∷ us) ((x, token_of kind front (length rest)) ∷ tokens))
+          → HaveSameTags ((length new - (b + at), token_of kind front m) ∷ us)
+          ((x, token_of kind front (length rest)) ∷ tokens))
           → Again (at + length front) tokens
           → game_of limit (length old) g ((x, token_of kind front (length rest)) ∷ tokens)
           ≡ over s end
@@ -118,7 +118,8 @@ module _ (limit : ℕ) (old new : List ℕ) (a b size : ℕ)
               (subst (λ t. OnOrFails (step limit total g x (Word front)) (step limit (length new) g
               (length new - (b + at)) t))
               (sym (is_word m)) (alike (total - x) (length new - (length new - (b + at))))))
-              (λ m us same. subst (λ t. HaveSameTags ((length new - (b + at), token_of kind front m) ∷ us) ((x, t) ∷ tokens))
+              (λ m us same.
+              subst (λ t. HaveSameTags ((length new - (b + at), token_of kind front m) ∷ us) ((x, t) ∷ tokens))
               (sym (is_word (length rest)))
               (subst (λ t. HaveSameTags ((length new - (b + at), t) ∷ us) ((x, Word front) ∷ tokens)) (sym (is_word m))
               (word_more x (length new - (b + at)) front us tokens same)))

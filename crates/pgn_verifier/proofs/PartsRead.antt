@@ -300,8 +300,9 @@ in_text law strict before part after at end begins closed is =
     let said = judged_so strict (result_tag_of (length part) us) v end r.answer is in
     let alone : tokens_read MOST_MOVES (length part) us ≡ over r.state end =
     sym (law MOST_MOVES part at) ∙ ap (λ a. record { state = r.state; answer = a }) said.0 in
-    let k = found MOST_MOVES part text 0 (length before) (length part) (fits_text MOST_MOVES before part after begins.line closed)
-    r.state end (λ m low ending. omega (arith, low)) (read_split part here) here (omega arith)
+    let k = found MOST_MOVES part text 0 (length before) (length part)
+    (fits_text MOST_MOVES before part after begins.line closed) r.state end (λ m low ending. omega (arith, low))
+    (read_split part here) here (omega arith)
     (nothing_read (tagged_variant (tag_section us))) alone in
     let own : k.own ≡ ts = split_read text k.split ∙ ap (tokens_from text) (sym begins.first) in
     let shift : end.offset - 0 + length before ≡ length before + end.offset = omega arith in
