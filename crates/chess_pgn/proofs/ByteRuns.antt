@@ -1,10 +1,11 @@
 -- Runs of bytes, and the bytes before a `}`.
-use Rattle.std.proofs.Common.{◌≡◌, ℕ, suc, ◌+◌, Bool, true, false, cond, not, eqb, List, [], ◌∷◌, ◌++◌, take, drop, Option, Some, None, refl, sym, ap, ◌∙◌, arith}
+use Rattle.std.proofs.Common.{◌≡◌, ℕ, suc, ◌+◌, Bool, true, false, cond, not, eqb, List, [], ◌∷◌, ◌++◌, take, drop, Option, Some, None, refl, sym, ap, subst, ◌∙◌, arith}
 use Rattle.std.specs.List.{list_all, prefix_len}
-use Rattle.std.proofs.lemmas.Bool.{and_parts}
+use Rattle.std.proofs.lemmas.Bool.{and_parts, eqb-true}
 use Rattle.std.proofs.lemmas.Bool.Decides.{nat_tests}
-use Rattle.chess_pgn.specs.Tokens.{after_brace}
+use Rattle.chess_pgn.specs.Tokens.{after_brace, line_end}
 use Rattle.chess_pgn.specs.Split.{lacks, IsLongest}
+use Rattle.chess_pgn.proofs.Skipped.{line_end-more}
 
 pub differs : (p : ℕ → Bool) (c k : ℕ) → p c ≡ true → p k ≡ false → eqb c k ≡ false
 differs p c k h other = by_test (eqb c k) refl
@@ -12,6 +13,11 @@ differs p c k h other = by_test (eqb c k) refl
     by_test : (t : Bool) → eqb c k ≡ t → t ≡ false
     by_test true e = let is : c ≡ k = grind (arith, nat_tests) in let same : p c ≡ p k = ap p is in absurd (cc)
     by_test false e = refl
+
+-- a property of both values of a choice
+pub pick : {A : Type 0} (P : A → Type 0) (t : Bool) (x y : A) → (t ≡ true → P x) → (t ≡ false → P y) → P (cond t x y)
+pick P true x y f g = f refl
+pick P false x y f g = g refl
 
 -- ---- the bytes that pass a test
 
@@ -31,9 +37,9 @@ run_take p (c ∷ front) rest h e =
     let next : 1 + prefix_len p (front ++ rest) ≡ suc (prefix_len p (front ++ rest)) = omega arith in
     rw (both.0, next) (ap (λ xs. c ∷ xs) (run_take p front rest both.1 e))
 
-pub run_passes : (p : ℕ → Bool) (xs : List ℕ) → list_all p (take (prefix_len p xs) xs) ≡ true
+pub run_passes : {A : Type 0} (p : A → Bool) (xs : List A) → list_all p (take (prefix_len p xs) xs) ≡ true
 run_passes p [] = refl
-run_passes p (c ∷ rest) = by_test (p c) refl (run_passes p rest)
+run_passes {A} p (c ∷ rest) = by_test (p c) refl (run_passes p rest)
   where
     by_test : (t : Bool) → p c ≡ t → list_all p (take (prefix_len p rest) rest) ≡ true
         → list_all p (take (cond t (1 + prefix_len p rest) 0) (c ∷ rest)) ≡ true
@@ -77,6 +83,28 @@ stops_run P p front (d ∷ rest) h next = by_test (p d) refl
     by_test : (t : Bool) → p d ≡ t → cond t (1 + prefix_len p rest) 0 ≡ 0
     by_test true e = let none : d ∷ [] ≡ [] = h.longest (d ∷ []) rest refl (next d e) in absurd (cc)
     by_test false e = refl
+
+-- ---- to a line's end
+
+-- what is from the end of the first line on: nothing, or a line end and more
+pub data LineSays (text : List ℕ) : List ℕ → Type 0 where
+  unended : LineSays text []
+  line_then : (line rest : List ℕ) → lacks 10 line ≡ true → text ≡ line ++ 10 ∷ rest → LineSays text (10 ∷ rest)
+
+pub line_says : (text : List ℕ) → LineSays text (line_end text)
+line_says [] = unended
+line_says (c ∷ text) = by_test (eqb c 10) refl (line_says text)
+  where
+    by_end : eqb c 10 ≡ false → (end : List ℕ) → LineSays text end → LineSays (c ∷ text) end
+    by_end e end unended = unended
+    by_end e end (line_then line rest lack is) = line_then (c ∷ line) rest (rw e lack) (ap (λ xs. c ∷ xs) is)
+
+    by_test : (t : Bool) → eqb c 10 ≡ t → LineSays text (line_end text)
+        → LineSays (c ∷ text) (line_end (c ∷ text))
+    by_test true e h =
+        let is : c ≡ 10 = eqb-true c 10 e in
+        subst (λ k. LineSays (k ∷ text) (line_end (k ∷ text))) (sym is) (line_then [] text refl refl)
+    by_test false e h = subst (LineSays (c ∷ text)) (sym (line_end-more c text e)) (by_end e (line_end text) h)
 
 -- ---- to a closing brace
 

@@ -10,12 +10,12 @@ use Rattle.std.proofs.lemmas.Slice.Eq.{bytes_eq-Decides}
 use Rattle.chess_pgn.specs.declared.read.PgnEnd.{PgnEnd}
 use Rattle.chess_pgn.specs.declared.read.PgnFault.{PgnFault}
 use Rattle.chess_pgn.specs.GameRead.{GameRead, tagged_variant, pgn_read}
-use Rattle.chess_pgn.specs.LastTags.{own_tags}
+use Rattle.chess_pgn.specs.LastTags.{tag_section}
 use Rattle.chess_pgn.specs.laws.TokenByToken.{SoFar, Step, On, Stop, step, read_rest_with, game_of, at_text_end, nothing_read, tokens_read}
 use Rattle.chess_pgn.specs.laws.Offsets.{FaultsHaveOffsets, HalfMovesHaveBytes}
 use Rattle.chess_pgn.specs.Tokens.{Token, token_at, tokens_of, after_byte_order_mark, begins_line, tokens_from}
 use Rattle.chess_pgn.proofs.GamesByTags.{reads_alike}
-use Rattle.chess_pgn.proofs.Cuts.{pick}
+use Rattle.chess_pgn.proofs.ByteRuns.{pick}
 use Rattle.chess_pgn.proofs.StepKinds.{StepIs, passes, stays, plays, starts, stops, finishes, step_is}
 use Rattle.chess_pgn.proofs.TokenPlaces.{within}
 use Rattle.chess_pgn.proofs.Walk.{shorter}
@@ -102,7 +102,7 @@ in_place : (limit : ℕ) (text : List ℕ) (at : ℕ) → at ≤ length text
 unfolding tokens_from
 in_place limit text at h =
     let offset : ℕ = after_byte_order_mark text at in
-    let g : SoFar = nothing_read (tagged_variant (own_tags (tokens_from text offset))) in
+    let g : SoFar = nothing_read (tagged_variant (tag_section (tokens_from text offset))) in
     let later = not_before text at h in
     let low = later.0 in
     let high = later.1 in

@@ -1,14 +1,36 @@
 -- Tokens in full lines. They are written by how many bytes the line that is begun has; that gives the lines of the
 -- definitions, which are full, and no other lines are.
-use Rattle.std.proofs.Common.{◌≡◌, ℕ, ◌+◌, ◌<◌, ◌≤◌, Bool, true, false, cond, eqb, leb, List, [], ◌∷◌, ◌++◌, length, map, refl, sym, ap, subst, ◌∙◌, append_assoc, arith}
+use mathlib.Core.List.{reverse_aux}
+use Rattle.std.proofs.Common.{◌≡◌, ℕ, ◌+◌, ◌<◌, ◌≤◌, Bool, true, false, cond, eqb, leb, List, [], ◌∷◌, ◌++◌, length, map, reverse, refl, sym, ap, subst, ◌∙◌, append_assoc, arith}
 use Rattle.std.specs.List.{flat_map}
 use Rattle.std.proofs.lemmas.Bool.{leb-true, le-leb}
 use Rattle.std.proofs.lemmas.Bool.Decides.{nat_tests}
 use Rattle.std.proofs.lemmas.List.{append-nil, length-append}
-use Rattle.chess_pgn.specs.Written.{ended, lines_from, lines_of}
+use Rattle.chess_pgn.specs.Written.{ended, lines_back, with_token, lines_of}
 use Rattle.chess_pgn.specs.PgnText.{line_text, AreFullLines}
 use Rattle.chess_pgn.specs.laws.Layout.{AreShort, AreFilled}
-use Rattle.chess_pgn.specs.ties.Lines.{line_close, wrapped_token, next_column}
+use Rattle.chess_pgn.specs.ties.Lines.{lines_from, lines_begun, line_close, wrapped_token, next_column}
+
+-- ---- the last token first, and the first token first
+
+-- `done` are the tokens before `ts`, the last one first, and `line` and `earlier` are their lines
+lines_on : (ts done : List (List ℕ)) (line : List ℕ) (earlier : List (List ℕ)) → lines_back done ≡ line ∷ earlier
+    → reverse (lines_back (reverse_aux ts done)) ≡ reverse_aux earlier (lines_from line ts)
+lines_on [] done line earlier is = ap reverse is
+lines_on (t ∷ ts) done line earlier is =
+    by_test (leb (length (line ++ 32 ∷ t)) 79) (ap (with_token t) is) (lines_on ts (t ∷ done))
+  where
+    by_test : (b : Bool) → lines_back (t ∷ done) ≡ cond b ((line ++ 32 ∷ t) ∷ earlier) (t ∷ line ∷ earlier)
+        → ((l : List ℕ) (ls : List (List ℕ)) → lines_back (t ∷ done) ≡ l ∷ ls
+        → reverse (lines_back (reverse_aux ts (t ∷ done))) ≡ reverse_aux ls (lines_from l ts))
+        → reverse (lines_back (reverse_aux ts (t ∷ done)))
+        ≡ reverse_aux earlier (cond b (lines_from (line ++ 32 ∷ t) ts) (line ∷ lines_from t ts))
+    by_test true e on = on (line ++ 32 ∷ t) earlier e
+    by_test false e on = on t (line ∷ earlier) e
+
+pub lines_are : (tokens : List (List ℕ)) → lines_of tokens ≡ lines_begun tokens
+lines_are [] = refl
+lines_are (t ∷ ts) = lines_on ts (t ∷ []) t [] refl
 
 -- ---- as they are written
 
@@ -52,6 +74,7 @@ pub all_filled : (prefix : List ℕ) (ts : List (List ℕ)) → AreShort ts
 all_filled prefix [] short = refl
 all_filled prefix (t ∷ ts) short =
     append_assoc prefix t (filled_from prefix (length t) ts) ∙ line_filled prefix t ts short.0.0 short.1
+    ∙ ap (ended prefix) (sym (lines_are (t ∷ ts)))
 
 -- ---- the lines as lists of tokens
 
@@ -215,7 +238,7 @@ pub only_lines : (lines : List (List (List ℕ))) → AreFullLines lines
     → map line_text lines ≡ lines_of (flat_map (λ l. l) lines)
 only_lines [] h = refl
 only_lines ([] ∷ lines) h = absurd (omega (arith, h.some.0))
-only_lines ((u ∷ us) ∷ lines) h = sym (full_lines u us lines h)
+only_lines ((u ∷ us) ∷ lines) h = sym (lines_are (u ∷ (us ++ flat_map (λ l. l) lines)) ∙ full_lines u us lines h)
 
 -- ---- the law of short tokens
 
@@ -225,7 +248,7 @@ are_filled (u ∷ us) short = record {
   lines = grouped (u ∷ []) us;
   full = grouped_full u [] us short.0.1 short.1;
   all = grouped_all (u ∷ []) us;
-  are = sym (grouped_texts u [] us);
+  are = lines_are (u ∷ us) ∙ sym (grouped_texts u [] us);
 }
 
 pub only_filled : (tokens texts : List (List ℕ)) → AreFilled tokens texts → texts ≡ lines_of tokens

@@ -14,7 +14,7 @@ use Rattle.chess_pgn.specs.Words.{word_kind}
 use Rattle.chess_pgn.specs.Tokens.{Token, Skip, Word, after_byte_order_mark, after_brace, token_at, begins_line, tokens_from}
 use Rattle.chess_pgn.specs.GameRead.{tagged_variant, pgn_read}
 use Rattle.chess_pgn.specs.laws.TokenByToken.{SoFar, Step, On, Stop, word_step, step, read_rest_with, game_of, nothing_read, tokens_read}
-use Rattle.chess_pgn.specs.LastTags.{may_precede_tags, named_tag, own_tags}
+use Rattle.chess_pgn.specs.LastTags.{may_precede_tags, named_tag, tag_section}
 use Rattle.chess_pgn.specs.ties.GameSteps.{IsWithin, so_far, begun, StopsAt, IsReadOn, ReadsAlike, IsTaken, GoesOn, step_seen}
 use Rattle.chess_pgn.specs.ties.Seen.{SkipsTo}
 use Rattle.chess_pgn.proofs.GamesByTags.{reads_alike}
@@ -82,7 +82,7 @@ nothing_met = record { is_met = false; is_begun = false; termination = None }
 
 pub first : (old game : Seen) (start : Setup) (v : Variant) (p : Progress) (text : List ℕ) (here : ℕ)
     → game ≡ left_at old (from_start start) → start ≡ initial_setup_of v
-    → v ≡ tagged_variant (own_tags (tokens_from text here))
+    → v ≡ tagged_variant (tag_section (tokens_from text here))
     → p ≡ record { is_met = false; is_begun = false; termination = None } → here ≤ length text
     → IsReadOn old.limit text here game p here
 unfolding nothing_met
@@ -102,7 +102,7 @@ first old game start v p text here restarted initial variant none h =
 
 pub record Says (text : List ℕ) (from : ℕ) (v : Variant) (here : ℕ) : Type 0 where
   pub offset : here ≤ length text
-  pub whole : variant_from v (tokens_from text here) ≡ tagged_variant (own_tags (tokens_from text from))
+  pub whole : variant_from v (tokens_from text here) ≡ tagged_variant (tag_section (tokens_from text from))
 
 pub says_begun : (text : List ℕ) (from : ℕ) → from ≤ length text → Says text from Normal from
 says_begun text from h = record { offset = h; whole = variants_are (tokens_from text from) }
@@ -116,12 +116,6 @@ said_more text from v u here onward t r is h may said = record {
       ∙ ap (λ b. cond b (variant_from (variant_said v t) (tokens_from text onward)) v) may
       ∙ ap (variant_from v) (sym is) ∙ r.whole;
 }
-
-pub said_last : (text : List ℕ) (from : ℕ) (v : Variant) (here : ℕ) (t : Token) (ts : List (ℕ × Token))
-    → Says text from v here → tokens_from text here ≡ (length text - here, t) ∷ ts → false ≡ may_precede_tags t
-    → v ≡ tagged_variant (own_tags (tokens_from text from))
-said_last text from v here t ts r is may = ap (λ b. cond b (variant_from (variant_said v t) ts) v) may
-    ∙ ap (variant_from v) (sym is) ∙ r.whole
 
 -- the same, and the next token is no move that the game plays
 pub record ReadsWords (limit : ℕ) (text : List ℕ) (from : ℕ) (game : Seen) (progress : Progress) (here : ℕ)

@@ -25,14 +25,15 @@ use Rattle.chess_text.specs.declared.reading.Reading.TheVariants as reads
 use Rattle.chess_text.specs.Moves.{reading}
 use Rattle.chess_pgn.specs.declared.termination.Termination.{Termination}
 use Rattle.chess_pgn.specs.Terminations.{termination_named}
-use Rattle.chess_pgn.specs.GameRead.{GameRead, tagged_variant, pgn_read, Passes, Ends, failed, move_row, row, after_row, moves_read, is_tag, fens, last_start, first_bad_fen, after_tags, read_of_split}
+use Rattle.chess_pgn.specs.GameRead.{GameRead, tagged_variant, pgn_read, Passes, Ends, failed, move_row, row, after_row, moves_read, is_tag, fens, last_start, first_bad_fen, read_after_tags, read_of_split}
 use Rattle.chess_pgn.specs.laws.TokenByToken.{SoFar, Step, On, word_step, move_step, fen_step, step, read_rest_with, game_of, termination_after, tokens_read}
 use Rattle.chess_pgn.specs.GameRead.{IsRead}
-use Rattle.chess_pgn.specs.LastTags.{may_precede_tags, is_marks, own_tags, tags_named}
+use Rattle.chess_pgn.specs.LastTags.{may_precede_tags, is_marks, tag_section, tags_named}
 use Rattle.chess_pgn.specs.declared.word_kind.WordKind.{WordKind}
 use Rattle.chess_pgn.specs.declared.word_kind.WordKind.TheVariants.{End, Number, Marks, Move}
 use Rattle.chess_pgn.specs.Words.{outcome_of, word_kind}
 use Rattle.chess_pgn.specs.Tokens.{Token, Skip, Tag, Word, Bad_tag, Unclosed_comment, Unclosed_variation, Bad, tokens_from, after_byte_order_mark}
+use Rattle.chess_pgn.proofs.ByteRuns.{run_passes}
 use Rattle.chess_pgn.proofs.FenVariants.{initial_variant, read_variant}
 use Rattle.chess_pgn.proofs.TokenSplits.{read_split, split_read}
 
@@ -124,7 +125,7 @@ Stops (t ∷ ts) = may_precede_tags t.1 ≡ false
 first_token : (limit total : ℕ) (met : Bool) (termination : Option Termination) (s : State) (ts : List (ℕ × Token))
     (left : ℕ) (t : Token) → may_precede_tags t ≡ false
     → read_rest_with (step limit total (so_far met false termination s) left t) (λ g. game_of limit total g ts)
-    ≡ after_tags limit total termination s met ((left, t) ∷ ts)
+    ≡ read_after_tags limit total termination s met ((left, t) ∷ ts)
 first_token limit total met termination s ts left Skip h = absurd (cc)
 first_token limit total met termination s ts left (Tag name string at_string) h = absurd (cc)
 first_token limit total met termination s ts left (Word word) h =
@@ -138,7 +139,7 @@ first_token limit total met termination s ts left Bad h = refl
 
 tags_end : (limit total : ℕ) (met : Bool) (termination : Option Termination) (p : Setup) (rest : List (ℕ × Token))
     → Stops rest → game_of limit total (opened met termination p) rest
-    ≡ after_tags limit total termination (from_start p) met rest
+    ≡ read_after_tags limit total termination (from_start p) met rest
 tags_end limit total true termination p [] h = refl
 tags_end limit total false termination p [] h = refl
 tags_end limit total met termination p (t ∷ ts) h = first_token limit total met termination (from_start p) ts t.0 t.1 h
@@ -167,7 +168,7 @@ termination_from before tags =
 abbrev said : ℕ → ℕ → Option Termination → Setup → List (Result Setup FenFault × ℕ) → Bool → List (ℕ × Token) → GameRead
 said limit total termination p fs has_tags rest =
     option_map_or (failed (from_start (last_start p fs))) (first_bad_fen total fs)
-    (after_tags limit total termination (from_start (last_start p fs)) has_tags rest)
+    (read_after_tags limit total termination (from_start (last_start p fs)) has_tags rest)
 
 abbrev Whole : ℕ → ℕ → Variant → Bool → Option Termination → Setup → List (ℕ × Token) → List (ℕ × Token) → Type 0
 Whole limit total v met before p tags rest =
@@ -199,7 +200,7 @@ module _ (limit total : ℕ) (v : Variant) (rest : List (ℕ × Token)) (stops :
   by_fen met before p left at_string string tags (Ok q) e later =
       later q (read_variant v string q e)
       ∙ ap (λ t. option_map_or (failed (from_start t)) (first_bad_fen total (fens v tags))
-      (after_tags limit total (termination_from before tags) (from_start t) true rest))
+      (read_after_tags limit total (termination_from before tags) (from_start t) true rest))
       (sym (next_start p q at_string (fens v tags)))
   by_fen met before p left at_string string tags (Err f) e later = refl
 
@@ -280,17 +281,6 @@ module _ (limit total : ℕ) (v : Variant) (rest : List (ℕ × Token)) (stops :
 
 -- ---- where the tags end in a list of tokens
 
-tags_pass : (p : ℕ × Token → Bool) (xs : List (ℕ × Token)) → list_all p (take (prefix_len p xs) xs) ≡ true
-tags_pass p [] = refl
-tags_pass p (c ∷ rest) = by_test (p c) refl (tags_pass p rest)
-  where
-    by_test : (t : Bool) → p c ≡ t → list_all p (take (prefix_len p rest) rest) ≡ true
-        → list_all p (take (cond t (1 + prefix_len p rest) 0) (c ∷ rest)) ≡ true
-    by_test true e more =
-        let next : 1 + prefix_len p rest ≡ suc (prefix_len p rest) = omega arith in
-        rw (next, e) more
-    by_test false e more = refl
-
 tags_stop : (xs : List (ℕ × Token))
     → Stops (drop (length (take_while (λ (t : ℕ × Token). may_precede_tags t.1) xs)) xs)
 tags_stop [] = tt
@@ -318,14 +308,14 @@ none_before (Some tag) = refl
 pub tokens_are : (limit total : ℕ) (ts : List (ℕ × Token))
     → read_of_split limit total ts ≡ tokens_read limit total ts
 tokens_are limit total ts =
-    let v : Variant = tagged_variant (own_tags ts) in
+    let v : Variant = tagged_variant (tag_section ts) in
     let p : ℕ × Token → Bool = λ (t : ℕ × Token). may_precede_tags t.1 in
-    let tags : List (ℕ × Token) = own_tags ts in
+    let tags : List (ℕ × Token) = tag_section ts in
     let rest : List (ℕ × Token) = drop (length tags) ts in
     ap (λ e. said limit total e (initial_setup_of v) (fens v tags) (list_any is_tag tags) rest)
     (sym (none_before (last_or None (tags_named (codes "Termination") tags))))
     ∙ sym (all_tags limit total v rest (tags_stop ts) false None (initial_setup_of v) tags (initial_variant v)
-    (tags_pass p ts))
+    (run_passes p ts))
     ∙ ap (game_of limit total (opened false None (initial_setup_of v))) (rest_is p ts)
 
 -- what is read of a text is what is read of it token by token

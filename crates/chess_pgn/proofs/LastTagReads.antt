@@ -2,13 +2,13 @@
 use Rattle.std.proofs.Common.{◌≡◌, ◌≤◌, ℕ, ◌-◌, true, cond, List, ◌∷◌, length, Option, Some, None, IfSome, refl, sym, ap, subst, ◌∙◌, arith}
 use Rattle.std.specs.Option.{option_or}
 use Rattle.std.specs.Str.{bytes_eq}
-use Rattle.chess_pgn.specs.LastTags.{may_precede_tags, named_tag, own_tags, last_tag}
+use Rattle.chess_pgn.specs.LastTags.{may_precede_tags, named_tag, tag_section, last_tag}
 use Rattle.chess_pgn.specs.Tokens.{Token, Skip, Word, Bad_tag, Unclosed_comment, Unclosed_variation, Bad, tokens_from}
 use Rattle.chess_pgn.specs.Tokens as tokens
 use Rattle.chess_pgn.specs.declared.tag.Tag.{Tag}
 use Rattle.chess_pgn.specs.ties.GameSteps.{IsWithin}
 use Rattle.chess_pgn.specs.ties.Seen.{found_seen, SkipsTo}
-use Rattle.chess_pgn.proofs.Cuts.{pick}
+use Rattle.chess_pgn.proofs.ByteRuns.{pick}
 use Rattle.chess_pgn.proofs.SkippedTokens.{skips_last}
 use Rattle.chess_pgn.proofs.TagScans.{last_from, last_step}
 use Rattle.chess_pgn.proofs.TokenPlaces.{token_within}
@@ -20,7 +20,7 @@ pub record Reads (text name : List ℕ) (from : ℕ) (last : Option Tag) (here :
   pub offset : here ≤ length text
   pub within : InText (length text) last
   pub whole : last_from name (found_seen last) (tokens_from text here)
-      ≡ last_tag name (own_tags (tokens_from text from))
+      ≡ last_tag name (tag_section (tokens_from text from))
 
 pub begun : (text name : List ℕ) (from : ℕ) → from ≤ length text → Reads text name from None from
 begun text name from h = record { offset = h; within = tt; whole = refl }

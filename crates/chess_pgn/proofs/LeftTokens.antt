@@ -11,8 +11,7 @@ use Rattle.chess_pgn.specs.Tokens.{Token, Skip, Tag, Word, Bad_tag, Unclosed_com
 use Rattle.chess_pgn.specs.Words.{word_kind}
 use Rattle.chess_pgn.specs.Split.{Kind, Blank, Line, Comment, Nag, Variation, Tag_pair, Asterisk, Symbol, IsOf, token_of}
 use Rattle.chess_pgn.specs.ties.GameSteps.{IsNoMove, IsLeft, StopsAt}
-use Rattle.chess_pgn.proofs.PgnWords.{begins_word}
-use Rattle.chess_pgn.proofs.TokenSplits.{TokenSays, known, faulty, is_fault, token_says}
+use Rattle.chess_pgn.proofs.TokenKinds.{begins_word, TokenSays, known, faulty, is_fault, token_says}
 use Rattle.chess_pgn.proofs.Walk.{no_token, token_more}
 
 pub move_has_bytes : (word : List ℕ) → Move ≡ word_kind word → 0 < length word

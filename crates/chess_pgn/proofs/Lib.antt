@@ -5,6 +5,7 @@ mod Cuts
 mod FaultPlaces
 mod FenVariants
 mod FilledLines
+mod Gaps
 mod GameReads
 mod GameTexts
 mod LastTagReads
@@ -33,6 +34,7 @@ mod Walk
 mod ByteRuns
 mod VariationInsides
 mod TagSplits
+mod TokenKinds
 mod TokenSplits
 mod GamesByTags
 mod LaidOut

@@ -8,9 +8,9 @@ use Rattle.chess_base.specs.declared.man.Variant.TheVariants.{Normal}
 use Rattle.chess_base.specs.declared.setup.Setup.{Setup}
 use Rattle.chess_base.specs.Initial.{initial_setup, initial_setup_of}
 use Rattle.chess_game.specs.Game.{from_start}
-use Rattle.chess_pgn.specs.GameRead.{GameRead, failed, fens, first_bad_fen, last_start, last_termination, is_tag, variant_named, after_tags, pgn_read}
+use Rattle.chess_pgn.specs.GameRead.{GameRead, failed, fens, first_bad_fen, last_start, last_termination, is_tag, variant_named, read_after_tags, pgn_read}
 use Rattle.chess_pgn.specs.GameText.{start_lines_in, last_lines}
-use Rattle.chess_pgn.specs.LastTags.{own_tags, last_tag}
+use Rattle.chess_pgn.specs.LastTags.{tag_section, last_tag}
 use Rattle.chess_pgn.specs.laws.Normal.{normal_read, NormalIsKept}
 use Rattle.chess_pgn.specs.Tokens.{Token, after_byte_order_mark, tokens_from}
 
@@ -19,15 +19,15 @@ unfolding initial_setup
 initial_is = refl
 
 read_so : (limit : ℕ) (text : List ℕ) (at : ℕ)
-    → last_tag (codes "Variant") (own_tags (tokens_from text (after_byte_order_mark text at))) ≡ None
+    → last_tag (codes "Variant") (tag_section (tokens_from text (after_byte_order_mark text at))) ≡ None
     → pgn_read limit text at ≡ normal_read limit (length text) (tokens_from text (after_byte_order_mark text at))
 unfolding pgn_read
 read_so limit text at none =
     let tokens : List (ℕ × Token) = tokens_from text (after_byte_order_mark text at) in
-    let tags : List (ℕ × Token) = own_tags tokens in
+    let tags : List (ℕ × Token) = tag_section tokens in
     let read : Variant → Setup → GameRead = λ v p. option_map_or (failed (from_start (last_start p (fens v tags))))
     (first_bad_fen (length text) (fens v tags))
-    (after_tags limit (length text) (last_termination tags) (from_start (last_start p (fens v tags)))
+    (read_after_tags limit (length text) (last_termination tags) (from_start (last_start p (fens v tags)))
     (list_any is_tag tags) (drop (length tags) tokens)) in
     ap (λ v. read v (initial_setup_of v))
     (ap (λ (tag : Option (List ℕ × ℕ)). option_map_or (λ (t : List ℕ × ℕ). variant_named t.0) tag Normal) none)

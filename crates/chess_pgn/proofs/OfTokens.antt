@@ -27,7 +27,7 @@ use Rattle.chess_pgn.specs.declared.termination.Termination.{Termination}
 use Rattle.chess_pgn.specs.declared.word_kind.WordKind.{WordKind}
 use Rattle.chess_pgn.specs.declared.word_kind.WordKind.TheVariants.{End, Number, Marks, Move}
 use Rattle.chess_pgn.specs.GameRead.{GameRead, tagged_variant}
-use Rattle.chess_pgn.specs.LastTags.{own_tags}
+use Rattle.chess_pgn.specs.LastTags.{tag_section}
 use Rattle.chess_pgn.specs.laws.TokenByToken.{SoFar, Step, On, Stop, game_of, read_rest_with, step, nothing_read, move_step, word_step, tag_step, fen_step, fails, unless_full, termination_after}
 use Rattle.chess_pgn.specs.laws.GameOfTokens.{begins, counts, is_fen, can_be_taken, can_all_be_taken, if_move, move_words_of, move_words, start_by, tagged_start, termination_by_token, tagged_termination, AreReadAs, unless_closed, move_fault, word_fault, fault_at, token_fault, StopsAt, IsOfTokens, GamesAreOfTokens, is_number_or_move, is_outcome}
 use Rattle.chess_pgn.specs.Tokens.{Token, Skip, Tag, Word, Bad_tag, Unclosed_comment, Unclosed_variation, Bad}
@@ -384,7 +384,7 @@ module _ (limit total : ℕ) (v : Variant) where
 
 pub game_of_tokens : GamesAreOfTokens
 game_of_tokens limit text at r read =
-    let v : Variant = tagged_variant (own_tags read.tokens) in
+    let v : Variant = tagged_variant (tag_section read.tokens) in
     subst (IsOfTokens limit (length text) v read.tokens)
     (sym (read.is ∙ tokens_are limit (length text) read.tokens))
     (of_tokens limit (length text) v read.tokens [] read.tokens (nothing_read v) refl

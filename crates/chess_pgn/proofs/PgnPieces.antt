@@ -28,7 +28,8 @@ use Rattle.chess_pgn.specs.Words.{word_kind}
 use Rattle.chess_pgn.specs.Written.{escaped, tag_line}
 use Rattle.chess_pgn.proofs.PgnFen.{fen_bare}
 use Rattle.chess_pgn.proofs.PgnTags.{is_in_line, is_bare, bare_escaped, bare_in_line, is_tag_name, tag_token, tag_line_bytes}
-use Rattle.chess_pgn.proofs.PgnWords.{not_byte, word_token, number_kind, move_kind, decimal_digits, decimal_some, number_bytes, san_bytes_in_word}
+use Rattle.chess_pgn.proofs.ByteRuns.{differs}
+use Rattle.chess_pgn.proofs.PgnWords.{word_token, number_kind, move_kind, decimal_digits, decimal_some, number_bytes, san_bytes_in_word}
 use Rattle.chess_text.proofs.shared.San.{san_read, san_short, san_bytes, san_letter}
 use Rattle.chess_pgn.proofs.Walk.{enough, shorter}
 
@@ -143,7 +144,7 @@ module _ (limit total : ℕ) where
       let here = (and_parts (is_word_byte c) (list_all is_word_byte cs) all).0 in
       token_on g h begins c (cs ++ d ∷ rest) (Word (c ∷ cs)) (d ∷ rest) (word_token begins c cs d rest all ends)
       (next (total - suc (length (cs ++ d ∷ rest))))
-      ∙ ap (λ b. read_on limit total h b (d ∷ rest)) (not_byte is_word_byte 10 c refl here)
+      ∙ ap (λ b. read_on limit total h b (d ∷ rest)) (differs is_word_byte c 10 here refl)
 
   -- a number, and the dots after it
   number_takes : (g : SoFar) (n : ℕ) → n ≤ 999999 → Takes g (begun g) (decimal n)

@@ -1,14 +1,17 @@
 -- Tags as they are written: each line is one token with the text that is there.
-use Rattle.std.proofs.Common.{◌≡◌, ℕ, ◌≤◌, Bool, true, false, not, cond, ◌&&◌, ◌||◌, eqb, List, [], ◌∷◌, ◌++◌, length, drop, Some, refl, ap, ◌∙◌, append_assoc, arith}
+use Rattle.std.proofs.Common.{◌≡◌, ℕ, ◌≤◌, Bool, true, false, not, cond, ◌&&◌, ◌||◌, eqb, List, [], ◌∷◌, ◌++◌, length, drop, Some, refl, sym, ap, ◌∙◌, append_assoc, arith}
 use Rattle.std.specs.List.{list_all, prefix_len, take_while, AllByRecursion}
 use Rattle.std.proofs.lemmas.Bool.{and_parts, and_from, or_parts}
 use Rattle.std.proofs.lemmas.Bool.Decides.{nat_tests}
-use Rattle.chess_pgn.specs.Tokens.{Tag, after_gap, string_at, onto, token_at}
+use Rattle.chess_pgn.specs.Tokens.{Tag, after_gap, after_byte, string_at, onto, token_at}
 use Rattle.text_lines.specs.Words.{is_name_byte}
-use Rattle.chess_pgn.specs.ties.TagParts.{with_text, with_tag_name, tag_by_parts}
+use Rattle.chess_pgn.specs.ties.TagParts.{closed, with_text, with_string, with_tag_name, tag_by_parts}
 use Rattle.chess_game.specs.Results.{IsTagText}
 use Rattle.chess_pgn.specs.Written.{escaped, tag_line}
-use Rattle.chess_pgn.proofs.PgnWords.{whole_run, not_byte, no_percent}
+use Rattle.chess_pgn.proofs.PgnWords.{whole_run}
+use Rattle.chess_pgn.proofs.TokenKinds.{no_percent}
+use Rattle.chess_pgn.proofs.ByteRuns.{differs}
+use Rattle.chess_pgn.proofs.Gaps.{gap_same}
 use Rattle.chess_pgn.proofs.TagParts.{parts_are}
 use Rattle.chess_pgn.proofs.Strings.{string_quote, string_other}
 
@@ -30,7 +33,7 @@ not_ten c h = by_test (eqb c 10) h
 
 -- a quote or a backslash is no line's end
 escaped_in_line : (c : ℕ) → (eqb c 34 || eqb c 92) ≡ true → eqb c 10 ≡ false
-escaped_in_line c h = not_byte (λ k. eqb k 34 || eqb k 92) 10 c refl h
+escaped_in_line c h = differs (λ k. eqb k 34 || eqb k 92) c 10 h refl
 
 -- a string that is written is read up to its quote
 pub string_written : (text rest : List ℕ) → list_all is_in_line text ≡ true
@@ -86,21 +89,19 @@ abbrev pub is_tag_name : List ℕ → Bool
 is_tag_name [] = false
 is_tag_name (n ∷ ns) = list_all is_name_byte (n ∷ ns)
 
-no_gap : (n : ℕ) (rest : List ℕ) → is_name_byte n ≡ true → after_gap false false (n ∷ rest) ≡ n ∷ rest
+no_gap : (n : ℕ) (rest : List ℕ) → is_name_byte n ≡ true → after_gap (n ∷ rest) ≡ n ∷ rest
 no_gap n rest h =
-    rw (
-      not_byte is_name_byte 32 n refl h,
-      not_byte is_name_byte 9 n refl h,
-      not_byte is_name_byte 10 n refl h,
-      not_byte
-          is_name_byte 13 n refl h,
-    ) refl
+    let no : (k : ℕ) → is_name_byte k ≡ false → eqb n k ≡ false = λ k e. differs is_name_byte n k h e in
+    sym (gap_same (n ∷ rest)) ∙ rw (no 32 refl, no 9 refl, no 10 refl, no 13 refl) refl
 
 with_name_written : (n : ℕ) (ns text rest : List ℕ) → list_all is_in_line text ≡ true
     → with_tag_name (n ∷ ns) (32 ∷ 34 ∷ (escaped text ++ 34 ∷ 93 ∷ rest))
     ≡ (Tag (n ∷ ns) (escaped text) (length (escaped text ++ 34 ∷ 93 ∷ rest)), rest)
-with_name_written n ns text rest h = ap (with_text (n ∷ ns) (length (escaped text ++ 34 ∷ 93 ∷ rest)))
-    (string_written text (93 ∷ rest) h)
+with_name_written n ns text rest h =
+    let string : List ℕ = escaped text ++ 34 ∷ 93 ∷ rest in
+    ap (λ xs. with_string (n ∷ ns) (after_byte 34 xs)) (sym (gap_same (32 ∷ 34 ∷ string)))
+    ∙ ap (with_text (n ∷ ns) (length string)) (string_written text (93 ∷ rest) h)
+    ∙ ap (λ xs. closed (n ∷ ns) (length string) (escaped text) (after_byte 93 xs)) (sym (gap_same (93 ∷ rest)))
 
 tag_written : (n : ℕ) (ns text rest : List ℕ) → list_all is_name_byte (n ∷ ns) ≡ true → list_all is_in_line text ≡ true
     → tag_by_parts (n ∷ (ns ++ 32 ∷ 34 ∷ (escaped text ++ 34 ∷ 93 ∷ rest)))

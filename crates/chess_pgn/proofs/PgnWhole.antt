@@ -25,7 +25,7 @@ use Rattle.chess_pgn.specs.declared.tags.Tags.{Tags}
 use Rattle.chess_pgn.specs.declared.termination.Termination.{Termination}
 use Rattle.chess_pgn.specs.Terminations.{termination_text, termination_of}
 use Rattle.chess_pgn.specs.GameRead.{GameRead, declared_after, variant_named, tagged_variant, pgn_read}
-use Rattle.chess_pgn.specs.LastTags.{own_tags, last_tag}
+use Rattle.chess_pgn.specs.LastTags.{tag_section, last_tag}
 use Rattle.chess_pgn.specs.Words.{outcome_of}
 use Rattle.chess_pgn.specs.laws.TokenByToken.{SoFar, game_of, nothing_read, tokens_read}
 use Rattle.chess_pgn.specs.GameText.{fen_lines, start_lines_in, last_lines, further_lines, tag_lines, move_tokens, game_tokens, pgn}
@@ -236,8 +236,8 @@ by_string None = refl
 by_string (Some tag) = refl
 
 named : (ts : List (ℕ × Token))
-    → tagged_variant (own_tags ts) ≡ option_map_or variant_named (text_from (codes "Variant") None ts) Normal
-named ts = by_string (last_tag (codes "Variant") (own_tags ts))
+    → tagged_variant (tag_section ts) ≡ option_map_or variant_named (text_from (codes "Variant") None ts) Normal
+named ts = by_string (last_tag (codes "Variant") (tag_section ts))
     ∙ ap (λ o. option_map_or variant_named o Normal) (sym (text_is (codes "Variant") ts))
 
 -- reading from the offset after `before` on
@@ -372,7 +372,7 @@ result_law limit tags s before rest texts h tokens split =
     split_read (before ++ pgn [] tags s ++ rest) split
     ∙ ap (λ xs. tokens_from xs (after_byte_order_mark xs (length before))) grouping
     ∙ ap (tokens_from whole) offset ∙ tokens_after before text in
-    result_by_string (length (before ++ pgn [] tags s ++ rest)) (last_tag (codes "Result") (own_tags tokens))
+    result_by_string (length (before ++ pgn [] tags s ++ rest)) (last_tag (codes "Result") (tag_section tokens))
     ∙ ap (option_and_then outcome_of) (sym (text_is (codes "Result") tokens)
     ∙ ap (text_from (codes "Result") None) are
     ∙ written_says (codes "Result") tags texts s h.start short (begins_line whole (length before)) rest

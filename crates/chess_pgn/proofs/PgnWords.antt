@@ -1,19 +1,19 @@
 -- Words as they are written in a game: each is one token where a byte of no word follows, and of its own kind.
 use Rattle.std.proofs.Common.{◌≡◌, ℕ, ◌<◌, ◌≤◌, Bool, true, false, ◌&&◌, ◌||◌, eqb, List, [], ◌∷◌, ◌++◌, length, get_or, take, drop, Option, None, refl, sym, ap, subst, ◌-◌, ◌∙◌, inl, inr, arith}
-use Rattle.std.proofs.Math.Seq.{take-append_seam}
 use Rattle.std.proofs.lemmas.Bool.{and_parts, and_from, or_cases}
 use Rattle.std.proofs.lemmas.Bool.Decides.{nat_tests}
 use Rattle.std.proofs.lemmas.Fmt.{decimal_is_IsNumeral}
-use Rattle.std.proofs.lemmas.List.{drop_at, take_rest}
+use Rattle.std.proofs.lemmas.List.{take_rest}
 use Rattle.std.proofs.lemmas.Slice.Eq.{bytes_eq-Decides}
 use Rattle.std.proofs.lemmas.Str.Parse.{digit_from_value}
 use Rattle.std.specs.Fmt.{decimal}
 use Rattle.std.specs.List.{list_all, prefix_len, take_while}
 use Rattle.std.specs.Option.{option_map_or}
-use Rattle.std.specs.Prelude.{nat_le, if◌then◌else◌}
+use Rattle.std.specs.Prelude.{nat_le, if◌then◌else◌, Some, Result, Ok, Err}
+use Rattle.std.specs.Result.{result_ok}
 use Rattle.std.specs.Str.{bytes_eq}
 use Rattle.std.specs.Str.Parse.{AllDigits}
-use Rattle.chess_game.specs.Results.{outcome_text}
+use Rattle.chess_game.specs.Results.{outcome_text, ParsesOutcome}
 use Rattle.chess_game.specs.declared.results.Outcome.{Outcome}
 use Rattle.chess_game.specs.declared.results.Outcome.TheVariants.{WhiteWins, BlackWins, Draw, Unfinished}
 use Rattle.chess_pgn.specs.declared.word_kind.WordKind.{WordKind}
@@ -23,6 +23,8 @@ use Rattle.chess_pgn.specs.Tokens.{Word, is_word_byte, token_at, begins_line}
 use Rattle.chess_pgn.specs.ties.Begins.{begins_as_move}
 use Rattle.chess_base.specs.Letters.{is_digit, is_letter}
 use Rattle.chess_pgn.specs.Words.{outcome_of, word_kind}
+use Rattle.chess_pgn.proofs.ByteRuns.{run_drop, run_take}
+use Rattle.chess_pgn.proofs.TokenKinds.{begins_word}
 use Rattle.chess_pgn.proofs.Walk.{NextToken, next_token}
 
 -- ---- a run of bytes that pass
@@ -32,70 +34,15 @@ pub record Run (p : ℕ → Bool) (text run rest : List ℕ) : Type 0 where
   pub taken : take_while p text ≡ run
   pub left : drop (prefix_len p text) text ≡ rest
 
-run_len : (p : ℕ → Bool) (run : List ℕ) (d : ℕ) (rest : List ℕ) → list_all p run ≡ true → p d ≡ false
-    → prefix_len p (run ++ d ∷ rest) ≡ length run
-run_len p [] d rest all ends = rw ends refl
-run_len p (c ∷ run) d rest all ends =
-    let both = and_parts (p c) (list_all p run) all in
-    rw both.0 (omega (arith, run_len p run d rest both.1 ends))
-
 pub whole_run : (p : ℕ → Bool) (run : List ℕ) (d : ℕ) (rest : List ℕ) → list_all p run ≡ true → p d ≡ false
     → Run p (run ++ d ∷ rest) run (d ∷ rest)
 whole_run p run d rest all ends =
-    let n = run_len p run d rest all ends in
-    record {
-      taken = ap (λ k. take k (run ++ d ∷ rest)) n ∙ take-append_seam run (d ∷ rest);
-      left = ap (λ k. drop k (run ++ d ∷ rest)) n ∙ drop_at run (d ∷ rest) (length run) refl;
-    }
-
--- a byte that passes is not one that doesn't
-pub not_byte : (p : ℕ → Bool) (k c : ℕ) → p k ≡ false → p c ≡ true → eqb c k ≡ false
-not_byte p k c fails passes = by_test (eqb c k) refl
-  where
-    by_test : (t : Bool) → eqb c k ≡ t → t ≡ false
-    by_test true e = let is : c ≡ k = grind (arith, nat_tests) in let same : p c ≡ p k = ap p is in absurd (cc)
-    by_test false e = refl
+    let stop : prefix_len p (d ∷ rest) ≡ 0 = rw ends refl in
+    record { taken = run_take p run (d ∷ rest) all stop; left = run_drop p run (d ∷ rest) all stop }
 
 -- ---- a word
 
--- a byte that begins no `%` line begins the same token where a line begins and where none does
-pub no_percent : (begins : Bool) (c : ℕ) (rest : List ℕ) → eqb c 37 ≡ false
-    → token_at begins c rest ≡ token_at false c rest
-unfolding token_at
-no_percent true c rest e = rw e refl
-no_percent false c rest e = refl
-
-first_byte : (c : ℕ) (rest : List ℕ) → is_word_byte c ≡ true
-    → token_at false c rest
-    ≡ (Word (take_while is_word_byte (c ∷ rest)), drop (prefix_len is_word_byte (c ∷ rest)) (c ∷ rest))
-unfolding token_at
-first_byte c rest h =
-    rw (
-      not_byte is_word_byte 32 c refl h,
-      not_byte is_word_byte 9 c refl h,
-      not_byte is_word_byte 10 c refl h,
-      not_byte
-          is_word_byte 13 c refl h,
-      not_byte is_word_byte 46 c refl h,
-      not_byte is_word_byte 123 c refl h,
-      not_byte
-          is_word_byte 59 c refl h,
-      not_byte is_word_byte 36 c refl h,
-      not_byte is_word_byte 40 c refl h,
-      not_byte
-          is_word_byte 91 c refl h,
-      not_byte is_word_byte 42 c refl h,
-      h,
-    )
-    refl
-
--- a byte of a word begins one, wherever it is
-pub begins_word : (begins : Bool) (c : ℕ) (rest : List ℕ) → is_word_byte c ≡ true
-    → token_at begins c rest
-    ≡ (Word (take_while is_word_byte (c ∷ rest)), drop (prefix_len is_word_byte (c ∷ rest)) (c ∷ rest))
-begins_word begins c rest h = no_percent begins c rest (not_byte is_word_byte 37 c refl h) ∙ first_byte c rest h
-
--- the same, with its text as code meets it
+-- the first word of a text, with its text as code meets it
 word_first : (begins : Bool) (xs : List ℕ) → 1 ≤ length xs → is_word_byte (get_or xs 0 0) ≡ true
     → (Word (take_while is_word_byte xs), drop (prefix_len is_word_byte xs) xs)
     ≡ token_at begins (get_or xs 0 0) (take (length xs - 1) (drop 1 xs))
@@ -135,8 +82,7 @@ pub word_token : (begins : Bool) (c : ℕ) (cs : List ℕ) (d : ℕ) (rest : Lis
 word_token begins c cs d rest all ends =
     let both = and_parts (is_word_byte c) (list_all is_word_byte cs) all in
     let run = whole_run is_word_byte (c ∷ cs) d rest all ends in
-    no_percent begins c (cs ++ d ∷ rest) (not_byte is_word_byte 37 c refl both.0)
-    ∙ first_byte c (cs ++ d ∷ rest) both.0
+    begins_word begins c (cs ++ d ∷ rest) both.0
     ∙ ap (λ word. (Word word, drop (prefix_len is_word_byte (c ∷ (cs ++ d ∷ rest))) (c ∷ (cs ++ d ∷ rest)))) run.taken
     ∙ ap (λ left. (Word (c ∷ cs), left)) run.left
 
@@ -163,6 +109,26 @@ no_outcome p word none h =
     let c = other_text p (outcome_text Draw) word (none Draw) h in
     let d = other_text p (outcome_text Unfinished) word (none Unfinished) h in
     rw (a, b, c, d) refl
+
+outcome_found : (o : Outcome) → Some o ≡ outcome_of (outcome_text o)
+outcome_found WhiteWins = refl
+outcome_found BlackWins = refl
+outcome_found Draw = refl
+outcome_found Unfinished = refl
+
+-- what is parsed of a word is its outcome
+pub outcome_parsed : {E : Type 0} (word : List ℕ) (r : Result Outcome E) → ParsesOutcome word r
+    → result_ok r ≡ outcome_of word
+outcome_parsed word (Ok o) is = subst (λ w. Some o ≡ outcome_of w) (sym is) (outcome_found o)
+outcome_parsed word (Err e) none =
+    rw (other WhiteWins, other BlackWins, other Draw, other Unfinished) refl
+  where
+    by_test : (o : Outcome) (t : Bool) → bytes_eq (outcome_text o) word ≡ t → t ≡ false
+    by_test o true is = absurd (none o (sym ((bytes_eq-Decides (outcome_text o) word).0 is)))
+    by_test o false is = refl
+
+    other : (o : Outcome) → bytes_eq (outcome_text o) word ≡ false
+    other o = by_test o (bytes_eq (outcome_text o) word) refl
 
 no_digits : (o : Outcome) → list_all is_digit (outcome_text o) ≡ false
 no_digits WhiteWins = refl

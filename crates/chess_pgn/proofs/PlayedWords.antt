@@ -18,8 +18,8 @@ use Rattle.chess_pgn.specs.declared.read.PgnEnd.{PgnEnd}
 use Rattle.chess_pgn.specs.declared.read.PgnFault.{PgnFault}
 use Rattle.chess_pgn.specs.declared.read.PgnFaultKind.TheVariants.{AfterEnd, TooLong}
 use Rattle.chess_pgn.specs.declared.termination.Termination.{Termination}
-use Rattle.chess_pgn.specs.GameRead.{GameRead, Row, Passes, Plays, Ends, Fails, failed, move_row, row, after_row, moves_read, is_tag, fens, last_start, last_termination, first_bad_fen, tagged_variant, after_tags, pgn_read}
-use Rattle.chess_pgn.specs.LastTags.{own_tags}
+use Rattle.chess_pgn.specs.GameRead.{GameRead, Row, Passes, Plays, Ends, Fails, failed, move_row, row, after_row, moves_read, is_tag, fens, last_start, last_termination, first_bad_fen, tagged_variant, read_after_tags, pgn_read}
+use Rattle.chess_pgn.specs.LastTags.{tag_section}
 use Rattle.chess_pgn.specs.Tokens.{Token, Skip, Tag, Word, Bad_tag, Unclosed_comment, Unclosed_variation, Bad, after_byte_order_mark, tokens_from}
 use Rattle.chess_pgn.specs.Words.{outcome_of}
 
@@ -125,8 +125,8 @@ moves_words limit total termination s (t ∷ ts) h =
     by_row (Fails kind) e later k = absurd k
 
 tags_words : (limit total : ℕ) (termination : Option Termination) (s : State) (met : Bool) (ts : List (ℕ × Token))
-    → IsEnd (after_tags limit total termination s met ts).answer
-    → Words limit s (after_tags limit total termination s met ts).state
+    → IsEnd (read_after_tags limit total termination s met ts).answer
+    → Words limit s (read_after_tags limit total termination s met ts).state
 tags_words limit total termination s true [] h = absurd h
 tags_words limit total termination s false [] h = absurd h
 tags_words limit total termination s met ((left, Skip) ∷ ts) h =
@@ -160,13 +160,13 @@ unfolding pgn_read
 game_words limit text at end is =
     let total : ℕ = length text in
     let tokens : List (ℕ × Token) = tokens_from text (after_byte_order_mark text at) in
-    let tags : List (ℕ × Token) = own_tags tokens in
+    let tags : List (ℕ × Token) = tag_section tokens in
     let v : Variant = tagged_variant tags in
     let p : Setup = last_start (initial_setup_of v) (fens v tags) in
     let rest : List (ℕ × Token) = drop (length tags) tokens in
     let w : Words limit (from_start p) (pgn_read limit text at).state =
     by_fault limit (from_start p) (first_bad_fen total (fens v tags))
-    (after_tags limit total (last_termination tags) (from_start p) (list_any is_tag tags) rest)
+    (read_after_tags limit total (last_termination tags) (from_start p) (list_any is_tag tags) rest)
     (tags_words limit total (last_termination tags) (from_start p) (list_any is_tag tags) rest)
     (subst IsEnd (sym is) tt) in
     (w.words, from_words limit p (pgn_read limit text at).state w)

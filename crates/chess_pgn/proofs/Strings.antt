@@ -121,7 +121,7 @@ unclosed (n ∷ ns) rest string text tail a b e =
     ap (with_string (n ∷ ns)) (sym a) ∙ ap (with_text (n ∷ ns) (length string)) (sym b)
     ∙ ap (closed (n ∷ ns) (length string) text) (sym e)
 
-pub tag_unclosed : (from inner name rest string text tail : List ℕ) → inner ≡ after_gap false false from
+pub tag_unclosed : (from inner name rest string text tail : List ℕ) → inner ≡ after_gap from
     → name ≡ take_while is_name_byte inner → rest ≡ drop (prefix_len is_name_byte inner) inner
     → Some string ≡ after_next 34 rest → Some (text, tail) ≡ string_at string → None ≡ after_next 93 tail
     → tag_by_parts from ≡ (Bad_tag, [])

@@ -46,7 +46,7 @@ by_name (n ∷ ns) rest =
     ∙ by_string (n ∷ ns) (after_next 34 rest)
 
 pub parts_are : (text : List ℕ) → unwrap_or (tag_at text) (Bad_tag, []) ≡ tag_by_parts text
-parts_are text = by_inner (after_gap false false text)
+parts_are text = by_inner (after_gap text)
   where
     by_inner : (inner : List ℕ)
         → or_bad (option_and_then after_name (cond (eqb (length (take_while is_name_byte inner)) 0) None

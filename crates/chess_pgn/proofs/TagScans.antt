@@ -6,7 +6,7 @@ use Rattle.std.specs.Prelude.{if◌then◌else◌, codes}
 use Rattle.chess_base.specs.declared.man.Variant.{Variant}
 use Rattle.chess_base.specs.declared.man.Variant.TheVariants.{Normal}
 use Rattle.chess_pgn.specs.GameRead.{variant_named, tagged_variant}
-use Rattle.chess_pgn.specs.LastTags.{may_precede_tags, named_tag, own_tags, last_tag}
+use Rattle.chess_pgn.specs.LastTags.{may_precede_tags, named_tag, tag_section, last_tag}
 use Rattle.chess_pgn.specs.Tokens.{Token}
 
 -- the last tag of a name among tokens, or the one before them
@@ -68,7 +68,7 @@ text_from_is name before (t ∷ ts) =
     by_test false later = refl
 
 pub text_is : (name : List ℕ) (ts : List (ℕ × Token))
-    → text_from name None ts ≡ option_map (λ tag. tag.0) (last_tag name (own_tags ts))
+    → text_from name None ts ≡ option_map (λ tag. tag.0) (last_tag name (tag_section ts))
 text_is name ts = text_from_is name None ts
 
 -- ---- the variant
@@ -108,5 +108,5 @@ variant_from_is before (t ∷ ts) =
         ap (λ v. variant_from v ts) (said_or (named_tag (codes "Variant") t.1) before) ∙ later
     by_test false later = refl
 
-pub variants_are : (ts : List (ℕ × Token)) → variant_from Normal ts ≡ tagged_variant (own_tags ts)
+pub variants_are : (ts : List (ℕ × Token)) → variant_from Normal ts ≡ tagged_variant (tag_section ts)
 variants_are ts = variant_from_is None ts

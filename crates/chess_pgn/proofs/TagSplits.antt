@@ -1,5 +1,5 @@
 -- Gaps, strings and tags: the relation and the reader agree.
-use Rattle.std.proofs.Common.{◌≡◌, ℕ, zero, suc, ◌+◌, ◌<◌, ◌≤◌, Bool, true, false, cond, not, eqb, List, [], ◌∷◌, ◌++◌, length, take, drop, Option, Some, None, IfSome, refl, sym, ap, subst, ◌∙◌, inl, inr, ◌⊎◌, arith}
+use Rattle.std.proofs.Common.{◌≡◌, ℕ, zero, suc, ◌+◌, ◌<◌, ◌≤◌, Bool, true, false, cond, eqb, List, [], ◌∷◌, ◌++◌, length, drop, Option, Some, None, IfSome, refl, sym, ap, subst, ◌∙◌, inl, inr, ◌⊎◌, arith}
 use Rattle.std.specs.Prelude.{◌&&◌}
 use Rattle.std.specs.List.{list_all, list_any, prefix_len, take_while}
 use Rattle.std.proofs.lemmas.Bool.{and_parts, or_parts, or_cases, eqb-true}
@@ -7,35 +7,36 @@ use Rattle.std.proofs.lemmas.Bool.Decides.{nat_tests}
 use Rattle.std.proofs.lemmas.List.{take-append-drop, append_assoc, length-append}
 use Rattle.chess_pgn.specs.Tokens.{Token, Tag, Bad_tag, is_white_space, line_end, after_gap, string_at, onto, after_byte, after_next}
 use Rattle.text_lines.specs.Words.{is_name_byte}
+use Rattle.chess_pgn.specs.ties.Gaps.{gap_left}
 use Rattle.chess_pgn.specs.ties.TagParts.{closed, with_text, with_string, with_tag_name, tag_by_parts}
 use Rattle.chess_pgn.proofs.Skipped.{gap_line}
 use Rattle.chess_pgn.proofs.Strings.{string_after, string_quote, string_other}
-use Rattle.chess_pgn.proofs.Cuts.{pick}
-use Rattle.chess_pgn.specs.Split.{lacks, IsGap, nothing, blank, line, IsString, kept, other, IsTag}
-use Rattle.chess_pgn.proofs.ByteRuns.{differs, run_drop, run_take, run_passes, run_stops}
+use Rattle.chess_pgn.proofs.Gaps.{gap_same}
+use Rattle.chess_pgn.specs.Split.{IsGap, nothing, blank, line, IsString, kept, other, IsTag}
+use Rattle.chess_pgn.proofs.ByteRuns.{differs, pick, run_drop, run_take, run_passes, LineSays, unended, line_then, line_says}
 use Rattle.chess_pgn.proofs.VariationInsides.{line_end_is}
 
 -- ---- gaps
 
 gap_ends : (b : Bool) (c : ℕ) (rest : List ℕ) → is_white_space c ≡ false → eqb c 37 ≡ false
-    → after_gap false b (c ∷ rest) ≡ c ∷ rest
+    → gap_left false b (c ∷ rest) ≡ c ∷ rest
 gap_ends true c rest e k = rw (k, e) refl
 gap_ends false c rest e k = rw e refl
 
 gap_goes_on : (b : Bool) (c : ℕ) (rest : List ℕ) → is_white_space c ≡ true
-    → after_gap false b (c ∷ rest) ≡ after_gap false (eqb c 10) rest
+    → gap_left false b (c ∷ rest) ≡ gap_left false (eqb c 10) rest
 gap_goes_on true c rest e = let k : eqb c 37 ≡ false = differs is_white_space c 37 e refl in rw (k, e) refl
 gap_goes_on false c rest e = rw e refl
 
 pub gap_read : {b : Bool} {gap : List ℕ} → IsGap b gap → (c : ℕ) (rest : List ℕ) → is_white_space c ≡ false
-    → eqb c 37 ≡ false → after_gap false b (gap ++ c ∷ rest) ≡ c ∷ rest
+    → eqb c 37 ≡ false → gap_left false b (gap ++ c ∷ rest) ≡ c ∷ rest
 gap_read {b} nothing c rest e k = gap_ends b c rest e k
 gap_read (blank {b} {c = d} {more} h r) c rest e k =
     gap_goes_on b d (more ++ c ∷ rest) h ∙ gap_read r c rest e k
 gap_read (line text {more} lack r) c rest e k =
-    ap (λ xs. after_gap true false xs) (append_assoc text (10 ∷ more) (c ∷ rest))
+    ap (λ xs. gap_left true false xs) (append_assoc text (10 ∷ more) (c ∷ rest))
     ∙ gap_line false (text ++ 10 ∷ (more ++ c ∷ rest))
-    ∙ ap (after_gap false false) (line_end_is text (more ++ c ∷ rest) lack)
+    ∙ ap (gap_left false false) (line_end_is text (more ++ c ∷ rest) lack)
     ∙ gap_read r c rest e k
 
 -- what comes before the rest, unless nothing is left
@@ -48,59 +49,46 @@ gap_more b after part text rest add (inl e) = inl e
 gap_more b after part text rest add (inr h) =
     inr (part ++ h.0, add h.0 h.1, ap (λ xs. part ++ xs) h.2 ∙ sym (append_assoc part h.0 rest))
 
-pub gap_leaves : (n : ℕ) (b : Bool) (text : List ℕ) → length text ≤ n → GapLeaves b text (after_gap false b text)
+gap_leaves : (n : ℕ) (b : Bool) (text : List ℕ) → length text ≤ n → GapLeaves b text (gap_left false b text)
 gap_leaves n b [] few = inl refl
 gap_leaves zero b (c ∷ rest) few = absurd (omega (arith, few))
 gap_leaves (suc n) b (c ∷ rest) few =
     by_line (λ f u fewer. gap_leaves n f u fewer) (b && eqb c 37) refl
   where
     Again : Type 0
-    Again = (f : Bool) (u : List ℕ) → length u ≤ n → GapLeaves f u (after_gap false f u)
+    Again = (f : Bool) (u : List ℕ) → length u ≤ n → GapLeaves f u (gap_left false f u)
 
     Goal : List ℕ → Type 0
     Goal = GapLeaves b (c ∷ rest)
 
-    after_line : Again → b ≡ true → c ≡ 37 → (body end : List ℕ) → lacks 10 body ≡ true → rest ≡ body ++ end
-        → prefix_len (λ k. not (eqb k 10)) end ≡ 0 → Goal (after_gap false false end)
-    after_line again begins is body [] lack same stop = inl refl
-    after_line again begins is body (k ∷ end) lack same stop = by_ten (eqb k 10) refl
-      where
-        by_ten : (t : Bool) → eqb k 10 ≡ t → Goal (after_gap false false (k ∷ end))
-        by_ten true e =
-            let ten : k ≡ 10 = grind (arith, nat_tests) in
-            let whole : rest ≡ body ++ 10 ∷ end = same ∙ ap (λ j. body ++ j ∷ end) ten in
-            let fewer : length end ≤ n = omega (arith, few, simp length-append at (ap length whole)) in
-            subst (λ j. Goal (after_gap false false (j ∷ end))) (sym ten)
-            (subst (λ xs. GapLeaves b xs (after_gap false true end))
-            (ap (λ j. j ∷ ((body ++ 10 ∷ []) ++ end)) (sym is)
-            ∙ ap (λ xs. c ∷ xs) (append_assoc body (10 ∷ []) end ∙ sym whole))
-            (gap_more b true (37 ∷ (body ++ 10 ∷ [])) end _
-            (λ m i. subst (λ f. IsGap f ((37 ∷ (body ++ 10 ∷ [])) ++ m)) (sym begins)
-            (subst (IsGap true) (ap (λ xs. 37 ∷ xs) (sym (append_assoc body (10 ∷ []) m))) (line body lack i)))
-            (again true end fewer)))
-        by_ten false e =
-            let some : cond (not (eqb k 10)) (1 + prefix_len (λ j. not (eqb j 10)) end) 0 ≡ 0 = stop in
-            let one : 1 + prefix_len (λ j. not (eqb j 10)) end
-            ≡ 0 = sym (ap (λ t. cond (not t) (1 + prefix_len (λ j. not (eqb j 10)) end) 0) e) ∙ some in
-            absurd (omega (arith, one))
+    after_line : Again → b ≡ true → c ≡ 37 → (end : List ℕ) → LineSays rest end → Goal (gap_left false false end)
+    after_line again begins is end unended = inl refl
+    after_line again begins is end (line_then body tail lack whole) =
+        let fewer : length tail ≤ n = omega (arith, few, simp length-append at (ap length whole)) in
+        subst (λ xs. GapLeaves b xs (gap_left false true tail))
+        (ap (λ j. j ∷ ((body ++ 10 ∷ []) ++ tail)) (sym is)
+        ∙ ap (λ xs. c ∷ xs) (append_assoc body (10 ∷ []) tail ∙ sym whole))
+        (gap_more b true (37 ∷ (body ++ 10 ∷ [])) tail _
+        (λ m i. subst (λ f. IsGap f ((37 ∷ (body ++ 10 ∷ [])) ++ m)) (sym begins)
+        (subst (IsGap true) (ap (λ xs. 37 ∷ xs) (sym (append_assoc body (10 ∷ []) m))) (line body lack i)))
+        (again true tail fewer))
 
-    by_blank : Again → (t : Bool) → is_white_space c ≡ t → (b && eqb c 37) ≡ false → Goal (after_gap false b (c ∷ rest))
+    by_blank : Again → (t : Bool) → is_white_space c ≡ t → (b && eqb c 37) ≡ false → Goal (gap_left false b (c ∷ rest))
     by_blank again true e k =
         subst Goal (sym (gap_goes_on b c rest e))
         (gap_more b (eqb c 10) (c ∷ []) rest _ (λ m i. blank e i) (again (eqb c 10) rest (omega (arith, few))))
     by_blank again false e k = subst Goal (sym (rw (k, e) refl)) (inr ([], nothing, refl))
 
-    by_line : Again → (t : Bool) → (b && eqb c 37) ≡ t → Goal (after_gap false b (c ∷ rest))
+    by_line : Again → (t : Bool) → (b && eqb c 37) ≡ t → Goal (gap_left false b (c ∷ rest))
     by_line again true e =
         let both = and_parts b (eqb c 37) e in
-        let same : after_gap false b (c ∷ rest) ≡ after_gap true false rest = rw e refl in
+        let same : gap_left false b (c ∷ rest) ≡ gap_left true false rest = rw e refl in
         subst Goal (sym (same ∙ gap_line false rest))
-        (after_line again both.0 (eqb-true c 37 both.1) (take (prefix_len (λ k. not (eqb k 10)) rest) rest)
-        (line_end rest)
-        (run_passes (λ k. not (eqb k 10)) rest)
-        (sym (take-append-drop (prefix_len (λ k. not (eqb k 10)) rest) rest))
-        (run_stops (λ k. not (eqb k 10)) rest))
+        (after_line again both.0 (eqb-true c 37 both.1) (line_end rest) (line_says rest))
     by_line again false e = by_blank again (is_white_space c) refl e
+
+pub gap_goes : (text : List ℕ) → GapLeaves false text (after_gap text)
+gap_goes text = subst (GapLeaves false text) (gap_same text) (gap_leaves (length text) false text (omega arith))
 
 -- ---- strings
 
@@ -178,7 +166,8 @@ name_stops (line text lack r) rest = refl
 
 pub next_read : {gap : List ℕ} → IsGap false gap → (c : ℕ) (rest : List ℕ) → is_white_space c ≡ false
     → eqb c 37 ≡ false → eqb c c ≡ true → after_next c (gap ++ c ∷ rest) ≡ Some rest
-next_read {gap} h c rest e k same = ap (after_byte c) (gap_read h c rest e k) ∙ rw same refl
+next_read {gap} h c rest e k same =
+    ap (after_byte c) (sym (gap_same (gap ++ c ∷ rest)) ∙ gap_read h c rest e k) ∙ rw same refl
 
 named_read : (name middle string last_gap r : List ℕ) → 0 < length name → IsGap false middle → IsString string
     → IsGap false last_gap → with_tag_name name (middle ++ 34 ∷ (string ++ 34 ∷ (last_gap ++ 93 ∷ r)))
@@ -191,11 +180,11 @@ named_read (n ∷ ns) middle string last_gap r some h s k =
     ∙ ap (closed (n ∷ ns) (length inside) string) (next_read k 93 r refl refl refl)
 
 from_gap : (gap name tail : List ℕ) → IsGap false gap → 0 < length name → list_all is_name_byte name ≡ true
-    → after_gap false false (gap ++ (name ++ tail)) ≡ name ++ tail
+    → after_gap (gap ++ (name ++ tail)) ≡ name ++ tail
 from_gap gap [] tail h some named = absurd (omega (arith, some))
 from_gap gap (n ∷ ns) tail h some named =
     let first = (and_parts (is_name_byte n) (list_all is_name_byte ns) named).0 in
-    gap_read h n (ns ++ tail) (name_no_blank n first) (differs is_name_byte n 37 first refl)
+    sym (gap_same (gap ++ (n ∷ (ns ++ tail)))) ∙ gap_read h n (ns ++ tail) (name_no_blank n first) (differs is_name_byte n 37 first refl)
 
 by_inner : (inner name tail : List ℕ) → inner ≡ name ++ tail → list_all is_name_byte name ≡ true
     → prefix_len is_name_byte tail ≡ 0
@@ -213,7 +202,7 @@ pub parts_read : (gap name middle string last_gap r : List ℕ) → IsGap false 
     ≡ (Tag name string (length (string ++ 34 ∷ (last_gap ++ 93 ∷ r))), r)
 parts_read gap name middle string last_gap r h some named h_after s k =
     let tail : List ℕ = middle ++ 34 ∷ (string ++ 34 ∷ (last_gap ++ 93 ∷ r)) in
-    by_inner (after_gap false false (gap ++ (name ++ tail))) name tail (from_gap gap name tail h some named) named
+    by_inner (after_gap (gap ++ (name ++ tail))) name tail (from_gap gap name tail h some named) named
     (name_stops h_after (string ++ 34 ∷ (last_gap ++ 93 ∷ r)))
     ∙ named_read name middle string last_gap r some h_after s k
 
@@ -265,7 +254,7 @@ pub data TagLeaves (text : List ℕ) : Token × List ℕ → Type 0 where
       → TagLeaves text (Tag name string (length (string ++ closing) + length r), r)
 
 pub tag_leaves : (text : List ℕ) → TagLeaves text (tag_by_parts text)
-tag_leaves text = by_gap (after_gap false false text) (gap_leaves (length text) false text (omega arith))
+tag_leaves text = by_gap (after_gap text) (gap_goes text)
   where
     by_close : (gap name middle string rest : List ℕ) → IsGap false gap → 0 < length name
         → list_all is_name_byte name ≡ true → IsGap false middle → IsString string
@@ -315,7 +304,7 @@ tag_leaves text = by_gap (after_gap false false text) (gap_leaves (length text) 
         subst (λ n. TagLeaves text (closed name n f.0 (after_next 93 f.1))) (ap length (sym k.1))
         (by_close gap name middle f.0 f.1 h some named h_after k.0
         (is ∙ ap (λ xs. gap ++ (name ++ (middle ++ 34 ∷ xs))) k.1)
-        (after_gap false false f.1) (gap_leaves (length f.1) false f.1 (omega arith)))
+        (after_gap f.1) (gap_goes f.1))
 
     by_quote : (gap name rest : List ℕ) → IsGap false gap → 0 < length name → list_all is_name_byte name ≡ true
         → text ≡ gap ++ (name ++ rest) → (after : List ℕ) → GapLeaves false rest after
@@ -335,8 +324,7 @@ tag_leaves text = by_gap (after_gap false false text) (gap_leaves (length text) 
         → text ≡ gap ++ (name ++ rest) → TagLeaves text (with_tag_name name rest)
     by_name gap [] rest h named is = bad
     by_name gap (n ∷ ns) rest h named is =
-        by_quote gap (n ∷ ns) rest h (omega arith) named is (after_gap false false rest)
-        (gap_leaves (length rest) false rest (omega arith))
+        by_quote gap (n ∷ ns) rest h (omega arith) named is (after_gap rest) (gap_goes rest)
 
     by_gap : (inner : List ℕ) → GapLeaves false text inner
         → TagLeaves text (with_tag_name (take_while is_name_byte inner) (drop (prefix_len is_name_byte inner) inner))

@@ -1,100 +1,49 @@
 -- The offsets that a token gives are in the text.
-use Rattle.std.proofs.Common.{◌≡◌, ℕ, zero, suc, ◌-◌, ◌≤◌, Bool, false, cond, eqb, List, [], ◌∷◌, length, take, drop, Option, Some, None, IfSome, refl, sym, ap, subst, ◌∙◌, arith}
-use Rattle.std.specs.Prelude.{◌&&◌, ◌||◌}
-use Rattle.std.specs.List.{prefix_len, take_while}
-use Rattle.std.proofs.lemmas.List.{length-append, length-drop, take-append-drop}
-use Rattle.chess_pgn.specs.Tokens.{Token, Unclosed_comment, Unclosed_variation, is_white_space, is_word_byte, after_brace, after_gap, string_at, after_next, variation_at, comment_at, token_at, begins_line, tokens_from}
-use Rattle.text_lines.specs.Words.{is_name_byte}
-use Rattle.chess_pgn.specs.ties.TagParts.{closed, with_text, with_string, with_tag_name, tag_by_parts}
+use Rattle.std.proofs.Common.{◌≡◌, ℕ, suc, ◌-◌, ◌≤◌, Bool, List, [], ◌∷◌, ◌++◌, length, drop, refl, sym, ap, subst, ◌∙◌, inl, inr, arith}
+use Rattle.std.proofs.lemmas.List.{length-append, length-drop}
+use Rattle.chess_pgn.specs.Tokens.{Token, Skip, Tag, Word, Bad_tag, Unclosed_comment, Unclosed_variation, Bad, token_at, begins_line, tokens_from}
+use Rattle.chess_pgn.specs.Split.{Kind, Blank, Line, Comment, Nag, Variation, Tag_pair, Asterisk, Symbol, IsOf, token_of, HasOpenComment, here, deeper, IsFaultOf}
 use Rattle.chess_pgn.specs.ties.GameSteps.{IsWithin}
-use Rattle.chess_pgn.proofs.Cuts.{Cut, Suffix, pick, gap_suffix, next_cut}
-use Rattle.chess_pgn.proofs.TagParts.{parts_are}
+use Rattle.chess_pgn.proofs.TokenKinds.{TokenSays, known, faulty, token_says}
 use Rattle.chess_pgn.proofs.Walk.{no_token, token_more}
 
 abbrev Within : ℕ → Token × List ℕ → Type 0
 Within n t = IsWithin n t.0
 
--- ---- variations
+open_within : {b : Bool} {text : List ℕ} {to_end : ℕ} → HasOpenComment b text to_end → to_end ≤ length text
+open_within (here {parts} text h lack) = omega (arith, length-append parts (123 ∷ text))
+open_within (deeper {parts} {inner} h k) = omega (arith, open_within k, length-append parts (40 ∷ inner))
 
-abbrev BeganWithin : ℕ → Option (ℕ × Token) → Type 0
-BeganWithin n comment = IfSome comment (λ (skipped : ℕ × Token). IsWithin n skipped.1)
+fault_within : (text : List ℕ) (fault : Token) → IsFaultOf text fault → IsWithin (length text) fault
+fault_within text (Unclosed_comment n) (inl (comment, is, lack, all)) = omega (arith, all)
+fault_within text (Unclosed_comment n) (inr (inner, is, h)) = omega (arith, open_within h, ap length is)
+fault_within text Unclosed_variation h = tt
+fault_within text Bad_tag h = tt
+fault_within text Bad h = tt
+fault_within text Skip h = absurd h
+fault_within text (Tag name string left) h = absurd h
+fault_within text (Word word) h = absurd h
 
-variation_within : (n : ℕ) (comment : Option (ℕ × Token)) (begins : Bool) (depth : ℕ) (text : List ℕ) → length text ≤ n
-    → BeganWithin n comment → Within n (variation_at comment begins (suc depth) text)
-variation_within n None begins depth [] h k = tt
-variation_within n (Some comment) begins depth [] h k = k
-variation_within n (Some comment) begins depth (c ∷ rest) h k =
-    let fewer : length rest ≤ n = omega (arith, h) in
-    variation_within n (cond (eqb c comment.0) None (Some comment)) (eqb c 10) depth rest fewer
-    (pick (BeganWithin n) (eqb c comment.0) None (Some comment) (λ _. tt) (λ _. k))
-variation_within n None begins depth (c ∷ rest) h k =
-    let fewer : length rest ≤ n = omega (arith, h) in
-    pick (Within n) (begins && eqb c 37 || eqb c 59) _ _
-    (λ _. variation_within n (Some (10, Unclosed_variation)) false depth rest fewer tt) (λ _.
-    pick (Within n) (eqb c 123) _ _
-    (λ _. variation_within n (Some (125, Unclosed_comment (suc (length rest)))) false depth rest fewer h) (λ _.
-    pick (Within n) (eqb c 40) _ _ (λ _. variation_within n None false (suc depth) rest fewer tt) (λ _.
-    pick (Within n) (eqb c 41) _ _ (λ _. closing depth (λ d. variation_within n None false d rest fewer tt)) (λ _.
-    variation_within n None (eqb c 10) depth rest fewer tt))))
-  where
-    closing : (m : ℕ) → ((d : ℕ) → Within n (variation_at None false (suc d) rest))
-        → Within n (variation_at None false m rest)
-    closing zero more = tt
-    closing (suc d) more = more d
-
--- ---- tags
-
-closed_within : (n left : ℕ) (name text : List ℕ) (o : Option (List ℕ)) → left ≤ n → Within n (closed name left text o)
-closed_within n left name text None h = tt
-closed_within n left name text (Some rest) h = h
-
-text_within : (n left : ℕ) (name : List ℕ) (o : Option (List ℕ × List ℕ)) → left ≤ n → Within n (with_text name left o)
-text_within n left name None h = tt
-text_within n left name (Some found) h = closed_within n left name found.0 (after_next 93 found.1) h
-
-string_within : (n : ℕ) (name from : List ℕ) (o : Option (List ℕ)) → length from ≤ n → IfSome o (Cut from)
-    → Within n (with_string name o)
-string_within n name from None h cut = tt
-string_within n name from (Some string) h cut = text_within n (length string) name (string_at string)
-    (omega (arith, h, simp length-append at (ap length cut.is)))
-
-name_within : (n : ℕ) (name from : List ℕ) → length from ≤ n → Within n (with_tag_name name from)
-name_within n [] from h = tt
-name_within n (c ∷ cs) from h = string_within n (c ∷ cs) from (after_next 34 from) h (next_cut 34 from refl)
-
-tag_within : (n : ℕ) (text : List ℕ) → length text ≤ n → Within n (tag_by_parts text)
-tag_within n text h = by_name (after_gap false false text) (gap_suffix false false text)
-  where
-    by_name : (inner : List ℕ) → Suffix text inner
-        → Within n (with_tag_name (take_while is_name_byte inner) (drop (prefix_len is_name_byte inner) inner))
-    by_name inner k =
-        name_within n (take_while is_name_byte inner) (drop (prefix_len is_name_byte inner) inner)
-        (omega (arith, h, length-drop (prefix_len is_name_byte inner) inner, simp length-append at (ap length k.is)))
-
--- ---- tokens
-
-comment_within : (n : ℕ) (o : Option (List ℕ)) → Within n (comment_at n o)
-comment_within n None = omega arith
-comment_within n (Some rest) = tt
-
-front_fewer : (n : ℕ) (text : List ℕ) → length (take n text) ≤ length text
-front_fewer n text = omega (arith, ap length (take-append-drop n text), length-append (take n text) (drop n text))
+kind_within : (b : Bool) (kind : Kind) (front r : List ℕ) → IsOf b kind front
+    → IsWithin (length (front ++ r)) (token_of kind front (length r))
+kind_within b Blank front r h = tt
+kind_within b Line front r h = tt
+kind_within b Comment front r h = tt
+kind_within b Nag front r h = tt
+kind_within b Variation front r h = tt
+kind_within b (Tag_pair name string closing) front r (opening, o, s, close, is) =
+    omega (arith, length-append front r, ap length is, length-append opening (string ++ closing))
+kind_within b Asterisk front r h = omega (arith, length-append front r)
+kind_within b Symbol front r h = omega (arith, length-append front r)
 
 pub within : (begins : Bool) (c : ℕ) (rest : List ℕ) → Within (suc (length rest)) (token_at begins c rest)
-unfolding token_at
-within begins c rest =
-    let n : ℕ = suc (length rest) in
-    let fewer : length rest ≤ n = omega arith in
-    pick (Within n) (begins && eqb c 37) _ _ (λ _. tt) (λ _.
-    pick (Within n) (is_white_space c || eqb c 46) _ _ (λ _. tt) (λ _.
-    pick (Within n) (eqb c 123) _ _ (λ _. comment_within n (after_brace rest)) (λ _.
-    pick (Within n) (eqb c 59) _ _ (λ _. tt) (λ _.
-    pick (Within n) (eqb c 36) _ _ (λ _. tt) (λ _.
-    pick (Within n) (eqb c 40) _ _ (λ _. variation_within n None false 0 rest fewer tt) (λ _.
-    pick (Within n) (eqb c 91) _ _ (λ _. subst (Within n) (sym (parts_are rest)) (tag_within n rest fewer)) (λ _.
-    pick (Within n) (eqb c 42) _ _ (λ _. omega arith) (λ _.
-    pick (Within n) (is_word_byte c) _ _ (λ _. front_fewer (prefix_len is_word_byte (c ∷ rest)) (c ∷ rest))
-    (λ _. tt)))))))))
+within begins c rest = by_says (token_at begins c rest) (token_says begins c rest)
+  where
+    by_says : (t : Token × List ℕ) → TokenSays begins (c ∷ rest) t → Within (suc (length rest)) t
+    by_says t (known kind front r same long) =
+        subst (λ xs. IsWithin (length xs) (token_of kind front (length r))) (sym same)
+        (kind_within begins kind front r long.is)
+    by_says t (faulty fault is_one h) = fault_within (c ∷ rest) fault h
 
 same_first : (s t : ℕ × Token) (ss ts : List (ℕ × Token)) → s ∷ ss ≡ t ∷ ts → s ≡ t
 same_first s t ss ts e = cc

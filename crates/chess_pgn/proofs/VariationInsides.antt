@@ -1,13 +1,13 @@
 -- Variations: the relation and the reader agree.
-use Rattle.std.proofs.Common.{◌≡◌, ℕ, zero, suc, ◌+◌, ◌≤◌, Bool, true, false, cond, not, eqb, List, [], ◌∷◌, ◌++◌, length, take, Option, Some, None, refl, sym, ap, subst, ◌∙◌, inl, inr, ◌⊎◌, arith}
-use Rattle.std.specs.List.{list_any, prefix_len}
+use Rattle.std.proofs.Common.{◌≡◌, ℕ, zero, suc, ◌≤◌, Bool, true, false, not, eqb, List, [], ◌∷◌, ◌++◌, length, Option, Some, None, refl, sym, ap, subst, ◌∙◌, inl, inr, ◌⊎◌, arith}
+use Rattle.std.specs.List.{list_any}
 use Rattle.std.proofs.lemmas.Bool.{or_parts}
 use Rattle.std.proofs.lemmas.Bool.Decides.{nat_tests}
-use Rattle.std.proofs.lemmas.List.{take-append-drop, append_assoc, length-append}
+use Rattle.std.proofs.lemmas.List.{append_assoc, length-append}
 use Rattle.chess_pgn.specs.Tokens.{Token, Skip, Unclosed_comment, Unclosed_variation, line_end, after_brace, variation_at}
 use Rattle.chess_pgn.proofs.Variations.{by_part, part_then}
 use Rattle.chess_pgn.specs.Split.{lacks, skips_line, IsInside, nothing, line, comment, variation, other, HasOpenComment, here, deeper}
-use Rattle.chess_pgn.proofs.ByteRuns.{differs, run_drop, run_passes, run_stops, brace_found, brace_missing, BraceSays, brace_says}
+use Rattle.chess_pgn.proofs.ByteRuns.{differs, run_drop, LineSays, unended, line_then, line_says, brace_found, brace_missing, BraceSays, brace_says}
 
 -- ---- one part
 
@@ -178,30 +178,18 @@ leaves (suc n) b d (c ∷ rest) few =
     Goal : Type 0
     Goal = Leaves d b (c ∷ rest) (variation_at None b (suc d) (c ∷ rest))
 
-    after_line : (body end : List ℕ) → skips_line b c ≡ true → lacks 10 body ≡ true → rest ≡ body ++ end
-        → prefix_len (λ k. not (eqb k 10)) end ≡ 0
+    after_line : skips_line b c ≡ true → (end : List ℕ) → LineSays rest end
         → ((u : List ℕ) → length u ≤ n → (f : Bool) → Leaves d f u (variation_at None f (suc d) u))
         → Leaves d b (c ∷ rest) (variation_at None false (suc d) end)
-    after_line body [] h lack is stop more = unclosed
-    after_line body (k ∷ end) h lack is stop more = by_ten (eqb k 10) refl
-      where
-        by_ten : (t : Bool) → eqb k 10 ≡ t → Leaves d b (c ∷ rest) (variation_at None false (suc d) (k ∷ end))
-        by_ten true e =
-            let ten : k ≡ 10 = grind (arith, nat_tests) in
-            let same : rest ≡ body ++ 10 ∷ end = is ∙ ap (λ j. body ++ j ∷ end) ten in
-            let fewer : length end ≤ n = omega (arith, few, simp length-append at (ap length same)) in
-            let inner : Leaves d true end (variation_at None true (suc d) end) = more end fewer true in
-            subst (λ j. Leaves d b (c ∷ rest) (variation_at None false (suc d) (j ∷ end))) (sym ten)
-            (subst (λ xs. Leaves d b xs (variation_at None true (suc d) end))
-            (ap (λ xs. c ∷ xs) (append_assoc body (10 ∷ []) end ∙ sym same))
-            (leaves_more b true (c ∷ (body ++ 10 ∷ []))
-            (λ m i. subst (IsInside b) (ap (λ xs. c ∷ xs) (sym (append_assoc body (10 ∷ []) m))) (line body h lack i))
-            d end (variation_at None true (suc d) end) inner))
-        by_ten false e =
-            let some : cond (not (eqb k 10)) (1 + prefix_len (λ j. not (eqb j 10)) end) 0 ≡ 0 = stop in
-            let one : 1 + prefix_len (λ j. not (eqb j 10)) end
-            ≡ 0 = sym (ap (λ t. cond (not t) (1 + prefix_len (λ j. not (eqb j 10)) end) 0) e) ∙ some in
-            absurd (omega (arith, one))
+    after_line h end unended again = unclosed
+    after_line h end (line_then body tail lack same) again =
+        let fewer : length tail ≤ n = omega (arith, few, simp length-append at (ap length same)) in
+        let inner : Leaves d true tail (variation_at None true (suc d) tail) = again tail fewer true in
+        subst (λ xs. Leaves d b xs (variation_at None true (suc d) tail))
+        (ap (λ xs. c ∷ xs) (append_assoc body (10 ∷ []) tail ∙ sym same))
+        (leaves_more b true (c ∷ (body ++ 10 ∷ []))
+        (λ m i. subst (IsInside b) (ap (λ xs. c ∷ xs) (sym (append_assoc body (10 ∷ []) m))) (line body h lack i))
+        d tail (variation_at None true (suc d) tail) inner)
 
     by_brace : c ≡ 123 → (o : Option (List ℕ)) → BraceSays rest o
         → ((u : List ℕ) → length u ≤ n → (f : Bool) → Leaves d f u (variation_at None f (suc d) u))
@@ -261,8 +249,5 @@ leaves (suc n) b d (c ∷ rest) few =
     by_line : Again → (t : Bool) → skips_line b c ≡ t → Goal
     by_line again true e =
         subst (Leaves d b (c ∷ rest)) (sym (skipped b d c rest e))
-        (after_line (take (prefix_len (λ k. not (eqb k 10)) rest) rest) (line_end rest) e
-        (run_passes (λ k. not (eqb k 10)) rest)
-        (sym (take-append-drop (prefix_len (λ k. not (eqb k 10)) rest) rest))
-        (run_stops (λ k. not (eqb k 10)) rest) (λ u fewer f. again f d u fewer))
+        (after_line e (line_end rest) (line_says rest) (λ u fewer f. again f d u fewer))
     by_line again false e = by_braced again (eqb c 123) refl e

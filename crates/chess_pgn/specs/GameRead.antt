@@ -28,7 +28,7 @@ use Rattle.chess_pgn.specs.declared.read.PgnFaultKind.{PgnFaultKind}
 use Rattle.chess_pgn.specs.declared.read.PgnFaultKind.TheVariants.{BadTag, BadFen, BadToken, IllegalMove, AmbiguousMove, AfterEnd, TooLong, UnclosedComment, UnclosedVariation, NoResult}
 use Rattle.chess_pgn.specs.declared.termination.Termination.{Termination}
 use Rattle.chess_pgn.specs.Terminations.{termination_named}
-use Rattle.chess_pgn.specs.LastTags.{own_tags, tags_named, last_tag}
+use Rattle.chess_pgn.specs.LastTags.{tag_section, tags_named, last_tag}
 use Rattle.chess_pgn.specs.Tokens.{Token, Skip, Tag, Word, Bad_tag, Unclosed_comment, Unclosed_variation, Bad, after_byte_order_mark, tokens_from}
 use Rattle.chess_pgn.specs.Split.{IsSplit}
 use Rattle.chess_pgn.specs.Words.{outcome_of}
@@ -148,7 +148,8 @@ abbrev pub last_start : Setup → List (Result Setup FenFault × ℕ) → Setup
 last_start start fs =
     unwrap_or (last_or None (filter_map (λ f. result_ok f.0) (take_while (λ f. is_ok f.0) fs))) start
 
--- the fault of a FEN that denotes no sound position, in a text of `total` bytes
+-- the fault of a FEN as it was read (see `fens`), in a text of `total` bytes: none if it denotes a position; else what
+-- is wrong with it, at the FEN's first byte, where `to_end` bytes are left
 abbrev pub bad_fen : ℕ → Result Setup FenFault × ℕ → Option PgnFault
 bad_fen total (Ok start, to_end) = None
 bad_fen total (Err fault, to_end) = Some (record { kind = BadFen fault; offset = total - to_end })
@@ -177,22 +178,22 @@ tagged_variant tags = option_map_or (λ tag. variant_named tag.0) (last_tag (cod
 -- the first one on that is no tag, is not skipped and is no marks. If that is a bad tag, its fault; no game, if there
 -- is no such token and there was no tag (`has_tags`); else the moves. `s` is the game at its start, `termination` what
 -- the tag Termination names, and the text has `total` bytes
-abbrev pub after_tags : ℕ → ℕ → Option Termination → State → Bool → List (ℕ × Token) → GameRead
-after_tags limit total termination s has_tags ((to_end, Bad_tag) ∷ rest) =
+abbrev pub read_after_tags : ℕ → ℕ → Option Termination → State → Bool → List (ℕ × Token) → GameRead
+read_after_tags limit total termination s has_tags ((to_end, Bad_tag) ∷ rest) =
     failed s (record { kind = BadTag; offset = total - to_end })
-after_tags limit total termination s false [] = record { state = s; answer = Ok None }
-after_tags limit total termination s has_tags rest = moves_read limit total termination s rest
+read_after_tags limit total termination s false [] = record { state = s; answer = Ok None }
+read_after_tags limit total termination s has_tags rest = moves_read limit total termination s rest
 
 -- what is read of the game at the front of these tokens, of at most `limit` half-moves, in a text of `total` bytes.
 -- `tags` are the tokens before its first number, move, outcome or fault; its tags, which are all among them, give the
--- variant and the start. The first of their FENs that denotes no position is the fault; else see `after_tags`
+-- variant and the start. The first of their FENs that denotes no position is the fault; else see `read_after_tags`
 abbrev pub read_of_split : ℕ → ℕ → List (ℕ × Token) → GameRead
 read_of_split limit total tokens =
-    let tags = own_tags tokens in
+    let tags = tag_section tokens in
     let v = tagged_variant tags in
     let s = from_start (last_start (initial_setup_of v) (fens v tags)) in
     option_map_or (failed s) (first_bad_fen total (fens v tags))
-    (after_tags limit total (last_termination tags) s (list_any is_tag tags) (drop (length tags) tokens))
+    (read_after_tags limit total (last_termination tags) s (list_any is_tag tags) (drop (length tags) tokens))
 
 -- what is read of a text from the offset `at` on: the game up to its outcome mark and where it ended, or `None` if no
 -- game is left, or the first fault. `limit` is the most half-moves of a game

@@ -31,8 +31,8 @@ named_tag name _ = None
 -- the tokens of a game's tag section: those before its first number, move, outcome or fault. All tags of the game are
 -- among them, and with them what is skipped and marks such as `!?`. Each token is paired with the number of bytes left
 -- where it begins
-abbrev pub own_tags : List (ℕ × Token) → List (ℕ × Token)
-own_tags tokens = take_while (λ t. may_precede_tags t.1) tokens
+abbrev pub tag_section : List (ℕ × Token) → List (ℕ × Token)
+tag_section tokens = take_while (λ t. may_precede_tags t.1) tokens
 
 -- the tags of this name, each as its text and how many bytes are left where that begins
 abbrev pub tags_named : List ℕ → List (ℕ × Token) → List (List ℕ × ℕ)
@@ -47,4 +47,4 @@ last_tag name tags = last_or None (tags_named name tags)
 abbrev pub result_tag_of : ℕ → List (ℕ × Token) → Option ResultTag
 result_tag_of total tokens =
     option_map (λ tag. record { outcome = outcome_of tag.0; offset = total - tag.1; len = length tag.0 })
-    (last_tag (codes "Result") (own_tags tokens))
+    (last_tag (codes "Result") (tag_section tokens))

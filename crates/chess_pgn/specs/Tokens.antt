@@ -2,12 +2,13 @@
 -- comments, `%` lines, `$` glyphs and variations are skipped; tags and words are kept; the first token that can't be
 -- read is the last. This project's own: the bytes of a word; that a `%` line is skipped also in a tag and in a
 -- variation; that a string may have tabs and more than 255 bytes; and that the bytes EF BB BF at offset 0 are skipped.
-use Rattle.std.specs.Prelude.{ℕ, zero, suc, ◌-◌, Bool, true, false, not, ◌&&◌, ◌||◌, List, [], ◌∷◌, ◌++◌, length, take, drop, slice_index, Option, Some, None, codes, ◌==◌, if◌then◌else◌}
+use Rattle.std.specs.Prelude.{ℕ, zero, suc, ◌-◌, Bool, false, not, ◌&&◌, ◌||◌, List, [], ◌∷◌, ◌++◌, length, take, drop, slice_index, Option, Some, None, codes, ◌==◌, if◌then◌else◌}
 use Rattle.chess_base.specs.Options.{◌>>=◌}
 use Rattle.chess_base.specs.Letters.{is_digit, byte, carriage_return, new_line, space, tab}
-use Rattle.std.specs.List.{list_any, prefix_len, position_or_len, take_while}
+use Rattle.std.specs.List.{list_all, list_any, join_with_byte, prefix_len, position_or_len, take_while}
 use Rattle.std.specs.Option.{option_map, option_map_or, unwrap_or}
 use Rattle.std.specs.Str.{bytes_eq}
+use Rattle.text_lines.specs.Lines.{parts}
 use Rattle.text_lines.specs.Words.{is_name_byte}
 
 -- a token of a PGN text (section 7): what is skipped, such as white space, a comment or a variation; a tag; a word,
@@ -45,14 +46,24 @@ abbrev pub after_brace : List ℕ → Option (List ℕ)
 after_brace [] = None
 after_brace (c ∷ rest) = if c == byte "}" then Some rest else after_brace rest
 
--- the text after the white space and `%` lines (section 6) at its front. The flags say whether its first byte is inside
--- such a line already (`skips`), and whether it is the first of its line (`begins`)
-abbrev pub after_gap : Bool → Bool → List ℕ → List ℕ
-after_gap skips begins [] = []
-after_gap true begins (c ∷ rest) = after_gap (not (c == new_line)) true rest
-after_gap false begins (c ∷ rest) =
-    if begins && c == byte "%" then after_gap true false rest
-    else (if is_white_space c then after_gap false (c == new_line) rest else c ∷ rest)
+-- the text after the white space at its front
+abbrev pub after_white_space : List ℕ → List ℕ
+after_white_space text = drop (prefix_len is_white_space text) text
+
+-- the text of these whole lines after the gap at its front: lines that begin with `%` (section 6) or are white space
+-- alone, and the white space at the front of the next line
+abbrev pub after_gap_lines : List (List ℕ) → List ℕ
+after_gap_lines [] = []
+after_gap_lines (line ∷ lines) =
+    if bytes_eq (take 1 line) (codes "%") || list_all is_white_space line then after_gap_lines lines
+    else after_white_space (join_with_byte new_line (line ∷ lines))
+
+-- the text after the gap at its front, white space and `%` lines. The text begins inside a line, as after a tag's `[`,
+-- so a `%` at its front is left; if only white space is up to that line's end, the gap goes on in the lines after it
+abbrev pub after_gap : List ℕ → List ℕ
+after_gap text =
+    if list_all is_white_space (take_while (λ c. not (c == new_line)) text) then after_gap_lines (drop 1 (parts text))
+    else after_white_space text
 
 -- ---- variations
 
@@ -98,7 +109,7 @@ after_byte b (c ∷ rest) = if c == b then Some rest else None
 -- the text after any white space and `%` lines, and then the byte `b`; none if another byte comes there. The text's own
 -- first byte begins no line, so a `%` there is not skipped
 abbrev pub after_next : ℕ → List ℕ → Option (List ℕ)
-after_next b text = after_byte b (after_gap false false text)
+after_next b text = after_byte b (after_gap text)
 
 -- the tag's name at the text's front, at least one letter, digit or `_`, and the text after it; none if there is no
 -- name
@@ -110,7 +121,7 @@ name_at text = let name = take_while is_name_byte text in
 -- after white space if there is any; none if this is no tag
 abbrev pub tag_at : List ℕ → Option (Token × List ℕ)
 tag_at text = do
-  name ← name_at (after_gap false false text)
+  name ← name_at (after_gap text)
   string ← after_next (byte "\"") name.1
   inside ← string_at string
   rest ← after_next (byte "]") inside.1

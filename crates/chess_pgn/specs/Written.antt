@@ -1,22 +1,26 @@
 -- A game's text as it is written (PGN standard of 1994, sections 4.3, 8.1 and 8.2): the tags' lines and the lines of
 -- moves.
-use Rattle.std.specs.Prelude.{ℕ, ◌||◌, List, [], ◌∷◌, ◌++◌, length, codes, ◌==◌, nat_le, if◌then◌else◌}
+use Rattle.std.specs.Prelude.{ℕ, ◌||◌, List, [], ◌∷◌, ◌++◌, length, codes, ◌==◌, nat_le, reverse, if◌then◌else◌}
 use Rattle.chess_base.specs.Letters.{byte, new_line, space}
 use Rattle.std.specs.List.{flat_map}
 
--- ---- tokens in lines, from left to right
+-- ---- tokens in lines
 
--- the line that is begun with the text `line`, and the lines after it: each token goes on the line, after a space, if
--- that has at most 79 characters then; else it begins the next one
-abbrev pub lines_from : List ℕ → List (List ℕ) → List (List ℕ)
-lines_from line [] = line ∷ []
-lines_from line (t ∷ ts) =
-    if nat_le (length (line ++ space ∷ t)) 79 then lines_from (line ++ space ∷ t) ts else line ∷ lines_from t ts
+-- these lines, the last one first, with one token more: the last line takes it, after a space, if that has at most 79
+-- characters then; else it is a new line
+abbrev pub with_token : List ℕ → List (List ℕ) → List (List ℕ)
+with_token token [] = token ∷ []
+with_token token (line ∷ earlier) =
+    if nat_le (length (line ++ space ∷ token)) 79 then (line ++ space ∷ token) ∷ earlier else token ∷ line ∷ earlier
+
+-- the lines of these tokens; both lists have the last one first
+abbrev pub lines_back : List (List ℕ) → List (List ℕ)
+lines_back [] = []
+lines_back (token ∷ earlier) = with_token token (lines_back earlier)
 
 -- these tokens in lines of at most 79 characters, each as full as it can be (the law `games_are_laid_out`)
 abbrev pub lines_of : List (List ℕ) → List (List ℕ)
-lines_of [] = []
-lines_of (t ∷ ts) = lines_from t ts
+lines_of tokens = reverse (lines_back (reverse tokens))
 
 -- ---- tags
 

@@ -5,4 +5,5 @@ pub mod VariationParts
 pub mod Waiting
 pub mod GameSteps
 pub mod Begins
+pub mod Gaps
 pub mod Lines

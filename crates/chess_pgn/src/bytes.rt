@@ -28,7 +28,7 @@ static NAMES: [u8; 256] = *b"\
     --------------------------------";
 
 /// Whether a byte is a space, a tab, or one of `\n` and `\r`.
-pub(crate) fn is_white_space(byte: u8) -> bool
+pub fn is_white_space(byte: u8) -> bool
     ensures { result ≡ is_white_space byte }
 {
     matches!(byte, b' ' | b'\t' | b'\n' | b'\r')
@@ -49,9 +49,9 @@ pub(crate) fn is_name_byte(byte: u8) -> bool
     NAMES[byte as usize] == b'n'
 }
 
-// Whether a byte may be in a word: a move, a number, marks or an outcome.
+/// Whether a byte may be in a word: a move, a number, marks or an outcome.
 #[inline(always)]
-pub(crate) fn is_word_byte(byte: u8) -> bool
+pub fn is_word_byte(byte: u8) -> bool
     ensures { result ≡ is_word_byte byte }
 {
     CLASSES[byte as usize] == b'w'

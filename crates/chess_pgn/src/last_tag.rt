@@ -2,7 +2,7 @@
 
 ghost use Rattle.std.specs.Prelude.{◌≡◌, ◌≤◌, length};
 ghost use Rattle.std.specs.Option.{IfSome};
-ghost use Rattle.chess_pgn.specs.LastTags.{may_precede_tags, named_tag, own_tags, last_tag};
+ghost use Rattle.chess_pgn.specs.LastTags.{may_precede_tags, named_tag, tag_section, last_tag};
 ghost use Rattle.chess_pgn.specs.Tokens.{tokens_from};
 ghost use Rattle.chess_pgn.specs.ties.Seen.{found_seen, token_seen};
 
@@ -37,7 +37,7 @@ pub(crate) fn named_tag<'t>(name: &[u8], token: &Token<'t>) -> Option<Tag<'t>>
 /// first number, move or outcome.
 pub(crate) fn last_tag<'t>(text: &'t [u8], at: usize, name: &[u8]) -> Option<Tag<'t>>
     requires { at ≤ length text.now }
-    ensures tag { found_seen result ≡ last_tag name.now (own_tags (tokens_from text.now at)) }
+    ensures tag { found_seen result ≡ last_tag name.now (tag_section (tokens_from text.now at)) }
     ensures within { IfSome result (λ tag. tag.to_end ≤ length text.now) }
 {
     let mut offset = at;

@@ -25,6 +25,7 @@ mod tagged_result;
 mod tags;
 mod termination;
 mod token;
+pub mod token_parts;
 mod variation;
 mod word_kind;
 mod words;

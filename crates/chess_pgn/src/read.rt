@@ -9,7 +9,7 @@ ghost use Rattle.chess_pgn.specs.Words.{word_kind};
 ghost use Rattle.chess_pgn.specs.ties.Seen.{found_seen, token_seen, fault_seen};
 ghost use Rattle.chess_pgn.specs.GameRead.{GameRead, IsRead, declared_after, variant_named, tagged_variant, pgn_read};
 ghost use Rattle.chess_pgn.specs.laws.TokenByToken.{move_step, word_step, tag_step, step};
-ghost use Rattle.chess_pgn.specs.LastTags.{own_tags};
+ghost use Rattle.chess_pgn.specs.LastTags.{tag_section};
 ghost use Rattle.chess_pgn.specs.Tokens.{tokens_from};
 ghost use Rattle.chess_pgn.specs.ties.GameSteps.{refusal_kind, EndsIn, so_far, step_seen, IsWithin, IsReadOn, is_played, IsNoMove, IsLeft};
 
@@ -303,7 +303,7 @@ fn variant_of(tag: Option<Tag<'_>>) -> Variant
 // outcome names; normal chess, if it has no such tag.
 fn tagged_variant(text: &[u8], at: usize) -> Variant
     requires { at ≤ length text.now }
-    ensures { result ≡ tagged_variant (own_tags (tokens_from text.now at)) }
+    ensures { result ≡ tagged_variant (tag_section (tokens_from text.now at)) }
 {
     variant_of(last_tag(text, at, b"Variant"))
 }

@@ -29,9 +29,9 @@ pub(crate) fn after_brace(text: &[u8]) -> Option<&[u8]>
     Some(&text[len + 1..])
 }
 
-// The text after the white space and `%` lines at its front; the text's first byte is not the first of a line.
-pub(crate) fn after_gap(text: &[u8]) -> &[u8]
-    ensures { result.now ≡ after_gap false false text.now }
+/// The text after the white space and `%` lines at its front; the text's first byte is not the first of a line.
+pub fn after_gap(text: &[u8]) -> &[u8]
+    ensures { result.now ≡ after_gap text.now }
 {
     let mut rest = text;
     let mut line_begins = false;

@@ -21,8 +21,8 @@ pub(crate) struct Tag<'a> {
     pub to_end: usize,
 }
 
-// The name at a text's front (letters, digits and `_`), maybe empty, and the text after it.
-pub(crate) fn split_name(text: &[u8]) -> (&[u8], &[u8])
+/// The name at a text's front (letters, digits and `_`), maybe empty, and the text after it.
+pub fn split_name(text: &[u8]) -> (&[u8], &[u8])
     ensures name { result.0.now ≡ take_while is_name_byte text.now }
     ensures rest { result.1.now ≡ drop (prefix_len is_name_byte text.now) text.now }
 {
@@ -50,9 +50,9 @@ fn after_next(byte: u8, text: &[u8]) -> Option<&[u8]>
     }
 }
 
-// Splits a text after a string's opening quote: the string's bytes, and the text after its closing quote; `None` if
-// the line or the text ends first. A backslash keeps the next byte from ending the string.
-pub(crate) fn split_string(text: &[u8]) -> Option<(&[u8], &[u8])>
+/// Splits a text after a string's opening quote: the string's bytes, and the text after its closing quote; `None` if
+/// the line or the text ends first. A backslash keeps the next byte from ending the string.
+pub fn split_string(text: &[u8]) -> Option<(&[u8], &[u8])>
     ensures { option_map (λ r. (r.0.now, r.1.now)) result ≡ string_at text.now }
 {
     let mut is_kept = false;

@@ -23,16 +23,11 @@ pub(crate) enum WordKind {
 }
 
 /// The outcome that a word denotes: `1-0`, `0-1`, `1/2-1/2` or `*`; `None` for any other word.
+#[tactic(auto, using(crate::proofs::PgnWords::outcome_parsed))]
 pub fn outcome_of(word: &[u8]) -> Option<Outcome>
     ensures { result ≡ outcome_of word.now }
 {
-    match word {
-        b"1-0" => Some(Outcome::WhiteWins),
-        b"0-1" => Some(Outcome::BlackWins),
-        b"1/2-1/2" => Some(Outcome::Draw),
-        b"*" => Some(Outcome::Unfinished),
-        _ => None,
-    }
+    Outcome::try_from(word).ok()
 }
 
 // Whether all bytes of a word are digits.

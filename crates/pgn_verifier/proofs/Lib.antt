@@ -5,6 +5,7 @@ mod Finished
 mod InputRead
 mod LinesWritten
 mod Parts
+mod GamesAlike
 mod PartsAlike
 mod PartsRead
 mod Placed

@@ -1,13 +1,12 @@
 -- What is alike in a text and in a part of it: places, steps, tags, and whether results agree.
 use Rattle.std.proofs.Common.{◌≡◌, ℕ, zero, suc, ◌+◌, ◌-◌, ◌<◌, ◌≤◌, Bool, true, false, cond, eqb, List, [], ◌∷◌, ◌++◌, length, get_or, take, drop, Option, Some, None, Result, Ok, Err, refl, sym, ap, ◌∙◌, arith}
-use Rattle.std.specs.Prelude.{is_some, nat_lt, codes, map, if◌then◌else◌, ◌||◌, ◌&&◌, ◌==◌}
-use Rattle.std.specs.List.{last_or, cons_option, list_all, prefix_len}
+use Rattle.std.specs.Prelude.{is_some, nat_lt, codes, map, if◌then◌else◌, ◌&&◌}
+use Rattle.std.specs.List.{last_or, cons_option, prefix_len}
 use Rattle.std.specs.Option.{option_map, option_map_or, option_or, option_eq}
 use Rattle.std.specs.Str.{bytes_eq}
 use Rattle.std.proofs.Math.Seq.{drop-append-add}
 use Rattle.std.proofs.lemmas.Bool.Decides.{nat_tests}
 use Rattle.std.proofs.lemmas.List.{drop-append-le, get_or_append_left, get_or-append-add}
-use Rattle.chess_base.specs.Letters.{byte, is_digit}
 use Rattle.chess_base.specs.declared.fen_fault.FenFault.{FenFault}
 use Rattle.chess_base.specs.declared.man.Variant.TheVariants.{Normal}
 use Rattle.chess_base.specs.declared.setup.Setup.{Setup}
@@ -20,7 +19,7 @@ use Rattle.chess_text.specs.declared.reading.Reading.{Reading}
 use Rattle.chess_text.specs.declared.reading.Reading.TheVariants as reads
 use Rattle.chess_text.specs.Moves.{reading}
 use Rattle.chess_pgn.specs.GameRead.{GameRead, pgn_read, tagged_variant, variant_named}
-use Rattle.chess_pgn.specs.LastTags.{is_marks, may_precede_tags, own_tags, tags_named, last_tag, result_tag_of}
+use Rattle.chess_pgn.specs.LastTags.{may_precede_tags, tag_section, tags_named, last_tag, result_tag_of}
 use Rattle.chess_pgn.specs.Split.{IsFaultOf}
 use Rattle.chess_pgn.specs.Tokens.{Token, Skip, Tag, Word, Bad_tag, Unclosed_comment, Unclosed_variation, Bad, after_byte_order_mark, begins_line, tokens_from}
 use Rattle.chess_pgn.specs.Words.{word_kind, outcome_of}
@@ -28,6 +27,7 @@ use Rattle.chess_pgn.specs.declared.read.PgnEnd.{PgnEnd}
 use Rattle.chess_pgn.specs.declared.read.PgnFault.{PgnFault}
 use Rattle.chess_pgn.specs.declared.tagged_result.ResultTag.{ResultTag}
 use Rattle.chess_pgn.specs.laws.TokenByToken.{SoFar, Step, On, Stop, ends, move_step, word_step, fen_step, step, read_rest_with, game_of, tokens_read}
+use Rattle.chess_pgn.proofs.shared.Words.{word_cases}
 use Rattle.pgn_verifier.specs.GameFaults.{result_differs, board_says_otherwise, contradiction, judged}
 use Rattle.pgn_verifier.specs.declared.game_fault.GameFault.{GameFault}
 
@@ -100,27 +100,11 @@ pub data Does (word : List ℕ) (steps : SoFar → ℕ → Step) (precedes_tags 
       → Does word steps precedes_tags
   no_end : ((g : SoFar) (m n : ℕ) → OnOrFails (steps g m) (steps g n)) → Does word steps precedes_tags
 
--- by the kind of a word, whatever kinds are
-by_word : {K : Type 0} (end : Outcome → K) (number marks move : K) (word : List ℕ) (steps : SoFar → ℕ → K → Step)
-    (precedes : K → Bool) (o : Option Outcome) (is_number is_mark : Bool)
-    → ((o : Outcome) (g : SoFar) (m : ℕ) → steps g m (end o) ≡ ends g o (m + length word))
-    → ((g : SoFar) (m n : ℕ) → OnOrFails (steps g m number) (steps g n number))
-    → ((g : SoFar) (m n : ℕ) → OnOrFails (steps g m marks) (steps g n marks))
-    → ((g : SoFar) (m n : ℕ) → OnOrFails (steps g m move) (steps g n move))
-    → ((o : Outcome) → precedes (end o) ≡ false)
-    → Does word (λ g m. steps g m (option_map_or end o (cond is_number number (cond is_mark marks move))))
-    (precedes (option_map_or end o (cond is_number number (cond is_mark marks move))))
-by_word end number marks move word steps precedes (Some o) a b e n m r f = ends_game o (e o) (f o)
-by_word end number marks move word steps precedes None true b e n m r f = no_end n
-by_word end number marks move word steps precedes None false true e n m r f = no_end m
-by_word end number marks move word steps precedes None false false e n m r f = no_end r
-
 pub does : (limit : ℕ) (word : List ℕ)
     → Does word (λ g m. word_step limit g m word (word_kind word)) (may_precede_tags (Word word))
 does limit word =
-    by_word _ _ _ _ word (λ g m k. word_step limit g m word k) is_marks (outcome_of word) (list_all is_digit word)
-    (list_all (λ c. c == byte "!" || c == byte "?") word) (λ o g m. refl) (λ g m n. on _) (λ g m n. on _)
-    (λ g m n. moves_alike limit g m n (reading (current g.state) word)) (λ o. refl)
+    word_cases (Does word) limit word (λ o. ends_game o (λ g m. refl) refl) (no_end (λ g m n. on _))
+    (no_end (λ g m n. on _)) (no_end (λ g m n. moves_alike limit g m n (reading (current g.state) word)))
 
 fens_alike : (g : SoFar) (m n : ℕ) (r : Result Setup FenFault) → OnOrFails (fen_step g m r) (fen_step g n r)
 fens_alike g m n (Ok start) = on _
@@ -136,20 +120,20 @@ tags_alike limit total small x y g name text m n =
 -- ---- the texts of tags
 
 abbrev pub texts : List ℕ → List (ℕ × Token) → List (List ℕ)
-texts name ts = map (λ (t : List ℕ × ℕ). t.0) (tags_named name (own_tags ts))
+texts name ts = map (λ (t : List ℕ × ℕ). t.0) (tags_named name (tag_section ts))
 
 abbrev pub HaveSameTags : List (ℕ × Token) → List (ℕ × Token) → Type 0
 HaveSameTags us ts = (name : List ℕ) → texts name us ≡ texts name ts
 
 pub own_more : (t : ℕ × Token) (ts : List (ℕ × Token))
-    → own_tags (t ∷ ts) ≡ cond (may_precede_tags t.1) (t ∷ own_tags ts) []
+    → tag_section (t ∷ ts) ≡ cond (may_precede_tags t.1) (t ∷ tag_section ts) []
 own_more t ts = by_test (may_precede_tags t.1)
   where
     count : ℕ
     count = prefix_len (λ (u : ℕ × Token). may_precede_tags u.1) ts
 
     by_test : (b : Bool) → take (cond b (1 + prefix_len (λ (u : ℕ × Token). may_precede_tags u.1) ts) 0) (t ∷ ts)
-        ≡ cond b (t ∷ own_tags ts) []
+        ≡ cond b (t ∷ tag_section ts) []
     by_test true =
         let next : 1 + prefix_len (λ (u : ℕ × Token). may_precede_tags u.1) ts
         ≡ suc (prefix_len (λ (u : ℕ × Token). may_precede_tags u.1) ts) = omega arith in
@@ -157,7 +141,7 @@ own_more t ts = by_test (may_precede_tags t.1)
     by_test false = refl
 
 opened : (name : List ℕ) (t : ℕ × Token) (ts : List (ℕ × Token)) → texts name (t ∷ ts)
-    ≡ map (λ (u : List ℕ × ℕ). u.0) (tags_named name (cond (may_precede_tags t.1) (t ∷ own_tags ts) []))
+    ≡ map (λ (u : List ℕ × ℕ). u.0) (tags_named name (cond (may_precede_tags t.1) (t ∷ tag_section ts) []))
 opened name t ts = ap (λ l. map (λ (u : List ℕ × ℕ). u.0) (tags_named name l)) (own_more t ts)
 
 pub skip_more : (x y : ℕ) (us ts : List (ℕ × Token)) → HaveSameTags us ts
@@ -170,9 +154,9 @@ tag_more x y m n other text us ts same name =
     opened name (y, Tag other text n) us ∙ by_test (bytes_eq other name) ∙ sym (opened name (x, Tag other text m) ts)
   where
     by_test : (b : Bool)
-        → map (λ (t : List ℕ × ℕ). t.0) (cons_option (if b then Some (text, n) else None) (tags_named name (own_tags
+        → map (λ (t : List ℕ × ℕ). t.0) (cons_option (if b then Some (text, n) else None) (tags_named name (tag_section
         us)))
-        ≡ map (λ (t : List ℕ × ℕ). t.0) (cons_option (if b then Some (text, m) else None) (tags_named name (own_tags
+        ≡ map (λ (t : List ℕ × ℕ). t.0) (cons_option (if b then Some (text, m) else None) (tags_named name (tag_section
         ts)))
     by_test true = ap (λ l. text ∷ l) (same name)
     by_test false = same name
@@ -183,8 +167,8 @@ word_more x y word us ts same name =
     opened name (y, Word word) us ∙ by_test (may_precede_tags (Word word)) ∙ sym (opened name (x, Word word) ts)
   where
     by_test : (b : Bool)
-        → map (λ (t : List ℕ × ℕ). t.0) (tags_named name (cond b ((y, Word word) ∷ own_tags us) []))
-        ≡ map (λ (t : List ℕ × ℕ). t.0) (tags_named name (cond b ((x, Word word) ∷ own_tags ts) []))
+        → map (λ (t : List ℕ × ℕ). t.0) (tags_named name (cond b ((y, Word word) ∷ tag_section us) []))
+        ≡ map (λ (t : List ℕ × ℕ). t.0) (tags_named name (cond b ((x, Word word) ∷ tag_section ts) []))
     by_test true = same name
     by_test false = refl
 
@@ -192,8 +176,8 @@ pub word_ends : (y x : ℕ) (word : List ℕ) (us ts : List (ℕ × Token)) → 
     → HaveSameTags ((y, Word word) ∷ us) ((x, Word word) ∷ ts)
 word_ends y x word us ts e name =
     opened name (y, Word word) us
-    ∙ ap (λ b. map (λ (t : List ℕ × ℕ). t.0) (tags_named name (cond b ((y, Word word) ∷ own_tags us) []))) e
-    ∙ sym (ap (λ b. map (λ (t : List ℕ × ℕ). t.0) (tags_named name (cond b ((x, Word word) ∷ own_tags ts) []))) e)
+    ∙ ap (λ b. map (λ (t : List ℕ × ℕ). t.0) (tags_named name (cond b ((y, Word word) ∷ tag_section us) []))) e
+    ∙ sym (ap (λ b. map (λ (t : List ℕ × ℕ). t.0) (tags_named name (cond b ((x, Word word) ∷ tag_section ts) []))) e)
     ∙ sym (opened name (x, Word word) ts)
 
 last_text : (o : Option (List ℕ × ℕ)) (tags : List (List ℕ × ℕ))
@@ -203,18 +187,18 @@ last_text o [] = refl
 last_text o (t ∷ ts) = last_text (Some t) ts
 
 same_last : (us ts : List (ℕ × Token)) → HaveSameTags us ts → (name : List ℕ)
-    → option_map (λ (t : List ℕ × ℕ). t.0) (last_tag name (own_tags us))
-    ≡ option_map (λ (t : List ℕ × ℕ). t.0) (last_tag name (own_tags ts))
+    → option_map (λ (t : List ℕ × ℕ). t.0) (last_tag name (tag_section us))
+    ≡ option_map (λ (t : List ℕ × ℕ). t.0) (last_tag name (tag_section ts))
 same_last us ts same name =
-    last_text None (tags_named name (own_tags us)) ∙ ap (last_or None) (same name)
-    ∙ sym (last_text None (tags_named name (own_tags ts)))
+    last_text None (tags_named name (tag_section us)) ∙ ap (last_or None) (same name)
+    ∙ sym (last_text None (tags_named name (tag_section ts)))
 
 pub same_variant : (us ts : List (ℕ × Token)) → HaveSameTags us ts
-    → tagged_variant (own_tags us) ≡ tagged_variant (own_tags ts)
+    → tagged_variant (tag_section us) ≡ tagged_variant (tag_section ts)
 same_variant us ts same =
-    by_text (last_tag (codes "Variant") (own_tags us))
+    by_text (last_tag (codes "Variant") (tag_section us))
     ∙ ap (λ o. option_map_or variant_named o Normal) (same_last us ts same (codes "Variant"))
-    ∙ sym (by_text (last_tag (codes "Variant") (own_tags ts)))
+    ∙ sym (by_text (last_tag (codes "Variant") (tag_section ts)))
   where
     by_text : (o : Option (List ℕ × ℕ)) → option_map_or (λ (tag : List ℕ × ℕ). variant_named tag.0) o Normal
         ≡ option_map_or variant_named (option_map (λ (t : List ℕ × ℕ). t.0) o) Normal
@@ -227,9 +211,9 @@ outcome_in tag = option_map (λ (t : ResultTag). t.outcome) tag
 pub same_result : (total small : ℕ) (us ts : List (ℕ × Token)) → HaveSameTags us ts
     → outcome_in (result_tag_of small us) ≡ outcome_in (result_tag_of total ts)
 same_result total small us ts same =
-    by_text small (last_tag (codes "Result") (own_tags us))
+    by_text small (last_tag (codes "Result") (tag_section us))
     ∙ ap (option_map outcome_of) (same_last us ts same (codes "Result"))
-    ∙ sym (by_text total (last_tag (codes "Result") (own_tags ts)))
+    ∙ sym (by_text total (last_tag (codes "Result") (tag_section ts)))
   where
     by_text : (n : ℕ) (o : Option (List ℕ × ℕ))
         → outcome_in (option_map (λ (tag : List ℕ × ℕ). record {

@@ -1,7 +1,7 @@
 -- A part of a text that ends with a line, or with the text, is read alone as it is in the text, if it has no fault.
 use Rattle.std.proofs.Common.{◌≡◌, ℕ, zero, suc, ◌+◌, ◌-◌, ◌<◌, ◌≤◌, Bool, true, false, cond, eqb, List, [], ◌∷◌, ◌++◌, length, take, drop, Option, Some, None, Result, Ok, Err, refl, sym, ap, subst, ◌∙◌, inl, inr, ◌⊎◌, append_assoc, append-nil, length-append, arith}
-use Rattle.std.specs.Prelude.{is_some, nat_lt, codes, ◌&&◌, ◌||◌, ◌==◌}
-use Rattle.std.specs.List.{last_or, list_all}
+use Rattle.std.specs.Prelude.{is_some, nat_lt, codes, ◌&&◌, ◌==◌}
+use Rattle.std.specs.List.{last_or}
 use Rattle.std.specs.Option.{option_map, option_map_or}
 use Rattle.std.specs.Str.{bytes_eq}
 use Rattle.std.proofs.lemmas.Bool.{and_parts}
@@ -13,14 +13,14 @@ use Rattle.chess_base.specs.declared.man.Variant.{Variant}
 use Rattle.chess_base.specs.declared.man.Variant.TheVariants.{Normal}
 use Rattle.chess_base.specs.declared.setup.Setup.{Setup}
 use Rattle.chess_fen.specs.Reading.{fen_reading_as}
-use Rattle.chess_game.specs.Game.{State, current, verdict_now, with_declared}
+use Rattle.chess_game.specs.Game.{State, current, verdict_now}
 use Rattle.chess_game.specs.declared.game.TheConstants.{MOST_MOVES}
 use Rattle.chess_game.specs.declared.verdicts.Verdict.{Verdict}
 use Rattle.chess_text.specs.declared.reading.Reading.{Reading}
 use Rattle.chess_text.specs.declared.reading.Reading.TheVariants as reads
 use Rattle.chess_text.specs.Moves.{reading}
-use Rattle.chess_pgn.specs.GameRead.{GameRead, declared_after, pgn_read, tagged_variant, variant_named}
-use Rattle.chess_pgn.specs.LastTags.{is_marks, may_precede_tags, own_tags, tags_named, result_tag_of}
+use Rattle.chess_pgn.specs.GameRead.{GameRead, pgn_read, tagged_variant, variant_named}
+use Rattle.chess_pgn.specs.LastTags.{may_precede_tags, tag_section, tags_named, result_tag_of}
 use Rattle.chess_pgn.specs.Split.{IsSplit, IsOf, IsLongest, Kind, token_of, Blank, Line, Comment, Nag, Variation, Tag_pair, Asterisk, Symbol, ended, token, stopped}
 use Rattle.chess_pgn.specs.Tokens.{Token, Skip, Tag, Word, Bad_tag, Unclosed_comment, Unclosed_variation, Bad, after_byte_order_mark, begins_line, tokens_from}
 use Rattle.chess_pgn.specs.Words.{word_kind, outcome_of}
@@ -28,14 +28,14 @@ use Rattle.chess_pgn.specs.declared.read.PgnEnd.{PgnEnd}
 use Rattle.chess_pgn.specs.declared.read.PgnFault.{PgnFault}
 use Rattle.chess_pgn.specs.declared.read.PgnFaultKind.TheVariants.{NoResult}
 use Rattle.chess_pgn.specs.declared.tagged_result.ResultTag.{ResultTag}
-use Rattle.chess_base.specs.Letters.{byte, is_digit}
-use Rattle.chess_game.specs.declared.results.Outcome.{Outcome}
-use Rattle.chess_pgn.specs.laws.TokenByToken.{SoFar, Step, On, Stop, ends, move_step, word_step, fen_step, step, read_rest_with, game_of, nothing_read, tokens_read}
+use Rattle.chess_pgn.specs.laws.TokenByToken.{SoFar, Step, On, Stop, move_step, word_step, fen_step, step, read_rest_with, game_of, nothing_read, tokens_read}
+use Rattle.chess_pgn.proofs.shared.Words.{word_cases}
 use Rattle.chess_pgn.proofs.shared.Tokens.{read_split, split_read, stays_longest, token_some}
 use Rattle.pgn_verifier.specs.GameFaults.{contradiction, judged}
 use Rattle.pgn_verifier.specs.declared.game_fault.GameFault.{GameFault}
 use Rattle.pgn_verifier.specs.laws.Parts.{BeginsAlike}
-use Rattle.pgn_verifier.proofs.PartsAlike.{TokenByToken, there, lines, over, OnOrFails, on, goes_on, Does, ends_game, no_end, does, tags_alike, HaveSameTags, own_more, skip_more, tag_more, word_more, word_ends, same_variant, outcome_in, same_result, none_left, faults_stop, read_so, found_so, judged_so, agrees, not_before, no_mark}
+use Rattle.pgn_verifier.proofs.GamesAlike.{Fits, found}
+use Rattle.pgn_verifier.proofs.PartsAlike.{TokenByToken, there, lines, over, own_more, same_variant, outcome_in, same_result, faults_stop, read_so, found_so, judged_so, agrees, not_before, no_mark}
 use Rattle.pgn_verifier.specs.laws.Reported.{judged_at, read_at, report_then, reports_from}
 
 abbrev no_game : Result (Option PgnEnd) PgnFault
@@ -88,26 +88,11 @@ move_pass limit g m reads.NoSuch =
     one_of false g (is_some (verdict_now g.state)) _ _ (fails _ _ refl)
     (one_of false g (nat_lt (length g.state.moves) limit) _ _ (fails _ _ refl) (fails _ _ refl))
 
--- by the kind of a word, whatever kinds are
-by_word : {K : Type 0} (end : Outcome → K) (number marks move : K) (steps : SoFar → ℕ → K → Step)
-    (precedes : K → Bool) (o : Option Outcome) (is_number is_mark : Bool)
-    → ((o : Outcome) (g : SoFar) (m : ℕ) → Pass (precedes (end o)) g (steps g m (end o)))
-    → ((g : SoFar) (m : ℕ) → Pass (precedes number) g (steps g m number))
-    → ((g : SoFar) (m : ℕ) → Pass (precedes marks) g (steps g m marks))
-    → ((g : SoFar) (m : ℕ) → Pass (precedes move) g (steps g m move)) → (g : SoFar) (m : ℕ)
-    → Pass (precedes (option_map_or end o (cond is_number number (cond is_mark marks move)))) g
-    (steps g m (option_map_or end o (cond is_number number (cond is_mark marks move))))
-by_word end number marks move steps precedes (Some o) a b e n k v g m = e o g m
-by_word end number marks move steps precedes None true b e n k v g m = n g m
-by_word end number marks move steps precedes None false true e n k v g m = k g m
-by_word end number marks move steps precedes None false false e n k v g m = v g m
-
 word_pass : (limit : ℕ) (word : List ℕ) (g : SoFar) (m : ℕ)
     → Pass (may_precede_tags (Word word)) g (word_step limit g m word (word_kind word))
 word_pass limit word =
-    by_word _ _ _ _ (λ g m k. word_step limit g m word k) is_marks (outcome_of word) (list_all is_digit word)
-    (list_all (λ c. c == byte "!" || c == byte "?") word) (λ o g m. wins _ _ refl) (λ g m. meets _ refl refl)
-    (λ g m. passes refl) (λ g m. move_pass limit g m (reading (current g.state) word))
+    word_cases (λ steps precedes. (g : SoFar) (m : ℕ) → Pass precedes g (steps g m)) limit word (λ o g m. wins _ _ refl)
+    (λ g m. meets _ refl refl) (λ g m. passes refl) (λ g m. move_pass limit g m (reading (current g.state) word))
 
 fen_pass : (g : SoFar) (m : ℕ) (r : Result Setup FenFault) → Pass false g (fen_step g m r)
 fen_pass g m (Ok start) = meets _ refl refl
@@ -135,10 +120,10 @@ passed_step : (limit total : ℕ) (g : SoFar) (x : ℕ) (t : Token) → is_passe
 passed_step limit total g x t p = is_on (is_passed t) g (step limit total g x t) (pass limit total g x t) p
 
 passed_tags : (name : List ℕ) (x : ℕ) (t : Token) (ts : List (ℕ × Token)) → is_passed t ≡ true
-    → tags_named name (own_tags ((x, t) ∷ ts)) ≡ tags_named name (own_tags ts)
+    → tags_named name (tag_section ((x, t) ∷ ts)) ≡ tags_named name (tag_section ts)
 passed_tags name x Skip ts p = ap (tags_named name) (own_more (x, Skip) ts)
 passed_tags name x (Word word) ts p =
-    ap (tags_named name) (own_more (x, Word word) ts ∙ ap (λ b. cond b ((x, Word word) ∷ own_tags ts) []) p)
+    ap (tags_named name) (own_more (x, Word word) ts ∙ ap (λ b. cond b ((x, Word word) ∷ tag_section ts) []) p)
 passed_tags name x (Tag other text left) ts p = absurd (cc)
 passed_tags name x Bad_tag ts p = absurd (cc)
 passed_tags name x (Unclosed_comment left) ts p = absurd (cc)
@@ -222,158 +207,14 @@ module _ (limit : ℕ) (before part after : List ℕ)
     next_place : (at n : ℕ) → length before + (at + n) ≡ length before + at + n
     next_place at n = omega arith
 
-    -- ---- a game without a fault
-
-    record Kept (at : ℕ) (g : SoFar) (us : List (ℕ × Token)) (s : State) (end : PgnEnd) : Type 0 where
-      own : List (ℕ × Token)
-      split : IsSplit (before ++ (part ++ after)) (length before + at) own
-      is : game_of limit (length (before ++ (part ++ after))) g own
-          ≡ over s (record end { offset = length before + end.offset })
-      tags : HaveSameTags own us
-      inside : end.offset ≤ length part
-      bytes : at < end.offset
-
-    module _ (s : State) (end : PgnEnd) where
-      abbrev Again : ℕ → List (ℕ × Token) → Type 0
-      Again next us = (g : SoFar) → game_of limit (length part) g us ≡ over s end → Kept next g us s end
-
-      -- a token after which reading goes on: `t` in the part, `u` in the text
-      further : (at : ℕ) (kind : Kind) (front rest : List ℕ) (t u : Token) (us : List (ℕ × Token)) (g : SoFar)
-          → drop at part ≡ front ++ rest → IsLongest (IsOf (begins_line part at) kind) front rest
-          → u ≡ token_of kind front (length (rest ++ after))
-          → OnOrFails (step limit (length part) g (length part - at) t)
-          (step limit (length (before ++ (part ++ after))) g
-          (length (before ++ (part ++ after)) - (length before + at)) u)
-          → ((ts : List (ℕ × Token)) → HaveSameTags ts us
-          → HaveSameTags ((length (before ++ (part ++ after)) - (length before + at), u) ∷ ts)
-          ((length part - at, t) ∷ us))
-          → Again (at + length front) us → game_of limit (length part) g ((length part - at, t) ∷ us) ≡ over s end
-          → Kept at g ((length part - at, t) ∷ us) s end
-      further at kind front rest t u us g e long is_text alike tags again h =
-          let fit = same at kind front rest e long in
-          let one = goes_on (step limit (length part) g (length part - at) t)
-          (step limit (length (before ++ (part ++ after))) g
-          (length (before ++ (part ++ after)) - (length before + at)) u)
-          (λ k. game_of limit (length part) k us) s end alike h in
-          let kept = again one.g one.rest in
-          record {
-            own = (length (before ++ (part ++ after)) - (length before + at), u) ∷ kept.own;
-            split = subst (λ w. IsSplit (before ++ (part ++ after)) (length before + at)
-                ((length (before ++ (part ++ after)) - (length before + at), w) ∷ kept.own)) (sym is_text)
-                (token kind front (rest ++ after) {tokens = kept.own} fit.is fit.long
-                (subst (λ p. IsSplit (before ++ (part ++ after)) p kept.own) (next_place at (length front))
-                kept.split));
-            is = ap (λ w. read_rest_with w (λ k. game_of limit (length (before ++ (part ++ after))) k kept.own))
-                one.second ∙ kept.is;
-            tags = tags kept.own kept.tags;
-            inside = kept.inside;
-            bytes = omega (arith, kept.bytes);
-          }
-
-      same_end : (a b : PgnEnd) (u v : State) → over u a ≡ over v b → (u ≡ v) × (a ≡ b)
-      same_end a b u v h =
-          let ends : Ok (Some a) ≡ Ok (Some b) = ap (λ (r : GameRead). r.answer) h in
-          (ap (λ (r : GameRead). r.state) h, cc)
-
-      -- a word
-      word : (at : ℕ) (kind : Kind) (front rest : List ℕ) (us : List (ℕ × Token)) (g : SoFar)
-          → Word front ≡ token_of kind front (length (rest ++ after)) → drop at part ≡ front ++ rest
-          → IsLongest (IsOf (begins_line part at) kind) front rest → Again (at + length front) us
-          → game_of limit (length part) g ((length part - at, Word front) ∷ us) ≡ over s end
-          → Kept at g ((length part - at, Word front) ∷ us) s end
-      word at kind front rest us g is_text e long again h = by_step (does limit front)
-        where
-          total : ℕ
-          total = length (before ++ (part ++ after))
-
-          lengths : length (before ++ (part ++ after)) ≡ length before + (length part + length after)
-          lengths = omega (arith, length-append before (part ++ after), length-append part after)
-
-          some : 0 < length front
-          some = token_some (begins_line part at) kind front long.is
-
-          by_step : Does front (λ k m. word_step limit k m front (word_kind front)) (may_precede_tags (Word front))
-              → Kept at g ((length part - at, Word front) ∷ us) s end
-          by_step (no_end alike) =
-              further at kind front rest (Word front) (Word front) us g e long is_text
-              (alike g (length part - (length part - at)) (total - (total - (length before + at))))
-              (λ ts tags. word_more (length part - at) (total - (length before + at)) front ts us tags) again h
-          by_step (ends_game o step_is no_tag) =
-              let fit = same at kind front rest e long in
-              let later : SoFar → GameRead = λ k. game_of limit (length part) k us in
-              let whole = sym (ap (λ t. read_rest_with t later) (step_is g (length part - (length part - at)))) ∙ h in
-              let ends_so = same_end _ end _ s whole in
-              let offset : length part - (length part - at) + length front ≡ end.offset =
-              ap (λ (p : PgnEnd). p.offset) ends_so.1 in
-              let place : at + length front ≡ end.offset = omega (arith, offset, fit.few) in
-              let mine : List (ℕ × Token) =
-              tokens_from (before ++ (part ++ after)) (length before + at + length front) in
-              let moved : total - (total - (length before + at)) + length front ≡ length before + end.offset =
-              omega (arith, place, fit.few, lengths) in
-              record {
-                own = (total - (length before + at), Word front) ∷ mine;
-                split = subst (λ w. IsSplit (before ++ (part ++ after)) (length before + at)
-                    ((total - (length before + at), w) ∷ mine)) (sym is_text)
-                    (token kind front (rest ++ after) {tokens = mine} fit.is fit.long
-                    (read_split (before ++ (part ++ after)) (length before + at + length front)));
-                is = ap (λ t. read_rest_with t (λ k. game_of limit total k mine))
-                    (step_is g (total - (total - (length before + at))))
-                    ∙ ap (λ m. over (with_declared g.state (declared_after (is_some (verdict_now g.state)) o))
-                    (record { outcome = o; termination = g.termination; offset = m })) moved
-                    ∙ ap (λ v. over v (record {
-                      outcome = o;
-                      termination = g.termination;
-                      offset = length before + end.offset;
-                    })) ends_so.0
-                    ∙ ap (λ (p : PgnEnd). over s (record p { offset = length before + end.offset })) ends_so.1;
-                tags = word_ends (total - (length before + at)) (length part - at) front mine us no_tag;
-                inside = omega (arith, place, fit.few);
-                bytes = omega (arith, place, some);
-              }
-
-      skipped : (at : ℕ) (kind : Kind) (front rest : List ℕ) (us : List (ℕ × Token)) (g : SoFar)
-          → Skip ≡ token_of kind front (length (rest ++ after)) → drop at part ≡ front ++ rest
-          → IsLongest (IsOf (begins_line part at) kind) front rest → Again (at + length front) us
-          → game_of limit (length part) g ((length part - at, Skip) ∷ us) ≡ over s end
-          → Kept at g ((length part - at, Skip) ∷ us) s end
-      skipped at kind front rest us g is_text e long again h =
-          further at kind front rest Skip Skip us g e long is_text (on g)
-          (λ ts tags. skip_more (length part - at) (length (before ++ (part ++ after)) - (length before + at)) ts us
-          tags) again h
-
-      by_kind : (at : ℕ) (kind : Kind) (front rest : List ℕ) (us : List (ℕ × Token)) (g : SoFar)
-          → drop at part ≡ front ++ rest → IsLongest (IsOf (begins_line part at) kind) front rest
-          → Again (at + length front) us
-          → game_of limit (length part) g ((length part - at, token_of kind front (length rest)) ∷ us) ≡ over s end
-          → Kept at g ((length part - at, token_of kind front (length rest)) ∷ us) s end
-      by_kind at Blank front rest us g e long again h = skipped at Blank front rest us g refl e long again h
-      by_kind at Line front rest us g e long again h = skipped at Line front rest us g refl e long again h
-      by_kind at Comment front rest us g e long again h = skipped at Comment front rest us g refl e long again h
-      by_kind at Nag front rest us g e long again h = skipped at Nag front rest us g refl e long again h
-      by_kind at Variation front rest us g e long again h = skipped at Variation front rest us g refl e long again h
-      by_kind at (Tag_pair name string closing) front rest us g e long again h =
-          further at (Tag_pair name string closing) front rest
-          (Tag name string (length (string ++ closing) + length rest))
-          (Tag name string (length (string ++ closing) + length (rest ++ after))) us g e long refl
-          (tags_alike limit (length part) (length (before ++ (part ++ after))) (length part - at)
-          (length (before ++ (part ++ after)) - (length before + at)) g name string
-          (length (string ++ closing) + length rest) (length (string ++ closing) + length (rest ++ after)))
-          (λ ts tags. tag_more (length part - at) (length (before ++ (part ++ after)) - (length before + at))
-          (length (string ++ closing) + length rest) (length (string ++ closing) + length (rest ++ after)) name string
-          ts us tags) again h
-      by_kind at Asterisk front rest us g e long again h = word at Asterisk front rest us g refl e long again h
-      by_kind at Symbol front rest us g e long again h = word at Symbol front rest us g refl e long again h
-
-      kept : {at : ℕ} {us : List (ℕ × Token)} → IsSplit part at us → (g : SoFar)
-          → game_of limit (length part) g us ≡ over s end → Kept at g us s end
-      kept (ended e) g h =
-          absurd (none_left end g.is_met (record { kind = NoResult; offset = length part })
-          (ap (λ (r : GameRead). r.answer) h))
-      kept (token {at = here} kind front rest {tokens} e long more) g h =
-          by_kind here kind front rest tokens g e long (λ k same. kept more k same) h
-      kept (stopped {at = here} {fault} none k) g h =
-          absurd (faults_stop limit (length part) (Some end) (drop here part) (length part - here) g fault k
-          (ap (λ (r : GameRead). r.answer) h))
+    fits_text : (at : ℕ) (kind : Kind) (front rest : List ℕ) → drop (0 + at) part ≡ front ++ rest
+        → IsLongest (IsOf (begins_line part (0 + at)) kind) front rest → at + length front ≤ length part
+        → Fits (before ++ (part ++ after)) (length before + at) kind front
+    fits_text at kind front rest e long h =
+        let zero_on : 0 + at ≡ at = omega arith in
+        let fit = same at kind front rest (ap (λ n. drop n part) (sym zero_on) ∙ e)
+        (subst (λ n. IsLongest (IsOf (begins_line part n) kind) front rest) zero_on long) in
+        record { rest' = rest ++ after; is = fit.is; long = fit.long }
 
     -- ---- no more games
 
@@ -384,8 +225,8 @@ module _ (limit : ℕ) (before part after : List ℕ)
       reads_on : (g : SoFar) → game_of limit (length (before ++ (part ++ after))) g own
           ≡ game_of limit (length (before ++ (part ++ after))) g
           (tokens_from (before ++ (part ++ after)) (length before + length part))
-      tags : (name : List ℕ) → tags_named name (own_tags own)
-          ≡ tags_named name (own_tags (tokens_from (before ++ (part ++ after)) (length before + length part)))
+      tags : (name : List ℕ) → tags_named name (tag_section own)
+          ≡ tags_named name (tag_section (tokens_from (before ++ (part ++ after)) (length before + length part)))
 
     one_more : (at : ℕ) (kind : Kind) (front rest : List ℕ) → is_passed (token_of kind front (length rest)) ≡ true
         → Same at kind front rest → Passes (at + length front) → Passes at
@@ -459,13 +300,17 @@ in_text law strict before part after at end begins closed is =
     let said = judged_so strict (result_tag_of (length part) us) v end r.answer is in
     let alone : tokens_read MOST_MOVES (length part) us ≡ over r.state end =
     sym (law MOST_MOVES part at) ∙ ap (λ a. record { state = r.state; answer = a }) said.0 in
-    let k = kept MOST_MOVES before part after begins.line closed r.state end (read_split part here)
-    (nothing_read (tagged_variant (own_tags us))) alone in
+    let k = found MOST_MOVES part text 0 (length before) (length part)
+    (fits_text MOST_MOVES before part after begins.line closed) r.state end (λ m low ending. omega (arith, low))
+    (read_split part here) here (omega arith)
+    (nothing_read (tagged_variant (tag_section us))) alone in
     let own : k.own ≡ ts = split_read text k.split ∙ ap (tokens_from text) (sym begins.first) in
+    let shift : end.offset - 0 + length before ≡ length before + end.offset = omega arith in
     let moved : PgnEnd = record end { offset = length before + end.offset } in
     let whole : pgn_read MOST_MOVES text (length before + at) ≡ over r.state moved =
     law MOST_MOVES text (length before + at) ∙ ap (tokens_read MOST_MOVES (length text)) (sym own)
-    ∙ ap (λ w. game_of MOST_MOVES (length text) (nothing_read w) k.own) (same_variant k.own us k.tags) ∙ k.is in
+    ∙ ap (λ w. game_of MOST_MOVES (length text) (nothing_read w) k.own) (same_variant k.own us k.tags) ∙ k.is
+    ∙ ap (λ m. over r.state (record end { offset = m })) shift in
     let outcomes : outcome_in (result_tag_of (length text) ts) ≡ outcome_in (result_tag_of (length part) us) =
     ap (λ l. outcome_in (result_tag_of (length text) l)) (sym own)
     ∙ same_result (length part) (length text) k.own us k.tags in
@@ -475,7 +320,7 @@ in_text law strict before part after at end begins closed is =
           ∙ ap (λ fault. option_map_or Err fault (Ok (Some moved)))
           (agrees strict (result_tag_of (length part) us) (result_tag_of (length text) ts) v end
           (length before + end.offset) outcomes said.1);
-      inside = k.inside;
+      inside = omega (arith, k.inside);
       some_bytes = omega (arith, k.bytes, not_before part at);
     }
 
@@ -531,7 +376,7 @@ skips_to_end law strict before part after at begins closed within none start (su
         let some : 0 < length before + length part = grind (arith, nat_tests, e) in
         let p = passed MOST_MOVES before part after begins.line closed
         (read_split part (after_byte_order_mark part at)) (mark_within part at within)
-        (nothing_read (tagged_variant (own_tags (tokens_from part (after_byte_order_mark part at)))))
+        (nothing_read (tagged_variant (tag_section (tokens_from part (after_byte_order_mark part at)))))
         (ap (λ (r : GameRead). r.answer) (sym (law MOST_MOVES part at))
         ∙ judged_none strict (result_tag_of (length part) (tokens_from part (after_byte_order_mark part at)))
         (verdict_now (read_at part at).state) (read_at part at).answer none) in
@@ -541,17 +386,17 @@ skips_to_end law strict before part after at begins closed within none start (su
         let ending : tokens_from text (length before + length part) ≡ us =
         ap (tokens_from text) (sym (no_mark text (length before + length part) some)) in
         let own : p.own ≡ ts = split_read text p.split ∙ ap (tokens_from text) (sym begins.first) in
-        let tags : (name : List ℕ) → tags_named name (own_tags ts) ≡ tags_named name (own_tags us) =
-        λ name. ap (λ l. tags_named name (own_tags l)) (sym own) ∙ p.tags name
-        ∙ ap (λ l. tags_named name (own_tags l)) ending in
-        let variants : tagged_variant (own_tags ts) ≡ tagged_variant (own_tags us) =
+        let tags : (name : List ℕ) → tags_named name (tag_section ts) ≡ tags_named name (tag_section us) =
+        λ name. ap (λ l. tags_named name (tag_section l)) (sym own) ∙ p.tags name
+        ∙ ap (λ l. tags_named name (tag_section l)) ending in
+        let variants : tagged_variant (tag_section ts) ≡ tagged_variant (tag_section us) =
         ap variant_in (tags (codes "Variant")) in
         let results : result_tag_of (length text) ts ≡ result_tag_of (length text) us =
         ap (result_in (length text)) (tags (codes "Result")) in
         let games : tokens_read MOST_MOVES (length text) ts ≡ tokens_read MOST_MOVES (length text) us =
-        ap (game_of MOST_MOVES (length text) (nothing_read (tagged_variant (own_tags ts)))) (sym own)
-        ∙ p.reads_on (nothing_read (tagged_variant (own_tags ts)))
-        ∙ ap (game_of MOST_MOVES (length text) (nothing_read (tagged_variant (own_tags ts)))) ending
+        ap (game_of MOST_MOVES (length text) (nothing_read (tagged_variant (tag_section ts)))) (sym own)
+        ∙ p.reads_on (nothing_read (tagged_variant (tag_section ts)))
+        ∙ ap (game_of MOST_MOVES (length text) (nothing_read (tagged_variant (tag_section ts)))) ending
         ∙ ap (λ v. game_of MOST_MOVES (length text) (nothing_read v) us) variants in
         let same_read : pgn_read MOST_MOVES text (length before + at)
         ≡ pgn_read MOST_MOVES text (length before + length part) =

@@ -1,6 +1,6 @@
 -- Where a fault is: counted from the text's beginning, and from the input's.
-use Rattle.std.proofs.Common.{◌≡◌, ◌≤◌, ℕ, ◌+◌, ◌-◌, Bool, not, cond, List, [], ◌∷◌, ◌++◌, length, take, drop, refl, sym, ap, ◌∙◌, length-drop, arith}
-use Rattle.std.specs.Prelude.{if◌then◌else◌, Some, reverse}
+use Rattle.std.proofs.Common.{◌≡◌, ◌≤◌, ℕ, ◌+◌, ◌-◌, Bool, not, cond, List, [], ◌∷◌, ◌++◌, length, take, drop, sym, ap, ◌∙◌, length-drop, arith}
+use Rattle.std.specs.Prelude.{if◌then◌else◌, reverse}
 use Rattle.std.specs.List.{prefix_len}
 use Rattle.std.proofs.Math.Seq.{take-add}
 use Rattle.std.proofs.lemmas.List.{take-take, take_all, take-append-le, drop-append-le, length-take, reverse-append}
@@ -70,22 +70,3 @@ piece_there text more before piece number placed within is = record {
         let m = ap length e in
         ap (take (length xs)) (drop-append-le piece.offset text more within)
         ∙ take-append-le (length xs) (drop piece.offset text) more (omega (arith, n, m)) ∙ e
-
--- a piece's text begins where the piece does
-pub text_there : (number : ℕ) (input text : List ℕ) (piece : Piece) (start : TextStart)
-    → PieceStandsAt number input piece
-    → piece.bytes ≡ Some text → start.offset ≡ piece.offset → start.line ≡ number → StandsAt start input text
-text_there number input text piece start stands e offset line = record {
-  bytes = ap (λ o. take (length text) (drop o input)) offset ∙ stands.bytes text e;
-  line = ap (line_of input) offset ∙ stands.line ∙ sym line;
-  column = ap (column_of input) offset ∙ stands.column;
-}
-
--- where a piece begins that is too long
-pub beginning_there : (number : ℕ) (input : List ℕ) (piece : Piece) (start : TextStart)
-    → PieceStandsAt number input piece → start.offset ≡ piece.offset → start.line ≡ number → StandsAt start input []
-beginning_there number input piece start stands offset line = record {
-  bytes = refl;
-  line = ap (line_of input) offset ∙ stands.line ∙ sym line;
-  column = ap (column_of input) offset ∙ stands.column;
-}

@@ -1,5 +1,5 @@
 -- Written games, one after another, have no fault.
-use Rattle.std.proofs.Common.{◌≡◌, ℕ, zero, suc, ◌+◌, ◌-◌, ◌<◌, ◌≤◌, Bool, true, false, List, [], ◌∷◌, ◌++◌, length, drop, Option, Some, None, Result, Ok, Err, refl, sym, ap, subst, ◌∙◌, inl, inr, ◌⊎◌, append_assoc, append-nil, length-append, arith}
+use Rattle.std.proofs.Common.{◌≡◌, ℕ, zero, suc, ◌+◌, ◌-◌, ◌<◌, Bool, false, List, [], ◌∷◌, ◌++◌, length, drop, Some, None, Ok, refl, sym, ap, subst, ◌∙◌, inl, inr, ◌⊎◌, append_assoc, append-nil, length-append, arith}
 use Rattle.std.specs.Prelude.{map}
 use Rattle.std.specs.List.{concat, flat_map, list_all}
 use Rattle.std.proofs.Math.Seq.{drop-append-add}
@@ -7,9 +7,9 @@ use Rattle.std.proofs.lemmas.Grind.{flat_map-append}
 use Rattle.chess_game.specs.Game.{State, outcome_now, verdict_now, IsPlayable}
 use Rattle.chess_game.specs.declared.game.TheConstants.{MOST_MOVES}
 use Rattle.chess_game.specs.declared.results.Outcome.{Outcome}
-use Rattle.chess_pgn.specs.GameRead.{GameRead, pgn_read, tagged_variant}
+use Rattle.chess_pgn.specs.GameRead.{GameRead, pgn_read}
 use Rattle.chess_pgn.specs.GameText.{pgn, tag_lines, game_tokens}
-use Rattle.chess_pgn.specs.LastTags.{own_tags, result_tag_of}
+use Rattle.chess_pgn.specs.LastTags.{result_tag_of}
 use Rattle.chess_pgn.specs.Split.{IsSplit, IsOf, IsLongest, Blank, ended, token}
 use Rattle.chess_pgn.specs.Terminations.{termination_of}
 use Rattle.chess_pgn.specs.Tokens.{Token, Skip, after_byte_order_mark, begins_line, tokens_from}
@@ -18,14 +18,14 @@ use Rattle.chess_pgn.specs.declared.read.PgnEnd.{PgnEnd}
 use Rattle.chess_pgn.specs.declared.tags.Tags.{Tags}
 use Rattle.chess_pgn.specs.declared.termination.Termination.{Termination}
 use Rattle.chess_pgn.specs.laws.PgnLaw.{AreTagTexts, IsReadBack, PgnIsReadBack, ResultIsWritten}
-use Rattle.chess_pgn.specs.laws.TokenByToken.{game_of, nothing_read, tokens_read}
+use Rattle.chess_pgn.specs.laws.TokenByToken.{tokens_read}
 use Rattle.chess_pgn.proofs.shared.Tokens.{split_read}
 use Rattle.pgn_verifier.specs.GameFaults.{judged}
 use Rattle.pgn_verifier.specs.Reports.{Report, Game}
 use Rattle.pgn_verifier.specs.laws.NoFaults.{begins_with_mark}
 use Rattle.pgn_verifier.specs.laws.Parts.{BeginsAlike, AllHoldWhole, no_parts, next_part}
 use Rattle.pgn_verifier.specs.laws.WrittenGames.{HasNoFault, TaggedGame, AreWritable, written_text, report_of, WrittenTextsHaveNoFault}
-use Rattle.pgn_verifier.proofs.FaultlessTexts.{is_game, Holds, part_holds, begins_first, begins_later}
+use Rattle.pgn_verifier.proofs.FaultlessTexts.{is_game, part_holds, begins_first, begins_later}
 use Rattle.pgn_verifier.proofs.Parts.{all_reported_alike}
 use Rattle.pgn_verifier.proofs.PartsAlike.{TokenByToken, read_so, judged_so, no_mark}
 use Rattle.pgn_verifier.proofs.PartsRead.{in_text}

@@ -106,12 +106,12 @@ too_long_explained beginning = record { offset = 0; text = shown beginning; posi
 -- ---- its line
 
 -- a part of the explanation's line that may be missing: ` | ` and this text; empty without a text (`None`)
-abbrev pub part : Option (List ℕ) → List ℕ
-part text = option_map_or (λ t. codes " | " ++ t) text []
+abbrev pub optional_part : Option (List ℕ) → List ℕ
+optional_part text = option_map_or (λ t. codes " | " ++ t) text []
 
 -- the line after its column: the text of the part that is wrong, the FEN of the position, and the reason
 abbrev pub explanation_text : Explanation → List ℕ
-explanation_text e = e.text ++ (part (option_map fen e.position) ++ (part e.reason ++ new_line ∷ []))
+explanation_text e = e.text ++ (optional_part (option_map fen e.position) ++ (optional_part e.reason ++ new_line ∷ []))
 
 -- the line that explains a fault, where the part that is wrong is on this line and in this column, such as
 -- `# line 2 column 4 Ke3 | ` and a FEN

@@ -64,7 +64,7 @@ value_reason text = option_map_or string_reason (after_next (byte "\"") text) (c
 -- what a bad tag lacks, from the text after its `[` on: a tag is `[`, a name, a string and `]`, and the first of these
 -- that is missing is the reason
 abbrev pub tag_reason : List ℕ → List ℕ
-tag_reason text = option_map_or (λ name. value_reason name.1) (name_at (after_gap false false text)) (codes "no name")
+tag_reason text = option_map_or (λ name. value_reason name.1) (name_at (after_gap text)) (codes "no name")
 
 -- ---- tokens
 

@@ -9,7 +9,7 @@ ghost use Rattle.chess_fen.specs.Writing.{fen};
 ghost use Rattle.chess_game.specs.Game.{current, verdict_now};
 ghost use Rattle.chess_pgn.specs.declared.read.PgnFaultKind.TheVariants.{TooLong};
 ghost use Rattle.pgn_pieces.specs.Places.{line_ends, last_line_len, line_of, column_of};
-ghost use Rattle.pgn_verifier.specs.Explanations.{part_offset, shown_part, has_position, verdict_reason, pgn_reason, reason, part, explained, explanation_text, explanation_at, explanation_line, too_long_explained, shown};
+ghost use Rattle.pgn_verifier.specs.Explanations.{part_offset, shown_part, has_position, verdict_reason, pgn_reason, reason, optional_part, explained, explanation_text, explanation_at, explanation_line, too_long_explained, shown};
 ghost use Rattle.chess_game.specs.Results.{outcome_text};
 ghost use Rattle.pgn_verifier.specs.Reports.{fault_line};
 ghost use Rattle.pgn_verifier.specs.declared.game_fault.FaultKind.TheVariants.{Pgn};
@@ -109,7 +109,7 @@ fn shown_part(kind: FaultKind, text: &[u8]) -> Shown
 // Appends ` | ` and the board's verdict, such as `0-1 {Black mates}`; nothing without one.
 fn append_verdict(lines: &mut FaultLines, verdict: Option<Verdict>)
     requires { array_vec_len lines.old + 80 ≤ FAULT_LINES_LEN }
-    ensures text { lines.new.items ≡ lines.old.items ++ part (verdict_reason verdict) }
+    ensures text { lines.new.items ≡ lines.old.items ++ optional_part (verdict_reason verdict) }
     ensures len { array_vec_len lines.new ≤ array_vec_len lines.old + 80 }
 {
     if let Some(verdict) = verdict {
@@ -125,7 +125,7 @@ fn append_verdict(lines: &mut FaultLines, verdict: Option<Verdict>)
 fn append_part(lines: &mut FaultLines, reason: &[u8])
     requires room { array_vec_len lines.old + 80 ≤ FAULT_LINES_LEN }
     requires short { length reason.now ≤ 77 }
-    ensures text { lines.new.items ≡ lines.old.items ++ part (Some reason.now) }
+    ensures text { lines.new.items ≡ lines.old.items ++ optional_part (Some reason.now) }
     ensures len { array_vec_len lines.new ≤ array_vec_len lines.old + 80 }
 {
     append(lines, b" | ");
@@ -141,7 +141,7 @@ fn append_pgn_reason(
     verdict: Option<Verdict>,
 )
     requires { array_vec_len lines.old + 80 ≤ FAULT_LINES_LEN }
-    ensures text { lines.new.items ≡ lines.old.items ++ part (pgn_reason kind text.now verdict) }
+    ensures text { lines.new.items ≡ lines.old.items ++ optional_part (pgn_reason kind text.now verdict) }
     ensures len { array_vec_len lines.new ≤ array_vec_len lines.old + 80 }
 {
     match kind {
@@ -170,7 +170,7 @@ fn append_results(lines: &mut FaultLines, tag: &[u8], outcome: Outcome)
 // Appends ` | ` and the reason for a fault; nothing if there is none. `text` is the text from its byte on.
 fn append_reason(lines: &mut FaultLines, kind: FaultKind, text: &[u8], verdict: Option<Verdict>)
     requires { array_vec_len lines.old + 80 ≤ FAULT_LINES_LEN }
-    ensures text { lines.new.items ≡ lines.old.items ++ part (reason kind text.now verdict) }
+    ensures text { lines.new.items ≡ lines.old.items ++ optional_part (reason kind text.now verdict) }
     ensures len { array_vec_len lines.new ≤ array_vec_len lines.old + 80 }
 {
     match kind {
@@ -196,7 +196,7 @@ fn has_position(kind: FaultKind) -> bool
 fn append_position<B: Board>(lines: &mut FaultLines, kind: FaultKind, game: &Game<B>)
     requires { array_vec_len lines.old + 98 ≤ FAULT_LINES_LEN }
     ensures text { lines.new.items ≡ lines.old.items
-        ++ part (option_map fen (if has_position kind then Some (current game.now.state) else None)) }
+        ++ optional_part (option_map fen (if has_position kind then Some (current game.now.state) else None)) }
     ensures len { array_vec_len lines.new ≤ array_vec_len lines.old + 98 }
 {
     if has_position(kind) {

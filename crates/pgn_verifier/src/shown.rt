@@ -8,6 +8,7 @@ ghost use Rattle.pgn_verifier.specs.declared.shown.TheConstants.{FIELD_LEN};
 ghost use Rattle.pgn_verifier.specs.Explanations.{shown_byte, first_word, shown_word, shown};
 
 use arrayvec::ArrayVec;
+use chess_pgn::token_parts::is_white_space;
 
 // The most bytes of a word that are shown.
 const WORD_LEN: usize = 40;
@@ -17,13 +18,6 @@ const FIELD_LEN: usize = 80;
 
 /// A word or a field as it is shown.
 pub(crate) type Shown = ArrayVec<u8, FIELD_LEN>;
-
-/// Whether a byte is white space in PGN: a space, a tab or the end of a line.
-pub(crate) fn is_white_space(byte: u8) -> bool
-    ensures { result ≡ is_white_space byte }
-{
-    byte == b' ' || byte == b'\t' || byte == b'\n' || byte == b'\r'
-}
 
 // The first bytes of a text, at most so many.
 fn first_bytes(most: usize, text: &[u8]) -> &[u8]

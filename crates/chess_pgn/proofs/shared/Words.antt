@@ -1,2 +1,3 @@
--- For crates that play what was read: the words of a game's moves.
+-- For crates that play what was read: the words of a game's moves, and the step of a word.
 pub use Rattle.chess_pgn.proofs.PlayedWords.{AreRead, game_words}
+pub use Rattle.chess_pgn.proofs.StepKinds.{word_cases}

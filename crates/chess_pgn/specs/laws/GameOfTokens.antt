@@ -25,7 +25,7 @@ use Rattle.chess_pgn.specs.declared.termination.Termination.{Termination}
 use Rattle.chess_pgn.specs.declared.word_kind.WordKind.{WordKind}
 use Rattle.chess_pgn.specs.declared.word_kind.WordKind.TheVariants.{End, Number, Move}
 use Rattle.chess_pgn.specs.GameRead.{GameRead, IsRead, declared_after, tagged_variant}
-use Rattle.chess_pgn.specs.LastTags.{own_tags}
+use Rattle.chess_pgn.specs.LastTags.{tag_section}
 use Rattle.chess_pgn.specs.laws.TokenByToken.{termination_after}
 use Rattle.chess_pgn.specs.Tokens.{Token, Skip, Tag, Word, Bad_tag, Unclosed_comment, Unclosed_variation, Bad}
 use Rattle.chess_pgn.specs.Words.{word_kind}
@@ -150,7 +150,7 @@ abbrev pub word_fault : ℕ → State → List ℕ → WordKind → Option PgnFa
 word_fault limit s word Move = move_fault limit s (reading (current s) word)
 word_fault limit s word _ = None
 
--- the fault of this kind (if one is given) at this offset, else none
+-- a fault of this kind at this offset; none if there is no kind
 abbrev pub fault_at : ℕ → Option PgnFaultKind → Option PgnFault
 fault_at offset kind = option_map (λ k. record { kind = k; offset = offset }) kind
 
@@ -211,4 +211,4 @@ pub record IsOfTokens (limit total : ℕ) (v : Variant) (tokens : List (ℕ × T
 abbrev pub GamesAreOfTokens : Type 0
 GamesAreOfTokens =
     (limit : ℕ) (text : List ℕ) (at : ℕ) (r : GameRead) (read : IsRead limit text at r)
-    → IsOfTokens limit (length text) (tagged_variant (own_tags read.tokens)) read.tokens r
+    → IsOfTokens limit (length text) (tagged_variant (tag_section read.tokens)) read.tokens r

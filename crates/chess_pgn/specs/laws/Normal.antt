@@ -9,9 +9,9 @@ use Rattle.chess_fen.specs.Reading.{fen_reading}
 use Rattle.chess_fen.specs.Writing.{is_initial}
 use Rattle.chess_game.specs.Game.{from_start}
 use Rattle.chess_pgn.specs.declared.termination.Termination.{Termination}
-use Rattle.chess_pgn.specs.GameRead.{GameRead, failed, first_bad_fen, last_start, last_termination, is_tag, after_tags, pgn_read}
+use Rattle.chess_pgn.specs.GameRead.{GameRead, failed, first_bad_fen, last_start, last_termination, is_tag, read_after_tags, pgn_read}
 use Rattle.chess_pgn.specs.GameText.{fen_lines, further_lines}
-use Rattle.chess_pgn.specs.LastTags.{own_tags, tags_named, last_tag}
+use Rattle.chess_pgn.specs.LastTags.{tag_section, tags_named, last_tag}
 use Rattle.chess_pgn.specs.Terminations.{termination_text}
 use Rattle.chess_pgn.specs.Tokens.{Token, after_byte_order_mark, tokens_from}
 use Rattle.chess_pgn.specs.Written.{tag_line}
@@ -26,11 +26,11 @@ normal_further_lines start termination =
 -- chess, and without it the game begins at the initial position. `limit` is the most half-moves of a game
 abbrev pub normal_read : ℕ → ℕ → List (ℕ × Token) → GameRead
 normal_read limit total tokens =
-    let tags = own_tags tokens in
+    let tags = tag_section tokens in
     let fens = map (λ tag. (fen_reading tag.0, tag.1)) (tags_named (codes "FEN") tags) in
     let s = from_start (last_start initial_setup fens) in
     option_map_or (failed s) (first_bad_fen total fens)
-    (after_tags limit total (last_termination tags) s (list_any is_tag tags) (drop (length tags) tokens))
+    (read_after_tags limit total (last_termination tags) s (list_any is_tag tags) (drop (length tags) tokens))
 
 -- a game of normal chess is written, and a text with no tag Variant among the game's own tags is read, as if there were
 -- no Chess960
@@ -38,5 +38,5 @@ pub record NormalIsKept : Type 0 where
   pub written : (start : Setup) (termination : Termination) → start.variant ≡ Normal
       → further_lines start termination ≡ normal_further_lines start termination
   pub read : (limit : ℕ) (text : List ℕ) (at : ℕ)
-      → last_tag (codes "Variant") (own_tags (tokens_from text (after_byte_order_mark text at))) ≡ None
+      → last_tag (codes "Variant") (tag_section (tokens_from text (after_byte_order_mark text at))) ≡ None
       → pgn_read limit text at ≡ normal_read limit (length text) (tokens_from text (after_byte_order_mark text at))

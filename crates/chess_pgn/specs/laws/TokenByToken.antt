@@ -18,7 +18,7 @@ use Rattle.chess_pgn.specs.declared.word_kind.WordKind.TheVariants.{End, Number,
 use Rattle.chess_pgn.specs.declared.termination.Termination.{Termination}
 use Rattle.chess_text.specs.Moves.{reading}
 use Rattle.chess_pgn.specs.Terminations.{termination_named}
-use Rattle.chess_pgn.specs.LastTags.{own_tags}
+use Rattle.chess_pgn.specs.LastTags.{tag_section}
 use Rattle.chess_pgn.specs.Tokens.{Token, Skip, Tag, Word, Bad_tag, Unclosed_comment, Unclosed_variation, Bad}
 use Rattle.chess_pgn.specs.Words.{word_kind}
 use Rattle.chess_pgn.specs.GameRead.{GameRead, declared_after, tagged_variant}
@@ -138,4 +138,4 @@ nothing_read v =
 -- what was read from these tokens, each after how many bytes are left where it begins, in the variant that their tags
 -- name. `limit` is the most half-moves of a game, `total` the text's length
 abbrev pub tokens_read : ℕ → ℕ → List (ℕ × Token) → GameRead
-tokens_read limit total tokens = game_of limit total (nothing_read (tagged_variant (own_tags tokens))) tokens
+tokens_read limit total tokens = game_of limit total (nothing_read (tagged_variant (tag_section tokens))) tokens

@@ -8,7 +8,21 @@ use Rattle.chess_pgn.specs.Written.{tag_line}
 abbrev pub tag_lines_of : List TagPair → List (List ℕ)
 tag_lines_of pairs = map (λ p. tag_line p.name.now p.text.now) pairs
 
--- ---- tokens in lines from left to right, by how many bytes the line that is begun has so far; with 0 none is begun
+-- ---- tokens in lines, from left to right
+
+-- the line that is begun with the text `line`, and the lines after it: each token goes on the line, after a space, if
+-- that has at most 79 characters then; else it begins the next one
+abbrev pub lines_from : List ℕ → List (List ℕ) → List (List ℕ)
+lines_from line [] = line ∷ []
+lines_from line (t ∷ ts) =
+    if nat_le (length (line ++ space ∷ t)) 79 then lines_from (line ++ space ∷ t) ts else line ∷ lines_from t ts
+
+-- the lines of these tokens
+abbrev pub lines_begun : List (List ℕ) → List (List ℕ)
+lines_begun [] = []
+lines_begun (t ∷ ts) = lines_from t ts
+
+-- ---- by how many bytes the line that is begun has so far; with 0 none is begun
 
 -- the token goes on the line that is begun, which has `column` bytes so far: with a space and the token it has at most
 -- 79. False for column 0, where no line is begun

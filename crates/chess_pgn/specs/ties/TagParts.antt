@@ -1,5 +1,5 @@
 -- A tag by its parts, each with what is left after it.
-use Rattle.std.specs.Prelude.{ℕ, false, List, [], ◌∷◌, length, drop, Option, Some, None}
+use Rattle.std.specs.Prelude.{ℕ, List, [], ◌∷◌, length, drop, Option, Some, None}
 use Rattle.std.specs.List.{prefix_len, take_while}
 use Rattle.chess_base.specs.Letters.{byte}
 use Rattle.chess_pgn.specs.Tokens.{Token, Tag, Bad_tag, after_gap, after_next, string_at}
@@ -31,5 +31,5 @@ with_tag_name (n ∷ ns) rest = with_string (n ∷ ns) (after_next (byte "\"") r
 
 -- the tag of the text after a `[`, and the text after its `]`; `Bad_tag` and an empty text if this is no tag
 abbrev pub tag_by_parts : List ℕ → Token × List ℕ
-tag_by_parts text = let inner = after_gap false false text in with_tag_name (take_while is_name_byte inner)
+tag_by_parts text = let inner = after_gap text in with_tag_name (take_while is_name_byte inner)
     (drop (prefix_len is_name_byte inner) inner)

@@ -1,9 +1,10 @@
 use Rattle.std.proofs.Common.{◌≡◌, length, false}
 use Rattle.chess_pgn.specs.Tokens.{after_gap}
+use Rattle.chess_pgn.specs.ties.Gaps.{gap_left}
 use Rattle.chess_pgn.proofs.skips.after_gap.Given as goal
 
 abbrev pub invariant-loop-rest : goal.invariant-loop-rest
-invariant-loop-rest l = after_gap false l.line_begins l.rest ≡ after_gap false false l.text
+invariant-loop-rest l = gap_left false l.line_begins l.rest ≡ after_gap l.text
 
 abbrev pub decreases-loop-rest : goal.decreases-loop-rest
 decreases-loop-rest l = length l.rest
