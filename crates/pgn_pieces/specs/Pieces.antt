@@ -57,11 +57,11 @@ abbrev pub is_empty_front : List ℕ → Bool
 is_empty_front front = bytes_eq (take 1 front) (codes "%") || bytes_eq (take 1 front) (codes ";")
     || list_all is_white front
 
--- whether a line is a tag line; each line is a tag line, or empty, or a line of moves
+-- whether a line is a tag line: its front begins with `[`, a name, any spaces and tabs, and `"`
 abbrev pub is_tag_line : List ℕ → Bool
 is_tag_line line = begins_tag (front_of line)
 
--- whether it is a tag line of the tag Event
+-- whether a line is a tag line of the tag Event
 abbrev pub is_event_line : List ℕ → Bool
 is_event_line line = is_tag_line line && bytes_eq (tag_name (front_of line)) (codes "Event")
 
@@ -69,7 +69,8 @@ is_event_line line = is_tag_line line && bytes_eq (tag_name (front_of line)) (co
 abbrev pub is_empty_line : List ℕ → Bool
 is_empty_line line = is_empty_front (front_of line)
 
--- whether it is a line of moves: neither a tag line nor empty
+-- whether a line counts as one of moves: any line that is neither a tag line nor empty, so also one of a comment, or of
+-- a tag that `begins_tag` doesn't take
 abbrev pub is_moves_line : List ℕ → Bool
 is_moves_line line = not (is_tag_line line || is_empty_line line)
 
@@ -88,12 +89,14 @@ with_line line [] = (line ∷ []) ∷ []
 with_line line (last ∷ before) =
     if begins_piece last line then (line ∷ []) ∷ last ∷ before else (last ++ line ∷ []) ∷ before
 
--- the pieces of these lines; of both the last comes first
+-- the pieces of these lines, which are given from the last to the first. The last piece comes first too, but the lines
+-- in each piece are in the text's order
 abbrev pub pieces_back : List (List ℕ) → List (List (List ℕ))
 pieces_back [] = []
 pieces_back (line ∷ before) = with_line line (pieces_back before)
 
--- the pieces that a text is cut into
+-- the pieces that a text is cut into, in order, each as its bytes: a new piece begins at the first line, and at each
+-- line of which `begins_piece` says so
 abbrev pub cut : List ℕ → List (List ℕ)
 cut text = reverse (map concat (pieces_back (reverse (lines_of text))))
 

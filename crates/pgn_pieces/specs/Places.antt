@@ -18,6 +18,7 @@ last_line_len text = suffix_len (λ c. not (ends_line c)) text
 abbrev pub line_of : List ℕ → ℕ → ℕ
 line_of text offset = line_ends (take offset text) + 1
 
--- its column: one more than the number of bytes between it and the last line end before it, or the text's beginning
+-- the column of the byte at this offset of a text: one more than the number of bytes between it and the last line end
+-- before it, or the text's beginning
 abbrev pub column_of : List ℕ → ℕ → ℕ
 column_of text offset = last_line_len (take offset text) + 1
