@@ -137,7 +137,8 @@ fn fault_of_move<B: Board>(game: &Game<B>, offset: usize, word: &[u8]) -> PgnFau
     PgnFault { kind, offset }
 }
 
-// Declares the outcome at the game's end, unless the board has a verdict or the outcome is `*`.
+// Declares the outcome that ends the game's text. Nothing is declared for `*`, or where the board has a verdict: the
+// game's outcome is then the verdict's, even if the text says another (see `PgnEnd`).
 fn end_game<B: Board>(game: &mut Game<B>, outcome: Outcome)
     requires { game.old.state.declared ≡ None }
     ensures { game.new
@@ -183,8 +184,9 @@ fn apply_word<B: Board>(
     }
 }
 
-// Takes a tag, whose string begins at `offset`: a FEN sets the game's start. `progress` is what is known before the
-// tag.
+// Reads a tag into the game. A FEN sets the start, in the variant that the game has already (`begin_game` looked for
+// it); of other tags only Termination is kept. `progress` is what is known before the tag. `offset`, where its string
+// begins, is needed for the fault of a wrong FEN.
 fn apply_tag<B: Board>(
     game: &mut Game<B>,
     progress: Progress,

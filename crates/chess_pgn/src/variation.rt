@@ -10,7 +10,8 @@ use crate::skips::{after_brace, line_end};
 use crate::token::TokenFault;
 
 // The text after `byte` inside a variation, or after the `%` line or comment that it begins; `None` if that comment is
-// not closed. `rest` is the text after `byte`; `line_begins`: `byte` is the first of its line.
+// not closed. `rest` is the text after `byte`; `line_begins`: `byte` is the first of its line. The `\n` that ends a
+// skipped line is left, since it says that a line begins after it.
 fn after_part(line_begins: bool, byte: u8, rest: &[u8]) -> Option<&[u8]>
     ensures rest { option_map (λ r. r.now) result ≡ after_part line_begins byte rest.now }
     ensures shorter { IfSome result (λ r. length r.now ≤ length rest.now) }
