@@ -1,7 +1,7 @@
 -- Lines of one kind that an engine is sent, along the acts of a match.
 use native.Mathlib.Omega.{arith}
-use Rattle.std.proofs.Common.{◌≡◌, ℕ, ◌+◌, ◌-◌, ◌≤◌, ◌<◌, Bool, true, false, List, [], ◌∷◌, ◌++◌, length, length-append, refl, ap, sym, ◌∙◌, subst, append-nil, append_assoc, Option}
-use Rattle.std.specs.Prelude.{if◌then◌else◌, codes}
+use Rattle.std.proofs.Common.{◌≡◌, ℕ, ◌+◌, ◌-◌, ◌≤◌, ◌<◌, Bool, true, false, List, [], ◌∷◌, ◌++◌, length, length-append, refl, ap, sym, ◌∙◌, subst, append-nil, append_assoc}
+use Rattle.std.specs.Prelude.{if◌then◌else◌}
 use Rattle.std.specs.List.{flat_map}
 use Rattle.std.proofs.lemmas.Grind.{flat_map-append}
 use Rattle.chess_base.specs.declared.man.Colour.{Colour}
@@ -10,9 +10,9 @@ use Rattle.chess_base.specs.declared.man.Move.{Move}
 use Rattle.chess_base.specs.Men.{other, same_colour}
 use Rattle.chess_base.specs.Options.{list_if}
 use Rattle.cecp_engine.specs.EngineLines.{LineKind, line_kind}
-use Rattle.cecp_engine.specs.Items.{Item, takes}
+use Rattle.cecp_engine.specs.Items.{Item}
 use Rattle.chess_match.specs.Acts.{Act, Block, IsMatch, IsMatchFrom, awaits_line, is_over, block_of, blocks_from, blocks_after}
-use Rattle.chess_match.specs.Effects.{Match, Phase, Handshake, Setup, Opening, BeforeMove, AfterMove, Over, Effect, beginning, begins_turn, effect, ends, enter, handshake_lines, line_row, moved}
+use Rattle.chess_match.specs.Effects.{Match, Handshake, Setup, Opening, BeforeMove, AfterMove, Effect, beginning, begins_turn, effect, ends, enter, handshake_lines, line_row, moved}
 use Rattle.chess_match.specs.Events.{Line}
 use Rattle.chess_match.specs.Lines.{SentLine, Says, MoveSent, Time, Otim, answers_to, setup_lines}
 use Rattle.chess_match.specs.Rules.{Rules}
@@ -64,13 +64,15 @@ due_one S O (l ∷ x) = append-nil (list_if (same_colour S O) (l ∷ x))
 
 due-append : (O : Colour) (due more : List Block) → lines_due O (due ++ more) ≡ lines_due O due ++ lines_due O more
 due-append O [] more = refl
-due-append O (b ∷ due) more = ap (λ (l : List SentLine). list_if (same_colour b.to O) b.lines ++ l) (due-append O due more)
+due-append O (b ∷ due) more = ap (λ (l : List SentLine). list_if (same_colour b.to O) b.lines ++ l)
+    (due-append O due more)
     ∙ sym (append_assoc (list_if (same_colour b.to O) b.lines) (lines_due O due) (lines_due O more))
 
 both_due : (first O : Colour) (to : Colour → List SentLine) → lines_due O (blocks_from first to) ≡ to O
 both_due first O to =
     due-append O (block_of first (to first)) (block_of (other first) (to (other first)))
-    ∙ ap (λ (l : List SentLine). l ++ lines_due O (block_of (other first) (to (other first)))) (due_one first O (to first))
+    ∙ ap (λ (l : List SentLine). l ++ lines_due O (block_of (other first) (to (other first))))
+    (due_one first O (to first))
     ∙ ap (λ (l : List SentLine). list_if (same_colour first O) (to first) ++ l)
     (due_one (other first) O (to (other first)))
     ∙ at first O
@@ -178,44 +180,49 @@ module _ {A : Type 0} (f : SentLine → List A) (says : (text : List ℕ) → f 
   after_answers b items ls h = answered b items ls ∙ quiet ls h
 
   -- what a line does
-  line : (S : Colour) (kind : LineKind) (moment : ℕ) (m : Match) (rest : List A) → awaits_line m.phase S ≡ true → Kept r m
+  line : (S : Colour) (kind : LineKind) (moment : ℕ) (m : Match) (rest : List A) → awaits_line m.phase S ≡ true
+      → Kept r m
       → length rest ≤ 1 → Rest m rest
       → Goes all Rest m rest (flat_map f ((line_row r m.phase kind moment m).to O))
       (line_row r m.phase kind moment m).after
   line S kind moment m rest aw kept l h =
       line_cases r S kind moment m (λ e. Goes all Rest m rest (flat_map f (e.to O)) e.after) aw (record {
-    handshake_stops = λ p reason c w. instead m _ rest _ _ (answered (same_colour S O) _ _)
-        (then_on m n _ rest _ (said p) (λ rest' l' h'. then_on n (record n { count = c }) _ rest' _
-        (keeps all Rest n (record n { count = c }) rest' l' (k.counts n c rest' h'))
-        (λ rest'' l'' h''. k.stops (record n { count = c }) reason rest'' (on_when_read m.phase S aw) l'' h'')));
-    handshake_counts = λ p d few. instead m _ rest [] _ (after_answers (same_colour S O) _ [] refl)
-        (then_on m n _ rest [] (said p) (λ rest' l' h'. keeps all Rest n (record n { count = m.count + 1 }) rest' l'
-        (k.counts n (m.count + 1) rest' h')));
-    handshake_next = λ p s d. instead m _ rest [] _ (after_answers (same_colour S O) _ (list_if (same_colour Black O)
-        handshake_lines) (if_says (same_colour Black O) handshake_lines refl))
-        (then_on m n _ rest [] (said p) (λ rest' l' h'. keeps all Rest n (enter (Handshake Black) n) rest' l'
-        (let e = k.enters n S Black rest' p h' in (e.0, e.1))));
-    handshake_last = λ p s d. instead m _ rest [] _ (after_answers (same_colour S O) _ (list_if (same_colour White O)
-        (setup_lines r)) (if_says (same_colour White O) (setup_lines r) (setup_says r)))
-        (then_on m n _ rest [] (said p) (λ rest' l' h'. keeps all Rest n (enter (Setup White) n) rest' l'
-        (let e = k.enters n S White rest' p h' in (e.2, e.3))));
-    setup_counts = λ p pong few. counted;
-    setup_next = λ p s pong. instead m _ rest [] _ (quiet (list_if (same_colour Black O) (setup_lines r))
-        (if_says (same_colour Black O) (setup_lines r) (setup_says r)))
-        (keeps all Rest m (enter (Setup Black) m) rest l (k.sets_up m S Black rest p h));
-    setup_last = λ p s pong v. k.begins m S rest p l kept h;
-    setup_decides = λ p v e. k.stops m (Decided v) rest (on_when_read m.phase S aw) l h;
-    stops = λ g reason w. k.stops m reason rest (on_when_read m.phase S aw) l h;
-    counts = λ on none few. counted;
-    offers = λ on none own. instead m _ rest [] _ (quiet ((offering S m).to O) (draw_says S O m))
-        (keeps all Rest m (offering S m).after rest l (k.offers m S rest h));
-    plays = λ text move opened is p read room timely verdict. instead m _ rest [] _ (quiet _ (if_says (same_colour S O) _ refl))
-        (k.plays m S move opened (moment - opened) rest p l kept h);
-    decides = λ text move opened v is p read room timely verdict. then_on m (moved S move (moment - opened) m) _ rest _
-        (k.plays m S move opened (moment - opened) rest p l kept h)
-        (λ rest' l' h'. k.stops (moved S move (moment - opened) m) _ rest' refl l' h');
-    passes = λ p none. k.passes m S rest p l kept h;
-  })
+        handshake_stops = λ p reason c w. instead m _ rest _ _ (answered (same_colour S O) _ _)
+            (then_on m n _ rest _ (said p) (λ rest' l' h'. then_on n (record n { count = c }) _ rest' _
+            (keeps all Rest n (record n { count = c }) rest' l' (k.counts n c rest' h'))
+            (λ rest'' l'' h''. k.stops (record n { count = c }) reason rest'' (on_when_read m.phase S aw) l'' h'')));
+        handshake_counts = λ p d few. instead m _ rest [] _ (after_answers (same_colour S O) _ [] refl)
+            (then_on m n _ rest [] (said p) (λ rest' l' h'. keeps all Rest n (record n { count = m.count + 1 }) rest' l'
+            (k.counts n (m.count + 1) rest' h')));
+        handshake_next = λ p s d. instead m _ rest [] _
+            (after_answers (same_colour S O) _ (list_if (same_colour Black O)
+            handshake_lines) (if_says (same_colour Black O) handshake_lines refl))
+            (then_on m n _ rest [] (said p) (λ rest' l' h'. keeps all Rest n (enter (Handshake Black) n) rest' l'
+            (let e = k.enters n S Black rest' p h' in (e.0, e.1))));
+        handshake_last = λ p s d. instead m _ rest [] _
+            (after_answers (same_colour S O) _ (list_if (same_colour White O)
+            (setup_lines r)) (if_says (same_colour White O) (setup_lines r) (setup_says r)))
+            (then_on m n _ rest [] (said p) (λ rest' l' h'. keeps all Rest n (enter (Setup White) n) rest' l'
+            (let e = k.enters n S White rest' p h' in (e.2, e.3))));
+        setup_counts = λ p pong few. counted;
+        setup_next = λ p s pong. instead m _ rest [] _ (quiet (list_if (same_colour Black O) (setup_lines r))
+            (if_says (same_colour Black O) (setup_lines r) (setup_says r)))
+            (keeps all Rest m (enter (Setup Black) m) rest l (k.sets_up m S Black rest p h));
+        setup_last = λ p s pong v. k.begins m S rest p l kept h;
+        setup_decides = λ p v e. k.stops m (Decided v) rest (on_when_read m.phase S aw) l h;
+        stops = λ g reason w. k.stops m reason rest (on_when_read m.phase S aw) l h;
+        counts = λ on none few. counted;
+        offers = λ on none own. instead m _ rest [] _ (quiet ((offering S m).to O) (draw_says S O m))
+            (keeps all Rest m (offering S m).after rest l (k.offers m S rest h));
+        plays = λ text move opened is p read room timely verdict. instead m _ rest [] _
+            (quiet _ (if_says (same_colour S O) _ refl))
+            (k.plays m S move opened (moment - opened) rest p l kept h);
+        decides = λ text move opened v is p read room timely verdict. then_on m (moved S move (moment - opened) m) _
+            rest _
+            (k.plays m S move opened (moment - opened) rest p l kept h)
+            (λ rest' l' h'. k.stops (moved S move (moment - opened) m) _ rest' refl l' h');
+        passes = λ p none. k.passes m S rest p l kept h;
+      })
     where
       n : Match
       n = said_by S kind m
@@ -306,7 +313,8 @@ module _ {A : Type 0} (f : SentLine → List A) (says : (text : List ℕ) → f 
   Sofar X Y m = (rest : List A) × (length (Y ++ rest) ≤ 1) × (X ++ (Y ++ rest) ≡ all m) × Rest m rest
 
   -- after a step
-  stepped : (X Z : List A) (m m' : Match) → ((rest : List A) → length rest ≤ 1 → Rest m rest → Goes all Rest m rest Z m')
+  stepped : (X Z : List A) (m m' : Match) → ((rest : List A) → length rest ≤ 1 → Rest m rest → Goes all Rest m rest Z
+      m')
       → Sofar X [] m → Sofar X Z m'
   stepped X Z m m' step (rest, l, e, h) =
       let (more, rest', e', q, l', h') = step rest l h in (
@@ -348,25 +356,27 @@ module _ {A : Type 0} (f : SentLine → List A) (says : (text : List ℕ) → f 
   given_at C H K final rest g e start =
       by_points r (λ m due H n. (X : List A) → (is_over m.phase ≡ false → First due)
       → Sofar X (flat_map f (lines_due O due)) m → C n (X ++ flat_map f (lines_given O H))) (record {
-    sends = λ m n b due H p X one s. given_more (C n) X (list_if (same_colour b.to O) b.lines) (lines_given O H)
-        (p _ (λ on. first_more due (one on)) (sent m b due X s));
-    fails = λ m n b due H on q only same p X one s.
-        given_more (C n) X (list_if (same_colour b.to O) b.lines) (lines_given O H)
-        (p _ (λ o. absurd cc) (over m _ White on _ (subst
-        (λ xs. Sofar (X ++ flat_map f (list_if (same_colour b.to O) b.lines)) xs m) (one on) (sent m b due X s))));
-    fails_late = λ m n b due H o only same p X one s.
-        given_more (C n) X (list_if (same_colour b.to O) b.lines) (lines_given O H)
-        (p _ (λ on. both_not (is_over m.phase) on o) (sent m b due X s));
-    reads = λ m n S t x H aw q stays p X one s. p X
-        (λ on. first_after S (effect r m (Line S t x)) on (apart S (line_kind t) x m aw))
-        (dues (if is_over (effect r m (Line S t x)).after.phase then White else S) (effect r m (Line S t x)) X
-        (stepped X _ m _ (λ rest l h. line S (line_kind t) x m rest aw q l h) s));
-    opens = λ m n S x H o q p X one s. p X (λ on. tt)
-        (stepped X [] m _ (λ rest l h. keeps all Rest m _ rest l (k.opened m S x rest o h)) s);
-    output_ends = λ m n S H aw q only same p X one s. p X (λ o. absurd cc) (over m _ White (on_when_read m.phase S aw) X s);
-    read_fails = λ m n S H aw q only same p X one s. p X (λ o. absurd cc)
-        (over m _ White (on_when_read m.phase S aw) X s);
-  }) H K final (λ m due q g X one s. subst (C m) (sym (append-nil X)) (rest m due g X s)) g e [] (λ on. first_begun O)
+        sends = λ m n b due H p X one s. given_more (C n) X (list_if (same_colour b.to O) b.lines) (lines_given O H)
+            (p _ (λ on. first_more due (one on)) (sent m b due X s));
+        fails = λ m n b due H on q only same p X one s.
+            given_more (C n) X (list_if (same_colour b.to O) b.lines) (lines_given O H)
+            (p _ (λ o. absurd cc) (over m _ White on _ (subst
+            (λ xs. Sofar (X ++ flat_map f (list_if (same_colour b.to O) b.lines)) xs m) (one on) (sent m b due X s))));
+        fails_late = λ m n b due H o only same p X one s.
+            given_more (C n) X (list_if (same_colour b.to O) b.lines) (lines_given O H)
+            (p _ (λ on. both_not (is_over m.phase) on o) (sent m b due X s));
+        reads = λ m n S t x H aw q stays p X one s. p X
+            (λ on. first_after S (effect r m (Line S t x)) on (apart S (line_kind t) x m aw))
+            (dues (if is_over (effect r m (Line S t x)).after.phase then White else S) (effect r m (Line S t x)) X
+            (stepped X _ m _ (λ rest l h. line S (line_kind t) x m rest aw q l h) s));
+        opens = λ m n S x H o q p X one s. p X (λ on. tt)
+            (stepped X [] m _ (λ rest l h. keeps all Rest m _ rest l (k.opened m S x rest o h)) s);
+        output_ends = λ m n S H aw q only same p X one s. p X (λ o. absurd cc)
+            (over m _ White (on_when_read m.phase S aw) X s);
+        read_fails = λ m n S H aw q only same p X one s. p X (λ o. absurd cc)
+            (over m _ White (on_when_read m.phase S aw) X s);
+      }) H K final (λ m due q g X one s. subst (C m) (sym (append-nil X)) (rest m due g X s)) g e []
+      (λ on. first_begun O)
       (dues White beginning [] start)
     where
       sent : (m : Match) (b : Block) (due : List Block) (X : List A) → Sofar X (flat_map f (lines_due O (b ∷ due))) m

@@ -1,10 +1,9 @@
 -- Whose line ended a match.
-use native.Mathlib.Omega.{arith}
-use Rattle.std.proofs.Common.{◌≡◌, ◌+◌, ◌-◌, ℕ, Bool, true, false, List, [], ◌∷◌, ◌++◌, refl, ap, sym, ◌∙◌, subst, Option, None, Some}
+use Rattle.std.proofs.Common.{◌≡◌, ℕ, Bool, true, false, List, [], ◌∷◌, ◌++◌, refl, ap, sym, ◌∙◌, Option, None, Some}
 use Rattle.chess_base.specs.declared.man.Colour.{Colour}
 use Rattle.cecp_engine.specs.EngineLines.{LineKind, line_kind}
-use Rattle.chess_match.specs.Acts.{Act, Block, IsMatchFrom, Reads, ReadsClock, ReadsEnd, ReadFails, Sends, SendFails, awaits_line, is_over}
-use Rattle.chess_match.specs.Effects.{Match, Phase, Over, effect, ends, line_row}
+use Rattle.chess_match.specs.Acts.{Act, Block, IsMatchFrom, Reads, ReadsClock, Sends, awaits_line, is_over}
+use Rattle.chess_match.specs.Effects.{Match, Phase, Over, effect, line_row}
 use Rattle.chess_match.specs.Events.{Line}
 use Rattle.chess_match.specs.Rules.{Rules}
 use Rattle.chess_match.specs.declared.reason.MatchFault.{MatchFault}

@@ -14,7 +14,7 @@ use Rattle.chess_game.specs.declared.verdicts.Verdict.{Verdict}
 use Rattle.cecp_engine.specs.EngineLines.{LineKind, Features, Moves, Resigns, OffersDraw, ClaimsDraw, ClaimsWin, Rejects, Answers, SaysElse}
 use Rattle.cecp_engine.specs.Items.{Item, has_done, plays_fischerandom, takes}
 use Rattle.chess_match.specs.Acts.{awaits_line}
-use Rattle.chess_match.specs.Effects.{Match, Phase, Handshake, Setup, Opening, BeforeMove, AfterMove, Over, Effect, after_move, before_move, begins_turn, clock, ends, enter, flag_row, handshake_done, handshake_lines, handshake_row, ignores, items_said, judged, line_row, missing, move_row, moved, offer_row, ping_number, sends_nothing, sends_to, setup_done, setup_row, turn_row, unless_decided, was_sent_move, with_answers, with_seat}
+use Rattle.chess_match.specs.Effects.{Match, Phase, Handshake, Setup, Opening, BeforeMove, AfterMove, Over, Effect, after_move, before_move, begins_turn, clock, ends, enter, flag_row, handshake_done, handshake_lines, handshake_row, ignores, items_said, judged, line_row, missing, move_row, moved, offer_row, ping_number, sends_nothing, sends_to, setup_done, setup_row, turn_row, was_sent_move, with_answers, with_seat}
 use Rattle.chess_match.specs.Lines.{Says, ping, setup_lines}
 use Rattle.chess_match.specs.Reasons.{is_unwritten}
 use Rattle.chess_match.specs.Rules.{Rules, is_fischerandom}
@@ -128,13 +128,15 @@ setup_by_pong r S kind m = grind arith
 module _ (r : Rules) (S : Colour) (kind : LineKind) (moment : ℕ) (m : Match) (Q : Effect → Type 0)
     (l : LineCases r S kind moment m Q) where
   ignored : handshakes_done m.phase ≡ true → (m.count + 1 < 10000 → Q (counting m)) → Q (ignores r S m)
-  ignored done more = by_test Q (nat_le 10000 (m.count + 1)) (λ h. l.stops done (Faulted S Flood) ((λ O. refl), (λ c e. cc), refl))
+  ignored done more = by_test Q (nat_le 10000 (m.count + 1))
+      (λ h. l.stops done (Faulted S Flood) ((λ O. refl), (λ c e. cc), refl))
       (λ h. more (leb-false 10000 (m.count + 1) h))
 
   -- a line of a turn that is no move
   module _ (on : in_turn m.phase ≡ true) (none : move_said kind ≡ []) where
     offered : Q (offer_row r S m)
-    offered = by_test Q (m.seat (other S)).offers (λ h. l.stops (turn_done m.phase on) Agreed ((λ O. refl), (λ c e. cc), refl))
+    offered = by_test Q (m.seat (other S)).offers (λ h. l.stops (turn_done m.phase on) Agreed
+        ((λ O. refl), (λ c e. cc), refl))
         (λ h. by_test Q (m.seat S).offers (λ h. ignored (turn_done m.phase on) (l.counts on none)) (l.offers on none))
 
     turn : (k : LineKind) → Q (turn_row r S k m)
@@ -150,7 +152,8 @@ module _ (r : Rules) (S : Colour) (kind : LineKind) (moment : ℕ) (m : Match) (
         at : (b : Bool) → Q (ends r (if b then ClaimsFalsely S else over_by.Resigns S) m)
         at true = l.stops (turn_done m.phase on) (ClaimsFalsely S) ((λ O. refl), (λ c e. cc), refl)
         at false = l.stops (turn_done m.phase on) (over_by.Resigns S) ((λ O. refl), (λ c e. cc), refl)
-    turn Rejects = by_test Q (was_sent_move m S) (λ h. l.stops (turn_done m.phase on) (RejectsLegalMove S) ((λ O. refl), (λ c e. cc), refl))
+    turn Rejects = by_test Q (was_sent_move m S) (λ h. l.stops (turn_done m.phase on) (RejectsLegalMove S)
+        ((λ O. refl), (λ c e. cc), refl))
         (λ h. ignored (turn_done m.phase on) (l.counts on none))
     turn (Features t) = ignored (turn_done m.phase on) (l.counts on none)
     turn (Moves t) = ignored (turn_done m.phase on) (l.counts on none)
@@ -174,7 +177,8 @@ module _ (r : Rules) (S : Colour) (kind : LineKind) (moment : ℕ) (m : Match) (
         at (Some v) h = l.decides text move opened v is p e room timely h
 
     before : (k : LineKind) → kind ≡ k → Q (before_move r S (moment - opened) k m)
-    before (Moves text) e = by_test Q (nat_le r.limit (length m.played)) (λ h. l.stops (ap handshakes_done p) GameTooLong ((λ O. refl), (λ c e. cc), refl))
+    before (Moves text) e = by_test Q (nat_le r.limit (length m.played))
+        (λ h. l.stops (ap handshakes_done p) GameTooLong ((λ O. refl), (λ c e. cc), refl))
         (λ h. a_move text (r.reading m.played text) e refl (leb-false r.limit (length m.played) h))
     before (Features t) e = turn (ap in_turn p) (said_none (Features t) e refl) (Features t)
     before Resigns e = turn (ap in_turn p) (said_none Resigns e refl) Resigns
@@ -255,7 +259,8 @@ line_cases r S kind moment m Q aw l = at m.phase refl aw
         (setup r S kind moment m Q l (here m.phase c Setup e h))
     at (BeforeMove c opened) e h = subst (λ (x : Colour). Q (line_row r (BeforeMove x opened) kind moment m))
         (sym (same_colour-true c S h))
-        (by_test Q (nat_lt (clock r m S) (moment - opened)) (λ late. flagged r S kind moment m Q l (ap handshakes_done e))
+        (by_test Q (nat_lt (clock r m S) (moment - opened))
+        (λ late. flagged r S kind moment m Q l (ap handshakes_done e))
         (λ timely. before r S kind moment m Q l opened (here m.phase c (λ x. BeforeMove x opened) e h)
         (ltb-false (clock r m S) (moment - opened) timely) kind refl))
     at (AfterMove c) e h = subst (λ (x : Colour). Q (after_move r x kind m)) (sym (same_colour-true c S h))

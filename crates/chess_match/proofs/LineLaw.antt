@@ -5,12 +5,10 @@ use Rattle.chess_base.specs.declared.man.Colour.TheVariants.{White, Black}
 use Rattle.chess_base.specs.Men.{same_colour}
 use Rattle.chess_base.specs.Options.{list_if}
 use Rattle.cecp_engine.specs.EngineLines.{LineKind, line_kind}
-use Rattle.chess_match.specs.Acts.{Act, Block, awaits_line}
+use Rattle.chess_match.specs.Acts.{Act, awaits_line}
 use Rattle.chess_match.specs.ByDevice.{lines_read}
-use Rattle.chess_match.specs.Effects.{Match, Phase, Handshake, Setup, Opening, BeforeMove, AfterMove, Over, ends, line_row}
+use Rattle.chess_match.specs.Effects.{Match, Phase, Handshake, Setup, Opening, BeforeMove, AfterMove, Over, line_row}
 use Rattle.chess_match.specs.Rules.{Rules}
-use Rattle.chess_match.specs.declared.reason.Reason.{Reason}
-use Rattle.chess_match.specs.declared.reason.Reason.TheVariants.{Agreed}
 use Rattle.chess_match.specs.laws.OfActs.{AtEachMoment, LinesAreFew}
 use Rattle.chess_match.proofs.LineCases.{line_cases}
 use Rattle.chess_match.proofs.Points.{by_points}
@@ -77,7 +75,8 @@ opened r k S moment m h1 = grind arith
 
 more_lines : (S : Colour) (t : Option (List ℕ)) (xs ys : List (Option (List ℕ))) (k n : ℕ)
     → k + 1 + length xs + length ys ≤ n
-    → k + length (list_if (same_colour S White) (t ∷ []) ++ xs) + length (list_if (same_colour S Black) (t ∷ []) ++ ys) ≤ n
+    → k + length (list_if (same_colour S White) (t ∷ []) ++ xs) + length (list_if (same_colour S Black) (t ∷ []) ++ ys)
+    ≤ n
 more_lines White t xs ys k n h = omega (arith, h)
 more_lines Black t xs ys k n h = omega (arith, h)
 

@@ -108,41 +108,14 @@ module _ (r : Rules) (P : Match → List Block → List Act → Match → Type 0
 
 -- ---- a whole match
 
--- what holds of a match and what is due follows from what holds after each kind of act
-pub record Cases (r : Rules) (final : Match) (P : Match → List Block → List Act → Type 0) : Type 0 where
-  pub sends : (m : Match) (b : Block) (due : List Block) (H : List Act) → P m due H → P m (b ∷ due) (Sends b ∷ H)
-  pub fails : (m : Match) (b : Block) (due : List Block) (H : List Act) → is_over m.phase ≡ false
-      → P (effect r m (FailsToWrite b.to)).after (blocks_from White (effect r m (FailsToWrite b.to)).to) H
-      → P m (b ∷ due) (SendFails b ∷ H)
-  pub fails_late : (m : Match) (b : Block) (due : List Block) (H : List Act) → is_over m.phase ≡ true → P m due H
-      → P m (b ∷ due) (SendFails b ∷ H)
-  pub reads : (m : Match) (S : Colour) (t : Option (List ℕ)) (n : ℕ) (H : List Act) → awaits_line m.phase S ≡ true
-      → P (effect r m (Line S t n)).after (blocks_after S (effect r m (Line S t n))) H
-      → P m [] (Reads S t ∷ ReadsClock S n ∷ H)
-  pub opens : (m : Match) (S : Colour) (n : ℕ) (H : List Act) → m.phase ≡ Opening S
-      → P (effect r m (Opened S n)).after [] H → P m [] (ReadsClock S n ∷ H)
-  pub ends : (m : Match) (S : Colour) (H : List Act) → awaits_line m.phase S ≡ true
-      → P (effect r m (OutputEnds S)).after (blocks_from White (effect r m (OutputEnds S)).to) H
-      → P m [] (ReadsEnd S ∷ H)
-  pub read_fails : (m : Match) (S : Colour) (H : List Act) → awaits_line m.phase S ≡ true
-      → P (effect r m (FailsToRead S)).after (blocks_from White (effect r m (FailsToRead S)).to) H
-      → P m [] (ReadFails S ∷ H)
-  pub over : is_over final.phase ≡ true → P final [] []
-
-pub by_cases : (r : Rules) (final : Match) (P : Match → List Block → List Act → Type 0) → Cases r final P → (m : Match)
-    (due : List Block) (H : List Act) → IsMatchFrom r m due H final → P m due H
-by_cases r final P k m due H g = by_acts r (λ m due H n. P m due H) (record {
-  sends = λ m n. k.sends m;
-  fails = λ m n. k.fails m;
-  fails_late = λ m n. k.fails_late m;
-  reads = λ m n. k.reads m;
-  opens = λ m n. k.opens m;
-  ends = λ m n. k.ends m;
-  read_fails = λ m n. k.read_fails m;
-}) [] final at m due H (subst (λ (K : List Act). IsMatchFrom r m due K final) (sym (append-nil H)) g) (λ cut. absurd cc)
+pub by_cases : (r : Rules) (final : Match) (P : Match → List Block → List Act → Type 0)
+    → Acts r (λ m due H end. P m due H) → (is_over final.phase ≡ true → P final [] []) → (m : Match) (due : List Block)
+    (H : List Act) → IsMatchFrom r m due H final → P m due H
+by_cases r final P k over m due H g = by_acts r (λ m due H end. P m due H) k [] final at m due H
+    (subst (λ (K : List Act). IsMatchFrom r m due K final) (sym (append-nil H)) g) (λ cut. absurd cc)
   where
     at : (m : Match) (due : List Block) → IsMatchFrom r m due [] final → P m due []
-    at m [] (o, e) = subst (λ (x : Match). P x [] []) e (k.over (ap (λ (x : Match). is_over x.phase) e ∙ o))
+    at m [] (o, e) = subst (λ (x : Match). P x [] []) e (over (ap (λ (x : Match). is_over x.phase) e ∙ o))
     at m (b ∷ due) g = absurd g
 
 -- ---- nothing is read after an end
@@ -180,15 +153,14 @@ Reading m due H = (is_over m.phase ≡ true → unread H ≡ true) × (reads_end
 reading : (r : Rules) (m final : Match) (due : List Block) (H : List Act) → IsMatchFrom r m due H final
     → Reading m due H
 reading r m final due H g = by_cases r final Reading (record {
-  sends = λ m b due H p. p;
-  fails = λ m b due H on p. (λ h. both_not (is_over m.phase) on h, p.1);
-  fails_late = λ m b due H over p. p;
-  reads = λ m S t n H aw p. (λ h. both_not (is_over m.phase) (on_when_read m.phase S aw) h, p.1);
-  opens = λ m S n H o p. (λ h. both_not (is_over m.phase) (ap is_over o) h, p.1);
-  ends = λ m S H aw p. (λ h. both_not (is_over m.phase) (on_when_read m.phase S aw) h, p.0 refl);
-  read_fails = λ m S H aw p. (λ h. both_not (is_over m.phase) (on_when_read m.phase S aw) h, p.0 refl);
-  over = λ o. (λ h. refl, refl);
-}) m due H g
+  sends = λ m end b due H p. p;
+  fails = λ m end b due H on p. (λ h. both_not (is_over m.phase) on h, p.1);
+  fails_late = λ m end b due H over p. p;
+  reads = λ m end S t n H aw p. (λ h. both_not (is_over m.phase) (on_when_read m.phase S aw) h, p.1);
+  opens = λ m end S n H o p. (λ h. both_not (is_over m.phase) (ap is_over o) h, p.1);
+  ends = λ m end S H aw p. (λ h. both_not (is_over m.phase) (on_when_read m.phase S aw) h, p.0 refl);
+  read_fails = λ m end S H aw p. (λ h. both_not (is_over m.phase) (on_when_read m.phase S aw) h, p.0 refl);
+}) (λ o. (λ h. refl, refl)) m due H g
 
 pub reading_ends : (r : Rules) (m final : Match) (due : List Block) (H : List Act) → IsMatchFrom r m due H final
     → reads_end H ≡ true
@@ -273,36 +245,35 @@ failed_none r m c S h1 = grind arith
 pub sending_ends : (r : Rules) (m final : Match) (due : List Block) (H : List Act) (S : Colour)
     → IsMatchFrom r m due H final → few_for S due ≡ true → sends_end S H ≡ true
 sending_ends r m final due H S g = (by_cases r final (Sending S) (record {
-  sends = λ m b due H p. (
+  sends = λ m end b due H p. (
     λ o n. unsent_more (same_colour b.to S) (none_for S due) (unsent_in S H) n (p.0 o),
     λ f. p.1 (few_less (same_colour b.to S) (none_for S due) (few_for S due) f (none_few S due)),
   );
-  fails = λ m b due H on p. (
+  fails = λ m end b due H on p. (
     λ o. both_not (is_over m.phase) on o,
     λ f. chosen_by (same_colour b.to S) (unsent_in S H) (sends_end S H)
         (λ h. p.0 refl (failed_none r m b.to S h)) (p.1 (few_due S White (effect r m (FailsToWrite b.to)).to)),
   );
-  fails_late = λ m b due H over p. (
+  fails_late = λ m end b due H over p. (
     λ o n. unsent_more (same_colour b.to S) (none_for S due) (unsent_in S H) n (p.0 o),
     λ f. ends_more (same_colour b.to S) (none_for S due) (few_for S due) (unsent_in S H) (sends_end S H) f (p.0 over)
         p.1,
   );
-  reads = λ m c t n H aw p. (
+  reads = λ m end c t n H aw p. (
     λ o. both_not (is_over m.phase) (on_when_read m.phase c aw) o,
     λ f. p.1 (few_due S (if is_over (effect r m (Line c t n)).after.phase then White else c)
         (effect r m (Line c t n)).to),
   );
-  opens = λ m c n H opening p. (λ o. both_not (is_over m.phase) (ap is_over opening) o, λ f. p.1 refl);
-  ends = λ m c H aw p. (
+  opens = λ m end c n H opening p. (λ o. both_not (is_over m.phase) (ap is_over opening) o, λ f. p.1 refl);
+  ends = λ m end c H aw p. (
     λ o. both_not (is_over m.phase) (on_when_read m.phase c aw) o,
     λ f. p.1 (few_due S White (effect r m (OutputEnds c)).to),
   );
-  read_fails = λ m c H aw p. (
+  read_fails = λ m end c H aw p. (
     λ o. both_not (is_over m.phase) (on_when_read m.phase c aw) o,
     λ f. p.1 (few_due S White (effect r m (FailsToRead c)).to),
   );
-  over = λ o. (λ h n. refl, λ f. refl);
-}) m due H g).1
+}) (λ o. (λ h n. refl, λ f. refl)) m due H g).1
 
 -- of a whole match
 pub all_reads_end : (r : Rules) (H : List Act) (final : Match) → IsMatch r H final → reads_end H ≡ true

@@ -1,32 +1,29 @@
 -- An engine is sent the other's moves, each once and in order.
-use Rattle.std.proofs.Common.{◌≡◌, ℕ, ◌+◌, ◌≤◌, ◌<◌, Bool, true, false, List, [], ◌∷◌, ◌++◌, length, length-append, refl, ap, sym, subst, ◌∙◌, append-nil, append_assoc, lt-ltb, Option, arith}
+use Rattle.std.proofs.Common.{◌≡◌, ℕ, ◌+◌, ◌≤◌, Bool, true, false, List, [], ◌∷◌, ◌++◌, length, length-append, refl, ap, sym, subst, ◌∙◌, append-nil, append_assoc, lt-ltb, Option, arith}
 use Rattle.std.specs.Prelude.{if◌then◌else◌, nat_lt, codes}
-use Rattle.std.specs.List.{flat_map}
 use Rattle.std.proofs.lemmas.Grind.{flat_map-append}
 use Rattle.chess_base.specs.declared.man.Colour.{Colour}
 use Rattle.chess_base.specs.declared.man.Colour.TheVariants.{White, Black}
 use Rattle.chess_base.specs.declared.man.Move.{Move}
 use Rattle.chess_base.specs.Men.{other, same_colour}
 use Rattle.chess_base.specs.Options.{list_if}
-use Rattle.chess_base.proofs.shared.Men.{same_colour-self, same_colour-true}
+use Rattle.chess_base.proofs.shared.Men.{same_colour-true}
 use Rattle.cecp_engine.specs.EngineLines.{line_kind}
 use Rattle.cecp_engine.specs.Items.{takes}
 use Rattle.chess_match.specs.Acts.{Act, Block, IsMatch, IsMatchFrom, Sends, SendFails, Reads, ReadsEnd, ReadFails, ReadsClock, awaits_line, is_over}
 use Rattle.chess_match.specs.ByDevice.{broken_blocks, is_broken, lines_sent}
-use Rattle.chess_match.specs.Effects.{Match, Phase, Handshake, Setup, Opening, BeforeMove, AfterMove, Over, begins_turn, beginning, effect, ends, enter, is_owed, line_row, moved, opening}
+use Rattle.chess_match.specs.Effects.{Match, Phase, Handshake, Setup, Opening, BeforeMove, AfterMove, Over, begins_turn, beginning, effect, ends, enter, is_owed, moved, opening}
 use Rattle.chess_match.specs.Events.{Line}
 use Rattle.chess_match.specs.Lines.{SentLine}
 use Rattle.chess_match.specs.Reasons.{is_unwritten}
 use Rattle.chess_match.specs.Rules.{Rules}
-use Rattle.chess_match.specs.declared.reason.MatchFault.TheVariants.{Write}
 use Rattle.chess_match.specs.declared.reason.Reason.{Reason}
-use Rattle.chess_match.specs.declared.reason.Reason.TheVariants.{Faulted}
 use Rattle.chess_match.specs.laws.Laws.{move_sent, moves_sent, texts_from}
 use Rattle.chess_match.specs.laws.OfActs.{AllMovesAreSent, AtEachLine, AtEachMoment, InEachMatch, IsSentAllMoves, MovesAreSent, MovesSentAreKnown, lines_given, match_after, others_moves}
-use Rattle.chess_match.proofs.Givings.{Gives, Goes, Sofar, given_at, grows, keeps, sends}
-use Rattle.chess_match.proofs.LineCases.{line_cases, offering, said_by}
+use Rattle.chess_match.proofs.Givings.{Gives, Goes, given_at, grows, sends}
+use Rattle.chess_match.proofs.LineCases.{line_cases}
 use Rattle.chess_match.proofs.MatchCases.{Uncut, both_not, on_when_read}
-use Rattle.chess_match.proofs.Points.{Kept, by_points, whole, mover, moved_items, offered_items, turn_in, turns_of}
+use Rattle.chess_match.proofs.Points.{by_points, whole, mover, moved_items, offered_items, turn_in, turns_of}
 
 -- ---- texts of moves
 
@@ -101,7 +98,8 @@ stops r O m reason rest on l h =
 
     at : (b : Bool) → is_unwritten reason O ≡ b
         → Goes (all_texts r O) (Owed r O) m rest (if b then [] else rest) (ends r reason m).after
-    at true e = sends (all_texts r O) (Owed r O) m n rest [] rest l refl refl (λ w. both_not (is_unwritten reason O) w e)
+    at true e = sends (all_texts r O) (Owed r O) m n rest [] rest l refl refl (λ w. both_not (is_unwritten reason O) w
+        e)
     at false e = sends (all_texts r O) (Owed r O) m n rest rest [] l (sym (append-nil rest)) refl (λ w. refl)
 
 -- a turn begins
@@ -168,7 +166,8 @@ sent_at : (r : Rules) (O : Colour) (C : Match → List (List ℕ) → Type 0) (H
     → length (Y ++ rest) ≤ 1 → X ++ (Y ++ rest) ≡ all_texts r O m → Owed r O m rest → C m X)
     → IsMatch r (H ++ K) final → Uncut H K
     → C (match_after r beginning.after H) (moves_sent (lines_given O H))
-sent_at r O C H K final done g e = given_at move_sent (λ text. refl) r O (all_texts r O) (Owed r O) (gives r O) C H K final
+sent_at r O C H K final done g e = given_at move_sent (λ text. refl) r O (all_texts r O) (Owed r O) (gives r O) C H K
+    final
     (λ m due q X s. done m due q X _ s.0 (λ none. rw none refl) s.1 s.2 s.3) g e (begun O)
   where
     begun : (O : Colour) → (rest : List (List ℕ)) × (length (moves_sent (beginning.to O) ++ rest) ≤ 1)
@@ -220,21 +219,21 @@ pub line_written : (r : Rules) (O S : Colour) (t : Option (List ℕ)) (x : ℕ) 
     → unwritten_in (effect r m (Line S t x)).after.phase O ≡ false
 line_written r O S t x m aw =
     line_cases r S (line_kind t) x m (λ e. unwritten_in e.after.phase O ≡ false) aw (record {
-  handshake_stops = λ p reason c w. w.0 O;
-  handshake_counts = λ p d few. rw p refl;
-  handshake_next = λ p s d. refl;
-  handshake_last = λ p s d. refl;
-  setup_counts = λ p pong few. rw p refl;
-  setup_next = λ p s pong. refl;
-  setup_last = λ p s pong v. refl;
-  setup_decides = λ p v e. refl;
-  stops = λ g reason w. w.0 O;
-  counts = λ on none few. on_written m.phase (on_when_read m.phase S aw);
-  offers = λ on none own. on_written m.phase (on_when_read m.phase S aw);
-  plays = λ text move opened is p read room timely verdict. refl;
-  decides = λ text move opened v is p read room timely verdict. refl;
-  passes = λ p none. refl;
-})
+      handshake_stops = λ p reason c w. w.0 O;
+      handshake_counts = λ p d few. rw p refl;
+      handshake_next = λ p s d. refl;
+      handshake_last = λ p s d. refl;
+      setup_counts = λ p pong few. rw p refl;
+      setup_next = λ p s pong. refl;
+      setup_last = λ p s pong v. refl;
+      setup_decides = λ p v e. refl;
+      stops = λ g reason w. w.0 O;
+      counts = λ on none few. on_written m.phase (on_when_read m.phase S aw);
+      offers = λ on none own. on_written m.phase (on_when_read m.phase S aw);
+      plays = λ text move opened is p read room timely verdict. refl;
+      decides = λ text move opened v is p read room timely verdict. refl;
+      passes = λ p none. refl;
+    })
   where
     on_written : (p : Phase) → is_over p ≡ false → unwritten_in p O ≡ false
     on_written p h1 = grind arith
@@ -244,14 +243,14 @@ written : (r : Rules) (O : Colour) (H K : List Act) (final : Match) → IsMatch 
     → is_broken H O ≡ false → unwritten_in (match_after r beginning.after H).phase O ≡ false
 written r O H K final g e = by_points r
     (λ m due H n. unwritten_in m.phase O ≡ false → is_broken H O ≡ false → unwritten_in n.phase O ≡ false) (record {
-  sends = λ m n b due H p. p;
-  fails = λ m n b due H on q only same p w h. p (broken_more b H O h).0 (broken_more b H O h).1;
-  fails_late = λ m n b due H o only same p w h. p w (broken_more b H O h).1;
-  reads = λ m n S t x H aw q stays p w h. p (line_written r O S t x m aw) h;
-  opens = λ m n S x H o q p w h. p refl h;
-  output_ends = λ m n S H aw q only same p w h. p refl h;
-  read_fails = λ m n S H aw q only same p w h. p refl h;
-}) H K final (λ m due q g w h. w) g e refl
+      sends = λ m n b due H p. p;
+      fails = λ m n b due H on q only same p w h. p (broken_more b H O h).0 (broken_more b H O h).1;
+      fails_late = λ m n b due H o only same p w h. p w (broken_more b H O h).1;
+      reads = λ m n S t x H aw q stays p w h. p (line_written r O S t x m aw) h;
+      opens = λ m n S x H o q p w h. p refl h;
+      output_ends = λ m n S H aw q only same p w h. p refl h;
+      read_fails = λ m n S H aw q only same p w h. p refl h;
+    }) H K final (λ m due q g w h. w) g e refl
 
 pub all_moves_are_sent : InEachMatch AllMovesAreSent
 all_moves_are_sent r H final g O unbroken =
@@ -280,7 +279,8 @@ unbroken_on : (r : Rules) (S : Colour) (H K : List Act) (final : Match) → IsMa
 unbroken_on r S H K final g e = by_points r (λ m due H n. is_over n.phase ≡ false → is_broken H S ≡ false) (record {
   sends = λ m n b due H p. p;
   fails = λ m n b due H on q only same p w. both_not (is_over n.phase) w (ap (λ (x : Match). is_over x.phase) same);
-  fails_late = λ m n b due H o only same p w. both_not (is_over n.phase) w (ap (λ (x : Match). is_over x.phase) same ∙ o);
+  fails_late = λ m n b due H o only same p w. both_not (is_over n.phase) w (ap (λ (x : Match). is_over x.phase) same
+      ∙ o);
   reads = λ m n S t x H aw q stays p. p;
   opens = λ m n S x H o q p. p;
   output_ends = λ m n S H aw q only same p. p;
@@ -307,7 +307,8 @@ all_sent_at_lines r H after S text final g =
     awaited m (ReadsEnd c ∷ K) q = absurd q
     awaited m (ReadFails c ∷ K) q = absurd q
 
-    done : (m : Match) (due : List Block) → IsMatchFrom r m due (Reads S text ∷ after) final → (X Y rest : List (List ℕ))
+    done : (m : Match) (due : List Block) → IsMatchFrom r m due (Reads S text ∷ after) final
+        → (X Y rest : List (List ℕ))
         → (due ≡ [] → Y ≡ []) → length (Y ++ rest) ≤ 1 → X ++ (Y ++ rest) ≡ all_texts r S m → Owed r S m rest
         → (X ≡ all_texts r S m) × (is_over m.phase ≡ false)
     done m [] q X Y rest none l a owed = let aw = awaited m after q in (
@@ -321,14 +322,14 @@ used_are_turns : (r : Rules) (C : Colour) (H K : List Act) (final : Match) → I
     → (let m = match_after r beginning.after H in length (m.seat C).used ≡ turns_of C r.first m.played)
 used_are_turns r C H K final g e = by_points r
     (λ m due H n. length (n.seat C).used ≡ turns_of C r.first n.played) (record {
-  sends = λ m n b due H p. p;
-  fails = λ m n b due H on q only same p. p;
-  fails_late = λ m n b due H o only same p. p;
-  reads = λ m n S t x H aw q stays p. p;
-  opens = λ m n S x H o q p. p;
-  output_ends = λ m n S H aw q only same p. p;
-  read_fails = λ m n S H aw q only same p. p;
-}) H K final (λ m due q g. q.1 C) g e
+      sends = λ m n b due H p. p;
+      fails = λ m n b due H on q only same p. p;
+      fails_late = λ m n b due H o only same p. p;
+      reads = λ m n S t x H aw q stays p. p;
+      opens = λ m n S x H o q p. p;
+      output_ends = λ m n S H aw q only same p. p;
+      read_fails = λ m n S H aw q only same p. p;
+    }) H K final (λ m due q g. q.1 C) g e
 
 pub moves_sent_are_known : AtEachLine MovesSentAreKnown
 moves_sent_are_known r H after S text final g =

@@ -1,11 +1,11 @@
 -- The notes of a match have all its events and all lines that are sent.
-use Rattle.std.proofs.Common.{◌≡◌, ℕ, Bool, true, false, List, [], ◌∷◌, ◌++◌, refl, ap, sym, subst, ◌∙◌, Option, arith}
+use Rattle.std.proofs.Common.{◌≡◌, ℕ, Bool, true, false, List, [], ◌∷◌, ◌++◌, refl, ap, sym, subst, ◌∙◌}
 use Rattle.std.specs.Prelude.{if◌then◌else◌}
 use Rattle.chess_base.specs.declared.man.Colour.{Colour}
 use Rattle.chess_base.specs.declared.man.Colour.TheVariants.{White, Black}
 use Rattle.chess_base.specs.Men.{same_colour}
 use Rattle.chess_base.specs.Options.{list_if}
-use Rattle.chess_match.specs.Acts.{Act, Block, Sends, SendFails, Reads, ReadsEnd, ReadFails, ReadsClock, awaits_line, blocks_from, is_over}
+use Rattle.chess_match.specs.Acts.{Act, Block, Sends, SendFails, Reads, ReadsEnd, ReadFails, ReadsClock, blocks_from, is_over}
 use Rattle.chess_match.specs.ByDevice.{notes_given}
 use Rattle.chess_match.specs.Effects.{Match, Phase, Over, beginning, effect, farewell}
 use Rattle.chess_match.specs.Events.{Event, Line, OutputEnds, FailsToRead, FailsToWrite}
@@ -59,7 +59,8 @@ abbrev AreWritten : Reason → List Block → Type 0
 AreWritten reason [] = Unit {0}
 AreWritten reason (b ∷ due) = (is_unwritten reason b.to ≡ false) × AreWritten reason due
 
-all_written : (reason : Reason) (due : List Block) → ((O : Colour) → is_unwritten reason O ≡ false) → AreWritten reason due
+all_written : (reason : Reason) (due : List Block) → ((O : Colour) → is_unwritten reason O ≡ false) → AreWritten reason
+    due
 all_written reason [] w = tt
 all_written reason (b ∷ due) w = (w b.to, all_written reason due w)
 
@@ -112,21 +113,21 @@ module _ (r : Rules) (reason : Reason) (final : Match) (over : final.phase ≡ O
 
 pub all_events : NotesHaveTheEvents
 all_events r reason H final g over = (by_cases r final (Leads r reason final over) (record {
-  sends = λ m b due H p. (p.0, λ w. p.1 (λ o. (w o).1));
-  fails = λ m b due H on p. (on_not_over r reason final over m on, λ w. broken r reason final over m b H p);
-  fails_late = λ m b due H o p. (p.0, λ w. late r reason final over m b H (w o).0 (p.1 (λ o. (w o).1)));
-  reads = λ m S t n H aw p. (
+  sends = λ m end b due H p. (p.0, λ w. p.1 (λ o. (w o).1));
+  fails = λ m end b due H on p. (on_not_over r reason final over m on, λ w. broken r reason final over m b H p);
+  fails_late = λ m end b due H o p. (p.0, λ w. late r reason final over m b H (w o).0 (p.1 (λ o. (w o).1)));
+  reads = λ m end S t n H aw p. (
     on_not_over r reason final over m (on_when_read m.phase S aw),
-    λ w. p.1 (λ o. due_written r reason final over (effect r m (Line S t n)).after _ (λ O. line_written r O S t n m aw) (p.0 o)),
+    λ w. p.1 (λ o. due_written r reason final over (effect r m (Line S t n)).after _ (λ O. line_written r O S t n m aw)
+        (p.0 o)),
   );
-  opens = λ m S n H o p. (on_not_over r reason final over m (ap is_over o), λ w. p.1 (λ o. absurd cc));
-  ends = λ m S H aw p. (
+  opens = λ m end S n H o p. (on_not_over r reason final over m (ap is_over o), λ w. p.1 (λ o. absurd cc));
+  ends = λ m end S H aw p. (
     on_not_over r reason final over m (on_when_read m.phase S aw),
     λ w. p.1 (λ o. due_written r reason final over (effect r m (OutputEnds S)).after _ (λ O. refl) (p.0 o)),
   );
-  read_fails = λ m S H aw p. (
+  read_fails = λ m end S H aw p. (
     on_not_over r reason final over m (on_when_read m.phase S aw),
     λ w. p.1 (λ o. due_written r reason final over (effect r m (FailsToRead S)).after _ (λ O. refl) (p.0 o)),
   );
-  over = λ o. (λ x. refl, λ w. refl);
-}) beginning.after (blocks_from White beginning.to) H g).1 (λ o. absurd cc)
+}) (λ o. (λ x. refl, λ w. refl)) beginning.after (blocks_from White beginning.to) H g).1 (λ o. absurd cc)

@@ -1,5 +1,5 @@
 -- There is only one match of two engines and a clock.
-use Rattle.std.proofs.Common.{◌≡◌, ℕ, ◌<◌, Bool, true, false, ◌||◌, List, [], ◌∷◌, ◌++◌, length, drop, suc, subst, refl, ap, sym, ◌∙◌, append_assoc, lt-ltb, Option, None, Some, arith}
+use Rattle.std.proofs.Common.{◌≡◌, ℕ, ◌<◌, Bool, true, false, List, [], ◌∷◌, ◌++◌, length, drop, suc, subst, refl, ap, sym, ◌∙◌, append_assoc, lt-ltb, Option, None, Some, arith}
 use Rattle.std.specs.Prelude.{nat_lt, slice_get}
 use Rattle.std.proofs.Math.Seq.{drop-append_seam}
 use Rattle.std.proofs.lemmas.Bool.{or_left, or_right}
@@ -8,8 +8,8 @@ use Rattle.chess_base.specs.declared.man.Colour.TheVariants.{White, Black}
 use Rattle.chess_base.specs.Men.{same_colour}
 use Rattle.chess_base.specs.Options.{list_if}
 use Rattle.chess_base.proofs.shared.Men.{same_colour-self}
-use Rattle.chess_match.specs.Acts.{Act, Block, IsMatch, IsMatchFrom, Sends, SendFails, Reads, ReadsEnd, ReadFails, ReadsClock, awaits_line, blocks_after, blocks_from, is_over}
-use Rattle.chess_match.specs.ByDevice.{broken_blocks, has_ended, has_failed_read, is_broken, lines_read, moments_shown}
+use Rattle.chess_match.specs.Acts.{Act, Block, IsMatchFrom, Sends, SendFails, Reads, ReadsEnd, ReadFails, ReadsClock, awaits_line, blocks_after, blocks_from, is_over}
+use Rattle.chess_match.specs.ByDevice.{broken_blocks, has_ended, has_failed_read, lines_read, moments_shown}
 use Rattle.chess_match.specs.Effects.{Match, Phase, Opening, beginning, effect}
 use Rattle.chess_match.specs.Events.{Event, Line, Opened, OutputEnds, FailsToRead, FailsToWrite}
 use Rattle.chess_match.specs.Rules.{Rules}
@@ -303,18 +303,18 @@ one_over r m over s K final g o q = let (e, J, x) = next r m final K g in at e J
 pub only_one_match : OnlyOneMatch
 only_one_match r s H K final final' h k o q = (by_cases r final
     (λ m due H. One r m due H × (is_over m.phase ≡ true → unread H ≡ true)) (record {
-  sends = λ m b due H p. (one_sends r m b due H p.0, p.1);
-  fails = λ m b due H on p. ((λ s K f g o q. none_broke s b H o), (λ x. both_not (is_over m.phase) on x));
-  fails_late = λ m b due H over p. ((λ s K f g o q. none_broke s b H o), p.1);
-  reads = λ m S t n H aw p. (one_reads r m S t n H aw p.0, awaits m S aw);
-  opens = λ m S n H opening p. (
-    one_opens r m S n H opening p.0,
-    λ x. both_not (is_over m.phase) (ap is_over opening) x,
-  );
-  ends = λ m S H aw p. (one_ends r m S H aw (p.1 refl) p.0, awaits m S aw);
-  read_fails = λ m S H aw p. (one_fails r m S H aw (p.1 refl) p.0, awaits m S aw);
-  over = λ over. (one_over r final over, λ x. refl);
-}) beginning.after (blocks_from White beginning.to) H h).0 s K final' k o q
+      sends = λ m end b due H p. (one_sends r m b due H p.0, p.1);
+      fails = λ m end b due H on p. ((λ s K f g o q. none_broke s b H o), (λ x. both_not (is_over m.phase) on x));
+      fails_late = λ m end b due H over p. ((λ s K f g o q. none_broke s b H o), p.1);
+      reads = λ m end S t n H aw p. (one_reads r m S t n H aw p.0, awaits m S aw);
+      opens = λ m end S n H opening p. (
+        one_opens r m S n H opening p.0,
+        λ x. both_not (is_over m.phase) (ap is_over opening) x,
+      );
+      ends = λ m end S H aw p. (one_ends r m S H aw (p.1 refl) p.0, awaits m S aw);
+      read_fails = λ m end S H aw p. (one_fails r m S H aw (p.1 refl) p.0, awaits m S aw);
+    }) (λ over. (one_over r final over, λ x. refl)) beginning.after (blocks_from White beginning.to) H h).0 s K final'
+    k o q
   where
     awaits : {A : Type 0} (m : Match) (S : Colour) → awaits_line m.phase S ≡ true → is_over m.phase ≡ true → A
     awaits m S aw over = both_not (is_over m.phase) (on_when_read m.phase S aw) over

@@ -1,15 +1,15 @@
 -- What holds at each moment of a match: from the acts before it, by the kinds of act.
 use native.Mathlib.Omega.{arith}
-use Rattle.std.proofs.Common.{◌≡◌, ℕ, ◌+◌, ◌-◌, ◌<◌, Bool, true, false, List, [], ◌∷◌, ◌++◌, length, length-append, refl, ap, sym, ◌∙◌, subst, append-nil, Option, Some}
+use Rattle.std.proofs.Common.{◌≡◌, ℕ, ◌+◌, ◌-◌, ◌<◌, Bool, true, false, List, [], ◌∷◌, ◌++◌, length, length-append, refl, ap, sym, ◌∙◌, subst, append-nil, Option}
 use Rattle.std.specs.Prelude.{if◌then◌else◌}
 use Rattle.chess_base.specs.declared.man.Colour.{Colour}
-use Rattle.chess_base.specs.declared.man.Colour.TheVariants.{White, Black}
+use Rattle.chess_base.specs.declared.man.Colour.TheVariants.{White}
 use Rattle.chess_base.specs.declared.man.Move.{Move}
 use Rattle.chess_base.specs.Men.{other, same_colour}
 use Rattle.cecp_engine.specs.EngineLines.{LineKind, line_kind}
 use Rattle.chess_match.specs.Acts.{Act, Block, Sends, SendFails, Reads, ReadsEnd, ReadFails, ReadsClock, IsMatch, IsMatchFrom, awaits_line, is_over, blocks_from, blocks_after}
 use Rattle.chess_match.specs.Effects.{Match, Phase, Handshake, Setup, Opening, BeforeMove, AfterMove, Over, beginning, effect, ends, line_row, moved}
-use Rattle.chess_match.specs.Events.{Line, Opened, OutputEnds, FailsToRead, FailsToWrite}
+use Rattle.chess_match.specs.Events.{Line, Opened}
 use Rattle.chess_match.specs.Rules.{Rules}
 use Rattle.chess_match.specs.declared.reason.MatchFault.TheVariants.{Ended, Read, Write}
 use Rattle.chess_match.specs.declared.reason.Reason.TheVariants.{Faulted}
@@ -151,29 +151,30 @@ pub by_points : (r : Rules) (P : Match → List Block → List Act → Match →
     → P beginning.after (blocks_from White beginning.to) H (match_after r beginning.after H)
 by_points r P k H K final rest g e =
     (by_acts r (λ m due H n. Stays m H n × (Kept r m → P m due H n)) (record {
-  sends = λ m n b due H p. (p.0, λ q. k.sends m n b due H (p.1 q));
-  fails = λ m n b due H on p. (
-    λ o. both_not (is_over m.phase) on o,
-    λ q. k.fails m n b due H on q (p.0 refl).1 (p.0 refl).0 (p.1 (tt, q.1)),
-  );
-  fails_late = λ m n b due H o p. (p.0, λ q. k.fails_late m n b due H o (p.0 o).1 (p.0 o).0 (p.1 q));
-  reads = λ m n S t x H aw p. (
-    λ o. both_not (is_over m.phase) (on_when_read m.phase S aw) o,
-    λ q. k.reads m n S t x H aw q p.0 (p.1 (kept_line r S (line_kind t) x m aw q)),
-  );
-  opens = λ m n S x H o p. (
-    λ over. both_not (is_over m.phase) (ap is_over o) over,
-    λ q. k.opens m n S x H o q (p.1 (turn_in r m (Opening S) o q, q.1)),
-  );
-  ends = λ m n S H aw p. (
-    λ o. both_not (is_over m.phase) (on_when_read m.phase S aw) o,
-    λ q. k.output_ends m n S H aw q (p.0 refl).1 (p.0 refl).0 (p.1 (tt, q.1)),
-  );
-  read_fails = λ m n S H aw p. (
-    λ o. both_not (is_over m.phase) (on_when_read m.phase S aw) o,
-    λ q. k.read_fails m n S H aw q (p.0 refl).1 (p.0 refl).0 (p.1 (tt, q.1)),
-  );
-}) K final (λ m due g. ((λ o. (refl, refl)), λ q. rest m due q g)) beginning.after (blocks_from White beginning.to) H g
+      sends = λ m n b due H p. (p.0, λ q. k.sends m n b due H (p.1 q));
+      fails = λ m n b due H on p. (
+        λ o. both_not (is_over m.phase) on o,
+        λ q. k.fails m n b due H on q (p.0 refl).1 (p.0 refl).0 (p.1 (tt, q.1)),
+      );
+      fails_late = λ m n b due H o p. (p.0, λ q. k.fails_late m n b due H o (p.0 o).1 (p.0 o).0 (p.1 q));
+      reads = λ m n S t x H aw p. (
+        λ o. both_not (is_over m.phase) (on_when_read m.phase S aw) o,
+        λ q. k.reads m n S t x H aw q p.0 (p.1 (kept_line r S (line_kind t) x m aw q)),
+      );
+      opens = λ m n S x H o p. (
+        λ over. both_not (is_over m.phase) (ap is_over o) over,
+        λ q. k.opens m n S x H o q (p.1 (turn_in r m (Opening S) o q, q.1)),
+      );
+      ends = λ m n S H aw p. (
+        λ o. both_not (is_over m.phase) (on_when_read m.phase S aw) o,
+        λ q. k.output_ends m n S H aw q (p.0 refl).1 (p.0 refl).0 (p.1 (tt, q.1)),
+      );
+      read_fails = λ m n S H aw p. (
+        λ o. both_not (is_over m.phase) (on_when_read m.phase S aw) o,
+        λ q. k.read_fails m n S H aw q (p.0 refl).1 (p.0 refl).0 (p.1 (tt, q.1)),
+      );
+    }) K final (λ m due g. ((λ o. (refl, refl)), λ q. rest m due q g)) beginning.after (blocks_from White beginning.to)
+    H g
     e).1 (refl, λ C. refl)
 
 -- ---- a whole match
@@ -196,15 +197,14 @@ end_after_acts r H final g = by_acts r (λ m due K n. n ≡ final) (record {
 
 not_in_line : (r : Rules) (H : List Act) (final : Match) → IsMatch r H final → ends_in_line H ≡ false
 not_in_line r H final g = by_cases r final (λ m due K. ends_in_line K ≡ false) (record {
-  sends = λ m b due K p. p;
-  fails = λ m b due K on p. p;
-  fails_late = λ m b due K o p. p;
-  reads = λ m S t n K aw p. p;
-  opens = λ m S n K o p. p;
-  ends = λ m S K aw p. p;
-  read_fails = λ m S K aw p. p;
-  over = λ o. refl;
-}) beginning.after (blocks_from White beginning.to) H g
+  sends = λ m end b due K p. p;
+  fails = λ m end b due K on p. p;
+  fails_late = λ m end b due K o p. p;
+  reads = λ m end S t n K aw p. p;
+  opens = λ m end S n K o p. p;
+  ends = λ m end S K aw p. p;
+  read_fails = λ m end S K aw p. p;
+}) (λ o. refl) beginning.after (blocks_from White beginning.to) H g
 
 -- a whole match is one up to its end
 pub whole : (r : Rules) (H : List Act) (final : Match) → IsMatch r H final

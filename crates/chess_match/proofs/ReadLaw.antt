@@ -1,5 +1,5 @@
 -- The moves of a match are read off the two engines' lines.
-use Rattle.std.proofs.Common.{◌≡◌, ℕ, ◌+◌, ◌-◌, ◌≤◌, Bool, true, false, List, [], ◌∷◌, ◌++◌, length, refl, ap, sym, subst, ◌∙◌, append-nil, append_assoc, Option, Some, arith}
+use Rattle.std.proofs.Common.{◌≡◌, ℕ, ◌+◌, ◌-◌, ◌≤◌, true, false, List, [], ◌∷◌, ◌++◌, length, refl, ap, sym, subst, ◌∙◌, append-nil, append_assoc, Option, Some, arith}
 use Rattle.chess_base.specs.declared.man.Colour.{Colour}
 use Rattle.chess_base.specs.declared.man.Colour.TheVariants.{White, Black}
 use Rattle.chess_base.specs.declared.man.Move.{Move}
@@ -9,16 +9,14 @@ use Rattle.cecp_engine.specs.EngineLines.{line_kind, Moves}
 use Rattle.cecp_engine.specs.Items.{has_done}
 use Rattle.chess_match.specs.Acts.{Act, Sends, SendFails, Reads, ReadsEnd, ReadFails, ReadsClock, awaits_line, is_over}
 use Rattle.chess_match.specs.ByDevice.{lines_read}
-use Rattle.chess_match.specs.Effects.{Match, Phase, Handshake, Setup, Opening, BeforeMove, AfterMove, Over, Effect, beginning, effect, ends, enter, items_said, line_row, moved}
-use Rattle.chess_match.specs.Events.{Line}
+use Rattle.chess_match.specs.Effects.{Match, Phase, Handshake, Setup, Opening, BeforeMove, AfterMove, Over, ends, enter, items_said, line_row, moved}
 use Rattle.chess_match.specs.Rules.{Rules}
 use Rattle.chess_match.specs.declared.reason.MatchFault.TheVariants.{Ended, Read, Write}
 use Rattle.chess_match.specs.declared.reason.Reason.TheVariants.{Decided, Faulted}
 use Rattle.chess_match.specs.laws.Laws.{AreRead, is_pong, lines_after_handshake, lines_after_pong, move_said, moves_said}
 use Rattle.chess_match.specs.laws.OfActs.{AtEachMoment, MovesAreRead, only_sends}
 use Rattle.chess_match.proofs.LineCases.{in_turn, line_cases, offering, said_by}
-use Rattle.chess_match.proofs.MatchCases.{both_not, on_when_read}
-use Rattle.chess_match.proofs.Points.{Kept, Stays, by_points, mover, mover-snoc, turn_in}
+use Rattle.chess_match.proofs.Points.{Kept, by_points, mover, mover-snoc, turn_in}
 
 -- the `move` lines to come of an engine, in this phase
 abbrev ahead : Phase → Colour → List (Option (List ℕ)) → List (List ℕ)
@@ -63,7 +61,8 @@ reads_on r m m' final lines lines' p same next c e =
     )
 
 -- the side on move plays
-reads_move : (r : Rules) (m m' final : Match) (d : Colour) (opened : ℕ) (t : Option (List ℕ)) (text : List ℕ) (move : Move)
+reads_move : (r : Rules) (m m' final : Match) (d : Colour) (opened : ℕ) (t : Option (List ℕ)) (text : List ℕ)
+    (move : Move)
     (lines : Streamed) → m.phase ≡ BeforeMove d opened → m'.phase ≡ AfterMove d
     → mover r.first m.played ≡ d → m'.played ≡ m.played ++ move ∷ [] → line_kind t ≡ Moves text
     → r.reading m.played text ≡ Some move → ReadsOff r m' final lines
@@ -133,7 +132,8 @@ reads_none : (r : Rules) (m final : Match) (lines : Streamed) → final.played �
 reads_none r m final lines p none c e =
     ([], p ∙ sym (append-nil m.played), rw (none c, none (other c)) (nothing_left m.phase c))
 
-reads_last : (r : Rules) (m final : Match) (d : Colour) (t : Option (List ℕ)) (lines : Streamed) → final.played ≡ m.played
+reads_last : (r : Rules) (m final : Match) (d : Colour) (t : Option (List ℕ)) (lines : Streamed) → final.played
+    ≡ m.played
     → ((S : Colour) → lines S ≡ []) → ReadsOff r m final (with_line d t lines)
 reads_last r m final d t lines p none c e =
     ([], p ∙ sym (append-nil m.played), rw (none c, none (other c)) (few_left m.phase d c t))
@@ -202,25 +202,33 @@ pass_same d c t lines S h1 = grind arith
 line_steps : (r : Rules) (d : Colour) (t : Option (List ℕ)) (n : ℕ) (m : Match) → awaits_line m.phase d ≡ true
     → Kept r m → Steps r d t m (line_row r m.phase (line_kind t) n m).after
 line_steps r d t n m aw k = line_cases r d (line_kind t) n m (λ e. Steps r d t m e.after) aw (record {
-  handshake_stops = λ p reason c w final lines o next. stopped final lines (record (said_by d (line_kind t) m) { phase = Over reason; count = c }) refl o;
-  handshake_counts = λ p h few final lines o. reads_on r m (record (said_by d (line_kind t) m) { count = m.count + 1 }) final (with_line d t lines) lines refl
+  handshake_stops = λ p reason c w final lines o next. stopped final lines
+      (record (said_by d (line_kind t) m) { phase = Over reason; count = c }) refl o;
+  handshake_counts = λ p h few final lines o. reads_on r m (record (said_by d (line_kind t) m) { count = m.count + 1 })
+      final (with_line d t lines) lines refl
       (λ S. rw p (handshake_same d t lines S h));
-  handshake_next = λ p s h final lines o. reads_on r m (enter (Handshake Black) (said_by d (line_kind t) m)) final (with_line d t lines) lines refl
+  handshake_next = λ p s h final lines o. reads_on r m (enter (Handshake Black) (said_by d (line_kind t) m)) final
+      (with_line d t lines) lines refl
       (λ S. rw p (handshake_next d t lines S s h));
-  handshake_last = λ p s h final lines o. reads_on r m (enter (Setup White) (said_by d (line_kind t) m)) final (with_line d t lines) lines refl
+  handshake_last = λ p s h final lines o. reads_on r m (enter (Setup White) (said_by d (line_kind t) m)) final
+      (with_line d t lines) lines refl
       (λ S. rw p (handshake_last d t lines S s h));
-  setup_counts = λ p h few final lines o. reads_on r m (record m { count = m.count + 1 }) final (with_line d t lines) lines refl (λ S. rw p (setup_same d t lines S h));
-  setup_next = λ p s h final lines o. reads_on r m (enter (Setup Black) m) final (with_line d t lines) lines refl (λ S. rw p (setup_next d t lines S s h));
+  setup_counts = λ p h few final lines o. reads_on r m (record m { count = m.count + 1 }) final (with_line d t lines)
+      lines refl (λ S. rw p (setup_same d t lines S h));
+  setup_next = λ p s h final lines o. reads_on r m (enter (Setup Black) m) final (with_line d t lines) lines refl
+      (λ S. rw p (setup_next d t lines S s h));
   setup_last = λ p s h v final lines o. reads_on r m (enter (Opening r.first) m) final (with_line d t lines) lines refl
       (λ S. rw p (setup_last d r.first t lines S s h));
   setup_decides = λ p v e final lines o next. stopped final lines (record m { phase = Over (Decided v) }) refl o;
   stops = λ g reason w final lines o next. stopped final lines (record m { phase = Over reason }) refl o;
-  counts = λ on none few final lines o. reads_on r m (record m { count = m.count + 1 }) final (with_line d t lines) lines refl
+  counts = λ on none few final lines o. reads_on r m (record m { count = m.count + 1 }) final (with_line d t lines)
+      lines refl
       (λ S. turn_same m.phase d t lines S on none);
   offers = λ on none own final lines o. reads_on r m (offering d m).after final (with_line d t lines) lines refl
       (λ S. turn_same m.phase d t lines S on none);
   plays = λ text move opened is p read room timely verdict final lines o next.
-      reads_move r m (moved d move (n - opened) m) final d opened t text move lines p refl (turn_in r m (BeforeMove d opened) p k) refl is read next;
+      reads_move r m (moved d move (n - opened) m) final d opened t text move lines p refl
+      (turn_in r m (BeforeMove d opened) p k) refl is read next;
   decides = λ text move opened v is p read room timely verdict final lines o next.
       reads_decided r m final d opened t text move lines p (turn_in r m (BeforeMove d opened) p k)
       (ap (λ (x : Match). x.played) (o refl).0) is read (o refl).1;

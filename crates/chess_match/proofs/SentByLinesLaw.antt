@@ -1,6 +1,6 @@
 -- The two engines' lines alone say which moves each engine is sent.
 use Rattle.std.proofs.Common.{◌≡◌, ℕ, ◌+◌, ◌-◌, ◌≤◌, Bool, true, false, List, [], ◌∷◌, ◌++◌, length, refl, ap, sym, ◌∙◌, append-nil, append_assoc, Option, arith}
-use Rattle.std.specs.Prelude.{if◌then◌else◌, codes}
+use Rattle.std.specs.Prelude.{if◌then◌else◌}
 use Rattle.chess_base.specs.declared.man.Colour.{Colour}
 use Rattle.chess_base.specs.declared.man.Colour.TheVariants.{White, Black}
 use Rattle.chess_base.specs.Men.{other, same_colour}
@@ -18,7 +18,7 @@ use Rattle.chess_match.specs.laws.OfActs.{AtEachMoment, EachIsSentOthersMoves, I
 use Rattle.chess_match.proofs.LineCases.{handshakes_done, line_cases, offering, said_by, turn_done}
 use Rattle.chess_match.proofs.MatchCases.{both_not}
 use Rattle.chess_match.proofs.MoveLaw.{all_moves_are_sent, all_sent, moves_are_sent}
-use Rattle.chess_match.proofs.Points.{Stays, by_points, in_each, moved_items, offered_items}
+use Rattle.chess_match.proofs.Points.{by_points, in_each, moved_items, offered_items}
 use Rattle.chess_match.proofs.ReadLaw.{Streamed, lines_in, moves_are_read, none_read_in, with_line}
 
 -- the items that lines to come say
@@ -40,7 +40,8 @@ none_ahead : (p : Phase) (S : Colour) (ls : List (Option (List ℕ))) → handsh
 none_ahead p S ls h1 = grind arith
 
 -- after the handshakes nothing is said
-done_says : (d : Colour) (t : Option (List ℕ)) (m m' : Match) → handshakes_done m.phase ≡ true → handshakes_done m'.phase
+done_says : (d : Colour) (t : Option (List ℕ)) (m m' : Match) → handshakes_done m.phase ≡ true → handshakes_done
+    m'.phase
     ≡ true → ((S : Colour) → (m'.seat S).items ≡ (m.seat S).items) → Says d t m m'
 done_says d t m m' g g' i lines S over =
     ap (λ (is : List Item). (m.seat S).items ++ is) (none_ahead m.phase S (with_line d t lines S) g)
@@ -97,7 +98,8 @@ lines_say : (r : Rules) (d : Colour) (t : Option (List ℕ)) (n : ℕ) (m : Matc
 lines_say r d t n m aw = line_cases r d (line_kind t) n m (λ e. Says d t m e.after) aw (record {
   handshake_stops = λ p reason k w lines S over. handshake_says d t m S (lines S) (Over reason) [] p
       (ahead_over d t S (lines S) (over refl));
-  handshake_counts = λ p h few lines S over. handshake_says d t m S (lines S) (Handshake d) (said_ahead (Handshake d) S (lines S)) p
+  handshake_counts = λ p h few lines S over. handshake_says d t m S (lines S) (Handshake d)
+      (said_ahead (Handshake d) S (lines S)) p
       (ahead_on d t S (lines S) h) ∙ ap (λ (q : Phase). ((said_by d (line_kind t) m).seat S).items
       ++ said_ahead q S (lines S)) (sym p);
   handshake_next = λ p s h lines S over. handshake_says d t m S (lines S) (Handshake Black)
@@ -105,16 +107,22 @@ lines_say r d t n m aw = line_cases r d (line_kind t) n m (λ e. Says d t m e.af
       (ahead_next d t S (lines S) s h);
   handshake_last = λ p s h lines S over. handshake_says d t m S (lines S) (Setup White) [] p
       (ahead_last d t S (lines S) s h);
-  setup_counts = λ p h few. done_says d t m (record m { count = m.count + 1 }) (ap handshakes_done p) (ap handshakes_done p) (λ S. refl);
+  setup_counts = λ p h few. done_says d t m (record m { count = m.count + 1 }) (ap handshakes_done p)
+      (ap handshakes_done p) (λ S. refl);
   setup_next = λ p s h. done_says d t m (enter (Setup Black) m) (ap handshakes_done p) refl (λ S. refl);
   setup_last = λ p s h v. done_says d t m (enter (Opening r.first) m) (ap handshakes_done p) refl (λ S. refl);
-  setup_decides = λ p v e. done_says d t m (record m { phase = Over (Decided v) }) (ap handshakes_done p) refl (λ S. refl);
+  setup_decides = λ p v e. done_says d t m (record m { phase = Over (Decided v) }) (ap handshakes_done p) refl
+      (λ S. refl);
   stops = λ g reason w. done_says d t m (record m { phase = Over reason }) g refl (λ S. refl);
-  counts = λ on none few. done_says d t m (record m { count = m.count + 1 }) (turn_done m.phase on) (turn_done m.phase on) (λ S. refl);
-  offers = λ on none own. done_says d t m (offering d m).after (turn_done m.phase on) (turn_done m.phase on) (λ S. offered_items d S m);
-  plays = λ text move opened is p read room timely verdict. done_says d t m (moved d move (n - opened) m) (ap handshakes_done p) refl
+  counts = λ on none few. done_says d t m (record m { count = m.count + 1 }) (turn_done m.phase on)
+      (turn_done m.phase on) (λ S. refl);
+  offers = λ on none own. done_says d t m (offering d m).after (turn_done m.phase on) (turn_done m.phase on)
+      (λ S. offered_items d S m);
+  plays = λ text move opened is p read room timely verdict. done_says d t m (moved d move (n - opened) m)
+      (ap handshakes_done p) refl
       (λ S. moved_items d S move (n - opened) m);
-  decides = λ text move opened v is p read room timely verdict. done_says d t m (record (moved d move (n - opened) m) { phase = Over (Decided v) }) (ap handshakes_done p) refl
+  decides = λ text move opened v is p read room timely verdict. done_says d t m
+      (record (moved d move (n - opened) m) { phase = Over (Decided v) }) (ap handshakes_done p) refl
       (λ S. moved_items d S move (n - opened) m);
   passes = λ p none. done_says d t m (enter (Opening (other d)) m) (ap handshakes_done p) refl (λ S. refl);
 })
@@ -122,15 +130,15 @@ lines_say r d t n m aw = line_cases r d (line_kind t) n m (λ e. Says d t m e.af
 pub items_are_said : AtEachMoment ItemsAreSaid
 items_are_said r H K final g e S = sym (by_points r
     (λ m due H n. (m.seat S).items ++ said_ahead m.phase S (lines_read S H) ≡ (n.seat S).items) (record {
-  sends = λ m n b due H p. p;
-  fails = λ m n b due H on q only same p. stopped m n H (ends r (Faulted b.to Write) m).after (λ X. refl) same only;
-  fails_late = λ m n b due H o only same p. p;
-  reads = λ m n c t k H aw q stays p.
-      lines_say r c t k m aw (lines_in H) S (λ o. none_read_in S H (stays o).1) ∙ p;
-  opens = λ m n c k H o q p. ap (λ (x : Phase). (m.seat S).items ++ said_ahead x S (lines_read S H)) o ∙ p;
-  output_ends = λ m n c H aw q only same p. stopped m n H (ends r (Faulted c Ended) m).after (λ X. refl) same only;
-  read_fails = λ m n c H aw q only same p. stopped m n H (ends r (Faulted c Read) m).after (λ X. refl) same only;
-}) H K final (λ m due q g. none m m [] refl refl) g (λ cut. e))
+      sends = λ m n b due H p. p;
+      fails = λ m n b due H on q only same p. stopped m n H (ends r (Faulted b.to Write) m).after (λ X. refl) same only;
+      fails_late = λ m n b due H o only same p. p;
+      reads = λ m n c t k H aw q stays p.
+          lines_say r c t k m aw (lines_in H) S (λ o. none_read_in S H (stays o).1) ∙ p;
+      opens = λ m n c k H o q p. ap (λ (x : Phase). (m.seat S).items ++ said_ahead x S (lines_read S H)) o ∙ p;
+      output_ends = λ m n c H aw q only same p. stopped m n H (ends r (Faulted c Ended) m).after (λ X. refl) same only;
+      read_fails = λ m n c H aw q only same p. stopped m n H (ends r (Faulted c Read) m).after (λ X. refl) same only;
+    }) H K final (λ m due q g. none m m [] refl refl) g (λ cut. e))
   where
     none : (m n : Match) (ls : List (Option (List ℕ))) → ls ≡ [] → (n.seat S).items ≡ (m.seat S).items
         → (m.seat S).items ++ said_ahead m.phase S ls ≡ (n.seat S).items
@@ -163,7 +171,8 @@ module _ (r : Rules) (H : List Act) (m : Match) (read : MovesAreRead r H m) (sai
 
 pub each_is_sent_so_far : AtEachMoment (EachIsSentOthersMoves false)
 each_is_sent_so_far r H K final g e =
-    sent_by_lines r H (match_after r beginning.after H) (moves_are_read r H K final g e) (items_are_said r H K final g e) false
+    sent_by_lines r H (match_after r beginning.after H) (moves_are_read r H K final g e)
+    (items_are_said r H K final g e) false
     (λ O. let (rest, l, s) = moves_are_sent r H K final g e O in (rest, l, λ w. absurd cc, s))
 
 pub each_is_sent_the_others : InEachMatch (EachIsSentOthersMoves true)

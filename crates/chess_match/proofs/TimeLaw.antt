@@ -10,20 +10,18 @@ use Rattle.chess_base.specs.declared.man.Move.{Move}
 use Rattle.chess_base.specs.Men.{other, same_colour}
 use Rattle.chess_base.specs.Options.{list_if}
 use Rattle.chess_base.proofs.shared.Men.{same_colour-true}
-use Rattle.cecp_engine.specs.EngineLines.{LineKind}
 use Rattle.cecp_engine.specs.Items.{takes}
 use Rattle.cecp_engine.specs.Levels.{LevelSeen, time_left}
-use Rattle.chess_match.specs.Acts.{Act, Block, IsMatch, IsMatchFrom, is_over}
-use Rattle.chess_match.specs.Effects.{Match, Phase, Handshake, Setup, Opening, BeforeMove, AfterMove, Over, begins_turn, beginning, clock, ends, enter, moved, opening}
+use Rattle.chess_match.specs.Acts.{Act, IsMatch, is_over}
+use Rattle.chess_match.specs.Effects.{Match, Phase, Handshake, Setup, Opening, BeforeMove, AfterMove, Over, begins_turn, beginning, ends, enter, moved, opening}
 use Rattle.chess_match.specs.Lines.{SentLine, Says}
 use Rattle.chess_match.specs.Rules.{Rules}
 use Rattle.chess_match.specs.declared.reason.Reason.{Reason}
 use Rattle.chess_match.specs.laws.Laws.{centiseconds, otim_sent, time_sent}
 use Rattle.chess_match.specs.laws.OfActs.{AtEachMoment, OtherTimesAreClocks, TimesAreClocks, ends_in_line, lines_given, match_after}
-use Rattle.chess_match.proofs.Givings.{Gives, Goes, Sofar, given_at, grows, keeps, sends}
+use Rattle.chess_match.proofs.Givings.{Gives, Goes, given_at, grows, sends}
 use Rattle.chess_match.proofs.Going.{sum-snoc}
-use Rattle.chess_match.proofs.LineCases.{offering, said_by}
-use Rattle.chess_match.proofs.Points.{Kept, moved_items, moved_used, offered_items, offered_used, said_used}
+use Rattle.chess_match.proofs.Points.{moved_items, moved_used, offered_items, offered_used, said_used}
 
 -- ---- the lines
 
@@ -278,7 +276,8 @@ gives own r O = record {
             ≡ pending own (AfterMove S) O (last_shown r (takes_time n O) (n.seat (whose own O)).used)
         rest_then us u =
             ap (λ us. pending own (AfterMove S) O (shown us)) (sym u)
-            ∙ ap (λ is. pending own (AfterMove S) O (last_shown r (takes (codes "time") is) (n.seat (whose own O)).used))
+            ∙ ap (λ is. pending own (AfterMove S) O
+            (last_shown r (takes (codes "time") is) (n.seat (whose own O)).used))
             (sym (moved_items S O move used m))
 
         all_now : all_used xs ≡ AllOf own r O m
@@ -289,7 +288,8 @@ gives own r O = record {
             let us : List ℕ = xs ++ used ∷ [] in
             let u : (n.seat (whose own O)).used ≡ us =
             moved_used S (whose own O) move used m ∙ ap (λ (b : Bool). if b then us else xs) s in
-            grows (AllOf own r O) (RestIs own r O) m n rest (shown us) [] (shown us) (e ∙ none_before own S O opened _ s)
+            grows (AllOf own r O) (RestIs own r O) m n rest (shown us) [] (shown us)
+            (e ∙ none_before own S O opened _ s)
             (last_short r (takes_time m O) us)
             (all_then us u ∙ all_more (is_whole own r O) r (takes_time m O) xs used
             ∙ ap (λ (l : List ℕ). l ++ shown us) all_now)

@@ -1,19 +1,19 @@
 -- Each used time is the moment of its move's line less the moment of its turn's opening.
-use Rattle.std.proofs.Common.{◌≡◌, ℕ, ◌+◌, ◌-◌, ◌≤◌, Bool, true, false, ◌&&◌, List, [], ◌∷◌, ◌++◌, length, refl, ap, sym, subst, ◌∙◌, append-nil, append_assoc, Option, None, Some, arith}
+use Rattle.std.proofs.Common.{◌≡◌, ℕ, ◌+◌, ◌-◌, ◌≤◌, Bool, true, false, List, [], ◌∷◌, ◌++◌, length, refl, ap, sym, subst, ◌∙◌, append-nil, append_assoc, Option, None, Some, arith}
 use Rattle.std.specs.Prelude.{if◌then◌else◌}
 use Rattle.chess_base.specs.declared.man.Colour.{Colour}
 use Rattle.chess_base.specs.declared.man.Colour.TheVariants.{White, Black}
 use Rattle.chess_base.specs.Men.{other, same_colour}
 use Rattle.cecp_engine.specs.EngineLines.{LineKind, line_kind}
-use Rattle.chess_match.specs.Acts.{Act, Block, Sends, SendFails, Reads, ReadsEnd, ReadFails, ReadsClock, awaits_line, is_over}
-use Rattle.chess_match.specs.Effects.{Match, Phase, Handshake, Setup, Opening, BeforeMove, AfterMove, Over, Effect, beginning, effect, enter, line_row, moved}
+use Rattle.chess_match.specs.Acts.{Act, Sends, SendFails, Reads, ReadsEnd, ReadFails, ReadsClock, awaits_line, is_over}
+use Rattle.chess_match.specs.Effects.{Match, Phase, Handshake, Setup, Opening, BeforeMove, Over, effect, enter, line_row, moved}
 use Rattle.chess_match.specs.Events.{Line}
 use Rattle.chess_match.specs.Rules.{Rules}
 use Rattle.chess_match.specs.declared.reason.Reason.TheVariants.{Decided}
 use Rattle.chess_match.specs.laws.Laws.{is_move, move_said}
 use Rattle.chess_match.specs.laws.OfActs.{AtEachMoment, UsedTimesAreDifferences, move_times, only_sends}
 use Rattle.chess_match.proofs.LineCases.{line_cases, offering, said_by}
-use Rattle.chess_match.proofs.MatchCases.{both_not, on_when_read}
+use Rattle.chess_match.proofs.MatchCases.{both_not}
 use Rattle.chess_match.proofs.Points.{Stays, by_points, moved_used, offered_used, said_used}
 
 -- the moment of the opening, where a move of S is awaited
@@ -33,7 +33,8 @@ awaited_then (Some k) kind = if is_move kind then None else Some k
 -- a line takes from m to m': S's times grow by what it takes, if the match goes on, and else perhaps by less
 abbrev Grows : Colour → LineKind → ℕ → Match → Match → Type 0
 Grows S kind n m m' =
-    (rest : List ℕ) × (length rest ≤ 1) × ((m.seat S).used ++ taken (awaited S m.phase) kind n ≡ (m'.seat S).used ++ rest)
+    (rest : List ℕ) × (length rest ≤ 1) × ((m.seat S).used ++ taken (awaited S m.phase) kind n ≡ (m'.seat S).used
+    ++ rest)
     × (is_over m'.phase ≡ false
     → (rest ≡ []) × (awaited S m'.phase ≡ awaited_then (awaited S m.phase) kind))
 
@@ -101,20 +102,27 @@ moved_grow S c kind n opened m m' p is u b = (
 lines_grow : (r : Rules) (S c : Colour) (kind : LineKind) (n : ℕ) (m : Match) → awaits_line m.phase c ≡ true
     → Grows S kind n m (line_row r m.phase kind n m).after
 lines_grow r S c kind n m aw = line_cases r c kind n m (λ e. Grows S kind n m e.after) aw (record {
-  handshake_stops = λ p reason k w. ends_grow S kind n m (record (said_by c kind m) { phase = Over reason; count = k }) (said_used c S kind m) refl;
-  handshake_counts = λ p d few. apart_grow S kind n m (record (said_by c kind m) { count = m.count + 1 }) (ap (awaited S) p) (ap (awaited S) p) (said_used c S kind m);
-  handshake_next = λ p s d. apart_grow S kind n m (enter (Handshake Black) (said_by c kind m)) (ap (awaited S) p) refl (said_used c S kind m);
-  handshake_last = λ p s d. apart_grow S kind n m (enter (Setup White) (said_by c kind m)) (ap (awaited S) p) refl (said_used c S kind m);
-  setup_counts = λ p pong few. apart_grow S kind n m (record m { count = m.count + 1 }) (ap (awaited S) p) (ap (awaited S) p) refl;
+  handshake_stops = λ p reason k w. ends_grow S kind n m (record (said_by c kind m) { phase = Over reason; count = k })
+      (said_used c S kind m) refl;
+  handshake_counts = λ p d few. apart_grow S kind n m (record (said_by c kind m) { count = m.count + 1 })
+      (ap (awaited S) p) (ap (awaited S) p) (said_used c S kind m);
+  handshake_next = λ p s d. apart_grow S kind n m (enter (Handshake Black) (said_by c kind m)) (ap (awaited S) p) refl
+      (said_used c S kind m);
+  handshake_last = λ p s d. apart_grow S kind n m (enter (Setup White) (said_by c kind m)) (ap (awaited S) p) refl
+      (said_used c S kind m);
+  setup_counts = λ p pong few. apart_grow S kind n m (record m { count = m.count + 1 }) (ap (awaited S) p)
+      (ap (awaited S) p) refl;
   setup_next = λ p s pong. apart_grow S kind n m (enter (Setup Black) m) (ap (awaited S) p) refl refl;
   setup_last = λ p s pong v. apart_grow S kind n m (enter (Opening r.first) m) (ap (awaited S) p) refl refl;
   setup_decides = λ p v e. ends_grow S kind n m (record m { phase = Over (Decided v) }) refl refl;
   stops = λ g reason w. ends_grow S kind n m (record m { phase = Over reason }) refl refl;
   counts = λ on none few. stays_grow S kind n m (record m { count = m.count + 1 }) refl refl (not_move kind none);
   offers = λ on none own. stays_grow S kind n m (offering c m).after (offered_used c S m) refl (not_move kind none);
-  plays = λ text move opened is p read room timely verdict. moved_grow S c kind n opened m (moved c move (n - opened) m) p (ap is_move is)
+  plays = λ text move opened is p read room timely verdict. moved_grow S c kind n opened m
+      (moved c move (n - opened) m) p (ap is_move is)
       (moved_used c S move (n - opened) m) refl;
-  decides = λ text move opened v is p read room timely verdict. moved_grow S c kind n opened m (record (moved c move (n - opened) m) { phase = Over (Decided v) }) p (ap is_move is)
+  decides = λ text move opened v is p read room timely verdict. moved_grow S c kind n opened m
+      (record (moved c move (n - opened) m) { phase = Over (Decided v) }) p (ap is_move is)
       (moved_used c S move (n - opened) m) refl;
   passes = λ p none. apart_grow S kind n m (enter (Opening (other c)) m) (ap (awaited S) p) refl refl;
 })
@@ -187,13 +195,16 @@ stopped S o H m n u only = (
 pub used_times_are_differences : AtEachMoment UsedTimesAreDifferences
 used_times_are_differences r H K final g e S = by_points r (λ m due H n. Ends S m (awaited S m.phase) H n) (record {
   sends = λ m n b due H p. p;
-  fails = λ m n b due H on q only same p. stopped S (awaited S m.phase) H m n (ap (λ (x : Match). (x.seat S).used) same) only;
+  fails = λ m n b due H on q only same p. stopped S (awaited S m.phase) H m n
+      (ap (λ (x : Match). (x.seat S).used) same) only;
   fails_late = λ m n b due H o only same p. p;
   reads = λ m n c t k H aw q stays p. goes_on S c t k H m (effect r m (Line c t k)).after n aw stays
       (lines_grow r S c (line_kind t) k m aw) p;
   opens = λ m n c k H o q p. subst (λ (x : Phase). Ends S m (awaited S x) (ReadsClock c k ∷ H) n) (sym o) p;
-  output_ends = λ m n c H aw q only same p. stopped S (awaited S m.phase) H m n (ap (λ (x : Match). (x.seat S).used) same)
+  output_ends = λ m n c H aw q only same p. stopped S (awaited S m.phase) H m n
+      (ap (λ (x : Match). (x.seat S).used) same)
       only;
-  read_fails = λ m n c H aw q only same p. stopped S (awaited S m.phase) H m n (ap (λ (x : Match). (x.seat S).used) same)
+  read_fails = λ m n c H aw q only same p. stopped S (awaited S m.phase) H m n
+      (ap (λ (x : Match). (x.seat S).used) same)
       only;
 }) H K final (λ m due q g. ([], omega arith, refl, λ on. refl)) g (λ cut. e)

@@ -1,7 +1,7 @@
 -- Why a match ended: by the board's verdict.
 use native.Mathlib.Omega.{arith}
-use Rattle.std.proofs.Common.{◌≡◌, ◌+◌, ◌-◌, ℕ, Bool, true, false, ◌&&◌, List, [], ◌∷◌, ◌++◌, length, refl, ap, sym, ◌∙◌, subst, Option, None, Some, lt-ltb}
-use Rattle.std.specs.Prelude.{if◌then◌else◌, is_some, nat_lt}
+use Rattle.std.proofs.Common.{◌≡◌, ℕ, Bool, true, false, ◌&&◌, List, [], ◌∷◌, ◌++◌, length, refl, ap, sym, ◌∙◌, subst, None, Some, lt-ltb}
+use Rattle.std.specs.Prelude.{is_some, nat_lt}
 use Rattle.chess_base.specs.declared.man.Colour.{Colour}
 use Rattle.chess_base.specs.declared.man.Colour.TheVariants.{White}
 use Rattle.chess_base.specs.declared.man.Move.{Move}
@@ -64,15 +64,14 @@ line_judged r S kind moment m aw j = line_cases r S kind moment m (λ e. Judged 
 -- what each act keeps
 judged_at_end : (r : Rules) (H : List Act) (final : Match) → IsMatch r H final → Judged r final
 judged_at_end r H final g = by_cases r final (λ m due K. Judged r m → Judged r final) (record {
-  sends = λ m b due K p. p;
-  fails = λ m b due K on p j. p (on_undecided r m.played m.phase on j);
-  fails_late = λ m b due K o p. p;
-  reads = λ m S t n K aw p j. p (line_judged r S (line_kind t) n m aw j);
-  opens = λ m S n K o p j. p (on_undecided r m.played m.phase (ap is_over o) j);
-  ends = λ m S K aw p j. p (on_undecided r m.played m.phase (on_when_read m.phase S aw) j);
-  read_fails = λ m S K aw p j. p (on_undecided r m.played m.phase (on_when_read m.phase S aw) j);
-  over = λ o j. j;
-}) beginning.after (blocks_from White beginning.to) H g refl
+  sends = λ m end b due K p. p;
+  fails = λ m end b due K on p j. p (on_undecided r m.played m.phase on j);
+  fails_late = λ m end b due K o p. p;
+  reads = λ m end S t n K aw p j. p (line_judged r S (line_kind t) n m aw j);
+  opens = λ m end S n K o p j. p (on_undecided r m.played m.phase (ap is_over o) j);
+  ends = λ m end S K aw p j. p (on_undecided r m.played m.phase (on_when_read m.phase S aw) j);
+  read_fails = λ m end S K aw p j. p (on_undecided r m.played m.phase (on_when_read m.phase S aw) j);
+}) (λ o j. j) beginning.after (blocks_from White beginning.to) H g refl
 
 pub decided_by_the_board : DecidedByTheBoard
 decided_by_the_board r v H final g e = subst (λ (p : Phase). ByBoard r final.played p) e (judged_at_end r H final g)

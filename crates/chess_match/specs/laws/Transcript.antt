@@ -1,5 +1,5 @@
 -- What may come next in a match, as the code keeps it.
-use Rattle.std.specs.Prelude.{ℕ, ◌&&◌, nat_lt, Bool, true, false, List, length}
+use Rattle.std.specs.Prelude.{◌&&◌, nat_lt, Bool, true, false, List, length}
 use Rattle.chess_base.specs.declared.man.Colour.{Colour}
 use Rattle.chess_base.specs.Men.{same_colour}
 use Rattle.chess_match.specs.laws.Machine.{Match}
