@@ -86,7 +86,8 @@ both_due first O to =
 
 -- ---- what an event does
 
--- what was not sent yet (`rest`) and what is new (`more`) are what is sent now (`Z`) and what is not sent then (`rest'`)
+-- what was not sent yet (`rest`) and what is new (`more`) are what is sent now (`Z`) and what is not sent then
+-- (`rest'`)
 abbrev pub Goes : {A : Type 0} → (Match → List A) → (Match → List A → Type 0) → Match → List A → List A → Match → Type 0
 Goes {A} all Rest m rest Z m' = (more : List A) × (rest' : List A) × (all m' ≡ all m ++ more)
     × (rest ++ more ≡ Z ++ rest') × (length (rest ++ more) ≤ 1) × Rest m' rest'

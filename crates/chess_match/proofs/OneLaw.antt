@@ -9,7 +9,7 @@ use Rattle.chess_base.specs.Men.{same_colour}
 use Rattle.chess_base.specs.Options.{list_if}
 use Rattle.chess_base.proofs.shared.Men.{same_colour-self}
 use Rattle.chess_match.specs.Acts.{Act, Block, IsMatchFrom, Sends, SendFails, Reads, ReadsEnd, ReadFails, ReadsClock, awaits_line, blocks_after, blocks_from, is_over}
-use Rattle.chess_match.specs.ByDevice.{broken_blocks, has_ended, has_failed_read, lines_read, moments_shown}
+use Rattle.chess_match.specs.ByDevice.{broken_blocks, has_ended, has_failed_read, is_broken, lines_read, moments_shown}
 use Rattle.chess_match.specs.Effects.{Match, Phase, Opening, beginning, effect}
 use Rattle.chess_match.specs.Events.{Event, Line, Opened, OutputEnds, FailsToRead, FailsToWrite}
 use Rattle.chess_match.specs.Rules.{Rules}
@@ -19,8 +19,8 @@ use Rattle.chess_match.proofs.MatchCases.{both_not, by_cases, none_read, on_when
 
 -- ---- what comes next
 
--- the acts of an event, and what follows them (`J`), are what follows in the match (`K`), where nothing is due; or it is
--- over
+-- the acts of an event, and what follows them (`J`), are what follows in the match (`K`), where nothing is due; or it
+-- is over
 abbrev Begins : Rules → Match → Match → List Act → List Act → Option Event → Type 0
 Begins r m final K J None = (K ≡ []) × (is_over m.phase ≡ true)
 Begins r m final K J (Some (Line S t n)) = (K ≡ Reads S t ∷ ReadsClock S n ∷ J) × (awaits_line m.phase S ≡ true)
@@ -75,6 +75,13 @@ later k shown moments h1 n h2 = grind arith
 first_moment : (k : ℕ) (shown : List ℕ) (moments : ℕ → ℕ) → Shown (k ∷ shown) moments → Some k ≡ Some (moments 0)
 first_moment k shown moments h = h 0 (omega arith)
 
+-- these acts come from these engines and this clock, as `AreOf` has it
+abbrev Held : Streams → List Act → Type 0
+Held s H = ((S : Colour) → (rest : List (Option (List ℕ))) × (s.lines S ≡ lines_read S H ++ rest))
+    × ((S : Colour) → has_ended S H ≡ true → (s.lines S ≡ lines_read S H) × (s.fails S ≡ false))
+    × ((S : Colour) → has_failed_read S H ≡ true → (s.lines S ≡ lines_read S H) × (s.fails S ≡ true))
+    × Shown (moments_shown H) s.moments × ((S : Colour) → is_broken H S ≡ false)
+
 abbrev line_of : Colour → Option (List ℕ) → Colour → List (Option (List ℕ))
 line_of S t X = list_if (same_colour S X) (t ∷ [])
 
@@ -86,49 +93,27 @@ after_read S t s = record {
 }
 
 of_read : (s : Streams) (S : Colour) (t : Option (List ℕ)) (n : ℕ) (H : List Act)
-    → AreOf s (Reads S t ∷ ReadsClock S n ∷ H) → AreOf (after_read S t s) H
-of_read s S t n H o = record {
-  lines = λ X. ((o.lines X).0, drop_front (line_of S t X) (lines_read X H) (o.lines X).0 (s.lines X) (o.lines X).1);
-  ends = λ X h. (drop_exact (line_of S t X) (lines_read X H) (s.lines X) (o.ends X h).0, (o.ends X h).1);
-  failures = λ X h. (drop_exact (line_of S t X) (lines_read X H) (s.lines X) (o.failures X h).0, (o.failures X h).1);
-  moments = later n (moments_shown H) s.moments o.moments;
-  sent = o.sent;
-}
+    → Held s (Reads S t ∷ ReadsClock S n ∷ H) → Held (after_read S t s) H
+of_read s S t n H (lines, ends, failures, moments, sent) = (
+  λ X. ((lines X).0, drop_front (line_of S t X) (lines_read X H) (lines X).0 (s.lines X) (lines X).1),
+  λ X h. (drop_exact (line_of S t X) (lines_read X H) (s.lines X) (ends X h).0, (ends X h).1),
+  λ X h. (drop_exact (line_of S t X) (lines_read X H) (s.lines X) (failures X h).0, (failures X h).1),
+  later n (moments_shown H) s.moments moments,
+  sent,
+)
 
-of_opened : (s : Streams) (S : Colour) (n : ℕ) (H : List Act) → AreOf s (ReadsClock S n ∷ H)
-    → AreOf (record s { moments = λ n. s.moments (suc n) }) H
-of_opened s S n H o = record {
-  lines = o.lines;
-  ends = o.ends;
-  failures = o.failures;
-  moments = later n (moments_shown H) s.moments o.moments;
-  sent = o.sent;
-}
+of_opened : (s : Streams) (S : Colour) (n : ℕ) (H : List Act) → Held s (ReadsClock S n ∷ H)
+    → Held (record s { moments = λ n. s.moments (suc n) }) H
+of_opened s S n H o = (o.0, o.1, o.2, later n (moments_shown H) s.moments o.3, o.4)
 
-of_sent : (s : Streams) (b : Block) (H : List Act) → AreOf s (Sends b ∷ H) → AreOf s H
-of_sent s b H o =
-    record { lines = o.lines; ends = o.ends; failures = o.failures; moments = o.moments; sent = o.sent }
+of_end : (s : Streams) (S : Colour) (H : List Act) → Held s (ReadsEnd S ∷ H) → Held s H
+of_end s S H o = (o.0, λ X h. o.1 X (or_right (same_colour S X) (has_ended X H) h), o.2, o.3, o.4)
 
-of_end : (s : Streams) (S : Colour) (H : List Act) → AreOf s (ReadsEnd S ∷ H) → AreOf s H
-of_end s S H o = record {
-  lines = o.lines;
-  ends = λ X h. o.ends X (or_right (same_colour S X) (has_ended X H) h);
-  failures = o.failures;
-  moments = o.moments;
-  sent = o.sent;
-}
+of_failure : (s : Streams) (S : Colour) (H : List Act) → Held s (ReadFails S ∷ H) → Held s H
+of_failure s S H o = (o.0, o.1, λ X h. o.2 X (or_right (same_colour S X) (has_failed_read X H) h), o.3, o.4)
 
-of_failure : (s : Streams) (S : Colour) (H : List Act) → AreOf s (ReadFails S ∷ H) → AreOf s H
-of_failure s S H o = record {
-  lines = o.lines;
-  ends = o.ends;
-  failures = λ X h. o.failures X (or_right (same_colour S X) (has_failed_read X H) h);
-  moments = o.moments;
-  sent = o.sent;
-}
-
-none_broke : {A : Type 0} (s : Streams) (b : Block) (H : List Act) → AreOf s (SendFails b ∷ H) → A
-none_broke s b H o = at (same_colour b.to b.to) (same_colour-self b.to) (o.sent b.to)
+none_broke : {A : Type 0} (s : Streams) (b : Block) (H : List Act) → Held s (SendFails b ∷ H) → A
+none_broke s b H o = at (same_colour b.to b.to) (same_colour-self b.to) (o.4 b.to)
   where
     at : {A : Type 0} (x : Bool) → x ≡ true
         → nat_lt 0 (length (list_if x (b.lines ∷ []) ++ broken_blocks b.to H)) ≡ false → A
@@ -139,9 +124,9 @@ none_broke s b H o = at (same_colour b.to b.to) (same_colour-self b.to) (o.sent 
 -- ---- the first line, or none
 
 first_line : (s : Streams) (S : Colour) (t : Option (List ℕ)) (n : ℕ) (H : List Act)
-    → AreOf s (Reads S t ∷ ReadsClock S n ∷ H) → (rest : List (Option (List ℕ))) × (s.lines S ≡ t ∷ rest)
-first_line s White t n H o = (lines_read White H ++ (o.lines White).0, (o.lines White).1)
-first_line s Black t n H o = (lines_read Black H ++ (o.lines Black).0, (o.lines Black).1)
+    → Held s (Reads S t ∷ ReadsClock S n ∷ H) → (rest : List (Option (List ℕ))) × (s.lines S ≡ t ∷ rest)
+first_line s White t n H o = (lines_read White H ++ (o.0 White).0, (o.0 White).1)
+first_line s Black t n H o = (lines_read Black H ++ (o.0 Black).0, (o.0 Black).1)
 
 unread_none : (S : Colour) (H : List Act) → unread H ≡ true → lines_read S H ≡ []
 unread_none S [] h = refl
@@ -154,19 +139,19 @@ unread_none S (ReadFails c ∷ H) h = cc
 
 -- an engine whose end was reported, or of which a read failed, has no line left
 ended_none : (s : Streams) (S : Colour) (H : List Act) → unread H ≡ true
-    → AreOf s (ReadsEnd S ∷ H) → (s.lines S ≡ []) × (s.fails S ≡ false)
+    → Held s (ReadsEnd S ∷ H) → (s.lines S ≡ []) × (s.fails S ≡ false)
 ended_none s S H u o =
-    let e = o.ends S (or_left (same_colour S S) (has_ended S H) (same_colour-self S)) in
+    let e = o.1 S (or_left (same_colour S S) (has_ended S H) (same_colour-self S)) in
     (e.0 ∙ unread_none S H u, e.1)
 
 failed_none : (s : Streams) (S : Colour) (H : List Act) → unread H ≡ true
-    → AreOf s (ReadFails S ∷ H) → (s.lines S ≡ []) × (s.fails S ≡ true)
+    → Held s (ReadFails S ∷ H) → (s.lines S ≡ []) × (s.fails S ≡ true)
 failed_none s S H u o =
-    let e = o.failures S (or_left (same_colour S S) (has_failed_read S H) (same_colour-self S)) in
+    let e = o.2 S (or_left (same_colour S S) (has_failed_read S H) (same_colour-self S)) in
     (e.0 ∙ unread_none S H u, e.1)
 
 line_not_none : {A : Type 0} (s : Streams) (S c : Colour) (t : Option (List ℕ)) (n : ℕ) (H : List Act) → S ≡ c
-    → AreOf s (Reads S t ∷ ReadsClock S n ∷ H) → s.lines c ≡ [] → A
+    → Held s (Reads S t ∷ ReadsClock S n ∷ H) → s.lines c ≡ [] → A
 line_not_none s S c t n H e o k = absurd (at (s.lines S) (first_line s S t n H o).1 (ap s.lines e ∙ k))
   where
     at : (xs : List (Option (List ℕ))) → xs ≡ t ∷ (first_line s S t n H o).0 → xs ≡ [] → ⊥
@@ -185,13 +170,13 @@ same_opened c d n k m p e f x y = cc
 
 -- two engines and a clock fix what follows
 abbrev One : Rules → Match → List Block → List Act → Type 0
-One r m due H = (s : Streams) (K : List Act) (final : Match) → IsMatchFrom r m due K final → AreOf s H → AreOf s K
+One r m due H = (s : Streams) (K : List Act) (final : Match) → IsMatchFrom r m due K final → Held s H → Held s K
     → H ≡ K
 
 one_sends : (r : Rules) (m : Match) (b : Block) (due : List Block) (H : List Act) → One r m due H
     → One r m (b ∷ due) (Sends b ∷ H)
 one_sends r m b due H p s (Sends c ∷ K) final (e, g) o q =
-    let same : H ≡ K = p s K final g (of_sent s b H o) (of_sent s c K q) in rw (e, same) refl
+    let same : H ≡ K = p s K final g o q in rw (e, same) refl
 one_sends r m b due H p s (SendFails c ∷ K) final g o q = none_broke s c K q
 one_sends r m b due H p s [] final g o q = absurd g
 one_sends r m b due H p s (Reads S t ∷ K) final g o q = absurd g
@@ -208,21 +193,21 @@ one_reads r m S t n H aw p s K final g o q = let (e, J, x) = next r m final K g 
     at : (e : Option Event) (J : List Act) → Begins r m final K J e → Reads S t ∷ ReadsClock S n ∷ H ≡ K
     at None J (is, over) = both_not (is_over m.phase) (on_when_read m.phase S aw) over
     at (Some (Line c u k)) J x =
-        let q' : AreOf s (Reads c u ∷ ReadsClock c k ∷ J) = subst (λ (L : List Act). AreOf s L) x.0 q in
+        let q' : Held s (Reads c u ∷ ReadsClock c k ∷ J) = subst (λ (L : List Act). Held s L) x.0 q in
         let side : S ≡ c = one_awaits m.phase S c aw x.1 in
         let same : Line S t n ≡ Line c u k = same_line S c t u n k (s.moments 0) (first_line s S t n H o).0
         (first_line s c u k J q').0 (s.lines S) (s.lines c) side (first_line s S t n H o).1 (first_line s c u k J q').1
-        (ap s.lines side) (first_moment n (moments_shown H) s.moments o.moments)
-        (first_moment k (moments_shown J) s.moments q'.moments) in
+        (ap s.lines side) (first_moment n (moments_shown H) s.moments o.3)
+        (first_moment k (moments_shown J) s.moments q'.3) in
         let y : Begins r m final K J (Some (Line S t n)) =
         subst (λ (e : Event). Begins r m final K J (Some e)) (sym same) x in
         ap (λ (L : List Act). Reads S t ∷ ReadsClock S n ∷ L) (p (after_read S t s) J final y.2 (of_read s S t n H o)
-        (of_read s S t n J (subst (λ (L : List Act). AreOf s L) y.0 q))) ∙ sym y.0
+        (of_read s S t n J (subst (λ (L : List Act). Held s L) y.0 q))) ∙ sym y.0
     at (Some (Opened c k)) J x = awaits_or_opens m.phase S c aw x.1
     at (Some (OutputEnds c)) J x = line_not_none s S c t n H (one_awaits m.phase S c aw x.1) o
-        (ended_none s c J (none_read r _ final _ J x.2 refl) (subst (λ (L : List Act). AreOf s L) x.0 q)).0
+        (ended_none s c J (none_read r _ final _ J x.2 refl) (subst (λ (L : List Act). Held s L) x.0 q)).0
     at (Some (FailsToRead c)) J x = line_not_none s S c t n H (one_awaits m.phase S c aw x.1) o
-        (failed_none s c J (none_read r _ final _ J x.2 refl) (subst (λ (L : List Act). AreOf s L) x.0 q)).0
+        (failed_none s c J (none_read r _ final _ J x.2 refl) (subst (λ (L : List Act). Held s L) x.0 q)).0
     at (Some (FailsToWrite c)) J x = absurd x
 
 one_opens : (r : Rules) (m : Match) (S : Colour) (n : ℕ) (H : List Act) → m.phase ≡ Opening S
@@ -232,14 +217,14 @@ one_opens r m S n H opening p s K final g o q = let (e, J, x) = next r m final K
     at : (e : Option Event) (J : List Act) → Begins r m final K J e → ReadsClock S n ∷ H ≡ K
     at None J (is, over) = both_not (is_over m.phase) (ap is_over opening) over
     at (Some (Opened c k)) J x =
-        let q' : AreOf s (ReadsClock c k ∷ J) = subst (λ (L : List Act). AreOf s L) x.0 q in
+        let q' : Held s (ReadsClock c k ∷ J) = subst (λ (L : List Act). Held s L) x.0 q in
         let same : Opened S n ≡ Opened c k = same_opened S c n k (s.moments 0) m.phase opening x.1
-        (first_moment n (moments_shown H) s.moments o.moments)
-        (first_moment k (moments_shown J) s.moments q'.moments) in
+        (first_moment n (moments_shown H) s.moments o.3)
+        (first_moment k (moments_shown J) s.moments q'.3) in
         let y : Begins r m final K J (Some (Opened S n)) =
         subst (λ (e : Event). Begins r m final K J (Some e)) (sym same) x in
         ap (λ (L : List Act). ReadsClock S n ∷ L) (p (record s { moments = λ n. s.moments (suc n) }) J final y.2
-        (of_opened s S n H o) (of_opened s S n J (subst (λ (L : List Act). AreOf s L) y.0 q))) ∙ sym y.0
+        (of_opened s S n H o) (of_opened s S n J (subst (λ (L : List Act). Held s L) y.0 q))) ∙ sym y.0
     at (Some (Line c u k)) J x = awaits_or_opens m.phase c S x.1 opening
     at (Some (OutputEnds c)) J x = awaits_or_opens m.phase c S x.1 opening
     at (Some (FailsToRead c)) J x = awaits_or_opens m.phase c S x.1 opening
@@ -259,11 +244,11 @@ one_ends r m S H aw u p s K final g o q = let (e, J, x) = next r m final K g in 
         let y : Begins r m final K J (Some (OutputEnds S)) =
         subst (λ (d : Colour). Begins r m final K J (Some (OutputEnds d))) (one_awaits m.phase c S x.1 aw) x in
         ap (λ (L : List Act). ReadsEnd S ∷ L) (p s J final y.2 (of_end s S H o)
-        (of_end s S J (subst (λ (L : List Act). AreOf s L) y.0 q))) ∙ sym y.0
+        (of_end s S J (subst (λ (L : List Act). Held s L) y.0 q))) ∙ sym y.0
     at (Some (Line c u k)) J x = line_not_none s c S u k J (one_awaits m.phase c S x.1 aw)
-        (subst (λ (L : List Act). AreOf s L) x.0 q) none.0
+        (subst (λ (L : List Act). Held s L) x.0 q) none.0
     at (Some (FailsToRead c)) J x = both_not (s.fails S) none.1 (ap s.fails (one_awaits m.phase S c aw x.1)
-        ∙ (failed_none s c J (none_read r _ final _ J x.2 refl) (subst (λ (L : List Act). AreOf s L) x.0 q)).1)
+        ∙ (failed_none s c J (none_read r _ final _ J x.2 refl) (subst (λ (L : List Act). Held s L) x.0 q)).1)
     at (Some (Opened c k)) J x = awaits_or_opens m.phase S c aw x.1
     at (Some (FailsToWrite c)) J x = absurd x
 
@@ -281,11 +266,11 @@ one_fails r m S H aw u p s K final g o q = let (e, J, x) = next r m final K g in
         let y : Begins r m final K J (Some (FailsToRead S)) =
         subst (λ (d : Colour). Begins r m final K J (Some (FailsToRead d))) (one_awaits m.phase c S x.1 aw) x in
         ap (λ (L : List Act). ReadFails S ∷ L) (p s J final y.2 (of_failure s S H o)
-        (of_failure s S J (subst (λ (L : List Act). AreOf s L) y.0 q))) ∙ sym y.0
+        (of_failure s S J (subst (λ (L : List Act). Held s L) y.0 q))) ∙ sym y.0
     at (Some (Line c u k)) J x = line_not_none s c S u k J (one_awaits m.phase c S x.1 aw)
-        (subst (λ (L : List Act). AreOf s L) x.0 q) none.0
+        (subst (λ (L : List Act). Held s L) x.0 q) none.0
     at (Some (OutputEnds c)) J x = both_not (s.fails S) (ap s.fails (one_awaits m.phase S c aw x.1)
-        ∙ (ended_none s c J (none_read r _ final _ J x.2 refl) (subst (λ (L : List Act). AreOf s L) x.0 q)).1) none.1
+        ∙ (ended_none s c J (none_read r _ final _ J x.2 refl) (subst (λ (L : List Act). Held s L) x.0 q)).1) none.1
     at (Some (Opened c k)) J x = awaits_or_opens m.phase S c aw x.1
     at (Some (FailsToWrite c)) J x = absurd x
 
@@ -314,7 +299,10 @@ only_one_match r s H K final final' h k o q = (by_cases r final
       ends = λ m end S H aw p. (one_ends r m S H aw (p.1 refl) p.0, awaits m S aw);
       read_fails = λ m end S H aw p. (one_fails r m S H aw (p.1 refl) p.0, awaits m S aw);
     }) (λ over. (one_over r final over, λ x. refl)) beginning.after (blocks_from White beginning.to) H h).0 s K final'
-    k o q
+    k (held H o) (held K q)
   where
+    held : (H : List Act) → AreOf s H → Held s H
+    held H o = (o.lines, o.ends, o.failures, o.moments, o.sent)
+
     awaits : {A : Type 0} (m : Match) (S : Colour) → awaits_line m.phase S ≡ true → is_over m.phase ≡ true → A
     awaits m S aw over = both_not (is_over m.phase) (on_when_read m.phase S aw) over

@@ -5,6 +5,7 @@ use Rattle.chess_base.specs.declared.man.Colour.TheVariants.{White, Black}
 use Rattle.chess_base.specs.declared.man.Move.{Move}
 use Rattle.chess_base.specs.Men.{other, same_colour}
 use Rattle.chess_base.specs.Options.{list_if}
+use Rattle.chess_base.proofs.shared.Men.{other-other}
 use Rattle.cecp_engine.specs.EngineLines.{line_kind, Moves}
 use Rattle.cecp_engine.specs.Items.{has_done}
 use Rattle.chess_match.specs.Acts.{Act, Sends, SendFails, Reads, ReadsEnd, ReadFails, ReadsClock, awaits_line, is_over}
@@ -60,55 +61,34 @@ reads_on r m m' final lines lines' p same next c e =
           (rw (same c, same (other c)) n.2),
     )
 
+own_line : (d : Colour) (t : Option (List ℕ)) (lines : Streamed) → with_line d t lines d ≡ t ∷ lines d
+own_line White t lines = refl
+own_line Black t lines = refl
+
+others_line : (d : Colour) (t : Option (List ℕ)) (lines : Streamed) → with_line d t lines (other d) ≡ lines (other d)
+others_line White t lines = refl
+others_line Black t lines = refl
+
 -- the side on move plays
 reads_move : (r : Rules) (m m' final : Match) (d : Colour) (opened : ℕ) (t : Option (List ℕ)) (text : List ℕ)
-    (move : Move)
-    (lines : Streamed) → m.phase ≡ BeforeMove d opened → m'.phase ≡ AfterMove d
+    (move : Move) (lines : Streamed) → m.phase ≡ BeforeMove d opened → m'.phase ≡ AfterMove d
     → mover r.first m.played ≡ d → m'.played ≡ m.played ++ move ∷ [] → line_kind t ≡ Moves text
-    → r.reading m.played text ≡ Some move → ReadsOff r m' final lines
-    → ReadsOff r m final (with_line d t lines)
+    → r.reading m.played text ≡ Some move → ReadsOff r m' final lines → ReadsOff r m final (with_line d t lines)
 reads_move r m m' final d opened t text move lines p p' turn played kind reading next c e =
-    rw (sym e ∙ turn) (by_side d p p' turn kind
-    (next (other d) (ap (λ (ms : List Move). mover r.first ms) played ∙ mover-snoc r.first m.played move
-    ∙ ap other turn)))
-  where
-    longer : (n : List Move) → final.played ≡ m'.played ++ n → final.played ≡ m.played ++ (move ∷ n)
-    longer n h = h ∙ ap (λ (ms : List Move). ms ++ n) played ∙ append_assoc m.played (move ∷ []) n
-
-    by_side : (d : Colour) → m.phase ≡ BeforeMove d opened → m'.phase ≡ AfterMove d → mover r.first m.played ≡ d
-        → line_kind t ≡ Moves text
-        → ((n : List Move) × (final.played ≡ m'.played ++ n)
-        × AreRead r m'.played n (ahead m'.phase (other d) (lines (other d)))
-        (ahead m'.phase (other (other d)) (lines (other (other d)))))
-        → (more : List Move) × (final.played ≡ m.played ++ more)
-        × AreRead r m.played more (ahead m.phase d (with_line d t lines d))
-        (ahead m.phase (other d) (with_line d t lines (other d)))
-    by_side White p p' turn kind n =
-        rw (p, kind) (
-          move ∷ n.0,
-          longer n.0 n.1,
-          (
-            text,
-            moves_said (lines White),
-            refl,
-            reading,
-            subst (λ (ms : List Move). AreRead r ms n.0 (moves_said (lines Black)) (moves_said (lines White))) played
-                (rw p' at n.2),
-          ),
-        )
-    by_side Black p p' turn kind n =
-        rw (p, kind) (
-          move ∷ n.0,
-          longer n.0 n.1,
-          (
-            text,
-            moves_said (lines Black),
-            refl,
-            reading,
-            subst (λ (ms : List Move). AreRead r ms n.0 (moves_said (lines White)) (moves_said (lines Black))) played
-                (rw p' at n.2),
-          ),
-        )
+    let (more, same, read) = next (other d) (ap (λ (ms : List Move). mover r.first ms) played
+    ∙ mover-snoc r.first m.played move ∙ ap other turn) in
+    rw (sym e ∙ turn, p, own_line d t lines, others_line d t lines, kind) (
+      move ∷ more,
+      same ∙ ap (λ (ms : List Move). ms ++ more) played ∙ append_assoc m.played (move ∷ []) more,
+      (
+        text,
+        moves_said (lines d),
+        refl,
+        reading,
+        subst (λ (ms : List Move). AreRead r ms more (moves_said (lines (other d))) (moves_said (lines d))) played
+            (rw (p', other-other d) at read),
+      ),
+    )
 
 -- ---- the end
 
@@ -142,16 +122,9 @@ reads_decided : (r : Rules) (m final : Match) (d : Colour) (opened : ℕ) (t : O
     (move : Move) (lines : Streamed) → m.phase ≡ BeforeMove d opened → mover r.first m.played ≡ d
     → final.played ≡ m.played ++ move ∷ [] → line_kind t ≡ Moves text → r.reading m.played text ≡ Some move
     → ((S : Colour) → lines S ≡ []) → ReadsOff r m final (with_line d t lines)
-reads_decided r m final d opened t text move lines p turn played kind reading none c e = rw (sym e ∙ turn) (by_side d p)
-  where
-    by_side : (d : Colour) → m.phase ≡ BeforeMove d opened
-        → (more : List Move) × (final.played ≡ m.played ++ more)
-        × AreRead r m.played more (ahead m.phase d (with_line d t lines d))
-        (ahead m.phase (other d) (with_line d t lines (other d)))
-    by_side White p =
-        rw (p, none White, none Black, kind) (move ∷ [], played, (text, [], refl, reading, omega arith))
-    by_side Black p =
-        rw (p, none White, none Black, kind) (move ∷ [], played, (text, [], refl, reading, omega arith))
+reads_decided r m final d opened t text move lines p turn played kind reading none c e =
+    rw (sym e ∙ turn, p, own_line d t lines, others_line d t lines, none d, none (other d), kind)
+    (move ∷ [], played, (text, [], refl, reading, omega arith))
 
 -- ---- the lines
 

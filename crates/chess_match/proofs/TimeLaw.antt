@@ -147,7 +147,8 @@ all_more whole r true used u =
     (sum (used ++ u ∷ [])) (omega (arith, l)) (omega (arith, s)))
     ∙ from-append whole r.level used (time_left r.level (length (used ++ u ∷ [])) (sum (used ++ u ∷ [])) / 10 ∷ [])
 
--- where S's clock that is shown to O changes, all was sent before, and the last is to be sent after; else it is as it was
+-- where S's clock that is shown to O changes, all was sent before, and the last is to be sent after; else it is as it
+-- was
 none_before : (own : Bool) (S O : Colour) (opened : ℕ) (t : List ℕ) → same_colour S (whose own O) ≡ true
     → pending own (BeforeMove S opened) O t ≡ []
 none_before own S O opened t h1 = grind arith
