@@ -3,6 +3,7 @@ pub mod Texts
 pub mod Represents
 pub mod Chess
 pub mod Steps
+pub mod Sane
 pub mod Reported
 pub mod Awaits
 pub mod Delivering

@@ -1,10 +1,10 @@
 -- A line without features has no items (OtherLines.no_items_said), and taking over none leaves what the core stands for
--- (Going.no_items_stand).
+-- (CoreSteps.no_items_stand).
 use Rattle.std.proofs.Common.{refl}
 use Rattle.cecp_engine.specs.Items.{has_done}
 use Rattle.cecp_engine.specs.Seen.{seen}
-use Rattle.chess_match.specs.laws.Machine.{items_of_line}
-use Rattle.chess_match.proofs.Going.{no_items_stand}
+use Rattle.chess_match.specs.Effects.{items_said}
+use Rattle.chess_match.proofs.CoreSteps.{no_items_stand}
 use Rattle.chess_match.proofs.OtherLines.{no_items_said}
 use Rattle.chess_match.proofs.Sends.{no_answers_of}
 use Rattle.chess_match.proofs.state.MatchState.take_line_items.Goals as goal
@@ -23,5 +23,5 @@ returns-in_default-clause-done c = rw (no_items_said c.args.line c.in_default.no
 
 pub returns-in_default-clause-answers : goal.returns-in_default-clause-answers
 returns-in_default-clause-answers c =
-    no_answers_of _ (items_of_line (seen c.args.line)) c.requires.empty
+    no_answers_of _ (items_said (seen c.args.line)) c.requires.empty
     (no_items_said c.args.line c.in_default.not-Features)
