@@ -1,21 +1,17 @@
 -- What the code keeps of the matches that effects leave.
 use native.Mathlib.Omega.{arith}
-use Rattle.std.proofs.Common.{◌≡◌, ℕ, ◌+◌, true, false, List, ◌++◌, refl, ap, Option, None, Some}
-use Rattle.std.specs.Prelude.{nat_le}
+use Rattle.std.proofs.Common.{◌≡◌, ℕ, ◌+◌, true, List, ◌++◌, refl, ap, Option, Some}
 use Rattle.chess_base.specs.declared.man.Colour.{Colour}
 use Rattle.chess_base.specs.declared.man.Colour.TheVariants.{White, Black}
 use Rattle.chess_base.specs.declared.man.Move.{Move}
 use Rattle.chess_game.specs.declared.verdicts.Verdict.{Verdict}
-use Rattle.cecp_engine.specs.Items.{Item, has_done}
+use Rattle.cecp_engine.specs.Items.{Item}
 use Rattle.chess_match.specs.Effects as effects
 use Rattle.chess_match.specs.Events.{Seat}
-use Rattle.chess_match.specs.Rules.{Rules}
 use Rattle.chess_match.specs.declared.phase.Phase.{Phase}
 use Rattle.chess_match.specs.declared.phase.Phase.TheVariants.{AwaitMove}
-use Rattle.chess_match.specs.declared.reason.MatchFault.{MatchFault}
-use Rattle.chess_match.specs.declared.reason.MatchFault.TheVariants.{NoDone}
 use Rattle.chess_match.specs.declared.reason.Reason.{Reason}
-use Rattle.chess_match.specs.declared.reason.Reason.TheVariants.{Decided, Faulted}
+use Rattle.chess_match.specs.declared.reason.Reason.TheVariants.{Decided}
 use Rattle.chess_match.specs.laws.Machine.{Match, kept_match, opened_kept, over, phase_kept, phase_of, played_by, seat, take_items, unsent_kept, view, with_seat}
 use Rattle.chess_match.specs.laws.Transcript.{reads}
 
@@ -115,29 +111,3 @@ items_kept White items n m here =
     stays m White (record m.white { items = m.white.items ++ items }) m.black n here
 items_kept Black items n m here =
     stays m Black m.white (record m.black { items = m.black.items ++ items }) n here
-
--- a line of a handshake that ends it, one that is one too many, and any other
-pub done_kept : (r : Rules) (S : Colour) (items : List Item) (m : Match) → has_done items ≡ true
-    → kept_match m (effects.handshake_row r S items (view m)).after
-    ≡ kept_match (take_items S items m) (effects.handshake_done r S (view (take_items S items m))).after
-done_kept r White items m e = rw e refl
-done_kept r Black items m e =
-    rw e (at (effects.missing r m.white.items) (effects.missing r (m.black.items ++ items)))
-  where
-    at : (w b : Option MatchFault) → kept_match m (effects.judged r w b (with_items Black items m)).after
-        ≡ kept_match (take_items Black items m) (effects.judged r w b (view (take_items Black items m))).after
-    at (Some f) b = refl
-    at None (Some f) = refl
-    at None None = refl
-
-pub many_kept : (r : Rules) (S : Colour) (items : List Item) (m : Match) → has_done items ≡ false
-    → nat_le 1000 (m.count + 1) ≡ true
-    → kept_match m (effects.handshake_row r S items (view m)).after ≡ over (Faulted S NoDone) (take_items S items m)
-many_kept r White items m e f = rw (e, f) refl
-many_kept r Black items m e f = rw (e, f) refl
-
-pub more_kept : (r : Rules) (S : Colour) (items : List Item) (m : Match) → reads m.phase S ≡ true
-    → has_done items ≡ false → nat_le 1000 (m.count + 1) ≡ false
-    → kept_match m (effects.handshake_row r S items (view m)).after
-    ≡ (let m' = take_items S items m in record m' { count = m.count + 1 })
-more_kept r S items m here e f = rw (e, f) (items_kept S items (m.count + 1) m here)

@@ -1,5 +1,5 @@
 -- What holds of every match that is played stays so with every event.
-use Rattle.std.proofs.Common.{◌≡◌, ℕ, ◌+◌, ◌-◌, ◌<◌, ◌≤◌, Bool, true, false, List, [], ◌∷◌, ◌++◌, length, length-append, refl, ap, sym, ◌∙◌, subst, Option, None, Some, arith}
+use Rattle.std.proofs.Common.{◌≡◌, ℕ, ◌+◌, ◌-◌, ◌≤◌, Bool, true, false, List, [], ◌∷◌, ◌++◌, length, length-append, refl, ap, sym, ◌∙◌, subst, Option, None, Some, arith}
 use Rattle.std.proofs.lemmas.Bool.Decides.{nat_tests}
 use Rattle.std.specs.Option.{option_map_or}
 use Rattle.std.specs.Prelude.{◌==◌, if◌then◌else◌, nat_le, nat_lt}
@@ -7,7 +7,7 @@ use Rattle.chess_base.specs.declared.man.Colour.{Colour}
 use Rattle.chess_base.specs.declared.man.Colour.TheVariants.{White, Black}
 use Rattle.chess_base.specs.declared.man.Move.{Move}
 use Rattle.chess_base.specs.Men.{other, same_colour}
-use Rattle.cecp_engine.specs.EngineLines.{LineKind, Features, Moves, Resigns, OffersDraw, ClaimsDraw, ClaimsWin, Rejects, Answers, SaysElse, line_kind}
+use Rattle.cecp_engine.specs.EngineLines.{LineKind, Moves, Resigns, OffersDraw, ClaimsDraw, ClaimsWin, Rejects, Answers, line_kind}
 use Rattle.cecp_engine.specs.Items.{Item, has_done}
 use Rattle.chess_match.specs.Acts.{awaits_line, is_over}
 use Rattle.chess_match.specs.Effects.{Match, Phase, Handshake, Setup, Opening, BeforeMove, AfterMove, Over, Effect, after_move, before_move, beginning, clock, effect, handshake_done, handshake_row, ignores, items_said, judged, line_row, missing, move_row, moved, offer_row, ping_number, setup_row, turn_row, was_sent_move, with_seat}
@@ -21,7 +21,6 @@ use Rattle.chess_match.specs.declared.reason.Reason.TheVariants as over_by
 use Rattle.chess_match.specs.ties.Driving.{is_of_output}
 use Rattle.chess_match.specs.ties.Sane.{IsSane, IsWritten, in_turn}
 use Rattle.chess_match.proofs.CoreSteps.{on_awaiting}
-use Rattle.chess_base.proofs.shared.Men.{same_colour-true}
 
 pub sane_start : (r : Rules) → IsSane r beginning.after
 sane_start r = record { undecided = λ h. absurd cc; few = λ S. omega arith; count = omega arith }

@@ -30,6 +30,7 @@ impl MatchState {
 }
 
 // Appends the line with the last move, if there is one, in the form that this side's engine asked for.
+#[tactic(auto, using(crate::proofs::Sends::no_last, crate::proofs::Sends::last_kept, crate::proofs::Sends::same_end))]
 fn add_last(block: &mut Block, core: &MatchState, side: Colour)
     requires { array_vec_len block.old + 20 ≤ BLOCK_LEN }
     ensures text { (r : Rules) (played : List Move) (m : Match) → Represents r core.now played m
@@ -117,6 +118,7 @@ fn add_setup<G: MatchGame>(block: &mut Block, core: &MatchState, game: &G)
 }
 
 // Appends the line with the last move, if this side is still to be sent it.
+#[tactic(auto, using(crate::proofs::Sends::same_end))]
 fn add_unsent(block: &mut Block, core: &MatchState, side: Colour)
     requires { array_vec_len block.old + 20 ≤ BLOCK_LEN }
     ensures text { (r : Rules) (played : List Move) (m : Match) → Represents r core.now played m
@@ -158,6 +160,7 @@ fn is_unwritten(reason: Reason, side: Colour) -> bool
 }
 
 // Appends the lines that this side is sent when the match enters the phase that it is in; none if writing to it failed.
+#[tactic(auto, using(crate::proofs::Sends::same_end))]
 fn add_entry<G: MatchGame>(block: &mut Block, core: &MatchState, game: &G, side: Colour)
     requires { array_vec_len block.old + 300 ≤ BLOCK_LEN }
     ensures { (r : Rules) (m : Match) → G.plays game.now r → Represents r core.now (G.played game.now) m

@@ -21,6 +21,7 @@ use chess_base::Colour;
 
 // Appends to the block what this side is sent after the answers to its items, as far as `given` says so: an offer of a
 // draw, and the lines of the phase.
+#[tactic(auto, using(crate::proofs::Sends::bytes_after))]
 fn add_rest<G: MatchGame>(
     block: &mut Block,
     core: &MatchState,

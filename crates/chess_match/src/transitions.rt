@@ -26,6 +26,7 @@ impl MatchState {
     }
 
     // Goes on to this phase, in which lines are counted from 0, and returns what is to be sent: the lines of the phase.
+    #[tactic(auto, using(crate::proofs::CoreSteps::enter_goes))]
     pub(crate) fn enter(&mut self, phase: Phase) -> Actions
         ensures { (r : Rules) (played : List Move) (m : Match)
             → ((S : Colour) → is_unsent self.old.last S ≡ is_owed (phase_of self.old.opened phase) S)

@@ -1,5 +1,5 @@
 -- The core goes over to the end, and the block that this gives is sent.
-use Rattle.std.proofs.Common.{◌<◌, length, ap, subst, sym, ◌∙◌}
+use Rattle.std.proofs.Common.{◌<◌, length, ap, subst, ◌∙◌}
 use Rattle.chess_base.specs.declared.man.Colour.{Colour}
 use Rattle.chess_match.specs.Acts.{is_over}
 use Rattle.chess_match.specs.Effects.{Effect, effect}

@@ -1,12 +1,12 @@
 -- With the line's items parsed, the core stands for the match that parsed them. What comes next is sent after the
 -- answers (CoreSteps.answered_goes).
-use Rattle.std.proofs.Common.{◌≡◌, ◌+◌, ◌++◌, true, false, sym, ◌∙◌, ap, arith, le-leb}
+use Rattle.std.proofs.Common.{◌≡◌, ◌+◌, true, false, sym, ap, arith, le-leb}
 use Rattle.std.proofs.lemmas.Bool.{lt-leb}
 use Rattle.std.specs.Prelude.{nat_le}
 use Rattle.cecp_engine.specs.Items.{has_done}
 use Rattle.cecp_engine.specs.Seen.{seen}
 use Rattle.chess_match.specs.Acts.{is_over}
-use Rattle.chess_match.specs.Effects.{Match, items_said, with_seat}
+use Rattle.chess_match.specs.Effects.{items_said}
 use Rattle.chess_match.proofs.CoreSteps.{answered_goes, counted_goes}
 use Rattle.chess_match.proofs.state.MatchState.handshake_line.Goals as goal
 

@@ -1,11 +1,10 @@
 -- The phase of the core is that of the match, and each phase has a function whose contract is the row of that phase; in
 -- an opening or at the end no line is read.
-use Rattle.std.proofs.Common.{◌≡◌, true, false, ap, sym, ◌∙◌}
-use Rattle.chess_match.specs.Acts.{awaits_line}
-use Rattle.chess_match.specs.Effects.{Phase, Handshake, Setup, BeforeMove, AfterMove}
+use Rattle.std.proofs.Common.{◌≡◌, ap, ◌∙◌}
+use Rattle.chess_match.specs.Effects.{Handshake, Setup, BeforeMove, AfterMove}
 use Rattle.chess_match.specs.ties.Represents.{phase_of}
 use Rattle.chess_match.proofs.CoreSteps.{row_goes}
-use Rattle.chess_match.proofs.Sends.{answers_own, no_answers}
+use Rattle.chess_match.proofs.Sends.{answers_own}
 use Rattle.chess_match.proofs.state.MatchState.line.Goals as goal
 
 pub returns-in-Handshake-clause-goes : goal.returns-in-Handshake-clause-goes
@@ -33,35 +32,6 @@ returns-in-AwaitMove-clause-goes g c r m side text p h k s =
     rw (k, c.in-AwaitMove.is) (row_goes r _ _ _ _ _ _ m (BeforeMove c.in-AwaitMove.side c.args.self.now.opened) at
     (c.before_line.ensures.goes r m p at s))
 
-pub returns-in-SendTurn-clause-goes : goal.returns-in-SendTurn-clause-goes
-returns-in-SendTurn-clause-goes g c r m side text p h k s =
-    let at : awaits_line m.phase side ≡ false =
-    ap (λ (q : Phase). awaits_line q side) (s.phase ∙ ap (phase_of c.args.self.now.opened) c.in-SendTurn.is) in
-    let no : true ≡ false = sym h ∙ at in
-    cc
-
-pub returns-in-Over-clause-goes : goal.returns-in-Over-clause-goes
-returns-in-Over-clause-goes g c r m side text p h k s =
-    let at : awaits_line m.phase side ≡ false =
-    ap (λ (q : Phase). awaits_line q side) (s.phase ∙ ap (phase_of c.args.self.now.opened) c.in-Over.is) in
-    let no : true ≡ false = sym h ∙ at in
-    cc
-
 pub returns-in-Handshake-clause-answers : goal.returns-in-Handshake-clause-answers
 returns-in-Handshake-clause-answers g c side h =
     answers_own _ _ _ _ side _ c.in-Handshake.is h c.handshake_line.ensures.answers
-
-pub returns-in-Setup-clause-answers : goal.returns-in-Setup-clause-answers
-returns-in-Setup-clause-answers g c side h = rw c.in-Setup.is (no_answers _ c.requires.empty)
-
-pub returns-in-AwaitMove-clause-answers : goal.returns-in-AwaitMove-clause-answers
-returns-in-AwaitMove-clause-answers g c side h = rw c.in-AwaitMove.is (no_answers _ c.requires.empty)
-
-pub returns-in-AwaitPong-clause-answers : goal.returns-in-AwaitPong-clause-answers
-returns-in-AwaitPong-clause-answers g c side h = rw c.in-AwaitPong.is (no_answers _ c.requires.empty)
-
-pub returns-in-SendTurn-clause-answers : goal.returns-in-SendTurn-clause-answers
-returns-in-SendTurn-clause-answers g c side h = rw c.in-SendTurn.is (no_answers _ c.requires.empty)
-
-pub returns-in-Over-clause-answers : goal.returns-in-Over-clause-answers
-returns-in-Over-clause-answers g c side h = rw c.in-Over.is (no_answers _ c.requires.empty)

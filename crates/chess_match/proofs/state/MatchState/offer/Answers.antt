@@ -1,6 +1,6 @@
 -- The open offers are those of the match, and what is kept of the other engine says whether it takes draws, so
 -- that it is sent a new offer exactly where the match says so (CoreSteps.offered_goes).
-use Rattle.std.proofs.Common.{◌≡◌, true, false, sym, ◌∙◌, ap}
+use Rattle.std.proofs.Common.{◌≡◌, true, false, ◌∙◌, ap}
 use Rattle.std.specs.Prelude.{codes}
 use Rattle.chess_base.specs.Men.{other}
 use Rattle.cecp_engine.specs.Items.{takes}

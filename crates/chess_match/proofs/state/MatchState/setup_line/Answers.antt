@@ -1,14 +1,9 @@
 -- Only the answer to `ping 1` makes the side ready; any other line is ignored.
-use Rattle.std.proofs.Common.{◌≡◌, true, false, ap, eq-eqb, ne_eqb}
+use Rattle.std.proofs.Common.{◌≡◌, false, ap, ne_eqb}
 use Rattle.std.specs.Prelude.{◌==◌}
 use Rattle.chess_match.specs.Acts.{is_over}
 use Rattle.chess_match.proofs.OtherLines.{setup_other}
 use Rattle.chess_match.proofs.state.MatchState.setup_line.Goals as goal
-
-pub returns-then-number-eq1 : goal.returns-then-number-eq1
-returns-then-number-eq1 g c r m p at s =
-    let answered : (c.in-Pong.number == 1) ≡ true = eq-eqb c.in-Pong.number 1 c.if-number-eq1.true in
-    rw (c.in-Pong.is, answered) (c.ready.ensures r m p at s)
 
 pub returns-else-number-eq1 : goal.returns-else-number-eq1
 returns-else-number-eq1 g c r m p at s =
