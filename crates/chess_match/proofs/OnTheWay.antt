@@ -100,8 +100,30 @@ begun r old new core played failed (m, K, d) = (
   record { stands = d.stands; sane = d.sane (sane_start r); passes = d.passes; leads = d.leads; fine = d.fine },
 )
 
--- ---- a line, an end, or a read that failed
+-- ---- one event more
 
+-- a match that is not over came to `m'` by the steps `J`
+came : (r : Rules) (old now new : Passing) (core core' : MatchState) (played played' : List Move)
+    (failed failed' : Colour → Bool) (m m' : Match) (K J : List Step)
+    → IsOnTheWay r old now core played failed m K → is_over m.phase ≡ false → Represents r core' played' m'
+    → IsSane r m' → Passes now new J → Leads r m [] J m' [] failed'
+    → (is_over m'.phase ≡ false → (S : Colour) → failed' S ≡ false) → OnTheWay r old new core' played' failed'
+came r old now new core core' played played' failed failed' m m' K J w on stands sane passes leads fine = (
+  m',
+  K ++ J,
+  record {
+    stands = stands;
+    sane = sane;
+    passes = passed_more old now new K J w.passes passes;
+    leads = leads_as r beginning.after m' (blocks_from White beginning.to) [] (K ++ J)
+        (λ X. failed X || failed' X) failed' (λ X. ap (λ (b : Bool). b || failed' X) (w.fine on X))
+        (leads_on r beginning.after m m' (blocks_from White beginning.to) [] [] K J failed failed'
+        (λ h. let no : false ≡ true = sym on ∙ h in absurd cc) w.leads leads);
+    fine = fine;
+  },
+)
+
+-- by a line, an end, or a read that failed, and what was then sent
 pub went_on : (r : Rules) (old now between new : Passing) (core core' : MatchState) (played played' : List Move)
     (failed failed' : Colour → Bool) (m : Match) (K : List Step) (S : Colour) (e : Event)
     → IsOnTheWay r old now core played failed m K → awaits_line m.phase S ≡ true
@@ -109,31 +131,14 @@ pub went_on : (r : Rules) (old now between new : Passing) (core core' : MatchSta
     → Delivered r between new core' played' (effect r m e).after (blocks_after S (effect r m e)) failed'
     → OnTheWay r old new core' played' failed'
 went_on r old now between new core core' played played' failed failed' m K S e w awaits is passes (m', J, d) =
-    let on : is_over m.phase ≡ false = on_awaiting m.phase S awaits in
     let t : Effect = effect r m e in
-    let both : Leads r m [] (steps_of e ++ J) m' [] (λ X. none X || failed' X) =
-    leads_on r m t.after m' [] (blocks_after S t) [] (steps_of e) J none failed'
-    (λ h. ap (λ (x : Match). x.phase) (d.stays h)) (leads_event r m S e is awaits) d.leads in
-    let all : Leads r beginning.after (blocks_from White beginning.to) (K ++ (steps_of e ++ J)) m' []
-    (λ X. failed X || (none X || failed' X)) =
-    leads_on r beginning.after m m' (blocks_from White beginning.to) [] [] K (steps_of e ++ J) failed
-    (λ X. none X || failed' X) (λ h. let no : false ≡ true = sym on ∙ h in absurd cc) w.leads both in (
-      m',
-      K ++ (steps_of e ++ J),
-      record {
-        stands = d.stands;
-        sane = d.sane (fine_after r m S e is awaits w.sane).0;
-        passes = passed_more old now new K (steps_of e ++ J) w.passes
-            (passed_more now between new (steps_of e) J passes d.passes);
-        leads = leads_as r beginning.after m' (blocks_from White beginning.to) [] (K ++ (steps_of e ++ J))
-            (λ X. failed X || (none X || failed' X)) failed'
-            (λ X. ap (λ (b : Bool). b || (none X || failed' X)) (w.fine on X)) all;
-        fine = d.fine;
-      },
-    )
+    came r old now new core core' played played' failed failed' m m' K (steps_of e ++ J) w
+    (on_awaiting m.phase S awaits) d.stands (d.sane (fine_after r m S e is awaits w.sane).0)
+    (passed_more now between new (steps_of e) J passes d.passes)
+    (leads_on r m t.after m' [] (blocks_after S t) [] (steps_of e) J none failed'
+    (λ h. ap (λ (x : Match). x.phase) (d.stays h)) (leads_event r m S e is awaits) d.leads) d.fine
 
--- ---- the moment at the end of an opening
-
+-- by the moment at the end of an opening
 pub opened_on : (r : Rules) (old now new : Passing) (core core' : MatchState) (played : List Move)
     (failed : Colour → Bool) (m : Match) (K : List Step) (S : Colour) (moment : ℕ)
     → IsOnTheWay r old now core played failed m K → m.phase ≡ Opening S
@@ -141,29 +146,15 @@ pub opened_on : (r : Rules) (old now new : Passing) (core core' : MatchState) (p
     → Represents r core' played (effect r m (Opened S moment)).after → OnTheWay r old new core' played failed
 opened_on r old now new core core' played failed m K S moment w opening passes stands =
     let on : is_over m.phase ≡ false = ap is_over opening in
-    let m1 : Match = (effect r m (Opened S moment)).after in (
-      m1,
-      K ++ steps_of (Opened S moment),
-      record {
-        stands = stands;
-        sane = record {
-          undecided = λ h. w.sane.undecided (ap in_turn opening);
-          few = w.sane.few;
-          count = w.sane.count;
-        };
-        passes = passed_more old now new K (steps_of (Opened S moment)) w.passes passes;
-        leads = leads_as r beginning.after m1 (blocks_from White beginning.to) []
-            (K ++ steps_of (Opened S moment)) (λ X. failed X || none X) failed (λ X. or_none (failed X))
-            (leads_on r beginning.after m m1 (blocks_from White beginning.to) [] [] K (steps_of (Opened S moment))
-            failed none (λ h. let no : false ≡ true = sym on ∙ h in absurd cc) w.leads
-            (leads_opened r m S moment opening));
-        fine = λ h. w.fine on;
-      },
-    )
-  where
-    or_none : (b : Bool) → (b || false) ≡ b
-    or_none true = refl
-    or_none false = refl
+    let m' : Match = (effect r m (Opened S moment)).after in
+    let sane : IsSane r m' = record {
+      undecided = λ h. w.sane.undecided (ap in_turn opening);
+      few = w.sane.few;
+      count = w.sane.count;
+    } in
+    came r old now new core core' played played failed failed m m' K (steps_of (Opened S moment)) w on stands sane
+    passes (leads_as r m m' [] [] (steps_of (Opened S moment)) none failed (λ X. sym (w.fine on X))
+    (leads_opened r m S moment opening)) (λ h. w.fine on)
 
 -- ---- what is left to do
 

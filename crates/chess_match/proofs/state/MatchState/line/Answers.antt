@@ -1,7 +1,6 @@
 -- The phase of the core is that of the match, and each phase has a function whose contract is the row of that phase; in
 -- an opening or at the end no line is read.
-use Rattle.std.proofs.Common.{◌≡◌, ap, ◌∙◌}
-use Rattle.chess_match.specs.Effects.{Handshake, Setup, BeforeMove, AfterMove}
+use Rattle.std.proofs.Common.{ap, ◌∙◌}
 use Rattle.chess_match.specs.ties.Represents.{phase_of}
 use Rattle.chess_match.proofs.CoreSteps.{row_goes}
 use Rattle.chess_match.proofs.Sends.{answers_own}
@@ -9,28 +8,23 @@ use Rattle.chess_match.proofs.state.MatchState.line.Goals as goal
 
 pub returns-in-Handshake-clause-goes : goal.returns-in-Handshake-clause-goes
 returns-in-Handshake-clause-goes g c r m side text p h k s =
-    let at : m.phase ≡ Handshake c.in-Handshake.side = s.phase ∙ ap (phase_of c.args.self.now.opened) c.in-Handshake.is in
-    rw (k, c.in-Handshake.is) (row_goes r _ _ _ _ _ _ m (Handshake c.in-Handshake.side) at
-    (c.handshake_line.ensures.goes r m p at s))
+    let at = s.phase ∙ ap (phase_of c.args.self.now.opened) c.in-Handshake.is in
+    rw (k, c.in-Handshake.is) (row_goes r _ _ _ _ _ _ m _ at (c.handshake_line.ensures.goes r m p at s))
 
 pub returns-in-Setup-clause-goes : goal.returns-in-Setup-clause-goes
 returns-in-Setup-clause-goes g c r m side text p h k s =
-    let at : m.phase ≡ Setup c.in-Setup.side = s.phase ∙ ap (phase_of c.args.self.now.opened) c.in-Setup.is in
-    rw (k, c.in-Setup.is) (row_goes r _ _ _ _ _ _ m (Setup c.in-Setup.side) at
-    (c.setup_line.ensures r m p at s))
-
-pub returns-in-AwaitPong-clause-goes : goal.returns-in-AwaitPong-clause-goes
-returns-in-AwaitPong-clause-goes g c r m side text p h k s =
-    let at : m.phase ≡ AfterMove c.in-AwaitPong.side = s.phase ∙ ap (phase_of c.args.self.now.opened) c.in-AwaitPong.is in
-    rw (k, c.in-AwaitPong.is) (row_goes r _ _ _ _ _ _ m (AfterMove c.in-AwaitPong.side) at
-    (c.after_line.ensures r m p at s))
+    let at = s.phase ∙ ap (phase_of c.args.self.now.opened) c.in-Setup.is in
+    rw (k, c.in-Setup.is) (row_goes r _ _ _ _ _ _ m _ at (c.setup_line.ensures r m p at s))
 
 pub returns-in-AwaitMove-clause-goes : goal.returns-in-AwaitMove-clause-goes
 returns-in-AwaitMove-clause-goes g c r m side text p h k s =
-    let at : m.phase ≡ BeforeMove c.in-AwaitMove.side c.args.self.now.opened =
-    s.phase ∙ ap (phase_of c.args.self.now.opened) c.in-AwaitMove.is in
-    rw (k, c.in-AwaitMove.is) (row_goes r _ _ _ _ _ _ m (BeforeMove c.in-AwaitMove.side c.args.self.now.opened) at
-    (c.before_line.ensures.goes r m p at s))
+    let at = s.phase ∙ ap (phase_of c.args.self.now.opened) c.in-AwaitMove.is in
+    rw (k, c.in-AwaitMove.is) (row_goes r _ _ _ _ _ _ m _ at (c.before_line.ensures.goes r m p at s))
+
+pub returns-in-AwaitPong-clause-goes : goal.returns-in-AwaitPong-clause-goes
+returns-in-AwaitPong-clause-goes g c r m side text p h k s =
+    let at = s.phase ∙ ap (phase_of c.args.self.now.opened) c.in-AwaitPong.is in
+    rw (k, c.in-AwaitPong.is) (row_goes r _ _ _ _ _ _ m _ at (c.after_line.ensures r m p at s))
 
 pub returns-in-Handshake-clause-answers : goal.returns-in-Handshake-clause-answers
 returns-in-Handshake-clause-answers g c side h =
