@@ -1,6 +1,6 @@
 -- How the core goes on, step by step.
 use Rattle.std.proofs.Common.{◌≡◌, ℕ, ◌+◌, ◌<◌, Bool, true, false, List, [], ◌∷◌, ◌++◌, length, length-append, refl, ap, sym, ◌∙◌, subst, Option, None, Some, append-nil, zero-add, arith}
-use Rattle.std.specs.Prelude.{if◌then◌else◌, codes, sum}
+use Rattle.std.specs.Prelude.{if◌then◌else◌, codes, nat_lt, sum}
 use Rattle.std.proofs.lemmas.List.Sums.{sum_by-append}
 use Rattle.chess_base.specs.declared.man.Colour.{Colour}
 use Rattle.chess_base.specs.declared.man.Colour.TheVariants.{White, Black}
@@ -50,6 +50,13 @@ pub clocks_left : (r : Rules) (core : MatchState) (played : List Move) (m : Matc
 clocks_left r core played m s White = ap (λ (c : ClocksSeen). remaining c White) s.clocks
 clocks_left r core played m s Black = ap (λ (c : ClocksSeen). remaining c Black) s.clocks
 
+-- the flag falls in the core where it falls in the match
+pub flag_kept : (r : Rules) (core : MatchState) (played : List Move) (m : Match) (S : Colour) (used elapsed : ℕ)
+    (fallen b : Bool) → Represents r core played m → used ≡ elapsed → fallen ≡ nat_lt (remaining core.clocks S) used
+    → fallen ≡ b → nat_lt (clock r m S) elapsed ≡ b
+flag_kept r core played m S used elapsed fallen b s e f h =
+    rw (← clocks_left r core played m s S, ← e) (sym f ∙ h)
+
 -- ---- into another phase
 
 -- the match is over
@@ -98,6 +105,12 @@ open_goes r core played S m s = record {
       λ h. none_unsent core.last in search (still_last r core.last m.played s.last, sent);
   gives = λ X. refl;
 }
+
+pub first_opens : (r : Rules) (core : MatchState) (played : List Move) (given : Actions) (m : Match) (S X : Colour)
+    → S ≡ X → Goes r core played given nothing_said (begins_turn r S m)
+    → Goes r core played given nothing_said (begins_turn r X m)
+first_opens r core played given m S X e h =
+    subst (λ (q : Colour). Goes r core played given nothing_said (begins_turn r q m)) e h
 
 -- the opening was sent
 pub opened_stands : (r : Rules) (core : MatchState) (played : List Move) (S : Colour) (moment : ℕ) (m : Match)

@@ -112,10 +112,8 @@ move_fine r S used None m s = over_fine r m _ s (λ X. refl)
 move_fine r S used (Some move) m s =
     let few = λ (X : Colour). moved_few m S X move used (s.few X) in
     one_of (Fine r) (r.verdict (m.played ++ move ∷ [])) _ _
-    (λ v e. (
-      record { undecided = λ h. absurd cc; few = few; count = s.count },
-      λ why f X. let same : over_by.Decided v ≡ why = cc in subst (λ x. is_unwritten x X ≡ false) same refl,
-    ))
+    (λ v e. over_fine r (record (moved S move used m) { phase = Over (over_by.Decided v) }) _
+    (record { undecided = λ h. absurd cc; few = few; count = s.count; }) (λ X. refl))
     (λ e. on_fine r (moved S move used m) refl (record { undecided = λ h. e; few = few; count = s.count }))
 
 before_fine : (r : Rules) (S : Colour) (used : ℕ) (kind : LineKind) (m : Match) → is_over m.phase ≡ false
@@ -134,26 +132,24 @@ after_fine r S kind m p s = turn_fine r S kind m (ap is_over p) s
 
 -- ---- before the game
 
-judged_fine : (r : Rules) (w b : Option MatchFault) (m : Match) → IsSane r m
-    → ((f : MatchFault) → (w ≡ Some f → (X : Colour) → is_unwritten (over_by.Faulted White f) X ≡ false)
-    × (b ≡ Some f → (X : Colour) → is_unwritten (over_by.Faulted Black f) X ≡ false))
-    → Fine r (judged r w b m).after
-judged_fine r (Some f) b m s mild =
-    over_fine r (record m { count = 0 }) _ (record { undecided = s.undecided; few = s.few; count = omega arith })
-    ((mild f).0 refl)
-judged_fine r None (Some f) m s mild =
-    over_fine r (record m { count = 0 }) _ (record { undecided = s.undecided; few = s.few; count = omega arith })
-    ((mild f).1 refl)
-judged_fine r None None m s mild = entered_fine r m (Setup White) refl (λ h. absurd cc) s
-
-missing_mild : (r : Rules) (items : List Item) (S : Colour) (f : MatchFault) → missing r items ≡ Some f → (X : Colour)
+missing_mild : (r : Rules) (items : List Item) (S : Colour) (f : MatchFault) → Some f ≡ missing r items → (X : Colour)
     → is_unwritten (over_by.Faulted S f) X ≡ false
 missing_mild r items S f h1 X = grind arith
 
+-- by what is missing of both engines, of which these items are known
+judged_fine : (r : Rules) (w b : Option MatchFault) (of_white of_black : List Item) (m : Match) → IsSane r m
+    → w ≡ missing r of_white → b ≡ missing r of_black → Fine r (judged r w b m).after
+judged_fine r (Some f) b of_white of_black m s e h =
+    over_fine r (record m { count = 0 }) _ (record { undecided = s.undecided; few = s.few; count = omega arith; })
+    (missing_mild r of_white White f e)
+judged_fine r None (Some f) of_white of_black m s e h =
+    over_fine r (record m { count = 0 }) _ (record { undecided = s.undecided; few = s.few; count = omega arith; })
+    (missing_mild r of_black Black f h)
+judged_fine r None None of_white of_black m s e h = entered_fine r m (Setup White) refl (λ h. absurd cc) s
+
 handshake_fine : (r : Rules) (S : Colour) (m : Match) → IsSane r m → Fine r (handshake_done r S m).after
 handshake_fine r White m s = entered_fine r m (Handshake Black) refl (λ h. absurd cc) s
-handshake_fine r Black m s = judged_fine r (missing r (m.seat White).items) (missing r (m.seat Black).items) m s
-    (λ f. (missing_mild r (m.seat White).items White f, missing_mild r (m.seat Black).items Black f))
+handshake_fine r Black m s = judged_fine r _ _ (m.seat White).items (m.seat Black).items m s refl refl
 
 items_few : (m : Match) (S X : Colour) (items : List Item) → length (m.seat X).used ≤ length m.played
     → length ((with_seat S (λ s. record s { items = s.items ++ items }) m).seat X).used ≤ length m.played
