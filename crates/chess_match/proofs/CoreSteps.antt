@@ -1,5 +1,6 @@
 -- How the core goes on, step by step.
 use Rattle.std.proofs.Common.{◌≡◌, ℕ, ◌+◌, ◌<◌, Bool, true, false, List, [], ◌∷◌, ◌++◌, length, length-append, refl, ap, sym, ◌∙◌, subst, Option, None, Some, append-nil, zero-add, arith}
+use Rattle.std.specs.Bool.{then_some}
 use Rattle.std.specs.Prelude.{if◌then◌else◌, codes, nat_lt, sum}
 use Rattle.std.proofs.lemmas.List.Sums.{sum_by-append}
 use Rattle.chess_base.specs.declared.man.Colour.{Colour}
@@ -140,18 +141,14 @@ pub offered_stands : (r : Rules) (core : MatchState) (played : List Move) (S : C
 offered_stands r core played White m s = search (s.unsent)
 offered_stands r core played Black m s = search (s.unsent)
 
-abbrev pub draw_to : Bool → Colour → Option Colour
-draw_to true S = Some S
-draw_to false S = None
-
 draw_given : (t : Bool) (O X : Colour) (d : List SentLine)
-    → lines_if_to (draw_to t O) X d ++ [] ≡ list_if (same_colour O X) (list_if t d)
+    → lines_if_to (then_some t O) X d ++ [] ≡ list_if (same_colour O X) (list_if t d)
 draw_given t O X d = grind (arith, append-nil)
 
 -- the offer of S is opened, and given to the other side alone, if that takes offers
 pub offered_goes : (r : Rules) (core : MatchState) (played : List Move) (S : Colour) (m : Match) (t : Bool)
     → Represents r core played m → takes (codes "draw") (m.seat (other S)).items ≡ t
-    → Goes r (offered_core core S) played (record { draw = draw_to t (other S); entered = false }) nothing_said
+    → Goes r (offered_core core S) played (record { draw = then_some t (other S); entered = false }) nothing_said
     (sends_to (other S) (list_if (takes (codes "draw") (m.seat (other S)).items) (Says (codes "draw") ∷ []))
     (with_seat S (λ s. record s { offers = true }) m))
 unfolding given_lines

@@ -113,7 +113,7 @@ move_fine r S used (Some move) m s =
     let few = λ (X : Colour). moved_few m S X move used (s.few X) in
     one_of (Fine r) (r.verdict (m.played ++ move ∷ [])) _ _
     (λ v e. over_fine r (record (moved S move used m) { phase = Over (over_by.Decided v) }) _
-    (record { undecided = λ h. absurd cc; few = few; count = s.count; }) (λ X. refl))
+    (record { undecided = λ h. absurd cc; few = few; count = s.count }) (λ X. refl))
     (λ e. on_fine r (moved S move used m) refl (record { undecided = λ h. e; few = few; count = s.count }))
 
 before_fine : (r : Rules) (S : Colour) (used : ℕ) (kind : LineKind) (m : Match) → is_over m.phase ≡ false
@@ -140,10 +140,10 @@ missing_mild r items S f h1 X = grind arith
 judged_fine : (r : Rules) (w b : Option MatchFault) (of_white of_black : List Item) (m : Match) → IsSane r m
     → w ≡ missing r of_white → b ≡ missing r of_black → Fine r (judged r w b m).after
 judged_fine r (Some f) b of_white of_black m s e h =
-    over_fine r (record m { count = 0 }) _ (record { undecided = s.undecided; few = s.few; count = omega arith; })
+    over_fine r (record m { count = 0 }) _ (record { undecided = s.undecided; few = s.few; count = omega arith })
     (missing_mild r of_white White f e)
 judged_fine r None (Some f) of_white of_black m s e h =
-    over_fine r (record m { count = 0 }) _ (record { undecided = s.undecided; few = s.few; count = omega arith; })
+    over_fine r (record m { count = 0 }) _ (record { undecided = s.undecided; few = s.few; count = omega arith })
     (missing_mild r of_black Black f h)
 judged_fine r None None of_white of_black m s e h = entered_fine r m (Setup White) refl (λ h. absurd cc) s
 
@@ -165,7 +165,8 @@ said_fine r S items m on s =
       count = s.count;
     } in
     either (Fine r) (has_done items) (handshake_done r S m') _ (λ h. handshake_fine r S m' s')
-    (λ h. either (Fine r) (nat_le 1000 (m.count + 1)) _ _ (λ k. over_fine r m' (over_by.Faulted S NoDone) s' (λ X. refl))
+    (λ h. either (Fine r) (nat_le 1000 (m.count + 1)) _ _
+    (λ k. over_fine r m' (over_by.Faulted S NoDone) s' (λ X. refl))
     (λ k. on_fine r (record m' { count = m.count + 1 }) on (record {
       undecided = s'.undecided;
       few = s'.few;

@@ -1,5 +1,5 @@
--- A side's clock counts the moves that it made in the match (CoreSteps.clocks_moves): with none, its opening is the first,
--- which has the move before the clocks and `go` after them.
+-- A side's clock counts the moves that it made in the match (CoreSteps.clocks_moves): with none, its opening is the
+-- first, which has the move before the clocks and `go` after them.
 use Rattle.std.proofs.Common.{◌≡◌, ◌++◌, ◌∷◌, [], append_assoc, true, false, length, arith, lt-ltb, le-ltb}
 use Rattle.std.specs.Prelude.{nat_lt, codes}
 use Rattle.chess_match.specs.Lines.{Says}

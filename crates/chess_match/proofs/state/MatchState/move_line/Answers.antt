@@ -26,10 +26,11 @@ returns-in-Some-verdict-clause-goes g c r m p on s =
     rw (← s.moves) c.play-texts.ensures.moves in
     let decided : r.verdict (m.played ++ c.in-Some.chosen ∷ []) ≡ Some c.in-Some-verdict.verdict =
     rw (← now) (sym (c.in-Some-verdict.ensures r (c.play-texts.ensures.rules r p))) in
+    let stands = moved_stands r c.args.self.now (g.G.MatchGame.played c.args.game.now) c.args.side c.in-Some.chosen
+    c.args.used m c.play-texts.result s (rw c.play-texts.ensures.moves at (c.play-texts.ensures.texts r p)) in
     rw (full, says, decided, c.play-texts.ensures.moves)
-    (c.finish-in-Some-verdict.ensures r _ (moved c.args.side c.in-Some.chosen c.args.used m) refl (rw c.note_move.ensures
-    (moved_stands r c.args.self.now (g.G.MatchGame.played c.args.game.now) c.args.side c.in-Some.chosen c.args.used m
-    c.play-texts.result s (rw c.play-texts.ensures.moves at (c.play-texts.ensures.texts r p)))))
+    (c.finish-in-Some-verdict.ensures r _ (moved c.args.side c.in-Some.chosen c.args.used m) refl
+    (rw c.note_move.ensures stands))
 
 pub returns-in-None-verdict-clause-goes : goal.returns-in-None-verdict-clause-goes
 returns-in-None-verdict-clause-goes g c r m p on s =
@@ -40,7 +41,7 @@ returns-in-None-verdict-clause-goes g c r m p on s =
     rw (← s.moves) c.play-texts.ensures.moves in
     let open_still : r.verdict (m.played ++ c.in-Some.chosen ∷ []) ≡ None =
     rw (← now) (sym (c.in-None-verdict.ensures r (c.play-texts.ensures.rules r p))) in
+    let stands = moved_stands r c.args.self.now (g.G.MatchGame.played c.args.game.now) c.args.side c.in-Some.chosen
+    c.args.used m c.play-texts.result s (rw c.play-texts.ensures.moves at (c.play-texts.ensures.texts r p)) in
     rw (full, says, open_still, c.play-texts.ensures.moves, c.note_move.ensures)
-    (pinged_goes r _ _ c.args.side (moved c.args.side c.in-Some.chosen c.args.used m) refl
-    (moved_stands r c.args.self.now (g.G.MatchGame.played c.args.game.now) c.args.side c.in-Some.chosen c.args.used m
-    c.play-texts.result s (rw c.play-texts.ensures.moves at (c.play-texts.ensures.texts r p))))
+    (pinged_goes r _ _ c.args.side (moved c.args.side c.in-Some.chosen c.args.used m) refl stands)

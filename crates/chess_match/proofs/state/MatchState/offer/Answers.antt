@@ -22,23 +22,13 @@ returns-then-offers-2 c r played m on s =
     let o2 : (m.seat c.args.side).offers ≡ true = cc in
     rw (o, o2) (c.ignore.ensures r played m on s)
 
-pub returns-then-draws : goal.returns-then-draws
-returns-then-draws c r played m on s =
+pub returns : goal.returns
+returns c r played m on s =
     let k = kept r _ played m s (other c.args.side) in
     let o : (m.seat (other c.args.side)).offers ≡ false = cc in
     let k2 = kept r _ played m s c.args.side in
     let o2 : (m.seat c.args.side).offers ≡ false = cc in
     let f = ap (λ (x : Features). x.draw) k.features ∙ features-draw (m.seat (other c.args.side)).items in
-    let t : takes (codes "draw") (m.seat (other c.args.side)).items ≡ true = cc in
-    rw (o, o2, c.note_offer.ensures, c.other-other.ensures)
-    (offered_goes r c.args.self.now played c.args.side m true s t)
-
-pub returns-else-draws : goal.returns-else-draws
-returns-else-draws c r played m on s =
-    let k = kept r _ played m s (other c.args.side) in
-    let o : (m.seat (other c.args.side)).offers ≡ false = cc in
-    let k2 = kept r _ played m s c.args.side in
-    let o2 : (m.seat c.args.side).offers ≡ false = cc in
-    let f = ap (λ (x : Features). x.draw) k.features ∙ features-draw (m.seat (other c.args.side)).items in
-    let t : takes (codes "draw") (m.seat (other c.args.side)).items ≡ false = cc in
-    rw (o, o2, c.note_offer.ensures) (offered_goes r c.args.self.now played c.args.side m false s t)
+    let t : takes (codes "draw") (m.seat (other c.args.side)).items ≡ c.accepts_draw_offers-draws.result = cc in
+    rw (o, o2, c.note_offer.ensures, c.then_some.ensures, c.other-other.ensures)
+    (offered_goes r c.args.self.now played c.args.side m c.accepts_draw_offers-draws.result s t)
