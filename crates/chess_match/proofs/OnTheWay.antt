@@ -22,7 +22,7 @@ use Rattle.cecp_engine.specs.Items.{Item, last_value}
 use Rattle.cecp_engine.specs.Levels.{LevelSeen}
 use Rattle.chess_match.specs.Acts.{Block, awaits_line, blocks_from, blocks_after, is_over}
 use Rattle.chess_match.specs.Effects.{Match, Phase, Handshake, Setup as SetupPhase, Opening, BeforeMove, AfterMove, Over, Effect, beginning, effect}
-use Rattle.chess_match.specs.Events.{Event, Line, Opened, OutputEnds, FailsToRead, FailsToWrite}
+use Rattle.chess_match.specs.Events.{Event, Line, Opened, OutputEnds, FailsToRead}
 use Rattle.chess_match.specs.Played.{PlayedAt}
 use Rattle.chess_match.specs.Reasons.{comment_of, declared_at, ended_by, first_fault, outcome_by_reason, reported}
 use Rattle.chess_match.specs.Rules.{Rules, rules_of}
@@ -194,8 +194,7 @@ went_less r between new core core' played' m S (OutputEnds c) due failed' n n' n
 went_less r between new core core' played' m S (FailsToRead c) due failed' n n' n'' awaits is less same (m', J, d) =
     over_less (phase_now core) (phase_now core') S n n'' awaits
     (ap is_over (sym d.stands.phase) ∙ ap (λ (x : Match). is_over x.phase) (d.stays refl))
-went_less r between new core core' played' m S (Opened c k) due failed' n n' n'' awaits is less same d = absurd cc
-went_less r between new core core' played' m S (FailsToWrite c) due failed' n n' n'' awaits is less same d = absurd cc
+went_less r between new core core' played' m S e due failed' n n' n'' awaits is less same d = absurd cc
 
 -- ---- the end
 

@@ -11,7 +11,7 @@ use Rattle.cecp_engine.specs.EngineLines.{LineKind, Moves, Resigns, OffersDraw, 
 use Rattle.cecp_engine.specs.Items.{Item, has_done}
 use Rattle.chess_match.specs.Acts.{awaits_line, is_over}
 use Rattle.chess_match.specs.Effects.{Match, Phase, Handshake, Setup, Opening, BeforeMove, AfterMove, Over, Effect, after_move, before_move, beginning, clock, effect, handshake_done, handshake_row, ignores, items_said, judged, line_row, missing, move_row, moved, offer_row, ping_number, setup_row, turn_row, was_sent_move, with_seat}
-use Rattle.chess_match.specs.Events.{Event, Line, Opened, OutputEnds, FailsToRead, FailsToWrite}
+use Rattle.chess_match.specs.Events.{Event, Line, OutputEnds, FailsToRead}
 use Rattle.chess_match.specs.Reasons.{is_unwritten}
 use Rattle.chess_match.specs.Rules.{Rules}
 use Rattle.chess_match.specs.declared.reason.MatchFault.{MatchFault}
@@ -210,5 +210,4 @@ fine_after r m S (Line c t n) is h s =
     row_fine r m.phase (line_kind t) n m refl (on_awaiting m.phase S h) s
 fine_after r m S (OutputEnds c) is h s = over_fine r m _ s (λ X. refl)
 fine_after r m S (FailsToRead c) is h s = over_fine r m _ s (λ X. refl)
-fine_after r m S (Opened c n) is h s = absurd cc
-fine_after r m S (FailsToWrite c) is h s = absurd cc
+fine_after r m S e is h s = absurd cc

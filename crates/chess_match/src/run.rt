@@ -169,6 +169,7 @@ pub fn run_match_watched<R: Input, W: Output, M: Moments, B: Board, L: Witness>(
 ///
 /// The contract says which steps passed at the table, in their order: the acts of a match, each with its note. What an
 /// engine is sent is noted before it is written, and a line when the clock was read after it, before anything else.
+#[tactic(auto, using(crate::proofs::OnTheWay::reported_outcome))]
 pub fn run_match_at<T: MatchTable, B: Board>(
     table: &mut T,
     setup: &Setup,
@@ -363,6 +364,7 @@ fn is_parsed(line: &Line<ENGINE_LINE_LEN>) -> bool
 }
 
 // What an engine says by this line, by its first words; a line that is too long is one that is ignored (`Other`).
+#[tactic(auto, using(crate::proofs::Features::features_short))]
 fn said(line: &Line<ENGINE_LINE_LEN>) -> EngineLine<'_>
     ensures said { seen result ≡ line_kind (text_read line.now) }
     ensures short { (text : List ℕ) → seen result ≡ Features text → length text ≤ ENGINE_LINE_LEN }
@@ -376,6 +378,7 @@ fn said(line: &Line<ENGINE_LINE_LEN>) -> EngineLine<'_>
 
 // Takes a line of this side's engine: the clock is read, the line is noted, and the match goes on by it. Returns what
 // is to be sent; the answers to the line's items go to `block`, which must be empty.
+#[tactic(auto, using(crate::proofs::Delivers::counted, crate::proofs::Delivers::few, crate::proofs::Delivers::undecided))]
 fn take_line<T: MatchTable, G: MatchGame>(
     table: &mut T,
     core: &mut MatchState,
@@ -462,6 +465,7 @@ fn declare<B: Board>(game: &mut Game<B>, reason: Reason)
 
 // Gives what is reported of a match that ended for `reason`, with both engines' names and the first fault (`failed`
 // says to whom a write failed). Also declares the outcome in the game, unless the board has a verdict.
+#[tactic(auto, using(crate::proofs::Comments::kept_whole))]
 fn end_of<B: Board>(
     core: MatchState,
     game: &mut Game<B>,

@@ -39,6 +39,7 @@ fn add_rest<G: MatchGame>(
 
 // Notes that `side` is sent this text, and then sends it; an empty text is neither noted nor sent. Returns whether that
 // failed.
+#[tactic(auto, using(crate::proofs::Due::is_some_text))]
 fn note_and_put<T: MatchTable>(table: &mut T, text: &[u8], side: Colour) -> bool
     ensures passes { (lines : List SentLine) → bytes_of lines ≡ text.now
         → Passes (T.passed table.old) (T.passed table.new) (giving result side lines) }

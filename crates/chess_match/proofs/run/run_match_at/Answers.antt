@@ -11,7 +11,7 @@ use Rattle.chess_match.specs.Notes.{Happened}
 use Rattle.chess_match.specs.Rules.{Rules, rules_of}
 use Rattle.chess_match.specs.Table.{Does, Notes}
 use Rattle.chess_match.specs.ties.Represents.{Represents, nothing_said}
-use Rattle.chess_match.proofs.OnTheWay.{begins, begun, opened_less, opened_on, played_at, plays_anew, plays_on, rules_level, reported_outcome, went_less, went_on}
+use Rattle.chess_match.proofs.OnTheWay.{begins, begun, opened_less, opened_on, played_at, plays_anew, plays_on, rules_level, went_less, went_on}
 use Rattle.chess_match.proofs.Passings.{passed_more}
 use Rattle.chess_match.proofs.Sends.{no_answers}
 use Rattle.chess_match.proofs.StaysSane.{fine_after}
@@ -41,19 +41,6 @@ returns-in-Nothing-clause-ran g c =
     played_at c.args.setup.now _ _ c.args.game.now c.events.game c.end_of.new.game c.events.core c.in-Nothing.reason
     c.events.failed c.end_of.result i.0 (c.in-Nothing.ensures _) c.end_of.ensures.report c.end_of.ensures.white_name
     c.end_of.ensures.black_name i.1 i.2 c.end_of.ensures.game
-
-pub returns-in-Nothing-clause-start : goal.returns-in-Nothing-clause-start
-returns-in-Nothing-clause-start g c =
-    ap (λ (x : game.Seen). x.state.start) c.end_of.ensures.game ∙ c.events.invariant.1
-
-pub returns-in-Nothing-clause-limit : goal.returns-in-Nothing-clause-limit
-returns-in-Nothing-clause-limit g c =
-    ap (λ (x : game.Seen). x.limit) c.end_of.ensures.game ∙ c.events.invariant.2
-
-pub returns-in-Nothing-clause-outcome : goal.returns-in-Nothing-clause-outcome
-returns-in-Nothing-clause-outcome g c =
-    reported_outcome c.events.game c.end_of.new.game c.in-Nothing.reason c.end_of.result.outcome c.end_of.ensures.game
-    c.end_of.ensures.report.outcome
 
 pub events-smaller-in-Moment : goal.events-smaller-in-Moment
 events-smaller-in-Moment g c =
@@ -95,12 +82,6 @@ take_next-given-requires-clause-sane g c =
       w.sane,
       ap (λ (p : Phase). awaits_line p c.in-Line.side) w.stands.phase ∙ c.in-Line.ensures c.events.core.opened,
     )
-
-pub take_next-given-requires-clause-empty : goal.take_next-given-requires-clause-empty
-take_next-given-requires-clause-empty g c = c.events.invariant.4
-
-pub deliver-failed-requires-in-Line-clause-empty : goal.deliver-failed-requires-in-Line-clause-empty
-deliver-failed-requires-in-Line-clause-empty g c = c.events.invariant.5
 
 pub events-smaller : goal.events-smaller
 events-smaller g c =

@@ -9,21 +9,9 @@ use Rattle.chess_match.specs.Table.{Does, Notes}
 use Rattle.chess_match.specs.ties.Represents.{items_in}
 use Rattle.chess_match.specs.Acts.{awaits_line}
 use Rattle.chess_match.specs.Effects.{Phase}
-use Rattle.chess_match.proofs.Delivers.{counted, few, undecided}
 use Rattle.chess_match.proofs.Sends.{none_to_other}
 use Rattle.chess_match.proofs.Passings.{passed_more}
 use Rattle.chess_match.proofs.run.take_line.Goals as goal
-
-pub line-requires : goal.line-requires
-line-requires g c =
-    let q = c.requires.sane in
-    record {
-      counted = counted q.0 _ _ q.1 q.3 q.4;
-      few = few q.0 _ _ q.1 q.3 q.4;
-      undecided = λ h. (q.0, q.2, undecided q.0 _ _ q.1 q.3 q.4 h);
-      short = c.said.ensures.short;
-      empty = c.requires.empty;
-    }
 
 pub returns-clause-taken : goal.returns-clause-taken
 returns-clause-taken g c =
