@@ -141,7 +141,7 @@ impl MatchState {
 }
 
 // If the item is `myname`, sets `name` to its value, cut so that a PGN tag can hold it; else leaves it.
-#[tactic(auto, unfolding(crate::specs::ties::Represents::name_by, cecp_engine::specs::Items::last_value))]
+#[tactic(auto, using(crate::proofs::Names::name_said, crate::proofs::Names::name_kept))]
 fn note_name(name: &mut TagText, item: &Item<'_>)
     ensures { (items : List feature_items.Item) → name.old ≡ name_by items
         → name.new ≡ name_by (items ++ item_seen item.now ∷ []) }
