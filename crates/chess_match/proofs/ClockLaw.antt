@@ -1,5 +1,5 @@
 -- No clock underflows.
-use Rattle.std.proofs.Common.{◌≡◌, ℕ, ◌+◌, ◌-◌, ◌≤◌, Bool, true, false, List, [], ◌∷◌, ◌++◌, length, length-append, refl, subst, arith}
+use Rattle.std.proofs.Common.{◌≡◌, ℕ, ◌+◌, ◌-◌, ◌≤◌, Bool, true, false, List, [], ◌∷◌, ◌++◌, length, length-append, refl, subst, arith, ap, ◌∙◌, zero-add}
 use Rattle.std.specs.Prelude.{if◌then◌else◌, sum}
 use Rattle.chess_base.specs.declared.man.Colour.{Colour}
 use Rattle.chess_base.specs.declared.man.Move.{Move}
@@ -12,9 +12,12 @@ use Rattle.chess_match.specs.Acts.{awaits_line}
 use Rattle.chess_match.specs.Effects.{Match, beginning, clock, line_row, moved}
 use Rattle.chess_match.specs.Rules.{Rules}
 use Rattle.chess_match.specs.laws.OfActs.{AtEachMoment, ClocksDoNotUnderflow, match_after}
-use Rattle.chess_match.proofs.Going.{sum-snoc}
+use Rattle.std.proofs.lemmas.List.Sums.{sum_by-append}
 use Rattle.chess_match.proofs.LineCases.{line_cases, said_by}
 use Rattle.chess_match.proofs.Points.{by_points, moved_used, offered_used, said_used}
+
+pub sum-snoc : (xs : List ℕ) (x : ℕ) → sum (xs ++ x ∷ []) ≡ sum xs + x
+sum-snoc xs x = sum_by-append (λ (n : ℕ). n) xs (x ∷ []) ∙ ap (λ n. sum xs + n) (zero-add x)
 
 abbrev InTime : LevelSeen → List ℕ → Type 0
 InTime level used = sum used ≤ allotted level (length used)

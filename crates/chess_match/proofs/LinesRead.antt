@@ -12,7 +12,7 @@ use Rattle.chess_match.specs.Acts.{Reads, ReadsEnd}
 use Rattle.chess_match.specs.Run.{text_read}
 use Rattle.chess_match.specs.Table.{reading_of}
 use Rattle.chess_match.specs.ties.EngineOutput.{OutputAt}
-use Rattle.chess_match.proofs.Outcomes.{not_other}
+use Rattle.chess_match.proofs.Deliveries.{not_other}
 use Rattle.chess_match.specs.declared.run.TheConstants.{ENGINE_LINE_LEN}
 
 own : (S : Colour) (P Q : Type 0) → P → MatchBool (same_colour S S) P Q

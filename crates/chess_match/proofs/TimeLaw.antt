@@ -20,7 +20,7 @@ use Rattle.chess_match.specs.declared.reason.Reason.{Reason}
 use Rattle.chess_match.specs.laws.Laws.{centiseconds, otim_sent, time_sent}
 use Rattle.chess_match.specs.laws.OfActs.{AtEachMoment, OtherTimesAreClocks, TimesAreClocks, ends_in_line, lines_given, match_after}
 use Rattle.chess_match.proofs.Givings.{Gives, Goes, given_at, grows, sends}
-use Rattle.chess_match.proofs.Going.{sum-snoc}
+use Rattle.chess_match.proofs.ClockLaw.{sum-snoc}
 use Rattle.chess_match.proofs.Points.{moved_items, moved_used, offered_items, offered_used, said_used}
 
 -- ---- the lines
