@@ -46,7 +46,7 @@ played r S C move used m timely w = rw (moved_used S C move used m) (at (same_co
 line_in_time : (r : Rules) (S : Colour) (kind : LineKind) (moment : ℕ) (m : Match) → awaits_line m.phase S ≡ true
     → AreInTime r m → AreInTime r (line_row r m.phase kind moment m).after
 line_in_time r S kind moment m aw w = line_cases r S kind moment m (λ e. AreInTime r e.after) aw (record {
-  handshake_stops = λ p reason c n. said;
+  handshake_stops = λ p reason c most n. said;
   handshake_counts = λ p d few. said;
   handshake_next = λ p s d. said;
   handshake_last = λ p s d. said;

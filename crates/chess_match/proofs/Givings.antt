@@ -188,7 +188,7 @@ module _ {A : Type 0} (f : SentLine → List A) (says : (text : List ℕ) → f 
       (line_row r m.phase kind moment m).after
   line S kind moment m rest aw kept l h =
       line_cases r S kind moment m (λ e. Goes all Rest m rest (flat_map f (e.to O)) e.after) aw (record {
-        handshake_stops = λ p reason c w. instead m _ rest _ _ (answered (same_colour S O) _ _)
+        handshake_stops = λ p reason c most w. instead m _ rest _ _ (answered (same_colour S O) _ _)
             (then_on m n _ rest _ (said p) (λ rest' l' h'. then_on n (record n { count = c }) _ rest' _
             (keeps all Rest n (record n { count = c }) rest' l' (k.counts n c rest' h'))
             (λ rest'' l'' h''. k.stops (record n { count = c }) reason rest'' (on_when_read m.phase S aw) l'' h'')));
@@ -257,7 +257,7 @@ module _ {A : Type 0} (f : SentLine → List A) (says : (text : List ℕ) → f 
   apart : (S : Colour) (kind : LineKind) (moment : ℕ) (m : Match) → awaits_line m.phase S ≡ true
       → Apart S (line_row r m.phase kind moment m)
   apart S kind moment m aw = line_cases r S kind moment m (Apart S) aw (record {
-    handshake_stops = λ p reason c w on some. absurd cc;
+    handshake_stops = λ p reason c most w on some. absurd cc;
     handshake_counts = λ p d few on some. after_answers (same_colour S (other S)) _ [] refl;
     handshake_next = λ p s d on some. after_answers (same_colour S (other S)) _ (list_if (same_colour Black (other S))
         handshake_lines) (if_says (same_colour Black (other S)) handshake_lines refl);

@@ -25,7 +25,7 @@ stopped S reason w other c e h = let same : reason ≡ other = cc in w c (ap who
 line_theirs : (r : Rules) (S : Colour) (kind : LineKind) (n : ℕ) (m : Match) → awaits_line m.phase S ≡ true
     → Theirs S (line_row r m.phase kind n m).after.phase
 line_theirs r S kind n m aw = line_cases r S kind n m (λ e. Theirs S e.after.phase) aw (record {
-  handshake_stops = λ p reason k w. stopped S reason w.1;
+  handshake_stops = λ p reason k most w. stopped S reason w.1;
   handshake_counts = λ p d few. on m.phase (on_when_read m.phase S aw);
   handshake_next = λ p s d. on _ refl;
   handshake_last = λ p s d. on _ refl;

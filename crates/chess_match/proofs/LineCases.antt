@@ -72,7 +72,7 @@ playing S move used m = let n = moved S move used m in sends_to S (ping (ping_nu
 pub record LineCases (r : Rules) (S : Colour) (kind : LineKind) (moment : ℕ) (m : Match) (Q : Effect → Type 0) : Type 0
   where
     -- in its handshake
-    pub handshake_stops : m.phase ≡ Handshake S → (reason : Reason) (k : ℕ) → MayStop S reason
+    pub handshake_stops : m.phase ≡ Handshake S → (reason : Reason) (k : ℕ) → k ≤ m.count → MayStop S reason
         → Q (with_answers S (items_said kind) (ends r reason (record (said_by S kind m) { count = k })))
     pub handshake_counts : m.phase ≡ Handshake S → has_done (items_said kind) ≡ false → m.count + 1 < 1000
         → Q (with_answers S (items_said kind) (sends_nothing (record (said_by S kind m) { count = m.count + 1 })))
@@ -233,15 +233,15 @@ module _ (r : Rules) (S : Colour) (kind : LineKind) (moment : ℕ) (m : Match) (
     where
       at : (w b : Option MatchFault) → NoWriteFault w → NoWriteFault b
           → Q (with_answers S (items_said kind) (judged r w b (said_by S kind m)))
-      at (Some f) b x y = l.handshake_stops p (Faulted White f) 0 (x White, (λ c e. cc), refl)
-      at None (Some f) x y = l.handshake_stops p (Faulted Black f) 0 (y Black, (λ c e. cc), refl)
+      at (Some f) b x y = l.handshake_stops p (Faulted White f) 0 (omega arith) (x White, (λ c e. cc), refl)
+      at None (Some f) x y = l.handshake_stops p (Faulted Black f) 0 (omega arith) (y Black, (λ c e. cc), refl)
       at None None x y = l.handshake_last p e d
 
   handshake : m.phase ≡ Handshake S → Q (handshake_row r S (items_said kind) m)
   handshake p = by_test (λ (e : Effect). Q (with_answers S (items_said kind) e)) (has_done (items_said kind))
       (shaken S refl p)
       (λ d. by_test (λ (e : Effect). Q (with_answers S (items_said kind) e)) (nat_le 1000 (m.count + 1))
-      (λ h. l.handshake_stops p (Faulted S NoDone) m.count ((λ O. refl), (λ c e. cc), refl))
+      (λ h. l.handshake_stops p (Faulted S NoDone) m.count (omega arith) ((λ O. refl), (λ c e. cc), refl))
       (λ h. l.handshake_counts p d (leb-false 1000 (m.count + 1) h)))
 
 pub line_cases : (r : Rules) (S : Colour) (kind : LineKind) (moment : ℕ) (m : Match) (Q : Effect → Type 0)

@@ -49,7 +49,7 @@ few_over r k m w = grind (arith, at_most_one (m.seat White).offers, at_most_one 
 lines : (r : Rules) (k : ℕ) (S : Colour) (kind : LineKind) (moment : ℕ) (m : Match) → awaits_line m.phase S ≡ true
     → Few r k m → Few r (k + 1) (line_row r m.phase kind moment m).after
 lines r k S kind moment m aw w = line_cases r S kind moment m (λ e. Few r (k + 1) e.after) aw (record {
-  handshake_stops = λ p reason c n. grind (arith, p, w);
+  handshake_stops = λ p reason c most n. grind (arith, p, w);
   handshake_counts = λ p d few. grind (arith, p, w, few);
   handshake_next = λ p s d. grind (arith, p, s, w);
   handshake_last = λ p s d. grind (arith, p, s, w);

@@ -219,7 +219,7 @@ pub line_written : (r : Rules) (O S : Colour) (t : Option (List ℕ)) (x : ℕ) 
     → unwritten_in (effect r m (Line S t x)).after.phase O ≡ false
 line_written r O S t x m aw =
     line_cases r S (line_kind t) x m (λ e. unwritten_in e.after.phase O ≡ false) aw (record {
-      handshake_stops = λ p reason c w. w.0 O;
+      handshake_stops = λ p reason c most w. w.0 O;
       handshake_counts = λ p d few. rw p refl;
       handshake_next = λ p s d. refl;
       handshake_last = λ p s d. refl;

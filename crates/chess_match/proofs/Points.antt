@@ -89,7 +89,7 @@ some_move ms move = let l : length (ms ++ move ∷ []) ≡ length ms + 1 = lengt
 kept_line : (r : Rules) (S : Colour) (kind : LineKind) (moment : ℕ) (m : Match) → awaits_line m.phase S ≡ true
     → Kept r m → Kept r (line_row r m.phase kind moment m).after
 kept_line r S kind moment m aw k = line_cases r S kind moment m (λ e. Kept r e.after) aw (record {
-  handshake_stops = λ p reason c w. (tt, said);
+  handshake_stops = λ p reason c most w. (tt, said);
   handshake_counts = λ p d few. (k.0, said);
   handshake_next = λ p s d. (turn_in r m (Handshake S) p k, said);
   handshake_last = λ p s d. (turn_in r m (Handshake S) p k, said);

@@ -175,7 +175,7 @@ pass_same d c t lines S h1 = grind arith
 line_steps : (r : Rules) (d : Colour) (t : Option (List ℕ)) (n : ℕ) (m : Match) → awaits_line m.phase d ≡ true
     → Kept r m → Steps r d t m (line_row r m.phase (line_kind t) n m).after
 line_steps r d t n m aw k = line_cases r d (line_kind t) n m (λ e. Steps r d t m e.after) aw (record {
-  handshake_stops = λ p reason c w final lines o next. stopped final lines
+  handshake_stops = λ p reason c most w final lines o next. stopped final lines
       (record (said_by d (line_kind t) m) { phase = Over reason; count = c }) refl o;
   handshake_counts = λ p h few final lines o. reads_on r m (record (said_by d (line_kind t) m) { count = m.count + 1 })
       final (with_line d t lines) lines refl

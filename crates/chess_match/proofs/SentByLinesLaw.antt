@@ -96,7 +96,7 @@ ahead_over d t S ls h1 = grind (arith, append-nil)
 lines_say : (r : Rules) (d : Colour) (t : Option (List ℕ)) (n : ℕ) (m : Match) → awaits_line m.phase d ≡ true
     → Says d t m (line_row r m.phase (line_kind t) n m).after
 lines_say r d t n m aw = line_cases r d (line_kind t) n m (λ e. Says d t m e.after) aw (record {
-  handshake_stops = λ p reason k w lines S over. handshake_says d t m S (lines S) (Over reason) [] p
+  handshake_stops = λ p reason k most w lines S over. handshake_says d t m S (lines S) (Over reason) [] p
       (ahead_over d t S (lines S) (over refl));
   handshake_counts = λ p h few lines S over. handshake_says d t m S (lines S) (Handshake d)
       (said_ahead (Handshake d) S (lines S)) p

@@ -102,7 +102,7 @@ moved_grow S c kind n opened m m' p is u b = (
 lines_grow : (r : Rules) (S c : Colour) (kind : LineKind) (n : ℕ) (m : Match) → awaits_line m.phase c ≡ true
     → Grows S kind n m (line_row r m.phase kind n m).after
 lines_grow r S c kind n m aw = line_cases r c kind n m (λ e. Grows S kind n m e.after) aw (record {
-  handshake_stops = λ p reason k w. ends_grow S kind n m (record (said_by c kind m) { phase = Over reason; count = k })
+  handshake_stops = λ p reason k most w. ends_grow S kind n m (record (said_by c kind m) { phase = Over reason; count = k })
       (said_used c S kind m) refl;
   handshake_counts = λ p d few. apart_grow S kind n m (record (said_by c kind m) { count = m.count + 1 })
       (ap (awaited S) p) (ap (awaited S) p) (said_used c S kind m);

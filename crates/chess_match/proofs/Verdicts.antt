@@ -42,7 +42,7 @@ stopped r played reason h1 h2 = grind arith
 line_judged : (r : Rules) (S : Colour) (kind : LineKind) (moment : ℕ) (m : Match) → awaits_line m.phase S ≡ true
     → Judged r m → Judged r (line_row r m.phase kind moment m).after
 line_judged r S kind moment m aw j = line_cases r S kind moment m (λ e. Judged r e.after) aw (record {
-  handshake_stops = λ p reason k w. stopped r m.played reason w.2 none;
+  handshake_stops = λ p reason k most w. stopped r m.played reason w.2 none;
   handshake_counts = λ p d few. j;
   handshake_next = λ p s d. none;
   handshake_last = λ p s d. none;
