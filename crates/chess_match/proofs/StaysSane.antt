@@ -1,12 +1,12 @@
 -- What holds of every match that is played stays so with every event.
-use Rattle.std.proofs.Common.{◌≡◌, ℕ, ◌+◌, ◌-◌, ◌≤◌, ◌<◌, Bool, true, false, List, [], ◌∷◌, ◌++◌, length, length-append, refl, ap, sym, ◌∙◌, subst, Option, None, Some, arith}
+use Rattle.std.proofs.Common.{◌≡◌, ℕ, ◌+◌, ◌-◌, ◌≤◌, ◌<◌, true, false, [], ◌∷◌, ◌++◌, length, length-append, refl, ap, sym, ◌∙◌, subst, None, arith}
 use Rattle.chess_base.specs.declared.man.Colour.{Colour}
 use Rattle.chess_base.specs.declared.man.Colour.TheVariants.{White, Black}
 use Rattle.chess_base.specs.declared.man.Move.{Move}
 use Rattle.chess_base.specs.Men.{other}
 use Rattle.cecp_engine.specs.EngineLines.{LineKind, line_kind}
 use Rattle.chess_match.specs.Acts.{awaits_line, is_over}
-use Rattle.chess_match.specs.Effects.{Match, Phase, Handshake, Setup, Opening, BeforeMove, AfterMove, Over, beginning, effect, line_row, moved}
+use Rattle.chess_match.specs.Effects.{Match, Phase, Handshake, Setup, Opening, Over, beginning, effect, line_row, moved}
 use Rattle.chess_match.specs.Events.{Event, Line, OutputEnds, FailsToRead}
 use Rattle.chess_match.specs.Reasons.{is_unwritten}
 use Rattle.chess_match.specs.Rules.{Rules}

@@ -1,7 +1,6 @@
 -- Where the last move is still to be sent to the side, its texts are kept (Sends.unsent_own); where to nobody or to the
 -- other side, no line is due and nothing is put.
 use Rattle.std.proofs.Common.{◌++◌, List, sym, ap, ◌∙◌}
-use Rattle.chess_base.specs.Men.{same_colour}
 use Rattle.chess_match.specs.Lines.{SentLine, bytes_of}
 use Rattle.chess_match.proofs.Sends.{unsent_own}
 use Rattle.chess_match.proofs.compose.add_unsent.Goals as goal
