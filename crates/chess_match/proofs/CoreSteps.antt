@@ -53,9 +53,9 @@ clocks_left r core played m s Black = ap (λ (c : ClocksSeen). remaining c Black
 
 -- the flag falls in the core where it falls in the match
 pub flag_kept : (r : Rules) (core : MatchState) (played : List Move) (m : Match) (S : Colour) (used elapsed : ℕ)
-    (fallen b : Bool) → Represents r core played m → used ≡ elapsed → fallen ≡ nat_lt (remaining core.clocks S) used
-    → fallen ≡ b → nat_lt (clock r m S) elapsed ≡ b
-flag_kept r core played m S used elapsed fallen b s e f h =
+    (flagged b : Bool) → Represents r core played m → used ≡ elapsed → flagged ≡ nat_lt (remaining core.clocks S) used
+    → flagged ≡ b → nat_lt (clock r m S) elapsed ≡ b
+flag_kept r core played m S used elapsed flagged b s e f h =
     rw (← clocks_left r core played m s S, ← e) (sym f ∙ h)
 
 -- ---- into another phase

@@ -6,6 +6,7 @@ use Rattle.chess_base.specs.declared.man.Colour.TheVariants.{White, Black}
 use Rattle.chess_base.specs.declared.man.Move.{Move}
 use Rattle.chess_base.specs.ByColour.{by_colour}
 use Rattle.chess_base.specs.Men.{other, same_colour}
+use Rattle.chess_base.proofs.shared.Men.{same_colour-other, same_colour-self}
 use Rattle.chess_match.specs.Acts.{Block, block_of, blocks_from, blocks_after, is_over}
 use Rattle.chess_match.specs.Effects.{Match, Effect, effect}
 use Rattle.chess_match.specs.Events.{FailsToWrite}
@@ -88,10 +89,6 @@ delivered_both r old new core played e side first f g failed stands written due 
 
 -- ---- a write failed
 
-pub not_other : (S : Colour) → same_colour S (other S) ≡ false
-not_other White = refl
-not_other Black = refl
-
 -- the failure, and the end for the other side
 ended_for : (r : Rules) (m : Match) (S : Colour) (lines : List SentLine) (rest : List Block) (f : Bool)
     → is_over m.phase ≡ false → 0 < length lines
@@ -111,7 +108,8 @@ ended_for r m S lines rest f on some more =
     (leads_failed r m S lines rest on some))
     (leads_farewell r t.after (other S) ls [] f refl more
     (λ reason e. let same : Faulted S Write ≡ reason = cc in
-    ap (λ (x : Reason). is_unwritten x (other S)) (sym same) ∙ not_other S))
+    ap (λ (x : Reason). is_unwritten x (other S)) (sym same)
+    ∙ same_colour-other S (other S) (same_colour-self (other S))))
 
 -- nothing was sent yet
 pub none_sent : (r : Rules) (m : Match) (due : List Block) → Leads r m due [] m due none
