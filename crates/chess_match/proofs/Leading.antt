@@ -155,8 +155,7 @@ leads_event r m S (FailsToRead c) is awaits H final reason g ends =
       refl,
       λ X. refl,
     )
-leads_event r m S (Opened c moment) is awaits H final reason g ends = absurd cc
-leads_event r m S (FailsToWrite c) is awaits H final reason g ends = absurd cc
+leads_event r m S e is awaits H final reason g ends = absurd cc
 
 -- a turn was opened
 pub leads_opened : (r : Rules) (m : Match) (S : Colour) (moment : ℕ) → m.phase ≡ Opening S

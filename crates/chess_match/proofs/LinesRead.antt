@@ -5,21 +5,20 @@ use Rattle.std.specs.Bool.{MatchBool}
 use Rattle.chess_base.specs.declared.man.Colour.{Colour}
 use Rattle.byte_devices.specs.Devices.{InputState}
 use Rattle.chess_base.specs.Men.{other, same_colour}
-use Rattle.chess_base.proofs.shared.Men.{same_colour-self}
+use Rattle.chess_base.proofs.shared.Men.{same_colour-other, same_colour-self}
 use Rattle.text_lines.specs.Lines.{LineSeen, Held}
 use Rattle.text_lines.specs.Next.{NextLine, GotLine, GotLast}
 use Rattle.chess_match.specs.Acts.{Reads, ReadsEnd}
 use Rattle.chess_match.specs.Run.{text_read}
 use Rattle.chess_match.specs.Table.{reading_of}
 use Rattle.chess_match.specs.ties.EngineOutput.{OutputAt}
-use Rattle.chess_match.proofs.Outcomes.{not_other}
 use Rattle.chess_match.specs.declared.run.TheConstants.{ENGINE_LINE_LEN}
 
 own : (S : Colour) (P Q : Type 0) → P → MatchBool (same_colour S S) P Q
 own S P Q p = subst (λ (x : Bool). MatchBool x P Q) (sym (same_colour-self S)) p
 
 others : (S : Colour) (P Q : Type 0) → Q → MatchBool (same_colour S (other S)) P Q
-others S P Q q = subst (λ (x : Bool). MatchBool x P Q) (sym (not_other S)) q
+others S P Q q = subst (λ (x : Bool). MatchBool x P Q) (sym (same_colour-other S (other S) (same_colour-self (other S)))) q
 
 -- the output that was read
 pub own_read : {E : Type 0} (S : Colour) (r r' : InputState) (h h' : Held) (result : Result (Option LineSeen) E)

@@ -6,14 +6,18 @@ use Rattle.chess_base.specs.declared.man.Colour.{Colour}
 use Rattle.cecp_engine.specs.Seen.{seen}
 use Rattle.cecp_engine.specs.declared.engine_line.EngineLine.{EngineLine}
 use Rattle.cecp_engine.specs.declared.engine_line.EngineLine.TheVariants.{Features, Move, Resign, Offer, Draw, Win, Rejection, Pong}
-use Rattle.chess_match.specs.Effects.{Match, after_move, before_move, ignores, turn_row}
-use Rattle.chess_match.specs.laws.Machine.{items_of_line}
+use Rattle.chess_match.specs.Effects.{Match, after_move, before_move, ignores, items_said, setup_row, turn_row}
 use Rattle.chess_match.specs.Rules.{Rules}
 
 -- only a `feature` line has items
 pub no_items_said : (line : EngineLine) → ((text : Bor (List ℕ)) → line ≡ Features text → ⊥)
-    → items_of_line (seen line) ≡ []
+    → items_said (seen line) ≡ []
 no_items_said line h1 = grind arith
+
+-- in a setup, a line that is no answer to a ping
+pub setup_other : (r : Rules) (S : Colour) (line : EngineLine) (n : Match) → ((k : ℕ) → line ≡ Pong k → ⊥)
+    → setup_row r S (seen line) n ≡ ignores r S n
+setup_other r S line n h1 = grind arith
 
 -- before its move, a side's line that is no move is one that means the same after it
 pub before_other : (r : Rules) (S : Colour) (line : EngineLine) (used : ℕ) (n : Match)

@@ -1,14 +1,14 @@
 -- What reading the next line of an engine comes to.
-use Rattle.std.proofs.Common.{◌≡◌, ◌<◌, ℕ, Bool, true, false, List, [], ◌∷◌, ap, sym, ◌∙◌, subst, Option, None, Some, Result, Ok, Err}
+use Rattle.std.proofs.Common.{◌≡◌, ◌<◌, ℕ, Bool, true, false, List, [], ◌∷◌, refl, ap, sym, ◌∙◌, subst, Option, None, Some, Result, Ok, Err}
 use Rattle.std.specs.Prelude.{if◌then◌else◌}
 use Rattle.chess_base.specs.declared.man.Colour.{Colour}
 use Rattle.chess_base.specs.declared.man.Move.{Move}
+use Rattle.chess_base.specs.Men.{other}
 use Rattle.cecp_engine.specs.Items.{Item}
 use Rattle.text_lines.specs.Lines.{LineSeen}
-use Rattle.chess_match.specs.Acts.{Reads, ReadsEnd, ReadFails}
+use Rattle.chess_match.specs.Acts.{Reads, ReadsEnd, ReadFails, awaits_line}
+use Rattle.chess_match.specs.Effects.{Match, effect}
 use Rattle.chess_match.specs.Events.{Event}
-use Rattle.chess_match.specs.laws.Machine.{Match, match_after}
-use Rattle.chess_match.specs.laws.Transcript.{reads}
 use Rattle.chess_match.specs.Lines.{answers_to, bytes_of}
 use Rattle.chess_match.specs.Rules.{Rules}
 use Rattle.chess_match.specs.Run.{text_read}
@@ -16,29 +16,28 @@ use Rattle.chess_match.specs.Table.{Does, Passing, Passes, is_line, reading_of}
 use Rattle.chess_match.specs.declared.state.Actions.{Actions}
 use Rattle.chess_match.specs.declared.state.MatchState.{MatchState}
 use Rattle.chess_match.specs.ties.Driving.{is_line_event, is_of_output, steps_of}
-use Rattle.chess_match.specs.ties.Represents.{Goes, Represents, items_to, nothing_said}
-use Rattle.chess_match.proofs.Going.{goes_with, nothing_to}
+use Rattle.chess_match.specs.ties.Represents.{Goes, Represents, nothing_said}
 
 -- an event without items that is no line
 pub bare : (plays : Rules → Type 0) (old new : Passing) (core : MatchState) (played : List Move) (core' : MatchState)
     (given : Actions) (text : List ℕ) (S : Colour) (n n' : ℕ) (e : Event) → is_of_output S e ≡ true
     → is_line_event e ≡ false → text ≡ [] → Passes old new (steps_of e)
-    → ((r : Rules) (m : Match) → plays r → reads m.phase S ≡ true → Represents r core played m
-    → Goes r core' played given nothing_said m (match_after r m e))
-    → (x : Event) × (items : List Item) × (is_of_output S x ≡ true) × Passes old new (steps_of x)
-    × (is_line_event x ≡ true → n' < n) × (text ≡ bytes_of (answers_to items))
-    × ((r : Rules) (m : Match) → plays r → reads m.phase S ≡ true → Represents r core played m
-    → Goes r core' played given (items_to S items) m (match_after r m x))
+    → ((r : Rules) (m : Match) → plays r → awaits_line m.phase S ≡ true → Represents r core played m
+    → Goes r core' played given nothing_said (effect r m e))
+    → (x : Event) × (items : Colour → List Item) × (is_of_output S x ≡ true) × Passes old new (steps_of x)
+    × (is_line_event x ≡ true → n' < n) × (text ≡ bytes_of (answers_to (items S))) × (items (other S) ≡ [])
+    × ((r : Rules) (m : Match) → plays r → awaits_line m.phase S ≡ true → Represents r core played m
+    → Goes r core' played given items (effect r m x))
 unfolding bytes_of
 bare plays old new core played core' given text S n n' e is line empty passes goes = (
   e,
-  [],
+  nothing_said,
   is,
   passes,
   λ h. let no : false ≡ true = sym line ∙ h in absurd cc,
   empty,
-  λ r m p h s. goes_with r core' played given nothing_said (items_to S []) m (match_after r m e) (nothing_to S)
-      (goes r m p h s),
+  refl,
+  goes,
 )
 
 -- the act of a read that failed, found no line, or found a last one

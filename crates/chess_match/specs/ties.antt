@@ -2,12 +2,10 @@
 pub mod Texts
 pub mod Represents
 pub mod Chess
-pub mod Steps
+pub mod Sane
 pub mod Reported
 pub mod Awaits
 pub mod Delivering
 pub mod Driving
 pub mod EngineOutput
 pub mod AtDesk
-pub mod SameEffects
-pub mod TranscriptActs

@@ -2,14 +2,14 @@
 
 ghost use Rattle.chess_match.specs.declared.block.TheConstants.{BLOCK_LEN};
 ghost use Rattle.std.specs.Prelude.{◌≡◌, ◌+◌, ◌≤◌, ◌++◌, ◌∷◌, [], List, if◌then◌else◌, codes};
+ghost use Rattle.chess_base.specs.Options.{list_if};
 ghost use Rattle.arrayvec.specs.ArrayVec.{array_vec_len};
-ghost use Rattle.chess_match.specs.laws.Machine.{Match};
+ghost use Rattle.chess_match.specs.Effects.{Match, clocks, last_move, move_line, opening};
 ghost use Rattle.chess_match.specs.Rules.{Rules};
 ghost use Rattle.chess_base.specs.declared.man.Move.{Move};
 ghost use Rattle.chess_match.specs.Lines.{Says, bytes_of, setup_lines, variant_command};
-ghost use Rattle.chess_match.specs.laws.Blocks.{last_move_lines, clock_lines, opening_lines, end_lines, lines_on_entering, unsent_lines};
 ghost use Rattle.chess_match.specs.Reasons.{is_unwritten};
-ghost use Rattle.chess_match.specs.ties.Represents.{Represents, player, lines_if_to};
+ghost use Rattle.chess_match.specs.ties.Represents.{Represents, is_unsent, last_lines, lines_if_to, phase_lines, player};
 
 use crate::block::{Block, add_end, add_level, add_move, add_ping, add_times};
 use crate::match_game::MatchGame;
@@ -30,10 +30,11 @@ impl MatchState {
 }
 
 // Appends the line with the last move, if there is one, in the form that this side's engine asked for.
+#[tactic(auto, using(crate::proofs::Sends::no_last, crate::proofs::Sends::last_kept, crate::proofs::Sends::same_end))]
 fn add_last(block: &mut Block, core: &MatchState, side: Colour)
     requires { array_vec_len block.old + 20 ≤ BLOCK_LEN }
     ensures text { (r : Rules) (played : List Move) (m : Match) → Represents r core.now played m
-        → block.new.items ≡ block.old.items ++ bytes_of (last_move_lines r m side) }
+        → block.new.items ≡ block.old.items ++ bytes_of (last_move r m side) }
     ensures len { array_vec_len block.new ≤ array_vec_len block.old + 20 }
 {
     match &core.last {
@@ -49,7 +50,7 @@ fn add_last(block: &mut Block, core: &MatchState, side: Colour)
 fn add_clocks(block: &mut Block, core: &MatchState, side: Colour)
     requires { array_vec_len block.old + 60 ≤ BLOCK_LEN }
     ensures text { (r : Rules) (played : List Move) (m : Match) → Represents r core.now played m
-        → block.new.items ≡ block.old.items ++ bytes_of (clock_lines r m side) }
+        → block.new.items ≡ block.old.items ++ bytes_of (clocks r m side) }
     ensures len { array_vec_len block.new ≤ array_vec_len block.old + 60 }
 {
     if core.features(side).time {
@@ -63,7 +64,7 @@ fn add_clocks(block: &mut Block, core: &MatchState, side: Colour)
 fn add_later_opening(block: &mut Block, core: &MatchState, mover: Colour)
     requires { array_vec_len block.old + 100 ≤ BLOCK_LEN }
     ensures text { (r : Rules) (played : List Move) (m : Match) → Represents r core.now played m
-        → block.new.items ≡ block.old.items ++ bytes_of (clock_lines r m mover ++ last_move_lines r m mover) }
+        → block.new.items ≡ block.old.items ++ bytes_of (clocks r m mover ++ last_move r m mover) }
     ensures len { array_vec_len block.new ≤ array_vec_len block.old + 100 }
 {
     add_clocks(block, core, mover);
@@ -75,7 +76,7 @@ fn add_later_opening(block: &mut Block, core: &MatchState, mover: Colour)
 fn add_opening(block: &mut Block, core: &MatchState, side: Colour)
     requires { array_vec_len block.old + 100 ≤ BLOCK_LEN }
     ensures text { (r : Rules) (played : List Move) (m : Match) → Represents r core.now played m
-        → block.new.items ≡ block.old.items ++ bytes_of (opening_lines r m side) }
+        → block.new.items ≡ block.old.items ++ bytes_of (opening r m side) }
     ensures len { array_vec_len block.new ≤ array_vec_len block.old + 100 }
 {
     if core.clocks.moves(side) > 0 {
@@ -117,10 +118,12 @@ fn add_setup<G: MatchGame>(block: &mut Block, core: &MatchState, game: &G)
 }
 
 // Appends the line with the last move, if this side is still to be sent it.
+#[tactic(auto, using(crate::proofs::Sends::same_end))]
 fn add_unsent(block: &mut Block, core: &MatchState, side: Colour)
     requires { array_vec_len block.old + 20 ≤ BLOCK_LEN }
     ensures text { (r : Rules) (played : List Move) (m : Match) → Represents r core.now played m
-        → block.new.items ≡ block.old.items ++ bytes_of (unsent_lines r m side m.unsent_to) }
+        → block.new.items ≡ block.old.items
+        ++ bytes_of (list_if (is_unsent core.now.last side) (move_line r m side ∷ [])) }
     ensures len { array_vec_len block.new ≤ array_vec_len block.old + 20 }
 {
     match core.unsent_to() {
@@ -138,7 +141,8 @@ fn add_unsent(block: &mut Block, core: &MatchState, side: Colour)
 fn add_end_lines(block: &mut Block, core: &MatchState, side: Colour, reason: Reason)
     requires { array_vec_len block.old + 120 ≤ BLOCK_LEN }
     ensures text { (r : Rules) (played : List Move) (m : Match) → Represents r core.now played m
-        → block.new.items ≡ block.old.items ++ bytes_of (end_lines r m side reason) }
+        → block.new.items ≡ block.old.items
+        ++ bytes_of (last_lines r m reason (is_unsent core.now.last side) side) }
     ensures len { array_vec_len block.new ≤ array_vec_len block.old + 120 }
 {
     add_unsent(block, core, side);
@@ -156,10 +160,11 @@ fn is_unwritten(reason: Reason, side: Colour) -> bool
 }
 
 // Appends the lines that this side is sent when the match enters the phase that it is in; none if writing to it failed.
+#[tactic(auto, using(crate::proofs::Sends::same_end))]
 fn add_entry<G: MatchGame>(block: &mut Block, core: &MatchState, game: &G, side: Colour)
     requires { array_vec_len block.old + 300 ≤ BLOCK_LEN }
     ensures { (r : Rules) (m : Match) → G.plays game.now r → Represents r core.now (G.played game.now) m
-        → block.new.items ≡ block.old.items ++ bytes_of (lines_on_entering r m side) }
+        → block.new.items ≡ block.old.items ++ bytes_of (phase_lines r core.now.last m side core.now.phase) }
 {
     match core.phase {
         Phase::Handshake(on) => {
@@ -174,13 +179,13 @@ fn add_entry<G: MatchGame>(block: &mut Block, core: &MatchState, game: &G, side:
         }
         Phase::SendTurn(on) => {
             if same_colour(on, side) {
-                add_opening(block, core, side);
+                add_opening(block, core, on);
             }
         }
         Phase::AwaitMove(_) => {}
         Phase::AwaitPong(on) => {
             if same_colour(on, side) {
-                add_ping(block, core.clocks.moves(side) + 1);
+                add_ping(block, core.clocks.moves(on) + 1);
             }
         }
         Phase::Over(reason) => {
@@ -222,7 +227,8 @@ pub(crate) fn add_entered<G: MatchGame>(
 )
     requires { array_vec_len block.old + 300 ≤ BLOCK_LEN }
     ensures { (r : Rules) (m : Match) → G.plays game.now r → Represents r core.now (G.played game.now) m
-        → block.new.items ≡ block.old.items ++ bytes_of (if given.entered then lines_on_entering r m side else []) }
+        → block.new.items ≡ block.old.items
+        ++ bytes_of (if given.entered then phase_lines r core.now.last m side core.now.phase else []) }
 {
     if given.entered {
         add_entry(block, core, game, side);

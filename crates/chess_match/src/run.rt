@@ -9,28 +9,24 @@ ghost use Rattle.chess_game.specs.Game.{with_state, outcome_now, with_declared, 
 ghost use Rattle.cecp_engine.specs.EngineLines.{line_kind, Features};
 ghost use Rattle.cecp_engine.specs.Items.{Item};
 ghost use Rattle.cecp_engine.specs.Seen.{seen};
-ghost use Rattle.chess_match.specs.Acts.{blocks_after};
+ghost use Rattle.chess_match.specs.Acts.{awaits_line, blocks_after, is_over};
+ghost use Rattle.chess_match.specs.Effects.{Effect, Match, effect};
 ghost use Rattle.chess_match.specs.Events.{Event, FailsToWrite};
 ghost use Rattle.chess_match.specs.Lines.{bytes_of, answers_to};
 ghost use Rattle.chess_match.specs.Notes.{WasNoted};
 ghost use Rattle.chess_match.specs.Played.{Played, PlayedNoting, PlayedAt};
-ghost use Rattle.chess_match.specs.Reasons.{declared_at, is_unwritten};
+ghost use Rattle.chess_match.specs.Reasons.{declared_at};
 ghost use Rattle.chess_match.specs.Rules.{Rules};
 ghost use Rattle.chess_match.specs.Run.{ports_of, text_read};
 ghost use Rattle.chess_match.specs.Table.{Passes};
 ghost use Rattle.chess_match.specs.declared.block.TheConstants.{ANSWERS_LEN};
-ghost use Rattle.chess_match.specs.declared.phase.Phase.TheVariants.{Over};
 ghost use Rattle.chess_match.specs.declared.reason.Reason.{Reason};
 ghost use Rattle.chess_match.specs.declared.run.TheConstants.{ENGINE_LINE_LEN};
-ghost use Rattle.chess_match.specs.laws.Blocks.{block};
-ghost use Rattle.chess_match.specs.laws.Machine.{Match, match_after, view};
-ghost use Rattle.chess_match.specs.laws.Transcript.{is_on, reads};
 ghost use Rattle.chess_match.specs.ties.Awaits.{IsAwaited};
 ghost use Rattle.chess_match.specs.ties.Driving.{Delivered, after_line, by_turn, giving, is_line_event, is_of_output, line_event, steps_of};
 ghost use Rattle.chess_match.specs.ties.Reported.{IsReported};
-ghost use Rattle.chess_match.specs.ties.Represents.{Represents, Goes, given_block, items_to};
-ghost use Rattle.chess_match.specs.ties.SameEffects.{owed_in};
-ghost use Rattle.chess_match.specs.ties.Steps.{IsSane};
+ghost use Rattle.chess_match.specs.ties.Represents.{Goes, Represents, phase_of};
+ghost use Rattle.chess_match.specs.ties.Sane.{IsSane, IsWritten};
 
 use crate::block::{Block, Blocks};
 use crate::desk::Desk;
@@ -173,6 +169,7 @@ pub fn run_match_watched<R: Input, W: Output, M: Moments, B: Board, L: Witness>(
 ///
 /// The contract says which steps passed at the table, in their order: the acts of a match, each with its note. What an
 /// engine is sent is noted before it is written, and a line when the clock was read after it, before anything else.
+#[tactic(auto, using(crate::proofs::OnTheWay::reported_outcome))]
 pub fn run_match_at<T: MatchTable, B: Board>(
     table: &mut T,
     setup: &Setup,
@@ -220,7 +217,7 @@ pub(crate) enum Awaited {
 // What a match in this phase waits for: a line of a side's engine, the moment at the end of a turn's opening, or
 // nothing.
 fn awaited_in(phase: Phase) -> Awaited
-    ensures { IsAwaited phase result }
+    ensures { (opened : ℕ) → IsAwaited (phase_of opened phase) result }
 {
     match phase {
         Phase::Handshake(side) => Awaited::Line(side),
@@ -241,13 +238,13 @@ fn end_for_other<T: MatchTable, G: MatchGame>(
     waiting: &mut Block,
     side: Colour,
 ) -> bool
-    requires on { is_on core.old.phase ≡ true }
+    requires on { is_over (phase_of core.old.opened core.old.phase) ≡ false }
     requires empty { waiting.old.items ≡ [] }
     ensures ended { (r : Rules) (m : Match) → G.plays game.now r → Represents r core.old (G.played game.now) m
-        → Represents r core.new (G.played game.now) (match_after r m (FailsToWrite side))
+        → Represents r core.new (G.played game.now) (effect r m (FailsToWrite side)).after
         × Passes (T.passed table.old) (T.passed table.new) (steps_of (FailsToWrite side)
-        ++ giving result (other side) (block r m (match_after r m (FailsToWrite side)) (other side)))
-        × (result ≡ true → 0 < length (block r m (match_after r m (FailsToWrite side)) (other side))) }
+        ++ giving result (other side) ((effect r m (FailsToWrite side)).to (other side)))
+        × (result ≡ true → 0 < length ((effect r m (FailsToWrite side)).to (other side))) }
     ensures empty { waiting.new.items ≡ [] }
     ensures left { T.left table.new ≡ T.left table.old }
 {
@@ -267,14 +264,13 @@ fn send_last<T: MatchTable, G: MatchGame>(
 ) -> ByColour<bool>
     requires white_room { array_vec_len white_block.old ≤ ANSWERS_LEN }
     requires black_room { array_vec_len black_block.old ≤ ANSWERS_LEN }
-    ensures sent { (r : Rules) (m : Match) (items : Colour → List Item) → G.plays game.now r
-        → Represents r core.now (G.played game.now) m
+    ensures sent { (r : Rules) (items : Colour → List Item) (e : Effect) → G.plays game.now r
+        → Goes r core.now (G.played game.now) given items e
         → white_block.old.items ≡ bytes_of (answers_to (items Colour.White))
         → black_block.old.items ≡ bytes_of (answers_to (items Colour.Black))
         → Passes (T.passed table.old) (T.passed table.new)
-        (giving result.white Colour.White (given_block r given items m Colour.White)
-        ++ giving result.black Colour.Black (given_block r given items m Colour.Black))
-        × ((S : Colour) → of_colour result S ≡ true → 0 < length (given_block r given items m S)) }
+        (giving result.white Colour.White (e.to Colour.White) ++ giving result.black Colour.Black (e.to Colour.Black))
+        × ((S : Colour) → of_colour result S ≡ true → 0 < length (e.to S)) }
     ensures white_empty { white_block.new.items ≡ [] }
     ensures black_empty { black_block.new.items ≡ [] }
     ensures left { T.left table.new ≡ T.left table.old }
@@ -316,12 +312,11 @@ fn deliver<T: MatchTable, G: MatchGame>(
 ) -> ByColour<bool>
     requires room { array_vec_len blocks.old.own ≤ ANSWERS_LEN }
     requires empty { blocks.old.others.items ≡ [] }
-    ensures delivered { (r : Rules) (m : Match) (items : Colour → List Item) → G.plays game.now r
-        → Represents r core.old (G.played game.now) m → blocks.old.own.items ≡ bytes_of (answers_to (items side))
-        → items (other side) ≡ [] → (is_on m.phase ≡ true → m.unsent_to ≡ owed_in m.phase)
-        → ((reason : Reason) (S : Colour) → m.phase ≡ Over reason → is_unwritten reason S ≡ false)
-        → Delivered r (T.passed table.old) (T.passed table.new) core.new (G.played game.now) m
-        (blocks_after side (record { after = view m; to = given_block r given items m })) (of_colour result) }
+    ensures delivered { (r : Rules) (items : Colour → List Item) (e : Effect) → G.plays game.now r
+        → Goes r core.old (G.played game.now) given items e → blocks.old.own.items ≡ bytes_of (answers_to (items side))
+        → items (other side) ≡ [] → IsWritten e.after
+        → Delivered r (T.passed table.old) (T.passed table.new) core.new (G.played game.now) e.after
+        (blocks_after side e) (of_colour result) }
     ensures own_empty { blocks.new.own.items ≡ [] }
     ensures others_empty { blocks.new.others.items ≡ [] }
     ensures left { T.left table.new ≡ T.left table.old }
@@ -369,6 +364,7 @@ fn is_parsed(line: &Line<ENGINE_LINE_LEN>) -> bool
 }
 
 // What an engine says by this line, by its first words; a line that is too long is one that is ignored (`Other`).
+#[tactic(auto, using(crate::proofs::Features::features_short))]
 fn said(line: &Line<ENGINE_LINE_LEN>) -> EngineLine<'_>
     ensures said { seen result ≡ line_kind (text_read line.now) }
     ensures short { (text : List ℕ) → seen result ≡ Features text → length text ≤ ENGINE_LINE_LEN }
@@ -382,6 +378,7 @@ fn said(line: &Line<ENGINE_LINE_LEN>) -> EngineLine<'_>
 
 // Takes a line of this side's engine: the clock is read, the line is noted, and the match goes on by it. Returns what
 // is to be sent; the answers to the line's items go to `block`, which must be empty.
+#[tactic(auto, using(crate::proofs::Delivers::counted, crate::proofs::Delivers::few, crate::proofs::Delivers::undecided))]
 fn take_line<T: MatchTable, G: MatchGame>(
     table: &mut T,
     core: &mut MatchState,
@@ -391,17 +388,16 @@ fn take_line<T: MatchTable, G: MatchGame>(
     block: &mut Block,
 ) -> Actions
     requires sane { (r : Rules) × (m : Match) × (G.plays game.old r) × Represents r core.old (G.played game.old) m
-        × IsSane r m × (reads m.phase side ≡ true) }
+        × IsSane r m × (awaits_line m.phase side ≡ true) }
     requires empty { block.old.items ≡ [] }
     ensures rules { (r : Rules) → G.plays game.old r → G.plays game.new r }
     ensures origin { G.origin game.new ≡ G.origin game.old }
-    ensures taken { (moment : ℕ) × (items : List Item)
+    ensures taken { (moment : ℕ) × (items : Colour → List Item)
         × Passes (T.passed table.old) (T.passed table.new) (after_line side (text_read line.now) moment)
-        × (block.new.items ≡ bytes_of (answers_to items))
-        × ((r : Rules) (m : Match) → G.plays game.old r → reads m.phase side ≡ true
+        × (block.new.items ≡ bytes_of (answers_to (items side))) × (items (other side) ≡ [])
+        × ((r : Rules) (m : Match) → G.plays game.old r → awaits_line m.phase side ≡ true
         → Represents r core.old (G.played game.old) m
-        → Goes r core.new (G.played game.new) result (items_to side items) m
-        (match_after r m (line_event side line.now moment))) }
+        → Goes r core.new (G.played game.new) result items (effect r m (line_event side line.now moment))) }
     ensures room { array_vec_len block.new ≤ ANSWERS_LEN }
     ensures left { T.left table.new ≡ T.left table.old }
 {
@@ -422,17 +418,17 @@ fn take_next<T: MatchTable, G: MatchGame>(
     block: &mut Block,
 ) -> Actions
     requires sane { (r : Rules) × (m : Match) × (G.plays game.old r) × Represents r core.old (G.played game.old) m
-        × IsSane r m × (reads m.phase side ≡ true) }
+        × IsSane r m × (awaits_line m.phase side ≡ true) }
     requires empty { block.old.items ≡ [] }
     ensures rules { (r : Rules) → G.plays game.old r → G.plays game.new r }
     ensures origin { G.origin game.new ≡ G.origin game.old }
-    ensures taken { (e : Event) × (items : List Item) × (is_of_output side e ≡ true)
+    ensures taken { (e : Event) × (items : Colour → List Item) × (is_of_output side e ≡ true)
         × Passes (T.passed table.old) (T.passed table.new) (steps_of e)
         × (is_line_event e ≡ true → T.left table.new < T.left table.old)
-        × (block.new.items ≡ bytes_of (answers_to items))
-        × ((r : Rules) (m : Match) → G.plays game.old r → reads m.phase side ≡ true
+        × (block.new.items ≡ bytes_of (answers_to (items side))) × (items (other side) ≡ [])
+        × ((r : Rules) (m : Match) → G.plays game.old r → awaits_line m.phase side ≡ true
         → Represents r core.old (G.played game.old) m
-        → Goes r core.new (G.played game.new) result (items_to side items) m (match_after r m e)) }
+        → Goes r core.new (G.played game.new) result items (effect r m e)) }
     ensures room { array_vec_len block.new ≤ ANSWERS_LEN }
 {
     match table.read_line(side, line) {
@@ -469,6 +465,7 @@ fn declare<B: Board>(game: &mut Game<B>, reason: Reason)
 
 // Gives what is reported of a match that ended for `reason`, with both engines' names and the first fault (`failed`
 // says to whom a write failed). Also declares the outcome in the game, unless the board has a verdict.
+#[tactic(auto, using(crate::proofs::Comments::kept_whole))]
 fn end_of<B: Board>(
     core: MatchState,
     game: &mut Game<B>,

@@ -5,12 +5,12 @@ ghost use Rattle.arrayvec.specs.ArrayVec.{array_vec_len};
 ghost use Rattle.chess_base.specs.declared.man.Colour.{Colour};
 ghost use Rattle.cecp_engine.specs.Items.{Item};
 ghost use Rattle.chess_match.specs.declared.block.TheConstants.{ANSWERS_LEN, BLOCK_LEN};
-ghost use Rattle.chess_match.specs.laws.Machine.{Match};
+ghost use Rattle.chess_match.specs.Effects.{Effect, Match};
 ghost use Rattle.chess_match.specs.Lines.{SentLine, answers_to, bytes_of};
 ghost use Rattle.chess_match.specs.Rules.{Rules};
 ghost use Rattle.chess_match.specs.Table.{Passes};
 ghost use Rattle.chess_match.specs.ties.Driving.{giving};
-ghost use Rattle.chess_match.specs.ties.Represents.{Represents, after_answers, given_block};
+ghost use Rattle.chess_match.specs.ties.Represents.{Goes, Represents, after_answers};
 
 use crate::block::Block;
 use crate::compose::{add_entered, add_offer};
@@ -21,6 +21,7 @@ use chess_base::Colour;
 
 // Appends to the block what this side is sent after the answers to its items, as far as `given` says so: an offer of a
 // draw, and the lines of the phase.
+#[tactic(auto, using(crate::proofs::Sends::bytes_after))]
 fn add_rest<G: MatchGame>(
     block: &mut Block,
     core: &MatchState,
@@ -30,7 +31,7 @@ fn add_rest<G: MatchGame>(
 )
     requires { array_vec_len block.old + 310 ≤ BLOCK_LEN }
     ensures { (r : Rules) (m : Match) → G.plays game.now r → Represents r core.now (G.played game.now) m
-        → block.new.items ≡ block.old.items ++ bytes_of (after_answers r given m side) }
+        → block.new.items ≡ block.old.items ++ bytes_of (after_answers r core.now given m side) }
 {
     add_offer(block, given, side);
     add_entered(block, core, game, given, side);
@@ -38,6 +39,7 @@ fn add_rest<G: MatchGame>(
 
 // Notes that `side` is sent this text, and then sends it; an empty text is neither noted nor sent. Returns whether that
 // failed.
+#[tactic(auto, using(crate::proofs::Due::is_some_text))]
 fn note_and_put<T: MatchTable>(table: &mut T, text: &[u8], side: Colour) -> bool
     ensures passes { (lines : List SentLine) → bytes_of lines ≡ text.now
         → Passes (T.passed table.old) (T.passed table.new) (giving result side lines) }
@@ -62,10 +64,10 @@ pub(crate) fn note_and_send<T: MatchTable, G: MatchGame>(
     side: Colour,
 ) -> bool
     requires { array_vec_len block.old ≤ ANSWERS_LEN }
-    ensures sends { (r : Rules) (m : Match) (items : Colour → List Item) → G.plays game.now r
-        → Represents r core.now (G.played game.now) m → block.old.items ≡ bytes_of (answers_to (items side))
-        → Passes (T.passed table.old) (T.passed table.new) (giving result side (given_block r given items m side))
-        × (result ≡ true → 0 < length (given_block r given items m side)) }
+    ensures sends { (r : Rules) (items : Colour → List Item) (e : Effect) → G.plays game.now r
+        → Goes r core.now (G.played game.now) given items e → block.old.items ≡ bytes_of (answers_to (items side))
+        → Passes (T.passed table.old) (T.passed table.new) (giving result side (e.to side))
+        × (result ≡ true → 0 < length (e.to side)) }
     ensures empty { block.new.items ≡ [] }
     ensures left { T.left table.new ≡ T.left table.old }
 {

@@ -7,7 +7,7 @@ ghost use Rattle.cecp_engine.specs.Seen.{item_seen, features_of};
 ghost use Rattle.cecp_engine.specs.Items as feature_items;
 ghost use Rattle.cecp_engine.specs.Items.{items_of, has_done};
 ghost use Rattle.chess_match.specs.ties.Represents.{name_by, Represents};
-ghost use Rattle.chess_match.specs.laws.Machine.{start};
+ghost use Rattle.chess_match.specs.Effects.{beginning};
 ghost use Rattle.chess_match.specs.Rules.{Rules};
 ghost use Rattle.chess_match.specs.Lines.{answers_to, bytes_of};
 ghost use Rattle.chess_match.specs.ties.Texts.{unsent_in};
@@ -113,7 +113,8 @@ impl Player {
 impl MatchState {
     /// A match before its first line: White's handshake is awaited.
     pub(crate) fn new(level: Level) -> Self
-        ensures { (r : Rules) → r.level ≡ level → Represents r result [] start }
+        ensures phase { result.phase ≡ Phase.Handshake Colour.White }
+        ensures stands { (r : Rules) → r.level ≡ level → Represents r result [] beginning.after }
     {
         MatchState {
             phase: Phase::Handshake(Colour::White),
@@ -140,7 +141,7 @@ impl MatchState {
 }
 
 // If the item is `myname`, sets `name` to its value, cut so that a PGN tag can hold it; else leaves it.
-#[tactic(auto, unfolding(crate::specs::ties::Represents::name_by, cecp_engine::specs::Items::last_value))]
+#[tactic(auto, using(crate::proofs::Names::name_said, crate::proofs::Names::name_kept))]
 fn note_name(name: &mut TagText, item: &Item<'_>)
     ensures { (items : List feature_items.Item) → name.old ≡ name_by items
         → name.new ≡ name_by (items ++ item_seen item.now ∷ []) }

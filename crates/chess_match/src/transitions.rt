@@ -1,14 +1,13 @@
 //! Transitions that all phases share: to the end, into a phase, into a turn; and an ignored line.
 
-ghost use Rattle.std.specs.Prelude.{◌≡◌, ◌+◌, ◌<◌, List, true, false};
+ghost use Rattle.std.specs.Prelude.{◌≡◌, ◌+◌, ◌<◌, List, false};
+ghost use Rattle.chess_base.specs.declared.man.Colour.{Colour};
 ghost use Rattle.chess_base.specs.declared.man.Move.{Move};
-ghost use Rattle.chess_match.specs.laws.Machine.{Match, over, enter, open_turn, kept_match, view};
-ghost use Rattle.chess_match.specs.Effects.{ignores};
+ghost use Rattle.chess_match.specs.Acts.{is_over};
+ghost use Rattle.chess_match.specs.Effects.{Match, begins_turn, ends, enter, ignores, is_owed};
 ghost use Rattle.chess_match.specs.Rules.{Rules};
-ghost use Rattle.chess_match.specs.laws.Blocks.{is_same_phase};
-ghost use Rattle.chess_match.specs.ties.Represents.{Represents, Goes, nothing_said};
+ghost use Rattle.chess_match.specs.ties.Represents.{Represents, Goes, is_unsent, nothing_said, phase_lines, phase_of};
 ghost use Rattle.chess_match.specs.ties.Texts.{all_sent};
-ghost use Rattle.chess_match.specs.laws.Transcript.{is_on, reads};
 ghost use Rattle.chess_match.specs.declared.state.TheConstants.{FLOOD_LEN};
 
 use crate::phase::Phase;
@@ -19,17 +18,23 @@ use chess_base::Colour;
 impl MatchState {
     // Ends the match for this reason, and returns what is to be sent: the lines of the end.
     pub(crate) fn finish(&mut self, reason: Reason) -> Actions
-        ensures { (r : Rules) (played : List Move) (m : Match) → is_on m.phase ≡ true → Represents r self.old played m
-            → Goes r self.new played result nothing_said m (over reason m) }
+        ensures { (r : Rules) (played : List Move) (m : Match) → is_over m.phase ≡ false
+            → Represents r self.old played m → Goes r self.new played result nothing_said (ends r reason m) }
     {
         self.phase = Phase::Over(reason);
         ENTRY
     }
 
     // Goes on to this phase, in which lines are counted from 0, and returns what is to be sent: the lines of the phase.
+    #[tactic(auto, using(crate::proofs::CoreSteps::enter_goes))]
     pub(crate) fn enter(&mut self, phase: Phase) -> Actions
-        ensures { (r : Rules) (played : List Move) (m : Match) → is_same_phase m.phase phase ≡ false
-            → Represents r self.old played m → Goes r self.new played result nothing_said m (enter phase m) }
+        ensures { (r : Rules) (played : List Move) (m : Match)
+            → ((S : Colour) → is_unsent self.old.last S ≡ is_owed (phase_of self.old.opened phase) S)
+            → Represents r self.old played m
+            → Goes r self.new played result nothing_said (record {
+              after = enter (phase_of self.old.opened phase) m;
+              to = λ S. phase_lines r self.old.last (enter (phase_of self.old.opened phase) m) S phase;
+            }) }
     {
         self.phase = phase;
         self.count = 0;
@@ -47,8 +52,8 @@ impl MatchState {
 
     // Begins this side's turn, and returns what is to be sent: the lines that open it, in which the last move is.
     pub(crate) fn open_turn(&mut self, side: Colour) -> Actions
-        ensures { (r : Rules) (played : List Move) (m : Match) → is_same_phase m.phase (Phase.SendTurn side) ≡ false
-            → Represents r self.old played m → Goes r self.new played result nothing_said m (open_turn side m) }
+        ensures { (r : Rules) (played : List Move) (m : Match) → Represents r self.old played m
+            → Goes r self.new played result nothing_said (begins_turn r side m) }
     {
         self.phase = Phase::SendTurn(side);
         self.count = 0;
@@ -60,9 +65,8 @@ impl MatchState {
     // ends the match.
     pub(crate) fn ignore(&mut self, side: Colour) -> Actions
         requires { self.old.count < FLOOD_LEN }
-        ensures { (r : Rules) (played : List Move) (m : Match) → reads m.phase side ≡ true
-            → Represents r self.old played m
-            → Goes r self.new played result nothing_said m (kept_match m (ignores r side (view m)).after) }
+        ensures { (r : Rules) (played : List Move) (m : Match) → is_over m.phase ≡ false
+            → Represents r self.old played m → Goes r self.new played result nothing_said (ignores r side m) }
     {
         if self.count + 1 >= FLOOD_LEN {
             return self.finish(Reason::Faulted(side, MatchFault::Flood));

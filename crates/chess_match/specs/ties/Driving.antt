@@ -8,10 +8,8 @@ use Rattle.chess_base.specs.Men.{same_colour}
 use Rattle.text_lines.specs.Lines.{LineSeen}
 use Rattle.chess_match.specs.Acts.{Act, Block, Reads, ReadsEnd, ReadFails, ReadsClock, IsMatchFrom, is_over}
 use Rattle.chess_match.specs.ByDevice.{is_broken}
-use Rattle.chess_match.specs.Effects as effects
+use Rattle.chess_match.specs.Effects.{Match, Over}
 use Rattle.chess_match.specs.Events.{Event, Line, Opened, OutputEnds, FailsToRead, FailsToWrite}
-use Rattle.chess_match.specs.laws.Machine.{Match, view}
-use Rattle.chess_match.specs.laws.Transcript.{is_on}
 use Rattle.chess_match.specs.Lines.{SentLine, bytes_of}
 use Rattle.chess_match.specs.Notes.{Happened, Gives}
 use Rattle.chess_match.specs.Rules.{Rules}
@@ -20,7 +18,7 @@ use Rattle.chess_match.specs.Table.{Step, Does, Notes, Passing, Passes, sending,
 use Rattle.chess_match.specs.declared.reason.Reason.{Reason}
 use Rattle.chess_match.specs.declared.state.MatchState.{MatchState}
 use Rattle.chess_match.specs.ties.Represents.{Represents}
-use Rattle.chess_match.specs.ties.Steps.{IsSane}
+use Rattle.chess_match.specs.ties.Sane.{IsSane}
 
 -- ---- steps
 
@@ -69,14 +67,14 @@ by_turn Black own others = by_colour others own
 -- ---- what follows
 
 -- if the match `m` is over, it ended for this reason
-abbrev pub Ends : effects.Match → Reason → Type 0
-Ends m reason = is_over m.phase ≡ true → m.phase ≡ effects.Over reason
+abbrev pub Ends : Match → Reason → Type 0
+Ends m reason = is_over m.phase ≡ true → m.phase ≡ Over reason
 
 -- the steps `K` lead from the match `m`, when the blocks `due` are still to be sent, to `m'` and `due'`: whichever acts
 -- follow there, with acts of these steps before them they follow in `m`. `failed` says to which sides a write failed
-abbrev pub Leads : Rules → effects.Match → List Block → List Step → effects.Match → List Block → (Colour → Bool)
+abbrev pub Leads : Rules → Match → List Block → List Step → Match → List Block → (Colour → Bool)
     → Type 0
-Leads r m due K m' due' failed = (H : List Act) (final : effects.Match) (reason : Reason)
+Leads r m due K m' due' failed = (H : List Act) (final : Match) (reason : Reason)
     → IsMatchFrom r m' due' H final → Ends m' reason
     → (H' : List Act) × IsMatchFrom r m due H' final × (watched reason H' ≡ K ++ watched reason H)
     × ((S : Colour) → is_broken H' S ≡ (failed S || is_broken H S))
@@ -88,10 +86,9 @@ pub record IsDelivered (r : Rules) (old new : Passing) (core : MatchState) (play
     (due : List Block) (failed : Colour → Bool) (m' : Match) (K : List Step) : Type 0 where
   pub stands : Represents r core played m'
   pub passes : Passes old new K
-  pub leads : Leads r (view m) due K (view m') [] failed
-  pub stays : is_on m.phase ≡ false → m' ≡ m
-  pub on : is_on m'.phase ≡ true → m' ≡ m
-  pub fine : is_on m'.phase ≡ true → (S : Colour) → failed S ≡ false
+  pub leads : Leads r m due K m' [] failed
+  pub stays : is_over m.phase ≡ true → m' ≡ m
+  pub fine : is_over m'.phase ≡ false → (S : Colour) → failed S ≡ false
   pub sane : IsSane r m → IsSane r m'
 
 -- the blocks `due` were sent, or those up to a write that failed, and then those of the end

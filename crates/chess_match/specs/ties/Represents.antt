@@ -1,27 +1,35 @@
 -- When the core and the game stand for a match, and what the core gives to send.
-use Rattle.std.specs.Prelude.{◌≡◌, ℕ, true, false, if◌then◌else◌, List, [], ◌∷◌, ◌++◌, length, sum, codes, Option, None, Some}
+use Rattle.std.specs.Prelude.{◌≡◌, ℕ, Bool, true, false, if◌then◌else◌, List, [], ◌∷◌, ◌++◌, length, sum, codes, Option, None, Some}
+use Rattle.std.specs.Option.{option_map_or}
 use Rattle.chess_base.specs.declared.man.Colour.{Colour}
+use Rattle.chess_base.specs.declared.man.Colour.TheVariants.{White, Black}
 use Rattle.chess_base.specs.declared.man.Move.{Move}
 use Rattle.chess_base.specs.ByColour.{of_colour, with_colour}
 use Rattle.chess_base.specs.Men.{other, same_colour}
-use Rattle.chess_game.specs.Results.{cut_tag}
+use Rattle.chess_base.specs.Options.{list_if}
+use Rattle.chess_game.specs.Results.{cut_tag, result_text}
 use Rattle.cecp_engine.specs.Clocks.{ClocksSeen, Spent, charged}
 use Rattle.cecp_engine.specs.EngineLines.{LineKind}
 use Rattle.cecp_engine.specs.Items.{Item, last_value}
 use Rattle.cecp_engine.specs.Seen.{features_of}
 use Rattle.cecp_engine.specs.Levels.{LevelSeen}
-use Rattle.chess_match.specs.laws.Machine.{Match, items_of_line}
+use Rattle.chess_match.specs.Acts.{is_over}
+use Rattle.chess_match.specs.Effects.{Match, Phase, Handshake, Setup, Opening, BeforeMove, AfterMove, Over, Effect, handshake_lines, is_owed, items_said, move_line, opening, ping_number}
 use Rattle.chess_match.specs.Events.{Seat}
 use Rattle.chess_match.specs.Rules.{Rules}
-use Rattle.chess_match.specs.Lines.{SentLine, Says, answers_to}
-use Rattle.chess_match.specs.laws.Blocks.{lines_on_entering, block}
-use Rattle.chess_match.specs.declared.phase.Phase.{Phase}
-use Rattle.chess_match.specs.declared.phase.Phase.TheVariants.{Handshake, AwaitPong}
+use Rattle.chess_match.specs.Lines.{SentLine, Says, answers_to, ping, setup_lines}
+use Rattle.chess_match.specs.Reasons.{comment_of, is_unwritten, outcome_by_reason}
+use Rattle.chess_match.specs.declared.phase.Phase.{Phase as CorePhase}
+use Rattle.chess_match.specs.declared.phase.Phase.TheVariants as core_in
+use Rattle.chess_match.specs.declared.reason.Reason.{Reason}
 use Rattle.chess_match.specs.declared.state.Player.{Player}
 use Rattle.chess_match.specs.declared.state.Actions.{Actions}
 use Rattle.chess_match.specs.declared.state.MatchState.{MatchState}
+use Rattle.chess_match.specs.declared.texts.LastMove.{LastMove}
 use Rattle.chess_match.specs.declared.texts.MoveTexts.{MoveTexts}
 use Rattle.chess_match.specs.ties.Texts.{AreOfLast, unsent_in}
+
+-- ---- what the core stands for
 
 -- the name that an engine with these items gave by its last `myname`, cut so that a PGN tag can hold it; empty if it
 -- gave none
@@ -41,19 +49,39 @@ time_used_by s = record { moves = length s.used; used = sum s.used }
 
 -- the clocks of the match `m`, with the time control `level`
 abbrev pub clocks_of : LevelSeen → Match → ClocksSeen
-clocks_of level m = record { level = level; white = time_used_by m.white; black = time_used_by m.black }
+clocks_of level m =
+    record { level = level; white = time_used_by (m.seat White); black = time_used_by (m.seat Black) }
 
--- the code's state `core` and the moves `played` of its game are, by the rules `r`, the match `m` of the definitions
+-- a phase of the code, as a phase of a match; `opened` is the moment at which the turn began
+abbrev pub phase_of : ℕ → CorePhase → Phase
+phase_of opened (core_in.Handshake c) = Handshake c
+phase_of opened (core_in.Setup c) = Setup c
+phase_of opened (core_in.SendTurn c) = Opening c
+phase_of opened (core_in.AwaitMove c) = BeforeMove c opened
+phase_of opened (core_in.AwaitPong c) = AfterMove c
+phase_of opened (core_in.Over reason) = Over reason
+
+-- whether the side `S` is still to be sent the last move, by what is kept of that
+abbrev pub is_unsent : Option LastMove → Colour → Bool
+is_unsent last S = option_map_or (λ c. same_colour c S) (unsent_in last) false
+
+-- the code's state `core` and the moves `played` of its game are, by the rules `r`, the match `m` of the definitions.
+-- In a match that is over, `core` still has who is to be sent the last move, as it was before the end
 pub record Represents (r : Rules) (core : MatchState) (played : List Move) (m : Match) : Type 0 where
-  pub phase : core.phase ≡ m.phase
-  pub white : Keeps core.players.white m.white
-  pub black : Keeps core.players.black m.black
+  pub phase : m.phase ≡ phase_of core.opened core.phase
+  pub white : Keeps core.players.white (m.seat White)
+  pub black : Keeps core.players.black (m.seat Black)
   pub clocks : core.clocks ≡ clocks_of r.level m
   pub moves : played ≡ m.played
   pub last : AreOfLast r core.last m.played
-  pub unsent_to : unsent_in core.last ≡ m.unsent_to
+  pub unsent : is_over m.phase ≡ false → (S : Colour) → is_unsent core.last S ≡ is_owed m.phase S
   pub count : core.count ≡ m.count
-  pub opened : core.opened ≡ m.opened
+
+-- what the code's state keeps of the engine of this side
+abbrev pub player : MatchState → Colour → Player
+player core S = of_colour core.players S
+
+-- ---- what the core gives to send
 
 -- the lines `text` if `S` is the side that the option names, else no lines
 abbrev pub lines_if_to : Option Colour → Colour → List SentLine → List SentLine
@@ -68,27 +96,48 @@ items_to c items S = if same_colour c S then items else []
 abbrev pub nothing_said : Colour → List Item
 nothing_said S = []
 
+-- the items that each side is to be sent answers to, after a line that comes in this phase: those of the line in a
+-- handshake, in which alone they count
+abbrev pub items_in : CorePhase → LineKind → Colour → List Item
+items_in (core_in.Handshake c) kind = items_to c (items_said kind)
+items_in _ kind = nothing_said
+
+-- the lines that end the match `m` for the side `S`; `owed` says whether the last move is among them
+abbrev pub last_lines : Rules → Match → Reason → Bool → Colour → List SentLine
+last_lines r m reason owed S =
+    list_if owed (move_line r m S ∷ [])
+    ++ (Says (codes "result " ++ result_text (outcome_by_reason reason) (comment_of reason)) ∷ Says (codes "quit") ∷ [])
+
+-- the lines that the side `S` is sent when the match comes into this phase and is then `m`; `last` is what is kept of
+-- the last move
+abbrev pub phase_lines : Rules → Option LastMove → Match → Colour → CorePhase → List SentLine
+phase_lines r last m S (core_in.Handshake c) = list_if (same_colour c S) handshake_lines
+phase_lines r last m S (core_in.Setup c) = list_if (same_colour c S) (setup_lines r)
+phase_lines r last m S (core_in.SendTurn c) = list_if (same_colour c S) (opening r m c)
+phase_lines r last m S (core_in.AwaitMove c) = []
+phase_lines r last m S (core_in.AwaitPong c) = list_if (same_colour c S) (ping (ping_number m c) ∷ [])
+phase_lines r last m S (core_in.Over reason) =
+    if is_unwritten reason S then [] else last_lines r m reason (is_unsent last S) S
+
 -- what the side `S` is sent after the answers to its items, by the code's `given`: `draw`, if the other offered one,
--- and the lines of the phase of `m`, if it was entered
-abbrev pub after_answers : Rules → Actions → Match → Colour → List SentLine
-after_answers r given m S = lines_if_to given.draw S (Says (codes "draw") ∷ [])
-    ++ (if given.entered then lines_on_entering r m S else [])
+-- and the lines of the code's phase, if it was entered
+abbrev pub after_answers : Rules → MatchState → Actions → Match → Colour → List SentLine
+after_answers r core given m S = lines_if_to given.draw S (Says (codes "draw") ∷ [])
+    ++ (if given.entered then phase_lines r core.last m S core.phase else [])
 
 -- all that the side `S` is sent at an event, after which the match is `m`: answers to its `items`, and by the code's
 -- `given` an offer of a draw and the lines of a new phase
-unfoldable pub given_block : Rules → Actions → (Colour → List Item) → Match → Colour → List SentLine
-given_block r given items m S = answers_to (items S) ++ after_answers r given m S
+unfoldable pub given_lines : Rules → MatchState → Actions → (Colour → List Item) → Match → Colour → List SentLine
+given_lines r core given items m S = answers_to (items S) ++ after_answers r core given m S
 
--- a step of the code from the match `m` to `m'`: after it the code's state is `core` with the moves `played`, and what
--- it sends to each side, by `given` and as answers to `items`, is just what the definitions say
+-- a step of the code has this effect: after it the code's state is `core` with the moves `played`, and what it sends to
+-- each side, by `given` and as answers to `items`, is just what the effect says
 pub record Goes (r : Rules) (core : MatchState) (played : List Move) (given : Actions) (items : Colour → List Item)
-    (m m' : Match) : Type 0 where
-  pub stands : Represents r core played m'
-  pub gives : (S : Colour) → given_block r given items m' S ≡ block r m m' S
+    (e : Effect) : Type 0 where
+  pub stands : Represents r core played e.after
+  pub gives : (S : Colour) → given_lines r core given items e.after S ≡ e.to S
 
--- what the code's state keeps of the engine of this side
-abbrev pub player : MatchState → Colour → Player
-player core S = of_colour core.players S
+-- ---- steps of the core
 
 -- the code's state `core` with the difference that this side's offer of a draw is open
 abbrev pub offered_core : MatchState → Colour → MatchState
@@ -98,13 +147,8 @@ offered_core core S = record core { players = with_colour core.players S (record
 -- is charged, the other's offer of a draw lapses, and the move is still to be sent to the other
 abbrev pub played_core : MatchState → Colour → ℕ → MoveTexts → MatchState
 played_core core S used texts = record core {
-  phase = AwaitPong S;
+  phase = core_in.AwaitPong S;
   last = Some (record { texts = texts; unsent_to = Some (other S) });
   clocks = charged core.clocks S used;
   players = with_colour core.players (other S) (record (player core (other S)) { offers = false });
 }
-
--- the items of a line that comes in this phase; none unless the phase is a handshake, in which alone they count
-abbrev pub items_in : Phase → LineKind → List Item
-items_in (Handshake c) kind = items_of_line kind
-items_in _ kind = []

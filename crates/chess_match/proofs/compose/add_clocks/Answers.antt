@@ -1,19 +1,19 @@
 -- What is kept of the engine says whether it takes times, so the clocks' lines are both times or none
--- (Sends.clock_lines_kept).
+-- (Sends.clocks_kept).
 use Rattle.std.proofs.Common.{sym, true, false, append-nil}
 use Rattle.chess_match.specs.Lines.{bytes_of}
-use Rattle.chess_match.proofs.Sends.{clock_lines_kept}
+use Rattle.chess_match.proofs.Sends.{clocks_kept}
 use Rattle.chess_match.proofs.compose.add_clocks.Goals as goal
 
 pub returns-then-features-clause-text : goal.returns-then-features-clause-text
 returns-then-features-clause-text c r played m s =
-    let k = clock_lines_kept r c.args.core.now played m c.args.side c.features.result true s c.features.ensures
+    let k = clocks_kept r c.args.core.now played m c.args.side c.features.result true s c.features.ensures
     c.if-features.true in
     rw (← k, ← c.other.ensures, ← c.remaining-own.ensures, ← c.remaining-others.ensures) c.add_times.ensures.text
 
 pub returns-else-features-clause-text : goal.returns-else-features-clause-text
 unfolding bytes_of
 returns-else-features-clause-text c r played m s =
-    let k = clock_lines_kept r c.args.core.now played m c.args.side c.features.result false s c.features.ensures
+    let k = clocks_kept r c.args.core.now played m c.args.side c.features.result false s c.features.ensures
     c.if-features.false in
     rw (← k) (sym (append-nil c.args.block.now.items))

@@ -1,13 +1,12 @@
--- The bytes of the end are those of the last move, where the side wasn't sent it, and of the result and `quit`
--- (Sends.end_bytes).
+-- The bytes of the end are those of the last move, where the side wasn't sent it, and of the result and `quit`.
 use Rattle.std.proofs.Common.{append_assoc}
-use Rattle.chess_match.proofs.Sends.{end_bytes}
+use Rattle.chess_match.proofs.Sends.{bytes_of-append}
 use Rattle.chess_match.proofs.compose.add_end_lines.Goals as goal
 
 pub returns-clause-text : goal.returns-clause-text
 returns-clause-text c r played m s =
     rw (
-      end_bytes r m c.args.side c.args.reason,
+      bytes_of-append,
       c.add_end.ensures.text,
       c.add_unsent.ensures.text r played m s,
       c.outcome.ensures,

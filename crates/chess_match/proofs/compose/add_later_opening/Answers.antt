@@ -1,12 +1,12 @@
 -- Both clocks come before the last move (Sends.joined_after).
 use Rattle.std.proofs.Common.{◌∙◌, ap, ◌++◌, List, ℕ}
 use Rattle.chess_match.specs.Lines.{bytes_of}
-use Rattle.chess_match.specs.laws.Blocks.{clock_lines, last_move_lines}
+use Rattle.chess_match.specs.Effects.{clocks, last_move}
 use Rattle.chess_match.proofs.Sends.{joined_after}
 use Rattle.chess_match.proofs.compose.add_later_opening.Goals as goal
 
 pub returns-clause-text : goal.returns-clause-text
 returns-clause-text c r played m s =
     c.add_last.ensures.text r played m s
-    ∙ ap (λ (bs : List ℕ). bs ++ bytes_of (last_move_lines r m c.args.mover)) (c.add_clocks.ensures.text r played m s)
-    ∙ joined_after c.args.block.now.items (clock_lines r m c.args.mover) (last_move_lines r m c.args.mover)
+    ∙ ap (λ (bs : List ℕ). bs ++ bytes_of (last_move r m c.args.mover)) (c.add_clocks.ensures.text r played m s)
+    ∙ joined_after c.args.block.now.items (clocks r m c.args.mover) (last_move r m c.args.mover)

@@ -1,30 +1,29 @@
--- A side's clock counts the moves that it made in the match (Going.clocks_moves): with none, its opening is the first,
--- which has the move before the clocks and `go` after them (Sends.opening_kept).
+-- A side's clock counts the moves that it made in the match (CoreSteps.clocks_moves): with none, its opening is the
+-- first, which has the move before the clocks and `go` after them.
 use Rattle.std.proofs.Common.{◌≡◌, ◌++◌, ◌∷◌, [], append_assoc, true, false, length, arith, lt-ltb, le-ltb}
 use Rattle.std.specs.Prelude.{nat_lt, codes}
-use Rattle.chess_match.specs.laws.Machine.{seat}
 use Rattle.chess_match.specs.Lines.{Says}
-use Rattle.chess_match.specs.laws.Blocks.{clock_lines, last_move_lines}
-use Rattle.chess_match.proofs.Going.{clocks_moves}
-use Rattle.chess_match.proofs.Sends.{opening_kept, bytes_of-append, go_line}
+use Rattle.chess_match.specs.Effects.{clocks, last_move}
+use Rattle.chess_match.proofs.CoreSteps.{clocks_moves}
+use Rattle.chess_match.proofs.Sends.{bytes_of-append, go_line}
 use Rattle.chess_match.proofs.compose.add_opening.Goals as goal
 
 pub returns-then-moves-gt0-clause-text : goal.returns-then-moves-gt0-clause-text
 returns-then-moves-gt0-clause-text c r played m s =
     let k = clocks_moves r _ played m s c.args.side in
-    let moved : nat_lt 0 (length (seat m c.args.side).used) ≡ true =
+    let moved : nat_lt 0 (length (m.seat c.args.side).used) ≡ true =
     lt-ltb 0 _ (omega (arith, c.moves.ensures.value, k, c.if-moves-gt0.true)) in
-    rw (opening_kept r m c.args.side true moved) (c.add_later_opening.ensures.text r played m s)
+    rw moved (c.add_later_opening.ensures.text r played m s)
 
 pub returns-else-moves-gt0-clause-text : goal.returns-else-moves-gt0-clause-text
 returns-else-moves-gt0-clause-text c r played m s =
     let k = clocks_moves r _ played m s c.args.side in
-    let unmoved : nat_lt 0 (length (seat m c.args.side).used) ≡ false =
+    let unmoved : nat_lt 0 (length (m.seat c.args.side).used) ≡ false =
     le-ltb 0 _ (omega (arith, c.moves.ensures.value, k, c.if-moves-gt0.false)) in
     rw (
-      opening_kept r m c.args.side false unmoved,
-      bytes_of-append (last_move_lines r m c.args.side) (clock_lines r m c.args.side ++ Says (codes "go") ∷ []),
-      bytes_of-append (clock_lines r m c.args.side) (Says (codes "go") ∷ []),
+      unmoved,
+      bytes_of-append (last_move r m c.args.side) (clocks r m c.args.side ++ Says (codes "go") ∷ []),
+      bytes_of-append (clocks r m c.args.side) (Says (codes "go") ∷ []),
       go_line,
       c.append.ensures.text,
       c.add_clocks.ensures.text r played m s,

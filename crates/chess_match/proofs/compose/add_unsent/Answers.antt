@@ -2,17 +2,8 @@
 -- other side, no line is due and nothing is put.
 use Rattle.std.proofs.Common.{◌++◌, List, sym, ap, ◌∙◌}
 use Rattle.chess_match.specs.Lines.{SentLine, bytes_of}
-use Rattle.chess_match.proofs.Sends.{unsent_none, unsent_other, unsent_own}
+use Rattle.chess_match.proofs.Sends.{unsent_own}
 use Rattle.chess_match.proofs.compose.add_unsent.Goals as goal
-
-pub returns-in-None-clause-text : goal.returns-in-None-clause-text
-returns-in-None-clause-text c r played m s =
-    unsent_none r m c.args.side c.args.block.now.items (sym s.unsent_to ∙ sym c.in-None.ensures)
-
-pub returns-else-same_colour-clause-text : goal.returns-else-same_colour-clause-text
-returns-else-same_colour-clause-text c r played m s =
-    unsent_other r m c.args.side c.in-Some.unsent_to c.args.block.now.items (sym s.unsent_to ∙ sym c.in-Some.ensures)
-    (sym c.same_colour.ensures ∙ c.if-same_colour.false)
 
 pub returns-then-same_colour-clause-text : goal.returns-then-same_colour-clause-text
 returns-then-same_colour-clause-text c r played m s =

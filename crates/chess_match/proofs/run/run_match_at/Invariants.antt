@@ -1,7 +1,7 @@
 use Rattle.std.proofs.Common.{◌≡◌, [], None}
 use Rattle.chess_base.specs.ByColour.{of_colour}
 use Rattle.chess_match.specs.Rules.{rules_of}
-use Rattle.chess_match.proofs.OnTheWay.{OnTheWay, steps_left}
+use Rattle.chess_match.proofs.OnTheWay.{OnTheWay, phase_now, steps_left}
 use Rattle.chess_match.proofs.run.run_match_at.Given as goal
 
 abbrev pub invariant-events : goal.invariant-events
@@ -12,4 +12,4 @@ invariant-events g l =
     × (l.blocks.own.items ≡ []) × (l.blocks.others.items ≡ [])
 
 abbrev pub decreases-events : goal.decreases-events
-decreases-events g l = steps_left l.core.phase (g.T.MatchTable.left l.table)
+decreases-events g l = steps_left (phase_now l.core) (g.T.MatchTable.left l.table)

@@ -1,39 +1,29 @@
 -- The clock is read, the line is noted, and the core takes over what the line says.
-use Rattle.std.proofs.Common.{◌∷◌, [], ap, sym}
+use Rattle.std.proofs.Common.{◌∷◌, [], ap, sym, ◌∙◌}
 use Rattle.cecp_engine.specs.Seen.{seen}
 use Rattle.chess_match.specs.Acts.{ReadsClock}
 use Rattle.chess_match.specs.Events.{Line}
 use Rattle.chess_match.specs.Notes.{Happened}
 use Rattle.chess_match.specs.Run.{text_read}
 use Rattle.chess_match.specs.Table.{Does, Notes}
-use Rattle.chess_match.specs.declared.phase.Phase.{Phase}
 use Rattle.chess_match.specs.ties.Represents.{items_in}
-use Rattle.chess_match.proofs.Delivers.{counted, few, undecided}
-use Rattle.chess_match.proofs.Going.{goes_as}
+use Rattle.chess_match.specs.Acts.{awaits_line}
+use Rattle.chess_match.specs.Effects.{Phase}
+use Rattle.chess_match.proofs.Sends.{none_to_other}
 use Rattle.chess_match.proofs.Passings.{passed_more}
 use Rattle.chess_match.proofs.run.take_line.Goals as goal
 
-pub line-requires : goal.line-requires
-line-requires g c =
-    let q = c.requires.sane in
-    record {
-      counted = counted q.0 _ _ q.1 q.3 q.4;
-      few = few q.0 _ _ q.1 q.3 q.4;
-      undecided = λ h. (q.0, q.2, undecided q.0 _ _ q.1 q.3 q.4 h);
-      short = c.said.ensures.short;
-      empty = c.requires.empty;
-    }
-
 pub returns-clause-taken : goal.returns-clause-taken
-returns-clause-taken g c = (
-  c.moment-moment.result,
-  items_in c.args.core.now.phase (seen c.said.result),
-  passed_more _ _ _ (Does (ReadsClock c.args.side c.moment-moment.result) ∷ [])
-      (Notes (Happened (Line c.args.side (text_read c.args.line.now) c.moment-moment.result)) ∷ [])
-      c.moment-moment.ensures.passes c.note_line.ensures.passes,
-  c.line.ensures.answers,
-  λ r m p reading s.
-      goes_as r _ _ _ c.args.side (items_in m.phase (seen c.said.result)) _ m _
-      (ap (λ (x : Phase). items_in x (seen c.said.result)) (sym s.phase))
-      (c.line.ensures.goes r m c.args.side (text_read c.args.line.now) p reading (sym c.said.ensures.said) s),
-)
+returns-clause-taken g c =
+    let q = c.requires.sane in
+    let awaits = ap (λ (p : Phase). awaits_line p c.args.side) (sym q.3.phase) ∙ q.5 in (
+      c.moment-moment.result,
+      items_in c.args.core.now.phase (seen c.said.result),
+      passed_more _ _ _ (Does (ReadsClock c.args.side c.moment-moment.result) ∷ [])
+          (Notes (Happened (Line c.args.side (text_read c.args.line.now) c.moment-moment.result)) ∷ [])
+          c.moment-moment.ensures.passes c.note_line.ensures.passes,
+      c.line.ensures.answers c.args.side awaits,
+      none_to_other c.args.core.now.phase _ (seen c.said.result) c.args.side awaits,
+      λ r m p aw s.
+          c.line.ensures.goes r m c.args.side (text_read c.args.line.now) p aw (sym c.said.ensures.said) s,
+    )

@@ -8,7 +8,7 @@ use Rattle.chess_match.specs.Notes.{Happened}
 use Rattle.chess_match.specs.Run.{text_read}
 use Rattle.chess_match.specs.Table.{Does, Notes}
 use Rattle.chess_match.specs.ties.Driving.{after_line}
-use Rattle.chess_match.proofs.Going.{reads_on}
+use Rattle.chess_match.proofs.CoreSteps.{on_awaiting}
 use Rattle.chess_match.proofs.Passings.{passed_more}
 use Rattle.chess_match.proofs.Takings.{as_fault, as_last, as_line, as_none, bare, line_falls}
 use Rattle.chess_match.proofs.run.take_next.Goals as goal
@@ -20,7 +20,7 @@ returns-in-Err-clause-taken g c =
     (passed_more _ _ _ (Does (ReadFails c.args.side) ∷ []) (Notes (Happened (FailsToRead c.args.side)) ∷ [])
     (as_fault _ _ c.args.side _ _ (ap (λ v. line_read v c.read_line.new.line) c.in-Err.is) c.read_line.ensures.passes)
     c.note_read_fails.ensures.passes)
-    (λ r m p h s. c.read_fails.ensures r _ m (reads_on m.phase c.args.side h) s)
+    (λ r m p h s. c.read_fails.ensures r _ m (on_awaiting m.phase c.args.side h) s)
 
 pub returns-in-Ok-false-clause-taken : goal.returns-in-Ok-false-clause-taken
 returns-in-Ok-false-clause-taken g c =
@@ -31,7 +31,7 @@ returns-in-Ok-false-clause-taken g c =
     (ap (λ v. line_read v c.read_line.new.line) (c.in-Ok-false.is ∙ ap (λ o. Ok o) c.in-Ok-false.field-0-test))
     c.read_line.ensures.passes)
     c.note_output_ends-in-Ok-false.ensures.passes)
-    (λ r m p h s. c.output_ends-in-Ok-false.ensures r _ m (reads_on m.phase c.args.side h) s)
+    (λ r m p h s. c.output_ends-in-Ok-false.ensures r _ m (on_awaiting m.phase c.args.side h) s)
 
 pub returns-else-is_parsed-clause-taken : goal.returns-else-is_parsed-clause-taken
 returns-else-is_parsed-clause-taken g c =
@@ -42,7 +42,7 @@ returns-else-is_parsed-clause-taken g c =
     (ap (λ v. line_read v c.read_line.new.line) (c.in-Ok-true.is ∙ ap (λ o. Ok o) c.in-Ok-true.field-0-test))
     (sym c.is_parsed.ensures ∙ c.if-is_parsed.false) c.read_line.ensures.passes)
     c.note_output_ends.ensures.passes)
-    (λ r m p h s. c.output_ends.ensures r _ m (reads_on m.phase c.args.side h) s)
+    (λ r m p h s. c.output_ends.ensures r _ m (on_awaiting m.phase c.args.side h) s)
 
 pub returns-then-is_parsed-clause-taken : goal.returns-then-is_parsed-clause-taken
 returns-then-is_parsed-clause-taken g c =
@@ -60,4 +60,5 @@ returns-then-is_parsed-clause-taken g c =
           (line_falls c.args.side _ c.read_line.new.line _ _ found whole c.read_line.ensures.less),
       h.3,
       h.4,
+      h.5,
     )

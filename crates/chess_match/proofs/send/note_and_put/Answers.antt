@@ -17,6 +17,3 @@ returns-clause-passes g c lines e =
     (subst (λ (b : Bool). Passes (g.T.MatchTable.passed c.note_gives.new.self) (g.T.MatchTable.passed c.send.new.self)
     (Does (sending b (record { to = c.args.side; lines = lines })) ∷ [])) (sym c.is_err.ensures.value)
     (c.send.ensures.passes lines e))
-
-pub returns-clause-due : goal.returns-clause-due
-returns-clause-due g c fails = is_some_text c.args.text.now _ c.is_empty.ensures c.if-is_empty.false

@@ -1,41 +1,33 @@
 -- The core and its game stand for the match, and so does what each row of the definition leaves; the side's clock knows
--- its moves, and so the number of the ping that it is to answer (Going.clocks_moves).
-use Rattle.std.proofs.Common.{◌≡◌, true, false, refl, ◌∙◌, arith, length, eq-eqb, ne_eqb}
+-- its moves, and so the number of the ping that it is to answer (CoreSteps.clocks_moves).
+use Rattle.std.proofs.Common.{◌≡◌, true, false, ◌∙◌, ap, arith, length, eq-eqb, ne_eqb}
 use Rattle.std.specs.Prelude.{◌==◌}
-use Rattle.chess_match.specs.laws.Machine.{seat, ping_number, view}
-use Rattle.chess_match.specs.laws.Blocks.{is_same_phase}
-use Rattle.chess_match.specs.laws.Transcript.{reads, is_on}
-use Rattle.chess_match.specs.declared.phase.Phase.TheVariants.{SendTurn}
-use Rattle.chess_match.proofs.Going.{clocks_moves}
+use Rattle.chess_match.specs.Acts.{is_over}
+use Rattle.chess_match.specs.Effects.{ping_number}
+use Rattle.chess_match.proofs.CoreSteps.{clocks_moves}
 use Rattle.chess_match.proofs.OtherLines.{after_other}
 use Rattle.chess_match.proofs.state.MatchState.after_line.Goals as goal
-use Rattle.chess_base.proofs.shared.Men.{same_colour-self}
 
 pub returns-in-Move : goal.returns-in-Move
-returns-in-Move g c r m p at s =
-    let on : is_on m.phase ≡ true = rw at refl in
-    rw c.in-Move.is (c.finish.ensures r _ m on s)
+returns-in-Move g c r m p at s = rw c.in-Move.is (c.finish.ensures r _ m (ap is_over at) s)
 
 pub returns-then-number-moves : goal.returns-then-number-moves
 returns-then-number-moves g c r m p at s =
-    let moved : c.moves.result ≡ length (seat m c.args.side).used = c.moves.ensures.value
+    let moved : c.moves.result ≡ length (m.seat c.args.side).used = c.moves.ensures.value
     ∙ clocks_moves r _ _ m s c.args.side in
     let answered : (c.in-Pong.number == ping_number m c.args.side) ≡ true =
     eq-eqb c.in-Pong.number _ (omega (arith, moved)) in
-    let differs : is_same_phase m.phase (SendTurn c.other.result) ≡ false = rw at refl in
-    rw (c.in-Pong.is, answered, ← c.other.ensures) (c.open_turn.ensures r _ m differs s)
+    rw (c.in-Pong.is, answered, ← c.other.ensures) (c.open_turn.ensures r _ m s)
 
 pub returns-else-number-moves : goal.returns-else-number-moves
 returns-else-number-moves g c r m p at s =
-    let moved : c.moves.result ≡ length (seat m c.args.side).used = c.moves.ensures.value
+    let moved : c.moves.result ≡ length (m.seat c.args.side).used = c.moves.ensures.value
     ∙ clocks_moves r _ _ m s c.args.side in
     let unanswered : (c.in-Pong.number == ping_number m c.args.side) ≡ false =
     ne_eqb c.in-Pong.number _ (omega (arith, moved)) in
-    let h : reads m.phase c.args.side ≡ true = rw at (same_colour-self c.args.side) in
-    rw (c.in-Pong.is, unanswered) (c.ignore.ensures r _ m h s)
+    rw (c.in-Pong.is, unanswered) (c.ignore.ensures r _ m (ap is_over at) s)
 
 pub returns-in_default : goal.returns-in_default
 returns-in_default g c r m p at s =
-    let h : reads m.phase c.args.side ≡ true = rw at (same_colour-self c.args.side) in
-    rw (after_other r c.args.side c.args.line (view m) c.in_default.not-Move c.in_default.not-Pong)
-    (c.turn_line.ensures r m p h s)
+    rw (after_other r c.args.side c.args.line m c.in_default.not-Move c.in_default.not-Pong)
+    (c.turn_line.ensures r m p (ap is_over at) s)

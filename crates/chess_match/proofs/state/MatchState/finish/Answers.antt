@@ -1,6 +1,5 @@
-use Rattle.std.proofs.Common.{refl}
-use Rattle.chess_match.proofs.Going.{over_goes}
+use Rattle.chess_match.proofs.CoreSteps.{over_goes}
 use Rattle.chess_match.proofs.state.MatchState.finish.Goals as goal
 
 pub returns : goal.returns
-returns c r played m on s = over_goes r _ _ played _ m on s refl
+returns c r played m on s = over_goes r _ played _ m on s

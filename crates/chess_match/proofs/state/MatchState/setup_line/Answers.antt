@@ -1,21 +1,16 @@
--- Only a pong with number 1 makes the side ready; any other line is ignored, as the match says of a side that it waits
--- for.
-use Rattle.std.proofs.Common.{◌≡◌, true, false, sym}
-use Rattle.chess_match.proofs.Going.{setup_by_pong}
-use Rattle.chess_match.specs.laws.Machine.{view}
-use Rattle.chess_match.specs.laws.Laws.{is_pong}
-use Rattle.cecp_engine.specs.Seen.{seen}
-use Rattle.chess_match.specs.laws.Transcript.{reads}
+-- Only the answer to `ping 1` makes the side ready; any other line is ignored.
+use Rattle.std.proofs.Common.{◌≡◌, false, ap, ne_eqb}
+use Rattle.std.specs.Prelude.{◌==◌}
+use Rattle.chess_match.specs.Acts.{is_over}
+use Rattle.chess_match.proofs.OtherLines.{setup_other}
 use Rattle.chess_match.proofs.state.MatchState.setup_line.Goals as goal
-use Rattle.chess_base.proofs.shared.Men.{same_colour-self}
 
-pub returns-then-is_pong : goal.returns-then-is_pong
-returns-then-is_pong g c r m p at s =
-    let pong : is_pong 1 (seen c.args.line) ≡ true = sym c.if-is_pong.ensures in
-    rw (setup_by_pong r c.args.side (seen c.args.line) (view m), pong) (c.ready.ensures r m p at s)
+pub returns-else-number-eq1 : goal.returns-else-number-eq1
+returns-else-number-eq1 g c r m p at s =
+    let unanswered : (c.in-Pong.number == 1) ≡ false = ne_eqb c.in-Pong.number 1 c.if-number-eq1.false in
+    rw (c.in-Pong.is, unanswered) (c.ignore.ensures r _ m (ap is_over at) s)
 
-pub returns : goal.returns
-returns g c r m p at s =
-    let pong : is_pong 1 (seen c.args.line) ≡ false = sym c.if-is_pong.ensures in
-    let waits : reads m.phase c.args.side ≡ true = rw at (same_colour-self c.args.side) in
-    rw (setup_by_pong r c.args.side (seen c.args.line) (view m), pong) (c.ignore.ensures r _ m waits s)
+pub returns-in_default : goal.returns-in_default
+returns-in_default g c r m p at s =
+    rw (setup_other r c.args.side c.args.line m c.in_default.not-Pong)
+    (c.ignore-in_default.ensures r _ m (ap is_over at) s)

@@ -1,27 +1,6 @@
--- A line without features has no items (OtherLines.no_items_said), and taking over none leaves what the core stands for
--- (Going.no_items_stand).
-use Rattle.std.proofs.Common.{refl}
-use Rattle.cecp_engine.specs.Items.{has_done}
-use Rattle.cecp_engine.specs.Seen.{seen}
-use Rattle.chess_match.specs.laws.Machine.{items_of_line}
-use Rattle.chess_match.proofs.Going.{no_items_stand}
-use Rattle.chess_match.proofs.OtherLines.{no_items_said}
-use Rattle.chess_match.proofs.Sends.{no_answers_of}
+-- A `feature` line's items are taken over; taking over none leaves what the core stands for (CoreSteps.no_items_stand).
 use Rattle.chess_match.proofs.state.MatchState.take_line_items.Goals as goal
 
 pub returns-in-Features-clause-taken : goal.returns-in-Features-clause-taken
 returns-in-Features-clause-taken c r played m s =
     rw c.in-Features.is (c.take_items.ensures.taken r played m s)
-
-pub returns-in_default-clause-taken : goal.returns-in_default-clause-taken
-returns-in_default-clause-taken c r played m s =
-    rw (no_items_said c.args.line c.in_default.not-Features) (no_items_stand r _ played c.args.side m s)
-
-pub returns-in_default-clause-done : goal.returns-in_default-clause-done
-unfolding has_done
-returns-in_default-clause-done c = rw (no_items_said c.args.line c.in_default.not-Features) refl
-
-pub returns-in_default-clause-answers : goal.returns-in_default-clause-answers
-returns-in_default-clause-answers c =
-    no_answers_of _ (items_of_line (seen c.args.line)) c.requires.empty
-    (no_items_said c.args.line c.in_default.not-Features)

@@ -1,0 +1,265 @@
+-- How the core goes on, step by step.
+use Rattle.std.proofs.Common.{◌≡◌, ℕ, ◌+◌, ◌<◌, Bool, true, false, List, [], ◌∷◌, ◌++◌, length, length-append, refl, ap, sym, ◌∙◌, subst, Option, None, Some, append-nil, zero-add, arith}
+use Rattle.std.specs.Bool.{then_some}
+use Rattle.std.specs.Prelude.{if◌then◌else◌, codes, nat_lt, sum}
+use Rattle.std.proofs.lemmas.List.Sums.{sum_by-append}
+use Rattle.chess_base.specs.declared.man.Colour.{Colour}
+use Rattle.chess_base.specs.declared.man.Colour.TheVariants.{White, Black}
+use Rattle.chess_base.specs.declared.man.Move.{Move}
+use Rattle.chess_base.specs.ByColour.{with_colour}
+use Rattle.chess_base.specs.Men.{other, same_colour}
+use Rattle.chess_base.specs.Options.{list_if}
+use Rattle.cecp_engine.specs.Clocks.{ClocksSeen, charged, spent_by, remaining}
+use Rattle.cecp_engine.specs.EngineLines.{LineKind}
+use Rattle.cecp_engine.specs.Items.{Item, takes}
+use Rattle.cecp_engine.specs.Seen.{features_of}
+use Rattle.chess_match.specs.Acts.{awaits_line, is_over}
+use Rattle.chess_match.specs.Effects.{Match, Phase, Opening, BeforeMove, Over, Effect, begins_turn, clock, ends, enter, is_owed, line_row, moved, sends_nothing, sends_to, with_answers, with_seat}
+use Rattle.chess_match.specs.Events.{Seat}
+use Rattle.chess_match.specs.Lines.{SentLine, Says, answers_to}
+use Rattle.chess_match.specs.Reasons.{is_unwritten}
+use Rattle.chess_match.specs.Rules.{Rules}
+use Rattle.chess_match.specs.declared.phase.Phase.{Phase as CorePhase}
+use Rattle.chess_match.specs.declared.phase.Phase.TheVariants as core_in
+use Rattle.chess_match.specs.declared.reason.Reason.{Reason}
+use Rattle.chess_match.specs.declared.state.Actions.{Actions}
+use Rattle.chess_match.specs.declared.state.MatchState.{MatchState}
+use Rattle.chess_match.specs.declared.state.Player.{Player}
+use Rattle.chess_match.specs.declared.texts.LastMove.{LastMove}
+use Rattle.chess_match.specs.declared.texts.MoveTexts.{MoveTexts}
+use Rattle.chess_match.specs.ties.Represents.{Goes, Keeps, Represents, after_answers, clocks_of, given_lines, is_unsent, items_to, last_lines, lines_if_to, name_by, nothing_said, offered_core, phase_lines, phase_of, played_core, player, time_used_by}
+use Rattle.chess_match.specs.ties.Texts.{all_sent, AreOfLast, AreTexts}
+
+-- ---- what the core keeps of a match
+
+pub on_awaiting : (p : Phase) (S : Colour) → awaits_line p S ≡ true → is_over p ≡ false
+on_awaiting p S h1 = grind arith
+
+-- what the core keeps of either side
+pub kept : (r : Rules) (core : MatchState) (played : List Move) (m : Match) → Represents r core played m → (S : Colour)
+    → Keeps (player core S) (m.seat S)
+kept r core played m s White = s.white
+kept r core played m s Black = s.black
+
+pub clocks_moves : (r : Rules) (core : MatchState) (played : List Move) (m : Match) → Represents r core played m
+    → (S : Colour) → (spent_by core.clocks S).moves ≡ length (m.seat S).used
+clocks_moves r core played m s White = ap (λ (c : ClocksSeen). c.white.moves) s.clocks
+clocks_moves r core played m s Black = ap (λ (c : ClocksSeen). c.black.moves) s.clocks
+
+pub clocks_left : (r : Rules) (core : MatchState) (played : List Move) (m : Match) → Represents r core played m
+    → (S : Colour) → remaining core.clocks S ≡ clock r m S
+clocks_left r core played m s White = ap (λ (c : ClocksSeen). remaining c White) s.clocks
+clocks_left r core played m s Black = ap (λ (c : ClocksSeen). remaining c Black) s.clocks
+
+-- the flag falls in the core where it falls in the match
+pub flag_kept : (r : Rules) (core : MatchState) (played : List Move) (m : Match) (S : Colour) (used elapsed : ℕ)
+    (flagged b : Bool) → Represents r core played m → used ≡ elapsed → flagged ≡ nat_lt (remaining core.clocks S) used
+    → flagged ≡ b → nat_lt (clock r m S) elapsed ≡ b
+flag_kept r core played m S used elapsed flagged b s e f h =
+    rw (← clocks_left r core played m s S, ← e) (sym f ∙ h)
+
+-- ---- into another phase
+
+-- the match is over
+pub over_goes : (r : Rules) (core : MatchState) (played : List Move) (reason : Reason) (m : Match)
+    → is_over m.phase ≡ false → Represents r core played m
+    → Goes r (record core { phase = core_in.Over reason }) played (record { draw = None; entered = true }) nothing_said
+    (ends r reason m)
+unfolding given_lines
+over_goes r core played reason m on s = record {
+  stands = let ended : is_over (Over reason) ≡ false → (S : Colour) → is_unsent core.last S ≡ is_owed (Over reason) S =
+      λ h S. absurd cc in search ended;
+  gives = λ S. ap (λ (b : Bool). if is_unwritten reason S then [] else last_lines r m reason b S) (s.unsent on S);
+}
+
+pub enter_goes : (r : Rules) (core : MatchState) (played : List Move) (p : CorePhase) (m : Match)
+    → ((S : Colour) → is_unsent core.last S ≡ is_owed (phase_of core.opened p) S) → Represents r core played m
+    → Goes r (record core { phase = p; count = 0 }) played (record { draw = None; entered = true }) nothing_said
+    (record {
+      after = enter (phase_of core.opened p) m;
+      to = λ S. phase_lines r core.last (enter (phase_of core.opened p) m) S p;
+    })
+unfolding given_lines
+enter_goes r core played p m owed s = record {
+  stands = let entered : is_over (phase_of core.opened p) ≡ false → (S : Colour) → is_unsent core.last S
+      ≡ is_owed (phase_of core.opened p) S = λ h. owed in search entered;
+  gives = λ S. refl;
+}
+
+-- sending the last move leaves its texts
+still_last : (r : Rules) (last : Option LastMove) (played : List Move) → AreOfLast r last played
+    → AreOfLast r (all_sent last) played
+still_last r None played h = h
+still_last r (Some last) played h = h
+
+none_unsent : (last : Option LastMove) (S : Colour) → is_unsent (all_sent last) S ≡ false
+none_unsent None S = refl
+none_unsent (Some last) S = refl
+
+pub open_goes : (r : Rules) (core : MatchState) (played : List Move) (S : Colour) (m : Match)
+    → Represents r core played m
+    → Goes r (record core { phase = core_in.SendTurn S; count = 0; last = all_sent core.last }) played
+    (record { draw = None; entered = true }) nothing_said (begins_turn r S m)
+unfolding given_lines
+open_goes r core played S m s = record {
+  stands = let sent : is_over (Opening S) ≡ false → (X : Colour) → is_unsent (all_sent core.last) X ≡ false =
+      λ h. none_unsent core.last in search (still_last r core.last m.played s.last, sent);
+  gives = λ X. refl;
+}
+
+pub first_opens : (r : Rules) (core : MatchState) (played : List Move) (given : Actions) (m : Match) (S X : Colour)
+    → S ≡ X → Goes r core played given nothing_said (begins_turn r S m)
+    → Goes r core played given nothing_said (begins_turn r X m)
+first_opens r core played given m S X e h =
+    subst (λ (q : Colour). Goes r core played given nothing_said (begins_turn r q m)) e h
+
+-- the opening was sent
+pub opened_stands : (r : Rules) (core : MatchState) (played : List Move) (S : Colour) (moment : ℕ) (m : Match)
+    → m.phase ≡ Opening S → Represents r core played m
+    → Represents r (record core { phase = core_in.AwaitMove S; opened = moment }) played
+    (record m { phase = BeforeMove S moment })
+opened_stands r core played S moment m o s =
+    let owed : is_over (BeforeMove S moment) ≡ false → (X : Colour) → is_unsent core.last X ≡ false =
+    λ h X. s.unsent (ap is_over o) X ∙ ap (λ (p : Phase). is_owed p X) o in search owed
+
+-- ---- in the same phase
+
+-- a line more is counted
+pub counted_goes : (r : Rules) (core : MatchState) (played : List Move) (m : Match) → Represents r core played m
+    → Goes r (record core { count = core.count + 1 }) played (record { draw = None; entered = false }) nothing_said
+    (sends_nothing (record m { count = m.count + 1 }))
+unfolding given_lines
+counted_goes r core played m s = record { stands = search (s.unsent); gives = λ S. refl }
+
+pub recounted : (r : Rules) (core : MatchState) (played : List Move) (m : Match) (n : ℕ) → Represents r core played m
+    → Represents r (record core { count = n }) played (record m { count = n })
+recounted r core played m n s = search (s.unsent)
+
+pub offered_stands : (r : Rules) (core : MatchState) (played : List Move) (S : Colour) (m : Match)
+    → Represents r core played m
+    → Represents r (offered_core core S) played (with_seat S (λ s. record s { offers = true }) m)
+offered_stands r core played White m s = search (s.unsent)
+offered_stands r core played Black m s = search (s.unsent)
+
+draw_given : (t : Bool) (O X : Colour) (d : List SentLine)
+    → lines_if_to (then_some t O) X d ++ [] ≡ list_if (same_colour O X) (list_if t d)
+draw_given t O X d = grind (arith, append-nil)
+
+-- the offer of S is opened, and given to the other side alone, if that takes offers
+pub offered_goes : (r : Rules) (core : MatchState) (played : List Move) (S : Colour) (m : Match) (t : Bool)
+    → Represents r core played m → takes (codes "draw") (m.seat (other S)).items ≡ t
+    → Goes r (offered_core core S) played (record { draw = then_some t (other S); entered = false }) nothing_said
+    (sends_to (other S) (list_if (takes (codes "draw") (m.seat (other S)).items) (Says (codes "draw") ∷ []))
+    (with_seat S (λ s. record s { offers = true }) m))
+unfolding given_lines
+offered_goes r core played S m t s e = record {
+  stands = offered_stands r core played S m s;
+  gives = λ X. draw_given t (other S) X (Says (codes "draw") ∷ [])
+      ∙ ap (λ (b : Bool). list_if (same_colour (other S) X) (list_if b (Says (codes "draw") ∷ []))) (sym e);
+}
+
+pub features-draw : (items : List Item) → (features_of items).draw ≡ takes (codes "draw") items
+unfolding features_of
+features-draw items = refl
+
+-- ---- a move
+
+pub sum-snoc : (xs : List ℕ) (x : ℕ) → sum (xs ++ x ∷ []) ≡ sum xs + x
+sum-snoc xs x = sum_by-append (λ (n : ℕ). n) xs (x ∷ []) ∙ ap (λ n. sum xs + n) (zero-add x)
+
+spent-snoc : (s : Seat) (used : ℕ) (offers : Bool)
+    → record { moves = length s.used + 1; used = sum s.used + used }
+    ≡ time_used_by (record { items = s.items; used = s.used ++ used ∷ []; offers = offers })
+spent-snoc s used offers =
+    let l : length (s.used ++ used ∷ []) ≡ length s.used + 1 = length-append s.used (used ∷ []) in
+    rw (l, sum-snoc s.used used) refl
+
+charged_clocks : (r : Rules) (core : MatchState) (S : Colour) (move : Move) (used : ℕ) (m : Match)
+    → core.clocks ≡ clocks_of r.level m
+    → charged core.clocks S used ≡ clocks_of r.level (moved S move used m)
+charged_clocks r core S move used m e =
+    grind (
+      arith,
+      spent-snoc (m.seat White) used (m.seat White).offers,
+      spent-snoc (m.seat Black) used (m.seat Black).offers,
+    )
+
+-- the texts of a move that was played are those of the last move
+last_played : (r : Rules) (texts : MoveTexts) (played before : List Move) (move : Move) → played ≡ before
+    → AreTexts r texts (played ++ move ∷ [])
+    → (0 < length (before ++ move ∷ [])) × AreTexts r texts (before ++ move ∷ [])
+last_played r texts played before move e t =
+    let some : length (before ++ move ∷ []) ≡ length before + 1 = length-append before (move ∷ []) in
+    (omega (arith, some), subst (λ (ms : List Move). AreTexts r texts (ms ++ move ∷ [])) e t)
+
+pub moved_stands : (r : Rules) (core : MatchState) (played : List Move) (S : Colour) (move : Move) (used : ℕ)
+    (m : Match) (texts : MoveTexts) → Represents r core played m → AreTexts r texts (played ++ move ∷ [])
+    → Represents r (played_core core S used texts) (played ++ move ∷ []) (moved S move used m)
+moved_stands r core played White move used m texts s t =
+    search (
+      ap (λ (xs : List Move). xs ++ move ∷ []) s.moves,
+      last_played r texts played m.played move s.moves t,
+      charged_clocks r core White move used m s.clocks,
+    )
+moved_stands r core played Black move used m texts s t =
+    search (
+      ap (λ (xs : List Move). xs ++ move ∷ []) s.moves,
+      last_played r texts played m.played move s.moves t,
+      charged_clocks r core Black move used m s.clocks,
+    )
+
+-- the side that moved is sent its `ping`
+pub pinged_goes : (r : Rules) (core : MatchState) (played : List Move) (S : Colour) (m : Match)
+    → core.phase ≡ core_in.AwaitPong S → Represents r core played m
+    → Goes r core played (record { draw = None; entered = true }) nothing_said
+    (record { after = m; to = λ X. phase_lines r core.last m X (core_in.AwaitPong S) })
+unfolding given_lines
+pinged_goes r core played S m e s = record {
+  stands = s;
+  gives = λ X. ap (λ (p : CorePhase). phase_lines r core.last m X p) e;
+}
+
+-- a line by the phase that is known
+pub row_goes : (r : Rules) (core : MatchState) (played : List Move) (given : Actions) (items : Colour → List Item)
+    (kind : LineKind) (moment : ℕ) (m : Match) (p : Phase) → m.phase ≡ p
+    → Goes r core played given items (line_row r p kind moment m)
+    → Goes r core played given items (line_row r m.phase kind moment m)
+row_goes r core played given items kind moment m p e h =
+    subst (λ (q : Phase). Goes r core played given items (line_row r q kind moment m)) (sym e) h
+
+-- ---- a handshake
+
+-- the core once S said more
+abbrev pub items_core : MatchState → Colour → Player → MatchState
+items_core core S p = record core { players = with_colour core.players S p }
+
+pub items_stand : (r : Rules) (core : MatchState) (played : List Move) (S : Colour) (p : Player) (items : List Item)
+    (m : Match) → Represents r core played m
+    → p.features ≡ features_of ((m.seat S).items ++ items) → p.name ≡ name_by ((m.seat S).items ++ items)
+    → p.offers ≡ (player core S).offers
+    → Represents r (items_core core S p) played (with_seat S (λ s. record s { items = s.items ++ items }) m)
+items_stand r core played White p items m s e n o = search (o ∙ s.white.offers, s.unsent)
+items_stand r core played Black p items m s e n o = search (o ∙ s.black.offers, s.unsent)
+
+pub no_items_stand : (r : Rules) (core : MatchState) (played : List Move) (S : Colour) (m : Match)
+    → Represents r core played m
+    → Represents r core played (with_seat S (λ s. record s { items = s.items ++ [] }) m)
+no_items_stand r core played White m s = search (append-nil (m.seat White).items, s.unsent)
+no_items_stand r core played Black m s = search (append-nil (m.seat Black).items, s.unsent)
+
+-- the items of a line are answered before all else
+pub answered_goes : (r : Rules) (core : MatchState) (played : List Move) (given : Actions) (S : Colour)
+    (items : List Item) (e : Effect) → Goes r core played given nothing_said e
+    → Goes r core played given (items_to S items) (with_answers S items e)
+unfolding given_lines
+answered_goes r core played given S items e g = record {
+  stands = g.stands;
+  gives = λ X. answers_if X (same_colour S X) ∙ ap (λ (l : List SentLine). list_if (same_colour S X) (answers_to items)
+      ++ l) (g.gives X);
+}
+  where
+    answers_if : (X : Colour) (b : Bool)
+        → answers_to (if b then items else []) ++ after_answers r core given e.after X
+        ≡ list_if b (answers_to items) ++ after_answers r core given e.after X
+    answers_if X true = refl
+    answers_if X false = refl
