@@ -41,7 +41,7 @@ blocks_from first lines = block_of first (lines first) ++ block_of (other first)
 
 -- ---- what may come next
 
--- whether a line of the side `S` is awaited
+-- whether a line of the side `S` is awaited; what the other side sends meanwhile is not read yet
 abbrev pub awaits_line : Phase → Colour → Bool
 awaits_line (Handshake side) S = same_colour side S
 awaits_line (Setup side) S = same_colour side S

@@ -60,7 +60,7 @@ pub record Effect : Type 0 where
 abbrev pub clock : Rules → Match → Colour → ℕ
 clock r m S = time_left r.level (length (m.seat S).used) (sum (m.seat S).used)
 
--- the number of the `ping` that the side `S` was last sent: 1 in its setup, then one more after each of its moves
+-- the number of the latest `ping` of the side `S`, sent or due: 1 in its setup, n + 1 after its n-th move
 abbrev pub ping_number : Match → Colour → ℕ
 ping_number m S = length (m.seat S).used + 1
 
@@ -136,7 +136,8 @@ enter phase m = record m { phase = phase; count = 0 }
 abbrev pub with_seat : Colour → (Seat → Seat) → Match → Match
 with_seat S change m = record m { seat = λ side. if same_colour side S then change (m.seat side) else m.seat side }
 
--- the match `m` ends for this reason, and both sides are sent the end, but not a side to which a write failed
+-- the match `m` ends for this reason. Each side is sent its `farewell`, by the phase that `m` was in until then, but a
+-- side gets nothing if the reason is that a write to it failed
 abbrev pub ends : Rules → Reason → Match → Effect
 ends r reason m = record {
   after = record m { phase = Over reason };
@@ -149,7 +150,8 @@ ignores r S m =
     if nat_le 10000 (m.count + 1) then ends r (Faulted S Flood) m
     else sends_nothing (record m { count = m.count + 1 })
 
--- the turn of the side `S` begins: the lines that open it are sent
+-- the turn of the side `S` is opened: the lines for that are due, and no line of this turn is counted yet. Its time runs
+-- from the moment that is read once they are sent (`Opening`)
 abbrev pub begins_turn : Rules → Colour → Match → Effect
 begins_turn r S m = let m' = enter (Opening S) m in sends_to S (opening r m' S) m'
 
@@ -247,7 +249,7 @@ abbrev pub setup_done : Rules → Colour → Match → Effect
 setup_done r White m = sends_to Black (setup_lines r) (enter (Setup Black) m)
 setup_done r Black m = unless_decided r m (begins_turn r r.first m)
 
--- a line of the side `S` in its setup, which `pong 1` ends
+-- a line of the side `S` in its setup: `pong 1` ends the setup; any other is ignored, even `feature` or `move`
 abbrev pub setup_row : Rules → Colour → LineKind → Match → Effect
 setup_row r S (Answers n) m = if n == 1 then setup_done r S m else ignores r S m
 setup_row r S _ m = ignores r S m

@@ -40,8 +40,9 @@ pub record ReadAs (S : Colour) (H : List Act) (old new : InputState) (given : Li
   pub at_end : has_ended S H ≡ true → (engine_lines given ≡ lines_read S H) × IsAtEnd new.known_bytes
   pub at_failure : has_failed_read S H ≡ true → engine_lines given ≡ lines_read S H
 
--- from the state `old` of an engine's input to `new` just the lines `sent` were written and flushed; and of the block
--- that could not be sent, if there is one, a beginning was written
+-- from the state `old` of an engine's input to `new` just the lines `sent` were written and flushed. The list is of the
+-- blocks that could not be sent (`broken_blocks`; in a match at most one, so `more` is empty there): if there is one, a
+-- beginning of it, maybe nothing or all, was written after them, and then a call failed
 abbrev pub WrittenAs : List SentLine → List (List SentLine) → OutputState → OutputState → Type 0
 WrittenAs sent [] old new = Flushed old new (bytes_of sent)
 WrittenAs sent (block ∷ more) old new =

@@ -37,7 +37,9 @@ pub record Rules : Type 0 where
   pub limit : ℕ
   -- the one legal move that a text denotes after these moves
   pub reading : List Move → List ℕ → Option Move
+  -- why the game is over after these moves (mate, or a draw that nobody need claim), if it is
   pub verdict : List Move → Option Verdict
+  -- the draw that may be claimed after these moves, if any
   pub claim : List Move → Option DrawClaim
   -- the text of the last of these moves, in SAN or by squares
   pub move_text : Bool → List Move → List ℕ
@@ -51,7 +53,7 @@ abbrev pub move_read : Reading → Option Move
 move_read (reads.Move m) = Some m
 move_read _ = None
 
--- the draw that may be claimed, if any, by which of the two claims hold; threefold repetition comes before 50 moves
+-- the draw that may be claimed, if either claim holds: threefold repetition, or else 50 moves
 abbrev pub claim_by : Claims → Option DrawClaim
 claim_by c = if c.threefold then Some Threefold else if c.fifty_moves then Some FiftyMoves else None
 
@@ -80,7 +82,9 @@ is_fischerandom Fischerandom = true
 abbrev pub fen_sent : Setup → Option (List ℕ)
 fen_sent start = if is_initial start && not (is_fischerandom start.variant) then None else Some (fen start)
 
--- chess as a match needs it: from this start, with this time control, of at most `limit` half-moves
+-- chess, as the answers to what `Rules` asks: of the game from this start, with this time control, of at most `limit`
+-- half-moves. Texts are read and bare kings looked for in the position after the moves played; verdicts, claims and the
+-- text of a move go by the start and all moves
 unfoldable pub rules_of : Setup → LevelSeen → ℕ → Rules
 rules_of start level limit = record {
   variant = start.variant;

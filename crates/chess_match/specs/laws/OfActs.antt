@@ -25,7 +25,7 @@ use Rattle.chess_match.specs.declared.reason.Reason.TheVariants.{Decided, Resign
 
 -- ---- each match, and each moment of one
 
--- the match after these acts, if it is `m` before them
+-- the match after these acts, if it is `m` before them. A line counts with the moment that the clock shows after it
 abbrev pub match_after : Rules → Match → List Act → Match
 match_after r m [] = m
 match_after r m (Sends block ∷ H) = match_after r m H
@@ -63,13 +63,15 @@ EndsAfterItsActs r H m = match_after r beginning.after H ≡ m
 
 -- ---- order
 
--- in every match: when a line is read nothing is due, and the next act is to read the clock for that side
+-- wherever acts follow in a match, whatever it is and whatever is due (`IsMatchFrom`): if a line is read first, nothing
+-- is due, and the next act is to read the clock for that side
 abbrev pub LinesAreReadInOrder : Type 0
 LinesAreReadInOrder = (r : Rules) (m final : Match) (due : List Block) (S : Colour) (text : Option (List ℕ))
     (H : List Act) → IsMatchFrom r m due (Reads S text ∷ H) final
     → (due ≡ []) × ((moment : ℕ) × (rest : List Act) × (H ≡ ReadsClock S moment ∷ rest))
 
--- in every match: nothing is due when the clock is read, an output ends or a read fails
+-- wherever acts follow in a match, whatever it is and whatever is due: nothing is due if the clock is read first, an
+-- output ends or a read fails
 abbrev pub NothingIsDueAtOthers : Type 0
 NothingIsDueAtOthers = (r : Rules) (m final : Match) (due : List Block) (S : Colour) (moment : ℕ) (H : List Act)
     → (IsMatchFrom r m due (ReadsClock S moment ∷ H) final → due ≡ [])
@@ -92,7 +94,7 @@ abbrev pub OnlyOneMatch : Type 0
 OnlyOneMatch = (r : Rules) (s : Streams) (H K : List Act) (final final' : Match) → IsMatch r H final
     → IsMatch r K final' → AreOf s H → AreOf s K → H ≡ K
 
--- everything is known about the devices of a run, `w` before and `w'` after it: which bytes each input gives, that no
+-- everything is known about the devices of a run, `w` before and `w'` after it: which bytes each engine sends, that no
 -- count of failed calls is full, so that a failure shows, and which times the clock will give; and no write failed
 pub record ShowsAll (w w' : World) : Type 0 where
   pub bytes : (S : Colour) → is_some (w.ports.reader S).known_bytes ≡ true
@@ -120,7 +122,7 @@ abbrev pub VerdictsEndMatches : Type 0
 VerdictsEndMatches = (r : Rules) (v : Verdict) (H : List Act) (final : Match) → IsMatch r H final
     → 0 < length final.played → r.verdict final.played ≡ Some v → final.phase ≡ Over (Decided v)
 
--- the side whose line ended a match for this reason; `None` if the reason names no side for what its line did
+-- the side whose line ended a match for this reason; `None` for any other reason, also for a flood of lines
 abbrev pub whose_line : Reason → Option Colour
 whose_line (Resigns c) = Some c
 whose_line (MovesIllegally c) = Some c
@@ -147,8 +149,8 @@ LastLineIsTheirs = (r : Rules) (reason : Reason) (S : Colour) (H : List Act) (fi
 
 -- ---- moves
 
--- the moves played are what the two engines' `move` lines denote in turn, beginning with the side that moves first; at
--- most one `move` line is left over, which ended the match
+-- the moves played are what the two engines' `move` lines after their setup denote in turn, beginning with the side that
+-- moves first; at most one `move` line is left over
 abbrev pub MovesAreRead : Rules → List Act → Match → Type 0
 MovesAreRead r H m = AreRead r [] m.played (moves_of (lines_read r.first H)) (moves_of (lines_read (other r.first) H))
 
@@ -169,16 +171,17 @@ lines_given S (_ ∷ H) = lines_given S H
 abbrev pub others_moves : Rules → Colour → List Item → List Move → List (List ℕ)
 others_moves r O items ms = texts_from r (takes (codes "san") items) (other O) r.first [] ms
 
--- each side `O` is sent the other side's moves, each once and in order; `rest` is what `O` was not sent yet, at most
--- the last of them
+-- each side `O` is sent the other side's moves, each once and in order (a block that could not be sent counts); `rest`
+-- is what `O` was not sent yet, at most the last of them
 abbrev pub MovesAreSent : Rules → List Act → Match → Type 0
 MovesAreSent r H m = (O : Colour) → (rest : List (List ℕ)) × (length rest ≤ 1)
     × (moves_sent (lines_given O H) ++ rest ≡ others_moves r O (m.seat O).items m.played)
 
--- the engines' lines fix the moves that each engine is sent: there are moves `ms`, which the two engines' `move` lines
--- denote in turn. Each side `O` is sent those of the other side, each once, in order, in the notation that its
--- handshake asked for. `rest` is what `O` was not sent: at most the last of them; and nothing, if the match is whole
--- (`whole`) and each block for `O` was sent
+-- the engines' lines fix the moves that each engine is sent, but for the last: there are moves `ms`, which the two
+-- engines' `move` lines denote in turn (all of them, or all but the last). Each side `O` is sent those of the other
+-- side, each once, in order, in SAN or by squares, as its handshake asked for; a block that could not be sent counts.
+-- `rest` is what `O` was not sent: at most the last of them; and nothing, if the match is whole (`whole`) and each block
+-- for `O` was sent
 abbrev pub EachIsSentOthersMoves : Bool → Rules → List Act → Match → Type 0
 EachIsSentOthersMoves whole r H m =
     (ms : List Move) × AreRead r [] ms (moves_of (lines_read r.first H)) (moves_of (lines_read (other r.first) H))
@@ -207,7 +210,8 @@ GamesAreLines = (start : Position) (level : LevelSeen) (limit : ℕ) (H : List A
 -- ---- clocks
 
 -- the `time` lines that each side `S` is sent show its own clock before its first move and after each of its moves, in
--- order (none, if its engine has `time=0`). `rest` is what is missing: at most the last one
+-- order (none, if its engine has `time=0`; those of a block that could not be sent count). `rest` is what is missing: at
+-- most the last one
 abbrev pub TimesAreClocks : Rules → List Act → Match → Type 0
 TimesAreClocks r H m = (S : Colour) → (rest : List ℕ) × (length rest ≤ 1)
     × (flat_map time_sent (lines_given S H) ++ rest
@@ -226,7 +230,7 @@ OtherTimesAreClocks r H m = (S : Colour) → (rest : List ℕ) × (length rest �
     else []))
 
 -- the milliseconds from when each turn of the side `S` was opened to its first `move` line after that (0 if the clock
--- went back). `opened` is when the present turn of `S` was opened; `None` if no move of `S` is awaited
+-- went back); a turn is opened when the clock is read, but not after a line. `opened` is when the present turn of `S` was opened; `None` if no move of `S` is awaited
 abbrev pub move_times : Colour → Option ℕ → List Act → List ℕ
 move_times S opened [] = []
 move_times S opened (Reads side text ∷ ReadsClock c moment ∷ H) =
@@ -267,8 +271,8 @@ abbrev pub NotesHaveTheEvents : Type 0
 NotesHaveTheEvents = (r : Rules) (reason : Reason) (H : List Act) (final : Match) → IsMatch r H final
     → final.phase ≡ Over reason → final ≡ after_events r beginning.after (events_in (notes_given reason H))
 
--- of all acts, of a whole match or not: the bytes that by their notes the side `S` is sent are, one after another, just
--- those of all lines that `S` was sent, with those of a block that could not be sent
+-- for any acts, a match or not: the bytes in the notes for the side `S`, one after another, are those of all lines of the
+-- blocks for `S`, also of those that could not be sent
 abbrev pub NotesHaveAllLines : Type 0
 NotesHaveAllLines = (reason : Reason) (H : List Act) (S : Colour)
     → given_in S (notes_given reason H) ≡ bytes_of (lines_given S H)
