@@ -17,7 +17,7 @@ pub record Block : Type 0 where
 pub data Act : Type 0 where
   -- a block was written and flushed
   Sends : (block : Block) → Act
-  -- a write or a flush failed, while a block was sent
+  -- a write or a flush failed while this block was sent; a beginning of it may have been written
   SendFails : (block : Block) → Act
   -- a line of that side's engine was read (`None`: it was too long)
   Reads : (side : Colour) → (text : Option (List ℕ)) → Act

@@ -60,7 +60,8 @@ pub record Effect : Type 0 where
 abbrev pub clock : Rules → Match → Colour → ℕ
 clock r m S = time_left r.level (length (m.seat S).used) (sum (m.seat S).used)
 
--- the number of the latest `ping` of the side `S`, sent or due: 1 in its setup, n + 1 after its n-th move
+-- the number of the latest `ping` that the side `S` was sent, or is due to be: 1 in its setup, n + 1 after its n-th move
+-- (there is a used time for each of its moves)
 abbrev pub ping_number : Match → Colour → ℕ
 ping_number m S = length (m.seat S).used + 1
 
@@ -235,8 +236,8 @@ handshake_done r Black m = judged r (missing r (m.seat White).items) (missing r 
 abbrev pub with_answers : Colour → List Item → Effect → Effect
 with_answers side items e = record e { to = λ S. list_if (same_colour side S) (answers_to items) ++ e.to S }
 
--- a line of the side `S` in its handshake, which has these items: they are kept, and each is answered. `done=1` ends
--- the handshake; the 1,000th line without it ends the match
+-- a line of the side `S` in its handshake, which has these items (none, if it is no `feature` line): they are kept, and
+-- each is answered. `done=1` ends the handshake; if the 1,000th line, of whatever kind, comes without it, the match ends
 abbrev pub handshake_row : Rules → Colour → List Item → Match → Effect
 handshake_row r S items m =
     let m' = with_seat S (λ s. record s { items = s.items ++ items }) m in
@@ -280,7 +281,8 @@ effect r m (OutputEnds S) = ends r (Faulted S Ended) m
 effect r m (FailsToRead S) = ends r (Faulted S Read) m
 effect r m (FailsToWrite S) = ends r (Faulted S Write) m
 
--- what a match begins with: White's handshake
+-- what a match begins with: White is sent the lines of its handshake (Black when White's is done); nothing is known of
+-- either engine, and no move is made
 abbrev pub beginning : Effect
 beginning = sends_to White handshake_lines (record {
   phase = Handshake White;

@@ -8,12 +8,15 @@ use Rattle.cecp_engine.specs.Levels.{level_text}
 use Rattle.chess_match.specs.Rules.{Rules, is_fischerandom}
 use Rattle.chess_base.specs.declared.man.Variant.{Variant}
 
--- a line that is sent to an engine: a text as it is; a move (`prefixed`: with `usermove` before it); `time`, with its
--- own clock; `otim`, with its opponent's clock
+-- a line that is sent to an engine
 pub data SentLine : Type 0 where
+  -- this text as it is
   Says : (text : List ℕ) → SentLine
+  -- a move; `prefixed`: with `usermove` before it
   MoveSent : (prefixed : Bool) → (text : List ℕ) → SentLine
+  -- `time N`: what the engine that gets the line has left
   Time : (centiseconds : ℕ) → SentLine
+  -- `otim N`: what its opponent has left
   Otim : (centiseconds : ℕ) → SentLine
 
 -- the answer to an item of a `feature` line: `accepted ping`, or `rejected` and the name if it is not known
@@ -48,8 +51,8 @@ variant_command v = list_if (is_fischerandom v) (Says (codes "variant fischerand
 abbrev pub ping : ℕ → SentLine
 ping n = Says (codes "ping " ++ decimal n)
 
--- the lines that set an engine up for the game: `new`, the variant, `level`, `nopost`, `easy`, `force`, the start,
--- `ping 1`
+-- the lines that set an engine up for the game: `new`, `variant fischerandom` if it is Chess960, `level 40 5 0`,
+-- `nopost`, `easy`, `force`, `setboard FEN` unless the start is the one that `new` sets up, `ping 1`
 unfoldable pub setup_lines : Rules → List SentLine
 setup_lines r =
     Says (codes "new") ∷ (variant_command r.variant ++ (Says (codes "level " ++ level_text r.level)

@@ -63,7 +63,7 @@ reported (Faulted c f) = (Unfinished, colour_name c ++ fault_comment f, Normal)
 abbrev pub outcome_by_reason : Reason → Outcome
 outcome_by_reason reason = (reported reason).0
 
--- the comment on the end of a match that ended for this reason, such as `Black resigns`
+-- the comment on the end of a match that ended for this reason, without braces, such as `Black resigns`
 abbrev pub comment_of : Reason → List ℕ
 comment_of reason = (reported reason).1
 

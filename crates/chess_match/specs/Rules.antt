@@ -24,26 +24,27 @@ use Rattle.chess_match.specs.declared.reason.DrawClaim.TheVariants.{Threefold, F
 use Rattle.chess_base.specs.declared.man.Variant.{Variant}
 use Rattle.chess_base.specs.declared.man.Variant.TheVariants.{Normal, Fischerandom}
 
--- the game that a match plays, with chess left out: what is fixed when the match begins, and functions that say what
--- the moves played so far mean. Everything else in these files speaks of moves only through them
+-- what a match needs to know of its game: what is fixed when it begins, and functions of the moves played so far. The
+-- other definitions of a match learn only from these what moves mean; `rules_of`, below, gives those of chess
 pub record Rules : Type 0 where
   pub variant : Variant
-  -- the start as it is sent; none for the initial position of normal chess
+  -- the FEN that `setboard` sends; `None` for the initial position of normal chess
   pub start_fen : Option (List ℕ)
   -- who is on move at the start
   pub first : Colour
+  -- the time control, the same for both sides
   pub level : LevelSeen
-  -- how many half-moves can be played
+  -- how many half-moves can be played at most
   pub limit : ℕ
-  -- the one legal move that a text denotes after these moves
+  -- the one legal move that a text denotes after these moves; `None` if it denotes none, or more than one
   pub reading : List Move → List ℕ → Option Move
-  -- why the game is over after these moves (mate, or a draw that nobody need claim), if it is
+  -- why the game is over after these moves (mate, or a draw that nobody need claim); `None` if it is not
   pub verdict : List Move → Option Verdict
   -- the draw that may be claimed after these moves, if any
   pub claim : List Move → Option DrawClaim
-  -- the text of the last of these moves, in SAN or by squares
+  -- the text of the last of these moves: in SAN if the test is `true`, else by squares (`e2e4`)
   pub move_text : Bool → List Move → List ℕ
-  -- that side has no piece but its king
+  -- whether after these moves that side has no piece but its king
   pub has_bare_king : List Move → Colour → Bool
 
 -- ---- chess
