@@ -109,20 +109,13 @@ pub(crate) fn right_letter(
     }
 }
 
-// Whether a letter occurs in a text.
-fn occurs(text: &[u8], letter: u8) -> bool
-    ensures { result ≡ occurs letter text.now }
-{
-    text.iter().any(|byte| *byte == letter)
-}
-
 // Normal chess: a colour's castling right on a side, as its rook's square: the corner on that side, if the right's
 // letter is in the castling field `letters`; else `None`.
 fn right_named(letters: &[u8], colour: Colour, castling_side: CastlingSide) -> Option<Square>
     ensures { result ≡ right_named letters.now (side_letter colour castling_side)
         (home_square colour (rook_file castling_side)) }
 {
-    if occurs(letters, side_letter(colour, castling_side)) {
+    if letters.contains(&side_letter(colour, castling_side)) {
         Some(home_square(colour, rook_file(castling_side)))
     } else {
         None

@@ -1,7 +1,7 @@
 -- The rivals of a move of a piece other than a pawn begin on the squares from which another piece of its kind has the
 -- legal move to the end square.
-use mathlib.Core.Bool.{and-false}
-use Rattle.std.proofs.Common.{◌≡◌, ◌≢◌, ℕ, zero, suc, ◌<◌, ◌+◌, ◌≤◌, inl, inr, Bool, true, false, not, ◌&&◌, ◌==◌, if◌then◌else◌, cond, Some, None, List, [], ◌∷◌, ◌++◌, map, refl, sym, ap, ◌∙◌, arith, subst}
+use mathlib.Core.Bool.{and-true, and-false, or-false, or_assoc, not-not}
+use Rattle.std.proofs.Common.{◌≡◌, ◌≢◌, ℕ, zero, suc, ◌<◌, ◌+◌, ◌≤◌, inl, inr, Bool, true, false, not, ◌&&◌, ◌||◌, ◌==◌, if◌then◌else◌, cond, Some, None, List, [], ◌∷◌, ◌++◌, map, refl, sym, ap, ◌∙◌, arith, subst}
 use Rattle.std.proofs.lemmas.Bool.{cases_Bool, and_parts, false_from_ne_true, eqb-true, eq-eqb}
 use Rattle.std.proofs.lemmas.List.{map-append}
 use Rattle.std.specs.List.{filter, flat_map, list_any, range_with_len}
@@ -9,15 +9,15 @@ use Rattle.chess_base.specs.declared.man.Kind.{Kind}
 use Rattle.chess_base.specs.declared.man.Kind.TheVariants.{Queen, Rook, Bishop, Knight, Pawn}
 use Rattle.chess_base.specs.declared.man.Move.{Move}
 use Rattle.chess_base.specs.declared.setup.Setup.{Setup}
-use Rattle.chess_base.specs.Squares.{file, rank, some_square}
-use Rattle.chess_base.proofs.shared.Squares.{some_square-none}
+use Rattle.chess_base.specs.Squares.{file, rank, some_below, some_square, from_below}
+use Rattle.chess_base.proofs.shared.Squares.{some_square_same}
 use Rattle.chess_base.specs.Men.{man_at, is_man, same_kind}
 use Rattle.chess_base.specs.Moves.{is_legal}
 use Rattle.chess_base.specs.MoveList.{promotions, move_of, squares, all_moves, moves}
 use Rattle.chess_moves.specs.Sets.{contains, members, HasLegalStarts}
 use Rattle.chess_moves.proofs.shared.Members.{by_range, members_none, of_range}
 use Rattle.chess_moves.proofs.shared.MovesBySquares.{filter-flat_map}
-use Rattle.chess_moves.proofs.shared.AnyMove.{any-filter, any-square}
+use Rattle.chess_moves.proofs.shared.AnyMove.{any-filter}
 use Rattle.chess_text.specs.declared.described.Described.{Described}
 use Rattle.chess_text.specs.Moves.{described, passes}
 use Rattle.chess_text.specs.San.{is_rival, rival_starts}
@@ -144,18 +144,34 @@ rivals p d w s v other legal_starts single without =
 
 -- ---- what is written of the start
 
+-- a number's test may be made for the first number apart
+some_first : (n : ℕ) (p : ℕ → Bool) → some_below (suc n) p ≡ (p zero || some_below n (λ k. p (suc k)))
+some_first zero p = sym (or-false (p zero))
+some_first (suc n) p = ap (λ b. b || p (suc n)) (some_first n p)
+    ∙ or_assoc (p zero) (some_below n (λ k. p (suc k))) (p (suc n))
+
+any_below : (n : ℕ) (g : ℕ → ℕ) (p : ℕ → Bool) → list_any p (from_below n g) ≡ some_below n (λ k. p (g k))
+any_below zero g p = refl
+any_below (suc n) g p = ap (λ b. p (g zero) || b) (any_below n (λ i. g (suc i)) p) ∙ sym (some_first n (λ k. p (g k)))
+
+-- one of a set's squares passes a test
+any_member : (w : ℕ) (p : ℕ → Bool) → list_any p (members w) ≡ some_square (λ k. contains w k && p k)
+unfolding members squares some_square
+any_member w p = any-filter (λ k. contains w k) p squares ∙ any_below 64 (λ s. s) (λ k. contains w k && p k)
+
+-- so it does if the set x of those squares of w that are in v isn't empty, where v has just the squares that pass
+pub some_met : (w v x : ℕ) (p : ℕ → Bool) (empty : Bool) → ((k : ℕ) → contains x k ≡ (contains w k && contains v k))
+    → ((k : ℕ) → k < 64 → contains v k ≡ p k) → empty ≡ not (some_square (λ k. contains x k))
+    → not empty ≡ list_any p (members w)
+some_met w v x p empty both passing is =
+    ap not is ∙ not-not (some_square (λ k. contains x k))
+    ∙ some_square_same (λ k. contains x k) (λ k. contains w k && p k)
+    (λ k low. both k ∙ ap (λ b. contains w k && b) (passing k low))
+    ∙ sym (any_member w p)
+
 some_member : (w : ℕ) → some_square (λ k. contains w k) ≡ true → list_any (λ s. true) (members w) ≡ true
-unfolding members
-some_member w some =
-    any-filter (λ k. contains w k) (λ s. true) squares
-    ∙ elim (cases_Bool (list_any (λ k. contains w k && true) squares)) [
-      | inl on ↦ on
-      | inr off ↦
-          let none : some_square (λ k. contains w k) ≡ false = some_square-none (λ k. contains w k)
-          (λ k low. false_from_ne_true (contains w k)
-          (λ here. let on = any-square (λ k. contains w k && true) k low (rw here refl) in cc)) in
-          absurd cc
-    ]
+some_member w some = any_member w (λ s. true)
+    ∙ some_square_same (λ k. contains w k && true) (λ k. contains w k) (λ k low. and-true (contains w k)) ∙ some
 
 pub alone : (from w : ℕ) → w ≡ 0 → distinction false false ≡ disambiguate from (members w)
 alone from w none = ap (disambiguate from) (sym (members_none w none))

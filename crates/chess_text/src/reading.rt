@@ -43,7 +43,8 @@ pub fn has_move_shape(text: &[u8]) -> bool
 }
 
 // The end square of the move by which `side` castles to this side: in normal chess the king's end square, in Chess960
-// the square of the rook of the right (`right`; if there is none, no such move is legal).
+// the square of the rook of the right (`right`; if there is none, no such move is legal). chess_base exports no function
+// for it: its `names_castling` is a test of a whole move.
 fn castling_end(
     variant: Variant,
     side: Colour,
@@ -155,6 +156,7 @@ fn with_denoted<B: Board>(
 
 // The reading of a text of this form after one more start square: the reading so far (`found`), and with it the legal
 // moves from `from` to `to`, as far as the text denotes them. One move in all is `Move`, several are `Ambiguous`.
+// chess_moves makes the same choice in a private function, which appends all legal moves to a list.
 #[tactic(auto, using(crate::proofs::Promoting::all_promote, crate::proofs::Promoting::none_promotes))]
 fn with_denoted_between<B: Board>(
     board: &B,
@@ -282,7 +284,8 @@ fn denoted_among(setup: &Setup, parts: &Parts, kind: Kind, starts: SquareSet) ->
 }
 
 // What a text of these parts, in which only pieces of this kind can be meant, and no promotion, is read as in the
-// board's position: one legal move, several (`Ambiguous`) or none (`NoSuch`).
+// board's position: one legal move, several (`Ambiguous`) or none (`NoSuch`). `denoted_from_origins` would read the
+// same, but describes each move in full, and asks of each apart whether it is legal: `legal_starts` tells that at once.
 #[inline(always)]
 fn denoted_by_kind<B: Board>(board: &B, parts: &Parts, kind: Kind) -> Reading
     requires { one_kind parts.now ≡ Some kind }

@@ -25,7 +25,8 @@ pub(crate) fn without_mark(text: &[u8]) -> &[u8]
     if is_mark(*last) { rest } else { text }
 }
 
-// The parts with this letter, start file and `x`, and the end square with this file's letter and this rank's digit.
+// The parts with this letter, start file and `x`, and the end square with this file's letter and this rank's digit. The
+// callers' patterns know that these name a square, so there is no `None` here as from `Square::from_letters`.
 #[inline(always)]
 fn parts_to(letter: Option<Kind>, file: Option<u8>, takes: bool, to_file: u8, to_rank: u8) -> Parts
     requires { names_square to_file to_rank ≡ true }

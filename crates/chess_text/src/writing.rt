@@ -32,28 +32,18 @@ pub struct Disambiguation {
 
 // Whether one of the squares is on the file `file`, 0 for a.
 fn some_on_file(file: u8, squares: SquareSet) -> bool
+    requires { file < 8 }
     ensures { result ≡ some_on_file file (members squares) }
 {
-    let mut rest = squares;
-    while let Some(square) = rest.take_first() {
-        if square.file() == file {
-            return true;
-        }
-    }
-    false
+    !squares.intersection(SquareSet::of_file(file)).is_empty()
 }
 
 // Whether one of the squares is on the rank `rank`, 0 for rank 1.
 fn some_on_rank(rank: u8, squares: SquareSet) -> bool
+    requires { rank < 8 }
     ensures { result ≡ some_on_rank rank (members squares) }
 {
-    let mut rest = squares;
-    while let Some(square) = rest.take_first() {
-        if square.rank() == rank {
-            return true;
-        }
-    }
-    false
+    !squares.intersection(SquareSet::of_rank(rank)).is_empty()
 }
 
 // Shorthand for a `Disambiguation`: whether SAN writes the file of the start square, and whether its rank.

@@ -76,7 +76,8 @@ fn front_of(line: &[u8]) -> &[u8]
     without_mark(first_bytes(line))
 }
 
-// Whether a byte may be part of a tag's name.
+// Whether a byte may be part of a tag's name. chess_pgn has this test too, and text_lines the next one, but this crate
+// rests on byte_devices alone, which has neither.
 #[inline(always)]
 fn is_name_byte(byte: u8) -> bool
     ensures { result ≡ is_name_byte byte }
@@ -145,13 +146,15 @@ fn after_name<'t>(front: &'t [u8], name: &[u8]) -> &'t [u8]
     without_blanks(&rest[name.len()..])
 }
 
-// Whether a line with this front is a tag line.
+// Whether a line with this front, which begins with `[`, is a tag line: then come a name, perhaps blanks, and `"`.
+// `name` is the front's tag name, which the caller knows already.
 #[inline(always)]
 fn begins_tag(front: &[u8], name: &[u8]) -> bool
-    requires { name.now ≡ tag_name front.now }
+    requires bracket { bytes_eq (take 1 front.now) (codes "[") ≡ true }
+    requires name { name.now ≡ tag_name front.now }
     ensures { result ≡ begins_tag front.now }
 {
-    front.starts_with(b"[") && !name.is_empty() && after_name(front, name).starts_with(b"\"")
+    !name.is_empty() && after_name(front, name).starts_with(b"\"")
 }
 
 // Whether a byte may be in an empty line.
@@ -178,8 +181,9 @@ fn is_empty_front(front: &[u8]) -> bool
     front.starts_with(b"%") || front.starts_with(b";") || is_all_white(front)
 }
 
-// How many of these bytes are `\n`.
-pub(crate) fn line_ends(bytes: &[u8]) -> usize
+/// How many lines end in a text: its bytes that are `\n`. What follows the last of them is not counted. Each byte is
+/// looked at once.
+pub fn line_ends(bytes: &[u8]) -> usize
     ensures value { result ≡ line_ends bytes.now }
     ensures within { result ≤ length bytes.now }
 {
