@@ -27,6 +27,7 @@ use chess_fen::write_fen;
 use chess_game::{Game, Outcome, Verdict};
 use chess_moves::Board;
 use chess_pgn::PgnFaultKind;
+use pgn_pieces::line_ends;
 
 // The most bytes of the lines on a fault: of its own 100, and of the one that explains it 320.
 const FAULT_LINES_LEN: usize = 420;
@@ -49,14 +50,6 @@ fn fault_line(number: usize, fault: GameFault) -> FaultLines
     append_number(&mut lines, fault.offset as u64);
     lines.push(b'\n');
     lines
-}
-
-// How many lines end in a text.
-fn line_ends(text: &[u8]) -> usize
-    ensures value { result ≡ line_ends text.now }
-    ensures within { result ≤ length text.now }
-{
-    text.iter().filter(|byte| **byte == b'\n').count()
 }
 
 // How many bytes a text has after its last line end.
