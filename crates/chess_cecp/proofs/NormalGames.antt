@@ -31,7 +31,7 @@ use Rattle.chess_game.specs.Results.{outcome_text}
 use Rattle.chess_game.specs.Same.{legal_en_passant_square, is_same_position, same_men, same_rights, same_square, repetition_count}
 use Rattle.chess_pgn.specs.declared.tags.Tags.{Tags}
 use Rattle.chess_pgn.specs.declared.termination.Termination.{Termination}
-use Rattle.chess_pgn.specs.GameText.{start_lines_in, last_lines, further_lines, roster_lines, tag_lines, number_token, move_tokens, game_tokens, pgn}
+use Rattle.chess_pgn.specs.GameText.{start_lines_in, last_lines, further_lines, roster_lines, tag_lines, number_token, move_tokens, first_number, game_tokens, pgn}
 use Rattle.chess_pgn.specs.Terminations.{termination_text, termination_of}
 use Rattle.chess_pgn.specs.Written.{tag_line, ended, lines_of}
 use Rattle.chess_cecp.specs.laws.NormalGame.{normal_initial, normal_line, normal_last, normal_legal_en_passant_square, normal_same, normal_rep, normal_verdict, normal_claims, normal_is_over, normal_outcome_now}
@@ -160,20 +160,18 @@ tags_kept t s e =
     ∙ ap (λ lines. roster_lines t (normal_outcome_now s) ++ lines)
     (further_kept s.start e (termination_of t.ended (normal_outcome_now s)))
 
-moves_kept : (is_first : Bool) (p : Setup) → p.variant ≡ Normal → (ms : List Move)
-    → move_tokens is_first p ms ≡ normal_move_tokens is_first p ms
-moves_kept is_first p e [] = refl
-moves_kept is_first p e (m ∷ ms) =
-    ap (λ text. (number_token p.side is_first p.fullmove ++ text ∷ []) ++ move_tokens false (after p m) ms)
-    ((texts_kept p e).san m)
-    ∙ ap (λ tokens. (number_token p.side is_first p.fullmove ++ normal_san p m ∷ []) ++ tokens)
-    (moves_kept false (after p m) (stays p m ∙ e) ms
-    ∙ ap (λ q. normal_move_tokens false q ms) ((rules_kept p e).after m))
+moves_kept : (p : Setup) → p.variant ≡ Normal → (ms : List Move) → move_tokens p ms ≡ normal_move_tokens p ms
+moves_kept p e [] = refl
+moves_kept p e (m ∷ ms) =
+    ap (λ text. (number_token p.side p.fullmove ++ text ∷ []) ++ move_tokens (after p m) ms) ((texts_kept p e).san m)
+    ∙ ap (λ tokens. (number_token p.side p.fullmove ++ normal_san p m ∷ []) ++ tokens)
+    (moves_kept (after p m) (stays p m ∙ e) ms ∙ ap (λ q. normal_move_tokens q ms) ((rules_kept p e).after m))
 
 tokens_kept : (s : State) → s.start.variant ≡ Normal → game_tokens s ≡ normal_game_tokens s
 tokens_kept s e =
-    ap (λ tokens. tokens ++ outcome_text (outcome_now s) ∷ []) (moves_kept true s.start e s.moves)
-    ∙ ap (λ o. normal_move_tokens true s.start s.moves ++ outcome_text o ∷ []) (outcome_kept s e)
+    let first : List (List ℕ) = first_number s.start.side s.start.fullmove s.moves in
+    ap (λ tokens. first ++ (tokens ++ outcome_text (outcome_now s) ∷ [])) (moves_kept s.start e s.moves)
+    ∙ ap (λ o. first ++ (normal_move_tokens s.start s.moves ++ outcome_text o ∷ [])) (outcome_kept s e)
 
 pub pgn_kept : (prefix : List ℕ) (t : Tags) (s : State) → s.start.variant ≡ Normal
     → pgn prefix t s ≡ normal_pgn prefix t s

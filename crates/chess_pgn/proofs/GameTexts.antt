@@ -16,7 +16,8 @@ use Rattle.chess_game.specs.Line.{position_after, IsLine}
 use Rattle.chess_pgn.specs.declared.tags.Tags.{Tags}
 use Rattle.chess_pgn.specs.declared.termination.Termination.{Termination}
 use Rattle.chess_pgn.specs.Terminations.{termination_of}
-use Rattle.chess_pgn.specs.GameText.{roster_lines, start_lines_in, last_lines, further_lines, tag_lines, number_token, tokens_of_move, move_tokens, game_tokens, pgn}
+use Rattle.chess_pgn.specs.GameText.{roster_lines, start_lines_in, last_lines, further_lines, tag_lines, game_tokens, pgn}
+use Rattle.chess_pgn.specs.ties.NumberedMoves.{number_if_due, numbered_move, numbered_moves}
 use Rattle.chess_pgn.specs.ties.Lines.{wrapped_token, next_column, line_close, placed_all, column_after_all}
 use Rattle.chess_text.specs.San.{san}
 use Rattle.chess_pgn.specs.ties.Waiting.{TookSome, Adds}
@@ -24,6 +25,7 @@ use Rattle.chess_pgn.specs.Written.{ended, lines_of}
 use Rattle.chess_pgn.proofs.Added.{added_more, added_break, break_longer, adds_more, finished}
 use Rattle.chess_pgn.proofs.FilledLines.{filled_from, all_filled}
 use Rattle.chess_pgn.specs.laws.Layout.{AreShort}
+use Rattle.chess_pgn.proofs.NumberedMoves.{game_numbered}
 use Rattle.chess_pgn.proofs.ShortTokens.{game_is_short}
 
 -- ---- texts of three parts
@@ -164,15 +166,16 @@ filled_from-append prefix column (t ∷ ts) us =
 
 -- the moves of a game, its outcome, and the end of the line
 pub moves_are : (prefix before outcome : List ℕ) (column col end : ℕ) (game : Seen) → IsPlayable game → column ≡ 0
-    → before ≡ prefix → col ≡ column_after_all column (move_tokens true game.state.start game.state.moves)
+    → before ≡ prefix → col ≡ column_after_all column (numbered_moves true game.state.start game.state.moves)
     → outcome ≡ outcome_text (outcome_now game.state) → end ≡ next_column col outcome
-    → HasParts (placed_all prefix column (move_tokens true game.state.start game.state.moves))
+    → HasParts (placed_all prefix column (numbered_moves true game.state.start game.state.moves))
     (wrapped_token before col outcome) (line_close end) (ended prefix (lines_of (game_tokens game.state)))
 moves_are prefix before outcome column col end game playable none b is o e =
     let s = game.state in
     record {
       is = sym (all_filled prefix (game_tokens s) (game_is_short game playable))
-          ∙ rw (e, o, is, b, none) (filled_from-append prefix 0 (move_tokens true s.start s.moves)
+          ∙ ap (filled_from prefix 0) (game_numbered s)
+          ∙ rw (e, o, is, b, none) (filled_from-append prefix 0 (numbered_moves true s.start s.moves)
           (outcome_text (outcome_now s) ∷ []));
     }
 
@@ -186,48 +189,48 @@ one_placed prefix before text token column col p c t =
 
 -- the number could not be put
 pub number_broke : (a b : OutputState) (w prefix : List ℕ) (column : ℕ) (f : Bool) (p q : Setup) (m : Move) → q ≡ p
-    → BreaksOff a b (w ++ placed_all prefix column (number_token q.side f q.fullmove))
-    → BreaksOff a b (w ++ placed_all prefix column (tokens_of_move f p m))
+    → BreaksOff a b (w ++ placed_all prefix column (number_if_due q.side f q.fullmove))
+    → BreaksOff a b (w ++ placed_all prefix column (numbered_move f p m))
 number_broke a b w prefix column f p q m same h =
-    let number : List (List ℕ) = number_token p.side f p.fullmove in
+    let number : List (List ℕ) = number_if_due p.side f p.fullmove in
     subst (λ text. BreaksOff a b (w ++ text)) (sym (placed_all-append prefix column number (san p m ∷ [])))
     (break_longer a b w (placed_all prefix column number)
     (placed_all prefix (column_after_all column number) (san p m ∷ []))
-    (subst (λ (s : Setup). BreaksOff a b (w ++ placed_all prefix column (number_token s.side f s.fullmove))) same h))
+    (subst (λ (s : Setup). BreaksOff a b (w ++ placed_all prefix column (number_if_due s.side f s.fullmove))) same h))
 
 -- the move could not be put
 pub move_broke : (a b c : OutputState) (w x prefix before text : List ℕ) (column col : ℕ) (f : Bool) (p q : Setup)
-    (m : Move) → q ≡ p → before ≡ prefix → col ≡ column_after_all column (number_token q.side f q.fullmove)
+    (m : Move) → q ≡ p → before ≡ prefix → col ≡ column_after_all column (number_if_due q.side f q.fullmove)
     → text ≡ san p m
-    → TookSome a b w x (placed_all prefix column (number_token q.side f q.fullmove))
+    → TookSome a b w x (placed_all prefix column (number_if_due q.side f q.fullmove))
     → BreaksOff b c (x ++ wrapped_token before col text)
-    → BreaksOff a c (w ++ placed_all prefix column (tokens_of_move f p m))
+    → BreaksOff a c (w ++ placed_all prefix column (numbered_move f p m))
 move_broke a b c w x prefix before text column col f p q m same pre is said h k =
-    let number : List (List ℕ) = number_token p.side f p.fullmove in
+    let number : List (List ℕ) = number_if_due p.side f p.fullmove in
     let here : col ≡ column_after_all column number =
-    is ∙ ap (λ (s : Setup). column_after_all column (number_token s.side f s.fullmove)) same in
+    is ∙ ap (λ (s : Setup). column_after_all column (number_if_due s.side f s.fullmove)) same in
     subst (λ v. BreaksOff a c (w ++ v)) (sym (placed_all-append prefix column number (san p m ∷ [])))
     (added_break a b c w x (placed_all prefix column number)
     (placed_all prefix (column_after_all column number) (san p m ∷ []))
-    (subst (λ (s : Setup). TookSome a b w x (placed_all prefix column (number_token s.side f s.fullmove))) same h)
+    (subst (λ (s : Setup). TookSome a b w x (placed_all prefix column (number_if_due s.side f s.fullmove))) same h)
     (subst (λ v. BreaksOff b c (x ++ v)) (one_placed prefix before text (san p m) (column_after_all column number) col
     pre here said) k))
 
 -- both were put
 pub move_put : (a b c : OutputState) (w x y prefix before text : List ℕ) (column col : ℕ) (f : Bool) (p q : Setup)
-    (m : Move) → q ≡ p → before ≡ prefix → col ≡ column_after_all column (number_token q.side f q.fullmove)
+    (m : Move) → q ≡ p → before ≡ prefix → col ≡ column_after_all column (number_if_due q.side f q.fullmove)
     → text ≡ san p m
-    → TookSome a b w x (placed_all prefix column (number_token q.side f q.fullmove))
+    → TookSome a b w x (placed_all prefix column (number_if_due q.side f q.fullmove))
     → TookSome b c x y (wrapped_token before col text)
-    → TookSome a c w y (placed_all prefix column (tokens_of_move f p m))
+    → TookSome a c w y (placed_all prefix column (numbered_move f p m))
 move_put a b c w x y prefix before text column col f p q m same pre is said h k =
-    let number : List (List ℕ) = number_token p.side f p.fullmove in
+    let number : List (List ℕ) = number_if_due p.side f p.fullmove in
     let here : col ≡ column_after_all column number =
-    is ∙ ap (λ (s : Setup). column_after_all column (number_token s.side f s.fullmove)) same in
+    is ∙ ap (λ (s : Setup). column_after_all column (number_if_due s.side f s.fullmove)) same in
     subst (TookSome a c w y) (sym (placed_all-append prefix column number (san p m ∷ [])))
     (added_more a b c w x y (placed_all prefix column number)
     (placed_all prefix (column_after_all column number) (san p m ∷ []))
-    (subst (λ (s : Setup). TookSome a b w x (placed_all prefix column (number_token s.side f s.fullmove))) same h)
+    (subst (λ (s : Setup). TookSome a b w x (placed_all prefix column (number_if_due s.side f s.fullmove))) same h)
     (subst (TookSome b c x y) (one_placed prefix before text (san p m) (column_after_all column number) col pre here
     said) k))
 
@@ -249,44 +252,44 @@ last_more start (x ∷ ms) zero m e = let same : x ≡ m = cc in ap (after start
 last_more start (x ∷ ms) (suc i) m e = last_more (after start x) ms i m e
 
 more_after : (p : Setup) (ms : List Move) (i : ℕ) (m : Move) → slice_get ms i ≡ Some m
-    → move_tokens false p (take (suc i) ms) ≡ move_tokens false p (take i ms)
-    ++ tokens_of_move false (position_after p (take i ms)) m
+    → numbered_moves false p (take (suc i) ms) ≡ numbered_moves false p (take i ms)
+    ++ numbered_move false (position_after p (take i ms)) m
 more_after p [] zero m e = cc
 more_after p [] (suc i) m e = cc
 more_after p (x ∷ ms) zero m e = let same : x ≡ m =
-    cc in append-nil (tokens_of_move false p x) ∙ ap (tokens_of_move false p) same
+    cc in append-nil (numbered_move false p x) ∙ ap (numbered_move false p) same
 more_after p (x ∷ ms) (suc i) m e =
-    ap (λ v. tokens_of_move false p x ++ v) (more_after (after p x) ms i m e)
-    ∙ sym (append_assoc (tokens_of_move false p x) (move_tokens false (after p x) (take i ms))
-    (tokens_of_move false (position_after (after p x) (take i ms)) m))
+    ap (λ v. numbered_move false p x ++ v) (more_after (after p x) ms i m e)
+    ∙ sym (append_assoc (numbered_move false p x) (numbered_moves false (after p x) (take i ms))
+    (numbered_move false (position_after (after p x) (take i ms)) m))
 
 moves_more : (p : Setup) (ms : List Move) (i : ℕ) (m : Move) → slice_get ms i ≡ Some m
-    → move_tokens true p (take (suc i) ms) ≡ move_tokens true p (take i ms)
-    ++ tokens_of_move (eqb i 0) (position_after p (take i ms)) m
+    → numbered_moves true p (take (suc i) ms) ≡ numbered_moves true p (take i ms)
+    ++ numbered_move (eqb i 0) (position_after p (take i ms)) m
 moves_more p [] zero m e = cc
 moves_more p [] (suc i) m e = cc
 moves_more p (x ∷ ms) zero m e = let same : x ≡ m =
-    cc in append-nil (tokens_of_move true p x) ∙ ap (tokens_of_move true p) same
+    cc in append-nil (numbered_move true p x) ∙ ap (numbered_move true p) same
 moves_more p (x ∷ ms) (suc i) m e =
     let later : eqb (suc i) 0 ≡ false = grind (arith, nat_tests) in
     rw later (
-    ap (λ v. tokens_of_move true p x ++ v) (more_after (after p x) ms i m e)
-    ∙ sym (append_assoc (tokens_of_move true p x) (move_tokens false (after p x) (take i ms))
-    (tokens_of_move false (position_after (after p x) (take i ms)) m)))
+    ap (λ v. numbered_move true p x ++ v) (more_after (after p x) ms i m e)
+    ∙ sym (append_assoc (numbered_move true p x) (numbered_moves false (after p x) (take i ms))
+    (numbered_move false (position_after (after p x) (take i ms)) m)))
 
 -- where the moves go on after some of them
 moves_split : (f : Bool) (p : Setup) (ms : List Move) (n : ℕ)
-    → (rest : List (List ℕ)) × (move_tokens f p ms ≡ move_tokens f p (take n ms) ++ rest)
-moves_split f p ms zero = (move_tokens f p ms, refl)
+    → (rest : List (List ℕ)) × (numbered_moves f p ms ≡ numbered_moves f p (take n ms) ++ rest)
+moves_split f p ms zero = (numbered_moves f p ms, refl)
 moves_split f p [] (suc n) = ([], refl)
 moves_split f p (x ∷ ms) (suc n) = by_rest (moves_split false (after p x) ms n)
   where
-    by_rest : (rest : List (List ℕ)) × (move_tokens false (after p x) ms ≡ move_tokens false (after p x) (take n ms)
-        ++ rest) → (rest : List (List ℕ)) × (move_tokens f p (x ∷ ms) ≡ move_tokens f p (take (suc n) (x ∷ ms)) ++ rest)
+    by_rest : (rest : List (List ℕ)) × (numbered_moves false (after p x) ms ≡ numbered_moves false (after p x) (take n ms)
+        ++ rest) → (rest : List (List ℕ)) × (numbered_moves f p (x ∷ ms) ≡ numbered_moves f p (take (suc n) (x ∷ ms)) ++ rest)
     by_rest (rest, is) = (
       rest,
-      ap (λ v. tokens_of_move f p x ++ v) is
-          ∙ sym (append_assoc (tokens_of_move f p x) (move_tokens false (after p x) (take n ms)) rest),
+      ap (λ v. numbered_move f p x ++ v) is
+          ∙ sym (append_assoc (numbered_move f p x) (numbered_moves false (after p x) (take n ms)) rest),
     )
 
 -- a move after those before it: of the game's moves the one with that number, in the position that they
@@ -294,18 +297,18 @@ moves_split f p (x ∷ ms) (suc n) = by_rest (moves_split false (after p x) ms n
 pub record IsNext (prefix : List ℕ) (column : ℕ) (p : Setup) (ms : List Move) (i : ℕ) (before : List ℕ) (col : ℕ)
     (f : Bool) (q : Setup) (m : Move) : Type 0 where
   pub prefix_is : before ≡ prefix
-  pub column_is : col ≡ column_after_all column (move_tokens true p (take i ms))
+  pub column_is : col ≡ column_after_all column (numbered_moves true p (take i ms))
   pub first : f ≡ eqb i 0
   pub position : q ≡ position_after p (take i ms)
   pub move : slice_get ms i ≡ Some m
 
 next_text : (prefix before : List ℕ) (column col : ℕ) (p q : Setup) (ms : List Move) (i : ℕ) (f : Bool) (m : Move)
     → IsNext prefix column p ms i before col f q m
-    → placed_all prefix column (move_tokens true p (take (suc i) ms))
-    ≡ placed_all prefix column (move_tokens true p (take i ms)) ++ placed_all before col (tokens_of_move f q m)
+    → placed_all prefix column (numbered_moves true p (take (suc i) ms))
+    ≡ placed_all prefix column (numbered_moves true p (take i ms)) ++ placed_all before col (numbered_move f q m)
 next_text prefix before column col p q ms i f m n =
-    let so_far : List (List ℕ) = move_tokens true p (take i ms) in
-    let next : List (List ℕ) = tokens_of_move (eqb i 0) (position_after p (take i ms)) m in
+    let so_far : List (List ℕ) = numbered_moves true p (take i ms) in
+    let next : List (List ℕ) = numbered_move (eqb i 0) (position_after p (take i ms)) m in
     ap (placed_all prefix column) (moves_more p ms i m n.move)
     ∙ placed_all-append prefix column so_far next
     ∙ ap (λ v. placed_all prefix column so_far ++ v) (rw (n.prefix_is, n.column_is, n.first, n.position) refl)
@@ -313,49 +316,49 @@ next_text prefix before column col p q ms i f m n =
 -- one move more was put
 pub moves_put : (a b c : OutputState) (w x y prefix before : List ℕ) (column col : ℕ) (p q : Setup) (ms : List Move)
     (i : ℕ) (f : Bool) (m : Move) → IsNext prefix column p ms i before col f q m
-    → TookSome a b w x (placed_all prefix column (move_tokens true p (take i ms)))
-    → TookSome b c x y (placed_all before col (tokens_of_move f q m))
-    → TookSome a c w y (placed_all prefix column (move_tokens true p (take (i + 1) ms)))
+    → TookSome a b w x (placed_all prefix column (numbered_moves true p (take i ms)))
+    → TookSome b c x y (placed_all before col (numbered_move f q m))
+    → TookSome a c w y (placed_all prefix column (numbered_moves true p (take (i + 1) ms)))
 moves_put a b c w x y prefix before column col p q ms i f m n h k =
     rw (add-one i, next_text prefix before column col p q ms i f m n)
-    (added_more a b c w x y (placed_all prefix column (move_tokens true p (take i ms)))
-    (placed_all before col (tokens_of_move f q m)) h k)
+    (added_more a b c w x y (placed_all prefix column (numbered_moves true p (take i ms)))
+    (placed_all before col (numbered_move f q m)) h k)
 
 -- one could not be put
 pub moves_broke : (a b c : OutputState) (w x prefix before : List ℕ) (column col : ℕ) (p q : Setup) (ms : List Move)
     (i : ℕ) (f : Bool) (m : Move) → IsNext prefix column p ms i before col f q m
-    → TookSome a b w x (placed_all prefix column (move_tokens true p (take i ms)))
-    → BreaksOff b c (x ++ placed_all before col (tokens_of_move f q m))
-    → BreaksOff a c (w ++ placed_all prefix column (move_tokens true p ms))
+    → TookSome a b w x (placed_all prefix column (numbered_moves true p (take i ms)))
+    → BreaksOff b c (x ++ placed_all before col (numbered_move f q m))
+    → BreaksOff a c (w ++ placed_all prefix column (numbered_moves true p ms))
 moves_broke a b c w x prefix before column col p q ms i f m n h k = by_rest (moves_split true p ms (suc i))
   where
-    by_rest : (rest : List (List ℕ)) × (move_tokens true p ms ≡ move_tokens true p (take (suc i) ms) ++ rest)
-        → BreaksOff a c (w ++ placed_all prefix column (move_tokens true p ms))
+    by_rest : (rest : List (List ℕ)) × (numbered_moves true p ms ≡ numbered_moves true p (take (suc i) ms) ++ rest)
+        → BreaksOff a c (w ++ placed_all prefix column (numbered_moves true p ms))
     by_rest (rest, is) =
-        let so_far : List ℕ = placed_all prefix column (move_tokens true p (take i ms)) in
-        let text : List ℕ = placed_all prefix column (move_tokens true p (take (suc i) ms)) in
-        let tail : List ℕ = placed_all prefix (column_after_all column (move_tokens true p (take (suc i) ms)))
+        let so_far : List ℕ = placed_all prefix column (numbered_moves true p (take i ms)) in
+        let text : List ℕ = placed_all prefix column (numbered_moves true p (take (suc i) ms)) in
+        let tail : List ℕ = placed_all prefix (column_after_all column (numbered_moves true p (take (suc i) ms)))
         rest in
-        let whole : placed_all prefix column (move_tokens true p ms) ≡ text ++ tail =
-        ap (placed_all prefix column) is ∙ placed_all-append prefix column (move_tokens true p (take (suc i) ms))
+        let whole : placed_all prefix column (numbered_moves true p ms) ≡ text ++ tail =
+        ap (placed_all prefix column) is ∙ placed_all-append prefix column (numbered_moves true p (take (suc i) ms))
         rest in
         subst (λ v. BreaksOff a c (w ++ v)) (sym whole)
         (break_longer a c w text tail
         (subst (λ v. BreaksOff a c (w ++ v)) (sym (next_text prefix before column col p q ms i f m n))
-        (added_break a b c w x so_far (placed_all before col (tokens_of_move f q m)) h k)))
+        (added_break a b c w x so_far (placed_all before col (numbered_move f q m)) h k)))
 
 pub columns_more : (prefix before : List ℕ) (column col new : ℕ) (p q : Setup) (ms : List Move) (i : ℕ) (f : Bool)
     (m : Move) → IsNext prefix column p ms i before col f q m
-    → new ≡ column_after_all col (tokens_of_move f q m)
-    → new ≡ column_after_all column (move_tokens true p (take (i + 1) ms))
+    → new ≡ column_after_all col (numbered_move f q m)
+    → new ≡ column_after_all column (numbered_moves true p (take (i + 1) ms))
 columns_more prefix before column col new p q ms i f m n is =
-    let so_far : List (List ℕ) = move_tokens true p (take i ms) in
-    let next : List (List ℕ) = tokens_of_move (eqb i 0) (position_after p (take i ms)) m in
-    let here : column_after_all col (tokens_of_move f q m) ≡ column_after_all (column_after_all column so_far) next =
+    let so_far : List (List ℕ) = numbered_moves true p (take i ms) in
+    let next : List (List ℕ) = numbered_move (eqb i 0) (position_after p (take i ms)) m in
+    let here : column_after_all col (numbered_move f q m) ≡ column_after_all (column_after_all column so_far) next =
     rw (n.column_is, n.first, n.position) refl in
-    let whole : column_after_all column (move_tokens true p (take (i + 1) ms))
+    let whole : column_after_all column (numbered_moves true p (take (i + 1) ms))
     ≡ column_after_all (column_after_all column so_far) next =
-    ap (λ k. column_after_all column (move_tokens true p (take k ms))) (add-one i)
+    ap (λ k. column_after_all column (numbered_moves true p (take k ms))) (add-one i)
     ∙ ap (column_after_all column) (moves_more p ms i m n.move) ∙ column_after_all-append column so_far next in
     is ∙ here ∙ sym whole
 

@@ -5,7 +5,7 @@ use Rattle.std.proofs.lemmas.Bool.Decides.{nat_tests}
 use Rattle.std.proofs.lemmas.List.{take_rest}
 use Rattle.std.proofs.lemmas.List.Splits.{join_with_byte-slice_split}
 use Rattle.text_lines.specs.Lines.{parts}
-use Rattle.chess_pgn.specs.Tokens.{is_white_space, after_white_space, after_gap_lines, after_gap, after_byte, after_next}
+use Rattle.chess_pgn.specs.Tokens.{is_white_space, after_white_space, is_gap_line, after_gap_lines, after_gap, after_byte, after_next}
 use Rattle.chess_pgn.specs.ties.Gaps.{gap_left}
 use Rattle.chess_pgn.proofs.ByteRuns.{differs}
 
@@ -38,6 +38,20 @@ first_more : (c : ℕ) (rest : List ℕ) → eqb c 10 ≡ false
 first_more c rest e = ap (λ t. cond t ([] ∷ parts rest) (onto_first c (parts rest))) e
     ∙ ap (onto_first c) (parts-first rest)
 
+-- a line is skipped whole, or the gap ends in it
+by_line : (line : List ℕ) (lines : List (List ℕ)) → after_gap_lines (line ∷ lines)
+    ≡ cond (is_gap_line line) (after_gap_lines lines) (after_white_space (join_with_byte 10 (line ∷ lines)))
+unfolding after_gap_lines
+by_line line lines = by_test (is_gap_line line) refl
+  where
+    more : 1 + prefix_len is_gap_line lines ≡ suc (prefix_len is_gap_line lines)
+    more = omega arith
+
+    by_test : (t : Bool) → is_gap_line line ≡ t → after_gap_lines (line ∷ lines)
+        ≡ cond (is_gap_line line) (after_gap_lines lines) (after_white_space (join_with_byte 10 (line ∷ lines)))
+    by_test true e = rw (e, more) refl
+    by_test false e = rw e refl
+
 -- the gap of a text whose first byte ends no line, by its first line
 first_gap : (c : ℕ) (rest : List ℕ) → eqb c 10 ≡ false
     → cond (list_all is_white_space (c ∷ first_line rest)) (after_gap_lines (drop 1 (parts rest)))
@@ -53,11 +67,12 @@ same_line : (c : ℕ) (rest : List ℕ) → eqb c 37 ≡ false → after_gap_lin
 same_line c rest percent = by_test (eqb c 10) refl
   where
     by_test : (t : Bool) → eqb c 10 ≡ t → after_gap_lines (parts (c ∷ rest)) ≡ after_gap (c ∷ rest)
-    by_test true e = rw e refl
+    by_test true e = rw (e, by_line [] (parts rest)) refl
     by_test false e =
         let text : join_with_byte 10 ((c ∷ first_line rest) ∷ drop 1 (parts rest)) ≡ c ∷ rest =
         ap (join_with_byte 10) (sym (first_more c rest e)) ∙ join_with_byte-slice_split 10 (c ∷ rest) in
-        ap after_gap_lines (first_more c rest e) ∙ rw (percent, text) (first_gap c rest e)
+        ap after_gap_lines (first_more c rest e) ∙ by_line (c ∷ first_line rest) (drop 1 (parts rest))
+        ∙ rw (percent, text) (first_gap c rest e)
 
 -- what is left of a text after the gap: inside a line, at a line's front, and inside a `%` line
 record GapIs (text : List ℕ) : Type 0 where
@@ -89,7 +104,8 @@ front_more c rest h = by_percent (eqb c 37) refl
         let e : eqb c 10 ≡ false = grind (arith, nat_tests) in
         let left : gap_left false true (c ∷ rest) ≡ gap_left true false rest = rw percent refl in
         let right : after_gap_lines ((c ∷ first_line rest) ∷ drop 1 (parts rest))
-        ≡ after_gap_lines (drop 1 (parts rest)) = rw percent refl in
+        ≡ after_gap_lines (drop 1 (parts rest)) =
+        by_line (c ∷ first_line rest) (drop 1 (parts rest)) ∙ rw percent refl in
         left ∙ h.in_line false ∙ sym (ap after_gap_lines (first_more c rest e) ∙ right)
     by_percent false other =
         let left : gap_left false true (c ∷ rest) ≡ gap_left false false (c ∷ rest) = rw other refl in
@@ -104,6 +120,7 @@ line_more c rest h b = by_ten (eqb c 10) refl
     by_ten false e = rw (e, drop-onto c (parts rest)) (h.in_line true)
 
 gap_is : (text : List ℕ) → GapIs text
+unfolding after_gap_lines
 gap_is [] = record { inside = refl; at_front = refl; in_line = λ b. refl }
 gap_is (c ∷ rest) = let h = gap_is rest in record {
   inside = inside_more c rest h;

@@ -11,6 +11,7 @@ mod GameTexts
 mod LastTagReads
 mod LeftTokens
 mod NormalGames
+mod NumberedMoves
 mod OfTokens
 mod PgnFen
 mod PgnMoves

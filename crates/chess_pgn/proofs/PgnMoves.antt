@@ -20,7 +20,7 @@ use Rattle.chess_game.specs.declared.results.Outcome.TheVariants.{WhiteWins, Bla
 use Rattle.chess_pgn.specs.declared.termination.Termination.{Termination}
 use Rattle.chess_pgn.specs.GameRead.{GameRead}
 use Rattle.chess_pgn.specs.laws.TokenByToken.{SoFar}
-use Rattle.chess_pgn.specs.GameText.{number_token, move_tokens}
+use Rattle.chess_pgn.specs.ties.NumberedMoves.{number_if_due, numbered_moves}
 use Rattle.chess_text.specs.San.{san}
 use Rattle.chess_pgn.specs.Tokens.{is_word_byte}
 use Rattle.chess_pgn.specs.ties.Lines.{fits_line, wrapped_token, next_column, line_close}
@@ -160,7 +160,7 @@ module _ (limit total : ℕ) where
 
   number_read : (said : Option Termination) (start : Setup) (done : List Move) (c : Colour) (is_first : Bool) (n : ℕ)
       (ts : List (List ℕ)) (rest : List ℕ) (r : GameRead) → n ≤ 999999 → Reads said start done ts rest r
-      → Reads said start done (number_token c is_first n ++ ts) rest r
+      → Reads said start done (number_if_due c is_first n ++ ts) rest r
   number_read said start done White is_first n ts rest r h reads is_begun begins column =
       let g : SoFar = read_so_far said start done is_begun in
       let t : List ℕ = decimal n ++ codes "." in
@@ -181,13 +181,13 @@ module _ (limit total : ℕ) where
   pub moves_read : AfterIsSound → (said : Option Termination) (start : Setup) (all : List Move) → IsWhole start all
       → (last_token rest : List ℕ) (r : GameRead) → Reads said start all (last_token ∷ []) rest r
       → (is_first : Bool) (p : Setup) (done ms : List Move) → done ++ ms ≡ all → position_after start done
-      ≡ p → IsSound p → IsLine p ms → Reads said start done (move_tokens is_first p ms ++ last_token ∷ []) rest r
+      ≡ p → IsSound p → IsLine p ms → Reads said start done (numbered_moves is_first p ms ++ last_token ∷ []) rest r
   moves_read law said start all whole o rest r ended is_first p done [] same at sound line is_begun begins column =
       ap (λ d. read_on limit total (read_so_far said start d is_begun) begins (filled_from [] column (o ∷ []) ++ rest))
       (sym (append-nil done) ∙ same) ∙ ended is_begun begins column
   moves_read law said start all whole o rest r ended is_first p done (m ∷ ms) same at sound line is_begun begins
       column =
-      let more : List (List ℕ) = move_tokens false (after p m) ms ++ o ∷ [] in
+      let more : List (List ℕ) = numbered_moves false (after p m) ms ++ o ∷ [] in
       let count : length all ≡ length done + suc (length ms) = ap length (sym same) ∙ length-append done (m ∷ ms) in
       let here : take (length done) all ≡ done = ap (take (length done)) (sym same) ∙ take-append_seam done (m ∷ ms) in
       let open_yet : verdict start done ≡ None =
@@ -196,7 +196,7 @@ module _ (limit total : ℕ) where
       let tail = moves_read law said start all whole o rest r ended false (after p m) (done ++ m ∷ []) ms
       (append_assoc done (m ∷ []) ms ∙ same) (last-more start done m ∙ ap (λ q. after q m) at)
       (law p m sound line.0) line.1 in
-      let tokens : move_tokens is_first p (m ∷ ms) ++ o ∷ [] ≡ number_token p.side is_first p.fullmove
+      let tokens : numbered_moves is_first p (m ∷ ms) ++ o ∷ [] ≡ number_if_due p.side is_first p.fullmove
       ++ san p m ∷ more = simp append_assoc in
       ap (λ ts. read_on limit total (read_so_far said start done is_begun) begins (filled_from [] column ts ++ rest))
       tokens

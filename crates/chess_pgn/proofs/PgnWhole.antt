@@ -28,7 +28,8 @@ use Rattle.chess_pgn.specs.GameRead.{GameRead, declared_after, variant_named, ta
 use Rattle.chess_pgn.specs.LastTags.{tag_section, last_tag}
 use Rattle.chess_pgn.specs.Words.{outcome_of}
 use Rattle.chess_pgn.specs.laws.TokenByToken.{SoFar, game_of, nothing_read, tokens_read}
-use Rattle.chess_pgn.specs.GameText.{fen_lines, start_lines_in, last_lines, further_lines, tag_lines, move_tokens, game_tokens, pgn}
+use Rattle.chess_pgn.specs.GameText.{fen_lines, start_lines_in, last_lines, further_lines, tag_lines, game_tokens, pgn}
+use Rattle.chess_pgn.specs.ties.NumberedMoves.{numbered_moves}
 use Rattle.chess_pgn.specs.laws.PgnLaw.{AreTagTexts, IsReadBack, PgnIsReadBack, ResultIsWritten}
 use Rattle.chess_pgn.specs.Tokens.{Token, after_byte_order_mark, begins_line, tokens_of, tokens_from}
 use Rattle.chess_pgn.specs.declared.tagged_result.ResultTag.{ResultTag}
@@ -36,6 +37,7 @@ use Rattle.chess_pgn.specs.Written.{escaped, tag_line, ended}
 use Rattle.chess_pgn.proofs.FilledLines.{filled_from}
 use Rattle.chess_pgn.specs.laws.Layout.{AreShort}
 use Rattle.chess_pgn.proofs.GameTexts.{pgn_filled}
+use Rattle.chess_pgn.proofs.NumberedMoves.{game_numbered}
 use Rattle.chess_pgn.proofs.ShortTokens.{game_is_short}
 use Rattle.chess_pgn.proofs.GamesByTags.{reads_alike}
 use Rattle.chess_pgn.proofs.PgnMoves.{outcome_some, filled_long, outcome_read, read_so_far, moves_read}
@@ -204,6 +206,8 @@ module _ (limit total : ℕ) where
       ∙ ap (read_on limit total (nothing_read s.start.variant) begins)
       (grouped (ended [] (tag_lines t s ++ [] ∷ [])) moves rest)
       ∙ tags_read law initial t texts s h.start begins (moves ++ 10 ∷ rest)
+      ∙ ap (λ ts. read_on limit total (read_so_far said s.start [] false) true (filled_from [] 0 ts ++ 10 ∷ rest))
+      (game_numbered s)
       ∙ moves_read limit total after_law said s.start s.moves (record { few = h.limit; unended = h.unended })
       (outcome_text o) (10 ∷ rest) r
       (λ x b k. outcome_read limit total (read_so_far said s.start s.moves x) b k o (10 ∷ rest)) true s.start []
@@ -292,7 +296,7 @@ pgn_long tags s short =
     let t : List ℕ = outcome_text (outcome_now s) in
     rw (pgn_filled [] tags s short)
     (longer (ended [] (tag_lines tags s ++ [] ∷ [])) (filled_from [] 0 (game_tokens s)) (length t)
-    (filled_long 0 (move_tokens true s.start s.moves) t (outcome_some (outcome_now s))))
+    (rw (game_numbered s) (filled_long 0 (numbered_moves true s.start s.moves) t (outcome_some (outcome_now s)))))
 
 -- ---- the law
 

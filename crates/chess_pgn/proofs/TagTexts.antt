@@ -21,7 +21,8 @@ use Rattle.chess_game.specs.declared.results.Outcome.TheVariants.{WhiteWins, Bla
 use Rattle.chess_pgn.specs.declared.tags.Tags.{Tags}
 use Rattle.chess_pgn.specs.declared.termination.Termination.{Termination}
 use Rattle.chess_pgn.specs.declared.word_kind.WordKind.TheVariants.{Number}
-use Rattle.chess_pgn.specs.GameText.{fen_lines, start_lines_in, last_lines, tag_lines, number_token, move_tokens, game_tokens}
+use Rattle.chess_pgn.specs.GameText.{fen_lines, start_lines_in, last_lines, tag_lines, game_tokens}
+use Rattle.chess_pgn.specs.ties.NumberedMoves.{number_if_due, numbered_moves}
 use Rattle.chess_pgn.specs.LastTags.{is_marks, may_precede_tags, named_tag}
 use Rattle.chess_pgn.specs.laws.PgnLaw.{AreTagTexts}
 use Rattle.chess_pgn.specs.Terminations.{termination_text, termination_of}
@@ -30,6 +31,7 @@ use Rattle.chess_pgn.specs.Tokens.{Token, Skip, Tag, Word, is_word_byte, token_a
 use Rattle.chess_pgn.specs.Words.{word_kind}
 use Rattle.chess_pgn.specs.Written.{escaped, tag_line, ended}
 use Rattle.chess_text.specs.San.{san}
+use Rattle.chess_pgn.proofs.NumberedMoves.{game_numbered}
 use Rattle.chess_pgn.proofs.FilledLines.{filled_from}
 use Rattle.chess_pgn.proofs.PgnFen.{fen_bare}
 use Rattle.chess_pgn.proofs.PgnPieces.{termination_bare}
@@ -269,7 +271,7 @@ module _ (name : List ℕ) where
       (number_kind (decimal n) digits)
 
   moves_stop : (v : Option (List ℕ)) (p : Setup) (ms : List Move) (o : Outcome) (rest : List ℕ) → p.fullmove ≤ 999999
-      → said_on v true (filled_from [] 0 (move_tokens true p ms ++ outcome_text o ∷ []) ++ 10 ∷ rest) ≡ v
+      → said_on v true (filled_from [] 0 (numbered_moves true p ms ++ outcome_text o ∷ []) ++ 10 ∷ rest) ≡ v
   moves_stop v p [] o rest few = by_outcome o
     where
       by_outcome : (o : Outcome) → said_on v true (filled_from [] 0 (outcome_text o ∷ []) ++ 10 ∷ rest) ≡ v
@@ -280,7 +282,7 @@ module _ (name : List ℕ) where
   moves_stop v p (m ∷ ms) o rest few = by_colour p.side
     where
       tail : List (List ℕ)
-      tail = (san p m ∷ move_tokens false (after p m) ms) ++ outcome_text o ∷ []
+      tail = (san p m ∷ numbered_moves false (after p m) ms) ++ outcome_text o ∷ []
 
       dotted : (dots more : List ℕ) → said_on v true (((decimal p.fullmove ++ 46 ∷ dots) ++ more) ++ 10 ∷ rest) ≡ v
       dotted dots more =
@@ -289,7 +291,7 @@ module _ (name : List ℕ) where
           ap (said_on v true) text ∙ number_stops v p.fullmove true (dots ++ (more ++ 10 ∷ rest)) few
 
       by_colour : (c : Colour) → said_on v true (filled_from [] 0
-          (((number_token c true p.fullmove ++ san p m ∷ []) ++ move_tokens false (after p m) ms)
+          (((number_if_due c true p.fullmove ++ san p m ∷ []) ++ numbered_moves false (after p m) ms)
           ++ outcome_text o ∷ []) ++ 10 ∷ rest) ≡ v
       by_colour White = dotted [] (filled_from [] (next_column 0 (decimal p.fullmove ++ codes ".")) tail)
       by_colour Black = dotted (46 ∷ 46 ∷ []) (filled_from [] (next_column 0 (decimal p.fullmove ++ codes "...")) tail)
@@ -303,5 +305,6 @@ module _ (name : List ℕ) where
       let moves : List ℕ = filled_from [] 0 (game_tokens s) ++ 10 ∷ rest in
       ap (λ lines. said_on None begins (ended [] (lines ++ [] ∷ []) ++ moves)) (lines_are t s)
       ∙ tags_say None begins (tags_of t s) moves (are_tags t texts s sound)
+      ∙ ap (λ ts. said_on (string_of name None (tags_of t s)) true (filled_from [] 0 ts ++ 10 ∷ rest)) (game_numbered s)
       ∙ moves_stop (string_of name None (tags_of t s)) s.start s.moves (outcome_now s) rest
       (leb-true s.start.fullmove 999999 sound.fullmove_high)

@@ -35,8 +35,9 @@ use Rattle.chess_pgn.specs.Words.{outcome_of}
 
 -- ---- what is read in the end
 
--- what reading gives in the end: the game, and either where it ended, or `None` if the text has no more games, or the
--- fault
+-- what is read of a game's text. `state`: the game as far as it was read; after a fault, the moves before it.
+-- `answer`: `Ok (Some end)` with the outcome of the game's outcome mark, what its last tag Termination names, and the
+-- offset after the mark; `Ok None` if the text has no more games; `Err` with the first fault
 pub record GameRead : Type 0 where
   pub state : State
   pub answer : Result (Option PgnEnd) PgnFault
@@ -134,7 +135,8 @@ abbrev pub is_tag : ℕ × Token → Bool
 is_tag (to_end, Tag name string at_string) = true
 is_tag _ = false
 
--- what the last tag Termination names
+-- what the last tag Termination among these tokens names; none without such a tag, or if its text is none of the
+-- standard's values, even if an earlier one's is
 abbrev pub last_termination : List (ℕ × Token) → Option Termination
 last_termination tags = option_and_then (λ tag. termination_named tag.0) (last_tag (codes "Termination") tags)
 

@@ -1,5 +1,5 @@
 -- A game's text as it is written (PGN standard of 1994, sections 3.2, 8 and 9.7).
-use Rattle.std.specs.Prelude.{ℕ, Bool, true, false, if◌then◌else◌, List, [], ◌∷◌, ◌++◌, codes, decimal}
+use Rattle.std.specs.Prelude.{ℕ, if◌then◌else◌, List, [], ◌∷◌, ◌++◌, codes, decimal}
 use Rattle.chess_base.specs.declared.man.Colour.{Colour}
 use Rattle.chess_base.specs.declared.man.Colour.TheVariants.{White, Black}
 use Rattle.chess_base.specs.declared.man.Move.{Move}
@@ -55,27 +55,31 @@ tag_lines t s = roster_lines t (outcome_now s) ++ further_lines s.start (termina
 
 -- ---- the tokens of the moves
 
--- the number before a move by this side: `12.` before each move of White, `12...` only if Black makes the first move
--- of the text
-abbrev pub number_token : Colour → Bool → ℕ → List (List ℕ)
-number_token White is_first number = (decimal number ++ codes ".") ∷ []
-number_token Black true number = (decimal number ++ codes "...") ∷ []
-number_token Black false number = []
+-- the number before a move by this side: `12.` before each move of White, none before Black's (but see `first_number`)
+abbrev pub number_token : Colour → ℕ → List (List ℕ)
+number_token White number = (decimal number ++ codes ".") ∷ []
+number_token Black number = []
 
--- the tokens of move m in position p: its SAN, and before it a number if one is due. `is_first`: the text's moves begin
--- with m
-abbrev pub tokens_of_move : Bool → Setup → Move → List (List ℕ)
-tokens_of_move is_first p m = number_token p.side is_first p.fullmove ++ san p m ∷ []
+-- the tokens of move m in position p: its number, if White makes it, and its SAN
+abbrev pub tokens_of_move : Setup → Move → List (List ℕ)
+tokens_of_move p m = number_token p.side p.fullmove ++ san p m ∷ []
 
--- the tokens of moves made one after another from the position `p` on: numbers and SAN (section 8.2). `is_first`: the
--- text's moves begin with them
-abbrev pub move_tokens : Bool → Setup → List Move → List (List ℕ)
-move_tokens is_first p [] = []
-move_tokens is_first p (m ∷ ms) = tokens_of_move is_first p m ++ move_tokens false (after p m) ms
+-- the tokens of moves made one after another from the position `p` on (section 8.2)
+abbrev pub move_tokens : Setup → List Move → List (List ℕ)
+move_tokens p [] = []
+move_tokens p (m ∷ ms) = tokens_of_move p m ++ move_tokens (after p m) ms
+
+-- the number before a game's first move if Black makes it, such as `12...`; none if White makes it, or if there are no
+-- moves. The first argument is the side to move at the game's start, the second the number there
+abbrev pub first_number : Colour → ℕ → List Move → List (List ℕ)
+first_number White number ms = []
+first_number Black number [] = []
+first_number Black number (m ∷ ms) = (decimal number ++ codes "...") ∷ []
 
 -- the tokens of a game: numbers, moves in SAN, and the outcome last
 abbrev pub game_tokens : State → List (List ℕ)
-game_tokens s = move_tokens true s.start s.moves ++ outcome_text (outcome_now s) ∷ []
+game_tokens s = first_number s.start.side s.start.fullmove s.moves
+    ++ (move_tokens s.start s.moves ++ outcome_text (outcome_now s) ∷ [])
 
 -- ---- the whole text: tags, an empty line, the moves in filled lines, an empty line; each line after a prefix
 

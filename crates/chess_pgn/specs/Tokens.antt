@@ -50,16 +50,17 @@ after_brace (c ∷ rest) = if c == byte "}" then Some rest else after_brace rest
 abbrev pub after_white_space : List ℕ → List ℕ
 after_white_space text = drop (prefix_len is_white_space text) text
 
--- the text of these whole lines after the gap at its front: lines that begin with `%` (section 6) or are white space
--- alone, and the white space at the front of the next line
-abbrev pub after_gap_lines : List (List ℕ) → List ℕ
-after_gap_lines [] = []
-after_gap_lines (line ∷ lines) =
-    if bytes_eq (take 1 line) (codes "%") || list_all is_white_space line then after_gap_lines lines
-    else after_white_space (join_with_byte new_line (line ∷ lines))
+-- whether a whole line is skipped in a gap: it begins with `%` (section 6) or is white space alone
+abbrev pub is_gap_line : List ℕ → Bool
+is_gap_line line = bytes_eq (take 1 line) (codes "%") || list_all is_white_space line
+
+-- the text of these lines, which come without their `\n`, after the gap at its front: the lines that are skipped whole,
+-- and then the white space at the front of the next line
+unfoldable pub after_gap_lines : List (List ℕ) → List ℕ
+after_gap_lines lines = after_white_space (join_with_byte new_line (drop (prefix_len is_gap_line lines) lines))
 
 -- the text after the gap at its front, white space and `%` lines. The text begins inside a line, as after a tag's `[`,
--- so a `%` at its front is left; if only white space is up to that line's end, the gap goes on in the lines after it
+-- so a `%` at its front is left; if the rest of that line is white space alone, the gap goes on in the lines after it
 abbrev pub after_gap : List ℕ → List ℕ
 after_gap text =
     if list_all is_white_space (take_while (λ c. not (c == new_line)) text) then after_gap_lines (drop 1 (parts text))

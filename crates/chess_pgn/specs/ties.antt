@@ -7,3 +7,4 @@ pub mod GameSteps
 pub mod Begins
 pub mod Gaps
 pub mod Lines
+pub mod NumberedMoves

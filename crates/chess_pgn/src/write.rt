@@ -5,7 +5,8 @@ ghost use Rattle.arrayvec.specs.ArrayVec.{array_vec_len};
 ghost use Rattle.byte_devices.specs.Devices.{Puts};
 ghost use Rattle.chess_base.specs.Moves.{is_legal, after};
 ghost use Rattle.chess_game.specs.Game.{outcome_now, IsPlayable};
-ghost use Rattle.chess_pgn.specs.GameText.{roster_lines, fen_lines, start_lines_in, last_lines, further_lines, tag_lines, number_token, tokens_of_move, move_tokens, game_tokens, pgn};
+ghost use Rattle.chess_pgn.specs.GameText.{roster_lines, fen_lines, start_lines_in, last_lines, further_lines, tag_lines, game_tokens, pgn};
+ghost use Rattle.chess_pgn.specs.ties.NumberedMoves.{number_if_due, numbered_move, numbered_moves};
 ghost use Rattle.chess_fen.specs.Writing.{is_initial};
 ghost use Rattle.chess_pgn.specs.PgnText.{IsPgn};
 ghost use Rattle.chess_pgn.specs.ties.Lines.{placed_all, column_after_all};
@@ -245,11 +246,11 @@ fn put_moves<B: Board, W: Output>(
     scratch: &mut B,
 ) -> Result<(), WriteFault>
     ensures added { Adds (W.seen lines.old.writer.now) (W.seen lines.new.writer.now) lines.old.waiting
-        lines.new.waiting result (placed_all lines.old.prefix.now lines.old.column (move_tokens true
+        lines.new.waiting result (placed_all lines.old.prefix.now lines.old.column (numbered_moves true
         game.now.state.start game.now.state.moves)) }
     ensures column { OnOk result
         (lines.new.column
-        ≡ column_after_all lines.old.column (move_tokens true game.now.state.start game.now.state.moves)) }
+        ≡ column_after_all lines.old.column (numbered_moves true game.now.state.start game.now.state.moves)) }
     ensures prefix { lines.new.prefix.now ≡ lines.old.prefix.now }
     ensures writer { lines.new.writer.ghost_name ≡ lines.old.writer.ghost_name }
     ensures playable { IsPlayable game.now }
@@ -273,10 +274,10 @@ fn put_move<B: Board, W: Output>(
 ) -> Result<(), WriteFault>
     requires { IsTrue (is_legal (B.position board.old) m) }
     ensures added { Adds (W.seen lines.old.writer.now) (W.seen lines.new.writer.now) lines.old.waiting
-        lines.new.waiting result (placed_all lines.old.prefix.now lines.old.column (tokens_of_move is_first
+        lines.new.waiting result (placed_all lines.old.prefix.now lines.old.column (numbered_move is_first
         (B.position board.old) m)) }
     ensures column { OnOk result
-        (lines.new.column ≡ column_after_all lines.old.column (tokens_of_move is_first (B.position board.old) m)) }
+        (lines.new.column ≡ column_after_all lines.old.column (numbered_move is_first (B.position board.old) m)) }
     ensures prefix { lines.new.prefix.now ≡ lines.old.prefix.now }
     ensures writer { lines.new.writer.ghost_name ≡ lines.old.writer.ghost_name }
     ensures position { OnOk result (B.position board.new ≡ after (B.position board.old) m) }
@@ -304,10 +305,10 @@ fn put_number<W: Output>(
     is_first: bool,
 ) -> Result<(), WriteFault>
     ensures added { Adds (W.seen lines.old.writer.now) (W.seen lines.new.writer.now) lines.old.waiting
-        lines.new.waiting result (placed_all lines.old.prefix.now lines.old.column (number_token setup.now.side
+        lines.new.waiting result (placed_all lines.old.prefix.now lines.old.column (number_if_due setup.now.side
         is_first setup.now.fullmove)) }
     ensures column { lines.new.column
-        ≡ column_after_all lines.old.column (number_token setup.now.side is_first setup.now.fullmove) }
+        ≡ column_after_all lines.old.column (number_if_due setup.now.side is_first setup.now.fullmove) }
     ensures prefix { lines.new.prefix.now ≡ lines.old.prefix.now }
     ensures writer { lines.new.writer.ghost_name ≡ lines.old.writer.ghost_name }
 {

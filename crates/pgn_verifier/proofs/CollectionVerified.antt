@@ -24,7 +24,7 @@ use Rattle.pgn_verifier.specs.ties.OnTheWay.{WritesCollection, Writes, PieceStan
 use Rattle.pgn_verifier.specs.Faults.{of_piece}
 use Rattle.pgn_verifier.proofs.Placed.{piece_there}
 use Rattle.pgn_verifier.proofs.Verifying.{collection_broke_off, reading_stopped}
-use Rattle.pgn_verifier.proofs.LinesWritten.{took_after, broke_after, lines_after, wrote_none, counted_after}
+use Rattle.pgn_verifier.proofs.LinesWritten.{took_after, broke_after, lines_after, wrote_none, counted_after, all_counted}
 
 abbrev pub none : Tally
 none = record { games = 0; half_moves = 0; faults = 0 }
@@ -197,7 +197,7 @@ module _ (options : VerifyOptions) (r r' r'' : InputState) (w w' : OutputState) 
         text,
         next.1,
         subst (λ xs. Took w w' (report_lines options text 1 xs)) (sym all) (so.took more),
-        so.is ∙ ap (counted none) (sym all),
+        so.is ∙ ap (counted none) (sym all) ∙ all_counted (collection_reports options.strict true text),
       )
 
   pub stopped : (law : PiecesAreCut) (fault : PieceFault) → Next s s' r r'' so.text (Err fault)

@@ -1,20 +1,20 @@
 -- If no fault is reported on a text's pieces, then their reports are those on the text.
-use Rattle.std.proofs.Common.{◌≡◌, ℕ, zero, suc, ◌+◌, ◌-◌, ◌<◌, ◌≤◌, Bool, true, false, cond, eqb, List, [], ◌∷◌, ◌++◌, length, get_or, drop, Option, Some, None, Result, Ok, Err, refl, sym, ap, subst, ◌∙◌, inl, inr, ◌⊎◌, append_assoc, append-nil, length-append, arith}
+use Rattle.std.proofs.Common.{◌≡◌, ℕ, zero, suc, ◌+◌, ◌-◌, ◌<◌, ◌≤◌, Bool, true, false, cond, eqb, not, List, [], ◌∷◌, ◌++◌, length, get_or, drop, Option, Some, None, Result, Ok, Err, refl, sym, ap, subst, ◌∙◌, inl, inr, ◌⊎◌, append_assoc, append-nil, length-append, arith}
 use Rattle.std.specs.Prelude.{nat_le, if◌then◌else◌}
-use Rattle.std.specs.List.{concat, flat_map, fold, list_all, list_any}
+use Rattle.std.specs.List.{concat, flat_map, list_all, list_any}
 use Rattle.std.specs.Option.{option_map_or}
-use Rattle.std.proofs.lemmas.Bool.{and_parts, or_parts, eqb-true}
+use Rattle.std.proofs.lemmas.Bool.{and_parts, or_parts}
 use Rattle.std.proofs.lemmas.Bool.Decides.{nat_tests}
 use Rattle.std.proofs.lemmas.List.{get_or_at}
-use Rattle.std.proofs.lemmas.List.Folds.{list_all-append}
+use Rattle.std.proofs.Math.Path.{fun_ext}
+use Rattle.std.proofs.lemmas.List.Folds.{list_all-append, sum_by-zero}
 use Rattle.chess_pgn.specs.Tokens.{after_byte_order_mark, begins_line}
 use Rattle.chess_pgn.specs.declared.read.PgnEnd.{PgnEnd}
 use Rattle.pgn_pieces.specs.Pieces.{cut, piece_at, with_offsets, pieces}
 use Rattle.pgn_pieces.specs.declared.pieces.TheConstants.{PIECE_LEN}
 use Rattle.pgn_pieces.proofs.shared.Cuts.{AreLines, no_texts, last_text, next_text, cut_is_all, cut_ends}
-use Rattle.pgn_verifier.specs.Reports.{Report, Game, Faulty, too_long_report, with_report, counts_of, verified}
+use Rattle.pgn_verifier.specs.Reports.{Report, Game, Faulty, too_long_report, is_game, counts_of, verified}
 use Rattle.pgn_verifier.specs.declared.game_fault.GameFault.{GameFault}
-use Rattle.pgn_verifier.specs.declared.tally.Tally.{Tally}
 use Rattle.pgn_verifier.specs.declared.tally.Verified.TheVariants.{EachGame, FaultReported}
 use Rattle.pgn_verifier.specs.laws.NoFaults.{begins_with_mark, FaultlessTextsAreReportedAlike}
 use Rattle.pgn_verifier.specs.laws.Parts.{BeginsAlike, HoldsWhole, no_more, game, AllHoldWhole, no_parts, next_part}
@@ -25,26 +25,17 @@ use Rattle.pgn_verifier.specs.laws.Reported.{collection_reports, judged_at, read
 
 -- ---- reports without a fault
 
-abbrev pub is_game : Report → Bool
-is_game (Game plies outcome termination) = true
-is_game (Faulty fault explanation) = false
-
-faults_counted : (t : Tally) (rs : List Report) → (fold with_report t rs).faults ≡ 0
-    → (t.faults ≡ 0) × (list_all is_game rs ≡ true)
-faults_counted t [] h = (h, refl)
-faults_counted t (Game plies outcome termination ∷ rs) h =
-    let more = faults_counted (with_report t (Game plies outcome termination)) rs h in (more.0, more.1)
-faults_counted t (Faulty fault explanation ∷ rs) h =
-    let some : t.faults + 1 ≡ 0 = (faults_counted (with_report t (Faulty fault explanation)) rs h).0 in
-    absurd (omega (arith, some))
+no_fault : (r : Report) → eqb (cond (not (is_game r)) 1 0) 0 ≡ is_game r
+no_fault (Game plies outcome termination) = refl
+no_fault (Faulty fault explanation) = refl
 
 all_games : (rs : List Report) → verified (counts_of rs) ≡ EachGame → list_all is_game rs ≡ true
-all_games rs h = by_test (eqb (counts_of rs).faults 0) refl h
+all_games rs h = ap (λ p. list_all p rs) (sym (fun_ext no_fault))
+    ∙ sym (sum_by-zero (λ r. cond (not (is_game r)) 1 0) rs) ∙ by_test (eqb (counts_of rs).faults 0) refl h
   where
     by_test : (b : Bool) → eqb (counts_of rs).faults 0 ≡ b → (if b then EachGame else FaultReported) ≡ EachGame
-        → list_all is_game rs ≡ true
-    by_test true e k = (faults_counted (record { games = 0; half_moves = 0; faults = 0 }) rs
-        (eqb-true (counts_of rs).faults 0 e)).1
+        → eqb (counts_of rs).faults 0 ≡ true
+    by_test true e k = e
     by_test false e k = absurd (cc)
 
 -- ---- one part

@@ -15,6 +15,7 @@ use Rattle.pgn_verifier.specs.Reports.{report_lines, counts_line, counts_of, ver
 use Rattle.pgn_verifier.specs.Collection.{VerifiesCollection}
 use Rattle.pgn_verifier.specs.laws.Reported.{reports_on, collection_reports}
 use Rattle.pgn_verifier.specs.ties.OnTheWay.{WritesCollection, StandsIf, next_number, counted, text_lines, collection_lines}
+use Rattle.pgn_verifier.proofs.LinesWritten.{all_counted}
 use Rattle.pgn_verifier.proofs.Verifying.{collection_verified, collection_broke_off, reading_stopped}
 
 abbrev pub none : Tally
@@ -43,7 +44,8 @@ whole_lines options t text is =
 pub whole_counted : (strict : Bool) (t u : Tally) (text : List ℕ) (v : Verified) → t ≡ none
     → u ≡ counted t (reports_on strict 0 text) → v ≡ verified u → v ≡ verified (counts_of (reports_on strict 0 text))
 whole_counted strict t u text v is h e =
-    e ∙ ap verified (h ∙ ap (λ (x : Tally). counted x (reports_on strict 0 text)) is)
+    e ∙ ap verified (h ∙ ap (λ (x : Tally). counted x (reports_on strict 0 text)) is
+    ∙ all_counted (reports_on strict 0 text))
 
 -- ---- a collection
 

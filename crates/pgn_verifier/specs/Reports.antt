@@ -1,6 +1,6 @@
 -- The reports on the games of a text and of pieces, their lines and their counts.
-use Rattle.std.specs.Prelude.{◌≡◌, ℕ, ◌+◌, ◌==◌, Bool, if◌then◌else◌, List, [], ◌∷◌, ◌++◌, length, drop, codes, decimal, Option, Some, None, Ok, Err}
-use Rattle.std.specs.List.{fold}
+use Rattle.std.specs.Prelude.{◌≡◌, ℕ, ◌+◌, ◌==◌, Bool, true, false, not, if◌then◌else◌, List, [], ◌∷◌, ◌++◌, length, drop, codes, decimal, Option, Some, None, Ok, Err}
+use Rattle.std.specs.List.{count_by, sum_by}
 use Rattle.std.specs.Option.{option_map_or}
 use Rattle.chess_base.specs.Letters.{new_line}
 use Rattle.chess_game.specs.Game.{State}
@@ -44,7 +44,8 @@ pub data AreReports (strict : Bool) (start : ℕ) (text : List ℕ) : ℕ → Li
 
 -- ---- the reports on the games of pieces
 
--- the report on a piece that is too long: the fault TooLong at its first byte
+-- the report on a piece that is too long: the fault TooLong at its first byte. A game that is full has this kind of
+-- fault too, but at the move for which it has no room
 abbrev pub too_long_report : Piece → Report
 too_long_report piece =
     Faulty (record { kind = Pgn TooLong; offset = piece.offset }) (too_long_explained piece.beginning)
@@ -94,15 +95,24 @@ report_lines options input number (report ∷ rest) =
 
 -- ---- the counts
 
--- the counts `t` with one more report: it adds a game and its half-moves, or a fault
-abbrev pub with_report : Tally → Report → Tally
-with_report t (Game plies outcome termination) =
-    record t { games = t.games + 1; half_moves = t.half_moves + plies }
-with_report t (Faulty fault explanation) = record t { faults = t.faults + 1 }
+-- whether a report is on a game without a fault
+abbrev pub is_game : Report → Bool
+is_game (Game plies outcome termination) = true
+is_game (Faulty fault explanation) = false
 
--- the counts of these reports: games without a fault, their half-moves, and faults
+-- how many half-moves a report counts: those of a game without a fault, none of a game with one
+abbrev pub half_moves_of : Report → ℕ
+half_moves_of (Game plies outcome termination) = plies
+half_moves_of (Faulty fault explanation) = 0
+
+-- the counts of these reports: how many games without a fault there are, how many half-moves these have, and how many
+-- faults there are
 abbrev pub counts_of : List Report → Tally
-counts_of reports = fold with_report (record { games = 0; half_moves = 0; faults = 0 }) reports
+counts_of reports = record {
+  games = count_by is_game reports;
+  half_moves = sum_by half_moves_of reports;
+  faults = count_by (λ report. not (is_game report)) reports;
+}
 
 -- how verifying ended, from the counts of all reports: `EachGame` if each game is without a fault, `FaultReported` if a
 -- fault was reported

@@ -1,6 +1,6 @@
 -- A game's text as it is defined for normal chess alone: each of these is the definition of the same name without
 -- `normal_`. Nothing here takes a variant, and no tag names one.
-use Rattle.std.specs.Prelude.{ℕ, Bool, true, false, if◌then◌else◌, List, [], ◌∷◌, ◌++◌, codes}
+use Rattle.std.specs.Prelude.{ℕ, Bool, if◌then◌else◌, List, [], ◌∷◌, ◌++◌, codes}
 use Rattle.std.specs.Str.{bytes_eq}
 use Rattle.chess_base.specs.declared.man.Move.{Move}
 use Rattle.chess_base.specs.declared.setup.Setup.{Setup}
@@ -11,7 +11,7 @@ use Rattle.chess_game.specs.Game.{State}
 use Rattle.chess_game.specs.Results.{outcome_text}
 use Rattle.chess_pgn.specs.declared.tags.Tags.{Tags}
 use Rattle.chess_pgn.specs.declared.termination.Termination.{Termination}
-use Rattle.chess_pgn.specs.GameText.{roster_lines, number_token}
+use Rattle.chess_pgn.specs.GameText.{roster_lines, number_token, first_number}
 use Rattle.chess_pgn.specs.Terminations.{termination_text, termination_of}
 use Rattle.chess_pgn.specs.Written.{tag_line, ended, lines_of}
 use Rattle.chess_cecp.specs.laws.NormalGame.{normal_initial, normal_outcome_now}
@@ -38,21 +38,19 @@ normal_tag_lines t s =
     roster_lines t (normal_outcome_now s)
     ++ normal_further_lines s.start (termination_of t.ended (normal_outcome_now s))
 
--- the tokens of the move `m` from the position `p`: its number, if one is due (`is_first`: it is the first move
--- written), and its SAN; for normal chess alone
-abbrev pub normal_tokens_of_move : Bool → Setup → Move → List (List ℕ)
-normal_tokens_of_move is_first p m = number_token p.side is_first p.fullmove ++ normal_san p m ∷ []
+-- the tokens of the move `m` from the position `p`: its number, if White makes it, and its SAN; for normal chess alone
+abbrev pub normal_tokens_of_move : Setup → Move → List (List ℕ)
+normal_tokens_of_move p m = number_token p.side p.fullmove ++ normal_san p m ∷ []
 
--- the tokens (numbers and SAN) of moves made one after another from the position `p` on; `is_first`: the first of them
--- is the first move written; for normal chess alone
-abbrev pub normal_move_tokens : Bool → Setup → List Move → List (List ℕ)
-normal_move_tokens is_first p [] = []
-normal_move_tokens is_first p (m ∷ ms) =
-    normal_tokens_of_move is_first p m ++ normal_move_tokens false (normal_after p m) ms
+-- the tokens of moves made one after another from the position `p` on; for normal chess alone
+abbrev pub normal_move_tokens : Setup → List Move → List (List ℕ)
+normal_move_tokens p [] = []
+normal_move_tokens p (m ∷ ms) = normal_tokens_of_move p m ++ normal_move_tokens (normal_after p m) ms
 
 -- the tokens of a game: numbers, moves in SAN, and the outcome last; for normal chess alone
 abbrev pub normal_game_tokens : State → List (List ℕ)
-normal_game_tokens s = normal_move_tokens true s.start s.moves ++ outcome_text (normal_outcome_now s) ∷ []
+normal_game_tokens s = first_number s.start.side s.start.fullmove s.moves
+    ++ (normal_move_tokens s.start s.moves ++ outcome_text (normal_outcome_now s) ∷ [])
 
 -- a game's text: tags, an empty line, the moves, an empty line; each line after `prefix`; for normal chess alone
 unfoldable pub normal_pgn : List ℕ → Tags → State → List ℕ

@@ -11,7 +11,7 @@ tag_lines_of pairs = map (λ p. tag_line p.name.now p.text.now) pairs
 -- ---- tokens in lines, from left to right
 
 -- the line that is begun with the text `line`, and the lines after it: each token goes on the line, after a space, if
--- that has at most 79 characters then; else it begins the next one
+-- the line then has at most 79 characters; else it begins the next one
 abbrev pub lines_from : List ℕ → List (List ℕ) → List (List ℕ)
 lines_from line [] = line ∷ []
 lines_from line (t ∷ ts) =

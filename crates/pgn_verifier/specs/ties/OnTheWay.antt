@@ -13,7 +13,7 @@ use Rattle.pgn_verifier.specs.declared.game_fault.GameFault.{GameFault}
 use Rattle.pgn_verifier.specs.declared.options.VerifyOptions.{VerifyOptions}
 use Rattle.pgn_verifier.specs.declared.tally.Tally.{Tally}
 use Rattle.pgn_verifier.specs.declared.tally.Verified.{Verified}
-use Rattle.pgn_verifier.specs.Reports.{Report, with_report, counts_of, verified, report_lines}
+use Rattle.pgn_verifier.specs.Reports.{Report, Game, Faulty, counts_of, verified, report_lines}
 use Rattle.pgn_verifier.specs.Collection.{collection_text, VerifiesCollection}
 use Rattle.pgn_verifier.specs.laws.Reported.{reports_on, reports_in, collection_reports}
 use Rattle.pgn_verifier.specs.declared.start.TextStart.{TextStart}
@@ -69,6 +69,12 @@ moved start fault = record fault { offset = start + fault.offset }
 -- the reports on the games of these pieces, in order; `strict`: results are compared
 abbrev pub reports_of : Bool → List Piece → List Report
 reports_of strict pieces = flat_map (reports_in strict) pieces
+
+-- the counts `t` with one more report: it adds a game and its half-moves, or a fault
+abbrev pub with_report : Tally → Report → Tally
+with_report t (Game plies outcome termination) =
+    record t { games = t.games + 1; half_moves = t.half_moves + plies }
+with_report t (Faulty fault explanation) = record t { faults = t.faults + 1 }
 
 -- the counts `t` with these reports added: games, their half-moves, and faults
 abbrev pub counted : Tally → List Report → Tally

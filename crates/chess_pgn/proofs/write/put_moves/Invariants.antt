@@ -1,6 +1,6 @@
 use Rattle.std.proofs.Common.{◌≡◌, take, true}
 use Rattle.chess_game.specs.Line.{position_after}
-use Rattle.chess_pgn.specs.GameText.{move_tokens}
+use Rattle.chess_pgn.specs.ties.NumberedMoves.{numbered_moves}
 use Rattle.chess_pgn.specs.ties.Lines.{placed_all, column_after_all}
 use Rattle.chess_pgn.specs.ties.Waiting.{TookSome}
 use Rattle.chess_pgn.proofs.write.put_moves.Given as goal
@@ -8,7 +8,7 @@ use Rattle.chess_pgn.proofs.write.put_moves.Given as goal
 abbrev pub invariant-loop-ply : goal.invariant-loop-ply
 invariant-loop-ply g l =
     let seen = g.W.Output.seen in
-    let tokens = move_tokens true l.game.state.start (take l.ply l.game.state.moves) in
+    let tokens = numbered_moves true l.game.state.start (take l.ply l.game.state.moves) in
     record {
       added : TookSome (seen l.fn.lines.writer.now) (seen l.lines.writer.now) l.fn.lines.waiting l.lines.waiting
           (placed_all l.fn.lines.prefix.now l.fn.lines.column tokens);
