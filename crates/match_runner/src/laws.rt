@@ -1,6 +1,6 @@
 //! Laws of the games of a match.
 
-ghost use Rattle.match_runner.specs.laws.Entries.{LogsAreEntries, LogsHaveOneReading};
+ghost use Rattle.match_runner.specs.laws.Entries.{LogsHaveOneReading};
 ghost use Rattle.match_runner.specs.laws.Faults.{OnlyLastGamesHaveFailedWrites};
 
 /// States a law and does nothing: a game without a fault of an engine leaves the counts of failed writes and flushes of
@@ -9,10 +9,8 @@ pub fn only_last_games_have_failed_writes()
     ensures { OnlyLastGamesHaveFailedWrites }
 {}
 
-/// States a law and does nothing: a log has a line for each line that an engine sent or was sent, and for each end and
-/// failure, in their order; and of lines whose texts are printable ASCII it can be read in only one way, with their
-/// moments, marks and engines.
+/// States a law and does nothing: a log whose lines' texts are printable ASCII can be read in only one way, as these
+/// lines with their moments, marks and engines.
 pub fn logs_have_one_reading()
-    ensures lines { LogsAreEntries }
-    ensures reading { LogsHaveOneReading }
+    ensures { LogsHaveOneReading }
 {}
