@@ -1,8 +1,10 @@
 -- What was logged, put together.
-use Rattle.std.proofs.Common.{◌≡◌, ℕ, ◌+◌, ◌<◌, min, length, drop, take, get_or, map, not, Bool, true, false, List, [], ◌∷◌, ◌++◌, refl, ap, sym, ◌∙◌, subst, append_assoc, append-nil, Option, Some, None, Result, Ok, Err, absurd, arith}
+use Rattle.std.proofs.Common.{◌≡◌, ℕ, suc, ◌+◌, ◌<◌, min, length, drop, take, get_or, map, not, Bool, true, false, List, [], ◌∷◌, ◌++◌, refl, ap, sym, ◌∙◌, subst, append_assoc, append-nil, Option, Some, None, Result, Ok, Err, arith}
+use native.Mathlib.Numerals.{unary_clauses}
 use Rattle.std.specs.Prelude.{◌==◌, if◌then◌else◌}
 use Rattle.std.specs.List.{onto_first, position_or_len}
 use Rattle.std.specs.Result.{is_err}
+use Rattle.std.proofs.lemmas.Bool.Decides.{nat_tests}
 use Rattle.std.proofs.lemmas.List.{drop_min, drop_more}
 use Rattle.std.proofs.lemmas.List.Concat.{flat_map-append}
 use Rattle.std.specs.Io.KnownBytes.{Appends}
@@ -22,8 +24,8 @@ use Rattle.match_runner.specs.declared.log.Pending.{Pending}
 -- ---- the output
 
 -- nothing was logged
-pub logs_none : (b : Bool) (o : OutputState) → LogsPending b b o o [] []
-logs_none false o = ([], flushed_none o, refl)
+pub logs_none : (b : Bool) (o : OutputState) → Logs b b o o []
+logs_none false o = flushed_none o
 logs_none true o = (refl, refl)
 
 flushed_sent : (o o' : OutputState) (text : List ℕ) → Sent o o' text → Flushed o o' text
@@ -151,7 +153,7 @@ line_logged b o o' p p' text same none ended a =
     (subst (λ (l : List ℕ). LogsPending b p'.broken o o' l text) ended
     (a.after (record { output = o; broken = b }) []
     (subst (λ (l : List ℕ). LogsPending b p.broken o o l []) (sym none)
-    (subst (λ (c : Bool). LogsPending b c o o [] []) (sym same) (logs_none b o)))))
+    (subst (λ (c : Bool). LogsPending b c o o [] []) (sym same) (pends_nothing b b o o [] (logs_none b o))))))
 
 -- ---- bytes and lines, one after the other
 
@@ -167,6 +169,13 @@ loop_step F text i piece done lt f h =
 abbrev line_len : List ℕ → ℕ
 line_len text = position_or_len (λ x. x == new_line) text
 
+-- a byte more before the first line feed
+one_more : (n c : ℕ) (xs : List ℕ) → take (1 + n) (c ∷ xs) ∷ lines_in (drop (1 + n + 1) (c ∷ xs))
+    ≡ (c ∷ take n xs) ∷ lines_in (drop (n + 1) xs)
+one_more n c xs =
+    let e : 1 + n ≡ suc n = omega arith in
+    ap (λ m. take m (c ∷ xs) ∷ lines_in (drop (m + 1) (c ∷ xs))) e ∙ simp unary_clauses refl
+
 line_step : (c : ℕ) (cs : List ℕ) (b : Bool)
     → onto_first c (lines_in cs) ≡ take (1 + line_len cs) (c ∷ cs) ∷ lines_in (drop (1 + line_len cs + 1) (c ∷ cs))
     → (if b then [] ∷ lines_in cs else onto_first c (lines_in cs))
@@ -178,7 +187,9 @@ line_step c cs false more = more
 first_line : (c : ℕ) (cs : List ℕ) → lines_in (c ∷ cs)
     ≡ take (line_len (c ∷ cs)) (c ∷ cs) ∷ lines_in (drop (line_len (c ∷ cs) + 1) (c ∷ cs))
 first_line c [] = line_step c [] (c == new_line) refl
-first_line c (d ∷ ds) = line_step c (d ∷ ds) (c == new_line) (ap (onto_first c) (first_line d ds))
+first_line c (d ∷ ds) =
+    line_step c (d ∷ ds) (c == new_line)
+    (ap (onto_first c) (first_line d ds) ∙ sym (one_more (line_len (d ∷ ds)) c (d ∷ ds)))
 
 -- the first line of a text is what comes before its first line feed
 pub line_split : (text : List ℕ) (len rest : ℕ) → 0 < length text → len ≡ line_len text
@@ -203,6 +214,12 @@ given_more first side moment text line rest all done is h =
     append_assoc done (log_line moment (byte ">") (same_colour side first) line) (entries (lines_in rest))
     ∙ ap (λ ls. done ++ entries ls) (sym is) ∙ h
 
+-- nothing is left of what an engine is sent
+pub given_all : (first side : Colour) (moment : ℕ) (rest all done : List ℕ) → (length rest == 0) ≡ true
+    → done ++ entries_text (note_entries first moment (Gives side rest)) ≡ all → done ≡ all
+given_all first side moment [] all done none h = sym (append-nil done) ∙ h
+given_all first side moment (x ∷ xs) all done none h = absurd (grind (arith, nat_tests))
+
 -- ---- notes
 
 -- the lines of two lists, one after the other
@@ -210,7 +227,7 @@ entries_more : (xs ys : List Entry) → entries_text (xs ++ ys) ≡ entries_text
 entries_more = flat_map-append (λ e. log_line e.moment e.mark e.is_first e.text)
 
 -- a single line
-pub one_entry : (e : Entry) → log_line e.moment e.mark e.is_first e.text ≡ entries_text (e ∷ [])
+one_entry : (e : Entry) → log_line e.moment e.mark e.is_first e.text ≡ entries_text (e ∷ [])
 one_entry e = sym (append-nil (log_line e.moment e.mark e.is_first e.text))
 
 log_more : (first : Colour) (moment : ℕ) (notes : List Note) (n : Note)
@@ -237,17 +254,16 @@ pub log_begun : (first side : Colour) (l l' : LogSeen) (moment : ℕ) → side �
     → IsLog first l side l' moment []
 log_begun first side l l' moment sided same begun = record {
   sided = sided;
-  written = subst (λ (v : LogSeen). Logged l v []) (sym same)
-      (all_logged l.broken l.broken l.output l.output [] (logs_none l.broken l.output));
+  written = subst (λ (v : LogSeen). Logged l v []) (sym same) (logs_none l.broken l.output);
   reached = begun;
 }
 
 -- a note more was logged
 pub noted : (side side' : Colour) (l l' : LogSeen) (moment moment' : ℕ) (n : Note)
-    → Logged l l' (entries_text (note_entries side moment n)) × (side' ≡ side) × (moment' ≡ moment_after moment n)
+    → Logged l l' (entries_text (note_entries side moment n)) → side' ≡ side → moment' ≡ moment_after moment n
     → WasNoted (λ before notes. IsLog (first_of_text before) (log_of_text before) side l moment notes)
     (λ before notes. IsLog (first_of_text before) (log_of_text before) side' l' moment' notes) (n ∷ [])
-noted side side' l l' moment moment' n (logged, same, after) = record {
+noted side side' l l' moment moment' n logged same after = record {
   extends = λ before notes was.
       let first = first_of_text before in
       let from = log_of_text before in
@@ -262,6 +278,19 @@ noted side side' l l' moment moment' n (logged, same, after) = record {
         reached = after ∙ ap (λ (m : ℕ). moment_after m n) was.reached ∙ sym (moment_more 0 notes n);
       };
 }
+
+-- a note of a single line was logged
+pub line_noted : (side side' c : Colour) (l l' : LogSeen) (moment moment' at mark : ℕ) (text : List ℕ) (n : Note)
+    → note_entries side moment n
+    ≡ record { moment = at; mark = mark; is_first = same_colour c side; text = text } ∷ []
+    → Logged l l' (log_line at mark (same_colour c side) text) → side' ≡ side → moment' ≡ moment_after moment n
+    → WasNoted (λ before notes. IsLog (first_of_text before) (log_of_text before) side l moment notes)
+    (λ before notes. IsLog (first_of_text before) (log_of_text before) side' l' moment' notes) (n ∷ [])
+line_noted side side' c l l' moment moment' at mark text n is logged =
+    noted side side' l l' moment moment' n
+    (subst (λ (t : List ℕ). Logged l l' t)
+    (one_entry (record { moment = at; mark = mark; is_first = same_colour c side; text = text })
+    ∙ ap entries_text (sym is)) logged)
 
 -- ---- a whole match
 

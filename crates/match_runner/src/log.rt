@@ -1,14 +1,12 @@
 //! The log of a match: what the engines send and are sent.
 
-ghost use Rattle.std.specs.Prelude.{◌≡◌, ◌<◌, ◌∷◌, ◌++◌, [], ℕ, decimal, length, map};
+ghost use Rattle.std.specs.Prelude.{◌≡◌, ◌<◌, ◌∷◌, [], decimal, false, length, map};
 ghost use Rattle.arrayvec.specs.ArrayVec.{array_vec_len};
 ghost use Rattle.chess_base.specs.Letters.{new_line};
 ghost use Rattle.chess_base.specs.Men.{same_colour};
-ghost use Rattle.chess_match.specs.Events as events;
-ghost use Rattle.chess_match.specs.Notes.{Happened, Gives};
 ghost use Rattle.chess_match.specs.Played.{PlayedNoting};
 ghost use Rattle.chess_match.specs.Run.{ports_of, text_read};
-ghost use Rattle.match_runner.specs.Log.{Logged, Logs, LogsNote, engine_text, head, lines_in, log_line, log_seen, log_text, shown};
+ghost use Rattle.match_runner.specs.Log.{Logged, Logs, engine_text, head, lines_in, log_line, log_seen, log_text, shown};
 ghost use Rattle.match_runner.specs.ties.Logging.{Adds, IsLog};
 
 use arrayvec::ArrayVec;
@@ -172,8 +170,8 @@ fn split_line(text: &[u8]) -> (&[u8], &[u8])
     ensures less { length result.1.now < length text.now }
 {
     let len = len_before(text, b'\n');
-    let rest = (len + 1).min(text.len());
-    (&text[..len], &text[rest..])
+    let next = (len + 1).min(text.len());
+    (&text[..len], text.split_at(next).1)
 }
 
 /// An output on which games are logged in the form of XBoard's debug file: it watches a match, and writes each line
@@ -250,9 +248,7 @@ impl<E: Output> Witness for Log<E> {
         l.first (log_seen (E.seen l.output) l.broken) l.moment notes };
 
     // Logs a line that an engine sent, such as `312 <first : move e2e4`.
-    fn line(&mut self, side: Colour, line: &Line<ENGINE_LINE_LEN>, moment: u64)
-        ensures logs { LogsNote E.seen self.old self.new (Happened (events.Line side (text_read line.now) moment)) }
-    {
+    fn line(&mut self, side: Colour, line: &Line<ENGINE_LINE_LEN>, moment: u64) {
         self.moment = moment;
         if line.is_too_long() {
             self.add_line(side, b'!', b"line too long");
@@ -262,37 +258,27 @@ impl<E: Output> Witness for Log<E> {
     }
 
     // Keeps the time for the lines that follow, and logs nothing: the lines that opened the turn were logged before.
-    fn opened(&mut self, _side: Colour, moment: u64)
-        ensures logs { LogsNote E.seen self.old self.new (Happened (events.Opened _side moment)) }
-    {
+    fn opened(&mut self, _side: Colour, moment: u64) {
         self.moment = moment;
     }
 
     // Logs that an engine closed its output.
-    fn output_ends(&mut self, side: Colour)
-        ensures logs { LogsNote E.seen self.old self.new (Happened (events.OutputEnds side)) }
-    {
+    fn output_ends(&mut self, side: Colour) {
         self.add_line(side, b'!', b"output ended");
     }
 
     // Logs that reading from an engine failed.
-    fn read_fails(&mut self, side: Colour)
-        ensures logs { LogsNote E.seen self.old self.new (Happened (events.FailsToRead side)) }
-    {
+    fn read_fails(&mut self, side: Colour) {
         self.add_line(side, b'!', b"read failed");
     }
 
     // Logs that writing to an engine failed.
-    fn write_fails(&mut self, side: Colour)
-        ensures logs { LogsNote E.seen self.old self.new (Happened (events.FailsToWrite side)) }
-    {
+    fn write_fails(&mut self, side: Colour) {
         self.add_line(side, b'!', b"write failed");
     }
 
     // Logs the lines that an engine is sent, each such as `312 >first : e2e4`.
-    fn gives(&mut self, side: Colour, text: &[u8])
-        ensures logs { LogsNote E.seen self.old self.new (Gives side text.now) }
-    {
+    fn gives(&mut self, side: Colour, text: &[u8]) {
         let mut rest = text;
         while !rest.is_empty() {
             let (line, after) = split_line(rest);

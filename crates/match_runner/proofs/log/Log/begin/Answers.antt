@@ -3,5 +3,5 @@ use Rattle.std.proofs.Common.{refl}
 use Rattle.match_runner.proofs.Logged.{log_begun}
 use Rattle.match_runner.proofs.log.Log.begin.Goals as goal
 
-pub returns-clause-log : goal.returns-clause-log
-returns-clause-log g c = log_begun _ _ _ _ _ refl refl refl
+pub returns : goal.returns
+returns g c = record { log = log_begun _ _ _ _ _ refl refl refl }

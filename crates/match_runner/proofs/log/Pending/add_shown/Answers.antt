@@ -9,7 +9,7 @@ loop-byte-preserved g c =
     let i = c.loop-byte.invariant in (
       _,
       adds_more _ _ _ _ _ _ i.0 _ i.1
-          (adds_as _ _ _ _ (c.shown.result ∷ []) _ (ap (λ (b : ℕ). b ∷ []) c.shown.ensures) c.add.ensures),
+          (adds_as _ _ _ _ (c.shown.result ∷ []) _ (ap (λ (b : ℕ). b ∷ []) c.shown.ensures) c.add.ensures.adds),
       loop_step (λ (l : List ℕ). map shown l) c.args.text.now c.loop-byte.byte-index _ i.0 c.loop-byte-test.true
           (λ rest. refl) i.2,
     )
