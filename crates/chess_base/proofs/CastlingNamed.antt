@@ -13,9 +13,9 @@ use Rattle.chess_base.specs.declared.man.Variant.{Variant}
 use Rattle.chess_base.specs.declared.man.Variant.TheVariants.{Normal, Fischerandom}
 use Rattle.chess_base.specs.declared.setup.Setup.{Setup}
 use Rattle.chess_base.specs.Squares.{rank}
-use Rattle.chess_base.specs.Men.{Men, man_at, is_man, first_rank}
+use Rattle.chess_base.specs.Men.{Men, man_at, is_man}
 use Rattle.chess_base.specs.Sound.{IsSound, has_one_king}
-use Rattle.chess_base.specs.Castling.{right_of, king_square, castle_from, castle_by, castle_of, are_placed_for_castling, right_is_sound, home_square, king_home_file, rook_file, is_beside, is_to_side, names_castling_with, castled_king_file, is_castling_to, castling}
+use Rattle.chess_base.specs.Castling.{right_of, king_square, castle_from, castle_by, castle_of, are_placed_for_castling, right_is_sound, home_square, king_home_file, is_beside, names_castling_with, castled_king_file, is_castling_to, castling}
 use Rattle.chess_base.specs.shared.Splits.{right_is_sound_at, names_castling}
 use Rattle.chess_base.specs.laws.Castles.{castling_on, is_castling_by, castling_named}
 use Rattle.chess_base.proofs.shared.Castling.{right_is_sound_of, says_from_castling, castling_says}
@@ -29,7 +29,7 @@ away : (v : Variant) (c : Colour) (men : Men) (m : Move) (w : CastlingSide) (r k
 away v c men m w r k l one at apart =
     let no : is_man c King (man_at men m.from) ≡ false = false_from_ne_true _
     (λ e. apart (one_king men c k m.from l one (king_square-king men c k at) e)) in
-    and_left (k == m.from) _ (ne_eqb k m.from apart) ∙ sym (and_left (is_man c King (man_at men m.from)) _ no)
+    and_left _ _ (ne_eqb _ _ apart) ∙ sym (and_left _ _ no)
 
 -- from the king's square, where the right is sound, both tests ask for the end square
 here : (v : Variant) (c : Colour) (men : Men) (m : Move) (w : CastlingSide) (r k : ℕ) → length men ≡ 64
@@ -37,28 +37,25 @@ here : (v : Variant) (c : Colour) (men : Men) (m : Move) (w : CastlingSide) (r k
     → k ≡ m.from
     → is_castling_by v m (castle_from c w k r) ≡ (is_man c King (man_at men m.from) && names_castling_with v c m w r)
 here Normal c men m w r k l one at placed same =
-    let parts = and_parts
-    ((r == home_square c (rook_file w)) && is_man c King (man_at men (home_square c king_home_file)))
-    (is_man c Rook (man_at men r)) placed in
-    let home = (and_parts (r == home_square c (rook_file w)) (is_man c King (man_at men (home_square c king_home_file)))
-    parts.0).1 in
+    let parts = and_parts _ _ placed in
+    let home = (and_parts _ _ parts.0).1 in
     let k_home : k ≡ home_square c king_home_file =
     one_king men c k (home_square c king_home_file) l one (king_square-king men c k at) home in
     let king : is_man c King (man_at men m.from) ≡ true = rw (← same) (king_square-king men c k at) in
-    let t1 : (k == m.from) ≡ true = eq-eqb k m.from same in
+    let t1 : (k == m.from) ≡ true = eq-eqb _ _ same in
     let t2 : (m.from == home_square c king_home_file) ≡ true =
-    eq-eqb m.from (home_square c king_home_file) (sym same ∙ k_home) in
+    eq-eqb _ _ (sym same ∙ k_home) in
     rw (t1, king, t2) (flip (home_square c (castled_king_file w)) m.to)
 here Fischerandom c men m w r k l one at placed same =
     let parts = and_parts (is_beside c w (king_square men c) r) (is_man c Rook (man_at men r)) placed in
     let beside : is_beside c w (Some k) r ≡ true = rw at at parts.0 in
-    let ranks = and_parts ((rank k == first_rank c) && (rank r == first_rank c)) (is_to_side w k r) beside in
-    let both = and_parts (rank k == first_rank c) (rank r == first_rank c) ranks.0 in
+    let ranks = and_parts _ _ beside in
+    let both = and_parts _ _ ranks.0 in
     let same_rank : rank m.from ≡ rank r =
-    ap rank (sym same) ∙ eqb-true (rank k) (first_rank c) both.0 ∙ sym (eqb-true (rank r) (first_rank c) both.1) in
+    ap rank (sym same) ∙ eqb-true _ _ both.0 ∙ sym (eqb-true _ _ both.1) in
     let king : is_man c King (man_at men m.from) ≡ true = rw (← same) (king_square-king men c k at) in
-    let t1 : (k == m.from) ≡ true = eq-eqb k m.from same in
-    let t2 : (rank m.from == rank r) ≡ true = eq-eqb (rank m.from) (rank r) same_rank in
+    let t1 : (k == m.from) ≡ true = eq-eqb _ _ same in
+    let t2 : (rank m.from == rank r) ≡ true = eq-eqb _ _ same_rank in
     rw (t1, king, t2) (flip r m.to)
 
 same_test : (v : Variant) (c : Colour) (men : Men) (m : Move) (w : CastlingSide) (r k : ℕ) → length men ≡ 64
@@ -110,7 +107,7 @@ by_side : (p : Setup) (m : Move) (o : Option CastlingSide) → IsSound p → cas
     → castle_by p.side p.rights m o ≡ option_and_then (castling_on p) o
 by_side p m None h e = refl
 by_side p m (Some w) h e =
-    let king = (castling_says p m w (says_from_castling p m w e)).0 in
+    let king = (castling_says _ _ _ (says_from_castling _ _ _ e)).0 in
     let at : king_square p.men p.side ≡ Some m.from =
     king_square-at p.men p.side m.from h.board (one_king_of p h p.side) king in
     rw at (mapped (right_of p.rights p.side w))

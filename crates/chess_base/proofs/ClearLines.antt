@@ -1,13 +1,13 @@
 -- Walking along a line from square to square, and what is then known of the squares between two of its squares.
-use Rattle.std.proofs.Common.{◌≡◌, ℕ, ◌+◌, ◌-◌, ◌<◌, ◌≤◌, inl, inr, Bool, true, false, ◌||◌, not, is_none, refl, sym, ◌∙◌, arith}
+use Rattle.std.proofs.Common.{◌≡◌, ℕ, ◌+◌, ◌<◌, ◌≤◌, inl, inr, Bool, true, false, ◌||◌, not, is_none, refl, sym, ◌∙◌, arith}
 use Rattle.std.proofs.lemmas.Bool.{and_parts, and_from, cases_order, eqb-true, eq-eqb}
 use Rattle.std.proofs.lemmas.Bool.Decides.{nat_tests}
 use Rattle.chess_base.specs.declared.line.Line.{Line}
 use Rattle.chess_base.specs.declared.line.Line.TheVariants.{Rank, File, Diagonal, Antidiagonal}
-use Rattle.chess_base.specs.Squares.{file, rank, is_strictly_between, is_between}
+use Rattle.chess_base.specs.Squares.{is_strictly_between, is_between}
 use Rattle.chess_base.specs.Men.{Men, man_at}
 use Rattle.chess_base.specs.Attacks.{is_clear}
-use Rattle.chess_base.specs.shared.Lines.{line_number, same_line}
+use Rattle.chess_base.specs.shared.Lines.{same_line}
 use Rattle.chess_base.specs.ties.Lines.{step_of}
 use Rattle.chess_base.proofs.shared.Squares.{each_square-all, each_square-fails}
 use Rattle.chess_base.proofs.shared.Geometry.{between_on_line}
@@ -17,31 +17,30 @@ use Rattle.chess_base.proofs.shared.Geometry.{between_on_line}
 -- the next square of the line is not past a further one
 pub step_fits : (l : Line) (x k : ℕ) → x < k → k < 64 → same_line l x k ≡ true → x + step_of l ≤ k
 step_fits Rank x k h low e = omega arith
-step_fits File x k h low e = let same = eqb-true (file x) (file k) e in omega (arith, same)
+step_fits File x k h low e = let same = eqb-true _ _ e in omega (arith, same)
 step_fits Diagonal x k h low e =
-    let same = eqb-true (rank x + 7 - file x) (rank k + 7 - file k) e in omega (arith, same)
-step_fits Antidiagonal x k h low e = let same = eqb-true (rank x + file x) (rank k + file k) e in omega (arith, same)
+    let same = eqb-true _ _ e in omega (arith, same)
+step_fits Antidiagonal x k h low e = let same = eqb-true _ _ e in omega (arith, same)
 
 -- and it is on the line
 pub step_stays : (l : Line) (x k : ℕ) → x < k → k < 64 → same_line l x k ≡ true → same_line l (x + step_of l) k ≡ true
 step_stays Rank x k h low e =
-    let same = eqb-true (rank x) (rank k) e in eq-eqb (rank (x + 1)) (rank k) (omega (arith, same))
+    let same = eqb-true _ _ e in eq-eqb _ _ (omega (arith, same))
 step_stays File x k h low e =
-    let same = eqb-true (file x) (file k) e in eq-eqb (file (x + 8)) (file k) (omega (arith, same))
+    let same = eqb-true _ _ e in eq-eqb _ _ (omega (arith, same))
 step_stays Diagonal x k h low e =
-    let same = eqb-true (rank x + 7 - file x) (rank k + 7 - file k) e in
-    eq-eqb (rank (x + 9) + 7 - file (x + 9)) (rank k + 7 - file k) (omega (arith, same))
+    let same = eqb-true _ _ e in
+    eq-eqb _ _ (omega (arith, same))
 step_stays Antidiagonal x k h low e =
-    let same = eqb-true (rank x + file x) (rank k + file k) e in
-    eq-eqb (rank (x + 7) + file (x + 7)) (rank k + file k) (omega (arith, same))
+    let same = eqb-true _ _ e in
+    eq-eqb _ _ (omega (arith, same))
 
 pub line_back : (l : Line) (a b : ℕ) → same_line l a b ≡ true → same_line l b a ≡ true
-line_back l a b e = eq-eqb (line_number l b) (line_number l a) (sym (eqb-true (line_number l a) (line_number l b) e))
+line_back l a b e = eq-eqb _ _ (sym (eqb-true _ _ e))
 
 pub line_on : (l : Line) (a b c : ℕ) → same_line l a b ≡ true → same_line l b c ≡ true → same_line l a c ≡ true
 line_on l a b c e f =
-    eq-eqb (line_number l a) (line_number l c)
-    (eqb-true (line_number l a) (line_number l b) e ∙ eqb-true (line_number l b) (line_number l c) f)
+    eq-eqb _ _ (eqb-true _ _ e ∙ eqb-true _ _ f)
 
 -- ---- clear lines
 
@@ -68,8 +67,7 @@ clear_by men l low high rising on empty =
     (λ k _.
     passes_if (is_between low high k) (is_none (man_at men k))
     (λ e.
-    let both = and_parts (same_line l low k) (is_strictly_between low high k)
-    (sym (between_on_line l low high k on) ∙ e) in
+    let both = and_parts _ _ (sym (between_on_line l low high k on) ∙ e) in
     let inside = inside_rising low high k rising both.1 in
     empty k inside.0 inside.1 both.0))
 
@@ -81,8 +79,7 @@ unfolding is_clear
 not_clear_by men l low high k h g in_board on there piece =
     each_square-fails _ k (omega arith)
     (fails_by (is_between low high k) (is_none (man_at men k))
-    (between_on_line l low high k on
-    ∙ and_from (same_line l low k) (is_strictly_between low high k) there (inside_of low high k h g)) piece)
+    (between_on_line l low high k on ∙ and_from _ _ there (inside_of low high k h g)) piece)
 
 -- ---- a walk up a line
 
@@ -126,7 +123,7 @@ step_empty men l low high n w more in_board on empty k h g e =
             | inl less ↦ w.empty k h less e
             | inr past ↦
                 absurd (none_between l n k past g (omega (arith, fit))
-                (line_on l n high k w.on (line_on l high low k (line_back l low high on) e)))
+                (line_on _ _ _ _ w.on (line_on _ _ _ _ (line_back _ _ _ on) e)))
           ]
     ]
 
@@ -147,5 +144,4 @@ walk_ends men l low high n w past rising on =
 pub walk_stops : (men : Men) (l : Line) (low high n : ℕ) → IsWalkedTo men l low high n → n < high → high < 64
     → same_line l low high ≡ true → is_none (man_at men n) ≡ false → is_clear men low high ≡ false
 walk_stops men l low high n w more in_board on piece =
-    not_clear_by men l low high n w.risen more (omega arith) on
-    (line_on l low high n on (line_back l n high w.on)) piece
+    not_clear_by men l low high n w.risen more (omega arith) on (line_on _ _ _ _ on (line_back _ _ _ w.on)) piece

@@ -37,16 +37,16 @@ two_apart m n e = grind (arith, nat_tests, e)
 none_of_eight : (t : ℕ → ℕ → Bool) (f r g q : ℕ) → eight t (g + 2) (q + 2) ≡ false → a_way f r g q ≡ true
     → t (f + 2) (r + 2) ≡ false
 none_of_eight t f r g q e way =
-    let h8 = or_parts _ (t ((g + 2) + 1) ((q + 2) + 2)) e in
-    let h7 = or_parts _ (t ((g + 2) - 1) ((q + 2) + 2)) h8.0 in
-    let h6 = or_parts _ (t ((g + 2) + 2) ((q + 2) + 1)) h7.0 in
-    let h5 = or_parts _ (t ((g + 2) - 2) ((q + 2) + 1)) h6.0 in
-    let h4 = or_parts _ (t ((g + 2) + 2) ((q + 2) - 1)) h5.0 in
-    let h3 = or_parts _ (t ((g + 2) - 2) ((q + 2) - 1)) h4.0 in
-    let h2 = or_parts (t ((g + 2) - 1) ((q + 2) - 2)) (t ((g + 2) + 1) ((q + 2) - 2)) h3.0 in
-    elim (or_cases ((abs_diff f g == 1) && (abs_diff r q == 2)) ((abs_diff f g == 2) && (abs_diff r q == 1)) way) [
+    let h8 = or_parts _ _ e in
+    let h7 = or_parts _ _ h8.0 in
+    let h6 = or_parts _ _ h7.0 in
+    let h5 = or_parts _ _ h6.0 in
+    let h4 = or_parts _ _ h5.0 in
+    let h3 = or_parts _ _ h4.0 in
+    let h2 = or_parts _ _ h3.0 in
+    elim (or_cases _ _ way) [
       | inl tall ↦
-          let both = and_parts (abs_diff f g == 1) (abs_diff r q == 2) tall in
+          let both = and_parts _ _ tall in
           elim (one_apart f g both.0) [
             | inl left ↦
                 elim (two_apart r q both.1) [
@@ -60,7 +60,7 @@ none_of_eight t f r g q e way =
                 ]
           ]
       | inr wide ↦
-          let both = and_parts (abs_diff f g == 2) (abs_diff r q == 1) wide in
+          let both = and_parts _ _ wide in
           elim (two_apart f g both.0) [
             | inl left ↦
                 elim (one_apart r q both.1) [
@@ -108,9 +108,7 @@ none_attacked : (men : Men) (c : Colour) (b : ℕ) → eight (has_knight men c) 
     → attacked_by_knight men c b ≡ false
 unfolding attacked_by_knight could_capture
 none_attacked men c b e =
-    some_square-none _
-    (λ a low. guarded (is_man c Knight (man_at men a)) (a_way (file a) (rank a) (file b) (rank b))
-    (λ way. sym (has_knight_at men c a low)
+    some_square-none _ (λ a low. guarded _ _ (λ way. sym (has_knight_at men c a low)
     ∙ none_of_eight (has_knight men c) (file a) (rank a) (file b) (rank b) e way))
 
 way_framed : (f r g q : ℕ) → 2 ≤ f → 2 ≤ r → a_way f r (g + 2) (q + 2) ≡ true → a_way (f - 2) (r - 2) g q ≡ true
@@ -120,55 +118,39 @@ knight_there : (men : Men) (c : Colour) (b f r : ℕ) → a_way f r (file b + 2)
     → has_knight men c f r ≡ true → attacked_by_knight men c b ≡ true
 unfolding has_knight attacked_by_knight could_capture
 knight_there men c b f r way e =
-    let all = and_parts _ (is_man c Knight (man_at men (framed f r))) e in
-    let r_high = and_parts _ (nat_lt r 10) all.0 in
-    let r_low = and_parts _ (nat_le 2 r) r_high.0 in
-    let f_both = and_parts (nat_le 2 f) (nat_lt f 10) r_low.0 in
-    let fl = leb-true 2 f f_both.0 in
-    let fh = ltb-true f 10 f_both.1 in
-    let rl = leb-true 2 r r_low.1 in
-    let rh = ltb-true r 10 r_high.1 in
+    let all = and_parts _ _ e in
+    let r_high = and_parts _ _ all.0 in
+    let r_low = and_parts _ _ r_high.0 in
+    let f_both = and_parts _ _ r_low.0 in
+    let fl = leb-true _ _ f_both.0 in
+    let fh = ltb-true _ _ f_both.1 in
+    let rl = leb-true _ _ r_low.1 in
+    let rh = ltb-true _ _ r_high.1 in
     let moved : a_way (file (framed f r)) (rank (framed f r)) (file b) (rank b) ≡ true =
     rw (framed_file f r fl fh, framed_rank f r fl fh) (way_framed f r (file b) (rank b) fl rl way) in
-    some_square-at _ (framed f r) (omega arith)
-    (and_from (is_man c Knight (man_at men (framed f r)))
-    (a_way (file (framed f r)) (rank (framed f r)) (file b) (rank b)) all.1 moved)
+    some_square-at _ (framed f r) (omega arith) (and_from _ _ all.1 moved)
+
+either : (p q r : Bool) → (p ≡ true → r ≡ true) → (q ≡ true → r ≡ true) → (p || q) ≡ true → r ≡ true
+either true q r h g e = h refl
+either false q r h g e = g e
 
 one_of_eight : (men : Men) (c : Colour) (b : ℕ) → eight (has_knight men c) (file b + 2) (rank b + 2) ≡ true
     → attacked_by_knight men c b ≡ true
-one_of_eight men c b e =
-    let t : ℕ → ℕ → Bool = has_knight men c in
+one_of_eight men c b =
     let f = file b + 2 in
     let r = rank b + 2 in
-    elim (or_cases _ (t (f + 1) (r + 2)) e) [
-      | inr there8 ↦ knight_there men c b (f + 1) (r + 2) (grind (arith, nat_tests)) there8
-      | inl rest8 ↦
-          elim (or_cases _ (t (f - 1) (r + 2)) rest8) [
-            | inr there7 ↦ knight_there men c b (f - 1) (r + 2) (grind (arith, nat_tests)) there7
-            | inl rest7 ↦
-                elim (or_cases _ (t (f + 2) (r + 1)) rest7) [
-                  | inr there6 ↦ knight_there men c b (f + 2) (r + 1) (grind (arith, nat_tests)) there6
-                  | inl rest6 ↦
-                      elim (or_cases _ (t (f - 2) (r + 1)) rest6) [
-                        | inr there5 ↦ knight_there men c b (f - 2) (r + 1) (grind (arith, nat_tests)) there5
-                        | inl rest5 ↦
-                            elim (or_cases _ (t (f + 2) (r - 1)) rest5) [
-                              | inr there4 ↦ knight_there men c b (f + 2) (r - 1) (grind (arith, nat_tests)) there4
-                              | inl rest4 ↦
-                                  elim (or_cases _ (t (f - 2) (r - 1)) rest4) [
-                                    | inr there3 ↦ knight_there men c b (f - 2) (r - 1) (grind (arith, nat_tests)) there3
-                                    | inl rest3 ↦
-                                        elim (or_cases (t (f - 1) (r - 2)) (t (f + 1) (r - 2)) rest3) [
-                                          | inr there2 ↦ knight_there men c b (f + 1) (r - 2) (grind (arith, nat_tests)) there2
-                                          | inl rest2 ↦
-                                              knight_there men c b (f - 1) (r - 2) (grind (arith, nat_tests)) rest2
-                                        ]
-                                  ]
-                            ]
-                      ]
-                ]
-          ]
-    ]
+    let r' = attacked_by_knight men c b in
+    let t : ℕ → ℕ → Bool = has_knight men c in
+    let s1 = λ (e : t (f - 1) (r - 2) ≡ true). knight_there men c b (f - 1) (r - 2) (grind (arith, nat_tests)) e in
+    let s2 = λ (e : t (f + 1) (r - 2) ≡ true). knight_there men c b (f + 1) (r - 2) (grind (arith, nat_tests)) e in
+    let s3 = λ (e : t (f - 2) (r - 1) ≡ true). knight_there men c b (f - 2) (r - 1) (grind (arith, nat_tests)) e in
+    let s4 = λ (e : t (f + 2) (r - 1) ≡ true). knight_there men c b (f + 2) (r - 1) (grind (arith, nat_tests)) e in
+    let s5 = λ (e : t (f - 2) (r + 1) ≡ true). knight_there men c b (f - 2) (r + 1) (grind (arith, nat_tests)) e in
+    let s6 = λ (e : t (f + 2) (r + 1) ≡ true). knight_there men c b (f + 2) (r + 1) (grind (arith, nat_tests)) e in
+    let s7 = λ (e : t (f - 1) (r + 2) ≡ true). knight_there men c b (f - 1) (r + 2) (grind (arith, nat_tests)) e in
+    let s8 = λ (e : t (f + 1) (r + 2) ≡ true). knight_there men c b (f + 1) (r + 2) (grind (arith, nat_tests)) e in
+    either _ _ r' (either _ _ r' (either _ _ r' (either _ _ r' (either _ _ r' (either _ _ r' (either _ _ r' s1 s2) s3) s4)
+    s5) s6) s7) s8
 
 by_eight : (men : Men) (c : Colour) (b : ℕ)
     → attacked_by_knight men c b ≡ eight (has_knight men c) (file b + 2) (rank b + 2)
@@ -192,54 +174,6 @@ knight_by : (men : Men) (c : Colour) (f r : ℕ) (p q : Bool) (x : ℕ)
 unfolding has_knight
 knight_by men c f r p q x e h = same_knight (λ y. is_man c Knight (man_at men y)) _ p q (framed f r) x e h
 
-knight1 : (men : Men) (c : Colour) (b : ℕ) → b < 64 → has_knight men c ((file b + 2) - 1) ((rank b + 2) - 2)
-    ≡ (nat_le 2 (rank b) && nat_le 1 (file b) && is_man c Knight (man_at men (b - 16 - 1)))
-knight1 men c b low =
-    knight_by men c ((file b + 2) - 1) ((rank b + 2) - 2) (nat_le 2 (rank b)) (nat_le 1 (file b)) (b - 16 - 1)
-    (grind (arith, nat_tests)) (λ h g. grind (arith, nat_tests, h, g))
-
-knight2 : (men : Men) (c : Colour) (b : ℕ) → b < 64 → has_knight men c ((file b + 2) + 1) ((rank b + 2) - 2)
-    ≡ (nat_le 2 (rank b) && nat_lt (file b) 7 && is_man c Knight (man_at men (b - 16 + 1)))
-knight2 men c b low =
-    knight_by men c ((file b + 2) + 1) ((rank b + 2) - 2) (nat_le 2 (rank b)) (nat_lt (file b) 7) (b - 16 + 1)
-    (grind (arith, nat_tests)) (λ h g. grind (arith, nat_tests, h, g))
-
-knight3 : (men : Men) (c : Colour) (b : ℕ) → b < 64 → has_knight men c ((file b + 2) - 2) ((rank b + 2) - 1)
-    ≡ (nat_le 1 (rank b) && nat_le 2 (file b) && is_man c Knight (man_at men (b - 8 - 2)))
-knight3 men c b low =
-    knight_by men c ((file b + 2) - 2) ((rank b + 2) - 1) (nat_le 1 (rank b)) (nat_le 2 (file b)) (b - 8 - 2)
-    (grind (arith, nat_tests)) (λ h g. grind (arith, nat_tests, h, g))
-
-knight4 : (men : Men) (c : Colour) (b : ℕ) → b < 64 → has_knight men c ((file b + 2) + 2) ((rank b + 2) - 1)
-    ≡ (nat_le 1 (rank b) && nat_lt (file b) 6 && is_man c Knight (man_at men (b - 8 + 2)))
-knight4 men c b low =
-    knight_by men c ((file b + 2) + 2) ((rank b + 2) - 1) (nat_le 1 (rank b)) (nat_lt (file b) 6) (b - 8 + 2)
-    (grind (arith, nat_tests)) (λ h g. grind (arith, nat_tests, h, g))
-
-knight5 : (men : Men) (c : Colour) (b : ℕ) → b < 64 → has_knight men c ((file b + 2) - 2) ((rank b + 2) + 1)
-    ≡ (nat_lt (rank b) 7 && nat_le 2 (file b) && is_man c Knight (man_at men (b + 8 - 2)))
-knight5 men c b low =
-    knight_by men c ((file b + 2) - 2) ((rank b + 2) + 1) (nat_lt (rank b) 7) (nat_le 2 (file b)) (b + 8 - 2)
-    (grind (arith, nat_tests)) (λ h g. grind (arith, nat_tests, h, g))
-
-knight6 : (men : Men) (c : Colour) (b : ℕ) → b < 64 → has_knight men c ((file b + 2) + 2) ((rank b + 2) + 1)
-    ≡ (nat_lt (rank b) 7 && nat_lt (file b) 6 && is_man c Knight (man_at men (b + 8 + 2)))
-knight6 men c b low =
-    knight_by men c ((file b + 2) + 2) ((rank b + 2) + 1) (nat_lt (rank b) 7) (nat_lt (file b) 6) (b + 8 + 2)
-    (grind (arith, nat_tests)) (λ h g. grind (arith, nat_tests, h, g))
-
-knight7 : (men : Men) (c : Colour) (b : ℕ) → b < 64 → has_knight men c ((file b + 2) - 1) ((rank b + 2) + 2)
-    ≡ (nat_lt (rank b) 6 && nat_le 1 (file b) && is_man c Knight (man_at men (b + 16 - 1)))
-knight7 men c b low =
-    knight_by men c ((file b + 2) - 1) ((rank b + 2) + 2) (nat_lt (rank b) 6) (nat_le 1 (file b)) (b + 16 - 1)
-    (grind (arith, nat_tests)) (λ h g. grind (arith, nat_tests, h, g))
-
-knight8 : (men : Men) (c : Colour) (b : ℕ) → b < 64 → has_knight men c ((file b + 2) + 1) ((rank b + 2) + 2)
-    ≡ (nat_lt (rank b) 6 && nat_lt (file b) 7 && is_man c Knight (man_at men (b + 16 + 1)))
-knight8 men c b low =
-    knight_by men c ((file b + 2) + 1) ((rank b + 2) + 2) (nat_lt (rank b) 6) (nat_lt (file b) 7) (b + 16 + 1)
-    (grind (arith, nat_tests)) (λ h g. grind (arith, nat_tests, h, g))
-
 two_halves : (h1 h2 h3 h4 h5 h6 h7 h8 : Bool)
     → (h1 || h2 || h3 || h4 || h5 || h6 || h7 || h8) ≡ ((h1 || h2 || h3 || h4) || (h5 || h6 || h7 || h8))
 two_halves h1 h2 h3 h4 h5 h6 h7 h8 = grind arith
@@ -255,12 +189,20 @@ attacked_by_knight_is men c b low =
     ∙ (two_halves (t (f - 1) (r - 2)) (t (f + 1) (r - 2)) (t (f - 2) (r - 1)) (t (f + 2) (r - 1)) (t (f - 2) (r + 1))
     (t (f + 2) (r + 1)) (t (f - 1) (r + 2)) (t (f + 1) (r + 2))
     ∙ rw (
-      knight1 men c b low,
-      knight2 men c b low,
-      knight3 men c b low,
-      knight4 men c b low,
-      knight5 men c b low,
-      knight6 men c b low,
-      knight7 men c b low,
-      knight8 men c b low,
+      knight_by men c (f - 1) (r - 2) (nat_le 2 (rank b)) (nat_le 1 (file b)) (b - 16 - 1) (grind (arith, nat_tests))
+          (λ h g. grind (arith, nat_tests, h, g)),
+      knight_by men c (f + 1) (r - 2) (nat_le 2 (rank b)) (nat_lt (file b) 7) (b - 16 + 1) (grind (arith, nat_tests))
+          (λ h g. grind (arith, nat_tests, h, g)),
+      knight_by men c (f - 2) (r - 1) (nat_le 1 (rank b)) (nat_le 2 (file b)) (b - 8 - 2) (grind (arith, nat_tests))
+          (λ h g. grind (arith, nat_tests, h, g)),
+      knight_by men c (f + 2) (r - 1) (nat_le 1 (rank b)) (nat_lt (file b) 6) (b - 8 + 2) (grind (arith, nat_tests))
+          (λ h g. grind (arith, nat_tests, h, g)),
+      knight_by men c (f - 2) (r + 1) (nat_lt (rank b) 7) (nat_le 2 (file b)) (b + 8 - 2) (grind (arith, nat_tests))
+          (λ h g. grind (arith, nat_tests, h, g)),
+      knight_by men c (f + 2) (r + 1) (nat_lt (rank b) 7) (nat_lt (file b) 6) (b + 8 + 2) (grind (arith, nat_tests))
+          (λ h g. grind (arith, nat_tests, h, g)),
+      knight_by men c (f - 1) (r + 2) (nat_lt (rank b) 6) (nat_le 1 (file b)) (b + 16 - 1) (grind (arith, nat_tests))
+          (λ h g. grind (arith, nat_tests, h, g)),
+      knight_by men c (f + 1) (r + 2) (nat_lt (rank b) 6) (nat_lt (file b) 7) (b + 16 + 1) (grind (arith, nat_tests))
+          (λ h g. grind (arith, nat_tests, h, g)),
     ) refl)

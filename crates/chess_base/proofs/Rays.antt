@@ -1,6 +1,6 @@
 -- The attacks along a line come from the first piece on it.
 use Rattle.std.proofs.Common.{◌≡◌, ℕ, ◌+◌, ◌-◌, ◌<◌, ◌≤◌, ◌⊎◌, inl, inr, Bool, true, false, ◌&&◌, ◌||◌, not, ◌==◌, nat_le, nat_lt, is_none, Option, Some, None, refl, sym, ap, ◌∙◌, arith}
-use Rattle.std.proofs.lemmas.Bool.{and_parts, and_from, and_right, cases_Bool, cases_order, eqb-true, eq-eqb, ltb-true, or_cases}
+use Rattle.std.proofs.lemmas.Bool.{and_parts, and_from, and_right, cases_order, eqb-true, eq-eqb, ltb-true, or_cases}
 use Rattle.std.proofs.Math.Bool.{and-false}
 use Rattle.std.proofs.lemmas.Bool.Decides.{nat_tests}
 use Rattle.std.specs.Int.{abs_diff}
@@ -12,11 +12,11 @@ use Rattle.chess_base.specs.declared.man.Kind.{Kind}
 use Rattle.chess_base.specs.declared.man.Kind.TheVariants.{King, Queen, Rook, Bishop, Knight, Pawn}
 use Rattle.chess_base.specs.declared.man.Man.{Man}
 use Rattle.chess_base.specs.Squares.{file, rank, is_strictly_between, share_rank_or_file, share_diagonal, is_between, is_between_on_file, is_between_on_rank, is_between_on_diagonal, some_square}
-use Rattle.chess_base.specs.Men.{Men, man_at, is_of, is_man, same_colour, same_kind}
+use Rattle.chess_base.specs.Men.{Men, man_at, is_of, is_man, same_kind}
 use Rattle.chess_base.specs.Attacks.{is_clear, is_rank_ahead, could_capture, attacks, is_attacked}
 use Rattle.chess_base.specs.shared.Lines.{same_line}
 use Rattle.chess_base.specs.ties.Lines.{step_of, is_above, is_below, attacked_from, attacked_along_from_above, attacked_along_from_below, attacked_along, attacked_by_knight, attacked_by_knight_from_below, attacked_by_knight_from_above, attacked_from_below, attacked_from_above}
-use Rattle.chess_base.proofs.shared.Squares.{each_square-fails, some_square-at, some_square-none, some_square_same, some_square-or}
+use Rattle.chess_base.proofs.shared.Squares.{each_square-fails, some_square_same, none_passes, one_decides, some_square-or}
 use Rattle.chess_base.proofs.shared.Geometry.{between_on_line, is_clear_back}
 use Rattle.chess_base.proofs.Knights.{attacked_by_knight_is}
 use Rattle.chess_base.proofs.ClearLines.{clear_by, step_fits, step_stays, none_between, rises, line_back, line_on}
@@ -54,22 +54,21 @@ no_knight_on_diagonal : (a b x : ℕ) → is_between_on_diagonal a b x ≡ true
     || ((abs_diff (file a) (file b) == 2) && (abs_diff (rank a) (rank b) == 1))) ≡ false
 unfolding is_between_on_diagonal
 no_knight_on_diagonal a b x e =
-    let last = and_parts _ (is_strictly_between (file a) (file b) (file x)) e in
-    let next = and_parts _ (is_strictly_between (rank a) (rank b) (rank x)) last.0 in
-    let first = and_parts (share_diagonal a x) (share_diagonal x b) next.0 in
+    let last = and_parts _ _ e in
+    let next = and_parts _ _ last.0 in
+    let first = and_parts _ _ next.0 in
     no_knight_alike (abs_diff (file a) (file b)) (abs_diff (rank a) (rank b))
-    (alike (file a) (file x) (file b) (rank a) (rank x) (rank b)
-    (eqb-true (abs_diff (file a) (file x)) (abs_diff (rank a) (rank x)) first.0)
-    (eqb-true (abs_diff (file x) (file b)) (abs_diff (rank x) (rank b)) first.1) next.1 last.1)
+    (alike (file a) (file x) (file b) (rank a) (rank x) (rank b) (eqb-true _ _ first.0)
+    (eqb-true _ _ first.1) next.1 last.1)
 
 no_knight_between : (a b x : ℕ) → is_between a b x ≡ true
     → (((abs_diff (file a) (file b) == 1) && (abs_diff (rank a) (rank b) == 2))
     || ((abs_diff (file a) (file b) == 2) && (abs_diff (rank a) (rank b) == 1))) ≡ false
 unfolding is_between
 no_knight_between a b x e =
-    elim (or_cases _ (is_between_on_diagonal a b x) e) [
+    elim (or_cases _ _ e) [
       | inl straight ↦
-          elim (or_cases (is_between_on_file a b x) (is_between_on_rank a b x) straight) [
+          elim (or_cases _ _ straight) [
             | inl on_file ↦ no_knight_on_file a b x on_file
             | inr on_rank ↦ no_knight_on_rank a b x on_rank
           ]
@@ -128,8 +127,7 @@ hidden_attacks men b k x h e piece (Some y) at = rw at (hidden men y.colour y.ki
 
 hidden_from : (men : Men) (c : Colour) (b k x : ℕ) → x < 64 → is_between k b x ≡ true
     → is_none (man_at men x) ≡ false → attacked_from men c b k ≡ false
-hidden_from men c b k x h e piece =
-    and_right (is_of c (man_at men k)) (attacks men k b) (hidden_attacks men b k x h e piece (man_at men k) refl)
+hidden_from men c b k x h e piece = and_right _ _ (hidden_attacks men b k x h e piece (man_at men k) refl)
 
 -- ---- of the squares that pass a test, only the first piece counts
 
@@ -143,30 +141,18 @@ all_hidden p men c b x k h piece fails (inl empty) = empty_from men c b k empty
 all_hidden p men c b x k h piece fails (inr (inl same)) = rw same fails
 all_hidden p men c b x k h piece fails (inr (inr between)) = hidden_from men c b k x h between piece
 
-guarded : (p q : Bool) → (p ≡ true → q ≡ false) → (p && q) ≡ false
-guarded true q h = h refl
-guarded false q h = refl
-
 pub first_decides : (p : ℕ → Bool) (men : Men) (c : Colour) (b x : ℕ) → x < 64 → p x ≡ true
     → is_none (man_at men x) ≡ false → ((k : ℕ) → k < 64 → p k ≡ true → IsHidden men b x k)
     → attacked_from men c b x ≡ some_square (λ a. p a && attacked_from men c b a)
 first_decides p men c b x h on piece hidden =
-    elim (cases_Bool (attacked_from men c b x)) [
-      | inl passes ↦
-          passes ∙ sym (some_square-at (λ a. p a && attacked_from men c b a) x h
-          (and_from (p x) (attacked_from men c b x) on passes))
-      | inr fails ↦
-          fails ∙ sym (some_square-none (λ a. p a && attacked_from men c b a)
-          (λ k low. guarded (p k) (attacked_from men c b k)
-          (λ e. all_hidden p men c b x k h piece fails (hidden k low e))))
-    ]
+    one_decides p (λ a. attacked_from men c b a) x h on
+    (λ k low e fails. all_hidden p men c b x k h piece fails (hidden k low e))
 
 pub none_decides : (p : ℕ → Bool) (men : Men) (c : Colour) (b : ℕ)
     → ((k : ℕ) → k < 64 → p k ≡ true → is_none (man_at men k) ≡ true)
     → false ≡ some_square (λ a. p a && attacked_from men c b a)
 none_decides p men c b empty =
-    sym (some_square-none (λ a. p a && attacked_from men c b a)
-    (λ k low. guarded (p k) (attacked_from men c b k) (λ e. empty_from men c b k (empty k low e))))
+    sym (none_passes p (λ a. attacked_from men c b a) (λ k low e. empty_from men c b k (empty k low e)))
 
 -- ---- up a line
 
@@ -180,7 +166,7 @@ pub record HasRisen (men : Men) (l : Line) (b end n : ℕ) : Type 0 where
 -- b and n are on one line
 line_of_rise : (men : Men) (l : Line) (b end n : ℕ) → same_line l b end ≡ true → HasRisen men l b end n
     → same_line l b n ≡ true
-line_of_rise men l b end n on w = line_on l b end n on (line_back l n end w.on)
+line_of_rise men l b end n on w = line_on _ _ _ _ on (line_back _ _ _ w.on)
 
 -- what is on the line above b, but before the next square, is empty
 before_next : (men : Men) (l : Line) (b end n : ℕ) → same_line l b end ≡ true → HasRisen men l b end n → n < end
@@ -194,7 +180,7 @@ before_next men l b end n on w more in_board k above below e =
             | inl less ↦ w.empty k above (omega (arith, less)) e
             | inr past ↦
                 absurd (none_between l n k past below (omega (arith, fit))
-                (line_on l n b k (line_back l b n (line_of_rise men l b end n on w)) e))
+                (line_on _ _ _ _ (line_back _ _ _ (line_of_rise men l b end n on w)) e))
           ]
     ]
 
@@ -207,16 +193,15 @@ inside_rising k b x h g = grind (arith, nat_tests)
 hides : (l : Line) (k b x : ℕ) → same_line l b k ≡ true → same_line l b x ≡ true → is_strictly_between k b x ≡ true
     → is_between k b x ≡ true
 hides l k b x e f inside =
-    let back = line_back l b k e in
-    between_on_line l k b x back
-    ∙ and_from (same_line l k x) (is_strictly_between k b x) (line_on l k b x back f) inside
+    let back = line_back _ _ _ e in
+    between_on_line l k b x back ∙ and_from _ _ (line_on _ _ _ _ back f) inside
 
 above_parts : (l : Line) (b k : ℕ) → is_above l b k ≡ true → (same_line l b k ≡ true) × (b < k)
 above_parts l b k e =
-    let both = and_parts (same_line l b k) (nat_lt b k) e in (both.0, ltb-true b k both.1)
+    let both = and_parts _ _ e in (both.0, ltb-true _ _ both.1)
 
 above_from : (l : Line) (b k : ℕ) → same_line l b k ≡ true → b < k → is_above l b k ≡ true
-above_from l b k e h = and_from (same_line l b k) (nat_lt b k) e (grind (arith, nat_tests))
+above_from l b k e h = and_from _ _ e (grind (arith, nat_tests))
 
 hidden_by_first : (men : Men) (l : Line) (b end n : ℕ) → same_line l b end ≡ true → HasRisen men l b end n → n < end
     → end < 64 → same_line l b (n + step_of l) ≡ true → (k : ℕ) → b < k → same_line l b k ≡ true
@@ -241,7 +226,7 @@ rise_stops men l c b end n on w more in_board piece =
     let fit = step_fits l n end more in_board w.on in
     let far = rises l n in
     let there : same_line l b (n + step_of l) ≡ true =
-    line_on l b end (n + step_of l) on (line_back l (n + step_of l) end (step_stays l n end more in_board w.on)) in
+    line_on _ _ _ _ on (line_back _ _ _ (step_stays l n end more in_board w.on)) in
     first_decides (λ a. is_above l b a) men c b (n + step_of l) (omega (arith, fit, in_board))
     (above_from l b (n + step_of l) there (omega (arith, far, w.begun))) piece
     (λ k low e.
@@ -254,7 +239,7 @@ rise_clear men l b end n on w more in_board =
     let far = rises l n in
     is_clear_back men (n + step_of l) b
     ∙ clear_by men l b (n + step_of l) (omega (arith, far, w.begun))
-    (line_on l b end (n + step_of l) on (line_back l (n + step_of l) end (step_stays l n end more in_board w.on)))
+    (line_on _ _ _ _ on (line_back _ _ _ (step_stays l n end more in_board w.on)))
     (λ k above below e. before_next men l b end n on w more in_board k above below e)
 
 pub rise_ends : (men : Men) (l : Line) (c : Colour) (b end n : ℕ) → HasRisen men l b end n → end ≤ n
@@ -278,19 +263,19 @@ pub record HasFallen (men : Men) (l : Line) (b end n : ℕ) : Type 0 where
 -- the square before one that is above `end` is on the line
 step_back_stays : (l : Line) (e x : ℕ) → e < x → x < 64 → same_line l e x ≡ true → same_line l e (x - step_of l) ≡ true
 step_back_stays Rank e x h low on =
-    let same = eqb-true (rank e) (rank x) on in eq-eqb (rank e) (rank (x - 1)) (omega (arith, same))
+    let same = eqb-true _ _ on in eq-eqb _ _ (omega (arith, same))
 step_back_stays File e x h low on =
-    let same = eqb-true (file e) (file x) on in eq-eqb (file e) (file (x - 8)) (omega (arith, same))
+    let same = eqb-true _ _ on in eq-eqb _ _ (omega (arith, same))
 step_back_stays Diagonal e x h low on =
-    let same = eqb-true (rank e + 7 - file e) (rank x + 7 - file x) on in
-    eq-eqb (rank e + 7 - file e) (rank (x - 9) + 7 - file (x - 9)) (omega (arith, same))
+    let same = eqb-true _ _ on in
+    eq-eqb _ _ (omega (arith, same))
 step_back_stays Antidiagonal e x h low on =
-    let same = eqb-true (rank e + file e) (rank x + file x) on in
-    eq-eqb (rank e + file e) (rank (x - 7) + file (x - 7)) (omega (arith, same))
+    let same = eqb-true _ _ on in
+    eq-eqb _ _ (omega (arith, same))
 
 line_of_fall : (men : Men) (l : Line) (b end n : ℕ) → same_line l b end ≡ true → HasFallen men l b end n
     → same_line l b n ≡ true
-line_of_fall men l b end n on w = line_on l b end n on w.on
+line_of_fall men l b end n on w = line_on _ _ _ _ on w.on
 
 -- what is on the line below b, but above the next square, is empty
 above_next : (men : Men) (l : Line) (b end n : ℕ) → b < 64 → same_line l b end ≡ true → HasFallen men l b end n
@@ -302,7 +287,7 @@ above_next men l b end n in_board on w k below above e =
           elim apart [
             | inl less ↦
                 absurd (none_between l k n less above (omega (arith, w.begun, in_board))
-                (line_on l k b n (line_back l b k e) (line_of_fall men l b end n on w)))
+                (line_on _ _ _ _ (line_back _ _ _ e) (line_of_fall men l b end n on w)))
             | inr past ↦ w.empty k below (omega (arith, past)) e
           ]
     ]
@@ -312,10 +297,10 @@ fall_fits men l b end n in_board w more = step_fits l end n more (omega (arith, 
 
 below_parts : (l : Line) (b k : ℕ) → is_below l b k ≡ true → (same_line l b k ≡ true) × (k < b)
 below_parts l b k e =
-    let both = and_parts (same_line l b k) (nat_lt k b) e in (both.0, ltb-true k b both.1)
+    let both = and_parts _ _ e in (both.0, ltb-true _ _ both.1)
 
 below_from : (l : Line) (b k : ℕ) → same_line l b k ≡ true → k < b → is_below l b k ≡ true
-below_from l b k e h = and_from (same_line l b k) (nat_lt k b) e (grind (arith, nat_tests))
+below_from l b k e h = and_from _ _ e (grind (arith, nat_tests))
 
 beyond_first : (men : Men) (l : Line) (b end n x : ℕ) → b < 64 → same_line l b end ≡ true → HasFallen men l b end n
     → x + step_of l ≡ n → same_line l b x ≡ true → (k : ℕ) → k < b → same_line l b k ≡ true → IsHidden men b x k
@@ -340,7 +325,7 @@ fall_stops men l c b end n in_board on w more piece =
     let next : (n - step_of l) + step_of l ≡ n = omega (arith, fit) in
     let far = rises l (n - step_of l) in
     let there : same_line l b (n - step_of l) ≡ true =
-    line_on l b end (n - step_of l) on (step_back_stays l end n more (omega (arith, w.begun, in_board)) w.on) in
+    line_on _ _ _ _ on (step_back_stays l end n more (omega (arith, w.begun, in_board)) w.on) in
     first_decides (λ a. is_below l b a) men c b (n - step_of l) (omega (arith, w.begun, in_board))
     (below_from l b (n - step_of l) there (omega (arith, far, next, w.begun))) piece
     (λ k low e.
@@ -355,11 +340,9 @@ fall_clear men l b end n in_board on w more =
     let next : (n - step_of l) + step_of l ≡ n = omega (arith, fit) in
     let far = rises l (n - step_of l) in
     let there : same_line l b (n - step_of l) ≡ true =
-    line_on l b end (n - step_of l) on (step_back_stays l end n more (omega (arith, w.begun, in_board)) w.on) in
-    clear_by men l (n - step_of l) b (omega (arith, far, next, w.begun)) (line_back l b (n - step_of l) there)
-    (λ k above below e.
-    above_next men l b end n in_board on w k below (omega (arith, above, next))
-    (line_on l b (n - step_of l) k there e))
+    line_on _ _ _ _ on (step_back_stays l end n more (omega (arith, w.begun, in_board)) w.on) in
+    clear_by men l (n - step_of l) b (omega (arith, far, next, w.begun)) (line_back _ _ _ there) (λ k above below e.
+    above_next men l b end n in_board on w k below (omega (arith, above, next)) (line_on _ _ _ _ there e))
 
 pub fall_ends : (men : Men) (l : Line) (c : Colour) (b end n : ℕ) → HasFallen men l b end n → n ≤ end
     → ((k : ℕ) → k < 64 → same_line l b k ≡ true → end ≤ k) → false ≡ attacked_along_from_below men l c b
@@ -388,8 +371,7 @@ no_attack_itself men b None at = rw at refl
 no_attack_itself men b (Some y) at = rw at (attacks_itself men y.colour y.kind b)
 
 itself_from : (men : Men) (c : Colour) (b : ℕ) → attacked_from men c b b ≡ false
-itself_from men c b =
-    and_right (is_of c (man_at men b)) (attacks men b b) (no_attack_itself men b (man_at men b) refl)
+itself_from men c b = and_right _ _ (no_attack_itself men b (man_at men b) refl)
 
 above_or_below : (e : Bool) (b k : ℕ) (s : Bool) → (b ≡ k → s ≡ false)
     → (e && s) ≡ ((e && nat_lt b k && s) || (e && nat_lt k b && s))
@@ -425,7 +407,7 @@ diagonal_line a b e = grind (arith, nat_tests, e)
 
 either_line : (a b : ℕ) → (share_rank_or_file a b || share_diagonal a b) ≡ true → on_some_line a b ≡ true
 either_line a b e =
-    elim (or_cases (share_rank_or_file a b) (share_diagonal a b) e) [
+    elim (or_cases _ _ e) [
       | inl straight ↦ straight_line a b straight
       | inr diagonal ↦ diagonal_line a b diagonal
     ]
@@ -440,22 +422,17 @@ pawn_line White a b e = grind (arith, nat_tests, e)
 pawn_line Black a b e = grind (arith, nat_tests, e)
 
 middle : (p q r : Bool) → (p && q && r) ≡ true → q ≡ true
-middle p q r e = (and_parts p q (and_parts (p && q) r e).0).1
+middle p q r e = (and_parts _ _ (and_parts _ _ e).0).1
 
 -- what captures goes along a line, or is a knight
 lined : (men : Men) (d : Colour) (k : Kind) (a b : ℕ) → could_capture men d k a b ≡ true
     → (on_some_line a b ≡ true) ⊎ ((same_kind Knight k ≡ true) × (could_capture men d Knight a b ≡ true))
 unfolding could_capture
 lined men d King a b e =
-    inl (either_line a b (king_line a b
-    (middle (not (a == b)) (nat_le (abs_diff (file a) (file b)) 1) (nat_le (abs_diff (rank a) (rank b)) 1) e)
-    (and_parts _ (nat_le (abs_diff (rank a) (rank b)) 1) e).1))
-lined men d Queen a b e =
-    inl (either_line a b (middle (not (a == b)) (share_rank_or_file a b || share_diagonal a b) (is_clear men a b) e))
-lined men d Rook a b e =
-    inl (straight_line a b (middle (not (a == b)) (share_rank_or_file a b) (is_clear men a b) e))
-lined men d Bishop a b e =
-    inl (diagonal_line a b (middle (not (a == b)) (share_diagonal a b) (is_clear men a b) e))
+    inl (either_line a b (king_line a b (middle _ _ _ e) (and_parts _ _ e).1))
+lined men d Queen a b e = inl (either_line a b (middle _ _ _ e))
+lined men d Rook a b e = inl (straight_line a b (middle _ _ _ e))
+lined men d Bishop a b e = inl (diagonal_line a b (middle _ _ _ e))
 lined men d Knight a b e = inr (refl, e)
 lined men d Pawn a b e = inl (diagonal_line a b (pawn_line d a b e))
 
@@ -468,12 +445,11 @@ lined_of : (men : Men) (c : Colour) (a b : ℕ) (o : Option Man) → man_at men 
 unfolding is_of is_man attacks could_capture
 lined_of men c a b None at e = let none = rw at at e in cc
 lined_of men c a b (Some x) at e =
-    let both = and_parts (same_colour c x.colour) (could_capture men x.colour x.kind a b) (rw at at e) in
+    let both = and_parts _ _ (rw at at e) in
     elim (lined men x.colour x.kind a b both.1) [
       | inl line ↦ inl line
       | inr knight ↦
-          inr (rw at (and_from (same_colour c x.colour && same_kind Knight x.kind) (could_capture men c Knight a b)
-          (and_from (same_colour c x.colour) (same_kind Knight x.kind) both.0 knight.0) knight.1))
+          inr (rw at (and_from _ _ (and_from _ _ both.0 knight.0) knight.1))
     ]
 
 knight_by : (men : Men) (c d : Colour) (k : Kind) (a b : ℕ) → same_kind Knight k ≡ true
@@ -491,11 +467,9 @@ knight_of : (men : Men) (c : Colour) (a b : ℕ) (o : Option Man) → man_at men
 unfolding is_of is_man attacks
 knight_of men c a b None at e = let none = rw at at e in cc
 knight_of men c a b (Some x) at e =
-    let both = and_parts (same_colour c x.colour && same_kind Knight x.kind) (could_capture men c Knight a b)
-    (rw at at e) in
-    let man = and_parts (same_colour c x.colour) (same_kind Knight x.kind) both.0 in
-    rw at (and_from (same_colour c x.colour) (could_capture men x.colour x.kind a b) man.0
-    (knight_by men c x.colour x.kind a b man.1 both.1))
+    let both = and_parts _ _ (rw at at e) in
+    let man = and_parts _ _ both.0 in
+    rw at (and_from _ _ man.0 (knight_by men c x.colour x.kind a b man.1 both.1))
 
 ways : (f r d t k s : Bool) → (s ≡ true → ((f || r || d || t) ≡ true) ⊎ (k ≡ true)) → (k ≡ true → s ≡ true)
     → s ≡ ((f && s) || (r && s) || (d && s) || (t && s) || k)

@@ -1,5 +1,5 @@
 -- What a piece reaches along a line on which nothing stands between.
-use Rattle.std.proofs.Common.{◌≡◌, ◌≢◌, ℕ, ◌+◌, ◌-◌, ◌*◌, ◌<◌, Bool, true, false, ◌&&◌, ◌||◌, not, ◌==◌, nat_le, Option, Some, None, refl, sym, ap, ◌∙◌, arith}
+use Rattle.std.proofs.Common.{◌≡◌, ◌≢◌, ℕ, ◌+◌, ◌*◌, ◌<◌, Bool, true, false, ◌&&◌, ◌||◌, not, ◌==◌, nat_le, Option, Some, None, refl, sym, ap, ◌∙◌, arith}
 use Rattle.std.proofs.lemmas.Bool.{eqb-true, ne_eqb}
 use Rattle.std.proofs.lemmas.Bool.Decides.{nat_tests}
 use Rattle.std.specs.Int.{abs_diff}
@@ -45,16 +45,16 @@ next_to : (l : Line) (a b : ℕ) → same_line l b a ≡ true
     && not (8 * rank a + file a == 8 * rank b + file b))
     ≡ (abs_diff (8 * rank a + file a) (8 * rank b + file b) == step_of l)
 next_to Rank a b e =
-    let n = eqb-true (rank b) (rank a) e in
+    let n = eqb-true _ _ e in
     rank_king (file a) (file b) (rank a) (rank b) (omega arith) (omega arith) (sym n)
 next_to File a b e =
-    let n = eqb-true (file b) (file a) e in
+    let n = eqb-true _ _ e in
     file_king (file a) (file b) (rank a) (rank b) (sym n)
 next_to Diagonal a b e =
-    let n = eqb-true (rank b + 7 - file b) (rank a + 7 - file a) e in
+    let n = eqb-true _ _ e in
     diagonal_king (file a) (file b) (rank a) (rank b) (omega (arith, n))
 next_to Antidiagonal a b e =
-    let n = eqb-true (rank b + file b) (rank a + file a) e in
+    let n = eqb-true _ _ e in
     antidiagonal_king (file a) (file b) (rank a) (rank b) (sym n)
 
 straight_is : (l : Line) (a b : ℕ) → a ≢ b → same_line l b a ≡ true → share_rank_or_file a b ≡ is_straight l
@@ -95,13 +95,13 @@ captures_is men l c King a b n on clear =
     ∙ rw (by_parts a, by_parts b) at (next_to l a b on)
 captures_is men l c Queen a b n on clear =
     all_three (not (a == b)) (share_rank_or_file a b || share_diagonal a b) (is_clear men a b) true
-    (ap not (ne_eqb a b n)) (rw (straight_is l a b n on, diagonal_is l a b n on) (either_way (is_straight l))) clear
+    (ap not (ne_eqb _ _ n)) (rw (straight_is l a b n on, diagonal_is l a b n on) (either_way (is_straight l))) clear
 captures_is men l c Rook a b n on clear =
     all_three (not (a == b)) (share_rank_or_file a b) (is_clear men a b) (is_straight l)
-    (ap not (ne_eqb a b n)) (straight_is l a b n on) clear
+    (ap not (ne_eqb _ _ n)) (straight_is l a b n on) clear
 captures_is men l c Bishop a b n on clear =
     all_three (not (a == b)) (share_diagonal a b) (is_clear men a b) (not (is_straight l))
-    (ap not (ne_eqb a b n)) (diagonal_is l a b n on) clear
+    (ap not (ne_eqb _ _ n)) (diagonal_is l a b n on) clear
 captures_is men l c Knight a b n on clear = no_knight l a b on
 captures_is men l c Pawn a b n on clear = refl
 

@@ -1,5 +1,5 @@
 -- The reserve after a legal move: it never grows, and a capture or a pawn move lowers it.
-use Rattle.std.proofs.Common.{◌≡◌, ◌≢◌, ℕ, ◌+◌, ◌<◌, ◌≤◌, ◌⊎◌, inl, inr, length, get_or, set, Bool, false, true, ◌||◌, not, cond, min, Option, None, Some, is_none, arith, refl, sym, ◌∙◌, length-set, get_or-set_other, get_or-set_same, ◌==◌}
+use Rattle.std.proofs.Common.{◌≡◌, ◌≢◌, ℕ, ◌+◌, ◌<◌, ◌≤◌, ◌⊎◌, inl, inr, length, set, Bool, false, true, ◌||◌, cond, min, Option, None, Some, is_none, arith, refl, sym, ◌∙◌, length-set, get_or-set_other, get_or-set_same, ◌==◌}
 use Rattle.std.specs.Prelude.{sum}
 use Rattle.std.proofs.lemmas.Bool.{and_parts, or_cases, or_parts, or_left, or_right, both_ways, cases_eq, cond_both, eq-eqb, not-true}
 use Rattle.std.proofs.lemmas.List.{ext_get_or}
@@ -7,27 +7,26 @@ use Rattle.std.proofs.lemmas.List.Sums.{sum_by-set}
 use Rattle.chess_base.specs.declared.man.Colour.{Colour}
 use Rattle.chess_base.specs.declared.man.Colour.TheVariants.{White, Black}
 use Rattle.chess_base.specs.declared.man.Kind.{Kind}
-use Rattle.chess_base.specs.declared.man.Kind.TheVariants.{King, Rook, Pawn}
+use Rattle.chess_base.specs.declared.man.Kind.TheVariants.{Pawn}
 use Rattle.chess_base.specs.declared.man.Man.{Man}
 use Rattle.chess_base.specs.declared.man.Move.{Move}
 use Rattle.chess_base.specs.declared.castling.Castle.{Castle}
 use Rattle.chess_base.specs.declared.setup.Setup.{Setup}
 use Rattle.chess_base.specs.Squares.{rank, from_below}
 use Rattle.chess_base.specs.Men.{Men, man_at, other, is_of, is_man, same_colour, same_kind, forward, pawn_rank}
-use Rattle.chess_base.specs.Attacks.{is_rank_ahead, is_in_check}
+use Rattle.chess_base.specs.Attacks.{is_rank_ahead}
 use Rattle.chess_base.specs.Sound.{IsSound, no_pawn_on_end_ranks, pawn_is_allowed}
 use Rattle.chess_base.specs.Castling.{castle_from, mover_end, castles}
-use Rattle.chess_base.specs.Moves.{arriving_man, man_moves, is_pseudo_legal, is_legal, men_after, halfmove_after, resets_clock, after}
+use Rattle.chess_base.specs.Moves.{arriving_man, man_moves, is_legal, men_after, halfmove_after, resets_clock, after}
 use Rattle.chess_base.specs.laws.Reserve.{ranks_to_go, weight, reserve}
 use Rattle.chess_base.proofs.shared.Squares.{each_square-at, length-from_below, get_or-from_below}
-use Rattle.chess_base.proofs.shared.Men.{same_colour-true, is_of-from_is_man, is_man-kind, is_none-None, in_board}
+use Rattle.chess_base.proofs.shared.Men.{same_colour-true, is_of-from_is_man, is_man-kind, is_none-None}
 use Rattle.chess_base.proofs.shared.MoveKinds.{is_of-mover, Moves, MoveKind, ManMoves, Castles, PawnMoves, PawnKind, Advances, Captures, TakesEnPassant}
-use Rattle.chess_base.proofs.shared.Changes.{Change, Rest, Alone, WithCapture, WithRook, pawn_attack, pawn_no_castling, rank_ahead_White, rank_ahead_Black, advance_goes}
+use Rattle.chess_base.proofs.shared.Changes.{Change, pawn_attack, pawn_no_castling, rank_ahead_White, rank_ahead_Black, advance_goes}
 use Rattle.chess_base.proofs.shared.Captures.{resets_clock_is}
 use Rattle.chess_base.proofs.shared.Castling.{says_from_castling, castling_says, lands_on_to}
 use Rattle.chess_base.proofs.CastlingChange.{change_of}
-use Rattle.chess_base.proofs.CountsAfter.{castled_rook, apart_by, from_apart}
-use Rattle.chess_base.proofs.shared.Writes.{written, men_after-written}
+use Rattle.chess_base.proofs.CountsAfter.{CountsAs, CountAlone, CountCapture, CountCastled, IsSum, counts_by}
 
 -- a write to one square
 
@@ -103,9 +102,9 @@ weight-lands : (c : Colour) (s : ℕ) (o : Option Man) (k : Option Kind) → is_
     → weight s (arriving_man o k) ≤ 1 + ranks_to_go c s
 unfolding is_of
 weight-lands c s None k e = cc
-weight-lands c s (Some x) None e = rw (same_colour-true c x.colour e) (weight-at_most s x)
+weight-lands c s (Some x) None e = rw (same_colour-true _ _ e) (weight-at_most s x)
 weight-lands c s (Some x) (Some k) e =
-    rw (same_colour-true c x.colour e) (weight-at_most s (record { colour = x.colour; kind = k }))
+    rw (same_colour-true _ _ e) (weight-at_most s (record { colour = x.colour; kind = k }))
 
 -- what the mover and a piece that it takes on the end square weighed goes, and what lands comes
 
@@ -131,58 +130,24 @@ Spends p m =
     m.to (man_at p.men m.to)
     ≤ reserve p.men + weight (mover_end p m) (arriving_man (man_at p.men m.from) m.promotion)
 
-spends_by : (p : Setup) (m : Move) → length p.men ≡ 64 → Change p m → Rest p m → Spends p m
+reserved : IsSum reserve weight
+reserved = record { none = λ s. refl; write = reserve-set }
+
+spends_by : (p : Setup) (m : Move) → CountsAs reserve weight p m → Spends p m
 unfolding Spends
-spends_by p m l h (Alone walk al ra) =
-    let v = arriving_man (man_at p.men m.from) m.promotion in
-    let list : men_after p m ≡ written p m = men_after-written p m l in
-    let list' : men_after p m ≡ set (set p.men m.from None) m.to v = rw (al, ra, walk.lands) at list in
-    let l1 = length-set p.men m.from None ∙ l in
-    let one = reserve-set p.men m.from None l h.moves.from_in in
-    let two = reserve-set (set p.men m.from None) m.to v l1 h.moves.to_in in
-    let at_to : get_or (set p.men m.from None) m.to None ≡ man_at p.men m.to =
-    get_or-set_other p.men m.from m.to None None (from_apart p m h.moves walk) in
-    let two' = rw at_to at two in
+spends_by p m (CountAlone walk e) =
     let most = taken_at_most (is_of (other p.side) (man_at p.men m.to)) m.to (man_at p.men m.to) in
-    rw (walk.lands, list') (omega (arith, one, two', most))
-spends_by p m l h (WithCapture walk e al ra pawn to_empty mover) =
-    let v = arriving_man (man_at p.men m.from) m.promotion in
-    let one_gone = set p.men m.from None in
-    let list : men_after p m ≡ written p m = men_after-written p m l in
-    let list' : men_after p m ≡ set (set one_gone e None) m.to v = rw (al, ra, walk.lands) at list in
-    let l1 = length-set p.men m.from None ∙ l in
-    let l2 = length-set one_gone e None ∙ l1 in
-    let one = reserve-set p.men m.from None l h.moves.from_in in
-    let two = reserve-set one_gone e None l1 (in_board p.men (other p.side) Pawn e l pawn) in
-    let three = reserve-set (set one_gone e None) m.to v l2 h.moves.to_in in
-    let nothing = weight-none m.to (man_at p.men m.to) to_empty in
+    rw walk.lands (omega (arith, e, most))
+spends_by p m (CountCapture walk s pawn e) =
     let most = taken_at_most (is_of (other p.side) (man_at p.men m.to)) m.to (man_at p.men m.to) in
-    rw (walk.lands, list') (omega (arith, one, two, three, nothing, most))
-spends_by p m l h (WithRook e r al ra rook to_free r_free r_to king r_in to_in no_enemy) =
-    let v = arriving_man (man_at p.men m.from) m.promotion in
-    let one_gone = set p.men m.from None in
-    let both_gone = set one_gone e None in
-    let list : men_after p m ≡ written p m = men_after-written p m l in
-    let list' : men_after p m ≡ set (set both_gone r (castled_rook p.side)) (mover_end p m) v = rw (al, ra) at list in
-    let l1 = length-set p.men m.from None ∙ l in
-    let l2 = length-set one_gone e None ∙ l1 in
-    let l3 = length-set both_gone r (castled_rook p.side) ∙ l2 in
-    let e_in = in_board p.men p.side Rook e l rook in
-    let e_from : e ≢ m.from = apart_by (λ o. is_man p.side Rook o) p.men e m.from rook
-    (is_man-kind p.side p.side King Rook (man_at p.men m.from) refl king) in
-    let at_e : get_or one_gone e None ≡ man_at p.men e = get_or-set_other p.men m.from e None None e_from in
-    let one = reserve-set p.men m.from None l h.moves.from_in in
-    let two = rw at_e at (reserve-set one_gone e None l1 e_in) in
-    let three = reserve-set both_gone r (castled_rook p.side) l2 r_in in
-    let four = reserve-set (set both_gone r (castled_rook p.side)) (mover_end p m) v l3 to_in in
-    let left = weight-no_pawn p.side e (man_at p.men e) (is_of-from_is_man p.side Rook (man_at p.men e) rook)
-    (is_man-kind p.side p.side Rook Pawn (man_at p.men e) refl rook) in
-    let none : taken_by (is_of (other p.side) (man_at p.men m.to)) m.to (man_at p.men m.to) ≡ 0 =
-    none_taken m.to (man_at p.men m.to) (is_of (other p.side) (man_at p.men m.to)) no_enemy in
-    rw list' (omega (arith, one, two, three, four, left, none))
+    rw walk.lands (omega (arith, e, most))
+spends_by p m (CountCastled s r rook no_enemy e) =
+    let left = weight-no_pawn p.side s (man_at p.men s) (is_of-from_is_man _ _ _ rook) (is_man-kind _ _ _ _ _ refl rook) in
+    let none = none_taken m.to (man_at p.men m.to) (is_of (other p.side) (man_at p.men m.to)) no_enemy in
+    omega (arith, e, left, none)
 
 spends : (p : Setup) (m : Move) → IsSound p → Change p m → Spends p m
-spends p m sound h = spends_by p m sound.board h h.rest
+spends p m sound h = spends_by p m (counts_by reserve weight reserved p m sound.board h h.rest)
 
 -- a pawn goes ahead
 
@@ -192,8 +157,8 @@ unfolding pawn_is_allowed
 pawn_off_ends_at men c s man e =
     let pawn : (is_man White Pawn (man_at men s) || is_man Black Pawn (man_at men s)) ≡ true = of_some_colour c man in
     let e' : ((rank s == 0) || (rank s == 7)) ≡ false = rw pawn at (not-true _ e) in (
-      (λ r. both_ways (rank s == 0) (or_parts (rank s == 0) (rank s == 7) e').0 (eq-eqb (rank s) 0 r)),
-      (λ r. both_ways (rank s == 7) (or_parts (rank s == 0) (rank s == 7) e').1 (eq-eqb (rank s) 7 r)),
+      (λ r. both_ways _ (or_parts _ _ e').0 (eq-eqb _ _ r)),
+      (λ r. both_ways _ (or_parts _ _ e').1 (eq-eqb _ _ r)),
     )
   where
     of_some_colour : (d : Colour) → is_man d Pawn (man_at men s) ≡ true
@@ -243,7 +208,7 @@ man_lands p m moves n e =
     let before = weight-no_pawn p.side m.from (Some moves.mover) own' n' in
     let after' = weight-no_pawn p.side (mover_end p m) (Some moves.mover) own' n' in
     let same : arriving_man (man_at p.men m.from) m.promotion ≡ Some moves.mover =
-    rw (moves.at_from, is_none-None m.promotion e) refl in
+    rw (moves.at_from, is_none-None _ e) refl in
     rw (same, moves.at_from) (omega (arith, before, after'))
 
 pawn_lands : (p : Setup) (m : Move) → IsSound p → Moves p m → is_man p.side Pawn (man_at p.men m.from) ≡ true
@@ -263,9 +228,8 @@ lands_by : (p : Setup) (m : Move) → IsSound p → Moves p m → MoveKind p m �
 unfolding man_moves Lands
 lands_by p m sound moves (ManMoves n c e) = man_lands p m moves n (and_parts _ _ (and_parts _ _ e).0).0
 lands_by p m sound moves (Castles w r c at e) =
-    let king = (castling_says p m w (says_from_castling p m w c)).0 in
-    man_lands p m moves (is_man-kind p.side p.side King Pawn (man_at p.men m.from) refl king)
-    (castles_plainly p m (castle_from p.side w m.from r) e)
+    let king = (castling_says _ _ _ (says_from_castling _ _ _ c)).0 in
+    man_lands p m moves (is_man-kind _ _ _ _ _ refl king) (castles_plainly p m (castle_from p.side w m.from r) e)
 lands_by p m sound moves (PawnMoves man fits kind) = let less = pawn_lands p m sound moves man kind in omega arith
 
 -- the laws
@@ -273,7 +237,7 @@ lands_by p m sound moves (PawnMoves man fits kind) = let less = pawn_lands p m s
 pub never_grows : (p : Setup) (m : Move) → IsSound p → is_legal p m ≡ true → reserve (after p m).men ≤ reserve p.men
 unfolding is_legal after Spends Lands
 never_grows p m sound legal =
-    let h = change_of p m sound (and_parts (is_pseudo_legal p m) (not (is_in_check (men_after p m) p.side)) legal).0 in
+    let h = change_of p m sound (and_parts _ _ legal).0 in
     let spent = spends p m sound h in
     let lands = lands_by p m sound h.moves h.moves.kind in
     omega (arith, spent, lands)
@@ -283,8 +247,7 @@ pawn_falls : (p : Setup) (m : Move) → IsSound p → Change p m → is_man p.si
 unfolding Spends
 pawn_falls p m sound h man (ManMoves n c e) = absurd (both_ways _ n man)
 pawn_falls p m sound h man (Castles w r c at e) =
-    absurd (both_ways _ (is_man-kind p.side p.side King Pawn (man_at p.men m.from) refl
-    (castling_says p m w (says_from_castling p m w c)).0) man)
+    absurd (both_ways _ (is_man-kind _ _ _ _ _ refl (castling_says _ _ _ (says_from_castling _ _ _ c)).0) man)
 pawn_falls p m sound h man (PawnMoves man' fits kind) =
     let spent = spends p m sound h in
     let lands = pawn_lands p m sound h.moves man kind in
@@ -313,9 +276,8 @@ pub falls_for_good : (p : Setup) (m : Move) → IsSound p → is_legal p m ≡ t
 unfolding is_legal after
 falls_for_good p m sound legal e =
     let reset = sym (resets_clock_is p m) ∙ clock_was_reset p m e in
-    let h = change_of p m sound (and_parts (is_pseudo_legal p m) (not (is_in_check (men_after p m) p.side)) legal).0 in
-    elim (or_cases (is_man p.side Pawn (man_at p.men m.from)) (is_of (other p.side) (man_at p.men m.to))
-    reset) [
+    let h = change_of p m sound (and_parts _ _ legal).0 in
+    elim (or_cases _ _ reset) [
       | inl man ↦ pawn_falls p m sound h man h.moves.kind
       | inr taken ↦ capture_falls p m sound h taken
     ]

@@ -1,5 +1,4 @@
 -- What only joins code to the definitions: no claim rests on it.
 pub mod Lines
-pub mod KingSearch
 pub mod Tallies
 pub mod MoveTexts

@@ -8,7 +8,7 @@ ghost use Rattle.chess_base.specs.Moves.{arriving_man, second_square_emptied, st
 use crate::attack::{is_man, is_of};
 use crate::castling::{castle_of, mover_to, right_of, rook_from, rook_to};
 use crate::man::{CastlingSide, Colour, ColourRights, Kind, Man, Move, Rights};
-use crate::pawns::{forward, is_double_advance, is_en_passant};
+use crate::pawns::{forward, is_double_advance, is_en_passant, one_rank_back};
 use crate::setup::{COUNTER_LIMIT, Setup};
 use crate::square::Square;
 use crate::steps::{Steps, take_steps};
@@ -36,8 +36,7 @@ pub fn second_square_emptied(setup: &Setup, m: &Move) -> Option<Square>
     ensures { result ≡ second_square_emptied setup.now m.now }
 {
     if is_en_passant(setup, m) {
-        let one_back = forward(setup.side.other(), m.to.number());
-        return Some(Square::new(one_back));
+        return Some(one_rank_back(setup.side, m.to));
     }
     rook_from(&castle_of(setup, m))
 }

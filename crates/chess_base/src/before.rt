@@ -12,7 +12,7 @@ use crate::castling::{
     Castle, castle_by, castled_king_file, home_square, mover_to, names_castling, right_of, rook_to,
 };
 use crate::man::{CastlingSide, Colour, Kind, Man, Move, Variant};
-use crate::pawns::{forward, is_en_passant};
+use crate::pawns::{is_en_passant, one_rank_back};
 use crate::setup::{Saved, Setup};
 use crate::square::{Square, is_square};
 use crate::steps::Steps;
@@ -25,8 +25,7 @@ fn captured_square(setup: &Setup, m: &Move) -> Option<Square>
     ensures { result ≡ captured_square setup.now m.now }
 {
     if is_en_passant(setup, m) {
-        let one_back = forward(setup.side.other(), m.to.number());
-        Some(Square::new(one_back))
+        Some(one_rank_back(setup.side, m.to))
     } else if is_of(setup.side.other(), setup.men[m.to.index()]) {
         Some(m.to)
     } else {
@@ -65,8 +64,7 @@ fn captured_from(colour: Colour, m: &Move, saved: &Saved) -> Option<Square>
     if saved.captured.is_none() {
         None
     } else if is_square(saved.target, m.to) {
-        let one_back = forward(colour.other(), m.to.number());
-        Some(Square::new(one_back))
+        Some(one_rank_back(colour, m.to))
     } else {
         Some(m.to)
     }

@@ -105,7 +105,8 @@ pub fn king_square(men: &[Option<Man>; 64], colour: Colour) -> Option<Square>
 }
 
 // For squares k and s on one rank, whether s lies on that side of k: towards file h (king side) or file a (queen side).
-pub(crate) fn is_to_side(castling_side: CastlingSide, k: Square, s: Square) -> bool
+// chess_fen's `is_towards` is another test: there a king may be missing, and each square is on one side.
+fn is_to_side(castling_side: CastlingSide, k: Square, s: Square) -> bool
     ensures { result ≡ is_to_side castling_side k s }
 {
     match castling_side {

@@ -2,16 +2,17 @@
 
 ghost use Rattle.std.specs.Prelude.{◌≡◌, ◌+◌, ◌<◌, Option, Bool};
 ghost use Rattle.chess_base.specs.Men.{forward, pawn_rank};
-ghost use Rattle.chess_base.specs.Moves.{promotion_fits, is_double_advance, is_en_passant, pawn_advances, pawn_captures, pawn_moves};
+ghost use Rattle.chess_base.specs.Moves.{one_rank_back, promotion_fits, is_double_advance, is_en_passant, pawn_advances, pawn_captures, pawn_moves};
 
 use crate::attack::{attacks, is_man, is_of};
 use crate::legality::{first_rank, man_on};
 use crate::man::{Colour, Kind, Move};
 use crate::setup::Setup;
-use crate::square::is_square;
+use crate::square::{Square, is_square};
 
 // The number of the square straight ahead for a pawn of this colour: from `e2` (12) White's is `e3` (20). On its last
-// rank, where no pawn is, the result means nothing: White's is above 63, Black's 0.
+// rank, where no pawn is, the result means nothing: White's is above 63, Black's 0. For captures
+// `is_rank_ahead` asks of two squares whether their ranks are so, whatever the files.
 pub(crate) fn forward(colour: Colour, number: u8) -> u8
     requires { number < 248 }
     ensures { result ≡ forward colour number }
@@ -20,6 +21,15 @@ pub(crate) fn forward(colour: Colour, number: u8) -> u8
         Colour::White => number + 8,
         Colour::Black => number.saturating_sub(8),
     }
+}
+
+// The square one step back for a pawn of this colour: when Black takes en passant on `e3`, the pawn that it takes is on
+// `e4`, one step back from `e3` for Black.
+pub(crate) fn one_rank_back(colour: Colour, square: Square) -> Square
+    requires { one_rank_back colour square < 64 }
+    ensures { result ≡ one_rank_back colour square }
+{
+    Square::new(forward(colour.other(), square.number()))
 }
 
 /// The rank of this colour's pawns at the start: 1 (rank 2) for White, 6 (rank 7) for Black (Laws of Chess 2023,

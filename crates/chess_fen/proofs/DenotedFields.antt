@@ -93,26 +93,13 @@ denoted-target (f ∷ r ∷ c ∷ cs) target e = absurd cc
 
 target_read : (f r t : ℕ) → 97 ≤ f → f ≤ 104 → (r ≡ 51) ⊎ (r ≡ 54) → t ≡ 8 * (r - 49) + (f - 97)
     → target_of (f ∷ r ∷ []) ≡ Some (Some t)
-target_read f r t low high rank is = by_rank rank
-  where
-    t0 : leb 97 f ≡ true
-    t0 = grind (arith, nat_tests)
-
-    t1 : leb f 104 ≡ true
-    t1 = grind (arith, nat_tests)
-
-    by_rank : (r ≡ 51) ⊎ (r ≡ 54) → target_of (f ∷ r ∷ []) ≡ Some (Some t)
-    by_rank (inl e) = rw (is, e, t0, t1) refl
-    by_rank (inr e) = rw (is, e, t0, t1) refl
+target_read f r t low high rank is = grind (arith, nat_tests, low, high, rank, is)
 
 target-text : (target : Option ℕ) → IfSome target (λ square. (square / 8 ≡ 2) ⊎ (square / 8 ≡ 5))
     → target_of (target_text target) ≡ Some target
 target-text None h = refl
-target-text (Some t) h = target_read (97 + t % 8) (49 + t / 8) t (omega arith) (omega arith) (ranks h) (omega arith)
-  where
-    ranks : (t / 8 ≡ 2) ⊎ (t / 8 ≡ 5) → (49 + t / 8 ≡ 51) ⊎ (49 + t / 8 ≡ 54)
-    ranks (inl e) = inl (omega arith)
-    ranks (inr e) = inr (omega arith)
+target-text (Some t) h = target_read (97 + t % 8) (49 + t / 8) t (omega arith) (omega arith) (grind (arith, h))
+    (omega arith)
 
 pub target-denoted : (text : List ℕ) (target : Option ℕ) → DenotesTarget text target → target_of text ≡ Some target
 target-denoted text target s = ap target_of s.0 ∙ target-text target s.1

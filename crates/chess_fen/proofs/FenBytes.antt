@@ -1,9 +1,9 @@
 -- The bytes of a FEN that is written: no field has a space, and no rank a slash; all of them are ASCII.
-use Rattle.std.proofs.Common.{◌≡◌, ℕ, zero, suc, ◌+◌, ◌*◌, ◌/◌, ◌%◌, ◌<◌, ◌≤◌, ◌⊎◌, inl, inr, true, eqb, ◌&&◌, List, [], ◌∷◌, ◌++◌, length, take, drop, map, Option, Some, None, subst, arith, rules}
-use Rattle.std.specs.Prelude.{decimal, IfSome, is_none}
+use Rattle.std.proofs.Common.{◌≡◌, ℕ, zero, suc, ◌+◌, ◌*◌, ◌/◌, ◌%◌, ◌<◌, ◌≤◌, ◌⊎◌, inl, inr, true, eqb, List, [], ◌∷◌, ◌++◌, length, take, drop, map, Option, Some, None, subst, arith, rules}
+use Rattle.std.specs.Prelude.{decimal, IfSome}
 use Rattle.std.specs.List.{AllByRecursion}
 use Rattle.std.specs.Str.{IsAscii, IsUtf8}
-use Rattle.std.proofs.lemmas.Bool.{and_parts, eqb-true}
+use Rattle.std.proofs.lemmas.Bool.{eqb-true}
 use Rattle.std.proofs.lemmas.Bool.Decides.{nat_tests}
 use Rattle.std.proofs.lemmas.List.{append-nil, length-take}
 use Rattle.std.proofs.lemmas.Fmt.{digits_decimal}
@@ -12,7 +12,6 @@ use Rattle.std.specs.Str.Parse.{digits_value}
 use Rattle.std.proofs.lemmas.Str.Parse.{IsNumeralModel, IsDigitsTest, numerals_by_value}
 use Rattle.chess_base.specs.declared.man.Man.{Man}
 use Rattle.chess_base.specs.declared.man.Kind.{Kind}
-use Rattle.chess_base.specs.declared.man.Kind.TheVariants.{Pawn, Knight, Bishop, Rook, Queen, King}
 use Rattle.chess_base.specs.declared.man.Colour.{Colour}
 use Rattle.chess_base.specs.declared.man.Colour.TheVariants.{White, Black}
 use Rattle.chess_base.specs.declared.man.CastlingSide.{CastlingSide}
@@ -22,12 +21,12 @@ use Rattle.chess_base.specs.declared.man.Variant.{Variant}
 use Rattle.chess_base.specs.declared.man.Variant.TheVariants.{Normal, Fischerandom}
 use Rattle.chess_base.specs.declared.setup.Setup.{Setup}
 use Rattle.chess_base.specs.Letters.{white_letter, letter, letter_by}
-use Rattle.chess_base.specs.Men.{Men, man_at, is_man, other, forward, crossed_rank}
+use Rattle.chess_base.specs.Men.{Men, other, crossed_rank}
 use Rattle.chess_base.specs.Sound.{IsSound, target_is_sound_at, target_is_sound}
 use Rattle.chess_fen.specs.RightNames.{right_letter}
 use Rattle.chess_fen.specs.Writing.{fen_rank, placement_text, side_text, right_text, or_dash, rights_text, target_text, fen}
 use Rattle.chess_fen.specs.ties.Loops.{ranks_down, run_text, row_text}
-use Rattle.chess_fen.proofs.Joined.{IsPlain, Plain, Plain-append, each_weaker, Plain-join}
+use Rattle.chess_fen.proofs.Joined.{IsPlain, Plain, all_append, each_weaker, Plain-join}
 use Rattle.chess_fen.proofs.WrittenRanks.{row_is}
 
 -- bytes below the backslash, and above it
@@ -61,12 +60,7 @@ decimal_plain n h = digits_plain (decimal n) (digits_decimal own_bytes n (omega 
 -- ---- placement
 
 pub white_range : (kind : Kind) → (66 ≤ white_letter kind) × (white_letter kind ≤ 82)
-white_range Pawn = (omega arith, omega arith)
-white_range Knight = (omega arith, omega arith)
-white_range Bishop = (omega arith, omega arith)
-white_range Rook = (omega arith, omega arith)
-white_range Queen = (omega arith, omega arith)
-white_range King = (omega arith, omega arith)
+white_range k = (grind arith, grind arith)
 
 letter_plain : (colour : Colour) (kind : Kind) → IsPlain 48 (letter_by colour kind)
 letter_plain White kind =
@@ -126,13 +120,14 @@ dash_plain (c ∷ cs) p = p
 
 rights_plain : (v : Variant) (r : Rights) → Plain 45 (rights_text v r)
 rights_plain v r =
+    let P = IsPlain 45 in
     let a = right_text v White KingSide r.white.king_side in
     let b = right_text v White QueenSide r.white.queen_side in
     let c = right_text v Black KingSide r.black.king_side in
     let d = right_text v Black QueenSide r.black.queen_side in
     dash_plain (((a ++ b) ++ c) ++ d)
-    (Plain-append 45 ((a ++ b) ++ c) d
-    (Plain-append 45 (a ++ b) c (Plain-append 45 a b (right_plain v White KingSide r.white.king_side)
+    (all_append P ((a ++ b) ++ c) d
+    (all_append P (a ++ b) c (all_append P a b (right_plain v White KingSide r.white.king_side)
     (right_plain v White QueenSide r.white.queen_side)) (right_plain v Black KingSide r.black.king_side))
     (right_plain v Black QueenSide r.black.queen_side))
 
@@ -140,13 +135,7 @@ rights_plain v r =
 target_rank : (men : Men) (c : Colour) (target : Option ℕ) → target_is_sound_at men c target ≡ true
     → IfSome target (λ square. (square / 8 ≡ 2) ⊎ (square / 8 ≡ 5))
 target_rank men c None e = tt
-target_rank men c (Some t) e = by_colour c
-    (and_parts (eqb (t / 8) (crossed_rank (other c))) (is_none (man_at men t))
-    (and_parts (eqb (t / 8) (crossed_rank (other c)) && is_none (man_at men t))
-    (is_man (other c) Pawn (man_at men (forward (other c) t)))
-    (and_parts (eqb (t / 8) (crossed_rank (other c)) && is_none (man_at men t)
-    && is_man (other c) Pawn (man_at men (forward (other c) t))) (is_none (man_at men (forward c t)))
-    e).0).0).0
+target_rank men c (Some t) e = by_colour c (grind (arith, e))
   where
     by_colour : (d : Colour) → eqb (t / 8) (crossed_rank (other d)) ≡ true → (t / 8 ≡ 2) ⊎ (t / 8 ≡ 5)
     by_colour White h = inr (eqb-true (t / 8) 5 h)
@@ -175,18 +164,27 @@ abbrev pub fields : Setup → List (List ℕ)
 fields p = placement_text p.men ∷ side_text p.side ∷ rights_text p.variant p.rights ∷ target_text p.target
     ∷ decimal p.halfmove ∷ decimal p.fullmove ∷ []
 
-pub of_six : (P : List ℕ → Type 0) (a b c d e f : List ℕ) → P a → P b → P c → P d → P e → P f
-    → AllByRecursion P (a ∷ b ∷ c ∷ d ∷ e ∷ f ∷ [])
-of_six P a b c d e f pa pb pc pd pe pf = (pa, (pb, (pc, (pd, (pe, (pf, tt))))))
+pub counters_fit : (p : Setup) → IsSound p → (p.halfmove < 1000000) × (p.fullmove < 1000000)
+counters_fit p h =
+    let half = h.halfmove in
+    let full = h.fullmove_high in
+    (grind (arith, nat_tests, half), grind (arith, nat_tests, full))
 
 pub fields_plain : (p : Setup) → IsSound p → AllByRecursion (Plain 45) (fields p)
 fields_plain p h =
-    let halfmove : p.halfmove < 1000000 = let e = h.halfmove in grind (arith, nat_tests, e) in
-    let fullmove : p.fullmove < 1000000 = let e = h.fullmove_high in grind (arith, nat_tests, e) in
-    of_six (Plain 45) (placement_text p.men) (side_text p.side) (rights_text p.variant p.rights)
-    (target_text p.target) (decimal p.halfmove) (decimal p.fullmove) (placement_plain p.men) (side_plain p.side)
-    (rights_plain p.variant p.rights) (target_plain p.target (target_fits p h)) (decimal_plain p.halfmove halfmove)
-    (decimal_plain p.fullmove fullmove)
+    let fit = counters_fit p h in (
+      placement_plain p.men,
+      (
+        side_plain p.side,
+        (
+          rights_plain p.variant p.rights,
+          (
+            target_plain p.target (target_fits p h),
+            (decimal_plain p.halfmove fit.0, (decimal_plain p.fullmove fit.1, tt)),
+          ),
+        ),
+      ),
+    )
 
 pub fen_plain : (p : Setup) → IsSound p → Plain 32 (fen p)
 fen_plain p h = Plain-join 32 32 (fields p) (omega arith, omega arith, (λ e. omega (arith, e)), (λ e. omega (arith, e)))

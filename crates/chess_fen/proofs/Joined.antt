@@ -12,9 +12,9 @@ IsPlain k b = (k ≤ b) × (b < 128) × (b ≢ 34) × (b ≢ 92)
 abbrev pub Plain : ℕ → List ℕ → Type 0
 Plain k text = AllByRecursion (IsPlain k) text
 
-pub Plain-append : (k : ℕ) (xs ys : List ℕ) → Plain k xs → Plain k ys → Plain k (xs ++ ys)
-Plain-append k [] ys p q = q
-Plain-append k (x ∷ xs) ys p q = (p.0, Plain-append k xs ys p.1 q)
+pub all_append : (P : ℕ → Type 0) (xs ys : List ℕ) → AllByRecursion P xs → AllByRecursion P ys → AllByRecursion P (xs ++ ys)
+all_append P [] ys p q = q
+all_append P (x ∷ xs) ys p q = (p.0, all_append P xs ys p.1 q)
 
 pub Plain-weaker : (j k : ℕ) (xs : List ℕ) → j ≤ k → Plain k xs → Plain j xs
 Plain-weaker j k [] h p = tt
@@ -31,7 +31,7 @@ pub Plain-join : (c k : ℕ) (texts : List (List ℕ)) → IsPlain k c → AllBy
     → Plain k (join_with_byte c texts)
 Plain-join c k [] h p = tt
 Plain-join c k (x ∷ []) h p = p.0
-Plain-join c k (x ∷ y ∷ texts) h p = Plain-append k x (c ∷ join_with_byte c (y ∷ texts)) p.0
+Plain-join c k (x ∷ y ∷ texts) h p = all_append (IsPlain k) x (c ∷ join_with_byte c (y ∷ texts)) p.0
     (h, Plain-join c k (y ∷ texts) h p.1)
 
 split_whole : (c : ℕ) (text : List ℕ) → Plain (suc c) text → slice_split (λ b. eqb b c) text ≡ text ∷ []

@@ -1,8 +1,9 @@
 -- In Chess960 the letters of a field of rights name rooks: that of each right is named by just one.
-use Rattle.std.proofs.Common.{◌≡◌, ◌≢◌, ℕ, zero, suc, ◌+◌, ◌-◌, ◌*◌, ◌%◌, ◌<◌, ◌≤◌, inl, inr, Bool, true, false, cond, eqb, leb, ltb, ◌&&◌, ◌||◌, List, [], ◌∷◌, ◌++◌, map, Option, Some, None, refl, sym, ap, subst, ◌∙◌, arith}
+use Rattle.std.proofs.Common.{◌≡◌, ◌≢◌, ℕ, zero, suc, ◌+◌, ◌-◌, ◌%◌, ◌<◌, ◌≤◌, inl, inr, Bool, true, false, cond, eqb, ◌&&◌, ◌||◌, List, [], ◌∷◌, ◌++◌, map, Option, Some, None, refl, sym, ap, subst, ◌∙◌, arith}
 use Rattle.std.specs.Prelude.{find, unwrap_or}
 use Rattle.std.specs.List.{AllByRecursion, filter}
-use Rattle.std.proofs.lemmas.Bool.{and_parts, eqb-true, eq-eqb, ltb-true, leb-true, lt-ltb, cases_lt}
+use Rattle.std.proofs.lemmas.Bool.Decides.{nat_tests}
+use Rattle.std.proofs.lemmas.Bool.{and_parts, eqb-true, eq-eqb, cases_lt}
 use Rattle.std.proofs.lemmas.List.Elements.{filter-append}
 use Rattle.chess_base.specs.declared.man.Colour.{Colour}
 use Rattle.chess_base.specs.declared.man.Colour.TheVariants.{White, Black}
@@ -26,8 +27,7 @@ use Rattle.chess_fen.proofs.RightsBack.{Beside, beside, no_side_letter, own_file
 -- ---- the outermost rook
 
 home_rank : (c : Colour) (w : CastlingSide) (k : ℕ) → k < 8 → rank (home_square c (edge_file w k)) ≡ first_rank c
-home_rank c KingSide k h = omega (arith, h)
-home_rank c QueenSide k h = omega (arith, h)
+home_rank c w k h = grind (arith, h)
 
 -- how many files are left towards the other edge
 abbrev files_left : CastlingSide → ℕ → ℕ
@@ -35,28 +35,20 @@ files_left KingSide t = t % 8
 files_left QueenSide t = 7 - t % 8
 
 left_few : (w : CastlingSide) (t : ℕ) → files_left w t < 8
-left_few KingSide t = omega arith
-left_few QueenSide t = omega arith
+left_few w t = grind arith
 
 from_left : (c : Colour) (w : CastlingSide) (t : ℕ) → rank t ≡ first_rank c
     → home_square c (edge_file w (files_left w t)) ≡ t
-from_left c KingSide t h = omega (arith, h)
-from_left c QueenSide t h = omega (arith, h)
+from_left c w t h = grind (arith, h)
 
 -- what is further out than a file has more files left
 further : (c : Colour) (w : CastlingSide) (k t : ℕ) → k < 8 → rank t ≡ first_rank c
     → is_to_side w (home_square c (edge_file w k)) t ≡ true → k < files_left w t
-further c KingSide k t l h e = let o : 8 * first_rank c + k < t =
-    ltb-true (8 * first_rank c + k) t e in omega (arith, l, h, o)
-further c QueenSide k t l h e = let o : t < 8 * first_rank c + (7 - k) =
-    ltb-true t (8 * first_rank c + (7 - k)) e in omega (arith, l, h, o)
+further c w k t l h e = grind (arith, nat_tests, l, h, e)
 
 nearer : (c : Colour) (w : CastlingSide) (k s : ℕ) → k < 8 → rank s ≡ first_rank c → files_left w s < k
     → is_to_side w s (home_square c (edge_file w k)) ≡ true
-nearer c KingSide k s l h e = let o : s < 8 * first_rank c + k =
-    omega (arith, l, h, e) in lt-ltb s (8 * first_rank c + k) o
-nearer c QueenSide k s l h e = let o : 8 * first_rank c + (7 - k) < s =
-    omega (arith, l, h, e) in lt-ltb (8 * first_rank c + (7 - k)) s o
+nearer c w k s l h e = grind (arith, nat_tests, l, h, e)
 
 abbrev RookLeft : Men → Colour → CastlingSide → ℕ → Bool
 RookLeft men c w k = is_man c Rook (man_at men (home_square c (edge_file w k)))
@@ -119,16 +111,12 @@ outer_is men c w s o = outer_among men c w ∙ found_from men c w s o 8 (omega a
 
 file_of : (c : Colour) (l : ℕ) → names_file c l ≡ true → l ≡ first_letter c + file (home_square c (l - first_letter c))
 file_of c l e =
-    let p = and_parts (leb (first_letter c) l) (ltb l (first_letter c + 8)) e in
-    let a : first_letter c ≤ l = leb-true (first_letter c) l p.0 in
-    let b : l < first_letter c + 8 = ltb-true l (first_letter c + 8) p.1 in
+    let a : first_letter c ≤ l = grind (arith, nat_tests, e) in
+    let b : l < first_letter c + 8 = grind (arith, nat_tests, e) in
     omega (arith, a, b)
 
 file_home : (c : Colour) (l : ℕ) → names_file c l ≡ true → rank (home_square c (l - first_letter c)) ≡ first_rank c
-file_home c l e =
-    let p = and_parts (leb (first_letter c) l) (ltb l (first_letter c + 8)) e in
-    let b : l < first_letter c + 8 = ltb-true l (first_letter c + 8) p.1 in
-    omega (arith, b)
+file_home c l e = let b : l < first_letter c + 8 = grind (arith, nat_tests, e) in omega (arith, b)
 
 -- the letter is that of a file on that side of the king
 abbrev IsFileTowards : Men → Colour → CastlingSide → ℕ → Bool

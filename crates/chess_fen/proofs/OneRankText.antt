@@ -1,15 +1,12 @@
 -- A rank has one text in which no two digits are side by side: the one that is written.
-use Rattle.std.proofs.Common.{◌≡◌, ℕ, zero, suc, ◌+◌, ◌<◌, ◌≤◌, Bool, true, false, not, List, [], ◌∷◌, ◌++◌, length, Option, Some, None, refl, sym, ap, subst, ◌∙◌, inl, inr, arith}
-use Rattle.std.specs.Prelude.{◌&&◌, replicate, nat_le}
+use Rattle.std.proofs.Common.{◌≡◌, ℕ, zero, suc, ◌+◌, ◌<◌, ◌≤◌, true, false, not, List, [], ◌∷◌, ◌++◌, length, Option, Some, None, refl, sym, ap, subst, ◌∙◌, inl, inr, arith}
+use Rattle.std.specs.Prelude.{◌&&◌, replicate}
 use Rattle.std.specs.List.{AllZip}
 use Rattle.std.proofs.lemmas.Bool.{and_parts}
 use Rattle.std.proofs.lemmas.Bool.Decides.{nat_tests}
 use Rattle.chess_base.specs.declared.man.Man.{Man}
-use Rattle.chess_base.specs.declared.man.Kind.{Kind}
-use Rattle.chess_base.specs.declared.man.Colour.{Colour}
-use Rattle.chess_base.specs.declared.man.Colour.TheVariants.{White, Black}
 use Rattle.chess_base.specs.Letters.{is_digit}
-use Rattle.chess_base.specs.Letters.{letter, letter_by}
+use Rattle.chess_base.specs.Letters.{letter}
 use Rattle.chess_fen.specs.Denotation.{StandsFor}
 use Rattle.chess_fen.specs.Writing.{fen_rank}
 use Rattle.chess_fen.specs.ties.Loops.{run_text, row_text}
@@ -19,12 +16,8 @@ use Rattle.chess_fen.proofs.RoundTrip.{rank_denotes}
 use Rattle.chess_fen.proofs.WrittenRanks.{row_is}
 use Rattle.chess_fen.specs.laws.RankTexts.{digits_apart, IsRankText}
 
-no_digit_by : (c : Colour) (k : Kind) → is_digit (letter_by c k) ≡ false
-no_digit_by White k = let range = white_range k in grind (arith, nat_tests, range.0)
-no_digit_by Black k = let range = white_range k in grind (arith, nat_tests, range.0)
-
 no_digit : (man : Man) → is_digit (letter man) ≡ false
-no_digit man = no_digit_by man.colour man.kind
+no_digit man = let range = white_range man.kind in grind (arith, nat_tests, range.0)
 
 empty_run : (n m : ℕ) (row : List (Option Man)) → row_text m (replicate n None ++ row) ≡ row_text (n + m) row
 empty_run zero m row = ap (λ k. row_text k row) (omega arith)
@@ -37,10 +30,7 @@ run_is zero h = absurd (omega (arith, h))
 run_is (suc n) h = refl
 
 digit_is : (n : ℕ) → n ≤ 8 → is_digit (48 + n) ≡ true
-digit_is n h =
-    let low : nat_le 48 (48 + n) ≡ true = grind (arith, nat_tests) in
-    let high : nat_le (48 + n) 57 ≡ true = grind (arith, nat_tests) in
-    rw (low, high) refl
+digit_is n h = grind (arith, nat_tests)
 
 apart_tail : (c : ℕ) (cs : List ℕ) → digits_apart (c ∷ cs) ≡ true → digits_apart cs ≡ true
 apart_tail c [] h = refl
@@ -95,11 +85,7 @@ letter_apart man (d ∷ rest) h = rw (no_digit man, h) refl
 
 before_letter : (c : ℕ) (man : Man) (text : List ℕ) → digits_apart (letter man ∷ text) ≡ true
     → digits_apart (c ∷ letter man ∷ text) ≡ true
-before_letter c man text h = rw (no_digit man, h) (by_test (is_digit c))
-  where
-    by_test : (t : Bool) → (not (t && false) && true) ≡ true
-    by_test true = refl
-    by_test false = refl
+before_letter c man text h = rw (no_digit man, h) (grind arith)
 
 apart_row : (n : ℕ) (row : List (Option Man)) → digits_apart (row_text n row) ≡ true
 apart_row zero [] = refl

@@ -1,5 +1,6 @@
 -- Reading a rank byte by byte.
 use Rattle.std.proofs.Common.{◌≡◌, ℕ, zero, suc, ◌+◌, ◌-◌, ◌<◌, ◌≤◌, Bool, true, false, cond, eqb, leb, List, [], ◌∷◌, ◌++◌, length, get_or, set, take, drop, Option, Some, None, refl, sym, ap, ◌∙◌, arith, length-append}
+use Rattle.std.proofs.Math.Seq.{take-length}
 use Rattle.std.specs.Prelude.{replicate, option_and_then}
 use Rattle.std.specs.List.{position_or_len}
 use Rattle.std.proofs.lemmas.Bool.{eqb-true}
@@ -161,16 +162,12 @@ whole text row file i r so_far h at some is =
     let s = step text row file i r so_far h at some (omega arith) in
     let eight : length (set row file r.first) ≡ 8 = length-set row file r.first ∙ so_far.eight in
     let all : take (file + r.squares) (set row file r.first) ≡ set row file r.first =
-    ap (λ k. take k (set row file r.first)) (is ∙ sym eight) ∙ take_whole (set row file r.first) in
+    ap (λ k. take k (set row file r.first)) (is ∙ sym eight) ∙ take-length (set row file r.first) in
     record {
       on = λ left above. sym (s.0 left above) ∙ ap (λ xs. placing left xs above (drop (i + 1) text)) all;
       back = sym s.1;
       eight = eight;
     }
-  where
-    take_whole : (xs : List (Option Man)) → take (length xs) xs ≡ xs
-    take_whole [] = refl
-    take_whole (x ∷ xs) = ap (λ ys. x ∷ ys) (take_whole xs)
 
 -- where the next byte brings more than eight squares, or stands for none
 pub overfull : (text : List ℕ) (row : List (Option Man)) (file i : ℕ) (r : Run) → RowSoFar text row file i

@@ -1,6 +1,6 @@
 -- A FEN is read as it denotes. Rights that are named wrongly are refused by both: by the definition with a condition of
 -- their own, by the reader as rights whose rook is on a square that is no rook's.
-use Rattle.std.proofs.Common.{◌≡◌, ℕ, ◌⊎◌, inl, inr, Bool, true, false, cond, List, [], ◌∷◌, ◌++◌, map, get_or, take, drop, Option, Some, None, Result, Ok, Err, refl, sym, ap, ◌∙◌}
+use Rattle.std.proofs.Common.{◌≡◌, ℕ, ◌⊎◌, inl, inr, Bool, true, false, cond, List, [], ◌∷◌, ◌++◌, map, get_or, take, drop, Option, Some, None, Result, Ok, Err, refl, sym, ap, ◌∙◌, arith}
 use Rattle.std.specs.Prelude.{option_and_then, find, ◌&&◌, ◌||◌, is_some, ◌==◌, max, codes, ◌-◌, IsOk, IfOk, IfErr, ◌↔◌}
 use Rattle.std.specs.List.{filter, fold}
 use Rattle.std.specs.Option.{option_map_or, ok_or, unwrap_or}
@@ -15,9 +15,8 @@ use Rattle.chess_base.specs.declared.man.Rights.{Rights}
 use Rattle.chess_base.specs.declared.setup.Setup.{Setup}
 use Rattle.chess_base.specs.declared.fen_fault.FenFault.{FenFault}
 use Rattle.chess_base.specs.declared.fen_fault.FenFault.TheVariants as faults
-use Rattle.chess_base.specs.Squares.{rank}
-use Rattle.chess_base.specs.Men.{Men, man_at, is_man, first_rank}
-use Rattle.chess_base.specs.Castling.{home_square, king_square, is_beside, are_placed_for_castling, right_is_sound, is_to_side, rights_by}
+use Rattle.chess_base.specs.Men.{Men, man_at, is_man}
+use Rattle.chess_base.specs.Castling.{home_square, king_square, is_beside, are_placed_for_castling, right_is_sound, rights_by}
 use Rattle.chess_base.specs.Faults.{conditions, rights_are_sound, first_failing, setup_fault}
 use Rattle.chess_base.specs.Faults as base
 use Rattle.chess_base.specs.Sound.{IsSound}
@@ -96,17 +95,11 @@ right_is men letters c w =
 no_rook : (men : Men) (c : Colour) (w : CastlingSide) → are_placed_for_castling Fischerandom men c w nowhere ≡ false
 no_rook men c w = by_king c (king_square men c)
   where
-    by_first : (a b d : Bool) → ((a && false && b) && d) ≡ false
-    by_first true b d = refl
-    by_first false b d = refl
-
     by_king : (c : Colour) (king : Option ℕ) → (is_beside c w king nowhere && is_man c Rook (man_at men nowhere))
         ≡ false
     by_king c None = refl
-    by_king White (Some k) = by_first (rank k == first_rank White) (is_to_side w k nowhere)
-        (is_man White Rook (man_at men nowhere))
-    by_king Black (Some k) = by_first (rank k == first_rank Black) (is_to_side w k nowhere)
-        (is_man Black Rook (man_at men nowhere))
+    by_king White (Some k) = grind arith
+    by_king Black (Some k) = grind arith
 
 -- ---- the position, or the fault
 
@@ -116,12 +109,6 @@ rights_of_four a b c d = record {
   black = record { king_side = c; queen_side = d };
 }
 
-four_are : (a e b f c g d h : Option ℕ) → a ≡ e → b ≡ f → c ≡ g → d ≡ h
-    → rights_of_four a b c d ≡ rights_of_four e f g h
-four_are a e b f c g d h p q r s =
-    ap (λ x. rights_of_four x b c d) p ∙ ap (λ x. rights_of_four e x c d) q
-    ∙ ap (λ x. rights_of_four e f x d) r ∙ ap (λ x. rights_of_four e f g x) s
-
 -- where a condition fails nothing but those before it counts
 blocked : (p q : Setup) (xs : List (FenFault × Bool)) (f : FenFault) (ys zs : List (FenFault × Bool))
     → unless_fault p (first_failing (xs ++ ((f, false) ∷ ys)))
@@ -129,10 +116,6 @@ blocked : (p q : Setup) (xs : List (FenFault × Bool)) (f : FenFault) (ys zs : L
 blocked p q [] f ys zs = refl
 blocked p q ((g, true) ∷ xs) f ys zs = blocked p q xs f ys zs
 blocked p q ((g, false) ∷ xs) f ys zs = refl
-
-and_no : (b : Bool) → (b && false) ≡ false
-and_no true = refl
-and_no false = refl
 
 module _ (men : Men) (colour : Colour) (target : Option ℕ) (halfmove fullmove : ℕ) where
   abbrev setup_with : Variant → Rights → Setup
@@ -178,18 +161,10 @@ module _ (men : Men) (colour : Colour) (target : Option ℕ) (halfmove fullmove 
       → (placed White KingSide a ≡ false) ⊎ (placed White QueenSide b ≡ false) ⊎ (placed Black KingSide c ≡ false)
       ⊎ (placed Black QueenSide d ≡ false) → rights_are_sound (setup_with Fischerandom (rights_of_four a b c d)) ≡ false
   unfolding rights_are_sound right_is_sound
-  one_nowhere a b c d (inl e) =
-      ap (λ t. ((t && placed White QueenSide b) && placed Black KingSide c) && placed Black QueenSide d) e
-  one_nowhere a b c d (inr (inl e)) =
-      ap (λ t. ((placed White KingSide a && t) && placed Black KingSide c) && placed Black QueenSide d) e
-      ∙ ap (λ t. (t && placed Black KingSide c) && placed Black QueenSide d) (and_no (placed White KingSide a))
-  one_nowhere a b c d (inr (inr (inl e))) =
-      let whites = placed White KingSide a && placed White QueenSide b in
-      ap (λ t. (whites && t) && placed Black QueenSide d) e
-      ∙ ap (λ t. t && placed Black QueenSide d) (and_no whites)
-  one_nowhere a b c d (inr (inr (inr e))) =
-      let three = (placed White KingSide a && placed White QueenSide b) && placed Black KingSide c in
-      ap (λ t. three && t) e ∙ and_no three
+  one_nowhere a b c d (inl e) = grind (arith, e)
+  one_nowhere a b c d (inr (inl e)) = grind (arith, e)
+  one_nowhere a b c d (inr (inr (inl e))) = grind (arith, e)
+  one_nowhere a b c d (inr (inr (inr e))) = grind (arith, e)
 
   named_alike : (a b c d : Option (Option ℕ))
       → said Fischerandom (rights_of_four (flat a) (flat b) (flat c) (flat d)) (four_some a b c d)
@@ -219,9 +194,12 @@ module _ (men : Men) (colour : Colour) (target : Option ℕ) (halfmove fullmove 
   alike Fischerandom letters =
       named_alike (right_in Fischerandom men letters White KingSide) (right_in Fischerandom men letters White QueenSide)
       (right_in Fischerandom men letters Black KingSide) (right_in Fischerandom men letters Black QueenSide)
-      ∙ ap (read Fischerandom) (sym (four_are _ _ _ _ _ _ _ _ (right_is men letters White KingSide)
-      (right_is men letters White QueenSide) (right_is men letters Black KingSide)
-      (right_is men letters Black QueenSide)))
+      ∙ rw (
+        right_is men letters White KingSide,
+        right_is men letters White QueenSide,
+        right_is men letters Black KingSide,
+        right_is men letters Black QueenSide,
+      ) refl
 
 -- ---- the fields
 

@@ -1,9 +1,8 @@
 -- In Chess960, the letters that are written for available rights name them.
-use Rattle.std.proofs.Common.{◌≡◌, ℕ, ◌+◌, ◌-◌, ◌%◌, ◌<◌, ◌≤◌, ◌⊎◌, inl, inr, Bool, true, false, cond, eqb, leb, ltb, ◌&&◌, List, [], ◌∷◌, ◌++◌, length, map, Option, Some, None, refl, sym, ap, ◌∙◌, append-nil, arith}
-use Rattle.std.specs.Prelude.{IsTrue, codes}
+use Rattle.std.proofs.Common.{◌≡◌, ℕ, ◌+◌, ◌-◌, ◌%◌, ◌<◌, ◌≤◌, ◌⊎◌, inl, inr, Bool, true, false, cond, eqb, leb, ltb, List, [], ◌∷◌, ◌++◌, length, map, Option, Some, None, refl, sym, ap, ◌∙◌, append-nil, arith}
+use Rattle.std.specs.Prelude.{IsTrue}
 use Rattle.std.specs.List.{AllByRecursion, filter, list_all}
-use Rattle.std.specs.Str.{bytes_eq}
-use Rattle.std.proofs.lemmas.Bool.{and_parts, and_from, eqb-true, ltb-true, or_left, or_right}
+use Rattle.std.proofs.lemmas.Bool.{and_parts, eqb-true, ltb-true}
 use Rattle.std.proofs.lemmas.Bool.Decides.{nat_tests}
 use Rattle.std.proofs.lemmas.List.{length-append}
 use Rattle.std.proofs.lemmas.List.Elements.{filter-append}
@@ -20,10 +19,11 @@ use Rattle.chess_base.specs.Squares.{file, rank}
 use Rattle.chess_base.specs.Men.{Men, man_at, is_man, other, first_rank}
 use Rattle.chess_base.specs.Castling.{home_square, king_square, is_to_side, is_beside, right_of}
 use Rattle.chess_base.specs.shared.Splits.{right_is_sound_at}
-use Rattle.chess_fen.specs.Texts.{times, first_letter, names_file, may_name_right, are_right_letters, is_castling}
+use Rattle.chess_fen.specs.Texts.{times, first_letter, names_file, may_name_right, is_castling}
 use Rattle.chess_fen.specs.RightNames.{side_letter, is_towards, names_right, rook_named, right_by, right_in}
 use Rattle.chess_fen.specs.ties.Reader.{names_once}
 use Rattle.chess_fen.specs.Writing.{right_text, or_dash, rights_text}
+use Rattle.chess_fen.proofs.Joined.{all_append}
 
 -- what an available right says of king and rook
 pub record Beside (men : Men) (c : Colour) (w : CastlingSide) (s : ℕ) : Type 0 where
@@ -37,14 +37,12 @@ beside_by : (men : Men) (c : Colour) (w : CastlingSide) (s : ℕ) (o : Option �
     → is_beside c w o s ≡ true → Beside men c w s
 beside_by men c w s None at e = cc
 beside_by men c w s (Some k) at e =
-    let two = and_parts (eqb (rank k) (first_rank c) && eqb (rank s) (first_rank c)) (is_to_side w k s) e in
-    let one = and_parts (eqb (rank k) (first_rank c)) (eqb (rank s) (first_rank c)) two.0 in
     record {
       king = k;
       at = at;
-      king_rank = eqb-true (rank k) (first_rank c) one.0;
-      rook_rank = eqb-true (rank s) (first_rank c) one.1;
-      side = two.1;
+      king_rank = grind (arith, nat_tests, e);
+      rook_rank = grind (arith, nat_tests, e);
+      side = grind (arith, e);
     }
 
 pub beside : (men : Men) (c : Colour) (w : CastlingSide) (s : ℕ) → right_is_sound_at Fischerandom men c w (Some s)
@@ -60,33 +58,23 @@ other_side QueenSide = KingSide
 
 pub no_side_letter : (c d : Colour) (w : CastlingSide) (f : ℕ) → f < 8
     → eqb (first_letter c + f) (side_letter d w) ≡ false
-no_side_letter White White KingSide f h = grind (arith, nat_tests)
-no_side_letter White White QueenSide f h = grind (arith, nat_tests)
-no_side_letter White Black KingSide f h = grind (arith, nat_tests)
-no_side_letter White Black QueenSide f h = grind (arith, nat_tests)
-no_side_letter Black White KingSide f h = grind (arith, nat_tests)
-no_side_letter Black White QueenSide f h = grind (arith, nat_tests)
-no_side_letter Black Black KingSide f h = grind (arith, nat_tests)
-no_side_letter Black Black QueenSide f h = grind (arith, nat_tests)
+no_side_letter c d w f h = grind (arith, nat_tests)
 
 pub own_file : (c : Colour) (f : ℕ) → f < 8 → names_file c (first_letter c + f) ≡ true
 own_file c f h = grind (arith, nat_tests)
 
 other_file : (c : Colour) (f : ℕ) → f < 8 → names_file (other c) (first_letter c + f) ≡ false
-other_file White f h = grind (arith, nat_tests)
-other_file Black f h = grind (arith, nat_tests)
+other_file c f h = grind (arith, nat_tests)
 
 pub file_back : (c : Colour) (s : ℕ) → rank s ≡ first_rank c
     → home_square c ((first_letter c + file s) - first_letter c) ≡ s
 file_back c s e = omega arith
 
 towards_own : (w : CastlingSide) (k s : ℕ) → is_to_side w k s ≡ true → is_towards w (Some k) s ≡ true
-towards_own KingSide k s e = grind (arith, nat_tests, e)
-towards_own QueenSide k s e = e
+towards_own w k s e = grind (arith, nat_tests, e)
 
 towards_other : (w : CastlingSide) (k s : ℕ) → is_to_side w k s ≡ true → is_towards (other_side w) (Some k) s ≡ false
-towards_other KingSide k s e = grind (arith, nat_tests, e)
-towards_other QueenSide k s e = grind (arith, nat_tests, e)
+towards_other w k s e = grind (arith, nat_tests, e)
 
 pub file_in : (s : ℕ) → file s < 8
 file_in s = omega arith
@@ -227,17 +215,13 @@ right_back men r c w s =
 
 may_name : (c : Colour) (f : ℕ) → f < 8 → may_name_right Fischerandom (first_letter c + f) ≡ true
 unfolding may_name_right
-may_name White f h = or_left _ _ (or_right _ _ (own_file White f h))
-may_name Black f h = or_right _ _ (own_file Black f h)
+may_name White f h = grind (arith, own_file White f h)
+may_name Black f h = grind (arith, own_file Black f h)
 
 each_one : (c : Colour) (w : CastlingSide) (o : Option ℕ)
     → AllByRecursion (λ l. IsTrue (may_name_right Fischerandom l)) (right_text Fischerandom c w o)
 each_one c w None = tt
 each_one c w (Some s) = (may_name c (file s) (file_in s), tt)
-
-all_append : (P : ℕ → Type 0) (xs ys : List ℕ) → AllByRecursion P xs → AllByRecursion P ys → AllByRecursion P (xs ++ ys)
-all_append P [] ys p q = q
-all_append P (x ∷ xs) ys p q = (p.0, all_append P xs ys p.1 q)
 
 one_at_most : (c : Colour) (w : CastlingSide) (o : Option ℕ) → length (right_text Fischerandom c w o) ≤ 1
 one_at_most c w None = omega arith
@@ -348,23 +332,18 @@ each_once whole (x ∷ xs) within one p =
     let count : times x (x ∷ xs) ≡ 1 + times x xs = times-cons x x xs ∙ ap (λ b. cond b 1 0 + times x xs) here in
     let is : times x whole ≡ 1 = omega (arith, within x, one x, count) in
     let t : eqb (times x whole) 1 ≡ true = grind (arith, nat_tests, is) in
-    and_from (names_once Fischerandom whole x) (list_all (names_once Fischerandom whole) xs)
-    (and_from (may_name_right Fischerandom x) (eqb (times x whole) 1) p.0 t)
-    (each_once whole xs (λ c. omega (arith, within c, times-cons c x xs)) one p.1)
+    let may : may_name_right Fischerandom x ≡ true = p.0 in
+    let rest = each_once whole xs (λ c. omega (arith, within c, times-cons c x xs)) one p.1 in
+    rw (may, t, rest) refl
 
 castling_or_dash : (text : List ℕ) → length text ≤ 4 → AllByRecursion (λ l. IsTrue (may_name_right Fischerandom l)) text
     → ((n : ℕ) → times n text ≤ 1) → is_castling Fischerandom (or_dash text) ≡ true
 castling_or_dash [] few each distinct = refl
 castling_or_dash (x ∷ xs) few each distinct =
     let short : leb (length (x ∷ xs)) 4 ≡ true = grind (arith, nat_tests, few) in
-    or_right (bytes_eq (x ∷ xs) (codes "-")) (are_right_letters Fischerandom (x ∷ xs))
-    (and_from (ltb 0 (length (x ∷ xs)) && leb (length (x ∷ xs)) 4)
-    (list_all (names_once Fischerandom (x ∷ xs)) (x ∷ xs))
-    (and_from (ltb 0 (length (x ∷ xs))) (leb (length (x ∷ xs)) 4) some short)
-    (each_once (x ∷ xs) (x ∷ xs) (λ c. omega arith) distinct each))
-  where
-    some : ltb 0 (length (x ∷ xs)) ≡ true
-    some = grind (arith, nat_tests)
+    let once = each_once (x ∷ xs) (x ∷ xs) (λ c. omega arith) distinct each in
+    let some : ltb 0 (length (x ∷ xs)) ≡ true = grind (arith, nat_tests) in
+    grind (arith, short, once, some)
 
 pub text_is_castling : (men : Men) (r : Rights) → Stand Fischerandom men r
     → is_castling Fischerandom (rights_text Fischerandom r) ≡ true

@@ -1,6 +1,6 @@
 -- What is written for a position is read as that position.
-use Rattle.std.proofs.Common.{◌≡◌, ℕ, zero, suc, ◌+◌, ◌*◌, ◌<◌, ◌≤◌, inl, inr, Bool, true, false, cond, eqb, leb, ltb, List, [], ◌∷◌, ◌++◌, length, get_or, take, drop, map, Option, Some, None, refl, sym, ap, subst, ◌∙◌, arith, rules}
-use Rattle.std.specs.Prelude.{replicate, decimal, is_some, Ok, max, ◌&&◌}
+use Rattle.std.proofs.Common.{◌≡◌, ℕ, zero, suc, ◌+◌, ◌*◌, ◌<◌, ◌≤◌, inl, inr, true, cond, eqb, leb, ltb, List, [], ◌∷◌, ◌++◌, length, get_or, take, drop, map, Option, Some, None, refl, sym, ap, subst, ◌∙◌, arith, rules}
+use Rattle.std.specs.Prelude.{replicate, decimal, is_some, Ok, max}
 use Rattle.std.specs.List.{AllZip, list_all, slice_split}
 use Rattle.std.proofs.lemmas.Bool.Decides.{nat_tests}
 use Rattle.std.proofs.lemmas.List.{append-nil, length-take, length-drop, take_all, length-append}
@@ -8,7 +8,6 @@ use Rattle.std.proofs.lemmas.Fmt.{digits_decimal, decimal_is_IsNumeral, decimal_
 use Rattle.std.specs.Str.Parse.{digits_value}
 use Rattle.std.proofs.lemmas.Str.Parse.{IsNumeralModel, numerals_by_value}
 use Rattle.chess_base.specs.declared.man.Man.{Man}
-use Rattle.chess_base.specs.declared.man.Kind.TheVariants.{Rook, King}
 use Rattle.chess_base.specs.declared.man.Colour.{Colour}
 use Rattle.chess_base.specs.declared.man.Colour.TheVariants.{White, Black}
 use Rattle.chess_base.specs.declared.man.CastlingSide.{CastlingSide}
@@ -18,12 +17,11 @@ use Rattle.chess_base.specs.declared.man.Variant.{Variant}
 use Rattle.chess_base.specs.declared.man.Variant.TheVariants.{Normal, Fischerandom}
 use Rattle.chess_base.specs.declared.setup.Setup.{Setup}
 use Rattle.chess_base.specs.Letters.{byte, is_digit, letter}
-use Rattle.chess_base.specs.Men.{Men, man_at, is_man}
+use Rattle.chess_base.specs.Men.{Men}
 use Rattle.chess_base.specs.Sound.{IsSound}
 use Rattle.chess_base.specs.Castling.{home_square, rook_file, right_of, right_is_sound}
 use Rattle.chess_base.specs.shared.Splits.{right_is_sound_at}
 use Rattle.chess_base.proofs.shared.Castling.{right_is_sound_of}
-use Rattle.std.proofs.lemmas.Bool.{and_parts, eqb-true}
 use Rattle.std.proofs.Math.Seq.{take-add}
 use Rattle.text_lines.specs.Words.{short_number}
 use Rattle.chess_fen.specs.RightNames.{side_letter, right_named, right_in, names_well}
@@ -36,7 +34,7 @@ use Rattle.chess_fen.proofs.DenotedFields.{placement-denoted, side-text, target-
 use Rattle.chess_fen.proofs.RightsBack.{Stand, right_back, text_is_castling}
 use Rattle.chess_fen.proofs.WrittenRanks.{moved, row_is}
 use Rattle.chess_fen.proofs.Lengths.{short_decimal}
-use Rattle.chess_fen.proofs.FenBytes.{target_fits, rows_plain, fields, of_six, fields_plain}
+use Rattle.chess_fen.proofs.FenBytes.{target_fits, rows_plain, fields, counters_fit, fields_plain}
 use Rattle.chess_fen.proofs.Joined.{each_weaker, slice_split-join, fields_of-join}
 
 -- ---- numbers
@@ -94,11 +92,7 @@ on_corner : (men : Men) (c : Colour) (w : CastlingSide) (right : Option ℕ) →
     ≡ true → cond (is_some right) (Some (home_square c (rook_file w))) None ≡ right
 on_corner men c w None e = refl
 on_corner men c w (Some s) e =
-    let outer = and_parts (eqb s (home_square c (rook_file w)) && is_man c King (man_at men (home_square c 4)))
-    (is_man c Rook (man_at men s)) e in
-    let inner = and_parts (eqb s (home_square c (rook_file w))) (is_man c King (man_at men (home_square c 4)))
-    outer.0 in
-    ap Some (sym (eqb-true s (home_square c (rook_file w)) inner.0))
+    let at : s ≡ home_square c (rook_file w) = grind (arith, nat_tests, e) in ap Some (sym at)
 
 right_read : (men : Men) (r : Rights) → Stand Normal men r → (c : Colour) (w : CastlingSide)
     → right_named (rights_text Normal r) (side_letter c w) (home_square c (rook_file w)) ≡ right_of r c w
@@ -223,19 +217,25 @@ target_some (Some t) = omega arith
 -- the fields of a position's FEN
 pub fen_fields : (p : Setup) → IsSound p → fields_of (fen p) ≡ fields p
 fen_fields p h =
-    let halfmove : p.halfmove < 1000000 = let e = h.halfmove in grind (arith, nat_tests, e) in
-    let fullmove : p.fullmove < 1000000 = let e = h.fullmove_high in grind (arith, nat_tests, e) in
+    let fit = counters_fit p h in
     fields_of-join (placement_text p.men) (side_text p.side ∷ rights_text p.variant p.rights ∷ target_text p.target
-    ∷ decimal p.halfmove ∷ decimal p.fullmove ∷ []) (each_weaker 33 45 (fields p) (omega arith) (fields_plain p h))
-    (of_six (λ text. 0 < length text) (placement_text p.men) (side_text p.side) (rights_text p.variant p.rights)
-    (target_text p.target) (decimal p.halfmove) (decimal p.fullmove) (placement_some p.men) (side_some p.side)
-    (rights_some p.variant p.rights) (target_some p.target) (decimal_nonempty p.halfmove (omega (arith, halfmove)))
-    (decimal_nonempty p.fullmove (omega (arith, fullmove))))
+    ∷ decimal p.halfmove ∷ decimal p.fullmove ∷ []) (each_weaker 33 45 (fields p) (omega arith) (fields_plain p h)) (
+      placement_some p.men,
+      (
+        side_some p.side,
+        (
+          rights_some p.variant p.rights,
+          (
+            target_some p.target,
+            (decimal_nonempty p.halfmove (omega (arith, fit.0)), (decimal_nonempty p.fullmove (omega (arith, fit.1)), tt)),
+          ),
+        ),
+      ),
+    )
 
 pub written-fen : (p : Setup) → IsSound p → denoted_in p.variant (fields_of (fen p)) ≡ Ok p
 written-fen p h =
-    let halfmove : p.halfmove < 1000000 = let e = h.halfmove in grind (arith, nat_tests, e) in
-    let fullmove : p.fullmove < 1000000 = let e = h.fullmove_high in grind (arith, nat_tests, e) in
+    let fit = counters_fit p h in
     let some : 0 < p.fullmove = let e = h.fullmove_low in grind (arith, nat_tests, e) in
     let counted : max p.fullmove 1 ≡ p.fullmove = omega (arith, some) in
     let back = read_back p h in
@@ -245,8 +245,8 @@ written-fen p h =
       side-text p.side,
       back.castling,
       target-denoted (target_text p.target) p.target (refl, target_fits p h),
-      number-decimal p.halfmove halfmove,
-      number-decimal p.fullmove fullmove,
+      number-decimal p.halfmove fit.0,
+      number-decimal p.fullmove fit.1,
       counted,
       t White KingSide,
       t White QueenSide,

@@ -24,13 +24,7 @@ by_kind : (b : Bool) (x : Kind)
     → ((b && same_kind King x) || (b && same_kind Queen x) || (b && same_kind Rook x) || (b && same_kind Bishop x)
     || (b && same_kind Knight x) || (b && same_kind Pawn x))
     ≡ b
-by_kind true King = refl
-by_kind true Queen = refl
-by_kind true Rook = refl
-by_kind true Bishop = refl
-by_kind true Knight = refl
-by_kind true Pawn = refl
-by_kind false x = refl
+by_kind b x = grind arith
 
 -- they are those of its six kinds
 pub white_kinds : (o : Option Man)
@@ -59,18 +53,7 @@ reported_of : (c : Colour) (kind : Kind)
     → reported (same_colour White c) (same_kind King kind) (same_kind Queen kind) (same_kind Rook kind)
     (same_kind Bishop kind) (same_kind Knight kind) (same_kind Pawn kind)
     ≡ Some (record { colour = c; kind = kind })
-reported_of White King = refl
-reported_of White Queen = refl
-reported_of White Rook = refl
-reported_of White Bishop = refl
-reported_of White Knight = refl
-reported_of White Pawn = refl
-reported_of Black King = refl
-reported_of Black Queen = refl
-reported_of Black Rook = refl
-reported_of Black Bishop = refl
-reported_of Black Knight = refl
-reported_of Black Pawn = refl
+reported_of c k = grind arith
 
 reported_is : (o : Option Man)
     → reported (is_of White o) (is_kind King o) (is_kind Queen o) (is_kind Rook o) (is_kind Bishop o) (is_kind Knight o)
@@ -104,14 +87,10 @@ abbrev pub differ : Bool → Bool → Bool
 differ a b = (a && not b) || (b && not a)
 
 equal : (a b c : Bool) → a ≡ c → b ≡ c → differ a b ≡ false
-equal a b true e f = rw (e, f) refl
-equal a b false e f = rw (e, f) refl
+equal a b c e f = grind (arith, e, f)
 
 alike : (a b : Bool) → differ a b ≡ false → a ≡ b
-alike true true e = refl
-alike true false e = cc
-alike false true e = cc
-alike false false e = refl
+alike a b e = grind (arith, e)
 
 -- some of the seven sets differ on s
 abbrev pub some_differ : PackedMen → PackedMen → ℕ → Bool

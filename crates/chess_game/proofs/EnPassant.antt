@@ -1,16 +1,16 @@
 -- A legal capture en passant begins on a pawn's square, ends on the target and promotes nothing.
-use Rattle.std.proofs.Common.{◌≡◌, ◌<◌, ℕ, true, ◌&&◌, ◌==◌, Option, Some, None, refl, sym, ap, ◌∙◌, arith}
-use Rattle.std.proofs.lemmas.Bool.{and_parts, eqb-true}
+use Rattle.std.proofs.Common.{◌≡◌, ◌<◌, ℕ, true, ◌==◌, Option, Some, None, refl, ap, ◌∙◌, arith}
+use Rattle.std.proofs.lemmas.Bool.Decides.{nat_tests}
+use Rattle.std.proofs.lemmas.Bool.{eqb-true}
 use Rattle.chess_base.specs.declared.man.Colour.{Colour}
 use Rattle.chess_base.specs.declared.man.Colour.TheVariants.{White, Black}
 use Rattle.chess_base.specs.declared.man.Kind.{Kind}
 use Rattle.chess_base.specs.declared.man.Kind.TheVariants.{Pawn}
 use Rattle.chess_base.specs.declared.man.Move.{Move}
 use Rattle.chess_base.specs.declared.setup.Setup.{Setup}
-use Rattle.chess_base.specs.Attacks.{attacks}
 use Rattle.chess_base.specs.Men.{man_at, is_man, other, first_rank, crossed_rank}
 use Rattle.chess_base.specs.Moves.{is_legal, is_en_passant}
-use Rattle.chess_base.specs.Squares.{is_square, rank}
+use Rattle.chess_base.specs.Squares.{rank}
 use Rattle.chess_base.specs.Sound.{IsSound, target_is_sound, target_is_sound_at}
 use Rattle.chess_moves.specs.Promoting.{would_promote}
 use Rattle.chess_moves.specs.Sets.{HasOrigins}
@@ -34,17 +34,11 @@ not_last Black t e h A = let last = eqb-true (rank t) 0 h in absurd (omega (arit
 
 captures : (p : Setup) (m : Move) → is_en_passant p m ≡ true → is_man p.side Pawn (man_at p.men m.from) ≡ true
 unfolding is_en_passant
-captures p m h =
-    let parts = and_parts (is_man p.side Pawn (man_at p.men m.from) && attacks p.men m.from m.to)
-    (is_square p.target m.to) h in
-    (and_parts (is_man p.side Pawn (man_at p.men m.from)) (attacks p.men m.from m.to) parts.0).0
+captures p m h = grind (arith, h)
 
 on_target : (p : Setup) (m : Move) (t : ℕ) → p.target ≡ Some t → is_en_passant p m ≡ true → m.to ≡ t
 unfolding is_en_passant
-on_target p m t at h =
-    let parts = and_parts (is_man p.side Pawn (man_at p.men m.from) && attacks p.men m.from m.to)
-    (is_square p.target m.to) h in
-    sym (eqb-true t m.to (rw at at parts.1))
+on_target p m t at h = let there = rw at at h in grind (arith, nat_tests, there)
 
 none_promoted : (p : Setup) (m : Move) (t : ℕ) → IsSound p → p.target ≡ Some t → is_legal p m ≡ true → m.to ≡ t
     → m.promotion ≡ None
@@ -54,8 +48,8 @@ none_promoted p m t sound at legal there = by_promotion m.promotion refl
     by_promotion : (o : Option Kind) → m.promotion ≡ o → o ≡ None
     by_promotion None e = refl
     by_promotion (Some k) e =
-        let last = (and_parts (is_man p.side Pawn (man_at p.men m.from)) (rank m.to == first_rank (other p.side))
-        (promotes_on_last_rank p m k e legal)).1 in
+        let promoting = promotes_on_last_rank p m k e legal in
+        let last : (rank m.to == first_rank (other p.side)) ≡ true = grind (arith, promoting) in
         not_last p.side m.to (ap rank there ∙ target_rank p t sound at) last (Some k ≡ None)
 
 -- so the squares from which pawns may go to the target are all to be looked at

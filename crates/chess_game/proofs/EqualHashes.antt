@@ -63,16 +63,9 @@ pub equal_hashes : (f : Hashing) (p q : Setup) → IsSound p → IsSound q → i
     → f p.men p.side p.rights ≡ f q.men q.side q.rights
 unfolding is_same_position
 equal_hashes f p q this that e =
-    let sides = same_colour p.side q.side in
-    let men = same_men p.men q.men in
-    let rights = same_rights p.rights q.rights in
-    let all = and_parts (sides && men && rights)
-    (same_square (legal_en_passant_square p) (legal_en_passant_square q)) e in
-    let most = and_parts (sides && men) rights all.0 in
-    let first = and_parts sides men most.0 in
-    let a = men_equal p.men q.men this.board that.board first.1 in
-    let b = same_colour-true p.side q.side first.0 in
-    let c = rights_equal p.rights q.rights most.1 in
+    let a = men_equal p.men q.men this.board that.board (grind (arith, e)) in
+    let b = same_colour-true p.side q.side (grind (arith, e)) in
+    let c = rights_equal p.rights q.rights (grind (arith, e)) in
     (λ i. f (a i) (b i) (c i))
 
 -- what is the same as one of two positions that are the same is the same as the other
@@ -80,17 +73,10 @@ pub same_alike : (p q r : Setup) → IsSound q → IsSound r → is_same_positio
     ≡ is_same_position p r
 unfolding is_same_position
 same_alike p q r this that e =
-    let sides = same_colour q.side r.side in
-    let men = same_men q.men r.men in
-    let rights = same_rights q.rights r.rights in
-    let all = and_parts (sides && men && rights)
-    (same_square (legal_en_passant_square q) (legal_en_passant_square r)) e in
-    let most = and_parts (sides && men) rights all.0 in
-    let first = and_parts sides men most.0 in
-    let a = men_equal q.men r.men this.board that.board first.1 in
-    let b = same_colour-true q.side r.side first.0 in
-    let c = rights_equal q.rights r.rights most.1 in
-    let d = squares_equal (legal_en_passant_square q) (legal_en_passant_square r) all.1 in
+    let a = men_equal q.men r.men this.board that.board (grind (arith, e)) in
+    let b = same_colour-true q.side r.side (grind (arith, e)) in
+    let c = rights_equal q.rights r.rights (grind (arith, e)) in
+    let d = squares_equal (legal_en_passant_square q) (legal_en_passant_square r) (grind (arith, e)) in
     (λ i. same_colour p.side (b i) && same_men p.men (a i) && same_rights p.rights (c i)
     && same_square (legal_en_passant_square p) (d i))
 

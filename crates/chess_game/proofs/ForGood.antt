@@ -1,8 +1,8 @@
 -- No position before a capture or a pawn move is the same as one after it.
-use Rattle.std.proofs.Common.{◌≡◌, ◌∙◌, inl, inr, ℕ, zero, suc, ◌+◌, ◌<◌, ◌≤◌, Bool, true, false, List, [], ◌∷◌, ◌++◌, length, get_or, Option, None, Some, refl, sym, ap, subst, arith}
+use Rattle.std.proofs.Common.{◌≡◌, ◌∙◌, inl, inr, ℕ, zero, suc, ◌+◌, ◌<◌, ◌≤◌, true, false, List, [], ◌∷◌, ◌++◌, length, get_or, Option, None, Some, refl, sym, ap, subst, arith}
 use Rattle.std.proofs.Math.Seq.{get_or-append_seam}
 use Rattle.std.proofs.lemmas.List.{length-append, get_or_append_left}
-use Rattle.std.specs.Prelude.{◌==◌, ◌&&◌, sum, if◌then◌else◌}
+use Rattle.std.specs.Prelude.{◌==◌, sum, if◌then◌else◌}
 use Rattle.chess_base.specs.declared.man.Move.{Move}
 use Rattle.std.proofs.lemmas.Bool.{cases_Bool, and_parts, eqb-true}
 use Rattle.chess_base.specs.declared.man.Kind.TheVariants.{Pawn}
@@ -18,7 +18,7 @@ use Rattle.chess_base.proofs.shared.Squares.{each_below-at}
 use Rattle.chess_base.proofs.shared.Men.{same_colour-true}
 use Rattle.chess_moves.specs.Made.{WasMade}
 use Rattle.chess_game.specs.Line.{position_after}
-use Rattle.chess_game.specs.Same.{is_same_position, same_man, same_men, same_rights, same_square, legal_en_passant_square}
+use Rattle.chess_game.specs.Same.{is_same_position, same_man, same_men}
 use Rattle.chess_game.specs.ties.PlayedMoves.{moves_of, IsKnown, Follows}
 use Rattle.chess_game.specs.ties.Buckets.{known_at, is_same_at}
 use Rattle.chess_game.specs.declared.game.PlayedMove.{PlayedMove}
@@ -52,13 +52,6 @@ same_reserve men others e =
     (λ k h. same_weight k (man_at men k) (man_at others k)
     (each_below-at 64 (λ s. same_man (man_at men s) (man_at others s)) e k h)))
 
-second : (a b c d : Bool) → (a && b && c && d) ≡ true → b ≡ true
-second true true true true e = refl
-second true false c d e = cc
-second true true false d e = refl
-second true true true false e = refl
-second false b c d e = cc
-
 -- a position whose pieces have more in reserve is another
 pub other_by_reserve : (p q : Setup) → reserve q.men < reserve p.men → is_same_position p q ≡ false
 unfolding is_same_position
@@ -66,9 +59,7 @@ other_by_reserve p q h =
     elim (cases_Bool (is_same_position p q)) [
       | inr fails ↦ fails
       | inl passes ↦
-          let alike = same_reserve p.men q.men
-          (second (same_colour p.side q.side) (same_men p.men q.men) (same_rights p.rights q.rights)
-          (same_square (legal_en_passant_square p) (legal_en_passant_square q)) passes) in
+          let alike = same_reserve p.men q.men (grind (arith, passes)) in
           absurd (omega (arith, alike))
     ]
 

@@ -1,5 +1,5 @@
 -- Whether a piece of a kind is there, by the sets of its squares.
-use Rattle.std.proofs.Common.{◌≡◌, ℕ, zero, suc, ◌+◌, ◌<◌, ◌≤◌, Bool, true, false, not, ◌&&◌, ◌||◌, Option, Some, None, List, [], ◌∷◌, length, take, refl, sym, ◌∙◌, ap, arith}
+use Rattle.std.proofs.Common.{◌≡◌, ℕ, zero, suc, ◌+◌, ◌<◌, ◌≤◌, Bool, not, ◌&&◌, ◌||◌, Option, Some, None, List, [], ◌∷◌, length, take, refl, sym, ◌∙◌, ap, arith}
 use Rattle.std.proofs.Math.Seq.{take-length}
 use Rattle.std.proofs.lemmas.List.Folds.{list_any_more}
 use Rattle.std.specs.List.{list_any}
@@ -47,9 +47,7 @@ any_square f men whole = ap (list_any f) (sym (take-length men)) ∙ ap (λ n. l
 -- ---- by colours
 
 by_colour : (c : Colour) (s : Bool) → s ≡ ((same_colour White c && s) || (same_colour Black c && s))
-by_colour White true = refl
-by_colour White false = refl
-by_colour Black s = refl
+by_colour c s = grind arith
 
 pub of_colours : (kind : Kind) (o : Option Man) → is_kind kind o ≡ (is_man White kind o || is_man Black kind o)
 unfolding is_man
@@ -57,8 +55,7 @@ of_colours wanted None = refl
 of_colours wanted (Some x) = by_colour x.colour (same_kind wanted x.kind)
 
 not_none : (a : Bool) → not (not a) ≡ a
-not_none true = refl
-not_none false = refl
+not_none a = grind arith
 
 -- a piece of the kind is there where the squares of the kind's pieces are some
 pub some_of_kind : (p : Setup) (kind : Kind) (w : ℕ) → IsSound p

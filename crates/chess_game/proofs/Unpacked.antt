@@ -1,4 +1,5 @@
 -- The pieces of packed sets, put on their squares one after another, kind by kind.
+use mathlib.Core.Bool.{and-false}
 use Rattle.std.proofs.Common.{◌≡◌, ◌≢◌, ℕ, ◌<◌, ◌≤◌, ◌+◌, ◌==◌, ◌⊎◌, inl, inr, Bool, true, false, not, ◌&&◌, if◌then◌else◌, refl, sym, ◌∙◌, ap, subst, arith, Option, Some, None, List, [], ◌∷◌, length, set, get_or-set_same, get_or-set_other, length-set, replicate}
 use Rattle.std.proofs.lemmas.Bool.{cases_Bool, cases_eq, eqb-true, ne_eqb}
 use Rattle.std.proofs.lemmas.List.{ext_get_or, get_or-replicate}
@@ -38,11 +39,7 @@ not_member w k out =
   where
     other : (x : ℕ) → ((x == k) ≡ true) ⊎ ((x == k) ≡ false) → (contains w x && (x == k)) ≡ false
     other x (inl same) = let at : x ≡ k = eqb-true x k same in rw (at, out) refl
-    other x (inr apart) = rw apart (never (contains w x))
-      where
-        never : (b : Bool) → (b && false) ≡ false
-        never true = refl
-        never false = refl
+    other x (inr apart) = rw apart (and-false (contains w x))
 
 pub is_member : (w k : ℕ) → k < 64 → contains w k ≡ true → has w k ≡ true
 unfolding members
@@ -163,13 +160,7 @@ by_kinds : (c : Colour) (king queen rook bishop knight pawn : Bool)
     else if knight then Some Knight
     else if pawn then Some Pawn
     else None)
-by_kinds c true queen rook bishop knight pawn = refl
-by_kinds c false true rook bishop knight pawn = refl
-by_kinds c false false true bishop knight pawn = refl
-by_kinds c false false false true knight pawn = refl
-by_kinds c false false false false true pawn = refl
-by_kinds c false false false false false true = refl
-by_kinds c false false false false false false = refl
+by_kinds c king queen rook bishop knight pawn = grind arith
 
 pub kinds_put : (p : PackedMen) (k : ℕ)
     → put_at p p.kings King k (put_at p p.queens Queen k (put_at p p.rooks Rook k (put_at p p.bishops Bishop k

@@ -26,6 +26,11 @@ pub record IsSought (start : Hashed) (xs : List PlayedMove) (now : Hashed) : Typ
   pub sound : IsSound (position_after start.position (moves_of xs))
   pub sound_now : IsSound now.position
 
+pub is_sought : (start : Hashed) (xs : List PlayedMove) (now : Hashed) → Follows start.position xs
+    → (f : Hashing) × HaveHashes f start xs × HasHash f now → IsSound (position_after start.position (moves_of xs))
+    → IsSound now.position → IsSought start xs now
+is_sought start xs now f h s n = record { follows = f; hashes = h; sound = s; sound_now = n }
+
 -- what is the same is in the same bucket
 met_there : (start : Hashed) (xs : List PlayedMove) (now : Hashed) (k : ℕ) → IsSought start xs now → k < suc (length xs)
     → is_same_at start xs now.position k ≡ true → is_in start xs (bucket now) k ≡ true

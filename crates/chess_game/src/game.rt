@@ -451,7 +451,7 @@ impl<B: Board> Game<B> {
     }
 
     /// The same as `verdict`, but faster, for a caller that has a legal move of the present position, `m`: so the game
-    /// is neither mate nor stalemate. `m` is not played.
+    /// is neither mate nor stalemate. `m` is not played; only the contract names it, and a parameter can't be ghost.
     #[inline(always)]
     pub fn verdict_of_moving(&self, m: &Move) -> Option<Verdict>
         requires { IsTrue (is_legal (current self.now.state) m.now) }
@@ -512,7 +512,7 @@ impl<B: Board> Game<B> {
     }
 
     /// The same as `refusal`, but faster, for a caller that has a legal move of the present position, `m`: so the game
-    /// is neither mate nor stalemate. `m` is not played.
+    /// is neither mate nor stalemate. `m` is not played; only the contract names it, and a parameter can't be ghost.
     #[inline(always)]
     pub fn refusal_of_moving(&self, m: &Move) -> Option<PlayRefusal>
         requires { IsTrue (is_legal (current self.now.state) m.now) }

@@ -2,7 +2,7 @@
 
 ghost use Rattle.chess_game.specs.declared.tags.TheConstants.{TAG_LEN};
 ghost use Rattle.std.specs.Prelude.{◌≡◌, ◌≤◌, length, map};
-ghost use Rattle.chess_game.specs.Results.{tag_byte, cut_tag, IsTagText};
+ghost use Rattle.chess_game.specs.Results.{shown_byte, cut_tag, IsTagText};
 
 use arrayvec::ArrayVec;
 use std::marker::Model;
@@ -12,6 +12,7 @@ const TAG_LEN: usize = 60;
 
 /// The value of a PGN tag, such as a player's name: at most 60 printable bytes of ASCII. In contracts it is the list of
 /// its bytes.
+// A type beside `Comment`, in which braces are replaced too: one for both would need a parameter for the bytes kept.
 #[derive(Drop)]
 pub struct TagText {
     text: ArrayVec<u8, 60>,
@@ -48,8 +49,8 @@ impl TagText {
 }
 
 // A byte as a tag's text holds it: `?` in place of what is no printable ASCII.
-fn tag_byte(byte: u8) -> u8
-    ensures { result ≡ tag_byte byte }
+fn shown_byte(byte: u8) -> u8
+    ensures { result ≡ shown_byte byte }
 {
     if byte < 32 || byte > 126 { b'?' } else { byte }
 }
@@ -57,11 +58,11 @@ fn tag_byte(byte: u8) -> u8
 // The bytes with `?` in place of what is no printable ASCII.
 fn tag_bytes(bytes: &[u8]) -> ArrayVec<u8, 60>
     requires { length bytes.now ≤ TAG_LEN }
-    ensures { result.items ≡ map tag_byte bytes.now }
+    ensures { result.items ≡ map shown_byte bytes.now }
 {
     let mut kept = ArrayVec::new();
     for byte in bytes {
-        kept.push(tag_byte(*byte));
+        kept.push(shown_byte(*byte));
     }
     kept
 }

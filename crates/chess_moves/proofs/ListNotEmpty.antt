@@ -1,5 +1,5 @@
 -- Where a move is legal, there are legal moves.
-use Rattle.std.proofs.Common.{◌≡◌, ℕ, suc, ◌<◌, inl, inr, Bool, true, false, Option, Some, None, List, [], ◌∷◌, length, map, refl, ◌∙◌, arith, ◌==◌, nat_lt}
+use Rattle.std.proofs.Common.{◌≡◌, ℕ, ◌<◌, inl, inr, Bool, true, false, Option, Some, None, List, [], ◌∷◌, length, map, refl, ◌∙◌, arith, ◌==◌, nat_lt}
 use Rattle.std.proofs.lemmas.Bool.{cases_Bool, both_ways, lt-ltb}
 use Rattle.std.proofs.lemmas.List.Folds.{list_any_at}
 use Rattle.std.specs.List.{filter, flat_map, list_any}
@@ -61,7 +61,7 @@ some_kept : {A : Type 0} (q : A → Bool) (xs : List A) → list_any q xs ≡ tr
 some_kept q [] h = cc
 some_kept q (x ∷ xs) h =
     elim (cases_Bool (q x)) [
-      | inl on ↦ rw on (lt-ltb 0 (suc (length (filter q xs))) (omega arith))
+      | inl on ↦ rw on (lt-ltb _ _ (omega arith))
       | inr off ↦ rw off (some_kept q xs (rw off at h))
     ]
 

@@ -2,7 +2,6 @@
 use Rattle.std.proofs.Common.{◌≡◌, ℕ, false, []}
 use Rattle.std.proofs.lemmas.Bool.{false_from_ne_true, both_ways}
 use Rattle.chess_base.specs.declared.setup.Setup.{Setup}
-use Rattle.chess_base.specs.Moves.{is_legal}
 use Rattle.chess_base.specs.MoveList.{promotions, move_of}
 use Rattle.chess_moves.specs.ties.Candidates.{is_in_reach}
 use Rattle.chess_moves.specs.shared.MovesBySquares.{moves_between}
@@ -12,5 +11,4 @@ use Rattle.chess_moves.proofs.shared.MovesBySquares.{none_with}
 pub none_between : (p : Setup) (a b : ℕ) → is_in_reach a b ≡ false → moves_between p a b ≡ []
 unfolding moves_between
 none_between p a b n =
-    none_with p a b promotions
-    (λ k. false_from_ne_true (is_legal p (move_of a b k)) (λ e. both_ways _ n (legal_in_reach p (move_of a b k) e)))
+    none_with p a b promotions (λ k. false_from_ne_true _ (λ e. both_ways _ n (legal_in_reach p (move_of a b k) e)))

@@ -1,7 +1,6 @@
 -- Sets shifted by a number of squares, and files and ranks as sets.
-use Rattle.std.proofs.Common.{◌≡◌, ℕ, ◌<◌, ◌≤◌, ◌+◌, ◌-◌, ◌*◌, ◌/◌, ◌%◌, ◌^◌, inl, inr, Bool, true, false, not, ◌&&◌, ◌||◌, ◌==◌, refl, sym, ap, ◌∙◌, arith, nat_le, nat_lt, pow_pos, shr-shr}
-use Rattle.std.proofs.lemmas.Bool.{cases_lt, cases_Bool, leb-true, leb-false, le-leb, lt-leb, eqb-true, eq-eqb, ne_eqb, both_ways, agree_below_at}
-use Rattle.std.proofs.lemmas.Bool.Decides.{nat_tests}
+use Rattle.std.proofs.Common.{◌≡◌, ℕ, ◌<◌, ◌≤◌, ◌+◌, ◌-◌, ◌*◌, ◌/◌, ◌%◌, ◌^◌, inl, inr, ◌&&◌, ◌==◌, refl, sym, ap, ◌∙◌, arith, nat_le, pow_pos, shr-shr}
+use Rattle.std.proofs.lemmas.Bool.{cases_lt, cases_Bool, le-leb, lt-leb, eqb-true, eq-eqb, ne_eqb, both_ways, agree_below_at}
 use Rattle.std.proofs.lemmas.Nat.{div-add-mod'}
 use Rattle.std.proofs.lemmas.Nat.Bits.{bit_at-zero, bit_at_cat_low, bit_at_cat_high}
 use Rattle.std.specs.Int.{bit_at}
@@ -34,7 +33,7 @@ unfolding contains
 has_raised w d k l =
     elim (cases_lt k d) [
       | inl low ↦ rw (lt-leb d k low, kept (w * 2 ^ d) k l, moved_low w d k low) refl
-      | inr high ↦ rw (le-leb d k high, kept (w * 2 ^ d) k l, moved_high w d k high) refl
+      | inr high ↦ rw (le-leb _ _ high, kept (w * 2 ^ d) k l, moved_high w d k high) refl
     ]
 
 -- ---- files and ranks
@@ -50,29 +49,25 @@ on_first_rank k l = agree_below_at (λ j. contains 255 j) (λ j. j / 8 == 0) 64 
 pub on_file : (n k : ℕ) → n < 8 → k < 64 → (nat_le n k && contains 72340172838076673 (k - n)) ≡ (file k == n)
 on_file n k low high =
     elim (cases_lt k n) [
-      | inl below ↦ rw (lt-leb n k below) (sym (ne_eqb (k % 8) n (λ e. omega (arith, e, below, low))))
+      | inl below ↦ rw (lt-leb n k below) (sym (ne_eqb _ _ (λ e. omega (arith, e, below, low))))
       | inr above ↦
-          rw (le-leb n k above, on_first_file (k - n) (omega (arith, high)))
-          (elim (cases_Bool (k % 8 == n)) [
-            | inl on ↦ let e = eqb-true (k % 8) n on in
-                eq-eqb ((k - n) % 8) 0 (omega (arith, e, above)) ∙ sym on
-            | inr off ↦ ne_eqb ((k - n) % 8) 0
-                (λ e. let f : k % 8 ≡ n = omega (arith, e, above, low) in both_ways (k % 8 == n) off (eq-eqb (k % 8) n f))
-                ∙ sym off
+          rw (le-leb _ _ above, on_first_file (k - n) (omega (arith, high))) (elim (cases_Bool (k % 8 == n)) [
+            | inl on ↦ let e = eqb-true _ _ on in
+                eq-eqb _ _ (omega (arith, e, above)) ∙ sym on
+            | inr off ↦ ne_eqb _ _
+                (λ e. let f : k % 8 ≡ n = omega (arith, e, above, low) in both_ways _ off (eq-eqb _ _ f)) ∙ sym off
           ])
     ]
 
 pub on_rank : (n k : ℕ) → n < 8 → k < 64 → (nat_le (8 * n) k && contains 255 (k - 8 * n)) ≡ (rank k == n)
 on_rank n k low high =
     elim (cases_lt k (8 * n)) [
-      | inl below ↦ rw (lt-leb (8 * n) k below) (sym (ne_eqb (k / 8) n (λ e. omega (arith, e, below))))
+      | inl below ↦ rw (lt-leb (8 * n) k below) (sym (ne_eqb _ _ (λ e. omega (arith, e, below))))
       | inr above ↦
-          rw (le-leb (8 * n) k above, on_first_rank (k - 8 * n) (omega (arith, high)))
-          (elim (cases_Bool (k / 8 == n)) [
-            | inl on ↦ let e = eqb-true (k / 8) n on in
-                eq-eqb ((k - 8 * n) / 8) 0 (omega (arith, e, above)) ∙ sym on
-            | inr off ↦ ne_eqb ((k - 8 * n) / 8) 0
-                (λ e. let f : k / 8 ≡ n = omega (arith, e, above) in both_ways (k / 8 == n) off (eq-eqb (k / 8) n f))
-                ∙ sym off
+          rw (le-leb _ _ above, on_first_rank (k - 8 * n) (omega (arith, high))) (elim (cases_Bool (k / 8 == n)) [
+            | inl on ↦ let e = eqb-true _ _ on in
+                eq-eqb _ _ (omega (arith, e, above)) ∙ sym on
+            | inr off ↦ ne_eqb _ _
+                (λ e. let f : k / 8 ≡ n = omega (arith, e, above) in both_ways _ off (eq-eqb _ _ f)) ∙ sym off
           ])
     ]

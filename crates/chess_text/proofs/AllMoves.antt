@@ -1,7 +1,7 @@
 -- A legal move is in the list of all moves, once.
 use Rattle.std.proofs.Common.{◌≡◌, ◌≢◌, ℕ, zero, suc, ◌<◌, ◌≤◌, inl, inr, Bool, true, false, ◌&&◌, cond, Option, Some, None, List, [], ◌∷◌, map, refl, sym, ap, ◌∙◌, arith}
 use Rattle.std.specs.Prelude.{IfSome}
-use Rattle.std.proofs.lemmas.Bool.{cases_Bool, cases_lt, and_parts, and_from, false_from_ne_true, or_left, or_right}
+use Rattle.std.proofs.lemmas.Bool.{cases_Bool, cases_lt, and_parts, and_from, false_from_ne_true}
 use Rattle.std.proofs.lemmas.List.{append-nil}
 use Rattle.std.specs.List.{filter, flat_map, list_any}
 use Rattle.chess_base.specs.declared.man.Kind.{Kind}
@@ -15,6 +15,7 @@ use Rattle.chess_moves.proofs.shared.MovesBySquares.{filter-flat_map}
 use Rattle.chess_moves.proofs.shared.AnyMove.{any-filter, any-flat_map, any-square}
 use Rattle.chess_text.specs.laws.Laws.{CanPromote}
 use Rattle.chess_text.proofs.Legal.{legal_move}
+use Rattle.chess_text.proofs.Lists.{any-map, promotion_in}
 
 -- ---- over lists
 
@@ -66,50 +67,12 @@ none-squares f e = none-from_below 64 (λ s. s) f (λ k l. e k)
 abbrev among : (Move → Bool) → ℕ → ℕ → Bool
 among t a b = list_any t (map (move_of a b) promotions)
 
-any-here : {A : Type 0} (t : A → Bool) (x : A) (xs : List A) → t x ≡ true → list_any t (x ∷ xs) ≡ true
-any-here t x xs e = or_left (t x) (list_any t xs) e
-
-any-later : {A : Type 0} (t : A → Bool) (x : A) (xs : List A) → list_any t xs ≡ true → list_any t (x ∷ xs) ≡ true
-any-later t x xs e = or_right (t x) (list_any t xs) e
-
-abbrev from_knight : ℕ → ℕ → List Move
-from_knight a b = move_of a b (Some Knight) ∷ []
-
-abbrev from_bishop : ℕ → ℕ → List Move
-from_bishop a b = move_of a b (Some Bishop) ∷ from_knight a b
-
-abbrev from_rook : ℕ → ℕ → List Move
-from_rook a b = move_of a b (Some Rook) ∷ from_bishop a b
-
-abbrev from_queen : ℕ → ℕ → List Move
-from_queen a b = move_of a b (Some Queen) ∷ from_rook a b
-
-any-promotion : (t : Move → Bool) (a b : ℕ) (o : Option Kind) → IfSome o CanPromote → t (move_of a b o) ≡ true
-    → among t a b ≡ true
-any-promotion t a b None h e = any-here t (move_of a b None) (from_queen a b) e
-any-promotion t a b (Some King) h e = absurd h
-any-promotion t a b (Some Pawn) h e = absurd h
-any-promotion t a b (Some Queen) h e = any-later t (move_of a b None) (from_queen a b)
-    (any-here t (move_of a b (Some Queen)) (from_rook a b) e)
-any-promotion t a b (Some Rook) h e =
-    any-later t (move_of a b None) (from_queen a b)
-    (any-later t (move_of a b (Some Queen)) (from_rook a b)
-    (any-here t (move_of a b (Some Rook)) (from_bishop a b) e))
-any-promotion t a b (Some Bishop) h e =
-    any-later t (move_of a b None) (from_queen a b)
-    (any-later t (move_of a b (Some Queen)) (from_rook a b)
-    (any-later t (move_of a b (Some Rook)) (from_bishop a b)
-    (any-here t (move_of a b (Some Bishop)) (from_knight a b) e)))
-any-promotion t a b (Some Knight) h e =
-    any-later t (move_of a b None) (from_queen a b)
-    (any-later t (move_of a b (Some Queen)) (from_rook a b) (any-later t (move_of a b (Some Rook)) (from_bishop a b)
-    (any-later t (move_of a b (Some Bishop)) (from_knight a b) (any-here t (move_of a b (Some Knight)) [] e))))
-
 any-triple : (t : Move → Bool) (m : Move) → m.from < 64 → m.to < 64 → IfSome m.promotion CanPromote → t m ≡ true
     → list_any t all_moves ≡ true
 unfolding all_moves
 any-triple t m f b k e =
-    let here : among t m.from m.to ≡ true = any-promotion t m.from m.to m.promotion k e in
+    let here : among t m.from m.to ≡ true = any-map t (move_of m.from m.to) promotions
+    ∙ promotion_in m.promotion k (λ o. t (move_of m.from m.to o)) e in
     let from : list_any t (flat_map (λ b. map (move_of m.from b) promotions) squares) ≡ true =
     any-flat_map t (λ b. map (move_of m.from b) promotions) squares
     ∙ any-square (λ b. among t m.from b) m.to b here in

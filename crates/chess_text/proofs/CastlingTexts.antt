@@ -18,33 +18,20 @@ pub record IsCastling (text : List ℕ) (w : CastlingSide) : Type 0 where
   pub no_parts : parts_at text ≡ None
   pub names : (v : CastlingSide) → names_side text v ≡ same_side w v
 
-pub letters_kingside : IsCastling (codes "O-O") KingSide
-letters_kingside = record { no_parts = refl; names = by_side }
+castling_by : (text : List ℕ) (w : CastlingSide) → parts_at text ≡ None
+    → names_side text KingSide ≡ same_side w KingSide → names_side text QueenSide ≡ same_side w QueenSide
+    → IsCastling text w
+castling_by text w none king queen = record { no_parts = none; names = by_side }
   where
-    by_side : (v : CastlingSide) → names_side (codes "O-O") v ≡ same_side KingSide v
-    by_side KingSide = refl
-    by_side QueenSide = refl
+    by_side : (v : CastlingSide) → names_side text v ≡ same_side w v
+    by_side KingSide = king
+    by_side QueenSide = queen
 
-digits_kingside : IsCastling (codes "0-0") KingSide
-digits_kingside = record { no_parts = refl; names = by_side }
-  where
-    by_side : (v : CastlingSide) → names_side (codes "0-0") v ≡ same_side KingSide v
-    by_side KingSide = refl
-    by_side QueenSide = refl
+pub letters_kingside : IsCastling (codes "O-O") KingSide
+letters_kingside = castling_by (codes "O-O") KingSide refl refl refl
 
 pub letters_queenside : IsCastling (codes "O-O-O") QueenSide
-letters_queenside = record { no_parts = refl; names = by_side }
-  where
-    by_side : (v : CastlingSide) → names_side (codes "O-O-O") v ≡ same_side QueenSide v
-    by_side KingSide = refl
-    by_side QueenSide = refl
-
-digits_queenside : IsCastling (codes "0-0-0") QueenSide
-digits_queenside = record { no_parts = refl; names = by_side }
-  where
-    by_side : (v : CastlingSide) → names_side (codes "0-0-0") v ≡ same_side QueenSide v
-    by_side KingSide = refl
-    by_side QueenSide = refl
+letters_queenside = castling_by (codes "O-O-O") QueenSide refl refl refl
 
 one_of_two : (text a b : List ℕ) (w : CastlingSide) → IsCastling a w → IsCastling b w
     → list_any (bytes_eq text) (a ∷ b ∷ []) ≡ true → IsCastling text w
@@ -57,6 +44,6 @@ one_of_two text a b w at_a at_b e =
 
 pub castling_from_name : (text : List ℕ) (w : CastlingSide) → names_side text w ≡ true → IsCastling text w
 castling_from_name text KingSide e = one_of_two text (codes "O-O") (codes "0-0") KingSide letters_kingside
-    digits_kingside e
+    (castling_by (codes "0-0") KingSide refl refl refl) e
 castling_from_name text QueenSide e = one_of_two text (codes "O-O-O") (codes "0-0-0") QueenSide letters_queenside
-    digits_queenside e
+    (castling_by (codes "0-0-0") QueenSide refl refl refl) e

@@ -1,23 +1,22 @@
 -- The coordinate text of a legal move denotes it alone.
-use Rattle.std.proofs.Common.{◌≡◌, ◌+◌, ◌<◌, inl, inr, true, false, not, ◌&&◌, ◌||◌, ◌∷◌, Option, Some, None, refl, sym, ap, ◌∙◌, arith, ◌==◌}
-use Rattle.std.specs.Prelude.{IfSome, IsTrue}
-use Rattle.std.proofs.lemmas.Bool.{and_parts, or_cases, eqb-true, eq-eqb}
+use Rattle.std.proofs.Common.{◌≡◌, ◌+◌, ◌<◌, true, false, not, ◌∷◌, Option, Some, None, refl, sym, ap, ◌∙◌, arith}
+use Rattle.std.specs.Prelude.{IsTrue}
+use Rattle.std.proofs.lemmas.Bool.Decides.{nat_tests}
+use Rattle.std.proofs.lemmas.Bool.{eq-eqb}
 use Rattle.chess_base.specs.declared.man.Kind.{Kind}
-use Rattle.chess_base.specs.declared.man.Kind.TheVariants.{Pawn}
 use Rattle.chess_base.specs.declared.man.Move.{Move}
 use Rattle.chess_base.specs.declared.setup.Setup.{Setup}
 use Rattle.chess_base.specs.Coordinates.{optional, small_letter_text, coordinate}
-use Rattle.chess_base.specs.Men.{same_kind}
 use Rattle.chess_base.specs.Moves.{is_legal}
 use Rattle.chess_base.specs.Squares.{file, rank}
 use Rattle.chess_text.specs.declared.parts.Parts.{Parts}
 use Rattle.chess_text.specs.declared.reading.Reading.TheVariants as reads
-use Rattle.chess_text.specs.laws.Laws.{DenotesAlone, AreParts, CanPromote}
+use Rattle.chess_text.specs.laws.Laws.{DenotesAlone, AreParts}
 use Rattle.chess_text.specs.Parts.{unmarked}
 use Rattle.chess_text.specs.ties.Fitting.{promotion_text, parts_text}
 use Rattle.chess_text.specs.Moves.{shape, reading}
-use Rattle.chess_text.specs.ties.Fitting.{has_equals, promotes_so, is_form, parts_fit, is_by_squares, is_by_letter, is_straight, is_by_file}
-use Rattle.chess_text.proofs.OneMoveFits.{read_alone, denoted_parts, shape_parts, denotes_move, move_is, written, promotes-self, promotes-same}
+use Rattle.chess_text.specs.ties.Fitting.{has_equals, is_form, parts_fit, is_by_squares, is_by_letter, is_straight, is_by_file}
+use Rattle.chess_text.proofs.OneMoveFits.{read_alone, denoted_parts, shape_parts, denotes_move, move_is, written, promotion_part, promotes-self, promotes-same}
 use Rattle.chess_text.proofs.Legal.{IsMove, legal_move, described_as}
 use Rattle.chess_text.proofs.Solid.{bare_parts}
 use Rattle.chess_text.proofs.WrittenStarts.{same_square}
@@ -42,17 +41,13 @@ text_is m = ap (λ v. (97 + file m.from) ∷ (49 + rank m.from) ∷ (97 + file m
 bare : (m : Move) → m.to < 64 → unmarked (coordinate m) ≡ parts_text (squares_named m)
 bare m h = ap unmarked (text_is m) ∙ bare_parts (squares_named m) h
 
-promotion_part : (o : Option Kind) → IfSome o CanPromote → IfSome (written false true o) (λ p. CanPromote p.kind)
-promotion_part None h = tt
-promotion_part (Some k) h = h
-
 are_parts : (p : Setup) (m : Move) → IsMove p m → AreParts (squares_named m)
 are_parts p m h = record {
   letter_is = tt;
   file_is = (let from = h.from_in in omega arith);
   rank_is = (let from = h.from_in in omega arith);
   to_is = h.to_in;
-  promotion_is = promotion_part m.promotion h.promotion_is;
+  promotion_is = promotion_part false true m.promotion h.promotion_is;
 }
 
 no_equals : (o : Option Kind) → not (has_equals (written false true o)) ≡ true
@@ -74,65 +69,13 @@ record Same (m n : Move) : Type 0 where
   to : n.to ≡ m.to
   promotion : n.promotion ≡ m.promotion
 
-by_squares : (p : Setup) (m n : Move) (k : Kind) → is_by_squares (squares_named m) (described_as p n k) ≡ true → Same m n
-unfolding is_by_squares
-by_squares p m n k e =
-    let e5 = and_parts ((file m.from == file n.from) && (rank m.from == rank n.from) && true && (m.to == n.to)
-    && not (has_equals (written false true m.promotion))) (promotes_so (written false true m.promotion) n.promotion)
-    e in
-    let e4 = and_parts ((file m.from == file n.from) && (rank m.from == rank n.from) && true && (m.to == n.to))
-    (not (has_equals (written false true m.promotion))) e5.0 in
-    let e3 = and_parts ((file m.from == file n.from) && (rank m.from == rank n.from) && true) (m.to == n.to) e4.0 in
-    let e2 = and_parts ((file m.from == file n.from) && (rank m.from == rank n.from)) true e3.0 in
-    let e1 = and_parts (file m.from == file n.from) (rank m.from == rank n.from) e2.0 in
-    record {
-      from = same_square m.from n.from (eqb-true (file m.from) (file n.from) e1.0)
-          (eqb-true (rank m.from) (rank n.from) e1.1);
-      to = sym (eqb-true m.to n.to e3.1);
-      promotion = promotes-same false true m.promotion n.promotion e5.1;
-    }
-
-from_file : (p : Setup) (m n : Move) (k : Kind) → is_by_file (squares_named m) (described_as p n k) ≡ true → Same m n
-unfolding is_by_file
-from_file p m n k e =
-    let e4 = and_parts ((file m.from == file n.from) && (rank m.from == rank n.from) && same_kind Pawn k && true
-    && (m.to == n.to)) (promotes_so (written false true m.promotion) n.promotion) e in
-    let e3 = and_parts ((file m.from == file n.from) && (rank m.from == rank n.from) && same_kind Pawn k && true)
-    (m.to == n.to) e4.0 in
-    let e2 = and_parts ((file m.from == file n.from) && (rank m.from == rank n.from) && same_kind Pawn k) true e3.0 in
-    let e1 = and_parts ((file m.from == file n.from) && (rank m.from == rank n.from)) (same_kind Pawn k) e2.0 in
-    let e0 = and_parts (file m.from == file n.from) (rank m.from == rank n.from) e1.0 in
-    record {
-      from = same_square m.from n.from (eqb-true (file m.from) (file n.from) e0.0)
-          (eqb-true (rank m.from) (rank n.from) e0.1);
-      to = sym (eqb-true m.to n.to e3.1);
-      promotion = promotes-same false true m.promotion n.promotion e4.1;
-    }
-
-not_by_letter : (p : Setup) (m n : Move) (k : Kind) → is_by_letter (squares_named m) (described_as p n k) ≡ false
-unfolding is_by_letter
-not_by_letter p m n k = refl
-
-not_straight : (p : Setup) (m n : Move) (k : Kind) → is_straight (squares_named m) (described_as p n k) ≡ false
-unfolding is_straight
-not_straight p m n k = refl
-
 fits_alone : (p : Setup) (m n : Move) (k : Kind) → parts_fit (squares_named m) (described_as p n k) ≡ true → Same m n
-unfolding parts_fit
-fits_alone p m n k e =
-    let a = not_by_letter p m n k in
-    let b = not_straight p m n k in
-    elim (or_cases (is_by_squares (squares_named m) (described_as p n k) || is_by_letter (squares_named m) (described_as p n k)
-    || is_straight (squares_named m) (described_as p n k)) (is_by_file (squares_named m) (described_as p n k)) e) [
-      | inr h ↦ from_file p m n k h
-      | inl h ↦ elim
-          (or_cases (is_by_squares (squares_named m) (described_as p n k) || is_by_letter (squares_named m) (described_as p n k))
-          (is_straight (squares_named m) (described_as p n k)) h) [
-            | inr g ↦ absurd cc
-            | inl g ↦ elim (or_cases (is_by_squares (squares_named m) (described_as p n k))
-                (is_by_letter (squares_named m) (described_as p n k)) g) [ inl f ↦ by_squares p m n k f | inr f ↦ absurd cc ]
-          ]
-    ]
+unfolding parts_fit is_by_squares is_by_letter is_straight is_by_file
+fits_alone p m n k e = record {
+  from = same_square m.from n.from (grind (arith, nat_tests, e)) (grind (arith, nat_tests, e));
+  to = grind (arith, nat_tests, e);
+  promotion = promotes-same false true m.promotion n.promotion (grind (arith, nat_tests, e));
+}
 
 pub coordinate_alone : (p : Setup) (m : Move) → IsTrue (is_legal p m) → DenotesAlone p (coordinate m) m
 coordinate_alone p m legal =

@@ -1,8 +1,9 @@
 -- All moves that a form denotes end on one square, so that none needs be looked at that ends elsewhere.
 use mathlib.Core.Bool.{and_comm}
-use Rattle.std.proofs.Common.{◌≡◌, ◌≢◌, ℕ, ◌≤◌, inl, inr, Bool, true, false, ◌&&◌, ◌||◌, Option, Some, None, List, [], ◌∷◌, map, refl, sym, ap, ◌∙◌, arith}
-use Rattle.std.proofs.lemmas.Bool.Decides.{nat_tests}
-use Rattle.std.proofs.lemmas.Bool.{and_parts, or_cases, false_from_ne_true}
+use Rattle.std.proofs.Common.{◌≡◌, ◌≢◌, ℕ, ◌≤◌, Bool, true, false, ◌&&◌, Option, Some, None, map, refl, sym, ap, ◌∙◌, arith}
+use Rattle.std.proofs.lemmas.Bool.{and_parts, false_from_ne_true}
+use Rattle.std.proofs.lemmas.List.Elements.{filter_agree}
+use Rattle.std.proofs.Math.Path.{fun_ext}
 use Rattle.std.specs.List.{filter, flat_map}
 use Rattle.chess_base.specs.declared.man.CastlingSide.{CastlingSide}
 use Rattle.chess_base.specs.declared.man.CastlingSide.TheVariants.{KingSide, QueenSide}
@@ -14,50 +15,17 @@ use Rattle.chess_base.specs.Moves.{is_legal}
 use Rattle.chess_base.specs.Castling.{right_of}
 use Rattle.chess_base.specs.MoveList.{promotions, move_of, squares, all_moves, moves}
 use Rattle.chess_moves.proofs.shared.MovesBySquares.{filter-flat_map}
-use Rattle.chess_text.specs.declared.described.Described.{Described}
 use Rattle.chess_text.specs.declared.form.Form.{Form}
 use Rattle.chess_text.specs.declared.form.Form.TheVariants.{Castling, Piece}
-use Rattle.chess_text.specs.declared.parts.Parts.{Parts}
 use Rattle.chess_text.specs.Moves.{described, passes}
-use Rattle.chess_text.specs.ties.Fitting.{is_by_squares, is_by_letter, is_straight, is_by_file, parts_fit}
 use Rattle.chess_text.specs.ties.Forms.{same_side, form_fits, is_denoted, castling_end, end_square, denoted_with}
-use Rattle.chess_text.proofs.Denotations.{passing}
+use Rattle.chess_text.proofs.Denotations.{facts, passing}
 use Rattle.chess_text.proofs.AllMoves.{filter-both, none-kept, kept, alone-square}
 use Rattle.chess_text.proofs.Legal.{described_by, castling_says, names_end, legal_move}
 
 -- ---- where a denoted move ends
 
-by_squares_ends : (q : Parts) (d : Described) → is_by_squares q d ≡ true → d.to ≡ q.end.to
-unfolding is_by_squares
-by_squares_ends q d h = grind (arith, nat_tests, h)
-
-by_letter_ends : (q : Parts) (d : Described) → is_by_letter q d ≡ true → d.to ≡ q.end.to
-unfolding is_by_letter
-by_letter_ends q d h = grind (arith, nat_tests, h)
-
-straight_ends : (q : Parts) (d : Described) → is_straight q d ≡ true → d.to ≡ q.end.to
-unfolding is_straight
-straight_ends q d h = grind (arith, nat_tests, h)
-
-from_file_ends : (q : Parts) (d : Described) → is_by_file q d ≡ true → d.to ≡ q.end.to
-unfolding is_by_file
-from_file_ends q d h = grind (arith, nat_tests, h)
-
-fitting_ends : (q : Parts) (d : Described) → parts_fit q d ≡ true → d.to ≡ q.end.to
-unfolding parts_fit
-fitting_ends q d h =
-    elim (or_cases (is_by_squares q d || is_by_letter q d || is_straight q d) (is_by_file q d) h) [
-      | inr e ↦ from_file_ends q d e
-      | inl three ↦ elim (or_cases (is_by_squares q d || is_by_letter q d) (is_straight q d) three) [
-        | inr e ↦ straight_ends q d e
-        | inl two ↦ elim (or_cases (is_by_squares q d) (is_by_letter q d) two) [
-          | inl e ↦ by_squares_ends q d e
-          | inr e ↦ by_letter_ends q d e
-        ]
-      ]
-    ]
-
-same_side-true : (v w : CastlingSide) → same_side v w ≡ true → v ≡ w
+pub same_side-true : (v w : CastlingSide) → same_side v w ≡ true → v ≡ w
 same_side-true KingSide KingSide h = refl
 same_side-true QueenSide QueenSide h = refl
 same_side-true KingSide QueenSide h = cc
@@ -66,7 +34,7 @@ same_side-true QueenSide KingSide h = cc
 form_ends : (form : Form) (p : Setup) (m : Move) (o : Option Man) → passes (form_fits form) (described_by p m o) ≡ true
     → m.to ≡ end_square form p
 form_ends form p m None h = cc
-form_ends (Piece q) p m (Some x) h = fitting_ends q _ h
+form_ends (Piece q) p m (Some x) h = sym (facts q _ h).to_is
 form_ends (Castling w) p m (Some x) h =
     let c = passing (same_side w) _ h in
     names_end p.variant p.side m c.0 (right_of p.rights p.side c.0) (castling_says p m c.0 c.1).1
@@ -92,15 +60,6 @@ not_legal form p m past =
     (λ h. let legal = legal_move p m (and_parts (is_denoted form p m) (is_legal p m) h).1 in let below = legal.to_in in
     omega (arith, below, past))
 
-filter_same : {A : Type 0} (q t : A → Bool) → ((x : A) → q x ≡ t x) → (xs : List A) → filter q xs ≡ filter t xs
-filter_same q t h [] = refl
-filter_same q t h (x ∷ xs) = rw (h x, filter_same q t h xs) refl
-
-flat_map_same : {A B : Type 0} (f g : A → List B) → ((x : A) → f x ≡ g x) → (xs : List A)
-    → flat_map f xs ≡ flat_map g xs
-flat_map_same f g h [] = refl
-flat_map_same f g h (x ∷ xs) = rw (h x, flat_map_same f g h xs) refl
-
 -- from one square
 from_one : (form : Form) (p : Setup) (a : ℕ) → filter (fit form p) (flat_map (λ b. map (move_of a b) promotions) squares)
     ≡ denoted_with form p a (end_square form p) promotions
@@ -116,8 +75,7 @@ pub all_denoted : (form : Form) (p : Setup)
 unfolding moves all_moves
 all_denoted form p =
     sym (filter-both (λ m. is_legal p m) (λ m. is_denoted form p m) all_moves
-    ∙ filter_same (λ m. is_legal p m && is_denoted form p m) (fit form p)
+    ∙ filter_agree (λ m. is_legal p m && is_denoted form p m) (fit form p)
     (λ m. and_comm (is_legal p m) (is_denoted form p m)) all_moves
     ∙ filter-flat_map (fit form p) (λ a. flat_map (λ b. map (move_of a b) promotions) squares) squares
-    ∙ flat_map_same (λ a. filter (fit form p) (flat_map (λ b. map (move_of a b) promotions) squares))
-    (λ a. denoted_with form p a (end_square form p) promotions) (from_one form p) squares)
+    ∙ ap (λ f. flat_map f squares) (fun_ext (from_one form p)))

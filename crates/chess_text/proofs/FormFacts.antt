@@ -1,5 +1,5 @@
 -- What a text is read as fixes its shape and what it denotes.
-use Rattle.std.proofs.Common.{◌≡◌, ℕ, inl, inr, Bool, true, false, ◌&&◌, ◌||◌, cond, List, [], ◌∷◌, Option, Some, None, is_some, refl, sym, ap, ◌∙◌}
+use Rattle.std.proofs.Common.{◌≡◌, ℕ, inl, inr, Bool, true, false, ◌&&◌, ◌||◌, cond, List, [], ◌∷◌, Option, Some, None, is_some, refl, sym, ap, ◌∙◌, arith}
 use Rattle.std.proofs.lemmas.Bool.{and_parts, cases_Bool}
 use Rattle.std.proofs.lemmas.List.Elements.{filter_agree}
 use Rattle.std.specs.List.{list_any, filter}
@@ -36,11 +36,7 @@ has-read test text = refl
 
 shape_by_parts : (o : Option Parts) → passes is_form o ≡ is_some (form_of_parts o)
 shape_by_parts None = refl
-shape_by_parts (Some q) = by_test (is_form q)
-  where
-    by_test : (t : Bool) → t ≡ is_some (cond t (Some (Piece q)) None)
-    by_test true = refl
-    by_test false = refl
+shape_by_parts (Some q) = grind arith
 
 shape_by : (text : List ℕ) (a b : Bool) → (a || b || passes is_form (parts_at text))
     ≡ is_some (form_at (cond a (Some KingSide) (cond b (Some QueenSide) None)) text)

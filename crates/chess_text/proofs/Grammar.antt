@@ -45,12 +45,7 @@ can_promote : (c : ℕ) (k : Kind) → kind_from promoted c ≡ Some k → CanPr
 can_promote c k e = promoting k (ap (kind_from promoted) (found promoted c k e) ∙ e)
 
 small_letter : (c : ℕ) (k : Kind) → white_letter k ≡ c - 32 → white_letter k + 32 ≡ c
-small_letter c Pawn e = omega arith
-small_letter c Knight e = omega arith
-small_letter c Bishop e = omega arith
-small_letter c Rook e = omega arith
-small_letter c Queen e = omega arith
-small_letter c King e = omega arith
+small_letter c k e = grind (arith, e)
 
 pub promotion_is : (equals : Bool) (c : ℕ) (p : Promotion) → promotion_by equals c ≡ Some p
     → (p.equals ≡ equals) × (c ≡ promotion_letter p) × CanPromote p.kind
@@ -74,16 +69,7 @@ promotion_is equals c p e =
 promotion_read : (equals small : Bool) (k : Kind) → CanPromote k
     → promotion_by equals (promotion_letter (record { kind = k; equals = equals; small = small }))
     ≡ Some (record { kind = k; equals = equals; small = small })
-promotion_read equals small Pawn h = absurd h
-promotion_read equals small King h = absurd h
-promotion_read equals true Knight h = refl
-promotion_read equals true Bishop h = refl
-promotion_read equals true Rook h = refl
-promotion_read equals true Queen h = refl
-promotion_read equals false Knight h = refl
-promotion_read equals false Bishop h = refl
-promotion_read equals false Rook h = refl
-promotion_read equals false Queen h = refl
+promotion_read equals small k h = grind (arith, h)
 
 abbrev IsPromotion : Option Promotion → Type 0
 IsPromotion o = IfSome o (λ p. CanPromote p.kind)
@@ -108,11 +94,7 @@ denoted-promotion (c ∷ d ∷ x ∷ cs) o e = absurd cc
 
 promotion-denoted : (o : Option Promotion) → IsPromotion o → promotion_at (optional promotion_text o) ≡ Some o
 promotion-denoted None h = refl
-promotion-denoted (Some p) h = by_equals p.equals refl
-  where
-    by_equals : (b : Bool) → p.equals ≡ b → promotion_at (promotion_text p) ≡ Some (Some p)
-    by_equals true e = rw e (ap (option_map Some) (promotion_read true p.small p.kind h))
-    by_equals false e = rw e (ap (option_map Some) (promotion_read false p.small p.kind h))
+promotion-denoted (Some p) h = grind (arith, promotion_read p.equals p.small p.kind h)
 
 -- ---- the end
 
@@ -182,10 +164,7 @@ denoted-takes (c ∷ rest) b x e = by_test (eqb c 120) refl e
         subst (λ (y : Bool × End). (c ∷ rest ≡ takes_text y.0 y.1) × IsEnd y.1) m.2 (s.0, (s.1, s.2))
 
 takes-denoted : (b : Bool) (x : End) → IsEnd x → takes_at (takes_text b x) ≡ Some (b, x)
-takes-denoted true x h = ap (option_map (with_takes true)) (end-denoted x h.0 h.1)
-takes-denoted false x h =
-    let other : eqb (97 + x.to % 8) 120 ≡ false = grind (arith, nat_tests) in
-    rw other (ap (option_map (with_takes false)) (end-denoted x h.0 h.1))
+takes-denoted b x h = grind (arith, nat_tests, end-denoted x h.0 h.1)
 
 abbrev tail_text : Option ℕ → Bool → End → List ℕ
 tail_text o b e = optional (λ r. (49 + r) ∷ []) o ++ takes_text b e
@@ -217,16 +196,9 @@ denoted-rank (c ∷ rest) x e = by_test (is_rank_digit c) refl e
         (s.0, tt, s.1)
 
 rank-denoted : (o : Option ℕ) (b : Bool) (x : End) → IsRank o → IsEnd x → rank_at (tail_text o b x) ≡ Some (o, b, x)
-rank-denoted (Some r) b x k h =
-    let t0 : leb 49 (49 + r) ≡ true = grind (arith, nat_tests) in
-    let t1 : leb (49 + r) 56 ≡ true = grind (arith, nat_tests) in
-    let at : (49 + r) - 49 ≡ r = omega arith in
-    rw (t0, t1, at, takes-denoted b x h) refl
+rank-denoted (Some r) b x k h = grind (arith, nat_tests, takes-denoted b x h)
 rank-denoted None true x k h = ap (option_map (with_rank None)) (takes-denoted true x h)
-rank-denoted None false x k h =
-    let t1 : leb (97 + x.to % 8) 56 ≡ false = grind (arith, nat_tests) in
-    let t0 : leb 49 (97 + x.to % 8) ≡ true = grind (arith, nat_tests) in
-    rw (t0, t1) (ap (option_map (with_rank None)) (takes-denoted false x h))
+rank-denoted None false x k h = grind (arith, nat_tests, takes-denoted false x h)
 
 -- ---- the file
 
@@ -272,54 +244,13 @@ denoted-file letter (c ∷ rest) q e = by_case
 
 -- a file in front of the rest is not the square's own
 not_promoted : (x : End) → promotion_at (end_text x) ≡ None
-not_promoted x = by_promotion x.promotion
-  where
-    by_equals : (b : Bool) (p : Promotion) → promotion_at
-        (square_text x.to ++ (list_if b (61 ∷ []) ++ promotion_letter p ∷ [])) ≡ None
-    by_equals true p = refl
-    by_equals false p = refl
-
-    by_promotion : (o : Option Promotion) → promotion_at (square_text x.to ++ optional promotion_text o) ≡ None
-    by_promotion None = let other : eqb (97 + x.to % 8) 61 ≡ false = grind (arith, nat_tests) in rw other refl
-    by_promotion (Some p) = by_equals p.equals p
+not_promoted x = grind (arith, nat_tests)
 
 no_rank : (f : ℕ) (o : Option ℕ) (b : Bool) (x : End) → f < 8 → IsRank o → rank_at ((97 + f) ∷ tail_text o b x) ≡ None
-no_rank f o b x h k = by_parts o b k
-  where
-    t0 : leb 49 (97 + f) ≡ true
-    t0 = grind (arith, nat_tests)
-
-    t1 : leb (97 + f) 56 ≡ false
-    t1 = grind (arith, nat_tests)
-
-    t2 : eqb (97 + f) 120 ≡ false
-    t2 = grind (arith, nat_tests)
-
-    t3 : leb 97 (97 + f) ≡ true
-    t3 = grind (arith, nat_tests)
-
-    t4 : leb (97 + f) 104 ≡ true
-    t4 = grind (arith, nat_tests)
-
-    by_parts : (o : Option ℕ) (b : Bool) → IsRank o → rank_at ((97 + f) ∷ tail_text o b x) ≡ None
-    by_parts None true k = rw (t0, t1, t2, t3, t4) refl
-    by_parts None false k =
-        let t5 : leb 49 (97 + x.to % 8) ≡ true = grind (arith, nat_tests) in
-        let t6 : leb (97 + x.to % 8) 56 ≡ false = grind (arith, nat_tests) in
-        rw (t0, t1, t2, t3, t4, t5, t6) refl
-    by_parts (Some r) true k =
-        let t5 : leb 49 (49 + r) ≡ true = grind (arith, nat_tests) in
-        let t6 : leb (49 + r) 56 ≡ true = grind (arith, nat_tests) in
-        rw (t0, t1, t2, t3, t4, t5, t6) refl
-    by_parts (Some r) false k =
-        let t5 : leb 49 (49 + r) ≡ true = grind (arith, nat_tests) in
-        let t6 : leb (49 + r) 56 ≡ true = grind (arith, nat_tests) in
-        rw (t0, t1, t2, t3, t4, t5, t6)
-        (ap (λ p. option_map (with_rank None)
-        (option_map (with_takes false)
-        (option_map
-        (λ (q : Option Promotion). record { to = 8 * ((49 + r) - 49) + ((97 + f) - 97); promotion = q })
-        p))) (not_promoted x))
+no_rank f None true x h k = grind (arith, nat_tests)
+no_rank f None false x h k = grind (arith, nat_tests)
+no_rank f (Some r) true x h k = grind (arith, nat_tests)
+no_rank f (Some r) false x h k = grind (arith, nat_tests, not_promoted x)
 
 file-denoted : (letter : Option Kind) (file o : Option ℕ) (b : Bool) (x : End) → IfSome file (λ f. f < 8) → IsRank o
     → IsEnd x → file_at letter (optional (λ f. (97 + f) ∷ []) file ++ tail_text o b x)
@@ -347,21 +278,10 @@ lettered_is Queen e = tt
 lettered_is King e = tt
 
 lettered_read : (k : Kind) → HasLetter k → kind_from lettered_kinds (white_letter k) ≡ Some k
-lettered_read Pawn h = absurd h
-lettered_read Knight h = refl
-lettered_read Bishop h = refl
-lettered_read Rook h = refl
-lettered_read Queen h = refl
-lettered_read King h = refl
+lettered_read k h = grind (arith, h)
 
 no_lettered : (c : ℕ) → (c < 66) ⊎ (90 < c) → kind_from lettered_kinds c ≡ None
-no_lettered c h =
-    let t0 : eqb 75 c ≡ false = grind (arith, nat_tests) in
-    let t1 : eqb 81 c ≡ false = grind (arith, nat_tests) in
-    let t2 : eqb 82 c ≡ false = grind (arith, nat_tests) in
-    let t3 : eqb 66 c ≡ false = grind (arith, nat_tests) in
-    let t4 : eqb 78 c ≡ false = grind (arith, nat_tests) in
-    rw (t0, t1, t2, t3, t4) refl
+no_lettered c h = grind (arith, nat_tests, h)
 
 parts_of : (letter : Option Kind) (text : List ℕ) (q : Parts) → IfSome letter HasLetter → IsBody letter text q
     → AreParts q × (optional kind_text letter ++ text ≡ parts_text q)

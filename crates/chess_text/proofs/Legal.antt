@@ -23,7 +23,7 @@ use Rattle.chess_base.proofs.shared.Men.{same_colour-true, is_none-None}
 use Rattle.chess_base.proofs.shared.Castling.{says_from_castling}
 use Rattle.chess_base.proofs.shared.MoveKinds.{castles_unpromoted}
 use Rattle.chess_text.specs.declared.described.Described.{Described}
-use Rattle.chess_text.specs.laws.Laws.{CanPromote}
+use Rattle.chess_text.specs.laws.Laws.{HasLetter, CanPromote}
 use Rattle.chess_text.specs.ties.Forms.{castling_end}
 use Rattle.chess_text.specs.Moves.{captures, described}
 
@@ -54,6 +54,15 @@ pub record IsMove (p : Setup) (m : Move) : Type 0 where
   pub at_from : man_at p.men m.from ≡ Some (record { colour = p.side; kind = man })
   pub moves_as : MovesAs p m man
   pub promotion_is : IfSome m.promotion CanPromote
+
+-- only a pawn promotes
+pub unpromoted : (p : Setup) (m : Move) (k : Kind) → HasLetter k → MovesAs p m k → m.promotion ≡ None
+unpromoted p m Pawn lettered h = absurd lettered
+unpromoted p m King lettered h = h
+unpromoted p m Queen lettered h = h
+unpromoted p m Rook lettered h = h
+unpromoted p m Bishop lettered h = h
+unpromoted p m Knight lettered h = h
 
 fits_last : (last : Bool) (o : Option Kind) → promotion_fits last o ≡ true → IfSome o CanPromote
 fits_last last None e = tt

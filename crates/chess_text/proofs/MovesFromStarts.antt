@@ -6,7 +6,7 @@ use Rattle.std.specs.List.{filter, flat_map, range_with_len}
 use Rattle.std.proofs.lemmas.Bool.Decides.{nat_tests}
 use Rattle.std.proofs.lemmas.Bool.{cases_Bool, and_parts, and_from, false_from_ne_true}
 use Rattle.chess_base.specs.declared.man.Kind.{Kind}
-use Rattle.chess_base.specs.declared.man.Kind.TheVariants.{King, Queen, Rook, Bishop, Knight, Pawn}
+use Rattle.chess_base.specs.declared.man.Kind.TheVariants.{Queen, Rook, Bishop, Knight, Pawn}
 use Rattle.chess_base.specs.declared.man.Move.{Move}
 use Rattle.chess_base.specs.declared.setup.Setup.{Setup}
 use Rattle.chess_base.specs.Men.{man_at, is_man, same_kind}
@@ -22,26 +22,14 @@ use Rattle.chess_text.specs.declared.reading.Reading.{Reading}
 use Rattle.chess_text.specs.Moves.{one_of}
 use Rattle.chess_text.specs.ties.Fitting.{promotes_so, is_by_squares, is_by_letter, is_straight, is_by_file, parts_fit}
 use Rattle.chess_text.specs.ties.Forms.{is_denoted, denoted_with, named_square, kind_by, one_kind, is_denoted_of, denoted_start, IsStart}
-use Rattle.chess_text.proofs.Legal.{legal_move, MovesAs, described_as}
+use Rattle.chess_text.proofs.Legal.{legal_move, unpromoted, MovesAs, described_as}
+use Rattle.chess_text.specs.laws.Laws.{HasLetter}
+use Rattle.chess_base.proofs.shared.Men.{same_kind-true}
 use Rattle.chess_text.proofs.Origins.{man_is, fits_told, letter_fits, pawn_named, denoted_from}
 use Rattle.chess_text.proofs.DenotedMoves.{denoted_ends}
-use Rattle.chess_text.proofs.DenotedStart.{denoted_of}
+use Rattle.chess_text.proofs.DenotedStart.{denoted_of, kind_lettered}
 
 -- ---- no promotion
-
-pub unpromoted : (p : Setup) (m : Move) (k j : Kind) → MovesAs p m j → same_kind k j ≡ true → same_kind Pawn k ≡ false
-    → m.promotion ≡ None
-unpromoted p m k King e same other = e
-unpromoted p m k Queen e same other = e
-unpromoted p m k Rook e same other = e
-unpromoted p m k Bishop e same other = e
-unpromoted p m k Knight e same other = e
-unpromoted p m King Pawn e same other = absurd cc
-unpromoted p m Queen Pawn e same other = absurd cc
-unpromoted p m Rook Pawn e same other = absurd cc
-unpromoted p m Bishop Pawn e same other = absurd cc
-unpromoted p m Knight Pawn e same other = absurd cc
-unpromoted p m Pawn Pawn e same other = absurd cc
 
 pub none_told : (o : Option Kind) → promotes_so None o ≡ true → o ≡ None
 none_told None e = refl
@@ -58,12 +46,13 @@ promotes_as q d at h = grind (arith, nat_tests, at, h)
 abbrev OfKind : Setup → Kind → Move → Type 0
 OfKind p k m = (is_man p.side k (man_at p.men m.from) ≡ true) × (m.promotion ≡ None)
 
-lettered : (p : Setup) (q : Parts) (k : Kind) (m : Move) → q.letter ≡ Some k → same_kind Pawn k ≡ false
+lettered : (p : Setup) (q : Parts) (k : Kind) (m : Move) → q.letter ≡ Some k → HasLetter k
     → is_denoted (Piece q) p m ≡ true → is_legal p m ≡ true → OfKind p k m
-lettered p q k m at other denoted legal =
+lettered p q k m at has denoted legal =
     let h = legal_move p m legal in
     let same : same_kind k h.man ≡ true = letter_fits q (described_as p m h.man) k at (fits_told p q m h denoted) in
-    (man_is p m h k same, unpromoted p m k h.man h.moves_as same other)
+    let moves_so : MovesAs p m k = subst (MovesAs p m) (sym (same_kind-true k h.man same)) h.moves_as in
+    (man_is p m h k same, unpromoted p m k has moves_so)
 
 of_pawn : (p : Setup) (q : Parts) (m : Move) → q.letter ≡ None → named_square q.file q.rank ≡ None
     → q.end.promotion ≡ None → is_denoted (Piece q) p m ≡ true → is_legal p m ≡ true → OfKind p Pawn m
@@ -82,17 +71,9 @@ by_kind p q letter square (Some x) k l s n e m denoted legal = absurd cc
 by_kind p q None (Some s') None k l s n e m denoted legal = absurd cc
 by_kind p q None None None k l s n e m denoted legal =
     let pawn : Pawn ≡ k = cc in subst (λ k. OfKind p k m) pawn (of_pawn p q m l s n denoted legal)
-by_kind p q (Some Pawn) square None k l s n e m denoted legal = absurd cc
-by_kind p q (Some King) square None k l s n e m denoted legal = let is : King ≡ k = cc in
-    subst (λ k. OfKind p k m) is (lettered p q King m l refl denoted legal)
-by_kind p q (Some Queen) square None k l s n e m denoted legal = let is : Queen ≡ k = cc in
-    subst (λ k. OfKind p k m) is (lettered p q Queen m l refl denoted legal)
-by_kind p q (Some Rook) square None k l s n e m denoted legal = let is : Rook ≡ k = cc in
-    subst (λ k. OfKind p k m) is (lettered p q Rook m l refl denoted legal)
-by_kind p q (Some Bishop) square None k l s n e m denoted legal = let is : Bishop ≡ k = cc in
-    subst (λ k. OfKind p k m) is (lettered p q Bishop m l refl denoted legal)
-by_kind p q (Some Knight) square None k l s n e m denoted legal = let is : Knight ≡ k = cc in
-    subst (λ k. OfKind p k m) is (lettered p q Knight m l refl denoted legal)
+by_kind p q (Some x) square None k l s n e m denoted legal =
+    let is = kind_lettered x square k e in
+    subst (λ k. OfKind p k m) is.0 (lettered p q x m l is.1 denoted legal)
 
 pub of_kind : (p : Setup) (q : Parts) (k : Kind) → one_kind q ≡ Some k
     → (m : Move) → is_denoted (Piece q) p m ≡ true → is_legal p m ≡ true → OfKind p k m

@@ -1,5 +1,7 @@
 -- A text whose parts one move alone fits is read as this move.
 use Rattle.std.proofs.Common.{◌≡◌, ℕ, inl, inr, IsTrue, ◌↔◌, Bool, true, false, ◌||◌, List, Option, Some, None, refl, sym, ap, ◌∙◌}
+use Rattle.std.specs.Prelude.{IfSome}
+use Rattle.std.specs.Option.{option_map}
 use Rattle.std.proofs.lemmas.Bool.{false_from_ne_true, or_cases}
 use Rattle.chess_base.specs.declared.man.CastlingSide.{CastlingSide}
 use Rattle.chess_base.specs.declared.man.CastlingSide.TheVariants.{KingSide, QueenSide}
@@ -11,7 +13,7 @@ use Rattle.chess_text.specs.declared.described.Described.{Described}
 use Rattle.chess_text.specs.declared.parts.Parts.{Parts}
 use Rattle.chess_text.specs.declared.parts.Promotion.{Promotion}
 use Rattle.chess_text.specs.declared.reading.Reading.TheVariants as reads
-use Rattle.chess_text.specs.laws.Laws.{DenotesAlone, IsShaped, AreParts}
+use Rattle.chess_text.specs.laws.Laws.{DenotesAlone, IsShaped, AreParts, CanPromote}
 use Rattle.chess_text.specs.Parts.{unmarked}
 use Rattle.chess_text.specs.ties.Fitting.{parts_text, has_parts}
 use Rattle.chess_text.specs.ties.Reader.{parts_at}
@@ -103,8 +105,12 @@ move_is n m a b k =
 
 -- a promotion as it is written
 abbrev pub written : Bool → Bool → Option Kind → Option Promotion
-written equals small None = None
-written equals small (Some k) = Some (record { kind = k; equals = equals; small = small })
+written equals small o = option_map (λ k. record { kind = k; equals = equals; small = small }) o
+
+pub promotion_part : (equals small : Bool) (o : Option Kind) → IfSome o CanPromote
+    → IfSome (written equals small o) (λ p. CanPromote p.kind)
+promotion_part equals small None h = tt
+promotion_part equals small (Some k) h = h
 
 pub promotes-self : (equals small : Bool) (o : Option Kind) → promotes_so (written equals small o) o ≡ true
 promotes-self equals small None = refl

@@ -1,9 +1,8 @@
 -- Where the moves begin that a form denotes.
-use Rattle.std.proofs.Common.{◌≡◌, ℕ, ◌+◌, ◌*◌, ◌/◌, ◌%◌, ◌<◌, inl, inr, true, false, ◌&&◌, ◌||◌, ◌==◌, nat_lt, Option, Some, None, List, [], ◌∷◌, ◌++◌, refl, sym, ap, ◌∙◌, arith}
-use Rattle.std.specs.Prelude.{is_none}
+use Rattle.std.proofs.Common.{◌≡◌, ℕ, ◌+◌, ◌*◌, ◌/◌, ◌%◌, ◌<◌, true, false, ◌&&◌, ◌==◌, nat_lt, Option, Some, None, List, [], ◌∷◌, ◌++◌, refl, sym, ap, ◌∙◌, arith}
 use Rattle.std.specs.List.{filter, flat_map}
 use Rattle.std.proofs.lemmas.Bool.Decides.{nat_tests}
-use Rattle.std.proofs.lemmas.Bool.{and_parts, false_from_ne_true, or_cases, eq-eqb, eqb-true}
+use Rattle.std.proofs.lemmas.Bool.{and_parts, false_from_ne_true, eq-eqb, eqb-true}
 use Rattle.chess_base.specs.declared.man.CastlingSide.{CastlingSide}
 use Rattle.chess_base.specs.declared.man.Kind.{Kind}
 use Rattle.chess_base.specs.declared.man.Kind.TheVariants.{King, Pawn}
@@ -27,7 +26,7 @@ use Rattle.chess_text.specs.declared.reading.Reading.TheVariants as reads
 use Rattle.chess_text.specs.Moves.{one_of, described, passes}
 use Rattle.chess_text.specs.ties.Fitting.{names, admits, is_by_squares, is_by_letter, is_straight, is_by_file, parts_fit}
 use Rattle.chess_text.specs.ties.Forms.{same_side, form_fits, is_denoted, end_square, denoted_with, with_move, with_moves, named_square, IsStart}
-use Rattle.chess_text.proofs.Denotations.{passing}
+use Rattle.chess_text.proofs.Denotations.{FitsBy, FitSquares, FitLetter, FitStraight, FitFile, form_of_fit, passing}
 use Rattle.chess_text.proofs.AllMoves.{none-kept}
 use Rattle.chess_text.proofs.Legal.{described_by, castling_says, legal_move, IsMove, described_as, described_is}
 use Rattle.chess_text.proofs.DenotedMoves.{denoted_ends, all_denoted}
@@ -77,39 +76,16 @@ data NoLetter (q : Parts) (d : Described) : Type 0 where
       → NoLetter q d
   Straight : q.file ≡ None → same_kind Pawn d.man ≡ true → NoLetter q d
 
-none_is : (f : Option ℕ) → is_none f ≡ true → f ≡ None
-none_is None e = refl
-none_is (Some x) e = cc
-
-squares_named : (q : Parts) (d : Described) → is_by_squares q d ≡ true → NoLetter q d
-unfolding is_by_squares
-squares_named q d h = BySquares (grind (arith, nat_tests, h)) (grind (arith, nat_tests, h))
-
-file_named : (q : Parts) (d : Described) → is_by_file q d ≡ true → NoLetter q d
-unfolding is_by_file
-file_named q d h = ByFile (grind (arith, nat_tests, h)) (grind (arith, nat_tests, h)) (grind (arith, nat_tests, h))
-
-straight_named : (q : Parts) (d : Described) → is_straight q d ≡ true → NoLetter q d
-unfolding is_straight
-straight_named q d h = Straight (none_is q.file (grind (arith, nat_tests, h))) (grind (arith, nat_tests, h))
-
-letter_named : (q : Parts) (d : Described) → q.letter ≡ None → is_by_letter q d ≡ true → NoLetter q d
-unfolding is_by_letter
-letter_named q d at h = absurd (grind (arith, nat_tests, at, h))
-
 no_letter : (q : Parts) (d : Described) → q.letter ≡ None → parts_fit q d ≡ true → NoLetter q d
-unfolding parts_fit
-no_letter q d at h =
-    elim (or_cases (is_by_squares q d || is_by_letter q d || is_straight q d) (is_by_file q d) h) [
-      | inr e ↦ file_named q d e
-      | inl three ↦ elim (or_cases (is_by_squares q d || is_by_letter q d) (is_straight q d) three) [
-        | inr e ↦ straight_named q d e
-        | inl two ↦ elim (or_cases (is_by_squares q d) (is_by_letter q d) two) [
-          | inl e ↦ squares_named q d e
-          | inr e ↦ letter_named q d at e
-        ]
-      ]
-    ]
+unfolding is_by_squares is_by_letter is_straight is_by_file
+no_letter q d at h = by_form (form_of_fit q d h)
+  where
+    by_form : FitsBy q d → NoLetter q d
+    by_form (FitSquares e) = BySquares (grind (arith, nat_tests, e)) (grind (arith, nat_tests, e))
+    by_form (FitLetter e) = absurd (grind (arith, nat_tests, at, e))
+    by_form (FitStraight e) = Straight (grind (arith, nat_tests, e)) (grind (arith, nat_tests, e))
+    by_form (FitFile e) =
+        ByFile (grind (arith, nat_tests, e)) (grind (arith, nat_tests, e)) (grind (arith, nat_tests, e))
 
 -- ---- the sets
 

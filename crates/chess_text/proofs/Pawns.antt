@@ -1,6 +1,7 @@
 -- A pawn's move is fixed by where it ends and by its file.
-use Rattle.std.proofs.Common.{◌≡◌, ◌≢◌, ℕ, ◌+◌, ◌<◌, ◌≤◌, inl, inr, true, false, ◌&&◌, ◌||◌, Option, Some, None, is_none, refl, sym, ap, ◌∙◌, arith, ◌==◌}
-use Rattle.std.proofs.lemmas.Bool.{and_parts, and_from, or_cases, or_left, or_right, both_ways, eqb-true}
+use Rattle.std.proofs.Common.{◌≡◌, ◌≢◌, ℕ, ◌<◌, ◌≤◌, inl, inr, Bool, true, false, ◌||◌, Option, Some, None, is_none, refl, sym, ap, ◌∙◌, arith, ◌==◌}
+use Rattle.std.proofs.lemmas.Bool.Decides.{nat_tests}
+use Rattle.std.proofs.lemmas.Bool.{or_cases, both_ways, eqb-true}
 use Rattle.std.specs.Int.{abs_diff}
 use Rattle.chess_base.specs.declared.man.Colour.{Colour}
 use Rattle.chess_base.specs.declared.man.Colour.TheVariants.{White, Black}
@@ -9,9 +10,9 @@ use Rattle.chess_base.specs.declared.man.Man.{Man}
 use Rattle.chess_base.specs.declared.man.Move.{Move}
 use Rattle.chess_base.specs.declared.setup.Setup.{Setup}
 use Rattle.chess_base.specs.Attacks.{attacks, could_capture, is_rank_ahead}
-use Rattle.chess_base.specs.Men.{Men, man_at, other, is_of, is_man, same_colour, forward, first_rank, pawn_rank}
-use Rattle.chess_base.specs.Moves.{is_double_advance, is_en_passant, pawn_advances, pawn_captures, pawn_moves, promotion_fits}
-use Rattle.chess_base.specs.Squares.{is_square, file, rank, each_square}
+use Rattle.chess_base.specs.Men.{Men, man_at, other, is_of, is_man, forward, pawn_rank}
+use Rattle.chess_base.specs.Moves.{is_double_advance, is_en_passant, pawn_advances, pawn_captures, pawn_moves}
+use Rattle.chess_base.specs.Squares.{file, rank, each_square}
 use Rattle.chess_base.specs.Sound.{IsSound, pawn_is_allowed, no_pawn_on_end_ranks}
 use Rattle.chess_base.proofs.shared.Squares.{each_below-at}
 use Rattle.chess_base.proofs.shared.Men.{same_colour-self, is_none-None}
@@ -49,44 +50,30 @@ pub data Advance (p : Setup) (m : Move) : Type 0 where
 
 advance_of : (p : Setup) (m : Move) → pawn_advances p m ≡ true → Advance p m
 unfolding pawn_advances is_double_advance
-advance_of p m e =
-    let both = and_parts (is_none (man_at p.men m.to))
-    ((m.to == forward p.side m.from) || (is_double_advance p m && is_none (man_at p.men (forward p.side m.from))))
-    e in
-    elim (or_cases (m.to == forward p.side m.from)
-    (is_double_advance p m && is_none (man_at p.men (forward p.side m.from))) both.1) [
-      | inl one ↦ Single (eqb-true m.to (forward p.side m.from) one)
-      | inr two ↦
-          let parts = and_parts (is_double_advance p m) (is_none (man_at p.men (forward p.side m.from))) two in
-          let three = and_parts (is_man p.side Pawn (man_at p.men m.from) && (rank m.from == pawn_rank p.side))
-          (m.to == forward p.side (forward p.side m.from)) parts.0 in
-          let home = and_parts (is_man p.side Pawn (man_at p.men m.from)) (rank m.from == pawn_rank p.side) three.0 in
-          Double (eqb-true m.to (forward p.side (forward p.side m.from)) three.1)
-          (eqb-true (rank m.from) (pawn_rank p.side) home.1)
-          (is_none-None (man_at p.men (forward p.side m.from)) parts.1)
-    ]
+advance_of p m e = by_test (m.to == forward p.side m.from) refl
+  where
+    by_test : (b : Bool) → (m.to == forward p.side m.from) ≡ b → Advance p m
+    by_test true one = Single (eqb-true m.to (forward p.side m.from) one)
+    by_test false other =
+        Double (grind (arith, nat_tests, e, other)) (grind (arith, nat_tests, e, other))
+        (is_none-None (man_at p.men (forward p.side m.from)) (grind (arith, e, other)))
 
 one_on_file : (c : Colour) (a b : ℕ) → 8 ≤ a → b ≡ forward c a → file a ≡ file b
-one_on_file White a b h e = omega arith
-one_on_file Black a b h e = omega arith
+one_on_file c a b h e = grind arith
 
 two_on_file : (c : Colour) (a b : ℕ) → rank a ≡ pawn_rank c → b ≡ forward c (forward c a) → file a ≡ file b
-two_on_file White a b h e = omega arith
-two_on_file Black a b h e = omega arith
+two_on_file c a b h e = grind arith
 
 same_by_ones : (c : Colour) (a b t : ℕ) → 8 ≤ a → 8 ≤ b → t ≡ forward c a → t ≡ forward c b → b ≡ a
-same_by_ones White a b t h k e f = omega arith
-same_by_ones Black a b t h k e f = omega arith
+same_by_ones c a b t h k e f = grind arith
 
 same_by_twos : (c : Colour) (a b t : ℕ) → rank a ≡ pawn_rank c → rank b ≡ pawn_rank c → t ≡ forward c (forward c a)
     → t ≡ forward c (forward c b) → b ≡ a
-same_by_twos White a b t h k e f = omega arith
-same_by_twos Black a b t h k e f = omega arith
+same_by_twos c a b t h k e f = grind arith
 
 one_stands_between : (c : Colour) (a b t : ℕ) → 8 ≤ a → rank b ≡ pawn_rank c → t ≡ forward c a
     → t ≡ forward c (forward c b) → forward c b ≡ a
-one_stands_between White a b t h k e f = omega arith
-one_stands_between Black a b t h k e f = omega arith
+one_stands_between c a b t h k e f = grind arith
 
 pub advances_on_file : (p : Setup) (m : Move) → 8 ≤ m.from → Advance p m → file m.from ≡ file m.to
 advances_on_file p m h (Single to) = one_on_file p.side m.from m.to h to
@@ -116,37 +103,20 @@ same_advance p m n am an hm hn to (Double a home free) (Single b) =
 attack_of : (p : Setup) (m : Move) → man_at p.men m.from ≡ Some (pawn_of p.side) → attacks p.men m.from m.to ≡ true
     → (abs_diff (file m.from) (file m.to) ≡ 1) × (is_rank_ahead p.side m.from m.to ≡ true)
 unfolding attacks could_capture
-attack_of p m at e =
-    let e' = rw at at e in
-    let both = and_parts (abs_diff (file m.from) (file m.to) == 1) (is_rank_ahead p.side m.from m.to) e' in
-    (eqb-true (abs_diff (file m.from) (file m.to)) 1 both.0, both.1)
+attack_of p m at e = let e' = rw at at e in (grind (arith, nat_tests, e'), grind (arith, e'))
 
 pawn_goes : (p : Setup) (m : Move) → pawn_moves p m ≡ true → (pawn_advances p m || pawn_captures p m) ≡ true
 unfolding pawn_moves
-pawn_goes p m e = (and_parts (promotion_fits (rank m.to == first_rank (other p.side)) m.promotion)
-    (pawn_advances p m || pawn_captures p m) e).1
+pawn_goes p m e = grind (arith, e)
 
 captures_attack : (p : Setup) (m : Move) → pawn_captures p m ≡ true → attacks p.men m.from m.to ≡ true
 unfolding pawn_captures
-captures_attack p m e =
-    (and_parts (attacks p.men m.from m.to) (is_of (other p.side) (man_at p.men m.to) || is_square p.target m.to) e).0
+captures_attack p m e = grind (arith, e)
 
 pawn_takes : (p : Setup) (m : Move) → man_at p.men m.from ≡ Some (pawn_of p.side) → pawn_captures p m ≡ true
     → (is_of (other p.side) (man_at p.men m.to) || is_en_passant p m) ≡ true
 unfolding pawn_captures is_en_passant is_man
-pawn_takes p m at e =
-    let both = and_parts (attacks p.men m.from m.to)
-    (is_of (other p.side) (man_at p.men m.to) || is_square p.target m.to) e in
-    elim (or_cases (is_of (other p.side) (man_at p.men m.to)) (is_square p.target m.to) both.1) [
-      | inl taken ↦ or_left (is_of (other p.side) (man_at p.men m.to)) (is_en_passant p m) taken
-      | inr passed ↦
-          let own : is_man p.side Pawn (man_at p.men m.from) ≡ true =
-          rw at (and_from (same_colour p.side p.side) true (same_colour-self p.side) refl) in
-          or_right (is_of (other p.side) (man_at p.men m.to)) (is_en_passant p m)
-          (and_from (is_man p.side Pawn (man_at p.men m.from) && attacks p.men m.from m.to)
-          (is_square p.target m.to)
-          (and_from (is_man p.side Pawn (man_at p.men m.from)) (attacks p.men m.from m.to) own both.0) passed)
-    ]
+pawn_takes p m at e = rw at (grind (arith, e, same_colour-self p.side))
 
 pawn_captures_so : (p : Setup) (m : Move) → man_at p.men m.from ≡ Some (pawn_of p.side) → pawn_captures p m ≡ true
     → captures p m ≡ true
@@ -177,10 +147,7 @@ is_of-none c (Some x) e n = cc
 
 en_passant_attacks : (p : Setup) (m : Move) → is_en_passant p m ≡ true → attacks p.men m.from m.to ≡ true
 unfolding is_en_passant
-en_passant_attacks p m e =
-    let two = and_parts (is_man p.side Pawn (man_at p.men m.from) && attacks p.men m.from m.to)
-    (is_square p.target m.to) e in
-    (and_parts (is_man p.side Pawn (man_at p.men m.from)) (attacks p.men m.from m.to) two.0).1
+en_passant_attacks p m e = grind (arith, e)
 
 -- a pawn that captures goes one rank ahead
 pub captures_ahead : (p : Setup) (m : Move) → man_at p.men m.from ≡ Some (pawn_of p.side) → pawn_moves p m ≡ true
@@ -197,11 +164,4 @@ captures_ahead p m at e takes =
 
 pub same_ahead : (c : Colour) (a b t : ℕ) → is_rank_ahead c a t ≡ true → is_rank_ahead c b t ≡ true → file a ≡ file b
     → b ≡ a
-same_ahead White a b t e f on =
-    let ea = eqb-true (rank t) (rank a + 1) e in
-    let eb = eqb-true (rank t) (rank b + 1) f in
-    omega arith
-same_ahead Black a b t e f on =
-    let ea = eqb-true (rank a) (rank t + 1) e in
-    let eb = eqb-true (rank b) (rank t + 1) f in
-    omega arith
+same_ahead c a b t e f on = grind (arith, nat_tests, e, f)

@@ -1,7 +1,6 @@
 -- Promotions need be looked at only where a pawn promotes, and there nothing else.
-use Rattle.std.proofs.Common.{◌≡◌, ℕ, inl, inr, Bool, true, false, ◌&&◌, Option, Some, None, List, [], ◌∷◌, map, refl, sym, ap, ◌∙◌}
+use Rattle.std.proofs.Common.{◌≡◌, ℕ, true, false, ◌&&◌, Option, Some, None, List, [], ◌∷◌, map, sym, ap, ◌∙◌}
 use Rattle.std.specs.List.{filter}
-use Rattle.std.proofs.lemmas.Bool.{cases_Bool}
 use Rattle.chess_base.specs.declared.man.Kind.{Kind}
 use Rattle.chess_base.specs.declared.man.Kind.TheVariants.{Queen, Rook, Bishop, Knight}
 use Rattle.chess_base.specs.declared.setup.Setup.{Setup}
@@ -12,25 +11,17 @@ use Rattle.chess_moves.specs.Promoting.{would_promote}
 use Rattle.chess_moves.proofs.shared.MovesBySquares as parts
 use Rattle.chess_text.specs.declared.form.Form.{Form}
 use Rattle.chess_text.specs.ties.Forms.{is_denoted, denoted_with}
-
-both : {A : Type 0} (t q : A → Bool) (xs : List A) → filter (λ x. t x && q x) xs ≡ filter t (filter q xs)
-both t q [] = refl
-both t q (x ∷ xs) =
-    elim (cases_Bool (q x)) [
-      | inl on ↦ elim (cases_Bool (t x)) [
-        | inl denoted ↦ rw (on, denoted) (ap (λ ys. x ∷ ys) (both t q xs))
-        | inr other ↦ rw (on, other) (both t q xs)
-      ]
-      | inr off ↦ elim (cases_Bool (t x)) [
-        | inl denoted ↦ rw (off, denoted) (both t q xs)
-        | inr other ↦ rw (off, other) (both t q xs)
-      ]
-    ]
+use mathlib.Core.Bool.{and_comm}
+use Rattle.std.proofs.lemmas.List.Elements.{filter_agree}
+use Rattle.chess_text.proofs.AllMoves.{filter-both}
 
 -- the legal ones, filtered
 of_legal : (form : Form) (p : Setup) (a b : ℕ) (ks : List (Option Kind))
     → denoted_with form p a b ks ≡ filter (λ m. is_denoted form p m) (moves_with p a b ks)
-of_legal form p a b ks = both (λ m. is_denoted form p m) (λ m. is_legal p m) (map (move_of a b) ks)
+of_legal form p a b ks =
+    filter_agree (λ m. is_denoted form p m && is_legal p m) (λ m. is_legal p m && is_denoted form p m)
+    (λ m. and_comm (is_denoted form p m) (is_legal p m)) (map (move_of a b) ks)
+    ∙ sym (filter-both (λ m. is_legal p m) (λ m. is_denoted form p m) (map (move_of a b) ks))
 
 pub all_promote : (form : Form) (p : Setup) (a b : ℕ) → would_promote p a b ≡ true
     → denoted_with form p a b (Some Queen ∷ Some Rook ∷ Some Bishop ∷ Some Knight ∷ []) ≡ denoted_with form p a b

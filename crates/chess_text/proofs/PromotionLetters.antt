@@ -3,9 +3,7 @@ use Rattle.std.proofs.Common.{◌≡◌, ℕ, Bool, true, false, cond, eqb, List
 use Rattle.std.specs.Prelude.{find, ◌==◌}
 use Rattle.std.proofs.lemmas.Bool.Decides.{nat_tests}
 use Rattle.chess_base.specs.declared.man.Colour.{Colour}
-use Rattle.chess_base.specs.declared.man.Colour.TheVariants.{White, Black}
 use Rattle.chess_base.specs.declared.man.Kind.{Kind}
-use Rattle.chess_base.specs.declared.man.Kind.TheVariants.{Pawn, Knight, Bishop, Rook, Queen, King}
 use Rattle.chess_base.specs.declared.man.Man.{Man}
 use Rattle.chess_base.specs.Letters.{letter, letter_by, all_men, man_with_letter}
 use Rattle.chess_text.specs.declared.parts.Promotion.{Promotion}
@@ -30,18 +28,7 @@ man_found (x ∷ men) c m e = by_test (λ h. man_found men c m h) (eqb (letter x
 -- the letter of a piece, capital or small, is that of the promotion to it
 by_letter : (equals : Bool) (c : Colour) (k : Kind)
     → promotion_by equals (letter_by c k) ≡ promotion_to equals (record { colour = c; kind = k })
-by_letter equals White Pawn = refl
-by_letter equals White Knight = refl
-by_letter equals White Bishop = refl
-by_letter equals White Rook = refl
-by_letter equals White Queen = refl
-by_letter equals White King = refl
-by_letter equals Black Pawn = refl
-by_letter equals Black Knight = refl
-by_letter equals Black Bishop = refl
-by_letter equals Black Rook = refl
-by_letter equals Black Queen = refl
-by_letter equals Black King = refl
+by_letter equals c k = grind arith
 
 pub promotion_found : (equals : Bool) (c : ℕ) (m : Man) → man_with_letter c ≡ Some m
     → promotion_to equals m ≡ promotion_by equals c
@@ -51,16 +38,7 @@ promotion_found equals c m e =
 -- a promotion's letter is a piece's
 is_letter_of : (small : Bool) (k : Kind) → CanPromote k
     → man_with_letter (promotion_letter (record { kind = k; equals = false; small = small })) ≡ None → ⊥
-is_letter_of small Pawn h e = h
-is_letter_of small King h e = h
-is_letter_of true Knight h e = cc
-is_letter_of true Bishop h e = cc
-is_letter_of true Rook h e = cc
-is_letter_of true Queen h e = cc
-is_letter_of false Knight h e = cc
-is_letter_of false Bishop h e = cc
-is_letter_of false Rook h e = cc
-is_letter_of false Queen h e = cc
+is_letter_of small k h e = grind (arith, h, e)
 
 pub no_promotion : (equals : Bool) (c : ℕ) → man_with_letter c ≡ None → promotion_by equals c ≡ None
 no_promotion equals c none = by_result (promotion_by equals c) refl

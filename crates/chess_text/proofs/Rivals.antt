@@ -1,12 +1,12 @@
 -- The rivals of a move of a piece other than a pawn begin on the squares from which another piece of its kind has the
 -- legal move to the end square.
 use mathlib.Core.Bool.{and-false}
-use Rattle.std.proofs.Common.{◌≡◌, ◌≢◌, ℕ, zero, suc, ◌<◌, ◌+◌, ◌≤◌, inl, inr, Bool, true, false, not, ◌&&◌, ◌==◌, if◌then◌else◌, cond, Some, None, List, [], ◌∷◌, ◌++◌, map, refl, sym, ap, ◌∙◌, arith}
+use Rattle.std.proofs.Common.{◌≡◌, ◌≢◌, ℕ, zero, suc, ◌<◌, ◌+◌, ◌≤◌, inl, inr, Bool, true, false, not, ◌&&◌, ◌==◌, if◌then◌else◌, cond, Some, None, List, [], ◌∷◌, ◌++◌, map, refl, sym, ap, ◌∙◌, arith, subst}
 use Rattle.std.proofs.lemmas.Bool.{cases_Bool, and_parts, false_from_ne_true, eqb-true, eq-eqb}
 use Rattle.std.proofs.lemmas.List.{map-append}
 use Rattle.std.specs.List.{filter, flat_map, list_any, range_with_len}
 use Rattle.chess_base.specs.declared.man.Kind.{Kind}
-use Rattle.chess_base.specs.declared.man.Kind.TheVariants.{King, Queen, Rook, Bishop, Knight, Pawn}
+use Rattle.chess_base.specs.declared.man.Kind.TheVariants.{Queen, Rook, Bishop, Knight, Pawn}
 use Rattle.chess_base.specs.declared.man.Move.{Move}
 use Rattle.chess_base.specs.declared.setup.Setup.{Setup}
 use Rattle.chess_base.specs.Squares.{file, rank, some_square}
@@ -22,10 +22,11 @@ use Rattle.chess_text.specs.declared.described.Described.{Described}
 use Rattle.chess_text.specs.Moves.{described, passes}
 use Rattle.chess_text.specs.San.{is_rival, rival_starts}
 use Rattle.chess_text.specs.ties.SanParts.{distinction, some_on_file, some_on_rank, disambiguate}
-use Rattle.chess_base.proofs.shared.Men.{same_kind-self, same_kind-true, same_colour-self}
+use Rattle.chess_base.proofs.shared.Men.{same_kind-true, same_colour-self}
 use Rattle.chess_text.proofs.AllMoves.{filter-both, none-kept, kept, alone-square}
-use Rattle.chess_text.proofs.Legal.{IsMove, legal_move, described_is}
-use Rattle.chess_text.proofs.MovesFromStarts.{unpromoted, one_kept}
+use Rattle.chess_text.proofs.Legal.{IsMove, MovesAs, unpromoted, legal_move, described_is}
+use Rattle.chess_text.proofs.Denotations.{has_letter}
+use Rattle.chess_text.proofs.MovesFromStarts.{one_kept}
 
 -- ---- one rival
 
@@ -46,29 +47,14 @@ of_move : (p : Setup) (d : Described) (m : Move) (h : IsMove p m)
 unfolding is_rival
 of_move p d m h = ap (λ o. is_other d m && passes (λ x. same_kind x.man d.man) o) (described_is p m h)
 
-lettered : (j k : Kind) → same_kind j k ≡ true → same_kind k Pawn ≡ false
-    → (same_kind k j ≡ true) × (same_kind Pawn k ≡ false)
-lettered j k e other = (same k j (same_kind-true j k e), apart k other)
-  where
-    same : (k j : Kind) → j ≡ k → same_kind k j ≡ true
-    same k j e = rw e (same_kind-self k)
-
-    apart : (k : Kind) → same_kind k Pawn ≡ false → same_kind Pawn k ≡ false
-    apart King h = refl
-    apart Queen h = refl
-    apart Rook h = refl
-    apart Bishop h = refl
-    apart Knight h = refl
-    apart Pawn h = absurd cc
-
 stays : (p : Setup) (d : Described) (m : Move) → same_kind d.man Pawn ≡ false → legal_rival p d m ≡ true
     → m.promotion ≡ None
 stays p d m other e =
     let both = and_parts (is_legal p m) (is_rival p d m) e in
     let h = legal_move p m both.0 in
-    let kinds = lettered h.man d.man
-    (and_parts (is_other d m) (same_kind h.man d.man) (sym (of_move p d m h) ∙ both.1)).1 other in
-    unpromoted p m d.man h.man h.moves_as kinds.0 kinds.1
+    let same : h.man ≡ d.man = same_kind-true h.man d.man
+    (and_parts (is_other d m) (same_kind h.man d.man) (sym (of_move p d m h) ∙ both.1)).1 in
+    unpromoted p m d.man (has_letter d.man other) (subst (MovesAs p m) same h.moves_as)
 
 -- ---- the rivals from one square
 

@@ -1,8 +1,9 @@
 -- The SAN of a legal move denotes it alone.
-use Rattle.std.proofs.Common.{◌≡◌, ℕ, ◌<◌, ◌≤◌, inl, inr, Bool, true, false, not, ◌&&◌, ◌||◌, List, ◌++◌, length, Option, Some, None, is_none, refl, sym, ap, subst, ◌∙◌, arith, ◌==◌}
+use Rattle.std.proofs.Common.{◌≡◌, ℕ, ◌<◌, ◌≤◌, Bool, true, false, ◌&&◌, List, ◌++◌, length, Option, Some, None, refl, sym, ap, subst, ◌∙◌, arith, ◌==◌}
 use Rattle.std.specs.Prelude.{IfSome, IsTrue}
 use Rattle.std.specs.Option.{option_map, option_map_or}
-use Rattle.std.proofs.lemmas.Bool.{and_parts, and_from, or_cases, eqb-true, eq-eqb, both_ways}
+use Rattle.std.proofs.lemmas.Bool.Decides.{nat_tests}
+use Rattle.std.proofs.lemmas.Bool.{and_from, eqb-true, eq-eqb, both_ways}
 use Rattle.std.specs.List.{list_any, list_all, filter}
 use Rattle.chess_base.specs.declared.man.CastlingSide.{CastlingSide}
 use Rattle.chess_base.specs.declared.man.CastlingSide.TheVariants.{KingSide, QueenSide}
@@ -29,16 +30,17 @@ use Rattle.chess_moves.proofs.shared.AnyMove.{any-filter}
 use Rattle.chess_text.specs.declared.writing.Disambiguation.{Disambiguation}
 use Rattle.chess_text.specs.laws.Laws.{DenotesAlone, is_san_byte, begins_with_letter, AreParts, HasLetter, CanPromote}
 use Rattle.chess_text.specs.Parts.{unmarked}
-use Rattle.chess_text.specs.ties.Fitting.{parts_text, admits, has_equals, promotes_so, is_form, parts_fit, is_by_squares, is_by_letter, is_straight, is_by_file}
+use Rattle.chess_text.specs.ties.Fitting.{parts_text, admits, is_form, parts_fit, is_by_squares, is_by_letter, is_straight, is_by_file}
 use Rattle.chess_text.specs.Moves.{captures, passes, shape, reading}
 use Rattle.chess_text.specs.ties.Forms.{same_side}
 use Rattle.chess_text.specs.San.{castling_text, is_rival, rival_starts, piece_text, unmarked_san, check_mark, san}
-use Rattle.chess_text.specs.ties.SanParts.{disambiguate, if_written, pawn_parts, lettered_parts, piece_parts}
-use Rattle.chess_text.proofs.OneMoveFits.{read_alone, denoted_parts, shape_parts, denoted_castling, shape_castling, denotes_move, move_is, written, promotes-self, promotes-same}
+use Rattle.chess_text.specs.ties.SanParts.{disambiguate, if_written, lettered_parts, piece_parts}
+use Rattle.chess_text.proofs.OneMoveFits.{read_alone, denoted_parts, shape_parts, denoted_castling, shape_castling, denotes_move, move_is, written, promotion_part, promotes-self, promotes-same}
+use Rattle.chess_text.proofs.DenotedMoves.{same_side-true}
 use Rattle.chess_text.proofs.AllMoves.{any-move}
 use Rattle.chess_text.proofs.Lists.{any-map}
 use Rattle.chess_text.proofs.CastlingTexts.{IsCastling, letters_kingside, letters_queenside}
-use Rattle.chess_text.proofs.Legal.{MovesAs, IsMove, legal_move, described_as, described_is, castling_says, names_end}
+use Rattle.chess_text.proofs.Legal.{MovesAs, IsMove, unpromoted, legal_move, described_as, described_is, castling_says, names_end}
 use Rattle.chess_text.proofs.Pawns.{pawn_of, pawn_stands, advances_on_file, same_advance, advances_without, advances_straight, captures_ahead, same_ahead}
 use Rattle.chess_text.proofs.Solid.{bare_parts, bare_castling, bare_marked}
 use Rattle.chess_text.proofs.PieceText.{piece_written}
@@ -55,12 +57,6 @@ same_side-self : (w : CastlingSide) → same_side w w ≡ true
 same_side-self KingSide = refl
 same_side-self QueenSide = refl
 
-same_side-true : (v w : CastlingSide) → same_side v w ≡ true → w ≡ v
-same_side-true KingSide KingSide e = refl
-same_side-true QueenSide QueenSide e = refl
-same_side-true KingSide QueenSide e = absurd cc
-same_side-true QueenSide KingSide e = absurd cc
-
 castles_plain : (p : Setup) (m : Move) (w : CastlingSide) (k : Kind) → MovesAs p m k → castling p m ≡ Some w
     → m.promotion ≡ None
 castles_plain p m w Pawn h e = let none = h.1 in absurd cc
@@ -72,7 +68,7 @@ castles_plain p m w Knight h e = h
 
 castles_so : (w : CastlingSide) (o : Option CastlingSide) → passes (same_side w) o ≡ true → o ≡ Some w
 castles_so w None e = absurd cc
-castles_so w (Some v) e = ap Some (same_side-true w v e)
+castles_so w (Some v) e = ap Some (sym (same_side-true w v e))
 
 -- two castlings to one side are one move
 same_castling : (p : Setup) (m n : Move) (w : CastlingSide) → IsSound p → IsMove p m → IsMove p n
@@ -96,15 +92,6 @@ pawn_named c from to promotion = record {
   end = record { to = to; promotion = promotion };
 }
 
-as_written : (o : Option Kind) → option_map (λ k. record { kind = k; equals = true; small = false }) o
-    ≡ written true false o
-as_written None = refl
-as_written (Some k) = refl
-
-pawn_is : (p : Setup) (m : Move) (k : Kind)
-    → pawn_parts (described_as p m k) ≡ pawn_named (captures p m) m.from m.to (written true false m.promotion)
-pawn_is p m k = ap (pawn_named (captures p m) m.from m.to) (as_written m.promotion)
-
 written_file : (c : Bool) (s : ℕ) → IfSome (if_written c (file s)) (λ f. f < 8)
 written_file true s = omega arith
 written_file false s = tt
@@ -113,10 +100,6 @@ written_rank : (c : Bool) (s : ℕ) → s < 64 → IfSome (if_written c (rank s)
 written_rank true s h = omega arith
 written_rank false s h = tt
 
-promotion_part : (o : Option Kind) → IfSome o CanPromote → IfSome (written true false o) (λ p. CanPromote p.kind)
-promotion_part None h = tt
-promotion_part (Some k) h = h
-
 pawn_are_parts : (c : Bool) (from to : ℕ) (o : Option Kind) → to < 64 → IfSome o CanPromote
     → AreParts (pawn_named c from to (written true false o))
 pawn_are_parts c from to o h k = record {
@@ -124,7 +107,7 @@ pawn_are_parts c from to o h k = record {
   file_is = written_file c from;
   rank_is = tt;
   to_is = h;
-  promotion_is = promotion_part o k;
+  promotion_is = promotion_part true false o k;
 }
 
 pawn_form : (c : Bool) (from to : ℕ) (o : Option Promotion) → is_form (pawn_named c from to o) ≡ true
@@ -156,21 +139,12 @@ record GoesStraight (p : Setup) (m n : Move) (l : Kind) : Type 0 where
 straight_fits : (p : Setup) (m n : Move) (l : Kind)
     → parts_fit (pawn_named false m.from m.to (written true false m.promotion)) (described_as p n l) ≡ true → GoesStraight p m n l
 unfolding parts_fit is_by_squares is_by_letter is_straight is_by_file
-straight_fits p m n l e =
-    let straight : (same_kind Pawn l && (file n.from == file n.to) && (m.to == n.to)
-    && promotes_so (written true false m.promotion) n.promotion) ≡ true =
-    elim (or_cases (same_kind Pawn l && (file n.from == file n.to) && (m.to == n.to)
-    && promotes_so (written true false m.promotion) n.promotion) false e) [ inl h ↦ h | inr h ↦ absurd cc ] in
-    let e3 = and_parts (same_kind Pawn l && (file n.from == file n.to) && (m.to == n.to))
-    (promotes_so (written true false m.promotion) n.promotion) straight in
-    let e2 = and_parts (same_kind Pawn l && (file n.from == file n.to)) (m.to == n.to) e3.0 in
-    let e1 = and_parts (same_kind Pawn l) (file n.from == file n.to) e2.0 in
-    record {
-      man = sym (same_kind-true Pawn l e1.0);
-      on = eqb-true (file n.from) (file n.to) e1.1;
-      to = sym (eqb-true m.to n.to e2.1);
-      promotion = promotes-same true false m.promotion n.promotion e3.1;
-    }
+straight_fits p m n l e = record {
+  man = sym (same_kind-true Pawn l (grind (arith, nat_tests, e)));
+  on = grind (arith, nat_tests, e);
+  to = grind (arith, nat_tests, e);
+  promotion = promotes-same true false m.promotion n.promotion (grind (arith, nat_tests, e));
+}
 
 record Takes (p : Setup) (m n : Move) (l : Kind) : Type 0 where
   man : l ≡ Pawn
@@ -182,57 +156,13 @@ record Takes (p : Setup) (m n : Move) (l : Kind) : Type 0 where
 takes_fits : (p : Setup) (m n : Move) (l : Kind)
     → parts_fit (pawn_named true m.from m.to (written true false m.promotion)) (described_as p n l) ≡ true → Takes p m n l
 unfolding parts_fit is_by_squares is_by_letter is_straight is_by_file
-takes_fits p m n l e =
-    let e4 = and_parts ((file m.from == file n.from) && true && same_kind Pawn l && captures p n && (m.to == n.to))
-    (promotes_so (written true false m.promotion) n.promotion) (by_squares e) in
-    let e3 = and_parts ((file m.from == file n.from) && true && same_kind Pawn l && captures p n) (m.to == n.to) e4.0 in
-    let e2 = and_parts ((file m.from == file n.from) && true && same_kind Pawn l) (captures p n) e3.0 in
-    let e1 = and_parts ((file m.from == file n.from) && true) (same_kind Pawn l) e2.0 in
-    let e0 = and_parts (file m.from == file n.from) true e1.0 in
-    record {
-      man = sym (same_kind-true Pawn l e1.1);
-      on = eqb-true (file m.from) (file n.from) e0.0;
-      takes = e2.1;
-      to = sym (eqb-true m.to n.to e3.1);
-      promotion = promotes-same true false m.promotion n.promotion e4.1;
-    }
-  where
-    no_rank : (a b c d e : Bool) → (a && false && b && c && d && e) ≡ false
-    no_rank true b c d e = refl
-    no_rank false b c d e = refl
-
-    by_squares : parts_fit (pawn_named true m.from m.to (written true false m.promotion)) (described_as p n l) ≡ true
-        → ((file m.from == file n.from) && true && same_kind Pawn l && captures p n && (m.to == n.to)
-        && promotes_so (written true false m.promotion) n.promotion) ≡ true
-    by_squares e =
-        let none = no_rank (file m.from == file n.from) false (m.to == n.to)
-        (not (has_equals (written true false m.promotion)))
-        (promotes_so (written true false m.promotion) n.promotion) in
-        elim (or_cases
-        (((file m.from == file n.from) && false && false && (m.to == n.to)
-        && not (has_equals (written true false m.promotion))
-        && promotes_so (written true false m.promotion) n.promotion) || false || false)
-        ((file m.from == file n.from) && true && same_kind Pawn l && captures p n && (m.to == n.to)
-        && promotes_so (written true false m.promotion) n.promotion) e) [
-          | inr h ↦ h
-          | inl h ↦ elim
-              (or_cases
-              (((file m.from == file n.from) && false && false && (m.to == n.to)
-              && not (has_equals (written true false m.promotion))
-              && promotes_so (written true false m.promotion) n.promotion) || false) false h) [
-                | inr g ↦ absurd cc
-                | inl g ↦ elim
-                    (or_cases ((file m.from == file n.from) && false && false && (m.to == n.to)
-                    && not (has_equals (written true false m.promotion))
-                    && promotes_so (written true false m.promotion) n.promotion) false g) [
-                      | inr k ↦ absurd cc
-                      | inl k ↦ absurd
-                          (both_ways ((file m.from == file n.from) && false && false && (m.to == n.to)
-                          && not (has_equals (written true false m.promotion))
-                          && promotes_so (written true false m.promotion) n.promotion) none k)
-                    ]
-              ]
-        ]
+takes_fits p m n l e = record {
+  man = sym (same_kind-true Pawn l (grind (arith, nat_tests, e)));
+  on = grind (arith, nat_tests, e);
+  takes = grind (arith, nat_tests, e);
+  to = grind (arith, nat_tests, e);
+  promotion = promotes-same true false m.promotion n.promotion (grind (arith, nat_tests, e));
+}
 
 as_pawn : (p : Setup) (n : Move) (g : IsMove p n) → g.man ≡ Pawn
     → (man_at p.men n.from ≡ Some (pawn_of p.side)) × (pawn_moves p n ≡ true)
@@ -333,46 +263,13 @@ record Goes (p : Setup) (m n : Move) (k l : Kind) (start : Disambiguation) : Typ
 lettered_goes : (p : Setup) (m n : Move) (k l : Kind) (start : Disambiguation) (c : Bool)
     → parts_fit (lettered_named k start c m.from m.to) (described_as p n l) ≡ true → Goes p m n k l start
 unfolding parts_fit is_by_squares is_by_letter is_straight is_by_file
-lettered_goes p m n k l start c e =
-    let by_letter : (same_kind k l && is_none (castling p n) && admits (if_written start.file (file m.from)) (file n.from)
-    && admits (if_written start.rank (rank m.from)) (rank n.from) && (not c || captures p n) && (m.to == n.to) && true)
-    ≡ true =
-    elim (or_cases
-    ((same_kind k l && is_none (castling p n) && admits (if_written start.file (file m.from)) (file n.from)
-    && admits (if_written start.rank (rank m.from)) (rank n.from) && (not c || captures p n) && (m.to == n.to)
-    && true) || false) false e) [
-      | inr h ↦ absurd cc
-      | inl h ↦ elim
-          (or_cases (same_kind k l && is_none (castling p n) && admits (if_written start.file (file m.from)) (file n.from)
-          && admits (if_written start.rank (rank m.from)) (rank n.from) && (not c || captures p n) && (m.to == n.to)
-          && true) false h) [
-            | inr g ↦ absurd cc
-            | inl g ↦ g
-          ]
-    ] in
-    let e5 = and_parts (same_kind k l && is_none (castling p n)
-    && admits (if_written start.file (file m.from)) (file n.from)
-    && admits (if_written start.rank (rank m.from)) (rank n.from) && (not c || captures p n) && (m.to == n.to)) true
-    by_letter in
-    let e4 = and_parts (same_kind k l && is_none (castling p n)
-    && admits (if_written start.file (file m.from)) (file n.from)
-    && admits (if_written start.rank (rank m.from)) (rank n.from) && (not c || captures p n)) (m.to == n.to) e5.0 in
-    let e3 = and_parts (same_kind k l && is_none (castling p n)
-    && admits (if_written start.file (file m.from)) (file n.from)
-    && admits (if_written start.rank (rank m.from)) (rank n.from)) (not c || captures p n) e4.0 in
-    let e2 = and_parts (same_kind k l && is_none (castling p n)
-    && admits (if_written start.file (file m.from)) (file n.from))
-    (admits (if_written start.rank (rank m.from)) (rank n.from)) e3.0 in
-    let e1 = and_parts (same_kind k l && is_none (castling p n))
-    (admits (if_written start.file (file m.from)) (file n.from)) e2.0 in
-    let e0 = and_parts (same_kind k l) (is_none (castling p n)) e1.0 in
-    record {
-      man = sym (same_kind-true k l e0.0);
-      walks = is_none-None (castling p n) e0.1;
-      file_fits = e1.1;
-      rank_fits = e2.1;
-      to = sym (eqb-true m.to n.to e4.1);
-    }
+lettered_goes p m n k l start c e = record {
+  man = sym (same_kind-true k l (grind (arith, nat_tests, e)));
+  walks = is_none-None (castling p n) (grind (arith, nat_tests, e));
+  file_fits = grind (arith, nat_tests, e);
+  rank_fits = grind (arith, nat_tests, e);
+  to = grind (arith, nat_tests, e);
+}
 
 -- a rival's start is among the rivals'
 rival_stands : (p : Setup) (m n : Move) (k : Kind) (t : ℕ → Bool) → is_legal p n ≡ true
@@ -393,14 +290,6 @@ rival_is p m n k g man to apart =
     let c : same_kind g.man k ≡ true = ap (λ v. same_kind v k) man ∙ same_kind-self k in
     rw (a, apart, b, c) refl
 
-no_promotion : (p : Setup) (n : Move) (k : Kind) → HasLetter k → MovesAs p n k → n.promotion ≡ None
-no_promotion p n Pawn lettered h = absurd lettered
-no_promotion p n King lettered h = h
-no_promotion p n Queen lettered h = h
-no_promotion p n Rook lettered h = h
-no_promotion p n Bishop lettered h = h
-no_promotion p n Knight lettered h = h
-
 lettered_alone : (p : Setup) (m n : Move) (k : Kind) → HasLetter k → m.promotion ≡ None → is_legal p n ≡ true
     → (g : IsMove p n)
     → parts_fit (lettered_named k (disambiguate m.from (rivals p m k)) (captures p m) m.from m.to) (described_as p n g.man) ≡ true
@@ -413,7 +302,7 @@ lettered_alone p m n k lettered none legal g fit = by_start (n.from == m.from) r
     by_start : (t : Bool) → (n.from == m.from) ≡ t → n ≡ m
     by_start true e =
         let so : MovesAs p n k = subst (MovesAs p n) goes.man g.moves_as in
-        move_is n m (eqb-true n.from m.from e) goes.to (no_promotion p n k lettered so ∙ sym none)
+        move_is n m (eqb-true n.from m.from e) goes.to (unpromoted p n k lettered so ∙ sym none)
     by_start false e =
         let rival = rival_is p m n k g goes.man goes.to e in
         absurd (start_is_apart m.from n.from (rivals p m k)
@@ -435,14 +324,7 @@ lettered_word : (k : Kind) (start : Disambiguation) (c : Bool) (from to : ℕ)
 lettered_word k start c from to = by_written start.file start.rank c
   where
     by_written : (f r c : Bool) → IsWord (parts_text (lettered_named k (record { file = f; rank = r }) c from to))
-    by_written true true true = record { short = omega arith; long = omega arith; letter = man_letter k }
-    by_written true true false = record { short = omega arith; long = omega arith; letter = man_letter k }
-    by_written true false true = record { short = omega arith; long = omega arith; letter = man_letter k }
-    by_written true false false = record { short = omega arith; long = omega arith; letter = man_letter k }
-    by_written false true true = record { short = omega arith; long = omega arith; letter = man_letter k }
-    by_written false true false = record { short = omega arith; long = omega arith; letter = man_letter k }
-    by_written false false true = record { short = omega arith; long = omega arith; letter = man_letter k }
-    by_written false false false = record { short = omega arith; long = omega arith; letter = man_letter k }
+    by_written f r c = record { short = grind arith; long = grind arith; letter = man_letter k }
 
 -- the text without its mark has these parts, which fit the move alone
 record HasParts (p : Setup) (m : Move) (k : Kind) (q : Parts) : Type 0 where
@@ -473,20 +355,17 @@ lettered_parts_of p m k lettered walks none f t = record {
   alone = λ n legal g fit. lettered_alone p m n k lettered none legal g fit;
 }
 
-along : (p : Setup) (m : Move) (k : Kind) (q r : Parts) → r ≡ q → HasParts p m k q → HasParts p m k r
-along p m k q r e h = rw e h
-
 lettered_by : (p : Setup) (m : Move) (h : IsMove p m) → castling p m ≡ None → (k : Kind) → HasLetter k → h.man ≡ k
     → HasParts p m k (lettered_parts (rivals p m k) (described_as p m k))
 lettered_by p m h walks k lettered is =
     let so : MovesAs p m k = subst (MovesAs p m) is h.moves_as in
-    let none = no_promotion p m k lettered so in
-    along p m k _ _ (lettered_is p m k (rivals p m k) none) (lettered_parts_of p m k lettered walks none h.from_in h.to_in)
+    let none = unpromoted p m k lettered so in
+    subst (HasParts p m k) (sym (lettered_is p m k (rivals p m k) none)) (lettered_parts_of p m k lettered walks none h.from_in h.to_in)
 
 piece_by : (p : Setup) (m : Move) → IsSound p → (h : IsMove p m) → castling p m ≡ None → (k : Kind) → h.man ≡ k
     → HasParts p m k (piece_parts (rivals p m k) (described_as p m k))
 unfolding piece_parts
-piece_by p m sound h walks Pawn is = along p m Pawn _ _ (pawn_is p m Pawn) (pawn_parts_of p m sound h is)
+piece_by p m sound h walks Pawn is = pawn_parts_of p m sound h is
 piece_by p m sound h walks King is = lettered_by p m h walks King tt is
 piece_by p m sound h walks Queen is = lettered_by p m h walks Queen tt is
 piece_by p m sound h walks Rook is = lettered_by p m h walks Rook tt is

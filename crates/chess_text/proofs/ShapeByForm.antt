@@ -2,7 +2,7 @@
 use Rattle.std.proofs.Common.{◌≡◌, ℕ, ◌+◌, ◌*◌, ◌<◌, inl, inr, Bool, true, false, not, ◌||◌, Option, Some, None, List, [], ◌∷◌, refl, sym, ap, ◌∙◌, arith}
 use Rattle.std.specs.Prelude.{IfSome, unwrap_or}
 use Rattle.std.specs.Option.{option_map}
-use Rattle.std.specs.List.{flat_map}
+use Rattle.std.specs.List.{AllByRecursion, flat_map}
 use Rattle.std.proofs.lemmas.Bool.{and_right, or_cases, or_right, eq-eqb, both_ways}
 use Rattle.chess_base.specs.declared.man.CastlingSide.{CastlingSide}
 use Rattle.chess_base.specs.declared.man.CastlingSide.TheVariants.{KingSide, QueenSide}
@@ -20,20 +20,14 @@ use Rattle.chess_text.specs.ties.Reader.{parts_at}
 use Rattle.chess_text.specs.laws.Laws.{CanPromote, AreParts, IsDenoted}
 use Rattle.chess_text.proofs.Grammar.{denoted-parts, parts-denoted}
 use Rattle.chess_base.proofs.shared.Men.{same_kind-self}
-use Rattle.chess_text.proofs.Lists.{IsIn, Each, here, later, in-flat_map, in-one, in-below, each-nil, each-cons, each-flat_map, each-one, each-below}
-use Rattle.chess_text.proofs.Denotations.{of, fit_letter, fit_straight, fit_file, by_letter_fits, straight_fits, file_fits, passing, bool_same, denoted_so, denotes_is}
+use Rattle.chess_text.proofs.Lists.{IsIn, promotion_in, in-flat_map, in-one, each-flat_map, each-one, each-below, found}
+use Rattle.chess_moves.proofs.shared.AnyMove.{any-square}
+use Rattle.chess_text.proofs.Denotations.{of, by_letter_fits, straight_fits, file_fits, passing, bool_same, denoted_so, denotes_is}
 
 -- ---- all descriptions
 
 abbrev Any : (A : Type 0) → A → Type 0
 Any A x = Unit {0}
-
-each_any : (A : Type 0) (xs : List A) → Each A (Any A) xs
-each_any A [] = each-nil (Any A)
-each_any A (x ∷ xs) = each-cons (Any A) x xs tt (each_any A xs)
-
-abbrev kinds : List Kind
-kinds = King ∷ Queen ∷ Rook ∷ Bishop ∷ Knight ∷ Pawn ∷ []
 
 abbrev both : List Bool
 both = false ∷ true ∷ []
@@ -41,62 +35,20 @@ both = false ∷ true ∷ []
 abbrev sides : List (Option CastlingSide)
 sides = None ∷ Some KingSide ∷ Some QueenSide ∷ []
 
+abbrev kinds : List Kind
+kinds = King ∷ Queen ∷ Rook ∷ Bishop ∷ Knight ∷ Pawn ∷ []
+
 kind_in : (k : Kind) → IsIn Kind kinds k
-kind_in King = here King (Queen ∷ Rook ∷ Bishop ∷ Knight ∷ Pawn ∷ [])
-kind_in Queen = later King (Queen ∷ Rook ∷ Bishop ∷ Knight ∷ Pawn ∷ []) Queen
-    (here Queen (Rook ∷ Bishop ∷ Knight ∷ Pawn ∷ []))
-kind_in Rook = later King (Queen ∷ Rook ∷ Bishop ∷ Knight ∷ Pawn ∷ []) Rook
-    (later Queen (Rook ∷ Bishop ∷ Knight ∷ Pawn ∷ []) Rook (here Rook (Bishop ∷ Knight ∷ Pawn ∷ [])))
-kind_in Bishop = later King (Queen ∷ Rook ∷ Bishop ∷ Knight ∷ Pawn ∷ []) Bishop
-    (later Queen (Rook ∷ Bishop ∷ Knight ∷ Pawn ∷ []) Bishop
-    (later Rook (Bishop ∷ Knight ∷ Pawn ∷ []) Bishop (here Bishop (Knight ∷ Pawn ∷ []))))
-kind_in Knight = later King (Queen ∷ Rook ∷ Bishop ∷ Knight ∷ Pawn ∷ []) Knight
-    (later Queen (Rook ∷ Bishop ∷ Knight ∷ Pawn ∷ []) Knight
-    (later Rook (Bishop ∷ Knight ∷ Pawn ∷ []) Knight
-    (later Bishop (Knight ∷ Pawn ∷ []) Knight (here Knight (Pawn ∷ [])))))
-kind_in Pawn = later King (Queen ∷ Rook ∷ Bishop ∷ Knight ∷ Pawn ∷ []) Pawn
-    (later Queen (Rook ∷ Bishop ∷ Knight ∷ Pawn ∷ []) Pawn
-    (later Rook (Bishop ∷ Knight ∷ Pawn ∷ []) Pawn
-    (later Bishop (Knight ∷ Pawn ∷ []) Pawn (later Knight (Pawn ∷ []) Pawn (here Pawn [])))))
+kind_in k t e = grind (arith, e)
 
 both_in : (b : Bool) → IsIn Bool both b
-both_in false = here false (true ∷ [])
-both_in true = later false (true ∷ []) true (here true [])
+both_in b t e = grind (arith, e)
 
 side_in : (o : Option CastlingSide) → IsIn (Option CastlingSide) sides o
-side_in None = here None (Some KingSide ∷ Some QueenSide ∷ [])
-side_in (Some KingSide) = later None (Some KingSide ∷ Some QueenSide ∷ []) (Some KingSide)
-    (here (Some KingSide) (Some QueenSide ∷ []))
-side_in (Some QueenSide) = later None (Some KingSide ∷ Some QueenSide ∷ []) (Some QueenSide)
-    (later (Some KingSide) (Some QueenSide ∷ []) (Some QueenSide) (here (Some QueenSide) []))
+side_in o t e = grind (arith, e)
 
 abbrev Becomes : Option Kind → Type 0
 Becomes o = IfSome o CanPromote
-
-each_promotion : Each (Option Kind) Becomes promotions
-each_promotion =
-    each-cons Becomes None (Some Queen ∷ Some Rook ∷ Some Bishop ∷ Some Knight ∷ []) tt
-    (each-cons Becomes (Some Queen) (Some Rook ∷ Some Bishop ∷ Some Knight ∷ []) tt
-    (each-cons Becomes (Some Rook) (Some Bishop ∷ Some Knight ∷ []) tt
-    (each-cons Becomes (Some Bishop) (Some Knight ∷ []) tt
-    (each-cons Becomes (Some Knight) [] tt (each-nil Becomes)))))
-
-promotion_in : (o : Option Kind) → Becomes o → IsIn (Option Kind) promotions o
-promotion_in None h = here None (Some Queen ∷ Some Rook ∷ Some Bishop ∷ Some Knight ∷ [])
-promotion_in (Some King) h = absurd h
-promotion_in (Some Pawn) h = absurd h
-promotion_in (Some Queen) h = later None (Some Queen ∷ Some Rook ∷ Some Bishop ∷ Some Knight ∷ []) (Some Queen)
-    (here (Some Queen) (Some Rook ∷ Some Bishop ∷ Some Knight ∷ []))
-promotion_in (Some Rook) h = later None (Some Queen ∷ Some Rook ∷ Some Bishop ∷ Some Knight ∷ []) (Some Rook)
-    (later (Some Queen) (Some Rook ∷ Some Bishop ∷ Some Knight ∷ []) (Some Rook)
-    (here (Some Rook) (Some Bishop ∷ Some Knight ∷ [])))
-promotion_in (Some Bishop) h = later None (Some Queen ∷ Some Rook ∷ Some Bishop ∷ Some Knight ∷ []) (Some Bishop)
-    (later (Some Queen) (Some Rook ∷ Some Bishop ∷ Some Knight ∷ []) (Some Bishop)
-    (later (Some Rook) (Some Bishop ∷ Some Knight ∷ []) (Some Bishop) (here (Some Bishop) (Some Knight ∷ []))))
-promotion_in (Some Knight) h = later None (Some Queen ∷ Some Rook ∷ Some Bishop ∷ Some Knight ∷ []) (Some Knight)
-    (later (Some Queen) (Some Rook ∷ Some Bishop ∷ Some Knight ∷ []) (Some Knight)
-    (later (Some Rook) (Some Bishop ∷ Some Knight ∷ []) (Some Knight)
-    (later (Some Bishop) (Some Knight ∷ []) (Some Knight) (here (Some Knight) []))))
 
 abbrev with_castles : Kind → ℕ → ℕ → Option Kind → Bool → Option CastlingSide → Described
 with_castles man from to promotion takes castles =
@@ -122,31 +74,27 @@ record IsOnBoard (d : Described) : Type 0 where
   to_in : d.to < 64
   becomes : Becomes d.promotion
 
-each_square : Each ℕ (λ s. s < 64) squares
+each_square : AllByRecursion (λ s. s < 64) squares
 unfolding squares
 each_square = each-below (λ s. s < 64) 64 (λ s. s) (λ k l. l)
 
-square_in : (s : ℕ) → s < 64 → IsIn ℕ squares s
-unfolding squares
-square_in s h = in-below 64 (λ s. s) s h
-
-each_described : Each Described IsOnBoard all_described
+each_described : AllByRecursion IsOnBoard all_described
 unfolding all_described
 each_described =
-    each-flat_map (Any Kind) IsOnBoard with_man kinds (each_any Kind kinds)
+    each-flat_map (Any Kind) IsOnBoard with_man kinds (tt, (tt, (tt, (tt, (tt, (tt, tt))))))
     (λ man u. each-flat_map (λ s. s < 64) IsOnBoard (with_from man) squares each_square
     (λ from f. each-flat_map (λ s. s < 64) IsOnBoard (with_to man from) squares each_square
-    (λ to t. each-flat_map Becomes IsOnBoard (with_promotion man from to) promotions each_promotion
-    (λ promotion k. each-flat_map (Any Bool) IsOnBoard (with_takes man from to promotion) both (each_any Bool both)
+    (λ to t. each-flat_map Becomes IsOnBoard (with_promotion man from to) promotions (tt, (tt, (tt, (tt, (tt, tt)))))
+    (λ promotion k. each-flat_map (Any Bool) IsOnBoard (with_takes man from to promotion) both (tt, (tt, tt))
     (λ takes v. each-one (Any (Option CastlingSide)) IsOnBoard (with_castles man from to promotion takes) sides
-    (each_any (Option CastlingSide) sides) (λ castles w. record { from_in = f; to_in = t; becomes = k }))))))
+    (tt, (tt, (tt, tt))) (λ castles w. record { from_in = f; to_in = t; becomes = k }))))))
 
 described_in : (d : Described) → IsOnBoard d → IsIn Described all_described d
 unfolding all_described
 described_in d h =
     in-flat_map with_man kinds d.man d (kind_in d.man)
-    (in-flat_map (with_from d.man) squares d.from d (square_in d.from h.from_in)
-    (in-flat_map (with_to d.man d.from) squares d.to d (square_in d.to h.to_in)
+    (in-flat_map (with_from d.man) squares d.from d (λ t. any-square t d.from h.from_in)
+    (in-flat_map (with_to d.man d.from) squares d.to d (λ t. any-square t d.to h.to_in)
     (in-flat_map (with_promotion d.man d.from d.to) promotions d.promotion d (promotion_in d.promotion h.becomes)
     (in-flat_map (with_takes d.man d.from d.to d.promotion) both d.captures d (both_in d.captures)
     (in-one (with_castles d.man d.from d.to d.promotion d.captures) sides d.castles (side_in d.castles))))))
@@ -188,10 +136,7 @@ abbrev start_of : Option ℕ → Option ℕ → ℕ
 start_of f r = 8 * or_zero r + or_zero f
 
 start_in : (f r : Option ℕ) → IfSome f (λ x. x < 8) → IfSome r (λ x. x < 8) → start_of f r < 64
-start_in None None a b = omega arith
-start_in (Some x) None a b = omega arith
-start_in None (Some y) a b = omega arith
-start_in (Some x) (Some y) a b = omega arith
+start_in f r a b = grind arith
 
 admits_file : (f r : Option ℕ) → IfSome f (λ x. x < 8) → IfSome r (λ x. x < 8)
     → admits f (file (start_of f r)) ≡ true
@@ -206,8 +151,7 @@ admits_rank None (Some y) a b = eq-eqb y (rank (8 * y + 0)) (omega arith)
 admits_rank (Some x) (Some y) a b = eq-eqb y (rank (8 * y + x)) (omega arith)
 
 may_take : (t : Bool) → (not t || true) ≡ true
-may_take true = refl
-may_take false = refl
+may_take t = grind arith
 
 own_promotion : (p : Option Promotion) → promotes_so p (kind_of p) ≡ true
 own_promotion None = refl
@@ -226,9 +170,8 @@ fits_by (Some k) f r takes to None h form =
     record {
       d = d;
       on_board = record { from_in = start_in f r h.file_is h.rank_is; to_in = h.to_is; becomes = tt };
-      fits = fit_letter (of (Some k) f r takes to None) d
-          (by_letter_fits d f r takes refl (admits_file f r h.file_is h.rank_is) (admits_rank f r h.file_is h.rank_is)
-          (may_take takes));
+      fits = by_letter_fits d f r takes refl (admits_file f r h.file_is h.rank_is)
+          (admits_rank f r h.file_is h.rank_is) (may_take takes);
     }
 fits_by (Some k) f r takes to (Some x) h form = absurd cc
 fits_by None (Some x) r takes to p h form =
@@ -241,9 +184,8 @@ fits_by None (Some x) r takes to p h form =
         to_in = h.to_is;
         becomes = becomes_of p h.promotion_is;
       };
-      fits = fit_file (of None (Some x) r takes to p) d
-          (file_fits d (Some x) r takes p refl (admits_file (Some x) r h.file_is h.rank_is)
-          (admits_rank (Some x) r h.file_is h.rank_is) (may_take takes) (own_promotion p));
+      fits = file_fits d (Some x) r takes p refl (admits_file (Some x) r h.file_is h.rank_is)
+          (admits_rank (Some x) r h.file_is h.rank_is) (may_take takes) (own_promotion p);
     }
 fits_by None None (Some y) takes to p h form = absurd cc
 fits_by None None None true to p h form = absurd cc
@@ -253,8 +195,7 @@ fits_by None None None false to p h form =
     record {
       d = d;
       on_board = record { from_in = h.to_is; to_in = h.to_is; becomes = becomes_of p h.promotion_is };
-      fits = fit_straight (of None None None false to p) d
-          (straight_fits d p refl (eq-eqb (file to) (file to) refl) (own_promotion p));
+      fits = straight_fits d p refl (eq-eqb (file to) (file to) refl) (own_promotion p);
     }
 
 -- ---- the shape
@@ -262,11 +203,7 @@ fits_by None None None false to p h form =
 pub castling_has : (text : List ℕ) (w : CastlingSide) → is_castling_text text w ≡ true → has_form text ≡ true
 unfolding has_form
 castling_has text KingSide h = rw h refl
-castling_has text QueenSide h = rw h (by_king (is_castling_text text KingSide))
-  where
-    by_king : (b : Bool) → ((b || true) || has_parts is_form text) ≡ true
-    by_king true = refl
-    by_king false = refl
+castling_has text QueenSide h = grind (arith, h)
 
 parts_have : (text : List ℕ) (q : Parts) → AreParts q → unmarked text ≡ parts_text q → is_form q ≡ true
     → has_form text ≡ true
@@ -290,7 +227,7 @@ form_so text d e =
 has_so : (text : List ℕ) → shape text ≡ true → has_form text ≡ true
 unfolding shape
 has_so text e =
-    let f = each_described (λ d. denotes_described text d) e in
+    let f = found IsOnBoard all_described each_described (λ d. denotes_described text d) e in
     form_so text f.0 (sym (denotes_is text f.0 f.1.from_in f.1.to_in f.1.becomes) ∙ f.2)
 
 shaped_by : (text : List ℕ) (d : Described) → IsOnBoard d → IsDenoted text d → shape text ≡ true

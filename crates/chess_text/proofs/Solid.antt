@@ -5,7 +5,6 @@ use Rattle.std.proofs.lemmas.Bool.Decides.{nat_tests}
 use Rattle.chess_base.specs.declared.man.CastlingSide.{CastlingSide}
 use Rattle.chess_base.specs.declared.man.CastlingSide.TheVariants.{KingSide, QueenSide}
 use Rattle.chess_base.specs.declared.man.Kind.{Kind}
-use Rattle.chess_base.specs.declared.man.Kind.TheVariants.{King, Queen, Rook, Bishop, Knight, Pawn}
 use Rattle.chess_base.specs.declared.setup.Setup.{Setup}
 use Rattle.chess_base.specs.Attacks.{is_in_check}
 use Rattle.chess_base.specs.Coordinates.{optional}
@@ -39,26 +38,10 @@ bare : (text : List ℕ) → IsSolid text → unmarked text ≡ text
 bare text h = ap unmarked h.split ∙ unmarked-solid h.front h.last h.plain ∙ sym h.split
 
 digit_no_mark : (s : ℕ) → s < 64 → is_mark (49 + rank s) ≡ false
-digit_no_mark s h =
-    let a : (49 + rank s == 43) ≡ false = grind (arith, nat_tests) in
-    let b : (49 + rank s == 35) ≡ false = grind (arith, nat_tests) in
-    let c : (49 + rank s == 33) ≡ false = grind (arith, nat_tests) in
-    let d : (49 + rank s == 63) ≡ false = grind (arith, nat_tests) in
-    rw (a, b, c, d) refl
+digit_no_mark s h = grind (arith, nat_tests)
 
 letter_no_mark : (small : Bool) (k : Kind) → is_mark (if small then white_letter k + 32 else white_letter k) ≡ false
-letter_no_mark true King = refl
-letter_no_mark true Queen = refl
-letter_no_mark true Rook = refl
-letter_no_mark true Bishop = refl
-letter_no_mark true Knight = refl
-letter_no_mark true Pawn = refl
-letter_no_mark false King = refl
-letter_no_mark false Queen = refl
-letter_no_mark false Rook = refl
-letter_no_mark false Bishop = refl
-letter_no_mark false Knight = refl
-letter_no_mark false Pawn = refl
+letter_no_mark small k = grind arith
 
 solid_end : (s : ℕ) (o : Option Promotion) → s < 64 → IsSolid (square_text s ++ optional promotion_text o)
 solid_end s None h = record { front = (97 + file s) ∷ []; last = 49 + rank s; split = refl; plain = digit_no_mark s h }

@@ -6,7 +6,6 @@ use Rattle.std.proofs.lemmas.Bool.Decides.{nat_tests}
 use Rattle.chess_base.specs.Coordinates.{optional}
 use Rattle.chess_base.specs.declared.man.CastlingSide.TheVariants.{KingSide, QueenSide}
 use Rattle.chess_base.specs.declared.man.Kind.{Kind}
-use Rattle.chess_base.specs.declared.man.Kind.TheVariants.{King, Queen, Rook, Bishop, Knight, Pawn}
 use Rattle.std.specs.Option.{option_map}
 use Rattle.chess_base.proofs.shared.Choices.{chosen}
 use Rattle.chess_text.specs.declared.form.Form.TheVariants.{Piece}
@@ -47,14 +46,7 @@ record IsUsual (text : List ℕ) (q : Parts) : Type 0 where
 -- without a start rank the letter alone says which kind of piece is meant
 kind_told : (letter : Option Kind) (file : Option ℕ) (takes : Bool) (f r : ℕ) → IfSome letter HasLetter
     → one_kind (parts_to letter file takes f r) ≡ Some (usual_kind letter)
-kind_told None None takes f r h = refl
-kind_told None (Some n) takes f r h = refl
-kind_told (Some King) file takes f r h = refl
-kind_told (Some Queen) file takes f r h = refl
-kind_told (Some Rook) file takes f r h = refl
-kind_told (Some Bishop) file takes f r h = refl
-kind_told (Some Knight) file takes f r h = refl
-kind_told (Some Pawn) file takes f r h = absurd h
+kind_told letter file takes f r h = grind (arith, h)
 
 -- a square is named, after these parts
 to_square : (letter : Option Kind) (file : Option ℕ) (takes : Bool) (f r : ℕ) → names_square f r ≡ true

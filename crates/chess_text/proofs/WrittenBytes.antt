@@ -1,17 +1,16 @@
 -- The bytes of the texts that are written.
-use Rattle.std.proofs.Common.{◌≡◌, ℕ, ◌+◌, ◌<◌, ◌≤◌, Bool, true, false, ◌&&◌, ◌||◌, List, [], ◌∷◌, ◌++◌, length, Option, Some, None, refl, arith, length-append, ◌==◌, nat_le}
+use Rattle.std.proofs.Common.{◌≡◌, ℕ, ◌+◌, ◌<◌, ◌≤◌, Bool, true, false, List, [], ◌∷◌, ◌++◌, length, Option, Some, None, refl, arith, length-append, ◌==◌}
 use Rattle.std.specs.Prelude.{IfSome, if◌then◌else◌}
-use Rattle.std.proofs.lemmas.Bool.{and_parts, and_from, or_left, or_right}
+use Rattle.std.proofs.lemmas.List.Folds.{list_all-append}
 use Rattle.std.proofs.lemmas.Bool.Decides.{nat_tests}
 use Rattle.std.specs.List.{list_all}
 use Rattle.chess_base.specs.declared.man.CastlingSide.{CastlingSide}
 use Rattle.chess_base.specs.declared.man.CastlingSide.TheVariants.{KingSide, QueenSide}
 use Rattle.chess_base.specs.declared.man.Kind.{Kind}
-use Rattle.chess_base.specs.declared.man.Kind.TheVariants.{King, Queen, Rook, Bishop, Knight, Pawn}
 use Rattle.chess_base.specs.declared.setup.Setup.{Setup}
 use Rattle.chess_base.specs.Attacks.{is_in_check}
 use Rattle.chess_base.specs.Coordinates.{optional}
-use Rattle.chess_base.specs.Letters.{white_letter, square_text, is_digit, is_letter}
+use Rattle.chess_base.specs.Letters.{white_letter, square_text, is_letter}
 use Rattle.chess_base.specs.MoveList.{moves}
 use Rattle.chess_base.specs.Squares.{file, rank}
 use Rattle.chess_text.specs.declared.parts.Parts.{Parts}
@@ -34,38 +33,14 @@ pub record Word (text : List ℕ) : Type 0 where
   pub bytes : list_all (λ c. is_san_byte c) text ≡ true
   pub letter : begins_with_letter text ≡ true
 
-small_letter : (n : ℕ) → n < 8 → is_letter (97 + n) ≡ true
-small_letter n h =
-    let a : nat_le 97 (97 + n) ≡ true = grind (arith, nat_tests) in
-    let b : nat_le (97 + n) 122 ≡ true = grind (arith, nat_tests) in
-    or_right (nat_le 65 (97 + n) && nat_le (97 + n) 90) (nat_le 97 (97 + n) && nat_le (97 + n) 122)
-    (and_from (nat_le 97 (97 + n)) (nat_le (97 + n) 122) a b)
-
 pub file_letter : (s : ℕ) → is_letter (97 + file s) ≡ true
-file_letter s = small_letter (file s) (omega arith)
+file_letter s = grind (arith, nat_tests)
 
 pub man_letter : (k : Kind) → is_letter (white_letter k) ≡ true
-man_letter King = refl
-man_letter Queen = refl
-man_letter Rook = refl
-man_letter Bishop = refl
-man_letter Knight = refl
-man_letter Pawn = refl
-
-letter_byte : (c : ℕ) → is_letter c ≡ true → is_san_byte c ≡ true
-letter_byte c e = rw e refl
+man_letter k = grind arith
 
 digit_byte : (n : ℕ) → n < 8 → is_san_byte (49 + n) ≡ true
-digit_byte n h =
-    let a : nat_le 48 (49 + n) ≡ true = grind (arith, nat_tests) in
-    let b : nat_le (49 + n) 57 ≡ true = grind (arith, nat_tests) in
-    let digit : is_digit (49 + n) ≡ true = and_from (nat_le 48 (49 + n)) (nat_le (49 + n) 57) a b in
-    or_left (is_letter (49 + n) || is_digit (49 + n) || (49 + n == 43) || (49 + n == 35) || (49 + n == 61))
-    (49 + n == 45)
-    (or_left (is_letter (49 + n) || is_digit (49 + n) || (49 + n == 43) || (49 + n == 35)) (49 + n == 61)
-    (or_left (is_letter (49 + n) || is_digit (49 + n) || (49 + n == 43)) (49 + n == 35)
-    (or_left (is_letter (49 + n) || is_digit (49 + n)) (49 + n == 43)
-    (or_right (is_letter (49 + n)) (is_digit (49 + n)) digit))))
+digit_byte n h = grind (arith, nat_tests)
 
 -- ---- the bytes of parts
 
@@ -73,25 +48,19 @@ abbrev AreBytes : List ℕ → Type 0
 AreBytes text = list_all (λ c. is_san_byte c) text ≡ true
 
 bytes-append : (xs ys : List ℕ) → AreBytes xs → AreBytes ys → AreBytes (xs ++ ys)
-bytes-append [] ys h k = k
-bytes-append (x ∷ xs) ys h k =
-    let both = and_parts (is_san_byte x) (list_all (λ c. is_san_byte c) xs) h in
-    and_from (is_san_byte x) (list_all (λ c. is_san_byte c) (xs ++ ys)) both.0 (bytes-append xs ys both.1 k)
-
-one-byte : (c : ℕ) → is_san_byte c ≡ true → AreBytes (c ∷ [])
-one-byte c e = rw e refl
+bytes-append xs ys h k = rw (list_all-append, h) k
 
 kind_bytes : (o : Option Kind) → AreBytes (optional kind_text o)
 kind_bytes None = refl
-kind_bytes (Some k) = one-byte (white_letter k) (letter_byte (white_letter k) (man_letter k))
+kind_bytes (Some k) = rw (man_letter k) refl
 
 file_bytes : (o : Option ℕ) → IfSome o (λ f. f < 8) → AreBytes (optional file_text o)
 file_bytes None h = refl
-file_bytes (Some f) h = one-byte (97 + f) (letter_byte (97 + f) (small_letter f h))
+file_bytes (Some f) h = grind (arith, nat_tests)
 
 rank_bytes : (o : Option ℕ) → IfSome o (λ r. r < 8) → AreBytes (optional rank_text o)
 rank_bytes None h = refl
-rank_bytes (Some r) h = one-byte (49 + r) (digit_byte r h)
+rank_bytes (Some r) h = rw (digit_byte r h) refl
 
 takes_bytes : (b : Bool) → AreBytes (list_if b (120 ∷ []))
 takes_bytes true = refl
@@ -102,18 +71,7 @@ equals_bytes true = refl
 equals_bytes false = refl
 
 letter_bytes : (small : Bool) (k : Kind) → AreBytes ((if small then white_letter k + 32 else white_letter k) ∷ [])
-letter_bytes true King = refl
-letter_bytes true Queen = refl
-letter_bytes true Rook = refl
-letter_bytes true Bishop = refl
-letter_bytes true Knight = refl
-letter_bytes true Pawn = refl
-letter_bytes false King = refl
-letter_bytes false Queen = refl
-letter_bytes false Rook = refl
-letter_bytes false Bishop = refl
-letter_bytes false Knight = refl
-letter_bytes false Pawn = refl
+letter_bytes small k = grind arith
 
 promotion_bytes : (o : Option Promotion) → AreBytes (optional promotion_text o)
 promotion_bytes None = refl
@@ -121,10 +79,7 @@ promotion_bytes (Some p) = bytes-append (list_if p.equals (61 ∷ [])) (promotio
     (letter_bytes p.small p.kind)
 
 square_bytes : (s : ℕ) → s < 64 → AreBytes (square_text s)
-square_bytes s h =
-    bytes-append ((97 + file s) ∷ []) ((49 + rank s) ∷ [])
-    (one-byte (97 + file s) (letter_byte (97 + file s) (file_letter s)))
-    (one-byte (49 + rank s) (digit_byte (rank s) (omega arith)))
+square_bytes s h = rw (file_letter s, digit_byte (rank s) (omega arith)) refl
 
 pub parts_bytes : (q : Parts) → AreParts q → AreBytes (parts_text q)
 parts_bytes q h =

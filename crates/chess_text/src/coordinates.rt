@@ -3,28 +3,15 @@
 ghost use Rattle.std.specs.Prelude.{◌≡◌, ◌≤◌};
 ghost use Rattle.arrayvec.specs.ArrayVec.{array_vec_len};
 ghost use Rattle.chess_base.specs.Coordinates.{coordinate};
-ghost use Rattle.chess_text.specs.San.{castling_text, shown_move};
+ghost use Rattle.chess_text.specs.San.{shown_move};
 
+use crate::writing::castling_name;
 use arrayvec::ArrayVec;
 use chess_base::rules::castling;
-use chess_base::{CastlingSide, Move, Position, Variant};
+use chess_base::{Move, Position, Variant};
 
 /// A move's text as `coordinate` or `move_text` writes it: three to five bytes, such as `e2e4`, `e7e8q` or `O-O`.
 pub type CoordinateText = ArrayVec<u8, 5>;
-
-// The text of castling to this side: `O-O` or `O-O-O`.
-fn castling_name(castling_side: CastlingSide) -> CoordinateText
-    ensures text { result.items ≡ castling_text castling_side }
-    ensures len { array_vec_len result ≤ 5 }
-{
-    let name: &[u8] = match castling_side {
-        CastlingSide::KingSide => b"O-O",
-        CastlingSide::QueenSide => b"O-O-O",
-    };
-    let mut text = CoordinateText::new();
-    text.try_extend_from_slice(name).unwrap();
-    text
-}
 
 /// The text of a move as CECP writes it, both to engines and in lists of legal moves: its coordinate text, such as
 /// `e2e4`, but `O-O` or `O-O-O` for castling in Chess960.
@@ -38,7 +25,7 @@ pub fn move_text(position: &Position, m: Move) -> CoordinateText
     match position.variant() {
         Variant::Normal => coordinate(again),
         Variant::Fischerandom => match castling(position.setup(), &m) {
-            Some(castling_side) => castling_name(castling_side),
+            Some(castling_side) => CoordinateText::try_from(castling_name(castling_side)).unwrap(),
             None => coordinate(again),
         },
     }

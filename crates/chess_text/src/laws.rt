@@ -44,9 +44,12 @@ pub fn move_text_denotes_its_move()
     ensures read_back { ShownMoveIsReadBack }
 {}
 
-/// A law: the contract says it, and the function does nothing. Splitting a text gives certain parts exactly if writing
-/// those parts out, as `[letter][file][rank][x]square[[=]promotion]`, gives the text. So which texts denote a move, and
-/// which have the shape of one, can be said by parts, without a list of all texts.
+/// A law: the contract says it, and the function does nothing. The definitions compare a text with lists of all texts
+/// of a move; the law says the same by parts. Splitting a text gives certain parts exactly if these can be the parts of
+/// a text, and writing them out, as `[letter][file][rank][x]square[[=]promotion]`, gives the text. A text denotes a
+/// move exactly if it names the move's castling or is, but for marks at its end, written out from parts that fit the
+/// move. It has the shape of a move exactly if it names castling or is, but for such marks, written out from parts in
+/// one of the forms of a move's text.
 pub fn texts_have_parts()
     ensures read { PartsAreTheTexts }
     ensures written { PartsAreRead }

@@ -59,8 +59,9 @@ pub(crate) fn unmarked(text: &[u8]) -> &[u8]
 }
 
 // The kind of piece that a move's text names by this letter; `None` for a pawn's, which no text has, and for any other
-// byte.
+// byte. Inlined for usual.rt.
 #[tactic(auto, using(crate::proofs::TextLetters::lettered))]
+#[inline(always)]
 pub(crate) fn lettered_kind(byte: u8) -> Option<Kind>
     ensures { result ≡ kind_from lettered_kinds byte }
 {

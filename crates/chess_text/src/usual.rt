@@ -8,10 +8,9 @@
 
 ghost use Rattle.std.specs.Prelude.{◌≡◌, true};
 ghost use Rattle.chess_text.specs.Parts.{unmarked};
-ghost use Rattle.chess_text.specs.ties.Reader.{kind_from, lettered_kinds};
 ghost use Rattle.chess_text.specs.ties.Usual.{names_square, parts_to, four_at, usual_at};
 
-use crate::parts::{End, Parts, is_mark};
+use crate::parts::{End, Parts, is_mark, lettered_kind};
 use chess_base::{Kind, Square};
 
 // The text without the mark at its end, if there is one: one mark is enough for usual texts.
@@ -24,21 +23,6 @@ pub(crate) fn without_mark(text: &[u8]) -> &[u8]
         return text;
     };
     if is_mark(*last) { rest } else { text }
-}
-
-// The kind of piece that a move's text names by this letter; `None` for any other byte.
-#[inline(always)]
-fn kind_of(letter: u8) -> Option<Kind>
-    ensures { result ≡ kind_from lettered_kinds letter }
-{
-    match letter {
-        b'K' => Some(Kind::King),
-        b'Q' => Some(Kind::Queen),
-        b'R' => Some(Kind::Rook),
-        b'B' => Some(Kind::Bishop),
-        b'N' => Some(Kind::Knight),
-        _ => None,
-    }
 }
 
 // The parts with this letter, start file and `x`, and the end square with this file's letter and this rank's digit.
@@ -69,13 +53,13 @@ fn read_four(first: u8, second: u8, to_file: u8, to_rank: u8) -> Option<Parts>
         if matches!(first, b'a'..=b'h') {
             return Some(parts_to(None, Some(first - b'a'), true, to_file, to_rank));
         }
-        let kind = kind_of(first)?;
+        let kind = lettered_kind(first)?;
         return Some(parts_to(Some(kind), None, true, to_file, to_rank));
     }
     if !matches!(second, b'a'..=b'h') {
         return None;
     }
-    let kind = kind_of(first)?;
+    let kind = lettered_kind(first)?;
     Some(parts_to(Some(kind), Some(second - b'a'), false, to_file, to_rank))
 }
 
@@ -87,7 +71,7 @@ pub(crate) fn usual_parts(text: &[u8]) -> Option<Parts>
     match text {
         [file @ b'a'..=b'h', rank @ b'1'..=b'8'] => Some(parts_to(None, None, false, *file, *rank)),
         [letter, file @ b'a'..=b'h', rank @ b'1'..=b'8'] => {
-            let kind = kind_of(*letter)?;
+            let kind = lettered_kind(*letter)?;
             Some(parts_to(Some(kind), None, false, *file, *rank))
         }
         [first, second, file @ b'a'..=b'h', rank @ b'1'..=b'8'] => {

@@ -1,6 +1,6 @@
 //! Writing a move in SAN (PGN standard of 1994, section 8.2.3).
 
-ghost use Rattle.std.specs.Prelude.{◌≡◌, ◌+◌, ◌≤◌, ◌<◌, ◌∷◌, [], ◌++◌, false, IsTrue};
+ghost use Rattle.std.specs.Prelude.{◌≡◌, ◌+◌, ◌≤◌, ◌<◌, ◌∷◌, [], ◌++◌, false, length, IsTrue};
 ghost use Rattle.arrayvec.specs.ArrayVec.{array_vec_len};
 ghost use Rattle.chess_base.specs.Letters.{square_text};
 ghost use Rattle.chess_base.specs.declared.man.Kind.TheVariants.{Pawn};
@@ -112,18 +112,15 @@ fn write_square(text: &mut SanText, square: Square)
     text.push(rank);
 }
 
-// Castling to this side in SAN: `O-O` or `O-O-O`.
-fn castling_text(castling_side: CastlingSide) -> SanText
-    ensures text { result.items ≡ castling_text castling_side }
-    ensures len { array_vec_len result ≤ 6 }
+// The text of castling to this side, in SAN and in lists of moves: `O-O` or `O-O-O`.
+pub(crate) fn castling_name(castling_side: CastlingSide) -> &'static [u8]
+    ensures text { result.now ≡ castling_text castling_side }
+    ensures len { length result.now ≤ 5 }
 {
-    let mut text = SanText::new();
-    let name = match castling_side {
-        CastlingSide::KingSide => b"O-O".as_slice(),
-        CastlingSide::QueenSide => b"O-O-O".as_slice(),
-    };
-    text.try_extend_from_slice(name).unwrap();
-    text
+    match castling_side {
+        CastlingSide::KingSide => b"O-O",
+        CastlingSide::QueenSide => b"O-O-O",
+    }
 }
 
 // A pawn's move in SAN, without the mark for check or mate, as `exd5` or `e8=Q`.
@@ -170,7 +167,7 @@ fn described_text<B: Board>(board: &B, d: &Described) -> SanText
     ensures len { array_vec_len result ≤ 6 }
 {
     if let Some(castling_side) = d.castles {
-        return castling_text(castling_side);
+        return SanText::try_from(castling_name(castling_side)).unwrap();
     }
     if d.man == Kind::Pawn {
         return pawn_text(d);

@@ -1,9 +1,11 @@
 -- The lines of a text, and the pieces that they are cut into.
-use Rattle.std.proofs.Common.{◌≡◌, ◌<◌, ℕ, eqb, Bool, true, false, List, [], ◌∷◌, ◌++◌, length, refl, sym, ap, ◌∙◌, append_assoc, append-nil, length-append, arith}
+use Rattle.std.proofs.Common.{◌≡◌, ◌<◌, ℕ, eqb, Bool, true, false, List, [], ◌∷◌, ◌++◌, length, map, reverse, refl, sym, ap, ◌∙◌, append_assoc, append-nil, length-append, arith}
 use Rattle.std.specs.Prelude.{if◌then◌else◌, ◌&&◌, ◌||◌}
 use Rattle.std.specs.List.{onto_first, concat, list_any}
-use Rattle.std.proofs.lemmas.Bool.{or_parts}
-use Rattle.pgn_pieces.specs.Pieces.{lines_of, begins_piece, is_tag_line, is_event_line, piece_of, cut_lines, cut}
+use Rattle.std.proofs.lemmas.Bool.{and_parts, or_parts}
+use Rattle.std.proofs.lemmas.List.{reverse-append}
+use Rattle.pgn_pieces.specs.Pieces.{lines_of, begins_piece, is_tag_line, is_event_line, is_moves_line, with_line, pieces_back, cut}
+use Rattle.pgn_pieces.specs.ties.Cutting.{piece_of, cut_lines}
 use Rattle.pgn_pieces.specs.ties.Held.{has_line_end}
 
 -- ---- lines
@@ -11,19 +13,17 @@ use Rattle.pgn_pieces.specs.ties.Held.{has_line_end}
 pub lines_on : (c : ℕ) (cs : List ℕ) → eqb c 10 ≡ false → lines_of (c ∷ cs) ≡ onto_first c (lines_of cs)
 lines_on c cs h = ap (λ b. if b then (c ∷ []) ∷ lines_of cs else onto_first c (lines_of cs)) h
 
-pub line_here : (c : ℕ) (cs : List ℕ) → eqb c 10 ≡ true → lines_of (c ∷ cs) ≡ (c ∷ []) ∷ lines_of cs
-line_here c cs h = ap (λ b. if b then (c ∷ []) ∷ lines_of cs else onto_first c (lines_of cs)) h
-
 parts : (c : ℕ) (cs : List ℕ) → has_line_end (c ∷ cs) ≡ false → (eqb c 10 ≡ false) × (has_line_end cs ≡ false)
 parts c cs h = or_parts (eqb c 10) (has_line_end cs) h
 
 -- a text that begins with a whole line
-pub whole_line : (body rest : List ℕ) → has_line_end body ≡ false
-    → lines_of (body ++ 10 ∷ rest) ≡ (body ++ 10 ∷ []) ∷ lines_of rest
-whole_line [] rest h = refl
-whole_line (c ∷ cs) rest h =
+pub whole_line : (body line rest : List ℕ) → line ≡ body ++ 10 ∷ [] → has_line_end body ≡ false
+    → lines_of (line ++ rest) ≡ line ∷ lines_of rest
+whole_line [] line rest is h = ap (λ l. lines_of (l ++ rest)) is ∙ ap (λ l. l ∷ lines_of rest) (sym is)
+whole_line (c ∷ cs) line rest is h =
     let both = parts c cs h in
-    lines_on c (cs ++ 10 ∷ rest) both.0 ∙ ap (onto_first c) (whole_line cs rest both.1)
+    ap (λ l. lines_of (l ++ rest)) is ∙ lines_on c ((cs ++ 10 ∷ []) ++ rest) both.0
+    ∙ ap (onto_first c) (whole_line cs (cs ++ 10 ∷ []) rest refl both.1) ∙ ap (λ l. l ∷ lines_of rest) (sym is)
 
 -- a text without a line's end
 one_line : (line : List ℕ) → has_line_end line ≡ false → lines_of line ≡ piece_of line
@@ -35,34 +35,26 @@ one_line (c ∷ cs) h =
     onto_one [] = refl
     onto_one (x ∷ xs) = refl
 
--- the first line of a text that begins so
-pub first_line : (c : ℕ) (cs rest : List ℕ) → has_line_end (c ∷ cs) ≡ false
-    → (more : List ℕ) × (lines : List (List ℕ)) × (lines_of ((c ∷ cs) ++ rest) ≡ ((c ∷ cs) ++ more) ∷ lines)
-first_line c [] rest h = onto (lines_of rest) (lines_on c rest (parts c [] h).0)
-  where
-    onto : (all : List (List ℕ)) → lines_of (c ∷ rest) ≡ onto_first c all
-        → (more : List ℕ) × (lines : List (List ℕ)) × (lines_of (c ∷ rest) ≡ (c ∷ more) ∷ lines)
-    onto [] e = ([], [], e)
-    onto (line ∷ lines) e = (line, lines, e)
-first_line c (d ∷ ds) rest h =
-    let both = parts c (d ∷ ds) h in
-    let w = first_line d ds rest both.1 in
-    (w.0, w.1, lines_on c ((d ∷ ds) ++ rest) both.0 ∙ ap (onto_first c) w.2)
-
--- a text with a byte has a line with a byte
+-- a text with a byte has a line with that byte
 pub some_line : (c : ℕ) (cs : List ℕ)
     → (more : List ℕ) × (lines : List (List ℕ)) × (lines_of (c ∷ cs) ≡ (c ∷ more) ∷ lines)
-some_line c cs = by_test (eqb c 10) refl
+some_line c cs = by_test (eqb c 10) (lines_of cs)
   where
-    onto : (all : List (List ℕ)) → lines_of (c ∷ cs) ≡ onto_first c all
-        → (more : List ℕ) × (lines : List (List ℕ)) × (lines_of (c ∷ cs) ≡ (c ∷ more) ∷ lines)
-    onto [] e = ([], [], e)
-    onto (line ∷ lines) e = (line, lines, e)
+    by_test : (b : Bool) (all : List (List ℕ)) → (more : List ℕ) × (lines : List (List ℕ))
+        × ((if b then (c ∷ []) ∷ all else onto_first c all) ≡ (c ∷ more) ∷ lines)
+    by_test true all = ([], all, refl)
+    by_test false [] = ([], [], refl)
+    by_test false (line ∷ lines) = (line, lines, refl)
 
-    by_test : (b : Bool) → eqb c 10 ≡ b
-        → (more : List ℕ) × (lines : List (List ℕ)) × (lines_of (c ∷ cs) ≡ (c ∷ more) ∷ lines)
-    by_test true e = ([], lines_of cs, line_here c cs e)
-    by_test false e = onto (lines_of cs) (lines_on c cs e)
+-- the first line of a text that begins so
+pub first_line : (line rest : List ℕ) → 0 < length line → has_line_end line ≡ false
+    → (more : List ℕ) × (lines : List (List ℕ)) × (lines_of (line ++ rest) ≡ (line ++ more) ∷ lines)
+first_line [] rest some h = absurd (omega (arith, some))
+first_line (c ∷ []) rest some h = some_line c rest
+first_line (c ∷ d ∷ ds) rest some h =
+    let both = parts c (d ∷ ds) h in
+    let w = first_line (d ∷ ds) rest (omega arith) both.1 in
+    (w.0, w.1, lines_on c ((d ∷ ds) ++ rest) both.0 ∙ ap (onto_first c) w.2)
 
 -- ---- pieces
 
@@ -111,26 +103,54 @@ pub piece_of_some : (text : List ℕ) → 0 < length text → piece_of text ≡ 
 piece_of_some [] h = absurd (omega (arith, h))
 piece_of_some (c ∷ cs) h = refl
 
--- bytes are cut into one piece or more
-cut_some : (before lines : List (List ℕ)) → 0 < length (concat before)
-    → (piece : List ℕ) × (pieces : List (List ℕ)) × (cut_lines before lines ≡ piece ∷ pieces)
-cut_some before [] h = (concat before, [], piece_of_some (concat before) h)
-cut_some before (line ∷ lines) h =
-    let all = length-append (concat before) line in
-    let bytes = ap length (concat_more before line) in
-    by_test (begins_piece before line) refl (cut_some (before ++ line ∷ []) lines (omega (arith, all, bytes, h)))
-  where
-    by_test : (b : Bool) → begins_piece before line ≡ b
-        → (piece : List ℕ) × (pieces : List (List ℕ)) × (cut_lines (before ++ line ∷ []) lines ≡ piece ∷ pieces)
-        → (piece : List ℕ) × (pieces : List (List ℕ)) × (cut_lines before (line ∷ lines) ≡ piece ∷ pieces)
-    by_test true e next = (concat before, cut_lines (line ∷ []) lines, ends_here before line lines e)
-    by_test false e next = (next.0, next.1, goes_on before line lines e ∙ next.2)
+-- the bytes of pieces that are given last first
+abbrev texts : List (List (List ℕ)) → List (List ℕ)
+texts pieces = reverse (map concat pieces)
 
-pub has_piece : (text : List ℕ) → 0 < length text
-    → (piece : List ℕ) × (pieces : List (List ℕ)) × (cut text ≡ piece ∷ pieces)
-has_piece [] h = absurd (omega (arith, h))
-has_piece (c ∷ cs) h =
-    let first = some_line c cs in
-    let some : 0 < length (concat ((c ∷ first.0) ∷ [])) = omega arith in
-    let w = cut_some ((c ∷ first.0) ∷ []) first.1 some in
-    (w.0, w.1, ap (cut_lines []) first.2 ∙ begun (c ∷ first.0) first.1 ∙ w.2)
+tag_some : (line : List ℕ) → is_tag_line line ≡ true → 0 < length (concat (line ∷ []))
+tag_some [] h = absurd (cc)
+tag_some (c ∷ cs) h = omega arith
+
+-- after the lines `back`, of which the last come first, these lines are cut from the first one on
+cut_on : (lines back last : List (List ℕ)) (before : List (List (List ℕ))) → pieces_back back ≡ last ∷ before
+    → 0 < length (concat last) → texts (pieces_back (reverse lines ++ back)) ≡ texts before ++ cut_lines last lines
+cut_on [] back last before e some =
+    ap texts e ∙ reverse-append (concat last ∷ []) (map concat before)
+    ∙ ap (λ ps. texts before ++ ps) (sym (piece_of_some (concat last) some))
+cut_on (line ∷ lines) back last before e some =
+    ap (λ ls. texts (pieces_back (ls ++ back))) (reverse-append (line ∷ []) lines)
+    ∙ ap (λ ls. texts (pieces_back ls)) (append_assoc (reverse lines) (line ∷ []) back)
+    ∙ by_test (begins_piece last line) refl (ap (with_line line) e)
+    (cut_on lines (line ∷ back) (line ∷ []) (last ∷ before)) (cut_on lines (line ∷ back) (last ++ line ∷ []) before)
+  where
+    all : List (List ℕ)
+    all = texts (pieces_back (reverse lines ++ line ∷ back))
+
+    by_test : (b : Bool) → begins_piece last line ≡ b
+        → pieces_back (line ∷ back) ≡ (if b then (line ∷ []) ∷ last ∷ before else (last ++ line ∷ []) ∷ before)
+        → (pieces_back (line ∷ back) ≡ (line ∷ []) ∷ last ∷ before → 0 < length (concat (line ∷ []))
+        → all ≡ texts (last ∷ before) ++ cut_lines (line ∷ []) lines)
+        → (pieces_back (line ∷ back) ≡ (last ++ line ∷ []) ∷ before → 0 < length (concat (last ++ line ∷ []))
+        → all ≡ texts before ++ cut_lines (last ++ line ∷ []) lines)
+        → all ≡ texts before
+        ++ (if b then concat last ∷ cut_lines (line ∷ []) lines else cut_lines (last ++ line ∷ []) lines)
+    by_test true t is new on =
+        new is (tag_some line
+        (and_parts (is_tag_line line)
+        (list_any is_moves_line last || (is_event_line line && list_any is_event_line last)) t).0)
+        ∙ ap (λ ps. ps ++ cut_lines (line ∷ []) lines) (reverse-append (concat last ∷ []) (map concat before))
+        ∙ append_assoc (texts before) (concat last ∷ []) (cut_lines (line ∷ []) lines)
+    by_test false t is new on =
+        let bytes = ap length (concat_more last line) in
+        let l = length-append (concat last) line in on is (omega (arith, bytes, l, some))
+
+-- a text is cut from its first line on
+pub cut_is : (text : List ℕ) → cut text ≡ cut_lines [] (lines_of text)
+cut_is [] = refl
+cut_is (c ∷ cs) =
+    let w = some_line c cs in
+    let some : 0 < length (concat ((c ∷ w.0) ∷ [])) = omega arith in
+    ap (λ ls. texts (pieces_back (reverse ls))) w.2
+    ∙ ap (λ ls. texts (pieces_back ls)) (reverse-append ((c ∷ w.0) ∷ []) w.1)
+    ∙ cut_on w.1 ((c ∷ w.0) ∷ []) ((c ∷ w.0) ∷ []) [] refl some
+    ∙ sym (ap (cut_lines []) w.2 ∙ begun (c ∷ w.0) w.1)

@@ -1,42 +1,31 @@
 -- Each piece of a text is in its place.
-use Rattle.std.proofs.Common.{◌≡◌, ℕ, ◌+◌, ◌-◌, eqb, Bool, true, false, List, [], ◌∷◌, ◌++◌, length, take, drop, Some, None, refl, sym, ap, subst, ◌∙◌, append_assoc, append-nil, length-append, arith}
+use Rattle.std.proofs.Common.{◌≡◌, ℕ, ◌+◌, ◌-◌, Bool, true, false, List, [], ◌∷◌, ◌++◌, length, take, drop, Some, None, refl, sym, ap, subst, ◌∙◌, append_assoc, append-nil, length-append, arith}
 use Rattle.std.specs.Prelude.{if◌then◌else◌, nat_le, not}
 use Rattle.std.specs.List.{onto_first, concat, sum_by, prefix_len}
-use Rattle.std.proofs.lemmas.List.{take-append-drop, take-append-le, drop-append-le, reverse-append}
+use Rattle.std.proofs.lemmas.List.{take-append-drop, reverse-append}
 use Rattle.std.proofs.lemmas.List.Sums.{sum_by_push}
 use Rattle.std.proofs.Math.Path.{ap₂}
-use Rattle.std.proofs.Math.Seq.{take-length, drop-length}
+use Rattle.std.proofs.Math.Seq.{take-append_seam, drop-append_seam}
+use Rattle.std.proofs.lemmas.List.Folds.{concat-append}
 use Rattle.pgn_pieces.specs.declared.pieces.TheConstants.{PIECE_LEN}
-use Rattle.pgn_pieces.specs.Pieces.{Piece, lines_of, begins_piece, piece_of, cut_lines, cut, piece_at, with_offsets, pieces}
+use Rattle.pgn_pieces.specs.Pieces.{Piece, lines_of, cut, piece_at, with_offsets, pieces}
+use Rattle.pgn_pieces.specs.ties.Cutting.{cut_lines, piece_of}
 use Rattle.pgn_pieces.specs.Places.{ends_line, line_ends, last_line_len}
 use Rattle.pgn_pieces.specs.laws.Places.{IsInPlace, PiecesAreInPlace}
 use Rattle.pgn_pieces.proofs.LineEnds.{count_append}
-use Rattle.pgn_pieces.proofs.CutLines.{lines_on, line_here, concat_more, goes_on, ends_here}
+use Rattle.pgn_pieces.proofs.CutLines.{concat_more, cut_is}
+use Rattle.pgn_pieces.proofs.WholePieces.{AreLines, no_texts, last_text, next_text, cut_ends}
 
 -- ---- texts one after another
-
-concat_append : (xs ys : List (List ℕ)) → concat (xs ++ ys) ≡ concat xs ++ concat ys
-concat_append [] ys = refl
-concat_append (x ∷ xs) ys = ap (λ l. x ++ l) (concat_append xs ys) ∙ sym (append_assoc x (concat xs) (concat ys))
-
-take_front : (xs ys : List ℕ) → take (length xs) (xs ++ ys) ≡ xs
-take_front xs ys = take-append-le (length xs) xs ys (omega arith) ∙ take-length xs
-
-drop_front : (xs ys : List ℕ) → drop (length xs) (xs ++ ys) ≡ ys
-drop_front xs ys = drop-append-le (length xs) xs ys (omega arith) ∙ ap (λ l. l ++ ys) (drop-length xs)
 
 -- the lines of a text are all of it
 lines_are_all : (text : List ℕ) → concat (lines_of text) ≡ text
 lines_are_all [] = refl
-lines_are_all (c ∷ cs) = by_test (eqb c 10) refl (lines_are_all cs)
+lines_are_all (c ∷ cs) = let on = lines_are_all cs in let o = onto (lines_of cs) in grind (arith, on, o)
   where
     onto : (lines : List (List ℕ)) → concat (onto_first c lines) ≡ c ∷ concat lines
     onto [] = refl
     onto (line ∷ lines) = refl
-
-    by_test : (b : Bool) → eqb c 10 ≡ b → concat (lines_of cs) ≡ cs → concat (lines_of (c ∷ cs)) ≡ c ∷ cs
-    by_test true e on = ap concat (line_here c cs e) ∙ ap (λ l. c ∷ l) on
-    by_test false e on = ap concat (lines_on c cs e) ∙ onto (lines_of cs) ∙ ap (λ l. c ∷ l) on
 
 piece_is_all : (text : List ℕ) → concat (piece_of text) ≡ text
 piece_is_all [] = refl
@@ -46,22 +35,13 @@ piece_is_all (c ∷ cs) = append-nil (c ∷ cs)
 pieces_are_all : (before lines : List (List ℕ)) → concat (cut_lines before lines) ≡ concat before ++ concat lines
 pieces_are_all before [] = piece_is_all (concat before) ∙ sym (append-nil (concat before))
 pieces_are_all before (line ∷ lines) =
-    by_test (begins_piece before line) refl (pieces_are_all (line ∷ []) lines)
-    (pieces_are_all (before ++ line ∷ []) lines)
-  where
-    by_test : (b : Bool) → begins_piece before line ≡ b
-        → concat (cut_lines (line ∷ []) lines) ≡ concat (line ∷ []) ++ concat lines
-        → concat (cut_lines (before ++ line ∷ []) lines) ≡ concat (before ++ line ∷ []) ++ concat lines
-        → concat (cut_lines before (line ∷ lines)) ≡ concat before ++ (line ++ concat lines)
-    by_test true e next on =
-        ap concat (ends_here before line lines e)
-        ∙ ap (λ l. concat before ++ l) (next ∙ ap (λ l. l ++ concat lines) (append-nil line))
-    by_test false e next on =
-        ap concat (goes_on before line lines e) ∙ on ∙ ap (λ l. l ++ concat lines) (concat_more before line)
-        ∙ append_assoc (concat before) line (concat lines)
+    let next = pieces_are_all (line ∷ []) lines in
+    let on = pieces_are_all (before ++ line ∷ []) lines in
+    let more = concat_more before line in
+    grind (arith, next, on, more, append_assoc (concat before) line (concat lines), append-nil line)
 
 pub cut_is_all : (text : List ℕ) → concat (cut text) ≡ text
-cut_is_all text = pieces_are_all [] (lines_of text) ∙ lines_are_all text
+cut_is_all text = ap concat (cut_is text) ∙ pieces_are_all [] (lines_of text) ∙ lines_are_all text
 
 -- ---- where lines begin
 
@@ -70,67 +50,18 @@ abbrev BeginLines : List ℕ → List (List ℕ) → Type 0
 BeginLines front [] = Unit {0}
 BeginLines front (text ∷ texts) = (last_line_len front ≡ 0) × BeginLines (front ++ text) texts
 
--- so does each but perhaps the first
-abbrev BeginLater : List ℕ → List (List ℕ) → Type 0
-BeginLater front [] = Unit {0}
-BeginLater front (text ∷ texts) = BeginLines (front ++ text) texts
-
-with_first : (front : List ℕ) (texts : List (List ℕ)) → last_line_len front ≡ 0 → BeginLater front texts
-    → BeginLines front texts
-with_first front [] h later = tt
-with_first front (text ∷ texts) h later = (h, later)
-
 -- after a line's end a line begins
-after_end : (front : List ℕ) (c : ℕ) → eqb c 10 ≡ true → last_line_len (front ++ c ∷ []) ≡ 0
-after_end front c e =
-    ap (prefix_len (λ d. not (ends_line d))) (reverse-append front (c ∷ []))
-    ∙ ap (λ b. if not b then 1 + last_line_len front else 0) e
+after_end : (front line : List ℕ) → last_line_len (front ++ (line ++ 10 ∷ [])) ≡ 0
+after_end front line =
+    ap last_line_len (sym (append_assoc front line (10 ∷ [])))
+    ∙ ap (prefix_len (λ d. not (ends_line d))) (reverse-append (front ++ line) (10 ∷ []))
 
--- each line of a text begins so
-lines_begin : (front text : List ℕ) → BeginLater front (lines_of text)
-lines_begin front [] = tt
-lines_begin front (c ∷ cs) = by_test (eqb c 10) refl (lines_begin (front ++ c ∷ []) cs)
-  where
-    onto : (lines : List (List ℕ)) → BeginLater (front ++ c ∷ []) lines → BeginLater front (onto_first c lines)
-    onto [] later = tt
-    onto (line ∷ lines) later = subst (λ l. BeginLines l lines) (append_assoc front (c ∷ []) line) later
-
-    by_test : (b : Bool) → eqb c 10 ≡ b → BeginLater (front ++ c ∷ []) (lines_of cs)
-        → BeginLater front (lines_of (c ∷ cs))
-    by_test true e later =
-        subst (BeginLater front) (sym (line_here c cs e))
-        (with_first (front ++ c ∷ []) (lines_of cs) (after_end front c e) later)
-    by_test false e later = subst (BeginLater front) (sym (lines_on c cs e)) (onto (lines_of cs) later)
-
--- and so each piece of such lines
-pieces_begin : (front : List ℕ) (before lines : List (List ℕ)) → last_line_len front ≡ 0
-    → BeginLines (front ++ concat before) lines → BeginLines front (cut_lines before lines)
-pieces_begin front before [] h begin = one (concat before)
-  where
-    one : (text : List ℕ) → BeginLines front (piece_of text)
-    one [] = tt
-    one (c ∷ cs) = (h, tt)
-pieces_begin front before (line ∷ lines) h (here, later) =
-    by_test (begins_piece before line) refl
-    (pieces_begin (front ++ concat before) (line ∷ []) lines here)
-    (pieces_begin front (before ++ line ∷ []) lines h)
-  where
-    by_test : (b : Bool) → begins_piece before line ≡ b
-        → (BeginLines ((front ++ concat before) ++ concat (line ∷ [])) lines
-        → BeginLines (front ++ concat before) (cut_lines (line ∷ []) lines))
-        → (BeginLines (front ++ concat (before ++ line ∷ [])) lines
-        → BeginLines front (cut_lines (before ++ line ∷ []) lines))
-        → BeginLines front (cut_lines before (line ∷ lines))
-    by_test true e next on =
-        subst (BeginLines front) (sym (ends_here before line lines e))
-        (h, next (subst (λ l. BeginLines ((front ++ concat before) ++ l) lines) (sym (append-nil line)) later))
-    by_test false e next on =
-        subst (BeginLines front) (sym (goes_on before line lines e))
-        (on (subst (λ l. BeginLines l lines)
-        (append_assoc front (concat before) line ∙ ap (λ l. front ++ l) (sym (concat_more before line))) later))
-
-cut_begins : (text : List ℕ) → BeginLines [] (cut text)
-cut_begins text = pieces_begin [] [] (lines_of text) refl (with_first [] (lines_of text) refl (lines_begin [] text))
+-- texts of which each but perhaps the last ends with a line begin so
+lines_begin : (front : List ℕ) {texts : List (List ℕ)} → last_line_len front ≡ 0 → AreLines texts
+    → BeginLines front texts
+lines_begin front h no_texts = tt
+lines_begin front h (last_text text) = (h, tt)
+lines_begin front h (next_text line rest) = (h, lines_begin (front ++ (line ++ 10 ∷ [])) (after_end front line) rest)
 
 begin_front : (front : List ℕ) (xs ys : List (List ℕ)) → BeginLines front (xs ++ ys) → BeginLines front xs
 begin_front front [] ys h = tt
@@ -144,8 +75,8 @@ placed : (front bytes more : List ℕ) (before : List Piece) → last_line_len f
     → IsInPlace (front ++ (bytes ++ more)) before (piece_at (length front) bytes)
 placed front bytes more before begin ends = record {
   bytes = λ found e. by_test found (nat_le (length bytes) PIECE_LEN) e;
-  line = ap (λ l. line_ends l + 1) (take_front front (bytes ++ more)) ∙ ap (λ n. n + 1) ends;
-  column = ap (λ l. last_line_len l + 1) (take_front front (bytes ++ more)) ∙ ap (λ n. n + 1) begin;
+  line = ap (λ l. line_ends l + 1) (take-append_seam front (bytes ++ more)) ∙ ap (λ n. n + 1) ends;
+  column = ap (λ l. last_line_len l + 1) (take-append_seam front (bytes ++ more)) ∙ ap (λ n. n + 1) begin;
 }
   where
     by_test : (found : List ℕ) (b : Bool) → (if b then Some bytes else None) ≡ Some found
@@ -153,7 +84,7 @@ placed front bytes more before begin ends = record {
     by_test found true e =
         let same : bytes ≡ found = cc in
         subst (λ l. take (length l) (drop (length front) (front ++ (bytes ++ more))) ≡ l) same
-        (ap (take (length bytes)) (drop_front front (bytes ++ more)) ∙ take_front bytes more)
+        (ap (take (length bytes)) (drop-append_seam front (bytes ++ more)) ∙ take-append_seam bytes more)
     by_test found false e = absurd (cc)
 
 -- each of the pieces after the bytes `front`, of which the pieces `early` are made
@@ -187,9 +118,9 @@ each_placed early front rest (bytes ∷ texts) (p ∷ before) piece after ends (
 first_placed : (text : List ℕ) (first others : List (List ℕ)) (before : List Piece) (piece : Piece) (after : List Piece)
     → first ++ others ≡ cut text → with_offsets 0 first ≡ before ++ piece ∷ after → IsInPlace text before piece
 first_placed text first others before piece after is e =
-    subst (λ l. IsInPlace l before piece) (sym (concat_append first others) ∙ ap concat is ∙ cut_is_all text)
+    subst (λ l. IsInPlace l before piece) (sym (concat-append first others) ∙ ap concat is ∙ cut_is_all text)
     (each_placed [] [] (concat others) first before piece after refl
-    (begin_front [] first others (subst (BeginLines []) (sym is) (cut_begins text))) e)
+    (begin_front [] first others (subst (BeginLines []) (sym is) (lines_begin [] refl (cut_ends text)))) e)
 
 pub in_place : PiecesAreInPlace
 unfolding pieces

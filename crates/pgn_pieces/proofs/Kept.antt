@@ -4,7 +4,7 @@ use Rattle.std.specs.Prelude.{replicate, min}
 use Rattle.std.proofs.Math.Path.{ap₂}
 use Rattle.std.proofs.lemmas.Bool.{cases_lt}
 use Rattle.std.proofs.lemmas.Grind.{common_steps}
-use Rattle.std.proofs.lemmas.List.{take-append-drop, take-append-le, take_all, length-take-le, length-replicate}
+use Rattle.std.proofs.lemmas.List.{take-append-drop, take-append-le, take_all, length-take-le, length-replicate, nil_from_length}
 use Rattle.pgn_pieces.specs.Places.{line_ends}
 use Rattle.pgn_pieces.specs.ties.Held.{SameCounts}
 use Rattle.pgn_pieces.proofs.LineEnds.{count_append, line_ends-le, take_append}
@@ -20,12 +20,10 @@ none_after first ends plain h =
 
 pub first_kept : (first : List ℕ) (ends plain : ℕ) → length first ≤ 40 → (length first < 40 → ends + plain ≡ 0)
     → take 40 (known first ends plain) ≡ first
-first_kept first ends plain few none = by_length (cases_lt (length first) 40)
-  where
-    by_length : (length first < 40) ⊎ (40 ≤ length first) → take 40 (known first ends plain) ≡ first
-    by_length (inl short) = ap (take 40) (none_after first ends plain (none short)) ∙ take_all 40 first few
-    by_length (inr long) =
-        take-append-le 40 first (replicate ends 10 ++ replicate plain 0) long ∙ take_all 40 first few
+first_kept first ends plain few none = elim (cases_lt (length first) 40) [
+  | inl short ↦ ap (take 40) (none_after first ends plain (none short)) ∙ take_all 40 first few
+  | inr long ↦ take-append-le 40 first (replicate ends 10 ++ replicate plain 0) long ∙ take_all 40 first few
+]
 
 length_known : (first : List ℕ) (ends plain : ℕ) → length (known first ends plain) ≡ length first + (ends + plain)
 length_known first ends plain =
@@ -40,7 +38,7 @@ all_line_ends (suc n) =
 
 no_line_ends : (n : ℕ) → line_ends (replicate n 0) ≡ 0
 no_line_ends zero = refl
-no_line_ends (suc n) = let a = count_append (0 ∷ []) (replicate n 0) in let b = no_line_ends n in omega (arith, a, b)
+no_line_ends (suc n) = grind (arith, no_line_ends n)
 
 line_ends_known : (first : List ℕ) (ends plain : ℕ) → line_ends (known first ends plain) ≡ line_ends first + ends
 line_ends_known first ends plain =
@@ -51,10 +49,6 @@ line_ends_known first ends plain =
 
 pub line_ends_are : (first : List ℕ) (ends plain : ℕ) → line_ends first + ends ≡ line_ends (known first ends plain)
 line_ends_are first ends plain = sym (line_ends_known first ends plain)
-
-pub no_bytes : (xs : List ℕ) → length xs ≡ 0 → xs ≡ []
-no_bytes [] h = refl
-no_bytes (x ∷ xs) h = absurd (omega (arith, h))
 
 -- a text after what is known, of which the first `k` bytes are kept
 module _ (first bytes : List ℕ) (ends plain k : ℕ) (few : length first ≤ 40)
@@ -79,7 +73,8 @@ module _ (first bytes : List ℕ) (ends plain k : ℕ) (few : length first ≤ 4
       by_cases (inl e) =
           let l = length_kept in
           let n = none (omega (arith, l, short)) in
-          let rest : drop k bytes ≡ [] = no_bytes (drop k bytes) (let d = length-drop k bytes in omega (arith, d, e)) in
+          let d = length-drop k bytes in
+          let rest : drop k bytes ≡ [] = nil_from_length (drop k bytes) (omega (arith, d, e)) in
           let m : more ≡ 0 = ap line_ends rest in
           let o : length (drop k bytes) ≡ 0 = ap length rest in omega (arith, n, m, o)
       by_cases (inr e) = let l = length_kept in absurd (omega (arith, l, short, e))
@@ -126,9 +121,6 @@ module _ (first bytes : List ℕ) (ends plain k : ℕ) (few : length first ≤ 4
         beginning = first_kept kept (ends + more) (plain + others) (omega (arith, d, room)) none_more ∙ sym front;
         line_ends = omega (arith, f, g, h, i, j, whole);
       }
-
-pub rest_is : (k : ℕ) (text : List ℕ) → take (length text - k) (drop k text) ≡ drop k text
-rest_is k text = take_all (length text - k) (drop k text) (let l = length-drop k text in omega (arith, l))
 
 -- the first bytes of what is held from an offset on
 pub first_held : (held text : List ℕ) (at len n : ℕ) → text ≡ held → n ≡ min len 40

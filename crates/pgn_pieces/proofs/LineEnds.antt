@@ -1,5 +1,5 @@
 -- How many lines end in a text, and where its last line begins.
-use Rattle.std.proofs.Common.{◌≡◌, ◌≤◌, ℕ, zero, suc, ◌+◌, ◌-◌, List, [], ◌∷◌, ◌++◌, length, take, refl, sym, ap, ◌∙◌, arith}
+use Rattle.std.proofs.Common.{◌≡◌, ◌≤◌, ℕ, zero, suc, ◌+◌, ◌-◌, List, [], ◌∷◌, ◌++◌, length, take, ap, ◌∙◌, arith}
 use Rattle.std.specs.Prelude.{if◌then◌else◌}
 use Rattle.std.proofs.lemmas.List.Sums.{sum_by-append, count_by-le-length}
 use Rattle.pgn_pieces.specs.Places.{ends_line, line_ends}
@@ -11,13 +11,8 @@ pub line_ends-le : (xs : List ℕ) → line_ends xs ≤ length xs
 line_ends-le xs = count_by-le-length ends_line xs
 
 pub take_append : (n : ℕ) (xs ys : List ℕ) → take n (xs ++ ys) ≡ take n xs ++ take (n - length xs) ys
-take_append n [] ys =
-    let e : n ≡ n - 0 = omega arith in ap (λ k. take k ys) e ∙ ap (λ xs. xs ++ take (n - 0) ys) (sym (none n))
-  where
-    none : (k : ℕ) → take {A = ℕ} k [] ≡ []
-    none zero = refl
-    none (suc k) = refl
-take_append zero (x ∷ xs) ys = let e : 0 ≡ 0 - length (x ∷ xs) = omega arith in ap (λ k. take k ys) e
+take_append zero xs ys = let e : 0 ≡ 0 - length xs = omega arith in ap (λ k. take k ys) e
+take_append (suc n) [] ys = let e : suc n ≡ suc n - 0 = omega arith in ap (λ k. take k ys) e
 take_append (suc n) (x ∷ xs) ys =
     let e : n - length xs ≡ suc n - length (x ∷ xs) = omega arith in
     ap (λ zs. x ∷ zs) (take_append n xs ys) ∙ ap (λ k. x ∷ (take n xs ++ take k ys)) e

@@ -1,12 +1,11 @@
 -- The kind of a line that may go on.
 use Rattle.std.proofs.Common.{◌≡◌, ◌≤◌, ◌<◌, ℕ, zero, suc, ◌+◌, eqb, leb, Bool, true, false, List, [], ◌∷◌, ◌++◌, length, take, drop, cond, refl, sym, ap, ◌∙◌, length-drop, append_assoc, arith}
-use Rattle.std.specs.Prelude.{if◌then◌else◌, ◌&&◌, ◌||◌, not, nat_lt, codes}
+use Rattle.std.specs.Prelude.{◌&&◌, ◌||◌, not, nat_lt, codes}
 use Rattle.std.specs.List.{prefix_len, take_while}
 use Rattle.std.specs.Str.{bytes_eq}
 use Rattle.std.proofs.lemmas.Bool.{and_parts, leb-true}
 use Rattle.std.proofs.lemmas.Bool.Decides.{nat_tests}
-use Rattle.std.proofs.lemmas.Grind.{common_steps}
-use Rattle.std.proofs.lemmas.List.{take-append-le, drop-append-le}
+use Rattle.std.proofs.lemmas.List.{take-append-le, drop-append-le, take_all}
 use Rattle.std.proofs.lemmas.List.Folds.{prefix_len-append, length-prefix_len}
 use Rattle.std.proofs.lemmas.List.Sums.{prefix_len-le-length}
 use Rattle.pgn_pieces.specs.Pieces.{without_mark, front_of, is_name_byte, is_blank, tag_name, after_name, begins_tag, is_empty_front, is_tag_line, is_event_line, is_moves_line}
@@ -36,6 +35,11 @@ some_first : (xs : List ℕ) (c : ℕ) → bytes_eq (take 1 xs) (c ∷ []) ≡ t
 some_first [] c h = absurd (cc)
 some_first (x ∷ xs) c h = omega arith
 
+same_test : (a a' n n' q q' : List ℕ) → a ≡ a' → n ≡ n' → q ≡ q'
+    → (bytes_eq a (codes "[") && nat_lt 0 (length n) && bytes_eq q (codes "\""))
+    ≡ (bytes_eq a' (codes "[") && nat_lt 0 (length n') && bytes_eq q' (codes "\""))
+same_test a a' n n' q q' a_is n_is q_is = cc
+
 module _ (front : List ℕ) (tag : begins_tag front ≡ true) where
   abbrev rest : List ℕ
   rest = drop 1 front
@@ -48,14 +52,13 @@ module _ (front : List ℕ) (tag : begins_tag front ≡ true) where
   parts = and_parts (bytes_eq (take 1 front) (codes "[") && nat_lt 0 (length (tag_name front)))
       (bytes_eq (take 1 (after_name front)) (codes "\"")) tag
 
-  some_name : nat_lt 0 (length (tag_name front)) ≡ true
-  some_name = (and_parts (bytes_eq (take 1 front) (codes "[")) (nat_lt 0 (length (tag_name front))) parts.0).1
-
   quoted : 0 < length (after_name front)
   quoted = some_first (after_name front) 34 parts.1
 
   named : 0 < length (tag_name front)
-  named = let h = some_name in grind (arith, nat_tests, h)
+  named =
+      let h = (and_parts (bytes_eq (take 1 front) (codes "[")) (nat_lt 0 (length (tag_name front))) parts.0).1 in
+      grind (arith, nat_tests, h)
 
   -- three bytes or more
   pub tag_len : 3 ≤ length front
@@ -105,29 +108,15 @@ module _ (front : List ℕ) (tag : begins_tag front ≡ true) where
         let first : take 1 (front ++ more) ≡ take 1 front = take-append-le 1 front more (omega (arith, three)) in
         let quote : take 1 (after_name (front ++ more)) ≡ take 1 (after_name front) =
         ap (take 1) after_kept ∙ take-append-le 1 (after_name front) more (omega (arith, q)) in
-        ap (λ xs. bytes_eq xs (codes "[") && nat_lt 0 (length (tag_name (front ++ more)))
-        && bytes_eq (take 1 (after_name (front ++ more))) (codes "\"")) first
-        ∙ ap (λ xs. bytes_eq (take 1 front) (codes "[") && nat_lt 0 (length xs)
-        && bytes_eq (take 1 (after_name (front ++ more))) (codes "\"")) name_kept
-        ∙ ap (λ xs. bytes_eq (take 1 front) (codes "[") && nat_lt 0 (length (tag_name front))
-        && bytes_eq xs (codes "\"")) quote ∙ tag
+        same_test (take 1 (front ++ more)) (take 1 front) (tag_name (front ++ more)) (tag_name front)
+        (take 1 (after_name (front ++ more))) (take 1 (after_name front)) first name_kept quote ∙ tag
 
 mark_kept : (text more : List ℕ) → 3 ≤ length text → without_mark (text ++ more) ≡ without_mark text ++ more
 mark_kept text more h =
-    ap (λ xs. if bytes_eq xs (239 ∷ 187 ∷ 191 ∷ []) then drop 3 (text ++ more) else text ++ more) (take-append-le 3 text more h)
-    ∙ ap (λ xs. if bytes_eq (take 3 text) (239 ∷ 187 ∷ 191 ∷ []) then xs else text ++ more) (drop-append-le 3 text more h)
-    ∙ apart (bytes_eq (take 3 text) (239 ∷ 187 ∷ 191 ∷ []))
-  where
-    apart : (b : Bool) → (if b then drop 3 text ++ more else text ++ more) ≡ (if b then drop 3 text else text) ++ more
-    apart true = refl
-    apart false = refl
+    let a = take-append-le 3 text more h in let b = drop-append-le 3 text more h in grind (arith, a, b)
 
 unmarked_le : (text : List ℕ) → length (without_mark text) ≤ length text
-unmarked_le text = by_test (bytes_eq (take 3 text) (239 ∷ 187 ∷ 191 ∷ []))
-  where
-    by_test : (b : Bool) → length (if b then drop 3 text else text) ≤ length text
-    by_test true = omega (arith, length-drop 3 text)
-    by_test false = omega arith
+unmarked_le text = let l = length-drop 3 text in grind (arith, l)
 
 -- a text taken whole, with what follows it as far as that is taken
 taken : (n : ℕ) (xs ys : List ℕ) → length xs ≤ n → (zs : List ℕ) × (take n (xs ++ ys) ≡ xs ++ zs)
@@ -135,13 +124,10 @@ taken n [] ys h = (take n ys, refl)
 taken zero (x ∷ xs) ys h = absurd (omega (arith, h))
 taken (suc n) (x ∷ xs) ys h = let w = taken n xs ys (omega (arith, h)) in (w.0, ap (λ zs. x ∷ zs) w.1)
 
-pub whole : (n : ℕ) (xs : List ℕ) → length xs ≤ n → take n xs ≡ xs
-whole n xs h = grind (arith, common_steps, h)
-
 decided_short : (line : List ℕ) → length line ≤ 256 → is_tag_line line ≡ true → IsDecided line
 decided_short line h tag more =
     let f = without_mark line in
-    let front : front_of line ≡ f = ap without_mark (whole 256 line h) in
+    let front : front_of line ≡ f = ap without_mark (take_all 256 line h) in
     let tag' : begins_tag f ≡ true = ap begins_tag (sym front) ∙ tag in
     let few = unmarked_le line in
     let three = tag_len f tag' in

@@ -1,20 +1,23 @@
 -- A call for the next piece: what was looked through, and what it comes to.
 use Rattle.std.proofs.Common.{◌≡◌, ◌≤◌, ◌<◌, ℕ, suc, ◌+◌, ◌-◌, ◌^◌, ◌==◌, nat_lt, Bool, true, false, List, [], ◌∷◌, ◌++◌, length, take, drop, Some, None, Ok, Err, refl, sym, ap, subst, ◌∙◌, append_assoc, append-nil, length-append, arith}
-use Rattle.std.specs.Prelude.{if◌then◌else◌, nat_le, Option}
+use Rattle.std.specs.Prelude.{if◌then◌else◌, nat_le}
+use Rattle.std.specs.List.{concat}
 use Rattle.std.proofs.lemmas.Bool.Decides.{nat_tests}
 use Rattle.std.proofs.Math.Path.{ap₂}
 use Rattle.std.proofs.Math.Seq.{take-length, drop-length}
 use Rattle.pgn_pieces.proofs.LineEnds.{count_append, take_append}
-use Rattle.std.proofs.lemmas.List.{take-append-drop}
+use Rattle.std.proofs.lemmas.List.{take-append-drop, nil_from_length}
 use Rattle.byte_devices.specs.Devices.{InputState, GavePiece}
 use Rattle.pgn_pieces.specs.declared.piece_end.Seen.{Seen}
 use Rattle.pgn_pieces.specs.declared.pieces.PieceFault.{PieceFault}
 use Rattle.pgn_pieces.specs.declared.pieces.PieceFault.TheVariants.{ReadFailed, NoMemory, InputTooLong}
-use Rattle.pgn_pieces.specs.Pieces.{piece_at, with_offsets, pieces_from, piece_of, cut, HasRead, IsCause}
+use Rattle.pgn_pieces.specs.Pieces.{piece_at, with_offsets, pieces_from, cut, HasRead, IsCause}
 use Rattle.pgn_pieces.specs.Stream.{State, IsStateOf, Next, MayFollow, past_piece, current, pieces_held}
 use Rattle.pgn_pieces.specs.Places.{line_ends}
+use Rattle.pgn_pieces.specs.ties.Cutting.{piece_of}
 use Rattle.pgn_pieces.specs.ties.Held.{HasSeen, Ends, FindsEnd, SameCounts, IsLike, LetGo, Adds, passed, with_more}
-use Rattle.pgn_pieces.proofs.CutLines.{has_piece, piece_of_some}
+use Rattle.pgn_pieces.proofs.CutLines.{piece_of_some}
+use Rattle.pgn_pieces.proofs.InPlace.{cut_is_all}
 use Rattle.pgn_pieces.proofs.shared.Inputs.{read_on, broke_off}
 
 -- ---- what is held of a piece
@@ -49,39 +52,44 @@ like_on p q r (counts, is) (counts', is') =
 
 -- the piece that is returned is the one with these bytes
 told_right : (offset : ℕ) (p q : List ℕ) → IsLike p q → piece_at offset p ≡ piece_at offset q
-told_right offset p q (counts, is) =
-    ap₂ (λ xs n. record { offset = offset; beginning = xs; line_ends = n; bytes = bytes_of p }) (sym counts.beginning)
-    (sym counts.line_ends)
-    ∙ ap (λ b. record { offset = offset; beginning = take 40 q; line_ends = line_ends q; bytes = b })
-    (by_test (nat_le (length p) 16777216) refl)
+told_right offset p q (counts, is) = by_test (nat_le (length p) 16777216) refl
   where
-    bytes_of : List ℕ → Option (List ℕ)
-    bytes_of xs = if nat_le (length xs) 16777216 then Some xs else None
+    too_long : (xs : List ℕ) → nat_le (length xs) 16777216 ≡ false → piece_at offset xs
+        ≡ record { offset = offset; beginning = take 40 xs; line_ends = line_ends xs; bytes = None }
+    too_long xs e = ap (λ b. record {
+      offset = offset;
+      beginning = take 40 xs;
+      line_ends = line_ends xs;
+      bytes = if b then Some xs else None;
+    }) e
 
-    by_test : (b : Bool) → nat_le (length p) 16777216 ≡ b → bytes_of p ≡ bytes_of q
-    by_test true e = ap bytes_of (sym (is (grind (arith, nat_tests, e))))
+    by_test : (b : Bool) → nat_le (length p) 16777216 ≡ b → piece_at offset p ≡ piece_at offset q
+    by_test true e = ap (piece_at offset) (sym (is (grind (arith, nat_tests, e))))
     by_test false e =
-        ap (λ b. if b then Some p else None) e
-        ∙ sym (ap (λ n. if nat_le n 16777216 then Some q else None) counts.len
-        ∙ ap (λ b. if b then Some q else None) e)
+        too_long p e
+        ∙ ap₂ (λ xs n. record { offset = offset; beginning = xs; line_ends = n; bytes = None }) (sym counts.beginning)
+        (sym counts.line_ends) ∙ sym (too_long q (ap (λ n. nat_le n 16777216) counts.len ∙ e))
 
 -- ---- the pieces of what comes
 
+-- a text with a byte has a piece
+some_pieces : (pieces : List (List ℕ)) (text : List ℕ) → concat pieces ≡ text → 0 < length text → 0 < length pieces
+some_pieces [] text e some = let l = ap length e in omega (arith, l, some)
+some_pieces (piece ∷ pieces) text e some = omega arith
+
 -- all pieces but the last, of a list that goes on after its first
-but_last : {A : Type 0} (x : A) (all : List A) (y : A) (ys : List A) → all ≡ y ∷ ys
+but_last : {A : Type 0} (x : A) (all : List A) → 0 < length all
     → take (length (x ∷ all) - 1) (x ∷ all) ≡ x ∷ take (length all - 1) all
-but_last x all y ys e =
-    let l = ap length e in
-    let n : length (x ∷ all) - 1 ≡ suc (length all - 1) = omega (arith, l) in ap (λ k. take k (x ∷ all)) n
+but_last x all some =
+    let n : length (x ∷ all) - 1 ≡ suc (length all - 1) = omega (arith, some) in ap (λ k. take k (x ∷ all)) n
 
 -- a text whose first piece is known
 first_known : (ended : Bool) (offset : ℕ) (text piece rest : List ℕ) → cut text ≡ piece ∷ cut rest → 0 < length rest
     → pieces_from ended offset text ≡ piece_at offset piece ∷ pieces_from ended (offset + length piece) rest
 first_known true offset text piece rest e some = ap (with_offsets offset) e
 first_known false offset text piece rest e some =
-    let more = has_piece rest some in
     ap (λ all. with_offsets offset (take (length all - 1) all)) e
-    ∙ ap (with_offsets offset) (but_last piece (cut rest) more.0 more.1 more.2)
+    ∙ ap (with_offsets offset) (but_last piece (cut rest) (some_pieces (cut rest) rest (cut_is_all rest) some))
 
 -- a text that is one piece, which may go on
 none_known : (offset : ℕ) (text : List ℕ) → cut text ≡ piece_of text → pieces_from false offset text ≡ []
@@ -94,10 +102,6 @@ none_known offset text e = ap (λ all. with_offsets offset (take (length all - 1
 last_known : (offset : ℕ) (text : List ℕ) → cut text ≡ piece_of text → 0 < length text
     → pieces_from true offset text ≡ piece_at offset text ∷ []
 last_known offset text e some = ap (with_offsets offset) (e ∙ piece_of_some text some)
-
-no_bytes : (xs : List ℕ) → length xs ≡ 0 → xs ≡ []
-no_bytes [] h = refl
-no_bytes (x ∷ xs) h = absurd (omega (arith, h))
 
 -- ---- what was looked through
 
@@ -145,15 +149,12 @@ stands_on s s' r r' text stands kept =
       all = omega (arith, all, k, p);
     }
 
-keeps_passed : (n : ℕ) (s : State) → Keeps s (passed n s)
-keeps_passed n s =
+keeps_by : (s s' : State) (n : ℕ) → s' ≡ passed n s → Keeps s s'
+keeps_by s s' n is =
     let front = length-append s.part (take n s.coming) in
     let all = length-append (take n s.coming) (drop n s.coming) in
     let same = ap length (take-append-drop n s.coming) in
-    record { offset = refl; ended = refl; all = omega (arith, front, all, same) }
-
-keeps_by : (s s' : State) (n : ℕ) → s' ≡ passed n s → Keeps s s'
-keeps_by s s' n is = subst (Keeps s) (sym is) (keeps_passed n s)
+    subst (Keeps s) (sym is) (record { offset = refl; ended = refl; all = omega (arith, front, all, same) })
 
 keeps_let_go : (s s' s'' : State) → Keeps s s' → LetGo s' s'' → Keeps s s''
 keeps_let_go s s' s'' kept gone =
@@ -257,8 +258,7 @@ module _ (s s1 s2 : State) (seen seen' : Seen) (r1 r2 : InputState) (looked : Lo
       let l = (like_to n is).0.len in omega (arith, some, l)
 
   pub kept_on : (b : Bool) → FindsEnd s1 s2 seen seen' b → (s2.offset ≡ s.offset + length s.part) × (s2.ended ≡ s1.ended)
-  kept_on true (n, is, found) = let kept = keeps_by s1 s2 n is in (kept.offset ∙ looked.begins, kept.ended)
-  kept_on false (n, is, found) = let kept = keeps_by s1 s2 n is in (kept.offset ∙ looked.begins, kept.ended)
+  kept_on b (n, is, found) = let kept = keeps_by s1 s2 n is in (kept.offset ∙ looked.begins, kept.ended)
 
   -- at the input's end
   module _ (s3 : State) (n : ℕ) (is : s2 ≡ passed n s1) (is' : s3 ≡ passed (length s2.coming) s2) where
@@ -316,7 +316,7 @@ module _ (s s1 s2 : State) (seen seen' : Seen) (r1 r2 : InputState) (looked : Lo
           subst (λ b. HasRead b r r2 (text ++ looked.more)) (sym (keeps_by s1 s2 n is).ended ∙ over)
               (looked.stands r text stands).read,
           λ h. (looked.over h).1,
-          ap (pieces_from true (s.offset + length s.part)) (no_bytes all none),
+          ap (pieces_from true (s.offset + length s.part)) (nil_from_length all none),
         )
 
   pub next_last : (s3 : State) (b : Bool) → FindsEnd s1 s2 seen seen' false → s2.ended ≡ true

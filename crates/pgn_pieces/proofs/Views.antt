@@ -2,8 +2,7 @@
 use Rattle.std.proofs.Common.{◌≡◌, ◌≤◌, ◌<◌, ℕ, ◌+◌, ◌-◌, Bool, List, ◌++◌, length, take, drop, refl, sym, ap, subst, ◌∙◌, append_assoc, append-nil, length-append, length-drop, arith}
 use Rattle.std.proofs.Math.Path.{ap₂}
 use Rattle.std.proofs.Math.Seq.{take-add}
-use Rattle.std.proofs.lemmas.Grind.{common_steps}
-use Rattle.std.proofs.lemmas.List.{drop-drop, length-take-le}
+use Rattle.std.proofs.lemmas.List.{drop-drop, length-take-le, take_rest}
 use Rattle.pgn_pieces.specs.Stream.{State}
 use Rattle.pgn_pieces.specs.declared.pieces.TheConstants.{PIECE_LEN}
 use Rattle.pgn_pieces.specs.ties.Held.{passed, SameCounts, LetGo}
@@ -31,10 +30,7 @@ passed_on held at len n gone offset ended =
     }) (ap (λ k. drop k held) (omega arith) ∙ sym (drop-drop n (at + len) held))
 
 pub slice_is : (xs ys : List ℕ) (k : ℕ) → xs ≡ ys → take (length xs - k) (drop k xs) ≡ drop k ys
-slice_is xs ys k e = whole xs k ∙ ap (drop k) e
-  where
-    whole : (zs : List ℕ) (k : ℕ) → take (length zs - k) (drop k zs) ≡ drop k zs
-    whole zs k = grind (arith, common_steps)
+slice_is xs ys k e = take_rest xs k ∙ ap (drop k) e
 
 -- what is held of a piece that is too long was let go
 pub let_gone : (held text : List ℕ) (at len : ℕ) (gone gone' : List ℕ) (offset : ℕ) (ended : Bool) → text ≡ held

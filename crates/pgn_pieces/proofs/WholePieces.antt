@@ -1,9 +1,11 @@
 -- Each piece of a text but the last ends with a line.
 use Rattle.std.proofs.Common.{◌≡◌, ℕ, eqb, Bool, true, false, List, [], ◌∷◌, ◌++◌, refl, sym, ap, subst, ◌∙◌, inl, inr, ◌⊎◌, append_assoc, append-nil}
+use Rattle.std.specs.Prelude.{if◌then◌else◌}
 use Rattle.std.specs.List.{onto_first, concat}
 use Rattle.std.proofs.lemmas.Bool.{eqb-true}
-use Rattle.pgn_pieces.specs.Pieces.{lines_of, begins_piece, piece_of, cut_lines, cut}
-use Rattle.pgn_pieces.proofs.CutLines.{lines_on, line_here, concat_more, goes_on, ends_here, first_begins}
+use Rattle.pgn_pieces.specs.Pieces.{lines_of, begins_piece, cut}
+use Rattle.pgn_pieces.specs.ties.Cutting.{cut_lines, piece_of}
+use Rattle.pgn_pieces.proofs.CutLines.{concat_more, first_begins, cut_is}
 
 -- texts of which each but perhaps the last ends with byte 10
 pub data AreLines : List (List ℕ) → Type 0 where
@@ -20,11 +22,10 @@ lines_end (c ∷ cs) = by_test (eqb c 10) refl (lines_end cs)
     onto (last_text text) = last_text (c ∷ text)
     onto (next_text front rest) = next_text (c ∷ front) rest
 
-    by_test : (b : Bool) → eqb c 10 ≡ b → AreLines (lines_of cs) → AreLines (lines_of (c ∷ cs))
-    by_test true e rest =
-        subst AreLines (sym (line_here c cs e))
-        (subst (λ k. AreLines ((k ∷ []) ∷ lines_of cs)) (sym (eqb-true c 10 e)) (next_text [] rest))
-    by_test false e rest = subst AreLines (sym (lines_on c cs e)) (onto rest)
+    by_test : (b : Bool) → eqb c 10 ≡ b → AreLines (lines_of cs)
+        → AreLines (if b then (c ∷ []) ∷ lines_of cs else onto_first c (lines_of cs))
+    by_test true e rest = subst (λ k. AreLines ((k ∷ []) ∷ lines_of cs)) (sym (eqb-true c 10 e)) (next_text [] rest)
+    by_test false e rest = onto rest
 
 -- the lines of a piece so far, if there are any, end with byte 10
 abbrev EndSo : List (List ℕ) → Type 0
@@ -34,40 +35,32 @@ one_piece : (text : List ℕ) → AreLines (piece_of text)
 one_piece [] = no_texts
 one_piece (c ∷ cs) = last_text (c ∷ cs)
 
-after_lines : (before : List (List ℕ)) (line : List ℕ) (pieces : List (List ℕ)) → EndSo before
-    → begins_piece before line ≡ true → AreLines pieces → AreLines (concat before ∷ pieces)
-after_lines before line pieces (inl none) h rest =
-    let no : true ≡ false = sym h ∙ ap (λ l. begins_piece l line) none ∙ first_begins line in absurd (cc)
-after_lines before line pieces (inr (front, is)) h rest =
-    subst (λ l. AreLines (l ∷ pieces)) (sym is) (next_text front rest)
+-- one line more, which begins a piece or belongs to the piece so far
+line_on : (before lines : List (List ℕ)) (line : List ℕ) → EndSo before → AreLines (cut_lines (line ∷ []) lines)
+    → AreLines (cut_lines (before ++ line ∷ []) lines) → AreLines (cut_lines before (line ∷ lines))
+line_on before lines line so new on = by_test (begins_piece before line) refl so
+  where
+    by_test : (b : Bool) → begins_piece before line ≡ b → EndSo before
+        → AreLines (if b then concat before ∷ cut_lines (line ∷ []) lines else cut_lines (before ++ line ∷ []) lines)
+    by_test true e (inl none) =
+        let no : true ≡ false = sym e ∙ ap (λ l. begins_piece l line) none ∙ first_begins line in absurd (cc)
+    by_test true e (inr (front, is)) =
+        subst (λ l. AreLines (l ∷ cut_lines (line ∷ []) lines)) (sym is) (next_text front new)
+    by_test false e so = on
 
 pieces_end : (before : List (List ℕ)) {lines : List (List ℕ)} → AreLines lines → EndSo before
     → AreLines (cut_lines before lines)
 pieces_end before no_texts so = one_piece (concat before)
-pieces_end before (last_text line) so = by_test (begins_piece before line) refl
-  where
-    by_test : (b : Bool) → begins_piece before line ≡ b → AreLines (cut_lines before (line ∷ []))
-    by_test true e =
-        subst AreLines (sym (ends_here before line [] e))
-        (after_lines before line (piece_of (concat (line ∷ []))) so e (one_piece (concat (line ∷ []))))
-    by_test false e = subst AreLines (sym (goes_on before line [] e)) (one_piece (concat (before ++ line ∷ [])))
+pieces_end before (last_text line) so =
+    line_on before [] line so (one_piece (concat (line ∷ []))) (one_piece (concat (before ++ line ∷ [])))
 pieces_end before (next_text front {texts} rest) so =
-    by_test (begins_piece before (front ++ 10 ∷ [])) refl
+    line_on before texts (front ++ 10 ∷ []) so
     (pieces_end ((front ++ 10 ∷ []) ∷ []) rest (inr (front, append-nil (front ++ 10 ∷ []))))
     (pieces_end (before ++ (front ++ 10 ∷ []) ∷ []) rest
     (inr (
       concat before ++ front,
       concat_more before (front ++ 10 ∷ []) ∙ sym (append_assoc (concat before) front (10 ∷ [])),
     )))
-  where
-    by_test : (b : Bool) → begins_piece before (front ++ 10 ∷ []) ≡ b
-        → AreLines (cut_lines ((front ++ 10 ∷ []) ∷ []) texts)
-        → AreLines (cut_lines (before ++ (front ++ 10 ∷ []) ∷ []) texts)
-        → AreLines (cut_lines before ((front ++ 10 ∷ []) ∷ texts))
-    by_test true e next on =
-        subst AreLines (sym (ends_here before (front ++ 10 ∷ []) texts e))
-        (after_lines before (front ++ 10 ∷ []) (cut_lines ((front ++ 10 ∷ []) ∷ []) texts) so e next)
-    by_test false e next on = subst AreLines (sym (goes_on before (front ++ 10 ∷ []) texts e)) on
 
 pub cut_ends : (text : List ℕ) → AreLines (cut text)
-cut_ends text = pieces_end [] (lines_end text) (inl refl)
+cut_ends text = subst AreLines (sym (cut_is text)) (pieces_end [] (lines_end text) (inl refl))

@@ -1,5 +1,5 @@
 -- A collection of games is cut into pieces: each is read as a text of its own.
-use Rattle.std.specs.Prelude.{◌≡◌, ◌≤◌, ◌^◌, ℕ, ◌+◌, ◌-◌, Bool, true, false, ◌&&◌, ◌||◌, not, ◌==◌, nat_le, nat_lt, if◌then◌else◌, List, [], ◌∷◌, ◌++◌, length, take, drop, codes, Option, Some, None}
+use Rattle.std.specs.Prelude.{◌≡◌, ◌≤◌, ◌^◌, ℕ, ◌+◌, ◌-◌, Bool, true, false, ◌&&◌, ◌||◌, not, ◌==◌, nat_le, nat_lt, if◌then◌else◌, List, [], ◌∷◌, ◌++◌, length, map, reverse, take, drop, codes, Option, Some, None}
 use Rattle.std.specs.Char.{is_ascii_alphanumeric}
 use Rattle.std.specs.Io.KnownBytes.{Consumes, IsAtEnd}
 use Rattle.std.specs.List.{onto_first, take_while, prefix_len, list_any, list_all, concat}
@@ -12,7 +12,7 @@ use Rattle.pgn_pieces.specs.declared.pieces.TheConstants.{PIECE_LEN}
 
 -- ---- the lines of a text
 
--- the lines of a text, with their ends: each up to and with its `\n`, the last one perhaps without
+-- the lines of a text, each with the `\n` that ends it; the last one may have none
 abbrev pub lines_of : List ℕ → List (List ℕ)
 lines_of [] = []
 lines_of (c ∷ cs) = if c == 10 then (c ∷ []) ∷ lines_of cs else onto_first c (lines_of cs)
@@ -75,28 +75,27 @@ is_moves_line line = not (is_tag_line line || is_empty_line line)
 
 -- ---- the pieces of a text
 
--- whether a new piece begins at `line`, where `before` are the lines of the piece so far: at a tag line, if a line of
--- moves is among these; and at an Event line, if an Event line is among these
+-- whether a line begins a new piece, where `piece` are the lines of the last piece before it: a tag line does, if a
+-- line of moves is among these; and an Event line does, if an Event line is among these
 abbrev pub begins_piece : List (List ℕ) → List ℕ → Bool
-begins_piece before line = is_tag_line line
-    && (list_any is_moves_line before || (is_event_line line && list_any is_event_line before))
+begins_piece piece line = is_tag_line line
+    && (list_any is_moves_line piece || (is_event_line line && list_any is_event_line piece))
 
--- the piece that has these bytes; none, if there are none
-abbrev pub piece_of : List ℕ → List (List ℕ)
-piece_of [] = []
-piece_of (c ∷ cs) = (c ∷ cs) ∷ []
+-- pieces with one line more: it begins a new piece, or it goes to the end of the last one. Each piece is given by its
+-- lines, and the last piece comes first
+abbrev pub with_line : List ℕ → List (List (List ℕ)) → List (List (List ℕ))
+with_line line [] = (line ∷ []) ∷ []
+with_line line (last ∷ before) =
+    if begins_piece last line then (line ∷ []) ∷ last ∷ before else (last ++ line ∷ []) ∷ before
 
--- the pieces of the lines `before` and of those that follow them (the last argument), where `before` all belong to the
--- first piece
-abbrev pub cut_lines : List (List ℕ) → List (List ℕ) → List (List ℕ)
-cut_lines before [] = piece_of (concat before)
-cut_lines before (line ∷ lines) =
-    if begins_piece before line then concat before ∷ cut_lines (line ∷ []) lines
-    else cut_lines (before ++ line ∷ []) lines
+-- the pieces of these lines; of both the last comes first
+abbrev pub pieces_back : List (List ℕ) → List (List (List ℕ))
+pieces_back [] = []
+pieces_back (line ∷ before) = with_line line (pieces_back before)
 
 -- the pieces that a text is cut into
 abbrev pub cut : List ℕ → List (List ℕ)
-cut text = cut_lines [] (lines_of text)
+cut text = reverse (map concat (pieces_back (reverse (lines_of text))))
 
 -- a piece: the offset of its first byte in the input, its first 40 bytes, how many lines end in it, and its bytes, or
 -- `None` if it has more than 16,777,216

@@ -1,9 +1,10 @@
 -- Where a line ends in a text, and what that says of the lines.
-use Rattle.std.proofs.Common.{◌≡◌, ◌≢◌, ◌≤◌, ◌<◌, ℕ, zero, suc, ◌+◌, ◌-◌, eqb, Bool, true, false, List, [], ◌∷◌, ◌++◌, length, take, drop, Some, None, add-one, refl, sym, ap, ◌∙◌, arith, append_assoc, append-nil, length-drop}
+use Rattle.std.proofs.Common.{◌≡◌, ◌≢◌, ◌≤◌, ◌<◌, ℕ, ◌+◌, ◌-◌, eqb, Bool, true, false, List, [], ◌∷◌, ◌++◌, length, get_or, take, drop, Some, None, one-add, refl, sym, ap, subst, ◌∙◌, arith, append_assoc, append-nil, length-drop}
 use Rattle.std.specs.Prelude.{cond, not, slice_range, ◌==◌}
 use Rattle.std.specs.List.{position_or_len}
 use Rattle.std.proofs.lemmas.Bool.{eqb-true}
-use Rattle.std.proofs.lemmas.List.{drop-drop, drop-take, drop_all, take_all, length-take}
+use Rattle.std.proofs.lemmas.List.{drop-drop, drop-take, drop_all, drop_more, take_all, length-take}
+use Rattle.std.proofs.lemmas.List.Sums.{passes_at_first}
 use Rattle.std.proofs.Math.Nat.{min-le_left}
 use Rattle.text_lines.specs.Lines.{LineSeen, Held, line_of, lines_from, lines_held}
 use Rattle.text_lines.specs.ties.Kept.{SameLines, HeldLine}
@@ -12,13 +13,6 @@ use Rattle.text_lines.proofs.LineParts.{byte_step, ten_step, none_from, line_end
 -- how many bytes a text has before its first byte 10; all, if it has none
 abbrev pub line_len : List ℕ → ℕ
 line_len text = position_or_len (λ c. c == 10) text
-
--- of a text that begins with byte 10, and of one that begins with another byte
-at_once : (x : ℕ) (xs : List ℕ) → eqb x 10 ≡ true → line_len (x ∷ xs) ≡ 0
-at_once x xs e = ap (λ b. cond (not b) (1 + line_len xs) 0) e
-
-one_more : (x : ℕ) (xs : List ℕ) → eqb x 10 ≡ false → line_len (x ∷ xs) ≡ 1 + line_len xs
-one_more x xs e = ap (λ b. cond (not b) (1 + line_len xs) 0) e
 
 -- ---- the lines
 
@@ -33,31 +27,20 @@ passed n at_end part (c ∷ cs) rest = by_test (eqb c 10) refl (passed n at_end 
 
     by_test : (b : Bool) → eqb c 10 ≡ b
         → lines_from n at_end (part ++ c ∷ []) (cs ++ rest) ≡ past (line_len cs) (part ++ c ∷ []) cs
-        → lines_from n at_end part (c ∷ (cs ++ rest)) ≡ past (line_len (c ∷ cs)) part (c ∷ cs)
-    by_test true e on =
-        sym (ap (λ k. past k part (c ∷ cs)) (at_once c cs e)
-        ∙ ap (λ v. lines_from n at_end v (c ∷ (cs ++ rest))) (append-nil part))
+        → lines_from n at_end part (c ∷ (cs ++ rest)) ≡ past (cond (not b) (1 + line_len cs) 0) part (c ∷ cs)
+    by_test true e on = sym (ap (λ v. lines_from n at_end v (c ∷ (cs ++ rest))) (append-nil part))
     by_test false e on =
         let other : c ≢ 10 = grind arith in
-        let up : 1 + line_len cs ≡ suc (line_len cs) = omega arith in
         byte_step n at_end part c (cs ++ rest) other ∙ on
         ∙ ap (λ v. lines_from n at_end v (drop (line_len cs) cs ++ rest))
         (append_assoc part (c ∷ []) (take (line_len cs) cs))
-        ∙ sym (ap (λ k. past k part (c ∷ cs)) (one_more c cs e ∙ up))
+        ∙ sym (ap (λ k. past k part (c ∷ cs)) (one-add (line_len cs)))
 
-ends_at : (k : ℕ) (xs : List ℕ) → line_len xs ≡ k → k < length xs → drop k xs ≡ 10 ∷ drop (suc k) xs
-ends_at k [] h l = absurd (omega (arith, l))
-ends_at zero (x ∷ xs) h l = by_test (eqb x 10) refl
-  where
-    by_test : (b : Bool) → eqb x 10 ≡ b → x ∷ xs ≡ 10 ∷ xs
-    by_test true e = ap (λ y. y ∷ xs) (eqb-true x 10 e)
-    by_test false e = let here = one_more x xs e in absurd (omega (arith, here, h))
-ends_at (suc k) (x ∷ xs) h l = by_test (eqb x 10) refl (λ e. ends_at k xs e (omega (arith, l)))
-  where
-    by_test : (b : Bool) → eqb x 10 ≡ b → (line_len xs ≡ k → drop k xs ≡ 10 ∷ drop (suc k) xs)
-        → drop k xs ≡ 10 ∷ drop (suc k) xs
-    by_test true e on = let here = at_once x xs e in absurd (omega (arith, here, h))
-    by_test false e on = let here = one_more x xs e in on (omega (arith, here, h))
+ends_at : (k : ℕ) (xs : List ℕ) → k ≡ line_len xs → k < length xs → drop k xs ≡ 10 ∷ drop (k + 1) xs
+ends_at k xs h l =
+    let end = passes_at_first (λ c. c == 10) xs 0 (subst (λ m. m < length xs) h l) in
+    drop_more xs k 0 l
+    ∙ ap (λ c. c ∷ drop (k + 1) xs) (eqb-true (get_or xs k 0) 10 (ap (λ m. get_or xs m 0 == 10) h ∙ end))
 
 -- no byte 10 is held: all bytes go to the part
 pub none_held : (n : ℕ) (held : Held) (part' coming' : List ℕ) (k : ℕ) → k ≡ line_len held.coming
@@ -85,8 +68,7 @@ pub line_held : (n : ℕ) (held : Held) (part' coming' : List ℕ) (k : ℕ) (li
 line_held n held part' coming' k line is within shown empty left =
     let whole : List ℕ = held.part ++ take k held.coming in
     let len : length (drop (k + 1) held.coming) ≡ length held.coming - (k + 1) = length-drop (k + 1) held.coming in
-    let cut : drop k held.coming ≡ 10 ∷ drop (k + 1) held.coming =
-    ends_at k held.coming (sym is) within ∙ ap (λ m. 10 ∷ drop m held.coming) (sym (add-one k)) in (
+    let cut = ends_at k held.coming is within in (
       ap (λ (l : LineSeen). l.ended) shown ∙ line_ended n true whole,
       omega (arith, len, within, ap length left),
       λ at_end rest. passed n at_end held.part held.coming rest

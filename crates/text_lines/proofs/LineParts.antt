@@ -1,7 +1,7 @@
 -- What has come of a line.
 use Rattle.std.proofs.Common.{◌≡◌, ℕ, ◌+◌, ◌-◌, ◌<◌, ◌≤◌, ◌==◌, ◌&&◌, nat_lt, nat_eq, min, ◌≢◌, Bool, true, false, List, [], ◌∷◌, ◌++◌, length, take, drop, get_or, refl, sym, ap, ◌∙◌, arith, append_assoc, append-nil, length-append, if◌then◌else◌}
 use Rattle.std.specs.List.{list_all, onto_first}
-use Rattle.std.proofs.lemmas.List.Splits.{slice_split-cons_yes, slice_split-cons_no}
+use Rattle.std.proofs.lemmas.List.Splits.{slice_split-cons_yes, slice_split-cons_no, length-slice_split}
 use Rattle.std.proofs.lemmas.List.{take-take, take-append-le, take-append-drop, take_min, take_all, length-take, length-take-le}
 use Rattle.std.proofs.Math.Nat.{min-le_right}
 use Rattle.std.proofs.lemmas.Grind.{common_steps}
@@ -19,9 +19,7 @@ all_taken xs h = sym (take_all 64 xs h)
 
 pub beginning_short : (xs : List ℕ) → length (take 64 xs) ≤ length xs
 beginning_short xs =
-    let is : length (take 64 xs) ≡ min 64 (length xs) = length-take 64 xs in
-    let le : min 64 (length xs) ≤ length xs = min-le_right 64 (length xs) in
-    omega (arith, is, le)
+    let is = length-take 64 xs in omega (arith, is)
 
 -- of a part of more bytes than are kept some are there
 pub long_has_bytes : (items part : List ℕ) (long : Bool) → kept_part items long ≡ part → long ≡ true
@@ -47,61 +45,41 @@ line_long n e x y h k t = rw (lt_true n (length x) h, lt_true n (length y) k, t)
 
 -- ---- the parts of a text, of which the first has come in part
 
--- a list of at least one part
-record SomeParts (all : List (List ℕ)) : Type 0 where
-  first : List ℕ
-  more : List (List ℕ)
-  is : all ≡ first ∷ more
-
-some_more : (c : ℕ) (all : List (List ℕ)) → SomeParts (onto_first c all)
-some_more c [] = record { first = c ∷ []; more = []; is = refl }
-some_more c (part ∷ more) = record { first = c ∷ part; more = more; is = refl }
-
--- every text has a part
-some_parts : (bytes : List ℕ) → SomeParts (parts bytes)
-some_parts [] = record { first = []; more = []; is = refl }
-some_parts (c ∷ cs) = at (c == 10) refl
-  where
-    at : (b : Bool) → (c == 10) ≡ b → SomeParts (parts (c ∷ cs))
-    at true e = record { first = []; more = parts cs; is = slice_split-cons_yes (λ b. b == 10) c cs e }
-    at false e =
-        let s = some_more c (parts cs) in
-        record { first = s.first; more = s.more; is = slice_split-cons_no (λ b. b == 10) c cs e ∙ s.is }
-
 -- what has come is put before the first part
-front_of : (front part : List ℕ) (more : List (List ℕ)) → with_front front (part ∷ more) ≡ (front ++ part) ∷ more
-front_of [] part more = refl
-front_of (b ∷ front) part more = ap (onto_first b) (front_of front part more)
+front_part : (front : List ℕ) (more : List (List ℕ)) → with_front front ([] ∷ more) ≡ front ∷ more
+front_part [] more = refl
+front_part (b ∷ front) more = ap (onto_first b) (front_part front more)
 
-ended_first : (n : ℕ) (at_end : Bool) (part : List ℕ) (all : List (List ℕ)) → SomeParts all
+front_byte : (front : List ℕ) (c : ℕ) (all : List (List ℕ))
+    → with_front front (onto_first c all) ≡ with_front (front ++ c ∷ []) all
+front_byte [] c all = refl
+front_byte (b ∷ front) c all = ap (onto_first b) (front_byte front c all)
+
+ended_first : (n : ℕ) (at_end : Bool) (part : List ℕ) (all : List (List ℕ)) → 0 < length all
     → lines_of_parts n at_end (part ∷ all) ≡ line_of n true part ∷ lines_of_parts n at_end all
 unfolding lines_of_parts
-ended_first n at_end part all s = rw s.is refl
+ended_first n at_end part [] some = absurd (omega (arith, some))
+ended_first n at_end part (next ∷ more) some = refl
 
 pub ten_step : (n : ℕ) (at_end : Bool) (part : List ℕ) (b : ℕ) (bs : List ℕ) → b ≡ 10
     → lines_from n at_end part (b ∷ bs) ≡ line_of n true part ∷ lines_from n at_end [] bs
 ten_step n at_end part b bs h =
     let e : nat_eq b 10 ≡ true = grind arith in
+    let some = length-slice_split (λ c. c == 10) bs in
     ap (λ all. lines_of_parts n at_end (with_front part all)) (slice_split-cons_yes (λ c. c == 10) b bs e)
-    ∙ ap (lines_of_parts n at_end) (front_of part [] (parts bs) ∙ ap (λ v. v ∷ parts bs) (append-nil part))
-    ∙ ended_first n at_end part (parts bs) (some_parts bs)
+    ∙ ap (lines_of_parts n at_end) (front_part part (parts bs))
+    ∙ ended_first n at_end part (parts bs) (omega (arith, some))
 
 pub byte_step : (n : ℕ) (at_end : Bool) (part : List ℕ) (b : ℕ) (bs : List ℕ) → b ≢ 10
     → lines_from n at_end part (b ∷ bs) ≡ lines_from n at_end (part ++ b ∷ []) bs
 byte_step n at_end part b bs h =
     let e : nat_eq b 10 ≡ false = grind arith in
-    let s = some_parts bs in
-    ap (lines_of_parts n at_end) (
-    ap (with_front part) (slice_split-cons_no (λ c. c == 10) b bs e ∙ ap (onto_first b) s.is)
-    ∙ front_of part (b ∷ s.first) s.more
-    ∙ ap (λ v. v ∷ s.more) (sym (append_assoc part (b ∷ []) s.first))
-    ∙ sym (front_of (part ++ b ∷ []) s.first s.more)
-    ∙ ap (with_front (part ++ b ∷ [])) (sym s.is)
-    )
+    ap (λ all. lines_of_parts n at_end (with_front part all)) (slice_split-cons_no (λ c. c == 10) b bs e)
+    ∙ ap (lines_of_parts n at_end) (front_byte part b (parts bs))
 
 -- what has come, where nothing follows it
 alone : (part : List ℕ) → with_front part (parts []) ≡ part ∷ []
-alone part = front_of part [] [] ∙ ap (λ v. v ∷ []) (append-nil part)
+alone part = front_part part []
 
 last_of : (n : ℕ) (part : List ℕ) → lines_of_parts n false (part ∷ []) ≡ []
 unfolding lines_of_parts
@@ -152,13 +130,10 @@ overflow_same n items true bytes full fits over =
     let r = n - length items in
     let at : length items ≡ n = full refl in
     let few : shown_len n ≤ n = shown_le n in
-    let l1 : length (items ++ 0 ∷ []) ≡ length items + 1 = length-append items (0 ∷ []) in
-    let l2 : length ((items ++ 0 ∷ []) ++ bytes) ≡ length (items ++ 0 ∷ []) + length bytes =
-    length-append (items ++ 0 ∷ []) bytes in
-    let l3 : length (items ++ take r bytes) ≡ length items + length (take r bytes) =
-    length-append items (take r bytes) in
-    let l4 : length ((items ++ take r bytes) ++ 0 ∷ []) ≡ length (items ++ take r bytes) + 1 =
-    length-append (items ++ take r bytes) (0 ∷ []) in
+    let l1 = length-append items (0 ∷ []) in
+    let l2 = length-append (items ++ 0 ∷ []) bytes in
+    let l3 = length-append items (take r bytes) in
+    let l4 = length-append (items ++ take r bytes) (0 ∷ []) in
     long_same n ((items ++ 0 ∷ []) ++ bytes) ((items ++ take r bytes) ++ 0 ∷ []) (omega arith) (omega arith)
     (take-append-le (shown_len n) (items ++ 0 ∷ []) bytes (omega arith)
     ∙ take-append-le (shown_len n) items (0 ∷ []) (omega arith)
@@ -167,12 +142,10 @@ overflow_same n items true bytes full fits over =
 overflow_same n items false bytes full fits over =
     let r = n - length items in
     let few : shown_len n ≤ n = shown_le n in
-    let l1 : length (items ++ bytes) ≡ length items + length bytes = length-append items bytes in
-    let l2 : length (take r bytes) ≡ r = length-take-le r bytes (omega arith) in
-    let l3 : length (items ++ take r bytes) ≡ length items + length (take r bytes) =
-    length-append items (take r bytes) in
-    let l4 : length ((items ++ take r bytes) ++ 0 ∷ []) ≡ length (items ++ take r bytes) + 1 =
-    length-append (items ++ take r bytes) (0 ∷ []) in
+    let l1 = length-append items bytes in
+    let l2 = length-take-le r bytes (omega arith) in
+    let l3 = length-append items (take r bytes) in
+    let l4 = length-append (items ++ take r bytes) (0 ∷ []) in
     let split : items ++ bytes ≡ (items ++ take r bytes) ++ drop r bytes =
     ap (λ v. items ++ v) (sym (take-append-drop r bytes)) ∙ sym (append_assoc items (take r bytes) (drop r bytes)) in
     long_same n (items ++ bytes) ((items ++ take r bytes) ++ 0 ∷ []) (omega arith) (omega arith)
@@ -182,11 +155,6 @@ overflow_same n items false bytes full fits over =
 
 le-ltb_false : (n m : ℕ) → m ≤ n → nat_lt n m ≡ false
 le-ltb_false n m h = grind arith
-
-cond_short : (b : Bool) (c : ℕ) (xs ys : List ℕ) → length xs ≤ length ys
-    → length (if b then [] else c ∷ xs) ≤ length (c ∷ ys)
-cond_short true c xs ys h = grind arith
-cond_short false c xs ys h = grind arith
 
 line_short : (n : ℕ) (e : Bool) (x : List ℕ) → length x ≤ n
     → line_of n e x ≡ record { text = trimmed x; too_long = false; ended = e }
@@ -243,29 +211,17 @@ line_put n e bytes kept text long short front whole = at (nat_lt n (length bytes
 
 pub without_end_blanks-short : (xs : List ℕ) → length (without_end_blanks xs) ≤ length xs
 without_end_blanks-short [] = omega arith
-without_end_blanks-short (c ∷ cs) =
-    let ih : length (without_end_blanks cs) ≤ length cs = without_end_blanks-short cs in
-    cond_short (is_blank c && list_all is_blank cs) c (without_end_blanks cs) cs ih
+without_end_blanks-short (c ∷ cs) = let on = without_end_blanks-short cs in grind (arith, on)
 
 pub without_return-short : (xs : List ℕ) → length (without_return xs) ≤ length xs
-without_return-short xs = at (get_or xs (length xs - 1) 0 == 13)
-  where
-    at : (b : Bool) → length (if b then take (length xs - 1) xs else xs) ≤ length xs
-    at true =
-        let is : length (take (length xs - 1) xs) ≡ min (length xs - 1) (length xs) = length-take (length xs - 1) xs in
-        let le : min (length xs - 1) (length xs) ≤ length xs = min-le_right (length xs - 1) (length xs) in
-        omega (arith, is, le)
-    at false = omega arith
+without_return-short xs = let l = length-take (length xs - 1) xs in grind (arith, l)
 
 pub trimmed_short : (xs : List ℕ) → length (trimmed xs) ≤ length xs
 unfolding trimmed
 trimmed_short xs =
-    let a : length (without_end_blanks (without_front_blanks (without_return xs))) ≤ length
-    (without_front_blanks (without_return xs)) = without_end_blanks-short (without_front_blanks (without_return xs)) in
-    let b : length (without_front_blanks (without_return xs)) ≤ length (without_return xs) =
-    without_front_blanks-short (without_return xs) in
-    let d : length (without_return xs) ≤ length xs = without_return-short xs in
-    omega arith
+    let a = without_end_blanks-short (without_front_blanks (without_return xs)) in
+    let b = without_front_blanks-short (without_return xs) in
+    let d = without_return-short xs in omega (arith, a, b, d)
 
 pub line_ended : (n : ℕ) (e : Bool) (piece : List ℕ) → (line_of n e piece).ended ≡ e
 unfolding line_of

@@ -2,7 +2,7 @@
 use mathlib.Core.Bool.{and-false}
 use Rattle.std.proofs.Common.{◌≡◌, ℕ, ◌+◌, ◌-◌, ◌<◌, ◌≤◌, true, false, List, [], ◌∷◌, ◌++◌, length, get_or, take, refl, sym, ap, ◌∙◌, ◌==◌, ◌≢◌, arith}
 use Rattle.std.specs.List.{list_all}
-use Rattle.std.proofs.lemmas.Grind.{common_steps}
+use Rattle.std.proofs.lemmas.List.{take_more}
 use Rattle.text_lines.specs.Lines.{is_blank, without_end_blanks, without_return}
 
 all_with : (xs : List ℕ) (b : ℕ) → is_blank b ≡ true → list_all is_blank (xs ++ b ∷ []) ≡ list_all is_blank xs
@@ -22,13 +22,10 @@ end_solid [] b h = rw h refl
 end_solid (c ∷ cs) b h = rw (all_without cs b h, and-false (is_blank c), end_solid cs b h) refl
 
 -- a list by its last element
-pub by_last : (xs : List ℕ) (i : ℕ) → i < length xs → take (i + 1) xs ≡ take i xs ++ get_or xs i 0 ∷ []
-by_last xs i h = grind (arith, common_steps)
-
 last_of : (xs : List ℕ) (i : ℕ) → 0 < i → i ≤ length xs → take i xs ≡ take (i - 1) xs ++ get_or xs (i - 1) 0 ∷ []
 last_of xs i h k =
     let e : (i - 1) + 1 ≡ i = omega arith in
-    ap (λ v. take v xs) (sym e) ∙ by_last xs (i - 1) (omega arith)
+    ap (λ v. take v xs) (sym e) ∙ take_more xs (i - 1) 0 (omega arith)
 
 pub end_step : (xs : List ℕ) (i : ℕ) → 0 < i → i ≤ length xs → is_blank (get_or xs (i - 1) 0) ≡ true
     → without_end_blanks (take i xs) ≡ without_end_blanks (take (i - 1) xs)
@@ -44,10 +41,6 @@ return_then xs b = rw b refl
 
 pub return_else : (xs : List ℕ) → (get_or xs (length xs - 1) 0 ≢ 13) → xs ≡ without_return xs
 return_else xs b = let e : (get_or xs (length xs - 1) 0 == 13) ≡ false = grind arith in rw e refl
-
-pub empty_by_length : (xs : List ℕ) → length xs ≡ 0 → xs ≡ []
-empty_by_length [] h = refl
-empty_by_length (c ∷ cs) h = absurd (omega arith)
 
 pub zero_end : (xs : List ℕ) (i : ℕ) → i ≤ 0 → take i xs ≡ without_end_blanks (take i xs)
 zero_end xs i h = let e : i ≡ 0 = omega arith in rw e refl

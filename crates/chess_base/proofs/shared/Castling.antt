@@ -1,5 +1,5 @@
 -- For lists and texts of moves: when a move castles, which squares that names, and the rights of a sound position.
-use Rattle.std.proofs.Common.{◌≡◌, ◌⊎◌, inl, inr, Bool, true, false, cond, ℕ, Option, Some, None, refl, ap, ◌∙◌, ◌&&◌, ◌==◌}
+use Rattle.std.proofs.Common.{◌≡◌, ◌⊎◌, inl, inr, Bool, true, false, cond, ℕ, Option, Some, None, refl, ap, ◌∙◌}
 use Rattle.std.proofs.lemmas.Bool.{and_parts}
 use Rattle.chess_base.specs.declared.man.Colour.{Colour}
 use Rattle.chess_base.specs.declared.man.Variant.{Variant}
@@ -9,7 +9,7 @@ use Rattle.chess_base.specs.declared.man.CastlingSide.TheVariants.{KingSide, Que
 use Rattle.chess_base.specs.declared.man.Move.{Move}
 use Rattle.chess_base.specs.Men.{man_at, is_man, Men}
 use Rattle.chess_base.specs.declared.setup.Setup.{Setup}
-use Rattle.chess_base.specs.Castling.{home_square, right_of, castling, is_castling_to, castled_king_file, castle_from, castle_by, castle_of, mover_end, king_home_file, rook_file, king_square, is_beside, are_placed_for_castling, right_is_sound}
+use Rattle.chess_base.specs.Castling.{home_square, right_of, castling, is_castling_to, castled_king_file, castle_from, castle_by, castle_of, mover_end, are_placed_for_castling, right_is_sound}
 use Rattle.chess_base.specs.shared.Splits.{names_castling, castle_with, right_is_sound_at}
 use Rattle.chess_base.specs.Before.{mover_to}
 use Rattle.chess_base.specs.declared.man.Colour.TheVariants.{White, Black}
@@ -35,8 +35,7 @@ pub castling_says : (p : Setup) (m : Move) (w : CastlingSide) → is_castling_to
     → (is_man p.side King (man_at p.men m.from) ≡ true)
     × (names_castling p.variant p.side m w (right_of p.rights p.side w) ≡ true)
 unfolding is_castling_to
-castling_says p m w e = and_parts (is_man p.side King (man_at p.men m.from))
-    (names_castling p.variant p.side m w (right_of p.rights p.side w)) e
+castling_says p m w e = and_parts _ _ e
 
 right_named : (v : Variant) (c : Colour) (m : Move) (w : CastlingSide) (o : Option ℕ) → names_castling v c m w o ≡ true
     → (r : ℕ) × (o ≡ Some r)
@@ -49,7 +48,7 @@ pub castle_there : (p : Setup) (m : Move) (w : CastlingSide) → castling p m �
 unfolding castle_of
 castle_there p m w e =
     let right = right_named p.variant p.side m w (right_of p.rights p.side w)
-    (castling_says p m w (says_from_castling p m w e)).1 in
+    (castling_says _ _ _ (says_from_castling _ _ _ e)).1 in
     (right.0, right.1, ap (castle_by p.side p.rights m) e ∙ ap (castle_with p.side w m.from) right.1)
 
 pub no_castle : (p : Setup) (m : Move) → castling p m ≡ None → castle_of p m ≡ None
@@ -75,11 +74,8 @@ right_is_sound_of p h Black QueenSide = h.black_queen_side
 
 rook_of_right : (v : Variant) (men : Men) (c : Colour) (w : CastlingSide) (s : ℕ)
     → are_placed_for_castling v men c w s ≡ true → is_man c Rook (man_at men s) ≡ true
-rook_of_right Normal men c w s h =
-    (and_parts ((s == home_square c (rook_file w)) && is_man c King (man_at men (home_square c king_home_file)))
-    (is_man c Rook (man_at men s)) h).1
-rook_of_right Fischerandom men c w s h =
-    (and_parts (is_beside c w (king_square men c) s) (is_man c Rook (man_at men s)) h).1
+rook_of_right Normal men c w s h = (and_parts _ _ h).1
+rook_of_right Fischerandom men c w s h = (and_parts _ _ h).1
 
 -- a right that is there is available
 pub placed_for_right : (v : Variant) (men : Men) (c : Colour) (w : CastlingSide) (o : Option ℕ) (e : ℕ)

@@ -1,5 +1,5 @@
 -- For boards: what a legal move of a sound position changes, by its kind.
-use Rattle.std.proofs.Common.{◌≡◌, ◌≢◌, ℕ, ◌+◌, ◌<◌, ◌⊎◌, inl, inr, true, false, ◌&&◌, ◌||◌, not, Option, Some, None, is_none, refl, arith, ◌==◌}
+use Rattle.std.proofs.Common.{◌≡◌, ◌≢◌, ℕ, ◌+◌, ◌<◌, ◌⊎◌, inl, inr, true, false, ◌&&◌, Option, Some, None, is_none, refl, arith, ◌==◌}
 use Rattle.std.proofs.lemmas.Bool.{and_parts, and_left, and_right, or_cases, both_ways, eqb-true, eqb-false, false_from_ne_true, not-true}
 use Rattle.std.specs.Int.{abs_diff}
 use Rattle.chess_base.specs.declared.man.Colour.{Colour}
@@ -13,10 +13,10 @@ use Rattle.chess_base.specs.declared.man.Move.{Move}
 use Rattle.chess_base.specs.Squares.{rank, file, is_square}
 use Rattle.chess_base.specs.Men.{Men, man_at, other, same_colour, same_kind, is_of, is_man, forward, first_rank, crossed_rank, pawn_rank}
 use Rattle.chess_base.specs.Attacks.{attacks, could_capture, is_rank_ahead}
-use Rattle.chess_base.specs.shared.Splits.{could_capture_as, names_castling}
+use Rattle.chess_base.specs.shared.Splits.{could_capture_as}
 use Rattle.chess_base.specs.declared.setup.Setup.{Setup}
 use Rattle.chess_base.specs.Sound.{IsSound, target_is_sound, target_is_sound_at}
-use Rattle.chess_base.specs.Castling.{right_of, castling_rook_to, castling, is_castling_to, mover_end}
+use Rattle.chess_base.specs.Castling.{castling_rook_to, castling, is_castling_to, mover_end}
 use Rattle.chess_base.specs.Moves.{arriving_man, second_square_emptied, one_rank_back, man_moves, pawn_advances, is_double_advance, promotion_fits, is_en_passant}
 use Rattle.chess_base.proofs.shared.Men.{same_colour-true, not_is_man, is_man-kind, is_of-none, is_man-none, is_of-other, colour_cases, is_none-None}
 use Rattle.chess_base.proofs.shared.Castling.{lands_on_to, no_castle}
@@ -36,12 +36,12 @@ pawn_attack_by : (men : Men) (c : Colour) (a b : ℕ) (o : Option Man) → is_ma
 unfolding is_man could_capture
 pawn_attack_by men c a b None e h = cc
 pawn_attack_by men c a b (Some x) e h =
-    let man = and_parts (same_colour c x.colour) (same_kind Pawn x.kind) e in
-    let colour : c ≡ x.colour = same_colour-true c x.colour man.0 in
+    let man = and_parts _ _ e in
+    let colour : c ≡ x.colour = same_colour-true _ _ man.0 in
     let kind : x.kind ≡ Pawn = pawn_from_same x.kind man.1 in
     let h' = rw (kind, ← colour) at h in
-    let both = and_parts (abs_diff (file a) (file b) == 1) (is_rank_ahead c a b) h' in
-    (eqb-true (abs_diff (file a) (file b)) 1 both.0, both.1)
+    let both = and_parts _ _ h' in
+    (eqb-true _ _ both.0, both.1)
 
 -- a pawn attacks one file aside and one rank ahead
 pub pawn_attack : (men : Men) (c : Colour) (a b : ℕ) → is_man c Pawn (man_at men a) ≡ true → attacks men a b ≡ true
@@ -50,10 +50,10 @@ unfolding attacks
 pawn_attack men c a b e h = pawn_attack_by men c a b (man_at men a) e h
 
 pub rank_ahead_White : (a b : ℕ) → is_rank_ahead White a b ≡ true → rank b ≡ rank a + 1
-rank_ahead_White a b e = eqb-true (rank b) (rank a + 1) e
+rank_ahead_White a b e = eqb-true _ _ e
 
 pub rank_ahead_Black : (a b : ℕ) → is_rank_ahead Black a b ≡ true → rank a ≡ rank b + 1
-rank_ahead_Black a b e = eqb-true (rank a) (rank b + 1) e
+rank_ahead_Black a b e = eqb-true _ _ e
 
 -- straight ahead is no capture
 straight_one : (c : Colour) (a b : ℕ) → b ≡ forward c a → abs_diff (file a) (file b) ≡ 1 → is_rank_ahead c a b ≡ true
@@ -72,32 +72,27 @@ pub advance_goes : (p : Setup) (m : Move) → pawn_advances p m ≡ true
     × (m.to ≡ forward p.side (forward p.side m.from)))
 unfolding pawn_advances is_double_advance
 advance_goes p m e =
-    let ways = and_parts (is_none (man_at p.men m.to))
-    ((m.to == forward p.side m.from) || (is_double_advance p m && is_none (man_at p.men (forward p.side m.from))))
-    e in
-    elim (or_cases (m.to == forward p.side m.from)
-    (is_double_advance p m && is_none (man_at p.men (forward p.side m.from))) ways.1) [
-      | inl one ↦ inl (eqb-true m.to (forward p.side m.from) one)
+    let ways = and_parts _ _ e in
+    elim (or_cases _ _ ways.1) [
+      | inl one ↦ inl (eqb-true _ _ one)
       | inr two ↦
-          let double = and_parts (is_double_advance p m) (is_none (man_at p.men (forward p.side m.from))) two in
-          let parts = and_parts (is_man p.side Pawn (man_at p.men m.from) && (rank m.from == pawn_rank p.side))
-          (m.to == forward p.side (forward p.side m.from)) double.0 in
-          let start = and_parts (is_man p.side Pawn (man_at p.men m.from)) (rank m.from == pawn_rank p.side) parts.0 in
+          let double = and_parts _ _ two in
+          let parts = and_parts _ _ double.0 in
+          let start = and_parts _ _ parts.0 in
           inr (
-            eqb-true (rank m.from) (pawn_rank p.side) start.1,
-            eqb-true m.to (forward p.side (forward p.side m.from)) parts.1,
+            eqb-true _ _ start.1,
+            eqb-true _ _ parts.1,
           )
     ]
 
 pub advance_to_empty : (p : Setup) (m : Move) → pawn_advances p m ≡ true → is_none (man_at p.men m.to) ≡ true
 unfolding pawn_advances
-advance_to_empty p m e = (and_parts (is_none (man_at p.men m.to))
-    ((m.to == forward p.side m.from) || (is_double_advance p m && is_none (man_at p.men (forward p.side m.from)))) e).0
+advance_to_empty p m e = (and_parts _ _ e).0
 
 pub advance_is_no_attack : (p : Setup) (m : Move) → is_man p.side Pawn (man_at p.men m.from) ≡ true
     → pawn_advances p m ≡ true → attacks p.men m.from m.to ≡ false
 advance_is_no_attack p m man e =
-    false_from_ne_true (attacks p.men m.from m.to) (λ h.
+    false_from_ne_true _ (λ h.
     let a = pawn_attack p.men p.side m.from m.to man h in
     elim (advance_goes p m e) [
       | inl one ↦ straight_one p.side m.from m.to one a.0 a.1
@@ -113,14 +108,12 @@ target_facts : (men : Men) (c : Colour) (o : Option ℕ) (s : ℕ) → target_is
     × (is_none (man_at men (forward c s)) ≡ true)
 target_facts men c None s t e = cc
 target_facts men c (Some u) s t e =
-    let at : u ≡ s = eqb-true u s e in
+    let at : u ≡ s = eqb-true _ _ e in
     let t' : target_is_sound_at men c (Some s) ≡ true = rw (← at) t in
-    let three = and_parts ((rank s == crossed_rank (other c)) && is_none (man_at men s)
-    && is_man (other c) Pawn (man_at men (forward (other c) s))) (is_none (man_at men (forward c s))) t' in
-    let two = and_parts ((rank s == crossed_rank (other c)) && is_none (man_at men s))
-    (is_man (other c) Pawn (man_at men (forward (other c) s))) three.0 in
-    let one = and_parts (rank s == crossed_rank (other c)) (is_none (man_at men s)) two.0 in
-    (eqb-true (rank s) (crossed_rank (other c)) one.0, one.1, two.1, three.1)
+    let three = and_parts _ _ t' in
+    let two = and_parts _ _ three.0 in
+    let one = and_parts _ _ two.0 in
+    (eqb-true _ _ one.0, one.1, two.1, three.1)
 
 pub at_target : (p : Setup) (s : ℕ) → target_is_sound p ≡ true → is_square p.target s ≡ true
     → (rank s ≡ crossed_rank (other p.side)) × (is_none (man_at p.men s) ≡ true)
@@ -134,9 +127,7 @@ at_target p s t e = target_facts p.men p.side p.target s t e
 says_no_castling : (p : Setup) (m : Move) (w : CastlingSide) → is_man p.side King (man_at p.men m.from) ≡ false
     → is_castling_to p m w ≡ false
 unfolding is_castling_to
-says_no_castling p m w e =
-    and_left (is_man p.side King (man_at p.men m.from))
-    (names_castling p.variant p.side m w (right_of p.rights p.side w)) e
+says_no_castling p m w e = and_left _ _ e
 
 pub no_castling : (p : Setup) (m : Move) → is_man p.side King (man_at p.men m.from) ≡ false → castling p m ≡ None
 unfolding castling
@@ -146,8 +137,7 @@ pub no_en_passant : (p : Setup) (m : Move) → is_man p.side Pawn (man_at p.men 
     → is_en_passant p m ≡ false
 unfolding is_en_passant
 no_en_passant p m e =
-    and_left (is_man p.side Pawn (man_at p.men m.from) && attacks p.men m.from m.to) (is_square p.target m.to)
-    (and_left (is_man p.side Pawn (man_at p.men m.from)) (attacks p.men m.from m.to) e)
+    and_left _ _ (and_left _ _ e)
 
 -- what is on the end square afterwards
 
@@ -209,18 +199,17 @@ unfolding is_of
 no_pawn_of c x own e d =
     elim (colour_cases c d) [
       | inl same ↦ rw same e
-      | inr differs ↦ not_is_man d Pawn (Some x) (rw (differs, own) (not_same_other c))
+      | inr differs ↦ not_is_man _ _ _ (rw (differs, own) (not_same_other c))
     ]
 
 pub change_of_man : (p : Setup) (m : Move) → IsSound p → Moves p m → is_man p.side Pawn (man_at p.men m.from) ≡ false
     → castling p m ≡ None → man_moves p m ≡ true → Change p m
 unfolding man_moves second_square_emptied castling_rook_to
 change_of_man p m sound moves n c e =
-    let parts = and_parts (is_none m.promotion && attacks p.men m.from m.to) (not (is_of p.side (man_at p.men m.to)))
-    e in
-    let first = and_parts (is_none m.promotion) (attacks p.men m.from m.to) parts.0 in
+    let parts = and_parts _ _ e in
+    let first = and_parts _ _ parts.0 in
     let passed = no_en_passant p m n in
-    let promotion = is_none-None m.promotion first.0 in
+    let promotion = is_none-None _ first.0 in
     let none = no_castle p m c in
     let n' : is_man p.side Pawn (Some moves.mover) ≡ false = rw (← moves.at_from) n in
     record {
@@ -230,7 +219,7 @@ change_of_man p m sound moves n c e =
       rest =
           Alone (record {
             lands = lands_on_to p m c;
-            not_own = not-true (is_of p.side (man_at p.men m.to)) parts.1;
+            not_own = not-true _ parts.1;
             no_king = no_king_where_attacked p.men p.side m.from m.to moves.from_in moves.to_in (is_of-mover p m moves)
                 first.1 sound.check;
           }) (simp (passed, none)) (simp none);
@@ -284,9 +273,7 @@ pawn_arrival : (p : Setup) (m : Move) (x : Man) → man_at p.men m.from ≡ Some
     → Arrival p m
 pawn_arrival p m x at man away lands None e fits =
     arrival_as_it_left p m x at e
-    (λ c k. rw lands
-    (neither_end p.side (rank m.to) away (eqb-false (rank m.to) (first_rank (other p.side))
-    (not-true (rank m.to == first_rank (other p.side)) fits))))
+    (λ c k. rw lands (neither_end p.side (rank m.to) away (eqb-false _ _ (not-true _ fits))))
 pawn_arrival p m x at man away lands (Some King) e fits = cc
 pawn_arrival p m x at man away lands (Some Queen) e fits = promoted p m x Queen at man e refl refl
 pawn_arrival p m x at man away lands (Some Rook) e fits = promoted p m x Rook at man e refl refl
@@ -295,7 +282,7 @@ pawn_arrival p m x at man away lands (Some Knight) e fits = promoted p m x Knigh
 pawn_arrival p m x at man away lands (Some Pawn) e fits = cc
 
 pub pawn_no_castling : (p : Setup) (m : Move) → is_man p.side Pawn (man_at p.men m.from) ≡ true → castling p m ≡ None
-pawn_no_castling p m man = no_castling p m (is_man-kind p.side p.side Pawn King (man_at p.men m.from) refl man)
+pawn_no_castling p m man = no_castling p m (is_man-kind _ _ _ _ _ refl man)
 
 rest_alone : (p : Setup) (m : Move) → Walk p m → is_en_passant p m ≡ false → castling p m ≡ None → Rest p m
 unfolding second_square_emptied castling_rook_to
@@ -314,28 +301,21 @@ pawn_rest : (p : Setup) (m : Move) → Walk p m → target_is_sound p ≡ true
     → is_man p.side Pawn (man_at p.men m.from) ≡ true → PawnKind p m → Rest p m
 unfolding is_en_passant
 pawn_rest p m walk stands man (Advances e) =
-    rest_alone p m walk (and_left (is_man p.side Pawn (man_at p.men m.from) && attacks p.men m.from m.to)
-    (is_square p.target m.to)
-    (and_right (is_man p.side Pawn (man_at p.men m.from)) (attacks p.men m.from m.to) (advance_is_no_attack p m man e)))
-    (pawn_no_castling p m man)
+    rest_alone p m walk (and_left _ _ (and_right _ _ (advance_is_no_attack p m man e))) (pawn_no_castling p m man)
 pawn_rest p m walk stands man (Captures e taken) =
-    rest_alone p m walk (and_right (is_man p.side Pawn (man_at p.men m.from) && attacks p.men m.from m.to)
-    (is_square p.target m.to)
-    (false_from_ne_true (is_square p.target m.to)
-    (λ at. both_ways (is_of (other p.side) (man_at p.men m.to))
-    (is_of-none (other p.side) (man_at p.men m.to) (at_target p m.to stands at).1) taken)))
-    (pawn_no_castling p m man)
+    rest_alone p m walk (and_right _ _ (false_from_ne_true _ (λ at. both_ways _
+    (is_of-none _ _ (at_target p m.to stands at).1) taken))) (pawn_no_castling p m man)
 pawn_rest p m walk stands man (TakesEnPassant e at) = rest_with_capture p m walk stands man e at
 
 pawn_not_own : (p : Setup) (m : Move) → target_is_sound p ≡ true → PawnKind p m
     → is_of p.side (man_at p.men m.to) ≡ false
-pawn_not_own p m stands (Advances e) = is_of-none p.side (man_at p.men m.to) (advance_to_empty p m e)
-pawn_not_own p m stands (Captures e taken) = is_of-other p.side (man_at p.men m.to) taken
-pawn_not_own p m stands (TakesEnPassant e at) = is_of-none p.side (man_at p.men m.to) (at_target p m.to stands at).1
+pawn_not_own p m stands (Advances e) = is_of-none _ _ (advance_to_empty p m e)
+pawn_not_own p m stands (Captures e taken) = is_of-other _ _ taken
+pawn_not_own p m stands (TakesEnPassant e at) = is_of-none _ _ (at_target p m.to stands at).1
 
 pawn_no_king : (p : Setup) (m : Move) → IsSound p → Moves p m → PawnKind p m
     → is_man (other p.side) King (man_at p.men m.to) ≡ false
-pawn_no_king p m sound moves (Advances e) = is_man-none (other p.side) King (man_at p.men m.to) (advance_to_empty p m e)
+pawn_no_king p m sound moves (Advances e) = is_man-none _ _ _ (advance_to_empty p m e)
 pawn_no_king p m sound moves (Captures e taken) =
     no_king_where_attacked p.men p.side m.from m.to moves.from_in moves.to_in (is_of-mover p m moves) e sound.check
 pawn_no_king p m sound moves (TakesEnPassant e at) =

@@ -1,9 +1,9 @@
 -- For proofs about lines: what lies between two of the squares of a line.
-use Rattle.std.proofs.Common.{◌≡◌, ℕ, ◌<◌, ◌*◌, ◌+◌, nat_lt, ◌-◌, inl, inr, Bool, true, false, ◌&&◌, ◌||◌, not, ◌==◌, is_none, refl, ap, arith}
+use Rattle.std.proofs.Common.{◌≡◌, ℕ, ◌<◌, ◌*◌, ◌+◌, nat_lt, ◌-◌, inl, inr, Bool, true, false, ◌&&◌, ◌||◌, not, ◌==◌, is_none, refl, sym, ap, ◌∙◌, arith}
 use Rattle.std.proofs.lemmas.Bool.Decides.{nat_tests}
-use Rattle.std.proofs.lemmas.Bool.{cases_order}
+use Rattle.std.proofs.lemmas.Bool.{cases_order, eqb-true}
 use Rattle.std.specs.Int.{abs_diff}
-use Rattle.chess_base.specs.Squares.{file, rank, is_strictly_between, share_rank_or_file, share_diagonal, is_between, is_between_on_file, is_between_on_rank, is_between_on_diagonal}
+use Rattle.chess_base.specs.Squares.{file, rank, is_strictly_between, share_diagonal, is_between, is_between_on_file, is_between_on_rank, is_between_on_diagonal}
 use Rattle.chess_base.specs.declared.line.Line.{Line}
 use Rattle.chess_base.specs.declared.line.Line.TheVariants.{Rank, File, Diagonal, Antidiagonal}
 use Rattle.chess_base.specs.Men.{Men, man_at}
@@ -11,8 +11,38 @@ use Rattle.chess_base.specs.Attacks.{is_clear}
 use Rattle.chess_base.specs.shared.Lines.{same_line}
 use Rattle.chess_base.proofs.shared.Squares.{each_square_same}
 
-pub share_rank_or_file_is : (a b : ℕ) → share_rank_or_file a b ≡ (same_line File a b || same_line Rank a b)
-share_rank_or_file_is a b = refl
+-- ---- which squares are between two does not depend on their order
+
+pub abs_diff_back : (m n : ℕ) → abs_diff m n ≡ abs_diff n m
+abs_diff_back m n = omega arith
+
+inside_back : (m n x : ℕ) → is_strictly_between m n x ≡ is_strictly_between n m x
+inside_back m n x = grind (arith, nat_tests)
+
+swap_first : (p q r : Bool) → (p && q && r) ≡ (q && p && r)
+swap_first p q r = grind arith
+
+back_on_file : (a b x : ℕ) → is_between_on_file a b x ≡ is_between_on_file b a x
+unfolding is_between_on_file
+back_on_file a b x = rw (inside_back (rank a) (rank b) (rank x))
+    (swap_first (file x == file a) (file x == file b) (is_strictly_between (rank b) (rank a) (rank x)))
+
+back_on_rank : (a b x : ℕ) → is_between_on_rank a b x ≡ is_between_on_rank b a x
+unfolding is_between_on_rank
+back_on_rank a b x = rw (inside_back (file a) (file b) (file x))
+    (swap_first (rank x == rank a) (rank x == rank b) (is_strictly_between (file b) (file a) (file x)))
+
+pub diagonal_back : (a b : ℕ) → share_diagonal a b ≡ share_diagonal b a
+diagonal_back a b = rw (abs_diff_back (file a) (file b), abs_diff_back (rank a) (rank b)) refl
+
+back_on_diagonal : (a b x : ℕ) → is_between_on_diagonal a b x ≡ is_between_on_diagonal b a x
+unfolding is_between_on_diagonal
+back_on_diagonal a b x =
+    let e = inside_back (rank a) (rank b) (rank x) in
+    let f = inside_back (file a) (file b) (file x) in
+    grind (arith, e, f, diagonal_back a x, diagonal_back x b)
+
+-- ---- on each kind of line
 
 pub share_diagonal_is : (a b : ℕ) → a < 64 → b < 64
     → share_diagonal a b ≡ (same_line Diagonal a b || same_line Antidiagonal a b)
@@ -65,26 +95,12 @@ up_diagonal : (f r g q h t : ℕ) → f < 8 → g < 8 → h < 8 → r + g ≡ q 
 up_diagonal f r g q h t a b c e l =
     rw (inside_up r q t (omega arith), inside_up f g h l) (grind (arith, nat_tests))
 
-down_diagonal : (f r g q h t : ℕ) → f < 8 → g < 8 → h < 8 → r + g ≡ q + f → g < f
-    → (abs_diff f h == abs_diff r t && abs_diff h g == abs_diff t q && is_strictly_between r q t
-    && is_strictly_between f g h)
-    ≡ ((r + 7 - f == t + 7 - h) && (nat_lt (8 * q + g) (8 * t + h) && nat_lt (8 * t + h) (8 * r + f)))
-down_diagonal f r g q h t a b c e l =
-    rw (inside_down r q t (omega arith), inside_down f g h l) (grind (arith, nat_tests))
-
 up_antidiagonal : (f r g q h t : ℕ) → f < 8 → g < 8 → h < 8 → r + f ≡ q + g → r < q
     → (abs_diff f h == abs_diff r t && abs_diff h g == abs_diff t q && is_strictly_between r q t
     && is_strictly_between f g h)
     ≡ ((r + f == t + h) && (nat_lt (8 * r + f) (8 * t + h) && nat_lt (8 * t + h) (8 * q + g)))
 up_antidiagonal f r g q h t a b c e l =
     rw (inside_up r q t l, inside_down f g h (omega arith)) (grind (arith, nat_tests))
-
-down_antidiagonal : (f r g q h t : ℕ) → f < 8 → g < 8 → h < 8 → r + f ≡ q + g → q < r
-    → (abs_diff f h == abs_diff r t && abs_diff h g == abs_diff t q && is_strictly_between r q t
-    && is_strictly_between f g h)
-    ≡ ((r + f == t + h) && (nat_lt (8 * q + g) (8 * t + h) && nat_lt (8 * t + h) (8 * r + f)))
-down_antidiagonal f r g q h t a b c e l =
-    rw (inside_down r q t l, inside_up f g h (omega arith)) (grind (arith, nat_tests))
 
 pub by_parts : (s : ℕ) → 8 * rank s + file s ≡ s
 by_parts s = omega arith
@@ -94,6 +110,26 @@ none_inside : (a b x : ℕ) (s t u : Bool) → rank a ≡ rank b → a ≡ b
     ≡ (u && is_strictly_between a b x)
 none_inside a b x s t u e f = rw (inside_none (rank a) (rank b) (rank x) e, inside_none a b x f) (grind arith)
 
+flipped : (l : Line) (a b x : ℕ) → same_line l a b ≡ true
+    → (same_line l b x && is_strictly_between b a x) ≡ (same_line l a x && is_strictly_between a b x)
+flipped l a b x e = rw (eqb-true _ _ e, inside_back a b x) refl
+
+diagonal_up : (a b x : ℕ) → rank a + file b ≡ rank b + file a → file a < file b
+    → is_between_on_diagonal a b x ≡ (same_line Diagonal a x && is_strictly_between a b x)
+unfolding is_between_on_diagonal
+diagonal_up a b x n less =
+    rw (inside_up a b x (omega arith))
+    (rw (by_parts a, by_parts b, by_parts x) at
+    (up_diagonal (file a) (rank a) (file b) (rank b) (file x) (rank x) (omega arith) (omega arith) (omega arith) n less))
+
+antidiagonal_up : (a b x : ℕ) → rank a + file a ≡ rank b + file b → rank a < rank b
+    → is_between_on_diagonal a b x ≡ (same_line Antidiagonal a x && is_strictly_between a b x)
+unfolding is_between_on_diagonal
+antidiagonal_up a b x n less =
+    rw (inside_up a b x (omega arith))
+    (rw (by_parts a, by_parts b, by_parts x) at
+    (up_antidiagonal (file a) (rank a) (file b) (rank b) (file x) (rank x) (omega arith) (omega arith) (omega arith) n less))
+
 diagonal_part : (a b x : ℕ) → same_line Diagonal a b ≡ true
     → is_between_on_diagonal a b x ≡ (same_line Diagonal a x && is_strictly_between a b x)
 unfolding is_between_on_diagonal
@@ -101,19 +137,8 @@ diagonal_part a b x e =
     let n : rank a + file b ≡ rank b + file a = grind (arith, nat_tests) in
     elim (cases_order (file a) (file b)) [
       | inl same ↦ none_inside a b x (share_diagonal a x) (share_diagonal x b) _ (omega arith) (omega arith)
-      | inr apart ↦
-          elim apart [
-            | inl less ↦
-                rw (inside_up a b x (omega arith))
-                (rw (by_parts a, by_parts b, by_parts x) at
-                (up_diagonal (file a) (rank a) (file b) (rank b) (file x) (rank x) (omega arith) (omega arith)
-                (omega arith) n less))
-            | inr more ↦
-                rw (inside_down a b x (omega arith))
-                (rw (by_parts a, by_parts b, by_parts x) at
-                (down_diagonal (file a) (rank a) (file b) (rank b) (file x) (rank x) (omega arith) (omega arith)
-                (omega arith) n more))
-          ]
+      | inr (inl less) ↦ diagonal_up a b x n less
+      | inr (inr more) ↦ back_on_diagonal a b x ∙ diagonal_up b a x (sym n) more ∙ flipped Diagonal a b x e
     ]
 
 antidiagonal_part : (a b x : ℕ) → same_line Antidiagonal a b ≡ true
@@ -123,19 +148,8 @@ antidiagonal_part a b x e =
     let n : rank a + file a ≡ rank b + file b = grind (arith, nat_tests) in
     elim (cases_order (rank a) (rank b)) [
       | inl same ↦ none_inside a b x (share_diagonal a x) (share_diagonal x b) _ same (omega arith)
-      | inr apart ↦
-          elim apart [
-            | inl less ↦
-                rw (inside_up a b x (omega arith))
-                (rw (by_parts a, by_parts b, by_parts x) at
-                (up_antidiagonal (file a) (rank a) (file b) (rank b) (file x) (rank x) (omega arith) (omega arith)
-                (omega arith) n less))
-            | inr more ↦
-                rw (inside_down a b x (omega arith))
-                (rw (by_parts a, by_parts b, by_parts x) at
-                (down_antidiagonal (file a) (rank a) (file b) (rank b) (file x) (rank x) (omega arith) (omega arith)
-                (omega arith) n more))
-          ]
+      | inr (inl less) ↦ antidiagonal_up a b x n less
+      | inr (inr more) ↦ back_on_diagonal a b x ∙ antidiagonal_up b a x (sym n) more ∙ flipped Antidiagonal a b x e
     ]
 
 diagonal_no_file : (a b x : ℕ) → same_line Diagonal a b ≡ true → is_between_on_file a b x ≡ false
@@ -173,37 +187,6 @@ between_on_line Rank a b x e = between_rank a b x e
 between_on_line File a b x e = between_file a b x e
 between_on_line Diagonal a b x e = between_diagonal a b x e
 between_on_line Antidiagonal a b x e = between_antidiagonal a b x e
-
--- ---- which squares are between two does not depend on their order
-
-pub abs_diff_back : (m n : ℕ) → abs_diff m n ≡ abs_diff n m
-abs_diff_back m n = omega arith
-
-inside_back : (m n x : ℕ) → is_strictly_between m n x ≡ is_strictly_between n m x
-inside_back m n x = grind (arith, nat_tests)
-
-swap_first : (p q r : Bool) → (p && q && r) ≡ (q && p && r)
-swap_first p q r = grind arith
-
-back_on_file : (a b x : ℕ) → is_between_on_file a b x ≡ is_between_on_file b a x
-unfolding is_between_on_file
-back_on_file a b x = rw (inside_back (rank a) (rank b) (rank x))
-    (swap_first (file x == file a) (file x == file b) (is_strictly_between (rank b) (rank a) (rank x)))
-
-back_on_rank : (a b x : ℕ) → is_between_on_rank a b x ≡ is_between_on_rank b a x
-unfolding is_between_on_rank
-back_on_rank a b x = rw (inside_back (file a) (file b) (file x))
-    (swap_first (rank x == rank a) (rank x == rank b) (is_strictly_between (file b) (file a) (file x)))
-
-pub diagonal_back : (a b : ℕ) → share_diagonal a b ≡ share_diagonal b a
-diagonal_back a b = rw (abs_diff_back (file a) (file b), abs_diff_back (rank a) (rank b)) refl
-
-back_on_diagonal : (a b x : ℕ) → is_between_on_diagonal a b x ≡ is_between_on_diagonal b a x
-unfolding is_between_on_diagonal
-back_on_diagonal a b x =
-    let e = inside_back (rank a) (rank b) (rank x) in
-    let f = inside_back (file a) (file b) (file x) in
-    grind (arith, e, f, diagonal_back a x, diagonal_back x b)
 
 pub between_back : (a b x : ℕ) → is_between a b x ≡ is_between b a x
 unfolding is_between

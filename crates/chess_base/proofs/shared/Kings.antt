@@ -45,10 +45,9 @@ pub king_square-at : (men : Men) (c : Colour) (k : ℕ) → length men ≡ 64 �
     → is_man c King (man_at men k) ≡ true → king_square men c ≡ Some k
 unfolding king_square
 king_square-at men c k l h a =
-    let k_in = in_board men c King k l a in
+    let k_in = in_board _ _ _ _ l a in
     let place : position_or_len (λ o. is_man c King o) men ≡ k =
-    position_or_len_is (λ o. is_man c King o) men k None (omega (arith, l))
-    (λ i less. false_from_ne_true (is_man c King (get_or men i None))
+    position_or_len_is (λ o. is_man c King o) men k None (omega (arith, l)) (λ i less. false_from_ne_true _
     (λ e. let same = one_king men c i k l h e a in omega arith)) (λ _. a) in
     let test : nat_lt k 64 ≡ true = grind (arith, nat_tests) in
     rw (place, l, test) refl

@@ -42,7 +42,7 @@ same_kind-self Pawn = refl
 
 pub same_kind-true : (k l : Kind) → same_kind k l ≡ true → k ≡ l
 same_kind-true k l e =
-    let numbers : kind_number k ≡ kind_number l = eqb-true (kind_number k) (kind_number l) e in
+    let numbers : kind_number k ≡ kind_number l = eqb-true _ _ e in
     sym (kind_back k) ∙ ap kind_at numbers ∙ kind_back l
 
 pub same_colour-other : (c d : Colour) → same_colour (other c) d ≡ true → same_colour c d ≡ false
@@ -64,12 +64,12 @@ colour_cases Black White = inr refl
 pub is_of-from_is_man : (c : Colour) (k : Kind) (o : Option Man) → is_man c k o ≡ true → is_of c o ≡ true
 unfolding is_man is_of
 is_of-from_is_man c k None e = cc
-is_of-from_is_man c k (Some x) e = (and_parts (same_colour c x.colour) (same_kind k x.kind) e).0
+is_of-from_is_man c k (Some x) e = (and_parts _ _ e).0
 
 pub not_is_man : (c : Colour) (k : Kind) (o : Option Man) → is_of c o ≡ false → is_man c k o ≡ false
 unfolding is_man is_of
 not_is_man c k None e = refl
-not_is_man c k (Some x) e = and_left (same_colour c x.colour) (same_kind k x.kind) e
+not_is_man c k (Some x) e = and_left _ _ e
 
 pub is_of-other : (c : Colour) (o : Option Man) → is_of (other c) o ≡ true → is_of c o ≡ false
 unfolding is_of
@@ -78,7 +78,7 @@ is_of-other c (Some x) e = same_colour-other c x.colour e
 
 -- a piece of colour c is none of the other colour
 pub no_other : (c : Colour) (k : Kind) (o : Option Man) → is_man c k o ≡ true → is_of (other c) o ≡ false
-no_other c k o e = is_of-other (other c) o (rw other-other (is_of-from_is_man c k o e))
+no_other c k o e = is_of-other _ _ (rw other-other (is_of-from_is_man _ _ _ e))
 
 pub is_of-none : (c : Colour) (o : Option Man) → is_none o ≡ true → is_of c o ≡ false
 unfolding is_of
@@ -86,20 +86,19 @@ is_of-none c None e = refl
 is_of-none c (Some x) e = cc
 
 pub is_man-none : (c : Colour) (k : Kind) (o : Option Man) → is_none o ≡ true → is_man c k o ≡ false
-is_man-none c k o e = not_is_man c k o (is_of-none c o e)
+is_man-none c k o e = not_is_man _ _ _ (is_of-none _ _ e)
 
 pub is_man-kind : (c d : Colour) (k l : Kind) (o : Option Man) → same_kind l k ≡ false → is_man c k o ≡ true
     → is_man d l o ≡ false
 unfolding is_man
 is_man-kind c d k l None n e = refl
 is_man-kind c d k l (Some x) n e =
-    let at : kind_number k ≡ kind_number x.kind = eqb-true (kind_number k) (kind_number x.kind)
-    (and_parts (same_colour c x.colour) (same_kind k x.kind) e).1 in
+    let at : kind_number k ≡ kind_number x.kind = eqb-true _ _ (and_parts _ _ e).1 in
     let other_kind : same_kind l x.kind ≡ false = rw (← at) n in
-    and_right (same_colour d x.colour) (same_kind l x.kind) other_kind
+    and_right _ _ other_kind
 
 pub is_man-colour : (c : Colour) (k l : Kind) (o : Option Man) → is_man (other c) k o ≡ true → is_man c l o ≡ false
-is_man-colour c k l o e = not_is_man c l o (is_of-other c o (is_of-from_is_man (other c) k o e))
+is_man-colour c k l o e = not_is_man _ _ _ (is_of-other _ _ (is_of-from_is_man _ _ _ e))
 
 pub in_board : (men : Men) (c : Colour) (k : Kind) (s : ℕ) → length men ≡ 64 → is_man c k (man_at men s) ≡ true → s < 64
 unfolding is_man

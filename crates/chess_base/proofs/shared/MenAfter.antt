@@ -7,7 +7,7 @@ use Rattle.chess_base.specs.declared.castling.Castle.{Castle}
 use Rattle.chess_base.specs.declared.man.CastlingSide.{CastlingSide}
 use Rattle.chess_base.specs.declared.man.Move.{Move}
 use Rattle.chess_base.specs.declared.man.Man.{Man}
-use Rattle.chess_base.specs.declared.man.Kind.TheVariants.{King, Pawn, Rook}
+use Rattle.chess_base.specs.declared.man.Kind.TheVariants.{King, Rook}
 use Rattle.chess_base.specs.declared.steps.Steps.{Steps}
 use Rattle.chess_base.specs.declared.setup.Saved.{Saved}
 use Rattle.chess_base.specs.Men.{Men, man_at, is_man, is_of, other}
@@ -36,8 +36,8 @@ man_at-men_stepped men t s h = get_or-from_below 64 (man_stepped men t) s None h
 
 pub flip : (a b : ℕ) → (a == b) ≡ (b == a)
 flip a b = elim (cases_eq a b) [
-  | inl e ↦ eq-eqb a b e ∙ sym (eq-eqb b a (sym e))
-  | inr n ↦ ne_eqb a b n ∙ sym (ne_eqb b a (λ e. n (sym e)))
+  | inl e ↦ eq-eqb _ _ e ∙ sym (eq-eqb _ _ (sym e))
+  | inr n ↦ ne_eqb _ _ n ∙ sym (ne_eqb _ _ (λ e. n (sym e)))
 ]
 
 or_flip : (a b : Bool) → (a || b) ≡ (b || a)
@@ -83,7 +83,7 @@ castled : (p : Setup) (m : Move) (s : ℕ) (k : Castle) → castle_of p m ≡ So
 unfolding mover_end castling_rook_to second_square_emptied
 castled p m s k e from king =
     let none : is_en_passant p m ≡ false =
-    no_en_passant p m (is_man-kind p.side p.side King Pawn (man_at p.men m.from) refl king) in
+    no_en_passant p m (is_man-kind _ _ _ _ _ refl king) in
     rw (e, none, ← from)
     (turned_round k.king_to k.rook_to k.rook_from k.king_from s (arriving_man (man_at p.men k.king_from) m.promotion)
     (Some (record { colour = p.side; kind = Rook })) (man_at p.men s))
@@ -103,7 +103,7 @@ castling_of p m k e = by (castling p m) refl
         let is : Some (castle_from p.side w m.from there.0) ≡ Some k = sym there.2 ∙ e in
         let same : castle_from p.side w m.from there.0 ≡ k = cc in
         record {
-          king = (castling_says p m w (says_from_castling p m w at)).0;
+          king = (castling_says _ _ _ (says_from_castling _ _ _ at)).0;
           from = sym (ap (λ (v : Castle). v.king_from) same);
         }
 
@@ -164,9 +164,9 @@ pub man_after-same : (p : Setup) (m : Move) (s : ℕ) → mover_end p m ≢ s �
     → is_square (castling_rook_to p m) s ≡ false → is_square (second_square_emptied p m) s ≡ false
     → man_after p m s ≡ man_at p.men s
 unfolding man_after
-man_after-same p m s t f r l = rw (ne_eqb (mover_end p m) s t, r, l, ne_eqb m.from s f) refl
+man_after-same p m s t f r l = rw (ne_eqb _ _ t, r, l, ne_eqb _ _ f) refl
 
 pub man_after-to : (p : Setup) (m : Move) → man_after p m (mover_end p m)
     ≡ arriving_man (man_at p.men m.from) m.promotion
 unfolding man_after
-man_after-to p m = rw (eq-eqb (mover_end p m) (mover_end p m) refl) refl
+man_after-to p m = rw (eq-eqb _ _ refl) refl

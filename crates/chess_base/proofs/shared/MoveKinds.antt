@@ -1,5 +1,5 @@
 -- For lists of moves: the kinds of pseudo-legal moves, and what follows from each.
-use Rattle.std.proofs.Common.{◌≡◌, ℕ, ◌<◌, inl, inr, Bool, true, false, ◌&&◌, ◌||◌, not, cond, Option, Some, None, refl, sym, ◌==◌, nat_lt, is_none}
+use Rattle.std.proofs.Common.{◌≡◌, ℕ, ◌<◌, inl, inr, Bool, true, false, ◌&&◌, ◌||◌, not, cond, Option, Some, None, refl, sym, ◌==◌, is_none}
 use Rattle.std.proofs.lemmas.Bool.{and_parts, and_from, and_right, or_cases, both_ways, ltb-true, false_from_ne_true, not-true}
 use Rattle.chess_base.specs.declared.man.Colour.{Colour}
 use Rattle.chess_base.specs.declared.man.Kind.TheVariants.{King, Pawn}
@@ -12,7 +12,7 @@ use Rattle.chess_base.specs.Attacks.{attacks, is_attacked, is_in_check}
 use Rattle.chess_base.specs.declared.setup.Setup.{Setup}
 use Rattle.chess_base.specs.Moves.{is_pseudo_legal, moves_as, man_moves, pawn_moves, pawn_advances, pawn_captures, promotion_fits}
 use Rattle.chess_base.specs.shared.Splits.{castles_or_moves}
-use Rattle.chess_base.specs.Castling.{right_of, castle_from, castle_of, castling, castles, castling_way_is_empty, castling_way_is_safe}
+use Rattle.chess_base.specs.Castling.{right_of, castle_from, castle_of, castling, castles, castling_way_is_empty}
 use Rattle.chess_base.specs.declared.castling.Castle.{Castle}
 use Rattle.chess_base.specs.declared.man.Kind.{Kind}
 use Rattle.chess_base.proofs.shared.Castling.{castle_there, no_castle}
@@ -45,12 +45,11 @@ pub record Moves (p : Setup) (m : Move) : Type 0 where
 pawn_kind : (p : Setup) (m : Move) → (pawn_advances p m || pawn_captures p m) ≡ true → PawnKind p m
 unfolding pawn_captures
 pawn_kind p m e =
-    elim (or_cases (pawn_advances p m) (pawn_captures p m) e) [
+    elim (or_cases _ _ e) [
       | inl h ↦ Advances h
       | inr h ↦
-          let both = and_parts (attacks p.men m.from m.to)
-          (is_of (other p.side) (man_at p.men m.to) || is_square p.target m.to) h in
-          elim (or_cases (is_of (other p.side) (man_at p.men m.to)) (is_square p.target m.to) both.1) [
+          let both = and_parts _ _ h in
+          elim (or_cases _ _ both.1) [
             | inl taken ↦ Captures both.0 taken
             | inr passed ↦ TakesEnPassant both.0 passed
           ]
@@ -68,35 +67,31 @@ kind_of : (p : Setup) (m : Move) (x : Man) → man_at p.men m.from ≡ Some x �
     → cond b (pawn_moves p m) (castles_or_moves p m (castle_of p m)) ≡ true → MoveKind p m
 unfolding is_man pawn_moves
 kind_of p m x at own true k e =
-    let both = and_parts (promotion_fits (rank m.to == first_rank (other p.side)) m.promotion)
-    (pawn_advances p m || pawn_captures p m) e in
-    PawnMoves (rw at (and_from (same_colour p.side x.colour) (same_kind Pawn x.kind) own k)) both.0
-    (pawn_kind p m both.1)
+    let both = and_parts _ _ e in
+    PawnMoves (rw at (and_from _ _ own k)) both.0 (pawn_kind p m both.1)
 kind_of p m x at own false k e =
-    kind_by_castling p m (castling p m) refl (rw at (and_right (same_colour p.side x.colour) (same_kind Pawn x.kind) k))
-    e
+    kind_by_castling p m (castling p m) refl (rw at (and_right _ _ k)) e
 
 moves_by : (p : Setup) (m : Move) (o : Option Man) → man_at p.men m.from ≡ o → m.from < 64 → m.to < 64
     → moves_as p m o ≡ true → Moves p m
 moves_by p m None at f t e = cc
 moves_by p m (Some x) at f t e =
-    let both = and_parts (same_colour p.side x.colour)
-    (cond (same_kind Pawn x.kind) (pawn_moves p m) (castles_or_moves p m (castle_of p m))) e in
+    let both = and_parts _ _ e in
     record {
       from_in = f;
       to_in = t;
       mover = x;
       at_from = at;
-      own = sym (same_colour-true p.side x.colour both.0);
+      own = sym (same_colour-true _ _ both.0);
       kind = kind_of p m x at both.0 (same_kind Pawn x.kind) refl both.1;
     }
 
 pub moves_from_pattern : (p : Setup) (m : Move) → is_pseudo_legal p m ≡ true → Moves p m
 unfolding is_pseudo_legal
 moves_from_pattern p m e =
-    let three = and_parts (nat_lt m.from 64 && nat_lt m.to 64) (moves_as p m (man_at p.men m.from)) e in
-    let two = and_parts (nat_lt m.from 64) (nat_lt m.to 64) three.0 in
-    moves_by p m (man_at p.men m.from) refl (ltb-true m.from 64 two.0) (ltb-true m.to 64 two.1) three.1
+    let three = and_parts _ _ e in
+    let two = and_parts _ _ three.0 in
+    moves_by p m (man_at p.men m.from) refl (ltb-true _ _ two.0) (ltb-true _ _ two.1) three.1
 
 pub is_of-mover : (p : Setup) (m : Move) → Moves p m → is_of p.side (man_at p.men m.from) ≡ true
 unfolding is_of
@@ -108,20 +103,17 @@ pub no_king_where_attacked : (men : Men) (c : Colour) (a b : ℕ) → a < 64 →
     → not (is_in_check men (other c)) ≡ true → is_man (other c) King (man_at men b) ≡ false
 unfolding is_in_check is_attacked
 no_king_where_attacked men c a b ha hb own hits calm =
-    false_from_ne_true (is_man (other c) King (man_at men b)) (λ k.
+    false_from_ne_true _ (λ k.
     let attacked : is_attacked men b c ≡ true =
-    some_square-at _ a ha (and_from (is_of c (man_at men a)) (attacks men a b) own hits) in
+    some_square-at _ a ha (and_from _ _ own hits) in
     let attacked' : is_attacked men b (other (other c)) ≡ true = rw other-other attacked in
-    both_ways (is_in_check men (other c)) (not-true (is_in_check men (other c)) calm)
-    (some_square-at _ b hb
-    (and_from (is_man (other c) King (man_at men b)) (is_attacked men b (other (other c))) k attacked')))
+    both_ways _ (not-true _ calm) (some_square-at _ b hb (and_from _ _ k attacked')))
 
 pub castles_unpromoted : (p : Setup) (m : Move) (k : Castle) → castles p m k ≡ true → m.promotion ≡ None
 unfolding castles
 castles_unpromoted p m k e =
-    let two = and_parts (is_none m.promotion && castling_way_is_empty p.men k) (castling_way_is_safe p.men p.side k)
-    e in
-    is_none-None m.promotion (and_parts (is_none m.promotion) (castling_way_is_empty p.men k) two.0).0
+    let two = and_parts _ _ e in
+    is_none-None _ (and_parts (is_none m.promotion) (castling_way_is_empty p.men k) two.0).0
 
 pub promoted_by_kind : (p : Setup) (m : Move) (k : Kind) → MoveKind p m → m.promotion ≡ Some k
     → is_man p.side Pawn (man_at p.men m.from) ≡ true

@@ -1,15 +1,13 @@
 -- For readers of positions: a setup is sound exactly if it has no fault.
-use Rattle.std.proofs.Common.{◌≡◌, Bool, true, false, not, ◌&&◌, cond, nat_le, Option, Some, None, length, refl}
+use Rattle.std.proofs.Common.{◌≡◌, Bool, true, false, not, ◌&&◌, cond, Option, Some, None, length, refl}
 use Rattle.std.proofs.lemmas.Bool.{and_parts}
 use Rattle.chess_base.specs.declared.man.Colour.TheVariants.{White, Black}
-use Rattle.chess_base.specs.declared.man.CastlingSide.TheVariants.{KingSide, QueenSide}
 use Rattle.chess_base.specs.declared.setup.Setup.{Setup}
 use Rattle.chess_base.specs.declared.fen_fault.FenFault.{FenFault}
 use Rattle.chess_base.specs.declared.fen_fault.FenFault.TheVariants.{Counters, Kings, Pawns, Men, Castling, EnPassant, Check}
 use Rattle.chess_base.specs.Men.{other}
 use Rattle.chess_base.specs.Attacks.{is_in_check}
 use Rattle.chess_base.specs.Sound.{IsSound, has_one_king, no_pawn_on_end_ranks, has_at_most_16, target_is_sound}
-use Rattle.chess_base.specs.Castling.{right_is_sound}
 use Rattle.chess_base.specs.Faults.{counters_fit, rights_are_sound, setup_fault}
 
 passes : (a : Bool) (f : FenFault) (rest : Option FenFault) → cond a rest (Some f) ≡ None → (a ≡ true) × (rest ≡ None)
@@ -26,15 +24,13 @@ IsSound-from_no_fault p l e =
     let castling = passes (rights_are_sound p) Castling _ men.1 in
     let passed = passes (target_is_sound p) EnPassant _ castling.1 in
     let calm = passes (not (is_in_check p.men (other p.side))) Check _ passed.1 in
-    let c2 = and_parts (nat_le p.halfmove 999999 && nat_le 1 p.fullmove) (nat_le p.fullmove 999999) counters.0 in
-    let c1 = and_parts (nat_le p.halfmove 999999) (nat_le 1 p.fullmove) c2.0 in
-    let k = and_parts (has_one_king p.men White) (has_one_king p.men Black) kings.0 in
-    let m = and_parts (has_at_most_16 p.men White) (has_at_most_16 p.men Black) men.0 in
-    let r3 = and_parts (right_is_sound p White KingSide && right_is_sound p White QueenSide
-    && right_is_sound p Black KingSide) (right_is_sound p Black QueenSide) castling.0 in
-    let r2 = and_parts (right_is_sound p White KingSide && right_is_sound p White QueenSide) (right_is_sound p Black KingSide)
-    r3.0 in
-    let r1 = and_parts (right_is_sound p White KingSide) (right_is_sound p White QueenSide) r2.0 in
+    let c2 = and_parts _ _ counters.0 in
+    let c1 = and_parts _ _ c2.0 in
+    let k = and_parts _ _ kings.0 in
+    let m = and_parts _ _ men.0 in
+    let r3 = and_parts _ _ castling.0 in
+    let r2 = and_parts _ _ r3.0 in
+    let r1 = and_parts _ _ r2.0 in
     record {
       board = l;
       white_king = k.0;

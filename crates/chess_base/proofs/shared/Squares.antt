@@ -1,6 +1,6 @@
 -- For proofs that go over squares: tests of all 64, square by square, and lists that are made of numbers.
-use Rattle.std.proofs.Common.{◌≡◌, ℕ, ◌<◌, ◌⊎◌, inl, inr, Bool, true, false, ◌||◌, refl, arith, zero, suc, ◌∷◌, length, get_or, ap, ◌∙◌}
-use Rattle.std.proofs.lemmas.Bool.{and_parts, and_from, and_left, and_right, or_from, or_left, or_right}
+use Rattle.std.proofs.Common.{◌≡◌, ℕ, ◌<◌, ◌⊎◌, inl, inr, Bool, true, false, ◌&&◌, ◌||◌, refl, sym, arith, zero, suc, ◌∷◌, length, get_or, ap, ◌∙◌}
+use Rattle.std.proofs.lemmas.Bool.{cases_Bool, and_parts, and_from, and_left, and_right, or_from, or_left, or_right}
 use Rattle.chess_base.specs.Squares.{some_below, each_below, some_square, each_square, from_below}
 
 last_or_below : (n k : ℕ) → k < suc n → (k ≡ n) ⊎ (k < n)
@@ -8,13 +8,12 @@ last_or_below n k h = grind arith
 
 pub each_below-all : (n : ℕ) (p : ℕ → Bool) → ((k : ℕ) → k < n → p k ≡ true) → each_below n p ≡ true
 each_below-all zero p h = refl
-each_below-all (suc n) p h = and_from (each_below n p) (p n) (each_below-all n p (λ k l. h k (omega arith)))
-    (h n (omega arith))
+each_below-all (suc n) p h = and_from _ _ (each_below-all n p (λ k l. h k (omega arith))) (h n (omega arith))
 
 pub each_below-at : (n : ℕ) (p : ℕ → Bool) → each_below n p ≡ true → (k : ℕ) → k < n → p k ≡ true
 each_below-at zero p e k h = absurd (omega arith)
 each_below-at (suc n) p e k h =
-    let both = and_parts (each_below n p) (p n) e in
+    let both = and_parts _ _ e in
     elim (last_or_below n k h) [ inl same ↦ rw same both.1 | inr less ↦ each_below-at n p both.0 k less ]
 
 pub some_below-at : (n : ℕ) (p : ℕ → Bool) (k : ℕ) → k < n → p k ≡ true → some_below n p ≡ true
@@ -27,8 +26,7 @@ some_below-at (suc n) p k h e =
 
 pub some_below-none : (n : ℕ) (p : ℕ → Bool) → ((k : ℕ) → k < n → p k ≡ false) → some_below n p ≡ false
 some_below-none zero p h = refl
-some_below-none (suc n) p h = or_from (some_below n p) (p n) (some_below-none n p (λ k l. h k (omega arith)))
-    (h n (omega arith))
+some_below-none (suc n) p h = or_from _ _ (some_below-none n p (λ k l. h k (omega arith))) (h n (omega arith))
 
 pub each_below-fails : (n : ℕ) (p : ℕ → Bool) (k : ℕ) → k < n → p k ≡ false → each_below n p ≡ false
 each_below-fails zero p k h e = absurd (omega arith)
@@ -59,6 +57,25 @@ some_square-at p k h e = some_below-at 64 p k h e
 pub some_square-none : (p : ℕ → Bool) → ((k : ℕ) → k < 64 → p k ≡ false) → some_square p ≡ false
 unfolding some_square
 some_square-none p h = some_below-none 64 p h
+
+-- of the squares that pass p, none passes q
+
+guarded : (p q : Bool) → (p ≡ true → q ≡ false) → (p && q) ≡ false
+guarded true q h = h refl
+guarded false q h = refl
+
+pub none_passes : (p q : ℕ → Bool) → ((k : ℕ) → k < 64 → p k ≡ true → q k ≡ false)
+    → some_square (λ k. p k && q k) ≡ false
+none_passes p q h = some_square-none (λ k. p k && q k) (λ k low. guarded _ _ (h k low))
+
+-- x, which passes p, decides whether one of them passes q
+pub one_decides : (p q : ℕ → Bool) (x : ℕ) → x < 64 → p x ≡ true
+    → ((k : ℕ) → k < 64 → p k ≡ true → q x ≡ false → q k ≡ false) → q x ≡ some_square (λ k. p k && q k)
+one_decides p q x h on rest =
+    elim (cases_Bool (q x)) [
+      | inl passes ↦ passes ∙ sym (some_square-at (λ k. p k && q k) x h (and_from _ _ on passes))
+      | inr fails ↦ fails ∙ sym (none_passes p q (λ k low e. rest k low e fails))
+    ]
 
 -- two tests that agree on each square
 

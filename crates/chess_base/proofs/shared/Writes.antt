@@ -27,8 +27,8 @@ pub get_or-write : {X : Type 0} (xs : List X) (o : Option ℕ) (v : X) (i : ℕ)
 get_or-write xs None v i d h = refl
 get_or-write xs (Some s) v i d h =
     elim (cases_eq s i) [
-      | inl same ↦ let at : s < length xs = rw same h in rw (← same, eq-eqb s s refl) (get_or-set_same xs s v d at)
-      | inr differs ↦ rw (ne_eqb s i differs) (get_or-set_other xs s i v d (λ e. differs (sym e)))
+      | inl same ↦ let at : s < length xs = rw same h in rw (← same, eq-eqb _ _ refl) (get_or-set_same xs s v d at)
+      | inr differs ↦ rw (ne_eqb _ _ differs) (get_or-set_other xs s i v d (λ e. differs (sym e)))
     ]
 
 -- the writes of a move: the start square, what else is left, the castling rook's end, and the end square

@@ -1,5 +1,6 @@
 -- For texts of moves and games: a test of the legal moves, made only on the squares of a set.
 use Rattle.std.proofs.Common.{◌≡◌, ◌≢◌, ℕ, zero, suc, ◌<◌, inl, inr, Bool, true, false, ◌&&◌, ◌||◌, ◌==◌, Option, Some, None, List, [], ◌∷◌, map, refl, sym, ap, ◌∙◌, arith}
+use Rattle.std.proofs.Math.Path.{fun_ext}
 use Rattle.std.proofs.lemmas.Bool.{cases_Bool, and_parts, false_from_ne_true, or_left, or_right, eqb-true, eqb-false}
 use Rattle.std.proofs.lemmas.List.Folds.{list_any-append}
 use Rattle.std.specs.List.{filter, flat_map, list_any}
@@ -28,10 +29,6 @@ any-flat_map t f [] = refl
 any-flat_map t f (x ∷ xs) = list_any-append t (f x) (flat_map f xs)
     ∙ ap (λ b. list_any t (f x) || b) (any-flat_map t f xs)
 
-any-same : {A : Type 0} (f g : A → Bool) (xs : List A) → ((x : A) → f x ≡ g x) → list_any f xs ≡ list_any g xs
-any-same f g [] h = refl
-any-same f g (x ∷ xs) h = rw (h x, any-same f g xs h) refl
-
 any-none : {A : Type 0} (f : A → Bool) (xs : List A) → ((x : A) → f x ≡ false) → list_any f xs ≡ false
 any-none f [] h = refl
 any-none f (x ∷ xs) h = rw (h x) (any-none f xs h)
@@ -51,8 +48,8 @@ any-kept q t (x ∷ xs) h =
 any-from_below : (n : ℕ) (g : ℕ → ℕ) (t : ℕ → Bool) (k : ℕ) → k < n → t (g k) ≡ true
     → list_any t (from_below n g) ≡ true
 any-from_below zero g t k h e = absurd (omega arith)
-any-from_below (suc n) g t zero h e = or_left (t (g 0)) _ e
-any-from_below (suc n) g t (suc k) h e = or_right (t (g 0)) _ (any-from_below n (λ i. g (suc i)) t k (omega arith) e)
+any-from_below (suc n) g t zero h e = or_left _ _ e
+any-from_below (suc n) g t (suc k) h e = or_right _ _ (any-from_below n (λ i. g (suc i)) t k (omega arith) e)
 
 pub any-square : (t : ℕ → Bool) (k : ℕ) → k < 64 → t k ≡ true → list_any t squares ≡ true
 unfolding squares
@@ -64,8 +61,8 @@ any-alone f b low away =
     elim (cases_Bool (f b)) [
       | inl on ↦ any-square f b low on ∙ sym on
       | inr off ↦ any-none f squares (λ k. elim (cases_Bool (k == b)) [
-        | inl same ↦ ap f (eqb-true k b same) ∙ off
-        | inr other ↦ away k (eqb-false k b other)
+        | inl same ↦ ap f (eqb-true _ _ same) ∙ off
+        | inr other ↦ away k (eqb-false _ _ other)
       ]) ∙ sym off
     ]
 
@@ -87,8 +84,7 @@ abbrev found : Setup → (Move → Bool) → Move → Bool
 found p t m = is_legal p m && t m
 
 not_found : (p : Setup) (t : Move → Bool) (m : Move) → (is_legal p m ≡ true → t m ≡ true → ⊥) → found p t m ≡ false
-not_found p t m h = false_from_ne_true (found p t m)
-    (λ e. let both = and_parts (is_legal p m) (t m) e in h both.0 both.1)
+not_found p t m h = false_from_ne_true _ (λ e. let both = and_parts _ _ e in h both.0 both.1)
 
 elsewhere : (p : Setup) (t : Move → Bool) (to w a b : ℕ) → AllFound p t to w → b ≢ to → (k : Option Kind)
     → found p t (move_of a b k) ≡ false
@@ -134,13 +130,12 @@ any_from_members p t to w low all =
     ∙ sym (any-filter (λ m. is_legal p m) t
     (flat_map (λ a. flat_map (λ b. map (move_of a b) promotions) squares) squares)
     ∙ any-flat_map (found p t) (λ a. flat_map (λ b. map (move_of a b) promotions) squares) squares
-    ∙ any-same _ _ squares (λ a. any-flat_map (found p t) (λ b. map (move_of a b) promotions) squares
+    ∙ ap (λ (f : ℕ → Bool). list_any f squares) (fun_ext (λ a. any-flat_map (found p t) (λ b. map (move_of a b) promotions) squares
     ∙ any-alone (λ b. list_any (found p t) (map (move_of a b) promotions)) to low
     (λ b away. none_elsewhere p t to w a b all away)
-    ∙ between p t to w a all))
+    ∙ between p t to w a all)))
   where
     outside : (a : ℕ) → contains w a ≡ false → (t (move_of a to None) && is_legal p (move_of a to None)) ≡ false
-    outside a out = false_from_ne_true (t (move_of a to None) && is_legal p (move_of a to None))
-        (λ e. let both = and_parts (t (move_of a to None)) (is_legal p (move_of a to None)) e in
+    outside a out = false_from_ne_true _ (λ e. let both = and_parts _ _ e in
         let there = all.begins (move_of a to None) both.1 both.0 in
         cc)

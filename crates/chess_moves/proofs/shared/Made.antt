@@ -1,32 +1,23 @@
 -- For boards: what follows from a move that was made for the position before it.
-use Rattle.std.proofs.Common.{◌≡◌, ℕ, ◌<◌, arith, IsTrue}
-use Rattle.chess_base.specs.declared.man.Colour.{Colour}
-use Rattle.chess_base.specs.declared.man.Colour.TheVariants.{White, Black}
+use Rattle.std.proofs.Common.{◌≡◌, ◌<◌, IsTrue}
 use Rattle.chess_base.specs.declared.man.Move.{Move}
 use Rattle.chess_base.specs.declared.setup.Setup.{Setup}
 use Rattle.chess_base.specs.declared.setup.Saved.{Saved}
-use Rattle.chess_base.specs.Squares.{rank, is_square}
-use Rattle.chess_base.specs.Men.{other, crossed_rank}
+use Rattle.chess_base.specs.Squares.{is_square}
+use Rattle.chess_base.specs.Men.{other}
 use Rattle.chess_base.specs.Sound.{IsSound}
 use Rattle.chess_base.specs.Moves.{one_rank_back, after}
 use Rattle.chess_base.specs.Before.{saved_of, before}
 use Rattle.chess_base.proofs.shared.Changes.{at_target}
-use Rattle.chess_base.proofs.shared.Men.{other-other}
-use Rattle.chess_base.proofs.shared.LegalMoves.{IsSound-after, before-after}
+use Rattle.chess_base.proofs.shared.Men.{in_board, other-other}
+use Rattle.chess_base.proofs.shared.LegalMoves.{before-after}
 use Rattle.chess_moves.specs.Made.{WasMade, IsMade}
-
-pub WasMade-sound : (p : Setup) (m : Move) (s : Saved) (q : Setup) → WasMade p m s q → IsSound q
-WasMade-sound p m s q h = rw h.left (IsSound-after p m h.sound h.legal)
 
 pub WasMade-back : (p : Setup) (m : Move) (s : Saved) (q : Setup) → WasMade p m s q → before q m s ≡ p
 WasMade-back p m s q h = rw (h.left, h.saved) (before-after p m h.sound h.legal)
 
 pub IsMade-sound : (q : Setup) (m : Move) (s : Saved) → IsMade q m s → IsSound (before q m s)
 IsMade-sound q m s h = rw (WasMade-back h.0 m s q h.1) h.1.sound
-
-one_rank_back_in_board : (c : Colour) (t : ℕ) → rank t ≡ crossed_rank (other c) → one_rank_back c t < 64
-one_rank_back_in_board White t e = omega arith
-one_rank_back_in_board Black t e = omega arith
 
 -- a pawn taken en passant was on the board
 pub captured_in_board : (q : Setup) (m : Move) (s : Saved) → IsMade q m s → IsTrue (is_square s.target m.to)
@@ -36,4 +27,4 @@ captured_in_board q m s h at =
     let p = h.0 in
     let at' = rw h.1.saved at at in
     let there = at_target p m.to h.1.sound.target at' in
-    rw (h.1.left, other-other) (one_rank_back_in_board p.side m.to there.0)
+    rw (h.1.left, other-other) (in_board _ _ _ _ h.1.sound.board there.2)

@@ -1,6 +1,6 @@
 -- For boards and texts of moves: the squares of a set, one after another.
 use mathlib.Core.Bool.{and-true}
-use Rattle.std.proofs.Common.{◌≡◌, ℕ, zero, suc, ◌<◌, ◌≤◌, ◌+◌, inl, inr, Bool, true, false, not, ◌&&◌, ◌==◌, refl, sym, ◌∙◌, ap, arith, List, [], ◌∷◌, ◌-◌}
+use Rattle.std.proofs.Common.{◌≡◌, ℕ, zero, suc, ◌<◌, ◌≤◌, ◌+◌, inl, inr, Bool, true, false, not, ◌&&◌, ◌==◌, refl, sym, ◌∙◌, ap, arith, List, [], ◌∷◌}
 use Rattle.std.proofs.lemmas.Bool.{cases_Bool, lt-ltb, eq-eqb, ne_eqb, cases_lt}
 use Rattle.std.proofs.lemmas.Nat.Bits.{bit_at-zero}
 use Rattle.std.specs.List.{range_with_len, filter, flat_map}
@@ -61,7 +61,7 @@ pub members_first : (w v f : ℕ) → f < 64 → IsNearest true w f → ((k : �
 members_first w v f h n rest =
     rw (of_range w, of_range v)
     (filter_first (λ k. contains w k) (λ k. contains v k) f 64 0 (omega arith) (omega arith) n.here
-    (λ k l. n.nearer k (lt-ltb k f l)) rest (omega arith))
+    (λ k l. n.nearer k (lt-ltb _ _ l)) rest (omega arith))
 
 -- what is left out gives nothing
 flat_map-filter : {B : Type 0} (f : ℕ → List B) (q : ℕ → Bool) (n a : ℕ)

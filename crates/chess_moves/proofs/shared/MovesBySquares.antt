@@ -1,5 +1,6 @@
 -- For boards: the list of legal moves, put together from its parts.
 use Rattle.std.proofs.Common.{◌≡◌, ℕ, zero, suc, ◌+◌, ◌<◌, ◌≤◌, Bool, true, false, Option, Some, None, List, [], ◌∷◌, ◌++◌, length, get_or, map, take, refl, ◌∙◌, ap, arith, inl, inr, length-append}
+use Rattle.std.proofs.Math.Path.{fun_ext}
 use Rattle.std.proofs.lemmas.Bool.{cases_Bool, false_from_ne_true, both_ways}
 use Rattle.std.proofs.lemmas.List.Elements.{filter-append}
 use Rattle.std.specs.List.{filter, flat_map}
@@ -20,10 +21,6 @@ filter-flat_map q f [] = refl
 filter-flat_map q f (x ∷ xs) = filter-append q (f x) (flat_map f xs)
     ∙ ap (λ ys. filter q (f x) ++ ys) (filter-flat_map q f xs)
 
-flat_map-same : {A B : Type 0} (f g : A → List B) (xs : List A) → ((x : A) → f x ≡ g x) → flat_map f xs ≡ flat_map g xs
-flat_map-same f g [] h = refl
-flat_map-same f g (x ∷ xs) h = rw (h x, flat_map-same f g xs h) refl
-
 flat_map-empty : {A B : Type 0} (f : A → List B) (xs : List A) → ((x : A) → f x ≡ []) → flat_map f xs ≡ []
 flat_map-empty f [] h = refl
 flat_map-empty f (x ∷ xs) h = rw (h x) (flat_map-empty f xs h)
@@ -33,7 +30,8 @@ pub moves-by_start : (p : Setup) → moves p ≡ flat_map (λ a. moves_from p a)
 unfolding moves all_moves moves_from moves_between
 moves-by_start p =
     filter-flat_map (λ m. is_legal p m) (λ a. flat_map (λ b. map (move_of a b) promotions) squares) squares
-    ∙ flat_map-same _ _ squares (λ a. filter-flat_map (λ m. is_legal p m) (λ b. map (move_of a b) promotions) squares)
+    ∙ ap (λ (f : ℕ → List Move). flat_map f squares)
+    (fun_ext (λ a. filter-flat_map (λ m. is_legal p m) (λ b. map (move_of a b) promotions) squares))
 
 pub none_with : (p : Setup) (a b : ℕ) (kinds : List (Option Kind)) → ((k : Option Kind) → is_legal p (move_of a b k) ≡ false)
     → moves_with p a b kinds ≡ []
@@ -46,7 +44,7 @@ unfolding moves_from moves_between
 none_from p a n =
     flat_map-empty (λ b. moves_with p a b promotions) squares
     (λ b. none_with p a b promotions
-    (λ k. false_from_ne_true (is_legal p (move_of a b k)) (λ e. both_ways _ n (own_man_moves p (move_of a b k) e))))
+    (λ k. false_from_ne_true _ (λ e. both_ways _ n (own_man_moves p (move_of a b k) e))))
 
 abbrev pub promoting : List (Option Kind)
 promoting = Some Queen ∷ Some Rook ∷ Some Bishop ∷ Some Knight ∷ []
@@ -55,12 +53,12 @@ promoting = Some Queen ∷ Some Rook ∷ Some Bishop ∷ Some Knight ∷ []
 pub all_promote : (p : Setup) (a b : ℕ) → would_promote p a b ≡ true → moves_between p a b ≡ moves_with p a b promoting
 unfolding moves_between
 all_promote p a b e =
-    let none : is_legal p (move_of a b None) ≡ false = false_from_ne_true (is_legal p (move_of a b None))
+    let none : is_legal p (move_of a b None) ≡ false = false_from_ne_true _
     (λ h. both_ways _ (stays_below_last_rank p (move_of a b None) refl h) e) in
     rw none (refl {a = moves_with p a b promoting})
 
 not_promoted : (p : Setup) (a b : ℕ) (k : Kind) → would_promote p a b ≡ false → is_legal p (move_of a b (Some k)) ≡ false
-not_promoted p a b k n = false_from_ne_true (is_legal p (move_of a b (Some k)))
+not_promoted p a b k n = false_from_ne_true _
     (λ h. both_ways _ n (promotes_on_last_rank p (move_of a b (Some k)) k refl h))
 
 pub none_promotes : (p : Setup) (a b : ℕ) → would_promote p a b ≡ false

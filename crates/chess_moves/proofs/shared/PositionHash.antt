@@ -84,13 +84,6 @@ unfolding men_keys
 no_men_keys men none =
     rw by_range (no_lists (keys_on men) 64 0 (λ k l h. ap (λ v. square_keys k v) (none k (omega arith))))
 
-pub same_men_keys : (men others : Men)
-    → ((k : ℕ) → k < 64 → square_keys k (man_at others k) ≡ square_keys k (man_at men k))
-    → men_keys others ≡ men_keys men
-unfolding men_keys
-same_men_keys men others same =
-    rw by_range (same_lists (keys_on men) (keys_on others) 64 0 (λ k l h. same k (omega arith)))
-
 -- x, y and z joined, the last two the other way round
 turned : (x y z : ℕ) → bit_xor (bit_xor x y) z ≡ bit_xor (bit_xor x z) y
 turned x y z = xor_assoc x y z ∙ ap (λ v. bit_xor x v) (xor_comm y z) ∙ sym (xor_assoc x z y)

@@ -8,7 +8,8 @@ use Rattle.pgn_pieces.specs.declared.piece_end.Step.TheVariants.{Begins, Waits, 
 use Rattle.pgn_pieces.specs.declared.pieces.PieceFault.{PieceFault}
 use Rattle.pgn_pieces.specs.declared.pieces.PieceFault.TheVariants.{ReadFailed, NoMemory, InputTooLong}
 use Rattle.pgn_pieces.specs.declared.pieces.TheConstants.{PIECE_LEN}
-use Rattle.pgn_pieces.specs.Pieces.{lines_of, is_tag_line, is_event_line, is_moves_line, begins_piece, cut_lines, cut, piece_of}
+use Rattle.pgn_pieces.specs.Pieces.{lines_of, is_tag_line, is_event_line, is_moves_line, begins_piece, cut}
+use Rattle.pgn_pieces.specs.ties.Cutting.{cut_lines, piece_of}
 use Rattle.pgn_pieces.specs.Places.{line_ends}
 use Rattle.pgn_pieces.specs.Stream.{State}
 
@@ -38,6 +39,12 @@ abbrev pub MayGoOn : Bool → List ℕ → Type 0
 MayGoOn false line = line ≡ []
 MayGoOn true line = IsDecided line
 
+-- `seen` is what is known of the lines of a piece, `before` and then the beginning of one more, `line`
+pub record AreSeen (seen : Seen) (before : List (List ℕ)) (line : List ℕ) : Type 0 where
+  pub belongs : begins_piece before line ≡ false
+  pub moves : seen.moves ≡ (list_any is_moves_line before || is_moves_line line)
+  pub event : seen.event ≡ (list_any is_event_line before || is_event_line line)
+
 -- `seen` is what is known of the lines of a piece that has the bytes `piece` so far: the lines `before`, and then the
 -- beginning of one more, `line`
 pub record HasSeen (seen : Seen) (piece : List ℕ) : Type 0 where
@@ -46,10 +53,8 @@ pub record HasSeen (seen : Seen) (piece : List ℕ) : Type 0 where
   pub all : piece ≡ concat before ++ line
   pub plain : has_line_end line ≡ false
   pub cuts : (rest : List ℕ) → cut (piece ++ rest) ≡ cut_lines before (lines_of (line ++ rest))
-  pub belongs : begins_piece before line ≡ false
+  pub are : AreSeen seen before line
   pub inside : MayGoOn seen.inside line
-  pub moves : seen.moves ≡ (list_any is_moves_line before || is_moves_line line)
-  pub event : seen.event ≡ (list_any is_event_line before || is_event_line line)
 
 -- the piece ends before this text, however that goes on
 pub record Ends (piece text : List ℕ) : Type 0 where

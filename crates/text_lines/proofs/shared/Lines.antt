@@ -7,13 +7,6 @@ unfolding lines_of_parts
 nothing_left n true = refl
 nothing_left n false = refl
 
-front_cond : (b : Bool) (c : ℕ) (cs xs : List ℕ) → length xs ≤ length cs
-    → length (if b then xs else c ∷ cs) ≤ length (c ∷ cs)
-front_cond true c cs xs h = grind arith
-front_cond false c cs xs h = grind arith
-
 pub without_front_blanks-short : (xs : List ℕ) → length (without_front_blanks xs) ≤ length xs
 without_front_blanks-short [] = omega arith
-without_front_blanks-short (c ∷ cs) =
-    let ih : length (without_front_blanks cs) ≤ length cs = without_front_blanks-short cs in
-    front_cond (is_blank c) c cs (without_front_blanks cs) ih
+without_front_blanks-short (c ∷ cs) = let on = without_front_blanks-short cs in grind (arith, on)

@@ -1,6 +1,5 @@
 -- The king that is found is the only one (KingChecks).
 use Rattle.std.proofs.Common.{arith, rules, ◌≡◌, length}
-use Rattle.chess_base.specs.declared.man.Kind.TheVariants.{King}
 use Rattle.chess_base.proofs.KingChecks.{check_at_king, no_check_without_king}
 use Rattle.chess_base.proofs.shared.Men.{in_board}
 use Rattle.chess_base.proofs.attack.is_king_attacked.Goals as goal
@@ -14,5 +13,5 @@ returns-in-Some c =
     let all : length c.args.men.now ≡ 64 = search rules in
     let there = c.nearest_king.ensures.found c.in-Some.king c.in-Some.is in
     let decided = check_at_king c.args.men.now c.args.colour c.in-Some.king
-    (in_board c.args.men.now c.args.colour King c.in-Some.king all there) all c.requires there in
+    (in_board _ _ _ _ all there) all c.requires there in
     grind (arith, decided)

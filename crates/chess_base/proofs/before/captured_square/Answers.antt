@@ -3,8 +3,7 @@ use Rattle.chess_base.proofs.StaysSound.{en_passant_in_board}
 use Rattle.chess_base.specs.Moves.{is_en_passant}
 use Rattle.chess_base.proofs.before.captured_square.Goals as goal
 
-pub new-requires : goal.new-requires
-new-requires c =
+pub one_rank_back-requires : goal.one_rank_back-requires
+one_rank_back-requires c =
     let passed : is_en_passant c.args.setup.now c.args.m.now ≡ true = grind arith in
-    rw (c.forward-one_back.ensures, c.number.ensures.value, c.other.ensures)
-    (en_passant_in_board c.args.setup.now c.args.m.now c.requires passed)
+    en_passant_in_board c.args.setup.now c.args.m.now c.requires passed

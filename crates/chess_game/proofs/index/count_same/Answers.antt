@@ -5,31 +5,21 @@ use Rattle.std.proofs.lemmas.Bool.Decides.{nat_tests}
 use Rattle.chess_game.specs.ties.PlayedMoves.{IsKnown}
 use Rattle.chess_game.specs.declared.game.PlayedMove.{PlayedMove}
 use Rattle.chess_game.proofs.Kept.{at_place}
-use Rattle.chess_game.proofs.Walk.{walk_begins, walk_goes_on, walk_smaller, walk_found, walk_few, walk_ends, walk_ends_at_start, walk_stops}
+use Rattle.chess_game.proofs.Walk.{is_sought, walk_begins, walk_goes_on, walk_smaller, walk_found, walk_few, walk_ends, walk_ends_at_start, walk_stops}
 use Rattle.chess_game.proofs.index.count_same.Goals as goal
 use Rattle.chess_game.proofs.index.count_same.Goals.{Start}
 
 pub loop-at-init : goal.loop-at-init
 loop-at-init c =
     walk_begins c.args.start.now c.args.played_moves.now c.args.now.now c.args.head
-    (record {
-      follows = c.requires.follows;
-      hashes = c.requires.hashes;
-      sound = c.requires.made.2.sound;
-      sound_now = c.halfmove-sound.ensures.sound;
-    }) c.requires.head
+    (is_sought _ _ _ c.requires.follows c.requires.hashes c.requires.made.2.sound c.halfmove-sound.ensures.sound) c.requires.head
 
 pub returns-then-head-eq0 : goal.returns-then-head-eq0
 returns-then-head-eq0 c =
     let none : c.args.head ≡ 0 = grind (arith, nat_tests, c.if-head-eq0.true) in
     walk_ends c.args.start.now c.args.played_moves.now c.args.now.now c.args.head
     (walk_begins c.args.start.now c.args.played_moves.now c.args.now.now c.args.head
-    (record {
-      follows = c.requires.follows;
-      hashes = c.requires.hashes;
-      sound = c.requires.made.2.sound;
-      sound_now = c.halfmove-sound.ensures.sound;
-    }) c.requires.head) none
+    (is_sought _ _ _ c.requires.follows c.requires.hashes c.requires.made.2.sound c.halfmove-sound.ensures.sound) c.requires.head) none
 
 pub returns-then-at-oldest : goal.returns-then-at-oldest
 returns-then-at-oldest c =
@@ -55,12 +45,7 @@ overflow_add-result c =
 pub returns-then-is_same : goal.returns-then-is_same
 returns-then-is_same c =
     walk_found c.args.start.now c.args.played_moves.now c.args.now.now c.loop-at.at c.index-played_moves-at.result
-    (record {
-      follows = c.requires.follows;
-      hashes = c.requires.hashes;
-      sound = c.requires.made.2.sound;
-      sound_now = c.halfmove-sound.ensures.sound;
-    }) c.requires.entries c.loop-at.invariant c.loop-at-test.true c.index-played_moves-at.is
+    (is_sought _ _ _ c.requires.follows c.requires.hashes c.requires.made.2.sound c.halfmove-sound.ensures.sound) c.requires.entries c.loop-at.invariant c.loop-at-test.true c.index-played_moves-at.is
     (sym c.is_same.ensures ∙ c.if-is_same.true)
 
 pub loop-at-smaller : goal.loop-at-smaller
@@ -71,12 +56,7 @@ loop-at-smaller c =
 pub loop-at-preserved : goal.loop-at-preserved
 loop-at-preserved c =
     walk_goes_on c.args.start.now c.args.played_moves.now c.args.now.now c.loop-at.at c.index-played_moves-at.result
-    (record {
-      follows = c.requires.follows;
-      hashes = c.requires.hashes;
-      sound = c.requires.made.2.sound;
-      sound_now = c.halfmove-sound.ensures.sound;
-    }) c.requires.entries c.loop-at.invariant c.loop-at-test.true c.index-played_moves-at.is
+    (is_sought _ _ _ c.requires.follows c.requires.hashes c.requires.made.2.sound c.halfmove-sound.ensures.sound) c.requires.entries c.loop-at.invariant c.loop-at-test.true c.index-played_moves-at.is
     (sym c.is_same.ensures ∙ c.if-is_same.false)
 
 pub returns-then-at-eq0 : goal.returns-then-at-eq0

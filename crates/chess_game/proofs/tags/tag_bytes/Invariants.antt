@@ -1,9 +1,9 @@
 use Rattle.std.proofs.Common.{◌≡◌, length, map, take}
-use Rattle.chess_game.specs.Results.{tag_byte}
+use Rattle.chess_game.specs.Results.{shown_byte}
 use Rattle.chess_game.proofs.tags.tag_bytes.Given as goal
 
 abbrev pub invariant-loop-byte : goal.invariant-loop-byte
 invariant-loop-byte l = record {
-  text : l.kept.items ≡ map tag_byte (take l.byte-index l.bytes);
+  text : l.kept.items ≡ map shown_byte (take l.byte-index l.bytes);
   len : length l.kept.items ≡ l.byte-index;
 }

@@ -1,6 +1,5 @@
 use Rattle.std.proofs.Common.{sym, arith}
-use Rattle.std.proofs.lemmas.List.{length-take-le}
-use Rattle.pgn_pieces.proofs.LineKinds.{whole}
+use Rattle.std.proofs.lemmas.List.{length-take-le, take_all}
 use Rattle.pgn_pieces.proofs.line_kinds.first_bytes.Goals as goal
 
 pub slice_bounds-result-end : goal.slice_bounds-result-end
@@ -8,4 +7,4 @@ slice_bounds-result-end c =
     let many = c.if-line-gt-FRONT_LEN.true in sym (length-take-le 256 c.args.line.now (omega (arith, many)))
 
 pub returns : goal.returns
-returns c = let few = c.if-line-gt-FRONT_LEN.false in sym (whole 256 c.args.line.now (omega (arith, few)))
+returns c = let few = c.if-line-gt-FRONT_LEN.false in sym (take_all 256 c.args.line.now (omega (arith, few)))

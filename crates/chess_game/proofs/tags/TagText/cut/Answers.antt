@@ -2,7 +2,7 @@
 -- length cuts the same as 60.
 use Rattle.std.proofs.Common.{ap, map, arith}
 use Rattle.std.proofs.lemmas.List.{take_min}
-use Rattle.chess_game.specs.Results.{tag_byte}
+use Rattle.chess_game.specs.Results.{shown_byte}
 use Rattle.chess_game.proofs.TagTexts.{tag_text_is}
 use Rattle.chess_game.proofs.tags.TagText.cut.Goals as goal
 
@@ -11,4 +11,4 @@ invariant_of-result c = tag_text_is c.args.text.now c.tag_bytes.result.items c.m
     c.tag_bytes.ensures
 
 pub returns : goal.returns
-returns c = rw (c.tag_bytes.ensures, c.min.ensures) (ap (map tag_byte) (take_min 60 c.args.text.now))
+returns c = rw (c.tag_bytes.ensures, c.min.ensures) (ap (map shown_byte) (take_min 60 c.args.text.now))

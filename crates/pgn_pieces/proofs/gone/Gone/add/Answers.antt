@@ -1,9 +1,10 @@
 -- The bytes are kept or counted (Kept.counts_added).
-use Rattle.std.proofs.Common.{◌≡◌, ◌≤◌, ◌+◌, ◌-◌, ◌⊎◌, ◌++◌, length, take, drop, sym, ap, subst, inl, inr, ◌∙◌, arith}
+use Rattle.std.proofs.Common.{◌≡◌, ◌≤◌, ◌+◌, ◌-◌, ◌⊎◌, ◌++◌, length, take, drop, refl, sym, ap, subst, inl, inr, ◌∙◌, arith}
 use Rattle.std.proofs.lemmas.Bool.{cases_lt}
+use Rattle.std.proofs.lemmas.List.{take_rest}
 use Rattle.pgn_pieces.specs.Places.{line_ends}
 use Rattle.pgn_pieces.specs.ties.Held.{SameCounts}
-use Rattle.pgn_pieces.proofs.Kept.{known, counts_added, rest_is}
+use Rattle.pgn_pieces.proofs.Kept.{known, counts_added}
 use Rattle.pgn_pieces.proofs.gone.Gone.add.Goals as goal
 
 pub returns : goal.returns
@@ -21,14 +22,14 @@ returns c =
       | inl lt ↦ inl (omega (arith, here, len, lt))
       | inr ge ↦ inr (omega (arith, here, len, ge, few))
     ] in
-    let rest = rest_is k bytes in
+    let rest = take_rest bytes k in
     let ends : c.line_ends-ends.result ≡ line_ends (drop k bytes) = c.line_ends-ends.ensures.value ∙ ap line_ends rest in
+    let text = c.append.ensures.text in
+    let new : known c.append.new.buffer.items (s.line_ends + c.line_ends-ends.result)
+    (s.plain + (length (take (length bytes - k) (drop k bytes)) - c.line_ends-ends.result))
+    ≡ known (first ++ take k bytes) (s.line_ends + line_ends (drop k bytes))
+    (s.plain + (length (drop k bytes) - line_ends (drop k bytes))) = rw (text, ends, rest) refl in
     subst (λ xs. SameCounts (xs ++ bytes) (known c.append.new.buffer.items (s.line_ends + c.line_ends-ends.result)
     (s.plain + (length (take (length bytes - k) (drop k bytes)) - c.line_ends-ends.result)))) c.self.view_is
-    (subst (λ xs. SameCounts (known first s.line_ends s.plain ++ bytes) (known c.append.new.buffer.items
-    (s.line_ends + c.line_ends-ends.result) (s.plain + (length xs - c.line_ends-ends.result)))) (sym rest)
-    (subst (λ n. SameCounts (known first s.line_ends s.plain ++ bytes) (known c.append.new.buffer.items (s.line_ends + n)
-    (s.plain + (length (drop k bytes) - n)))) (sym ends)
-    (subst (λ xs. SameCounts (known first s.line_ends s.plain ++ bytes) (known xs (s.line_ends + line_ends (drop k bytes))
-    (s.plain + (length (drop k bytes) - line_ends (drop k bytes))))) (sym c.append.ensures.text)
-    (counts_added first bytes s.line_ends s.plain k few c.self.invariant.1 within room all))))
+    (subst (SameCounts (known first s.line_ends s.plain ++ bytes)) (sym new)
+    (counts_added first bytes s.line_ends s.plain k few c.self.invariant.1 within room all))

@@ -1,4 +1,4 @@
--- Each way out is a lemma of proofs/Seens.
+-- Each way out is a lemma of proofs/SeenLines.
 use Rattle.std.proofs.Common.{refl, sym, ◌∙◌, arith}
 use Rattle.std.proofs.lemmas.Bool.{not-true, not-false}
 use Rattle.pgn_pieces.specs.ties.Held.{IsDecided}
@@ -11,32 +11,34 @@ pub returns-then-self : goal.returns-then-self
 returns-then-self c = (
   c.requires.plain.0,
   omega arith,
-  open_inside c.args.self.now c.args.line.now c.requires.plain.1 c.if-self.true,
+  λ piece h. open_inside c.args.self.now c.if-self.true piece h c.args.line.now c.requires.plain.1,
 )
 
 pub returns-then-ends_at : goal.returns-then-ends_at
-returns-then-ends_at c =
+returns-then-ends_at c piece h =
     let k = c.kind_of-kind.ensures in
-    open_ends c.args.self.now c.args.line.now c.requires.plain.0 c.requires.plain.1 c.if-self.false
-    c.kind_of-kind.result.is_tag c.kind_of-kind.result.is_event k.tag k.event (sym c.ends_at.ensures ∙ c.if-ends_at.true)
+    open_ends c.args.self.now c.if-self.false c.kind_of-kind.result c.args.line.now k.tag k.event piece h
+    c.requires.plain.0 c.requires.plain.1 (sym c.ends_at.ensures ∙ c.if-ends_at.true)
 
 pub returns-then-line-lt-FRONT_LEN : goal.returns-then-line-lt-FRONT_LEN
 returns-then-line-lt-FRONT_LEN c = (
   refl,
-  open_waits c.args.self.now c.args.line.now c.requires.plain.1 c.if-self.false c.kind_of-kind.result.is_tag
-      c.kind_of-kind.ensures.tag (not-true c.kind_of-kind.result.is_tag c.if-not-kind.true),
+  λ piece h. (let k = c.kind_of-kind.ensures in
+      open_waits c.args.self.now c.if-self.false c.kind_of-kind.result c.args.line.now k.tag k.event piece h
+      c.requires.plain.1 (not-true c.kind_of-kind.result.is_tag c.if-not-kind.true)),
 )
 
 pub returns : goal.returns
 returns c =
     let k = c.kind_of-kind.ensures in
+    let new = c.add.ensures in
     let told : IsDecided c.args.line.now = elim c.else-not-kind.branch [
       | else-not-kind-via-then-not-kind+else-line-lt-FRONT_LEN w ↦ let long = w.if-line-lt-FRONT_LEN.false in decided_long c.args.line.now (omega (arith, long))
       | else-not-kind-via-else-not-kind w ↦ decided_tag c.args.line.now (sym k.tag ∙ not-false c.kind_of-kind.result.is_tag w.if-not-kind.false)
     ] in (
       c.requires.plain.0,
       omega arith,
-      open_comes c.args.self.now c.add.new.self c.args.line.now c.requires.plain.1 c.if-self.false told
-          c.kind_of-kind.result.is_tag c.kind_of-kind.result.is_event c.kind_of-kind.result.is_moves k.tag k.event k.moves
-          (sym c.ends_at.ensures ∙ c.if-ends_at.false) c.add.ensures.moves c.add.ensures.event c.add.ensures.inside,
+      λ piece h. open_comes c.args.self.now c.if-self.false c.kind_of-kind.result c.args.line.now k.tag k.event piece h
+          c.add.new.self k.moves (sym c.ends_at.ensures ∙ c.if-ends_at.false) new.moves new.event
+          c.requires.plain.1 told new.inside,
     )

@@ -1,24 +1,24 @@
--- Each way out is a lemma of proofs/Seens.
+-- Each way out is a lemma of proofs/SeenLines.
 use Rattle.std.proofs.Common.{refl, sym, ◌∙◌}
 use Rattle.pgn_pieces.proofs.SeenLines.{whole_inside, whole_ends, whole_comes}
 use Rattle.pgn_pieces.proofs.piece_end.Seen.see_whole.Goals as goal
 
 pub returns-then-self : goal.returns-then-self
-returns-then-self c =
+returns-then-self c piece h =
     let (body, is, plain) = c.requires.whole in
-    whole_inside c.args.self.now _ body c.args.line.now is plain c.if-self.true refl refl refl
+    whole_inside c.args.self.now c.if-self.true piece h _ body c.args.line.now is plain refl refl refl
 
 pub returns-then-ends_at : goal.returns-then-ends_at
-returns-then-ends_at c =
+returns-then-ends_at c piece more h =
     let (body, is, plain) = c.requires.whole in
     let k = c.kind_of-kind.ensures in
-    whole_ends c.args.self.now body c.args.line.now is plain c.if-self.false c.kind_of-kind.result.is_tag
-    c.kind_of-kind.result.is_event k.tag k.event (sym c.ends_at.ensures ∙ c.if-ends_at.true)
+    whole_ends c.args.self.now c.if-self.false c.kind_of-kind.result c.args.line.now k.tag k.event piece h body is plain
+    (sym c.ends_at.ensures ∙ c.if-ends_at.true) more
 
 pub returns : goal.returns
-returns c =
+returns c piece h =
     let (body, is, plain) = c.requires.whole in
     let k = c.kind_of-kind.ensures in
-    whole_comes c.args.self.now c.add.new.self body c.args.line.now is plain c.if-self.false
-    c.kind_of-kind.result.is_tag c.kind_of-kind.result.is_event c.kind_of-kind.result.is_moves k.tag k.event k.moves
-    (sym c.ends_at.ensures ∙ c.if-ends_at.false) c.add.ensures.moves c.add.ensures.event c.add.ensures.inside
+    let new = c.add.ensures in
+    whole_comes c.args.self.now c.if-self.false c.kind_of-kind.result c.args.line.now k.tag k.event piece h
+    c.add.new.self k.moves (sym c.ends_at.ensures ∙ c.if-ends_at.false) new.moves new.event body is plain new.inside

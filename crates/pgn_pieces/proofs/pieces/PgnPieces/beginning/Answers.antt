@@ -1,9 +1,9 @@
 -- The first bytes are those that are held, or those that were kept of what was let go.
 use Rattle.std.proofs.Common.{◌≡◌, ◌<◌, ◌++◌, [], length, take, drop, sym, ap, ◌∙◌, arith}
 use Rattle.std.proofs.lemmas.Bool.Decides.{nat_tests}
-use Rattle.std.proofs.lemmas.List.{take-append-le}
+use Rattle.std.proofs.lemmas.List.{take-append-le, nil_from_length}
 use Rattle.pgn_pieces.specs.Stream.{State}
-use Rattle.pgn_pieces.proofs.Kept.{no_bytes, first_held}
+use Rattle.pgn_pieces.proofs.Kept.{first_held}
 use Rattle.pgn_pieces.proofs.pieces.PgnPieces.beginning.Goals as goal
 
 pub returns-then-is_empty : goal.returns-then-is_empty
@@ -11,7 +11,7 @@ returns-then-is_empty c =
     let s = c.self.inside in
     let test = c.is_empty.ensures in
     let is = c.if-is_empty.true in
-    let none : s.gone ≡ [] = no_bytes s.gone (grind (arith, nat_tests, test, is)) in
+    let none : s.gone ≡ [] = nil_from_length s.gone (grind (arith, nat_tests, test, is)) in
     first_held s.held.items c.deref.result.now s.at s.len c.min-len.result c.deref.ensures.value c.min-len.ensures
     ∙ ap (λ xs. take 40 (xs ++ take s.len (drop s.at s.held.items))) (sym none)
     ∙ ap (λ (t : State). take 40 t.part) c.self.view_is

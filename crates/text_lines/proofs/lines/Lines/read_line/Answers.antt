@@ -5,7 +5,7 @@ use Rattle.byte_devices.specs.declared.traits.ReadFault.{ReadFault}
 use Rattle.text_lines.specs.Lines.{Held}
 use Rattle.text_lines.specs.ties.Kept.{HeldLine}
 use Rattle.text_lines.proofs.Reading.{piece_on, end_none, end_last, both_empty}
-use Rattle.text_lines.proofs.Trims.{empty_by_length}
+use Rattle.std.proofs.lemmas.List.{nil_from_length}
 use Rattle.text_lines.proofs.lines.Lines.read_line.Goals as goal
 
 pub returns-then-is_empty-clause-next : goal.returns-then-is_empty-clause-next
@@ -17,10 +17,10 @@ returns-then-is_empty-clause-next g c =
     end_none ReadFault g.row.N (seen c.args.reader.now) (seen c.loop-self.reader) (seen c.fill.new.reader)
     c.args.self.now c.loop-self.self _ _ c.loop-self.invariant.0 c.fill.new.self c.loop-self.invariant.1 none
     c.in_ok-fill.ensures.2
-    (empty_by_length c.fill.new.self (sym c.in_ok-fill.ensures.0 ∙ c.if-branch-eq0.true))
-    (empty_by_length c.self.inside.part (grind arith))
-    (both_empty _ _ (empty_by_length c.self.inside.part (grind arith))
-    (empty_by_length c.fill.new.self (sym c.in_ok-fill.ensures.0 ∙ c.if-branch-eq0.true)))
+    (nil_from_length c.fill.new.self (sym c.in_ok-fill.ensures.0 ∙ c.if-branch-eq0.true))
+    (nil_from_length c.self.inside.part (grind arith))
+    (both_empty _ _ (nil_from_length c.self.inside.part (grind arith))
+    (nil_from_length c.fill.new.self (sym c.in_ok-fill.ensures.0 ∙ c.if-branch-eq0.true)))
 
 pub returns-then-branch-eq0-clause-next : goal.returns-then-branch-eq0-clause-next
 returns-then-branch-eq0-clause-next g c =
@@ -31,10 +31,10 @@ returns-then-branch-eq0-clause-next g c =
     end_last ReadFault g.row.N (seen c.args.reader.now) (seen c.loop-self.reader) (seen c.fill.new.reader)
     c.args.self.now c.loop-self.self _ _ c.loop-self.invariant.0 c.fill.new.self c.finish.new.line
     c.loop-self.invariant.1 none c.in_ok-fill.ensures.2
-    (empty_by_length c.fill.new.self (sym c.in_ok-fill.ensures.0 ∙ c.if-branch-eq0.true)) (grind arith)
+    (nil_from_length c.fill.new.self (sym c.in_ok-fill.ensures.0 ∙ c.if-branch-eq0.true)) (grind arith)
     c.finish.ensures.line
     (both_empty _ _ c.finish.ensures.empty
-    (empty_by_length c.fill.new.self (sym c.in_ok-fill.ensures.0 ∙ c.if-branch-eq0.true)))
+    (nil_from_length c.fill.new.self (sym c.in_ok-fill.ensures.0 ∙ c.if-branch-eq0.true)))
 
 pub loop-self-preserved : goal.loop-self-preserved
 loop-self-preserved g c =
