@@ -9,7 +9,8 @@ use Rattle.std.proofs.lemmas.List.{append_cancel_left}
 use Rattle.std.proofs.lemmas.Fmt.{decimal_injective, digits_decimal}
 use Rattle.std.proofs.lemmas.Str.Parse.{IsNumeralModel, numerals_by_value}
 use Rattle.chess_base.specs.Letters.{is_digit, new_line}
-use Rattle.match_runner.specs.Log.{Entry, engine_text, entries_text, log_line, shown}
+use Rattle.chess_game.specs.Results.{shown_byte}
+use Rattle.match_runner.specs.Log.{Entry, engine_text, entries_text, log_line}
 use Rattle.match_runner.specs.laws.Entries.{IsShown, LogsHaveOneReading, is_printable}
 
 -- no byte is `c`
@@ -41,25 +42,25 @@ digits_without [] h = tt
 digits_without (c ∷ cs) h =
     let p = and_parts (is_digit c) (list_all is_digit cs) h in (digit_byte c p.0, digits_without cs p.1)
 
-shown_byte : (c : ℕ) → is_printable c ≡ true → (shown c ≡ c) × ((c == new_line) ≡ false)
-shown_byte c h = (grind (arith, nat_tests), grind (arith, nat_tests))
+printable_byte : (c : ℕ) → is_printable c ≡ true → (shown_byte c ≡ c) × ((c == new_line) ≡ false)
+printable_byte c h = (grind (arith, nat_tests), grind (arith, nat_tests))
 
-shown_text : (t : List ℕ) → list_all is_printable t ≡ true → (map shown t ≡ t) × Without new_line t
+shown_text : (t : List ℕ) → list_all is_printable t ≡ true → (map shown_byte t ≡ t) × Without new_line t
 shown_text [] h = (refl, tt)
 shown_text (c ∷ cs) h =
     let p = and_parts (is_printable c) (list_all is_printable cs) h in
-    let b = shown_byte c p.0 in
+    let b = printable_byte c p.0 in
     let r = shown_text cs p.1 in
-    (ap (λ (d : ℕ). d ∷ map shown cs) b.0 ∙ ap (λ (l : List ℕ). c ∷ l) r.0, (b.1, r.1))
+    (ap (λ (d : ℕ). d ∷ map shown_byte cs) b.0 ∙ ap (λ (l : List ℕ). c ∷ l) r.0, (b.1, r.1))
 
 -- a line and what follows, from left to right
-spread : (moment mark : ℕ) (is_first : Bool) (text shows rest : List ℕ) → map shown text ≡ shows
+spread : (moment mark : ℕ) (is_first : Bool) (text shows rest : List ℕ) → map shown_byte text ≡ shows
     → log_line moment mark is_first text ++ rest
     ≡ decimal moment ++ 32 ∷ mark ∷ (engine_text is_first ++ (shows ++ new_line ∷ rest))
 spread moment mark is_first text shows rest e =
     let a : List ℕ = 32 ∷ mark ∷ engine_text is_first in
-    append_assoc (decimal moment ++ a) (map shown text ++ new_line ∷ []) rest
-    ∙ ap (λ (l : List ℕ). (decimal moment ++ a) ++ l) (append_assoc (map shown text) (new_line ∷ []) rest)
+    append_assoc (decimal moment ++ a) (map shown_byte text ++ new_line ∷ []) rest
+    ∙ ap (λ (l : List ℕ). (decimal moment ++ a) ++ l) (append_assoc (map shown_byte text) (new_line ∷ []) rest)
     ∙ ap (λ (l : List ℕ). (decimal moment ++ a) ++ (l ++ new_line ∷ rest)) e
     ∙ append_assoc (decimal moment) a (shows ++ new_line ∷ rest)
 

@@ -1,10 +1,11 @@
 -- What a log of a match holds: a line for each line that an engine sends or is sent, as XBoard's debug file has them.
-use Rattle.std.specs.Prelude.{◌≡◌, ℕ, ◌==◌, ◌&&◌, nat_le, Bool, true, false, if◌then◌else◌, List, [], ◌∷◌, ◌++◌, flat_map, map, codes, decimal, Some, None}
+use Rattle.std.specs.Prelude.{◌≡◌, ℕ, ◌==◌, Bool, true, false, if◌then◌else◌, List, [], ◌∷◌, ◌++◌, flat_map, map, codes, decimal, Some, None}
 use Rattle.std.specs.List.{onto_first}
 use Rattle.chess_base.specs.Letters.{byte, new_line}
 use Rattle.chess_base.specs.declared.man.Colour.{Colour}
 use Rattle.chess_base.specs.Men.{same_colour}
 use Rattle.byte_devices.specs.Devices.{OutputState, Begins}
+use Rattle.chess_game.specs.Results.{shown_byte}
 use Rattle.chess_match.specs.Events.{Line, Opened, OutputEnds, FailsToRead, FailsToWrite}
 use Rattle.chess_match.specs.Notes.{Note, Happened, Gives}
 use Rattle.chess_match.specs.Run.{Flushed, FlushedThenFailed}
@@ -19,10 +20,6 @@ pub record Entry : Type 0 where
   pub is_first : Bool
   pub text : List ℕ
 
--- a byte as the log shows it: `?` (63) for what is no printable ASCII
-abbrev pub shown : ℕ → ℕ
-shown b = if nat_le 32 b && nat_le b 126 then b else byte "?"
-
 -- how the log names an engine: that of `--white` (`is_first`) is `first`, the other `second`, whichever side they have
 abbrev pub engine_text : Bool → List ℕ
 engine_text is_first = if is_first then codes "first : " else codes "second: "
@@ -34,7 +31,7 @@ head moment mark is_first = decimal moment ++ ((32 ∷ mark ∷ []) ++ engine_te
 -- a line as it is written, such as `312 <first : move e2e4` and `\n`, from its milliseconds, its mark, whether its engine
 -- is that of `--white`, and its text, with `?` for what can't be shown
 abbrev pub log_line : ℕ → ℕ → Bool → List ℕ → List ℕ
-log_line moment mark is_first text = head moment mark is_first ++ (map shown text ++ new_line ∷ [])
+log_line moment mark is_first text = head moment mark is_first ++ (map shown_byte text ++ new_line ∷ [])
 
 -- these lines as they are written, one after another
 abbrev pub entries_text : List Entry → List ℕ

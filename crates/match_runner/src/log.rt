@@ -4,9 +4,10 @@ ghost use Rattle.std.specs.Prelude.{◌≡◌, ◌<◌, ◌∷◌, [], decimal, 
 ghost use Rattle.arrayvec.specs.ArrayVec.{array_vec_len};
 ghost use Rattle.chess_base.specs.Letters.{new_line};
 ghost use Rattle.chess_base.specs.Men.{same_colour};
+ghost use Rattle.chess_game.specs.Results.{shown_byte};
 ghost use Rattle.chess_match.specs.Played.{PlayedNoting};
 ghost use Rattle.chess_match.specs.Run.{ports_of, text_read};
-ghost use Rattle.match_runner.specs.Log.{Logged, Logs, engine_text, head, lines_in, log_line, log_seen, log_text, shown};
+ghost use Rattle.match_runner.specs.Log.{Logged, Logs, engine_text, head, lines_in, log_line, log_seen, log_text};
 ghost use Rattle.match_runner.specs.ties.Logging.{Adds, IsLog};
 
 use arrayvec::ArrayVec;
@@ -26,8 +27,8 @@ pub(crate) struct Pending {
 }
 
 // A byte as the log shows it: `?` for what is no printable ASCII.
-fn shown(byte: u8) -> u8
-    ensures { result ≡ shown byte }
+fn shown_byte(byte: u8) -> u8
+    ensures { result ≡ shown_byte byte }
 {
     if 32 <= byte && byte <= 126 {
         byte
@@ -111,10 +112,10 @@ impl Pending {
 
     // Logs a text, with `?` for each byte that is no printable ASCII.
     fn add_shown<E: Output>(&mut self, output: &mut E, text: &[u8])
-        ensures { Adds (E.seen output.old) (E.seen output.new) self.old self.new (map shown text.now) }
+        ensures { Adds (E.seen output.old) (E.seen output.new) self.old self.new (map shown_byte text.now) }
     {
         for byte in text {
-            self.add(output, shown(*byte));
+            self.add(output, shown_byte(*byte));
         }
     }
 
