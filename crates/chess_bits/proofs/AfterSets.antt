@@ -3,7 +3,6 @@ use mathlib.Core.Bool.{and-true}
 use Rattle.std.proofs.Common.{◌≡◌, ℕ, ◌<◌, inl, inr, Bool, true, false, not, ◌&&◌, ◌||◌, ◌==◌, cond, refl, Option, Some, None, is_none}
 use Rattle.std.proofs.lemmas.Bool.{and_right, cases_Bool, eqb-true, eq-eqb}
 use Rattle.chess_base.specs.declared.man.Colour.{Colour}
-use Rattle.chess_base.specs.declared.man.Colour.TheVariants.{White, Black}
 use Rattle.chess_base.specs.declared.man.Kind.{Kind}
 use Rattle.chess_base.specs.declared.man.Kind.TheVariants.{King, Rook}
 use Rattle.chess_base.specs.declared.man.Man.{Man}
@@ -18,6 +17,7 @@ use Rattle.chess_base.proofs.shared.MenAfter.{man_after, man_at-men_after}
 use Rattle.chess_base.proofs.shared.Men.{not_is_man}
 use Rattle.chess_base.proofs.shared.Squares.{some_square-at, some_square-none}
 use Rattle.chess_moves.specs.Sets.{contains}
+use Rattle.chess_bits.proofs.BoardSets.{theirs_of}
 use Rattle.chess_bits.specs.ties.Changes.{is_changed, is_filled}
 use Rattle.chess_bits.specs.ties.Occupancy.{IsLater}
 
@@ -29,19 +29,8 @@ filled_by false true l a k c h = refl
 filled_by false false true a k c h = and_right (not (is_none k)) false refl
 filled_by false false false a k c h = and-true (not (is_none k))
 
--- the occupied squares after a move
-pub occupied_after : (p : Setup) (m : Move) (k : ℕ) → is_none (arriving_man (man_at p.men m.from) m.promotion) ≡ false
-    → k < 64
-    → (is_filled p m k || (not (is_none (man_at p.men k)) && not (is_changed p m k)))
-    ≡ not (is_none (man_at (men_after p m) k))
-unfolding man_after
-occupied_after p m k h l =
-    rw (man_at-men_after p m k l)
-    (filled_by (mover_end p m == k) (is_square (castling_rook_to p m) k)
-    (is_square (second_square_emptied p m) k || (m.from == k))
-    (arriving_man (man_at p.men m.from) m.promotion) (man_at p.men k) p.side h)
-
-kept_by : (t r l : Bool) (a k : Option Man) (c d : Colour) (kind : Kind)
+-- what is kept of another colour
+pub kept_by : (t r l : Bool) (a k : Option Man) (c d : Colour) (kind : Kind)
     → is_man d kind a ≡ false → is_man d kind (Some (record { colour = c; kind = Rook })) ≡ false
     → (is_man d kind k && not (t || r || l))
     ≡ is_man d kind (cond t a (cond r (Some (record { colour = c; kind = Rook })) (cond l None k)))
@@ -50,25 +39,6 @@ kept_by true r l a k c d x h e = rw h (and_right (is_man d x k) false refl)
 kept_by false true l a k c d x h e = rw e (and_right (is_man d x k) false refl)
 kept_by false false true a k c d x h e = and_right (is_man d x k) false refl
 kept_by false false false a k c d x h e = and-true (is_man d x k)
-
-other_not_own : (c : Colour) (k : Kind) (kind : Kind) → is_man (other c) kind (Some (record { colour = c; kind = k }))
-    ≡ false
-unfolding is_man
-other_not_own White k x = refl
-other_not_own Black k x = refl
-
--- the enemy's pieces after a move: those on squares that did not change
-pub enemy_after : (p : Setup) (m : Move) (kind : Kind) (k : ℕ)
-    → is_of (other p.side) (arriving_man (man_at p.men m.from) m.promotion) ≡ false → k < 64
-    → (is_man (other p.side) kind (man_at p.men k) && not (is_changed p m k)) ≡ is_man (other p.side) kind
-    (man_at (men_after p m) k)
-unfolding man_after
-enemy_after p m x k h l =
-    rw (man_at-men_after p m k l)
-    (kept_by (mover_end p m == k) (is_square (castling_rook_to p m) k)
-    (is_square (second_square_emptied p m) k || (m.from == k))
-    (arriving_man (man_at p.men m.from) m.promotion) (man_at p.men k) p.side (other p.side) x
-    (not_is_man (other p.side) x (arriving_man (man_at p.men m.from) m.promotion) h) (other_not_own p.side Rook x))
 
 -- where the king's square is known, a check is an attack on it
 pub check_is : (men : Men) (c : Colour) (king : ℕ) → king < 64
@@ -95,7 +65,18 @@ pub later_after : (p : Setup) (m : Move) (changed filled : ℕ)
     → ((k : ℕ) → k < 64 → contains changed k ≡ is_changed p m k)
     → ((k : ℕ) → k < 64 → contains filled k ≡ is_filled p m k)
     → IsLater changed filled (other p.side) p.men (men_after p m)
+unfolding man_after
 later_after p m changed filled some own c f = record {
-  of_all = λ k l. rw (c k l, f k l) (occupied_after p m k some l);
-  of_man = λ x k l. rw (c k l) (enemy_after p m x k own l);
+  of_all = λ k l.
+      rw (c k l, f k l, man_at-men_after p m k l)
+      (filled_by (mover_end p m == k) (is_square (castling_rook_to p m) k)
+      (is_square (second_square_emptied p m) k || (m.from == k))
+      (arriving_man (man_at p.men m.from) m.promotion) (man_at p.men k) p.side some);
+  of_man = λ x k l.
+      rw (c k l, man_at-men_after p m k l)
+      (kept_by (mover_end p m == k) (is_square (castling_rook_to p m) k)
+      (is_square (second_square_emptied p m) k || (m.from == k))
+      (arriving_man (man_at p.men m.from) m.promotion) (man_at p.men k) p.side (other p.side) x
+      (not_is_man (other p.side) x (arriving_man (man_at p.men m.from) m.promotion) own)
+      (not_is_man (other p.side) x _ (theirs_of p.side (record { colour = p.side; kind = Rook }) refl)));
 }

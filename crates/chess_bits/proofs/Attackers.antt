@@ -1,18 +1,19 @@
 -- Who attacks a square, seen from that square.
-use Rattle.std.proofs.Common.{◌≡◌, ℕ, ◌<◌, Bool, true, false, not, ◌&&◌, ◌||◌, ◌==◌, refl, ◌∙◌, ap, arith, Option, Some, None, is_none}
+use Rattle.std.proofs.Common.{◌≡◌, ℕ, ◌<◌, Bool, true, false, not, ◌&&◌, ◌||◌, ◌==◌, refl, ◌∙◌, arith, Option, Some, None, is_none}
 use Rattle.std.proofs.lemmas.Bool.{eqb-true}
 use Rattle.std.proofs.lemmas.Bool.Decides.{nat_tests}
-use Rattle.std.specs.Int.{abs_diff}
 use Rattle.chess_base.specs.declared.man.Colour.{Colour}
 use Rattle.chess_base.specs.declared.man.Colour.TheVariants.{White, Black}
 use Rattle.chess_base.specs.declared.man.Kind.{Kind}
 use Rattle.chess_base.specs.declared.man.Kind.TheVariants.{King, Queen, Rook, Bishop, Knight, Pawn}
 use Rattle.chess_base.specs.declared.man.Man.{Man}
-use Rattle.chess_base.specs.Squares.{file, rank, share_rank_or_file, share_diagonal, is_between, is_between_on_file, is_between_on_rank, is_between_on_diagonal, some_square}
+use Rattle.chess_base.specs.Squares.{file, rank, share_rank_or_file, share_diagonal, is_between, some_square}
 use Rattle.chess_base.specs.Men.{Men, man_at, other, same_colour, same_kind, is_of, is_man}
 use Rattle.chess_base.specs.Attacks.{is_clear, could_capture, attacks, is_attacked}
 use Rattle.chess_base.specs.shared.Splits.{could_capture_as}
+use Rattle.chess_base.specs.declared.line.Line.{Line}
 use Rattle.chess_base.specs.declared.line.Line.TheVariants.{Rank, File, Diagonal, Antidiagonal}
+use Rattle.chess_base.specs.shared.Lines.{line_number, same_line}
 use Rattle.chess_base.proofs.shared.Geometry.{abs_diff_back, between_back}
 use Rattle.chess_base.proofs.shared.Squares.{each_square_same, some_square_same}
 use Rattle.chess_bits.specs.declared.table.Shape.TheVariants as shape
@@ -23,23 +24,25 @@ use Rattle.chess_bits.specs.ties.Rays.{is_on_ray, is_open}
 use Rattle.chess_bits.specs.ties.Shapes.{in_shape}
 use Rattle.chess_bits.specs.ties.Occupancy.{IsOccupied}
 
--- the four rays along lines, and the four along diagonals
+pub eq_back : (m n : ℕ) → (m == n) ≡ (n == m)
+eq_back m n = grind (arith, nat_tests)
+
+-- the two rays along a line
+pub both_rays : (l : Line) (a b : ℕ) (o : Bool)
+    → ((is_on_ray l true b a && o) || (is_on_ray l false b a && o)) ≡ (not (a == b) && same_line l a b && o)
+both_rays l a b o = rw (eq_back (line_number l a) (line_number l b)) (grind (arith, nat_tests))
+
+-- the two lines of a rook, and of a bishop
 pub on_lines : (a b : ℕ) (o : Bool)
-    → (((is_on_ray Rank true b a && o) || (is_on_ray Rank false b a && o))
-    || ((is_on_ray File true b a && o) || (is_on_ray File false b a && o)))
+    → ((not (a == b) && same_line Rank a b && o) || (not (a == b) && same_line File a b && o))
     ≡ (not (a == b) && share_rank_or_file a b && o)
-on_lines a b true = grind (arith, nat_tests)
-on_lines a b false = grind (arith, nat_tests)
+on_lines a b o = grind arith
 
 pub on_diagonals : (a b : ℕ) (o : Bool)
-    → (((is_on_ray Diagonal true b a && o) || (is_on_ray Diagonal false b a && o))
-    || ((is_on_ray Antidiagonal true b a && o) || (is_on_ray Antidiagonal false b a && o)))
+    → ((not (a == b) && same_line Diagonal a b && o) || (not (a == b) && same_line Antidiagonal a b && o))
     ≡ (not (a == b) && share_diagonal a b && o)
 on_diagonals a b true = grind (arith, nat_tests)
 on_diagonals a b false = grind (arith, nat_tests)
-
-pub eq_back : (m n : ℕ) → (m == n) ≡ (n == m)
-eq_back m n = grind (arith, nat_tests)
 
 pub de_morgan : (p q : Bool) → not (p && not q) ≡ (not p || q)
 de_morgan p q = grind arith
@@ -72,24 +75,6 @@ hit l d k n p s kind =
     || ((k && (s && same_kind King kind)) || (n && (s && same_kind Knight kind)))
     || (p && (s && same_kind Pawn kind))
 
-hit_king : (l d k n p s : Bool) → hit l d k n p s King ≡ (s && k)
-hit_king l d k n p s = grind arith
-
-hit_queen : (l d k n p s : Bool) → hit l d k n p s Queen ≡ (s && (l || d))
-hit_queen l d k n p s = grind arith
-
-hit_rook : (l d k n p s : Bool) → hit l d k n p s Rook ≡ (s && l)
-hit_rook l d k n p s = grind arith
-
-hit_bishop : (l d k n p s : Bool) → hit l d k n p s Bishop ≡ (s && d)
-hit_bishop l d k n p s = grind arith
-
-hit_knight : (l d k n p s : Bool) → hit l d k n p s Knight ≡ (s && n)
-hit_knight l d k n p s = grind arith
-
-hit_pawn : (l d k n p s : Bool) → hit l d k n p s Pawn ≡ (s && p)
-hit_pawn l d k n p s = grind arith
-
 pub queen_parts : (e l d o : Bool) → ((e && l && o) || (e && d && o)) ≡ (e && (l || d) && o)
 queen_parts e l d o = grind arith
 
@@ -103,13 +88,12 @@ seen men c a b s kind =
 seen_kind : (men : Men) (c : Colour) (a b : ℕ) (s : Bool) (kind : Kind)
     → seen men c a b s kind ≡ (s && could_capture men c kind a b)
 unfolding could_capture
-seen_kind men c a b s King = hit_king _ _ _ _ _ s ∙ ap (λ x. s && x) (king_back men c a b)
-seen_kind men c a b s Queen = hit_queen _ _ _ _ _ s
-    ∙ ap (λ x. s && x) (queen_parts (not (a == b)) (share_rank_or_file a b) (share_diagonal a b) (is_clear men a b))
-seen_kind men c a b s Rook = hit_rook _ _ _ _ _ s
-seen_kind men c a b s Bishop = hit_bishop _ _ _ _ _ s
-seen_kind men c a b s Knight = hit_knight _ _ _ _ _ s ∙ ap (λ x. s && x) (knight_back men c a b)
-seen_kind men c a b s Pawn = hit_pawn _ _ _ _ _ s ∙ ap (λ x. s && x) (pawn_back men c a b)
+seen_kind men c a b s King = grind (arith, king_back men c a b)
+seen_kind men c a b s Queen = grind arith
+seen_kind men c a b s Rook = grind arith
+seen_kind men c a b s Bishop = grind arith
+seen_kind men c a b s Knight = grind (arith, knight_back men c a b)
+seen_kind men c a b s Pawn = grind (arith, pawn_back men c a b)
 
 -- a piece's colour is the one that was asked for
 own_reach : (men : Men) (c d : Colour) (kind : Kind) (a b : ℕ) → (same_colour c d && could_capture men c kind a b)

@@ -111,7 +111,3 @@ open_between w a b u v t la lb on made met none =
     none ∙ none_square (λ k. contains u k)
     ∙ each_square_same _ _
     (λ k low. ap not (met k ∙ ap (λ s. s && contains w k) (by_line a b v k la lb on (λ l same. made l same k low))))
-
--- a set of squares on lines of one is those that are seen from there
-pub seen_on : (n s m o t : Bool) → t ≡ (((n && s) && m) && o) → t ≡ ((n && s && o) && m)
-seen_on n s m o t e = grind (arith, e)

@@ -3,37 +3,35 @@ use mathlib.Core.Bool.{and-true, and-false, or-true, or-false}
 use Rattle.std.proofs.Common.{◌≡◌, ℕ, ◌<◌, inl, inr, true, false, not, ◌&&◌, ◌||◌, ◌==◌, refl, sym, ◌∙◌, ap, arith, Option, Some, None, List, [], ◌∷◌, zero, suc, length, get_or, set, get_or-set_same, get_or-set_other}
 use Rattle.std.proofs.lemmas.Bool.{cases_eq, eq-eqb, ne_eqb}
 use Rattle.chess_base.specs.declared.man.Colour.{Colour}
-use Rattle.chess_base.specs.declared.man.Colour.TheVariants.{White, Black}
 use Rattle.chess_base.specs.declared.man.Kind.{Kind}
 use Rattle.chess_base.specs.declared.man.Man.{Man}
 use Rattle.chess_base.specs.Men.{Men, man_at, is_of, is_man, other, kind_number}
 use Rattle.chess_moves.specs.Sets.{contains}
 use Rattle.std.proofs.lemmas.List.{set-get_or}
-use Rattle.chess_base.proofs.shared.Men.{is_man-none, is_of-none}
-use Rattle.chess_bits.specs.ties.KindSets.{IsKinds}
+use Rattle.chess_base.proofs.shared.Changes.{not_same_other}
+use Rattle.chess_base.proofs.shared.Men.{not_is_man, is_of-none, same_colour-self}
+use Rattle.chess_bits.specs.ties.KindSets.{IsAll, IsKinds}
 
 -- the sets of a colour none of whose pieces came or went
 pub kinds_kept : (sets : List ℕ) (men : Men) (c : Colour) (s : ℕ) (o : Option Man) → length men ≡ 64 → s < 64
-    → ((y : Kind) → is_man c y (man_at men s) ≡ is_man c y o) → IsKinds sets c men → IsKinds sets c (set men s o)
-kinds_kept sets men c s o all ls same h = record { of_kind = at }
+    → is_of c (man_at men s) ≡ false → is_of c o ≡ false → IsKinds sets c men → IsKinds sets c (set men s o)
+kinds_kept sets men c s o all ls was is h = record { of_kind = at }
   where
     at : (y : Kind) (k : ℕ) → k < 64 → contains (get_or sets (kind_number y) 0) k ≡ is_man c y (get_or (set men s o) k None)
     at y k l =
         let in_men : s < length men = omega arith in
         elim (cases_eq k s) [
-          | inl here ↦ rw (here, get_or-set_same) (h.of_kind y s ls ∙ same y)
+          | inl here ↦ rw (here, get_or-set_same)
+              (h.of_kind y s ls ∙ not_is_man c y (man_at men s) was ∙ sym (not_is_man c y o is))
           | inr away ↦ rw (get_or-set_other men s k o None away) (h.of_kind y k l)
         ]
 
-abbrev pub IsAll : ℕ → Colour → Men → Type 0
-IsAll w c men = (k : ℕ) → k < 64 → contains w k ≡ is_of c (man_at men k)
-
 pub all_kept : (w : ℕ) (men : Men) (c : Colour) (s : ℕ) (o : Option Man) → length men ≡ 64 → s < 64
-    → is_of c (man_at men s) ≡ is_of c o → IsAll w c men → IsAll w c (set men s o)
-all_kept w men c s o all ls same h = λ k l.
+    → is_of c (man_at men s) ≡ false → is_of c o ≡ false → IsAll w c men → IsAll w c (set men s o)
+all_kept w men c s o all ls was is h = λ k l.
     let in_men : s < length men = omega arith in
     elim (cases_eq k s) [
-      | inl here ↦ rw (here, get_or-set_same) (h s ls ∙ same)
+      | inl here ↦ rw (here, get_or-set_same) (h s ls ∙ was ∙ sym is)
       | inr away ↦ rw (get_or-set_other men s k o None away) (h k l)
     ]
 
@@ -58,44 +56,23 @@ all_lift w v men c s all ls made h = λ k l.
 
 -- ---- colours
 
-pub theirs_man : (d : Colour) (m : Man) (y : Kind) → m.colour ≡ d → is_man (other d) y (Some m) ≡ false
-unfolding is_man
-theirs_man White m y e = rw e refl
-theirs_man Black m y e = rw e refl
-
 pub theirs_of : (d : Colour) (m : Man) → m.colour ≡ d → is_of (other d) (Some m) ≡ false
 unfolding is_of
-theirs_of White m e = rw e refl
-theirs_of Black m e = rw e refl
+theirs_of d m e = rw e (not_same_other d)
 
 pub own_of : (d : Colour) (m : Man) → m.colour ≡ d → is_of d (Some m) ≡ true
 unfolding is_of
-own_of White m e = rw e refl
-own_of Black m e = rw e refl
+own_of d m e = rw e (same_colour-self d)
 
 pub as_own : (d : Colour) (m : Man) → m.colour ≡ d → Some m ≡ Some (record { colour = d; kind = m.kind })
 as_own d m e = ap (λ (c : Colour). let man : Man = record { colour = c; kind = m.kind } in Some man) e
 
--- the other colour's sets stay
-pub theirs_lifted : (sets : List ℕ) (men : Men) (d : Colour) (s : ℕ) (m : Man) → length men ≡ 64 → s < 64 → m.colour ≡ d
-    → man_at men s ≡ Some m → IsKinds sets (other d) men → IsKinds sets (other d) (set men s None)
-theirs_lifted sets men d s m all ls e at h = kinds_kept sets men (other d) s None all ls
-    (λ y. ap (is_man (other d) y) at ∙ theirs_man d m y e ∙ sym (is_man-none (other d) y None refl)) h
+-- no piece of the other colour is there
+pub theirs_at : (d : Colour) (m : Man) (o : Option Man) → o ≡ Some m → m.colour ≡ d → is_of (other d) o ≡ false
+theirs_at d m o at e = ap (is_of (other d)) at ∙ theirs_of d m e
 
-pub theirs_put : (sets : List ℕ) (men : Men) (d : Colour) (s : ℕ) (m : Man) → length men ≡ 64 → s < 64 → m.colour ≡ d
-    → man_at men s ≡ None → IsKinds sets (other d) men → IsKinds sets (other d) (set men s (Some m))
-theirs_put sets men d s m all ls e at h = kinds_kept sets men (other d) s (Some m) all ls
-    (λ y. ap (is_man (other d) y) at ∙ is_man-none (other d) y None refl ∙ sym (theirs_man d m y e)) h
-
-pub all_theirs_lifted : (w : ℕ) (men : Men) (d : Colour) (s : ℕ) (m : Man) → length men ≡ 64 → s < 64 → m.colour ≡ d
-    → man_at men s ≡ Some m → IsAll w (other d) men → IsAll w (other d) (set men s None)
-all_theirs_lifted w men d s m all ls e at h =
-    all_kept w men (other d) s None all ls (ap (is_of (other d)) at ∙ theirs_of d m e ∙ sym (is_of-none (other d) None refl)) h
-
-pub all_theirs_put : (w : ℕ) (men : Men) (d : Colour) (s : ℕ) (m : Man) → length men ≡ 64 → s < 64 → m.colour ≡ d
-    → man_at men s ≡ None → IsAll w (other d) men → IsAll w (other d) (set men s (Some m))
-all_theirs_put w men d s m all ls e at h = all_kept w men (other d) s (Some m) all ls
-    (ap (is_of (other d)) at ∙ is_of-none (other d) None refl ∙ sym (theirs_of d m e)) h
+pub none_of : (c : Colour) (o : Option Man) → o ≡ None → is_of c o ≡ false
+none_of c o bare = ap (is_of c) bare ∙ is_of-none c None refl
 
 -- ---- one square
 

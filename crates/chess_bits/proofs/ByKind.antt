@@ -1,5 +1,5 @@
 -- Which moves are legal, by the kind of the piece that goes.
-use mathlib.Core.Bool.{and-true}
+use mathlib.Core.Bool.{and-false, and-true}
 use Rattle.std.proofs.Common.{◌≡◌, ℕ, ◌<◌, inl, inr, Bool, true, false, not, ◌&&◌, ◌||◌, ◌==◌, Option, Some, None, refl, sym, ap, ◌∙◌}
 use Rattle.std.specs.Option.{is_some}
 use Rattle.std.proofs.lemmas.Bool.{and_parts, and_from, and_left, and_right, cases_Bool, eq-eqb, eqb-true, not-true, or_parts}
@@ -203,25 +203,11 @@ king_otherwise p a b king low high still = by (castle_of p (move_of a b None)) r
 
 -- it is the only start, or none is
 pub king_start : (p : Setup) (to king k : ℕ) → is_man p.side King (man_at p.men k) ≡ (k == king)
-    → is_legal p (move_of king to None) ≡ true
-    → (k == king) ≡ (is_man p.side King (man_at p.men k) && is_legal p (move_of k to None))
-king_start p to king k one legal =
-    elim (cases_Bool (k == king)) [
-      | inl same ↦
-          same ∙ sym (and_from (is_man p.side King (man_at p.men k)) (is_legal p (move_of k to None)) (one ∙ same)
-          (ap (λ a. is_legal p (move_of a to None)) (eqb-true k king same) ∙ legal))
-      | inr apart ↦
-          apart ∙ sym (and_left (is_man p.side King (man_at p.men k)) (is_legal p (move_of k to None)) (one ∙ apart))
-    ]
-
-pub no_king_start : (p : Setup) (to king k : ℕ) → is_man p.side King (man_at p.men k) ≡ (k == king)
-    → is_legal p (move_of king to None) ≡ false
-    → false ≡ (is_man p.side King (man_at p.men k) && is_legal p (move_of k to None))
-no_king_start p to king k one off =
-    elim (cases_Bool (k == king)) [
-      | inl same ↦
-          sym (and_right (is_man p.side King (man_at p.men k)) (is_legal p (move_of k to None))
-          (ap (λ a. is_legal p (move_of a to None)) (eqb-true k king same) ∙ off))
-      | inr apart ↦
-          sym (and_left (is_man p.side King (man_at p.men k)) (is_legal p (move_of k to None)) (one ∙ apart))
-    ]
+    → (is_legal p (move_of king to None) && (k == king))
+    ≡ (is_man p.side King (man_at p.men k) && is_legal p (move_of k to None))
+king_start p to king k one =
+    rw one
+    (elim (cases_Bool (k == king)) [
+      | inl same ↦ rw same (and-true _ ∙ ap (λ a. is_legal p (move_of a to None)) (sym (eqb-true k king same)))
+      | inr apart ↦ rw apart (and-false _)
+    ])

@@ -20,7 +20,7 @@ use Rattle.chess_base.specs.declared.man.Variant.{Variant}
 use Rattle.chess_bits.specs.ties.Goes.{castling_end}
 use Rattle.chess_bits.proofs.OneKing.{alone}
 
-stands : (p : Setup) (w : CastlingSide) (rook : ℕ) → IsSound p → p.variant ≡ Normal
+pub stands : (p : Setup) (w : CastlingSide) (rook : ℕ) → IsSound p → p.variant ≡ Normal
     → right_of p.rights p.side w ≡ Some rook → are_placed_for_castling Normal p.men p.side w rook ≡ true
 unfolding right_is_sound
 stands p w rook sound normal right =
@@ -28,7 +28,7 @@ stands p w rook sound normal right =
     ∙ placed_for_right p.variant p.men p.side w (right_of p.rights p.side w) rook (right_is_sound_of p sound p.side w)
     right
 
-at_home : (p : Setup) (w : CastlingSide) (a rook : ℕ) → IsSound p → p.variant ≡ Normal
+pub at_home : (p : Setup) (w : CastlingSide) (a rook : ℕ) → IsSound p → p.variant ≡ Normal
     → right_of p.rights p.side w ≡ Some rook → is_man p.side King (man_at p.men a) ≡ true → a < 64
     → a ≡ home_square p.side king_home_file
 at_home p w a rook sound normal right king low =

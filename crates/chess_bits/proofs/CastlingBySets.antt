@@ -40,11 +40,11 @@ rook_low : (w : CastlingSide) → rook_file w < 8
 rook_low KingSide = omega arith
 rook_low QueenSide = omega arith
 
-king_end_low : (w : CastlingSide) → castled_king_file w < 8
+pub king_end_low : (w : CastlingSide) → castled_king_file w < 8
 king_end_low KingSide = omega arith
 king_end_low QueenSide = omega arith
 
-rook_end_low : (w : CastlingSide) → castled_rook_file w < 8
+pub rook_end_low : (w : CastlingSide) → castled_rook_file w < 8
 rook_end_low KingSide = omega arith
 rook_end_low QueenSide = omega arith
 

@@ -1,7 +1,7 @@
 -- Castling in normal chess opens no line to the square where the king ends: what nothing prevents is legal.
 use Rattle.std.proofs.Common.{◌≡◌, ℕ, ◌<◌, inl, inr, Bool, true, false, not, ◌&&◌, ◌||◌, ◌==◌, cond, Option, Some, None, is_none, refl, sym, ap, ◌∙◌, arith}
 use Rattle.std.proofs.lemmas.Bool.Decides.{nat_tests}
-use Rattle.std.proofs.lemmas.Bool.{and_parts, and_from, or_left, or_right, both_ways, cases_Bool, eqb-true, eq-eqb, false_from_ne_true}
+use Rattle.std.proofs.lemmas.Bool.{and_parts, or_left, or_right, both_ways, cases_Bool, eqb-true, eq-eqb, false_from_ne_true}
 use Rattle.chess_base.specs.declared.castling.Castle.{Castle}
 use Rattle.chess_base.specs.declared.man.CastlingSide.{CastlingSide}
 use Rattle.chess_base.specs.declared.man.CastlingSide.TheVariants.{KingSide, QueenSide}
@@ -10,26 +10,26 @@ use Rattle.chess_base.specs.declared.man.Colour.TheVariants.{White, Black}
 use Rattle.chess_base.specs.declared.man.Kind.TheVariants.{King, Rook, Pawn}
 use Rattle.chess_base.specs.declared.man.Man.{Man}
 use Rattle.chess_base.specs.declared.man.Move.{Move}
-use Rattle.chess_base.specs.declared.man.Variant.{Variant}
 use Rattle.chess_base.specs.declared.man.Variant.TheVariants.{Normal}
 use Rattle.chess_base.specs.declared.setup.Setup.{Setup}
-use Rattle.chess_base.specs.Attacks.{is_clear, attacks, is_attacked}
-use Rattle.chess_base.specs.shared.Splits.{could_capture_as}
-use Rattle.chess_base.specs.Castling.{home_square, king_home_file, rook_file, castled_king_file, castled_rook_file, right_of, names_castling_with, are_placed_for_castling, right_is_sound, castling, castle_from, castle_of, is_on_way, castling_way_is_empty, castling_way_is_safe, mover_end, castling_rook_to}
+use Rattle.chess_base.specs.Attacks.{is_clear, is_attacked}
+use Rattle.chess_base.specs.Castling.{home_square, king_home_file, rook_file, castled_king_file, castled_rook_file, right_of, castling, castle_from, castle_of, is_on_way, castling_way_is_empty, castling_way_is_safe, mover_end, castling_rook_to}
 use Rattle.chess_base.specs.Before.{mover_to}
 use Rattle.chess_base.specs.Men.{Men, man_at, other, is_of, is_man}
 use Rattle.chess_base.specs.Moves.{is_pseudo_legal, is_legal, arriving_man, men_after, second_square_emptied}
 use Rattle.chess_base.specs.Sound.{IsSound}
 use Rattle.chess_base.specs.Squares.{is_between, is_between_on_file, is_between_on_rank, is_between_on_diagonal}
-use Rattle.chess_base.proofs.shared.Castling.{right_is_sound_of, placed_for_right, says_from_castling, castling_says, castle_there, no_castle}
+use Rattle.chess_base.proofs.shared.Castling.{says_from_castling, castling_says, castle_there, no_castle}
 use Rattle.chess_base.proofs.shared.Changes.{no_en_passant}
 use Rattle.chess_base.proofs.shared.MenAfter.{man_after, man_at-men_after}
-use Rattle.chess_base.proofs.shared.Men.{is_man-kind}
-use Rattle.chess_base.proofs.shared.Squares.{each_square-all, each_square-at, some_square-at, some_square-none}
-use Rattle.chess_bits.proofs.CastlingBySets.{king_goes, castle_pattern}
+use Rattle.chess_base.proofs.shared.Men.{in_board, is_man-kind}
+use Rattle.chess_bits.proofs.BoardSets.{theirs_of}
+use Rattle.chess_bits.proofs.CastlingAtHome.{at_home, stands}
+use Rattle.chess_base.proofs.shared.Squares.{each_square-all, each_square-at}
+use Rattle.chess_bits.proofs.CastlingBySets.{king_goes, castle_pattern, king_end_low, rook_end_low}
 use Rattle.chess_bits.proofs.KingAfter.{mover_own, king_lands, check_after, legal_is}
 use Rattle.chess_bits.proofs.KingSteps.{not_between_end}
-use Rattle.chess_bits.proofs.Quiet.{could_capture_as_clear, lands_same}
+use Rattle.chess_bits.proofs.Quiet.{attacked_before, could_capture_as_clear, lands_same}
 
 -- ---- squares at home
 
@@ -59,17 +59,9 @@ ends_apart White QueenSide = refl
 ends_apart Black KingSide = refl
 ends_apart Black QueenSide = refl
 
-king_end : (c : Colour) (w : CastlingSide) → home_square c (castled_king_file w) < 64
-king_end White KingSide = omega arith
-king_end White QueenSide = omega arith
-king_end Black KingSide = omega arith
-king_end Black QueenSide = omega arith
-
-rook_end : (c : Colour) (w : CastlingSide) → home_square c (castled_rook_file w) < 64
-rook_end White KingSide = omega arith
-rook_end White QueenSide = omega arith
-rook_end Black KingSide = omega arith
-rook_end Black QueenSide = omega arith
+home_low : (c : Colour) (f : ℕ) → f < 8 → home_square c f < 64
+home_low White f h = omega (arith, h)
+home_low Black f h = omega (arith, h)
 
 -- ---- what castling leaves
 
@@ -93,11 +85,6 @@ enemy_stood true r l arr rook o c n g e = absurd (both_ways _ n e)
 enemy_stood false true l arr rook o c n g e = absurd (both_ways _ g e)
 enemy_stood false false true arr rook o c n g e = cc
 enemy_stood false false false arr rook o c n g e = refl
-
-own_rook : (c : Colour) → is_of (other c) (Some (record { colour = c; kind = Rook })) ≡ false
-unfolding is_of
-own_rook White = refl
-own_rook Black = refl
 
 -- king to t, rook to r; f and a are left
 abbrev Castled : Men → Men → ℕ → ℕ → ℕ → ℕ → Option Man → Option Man → Type 0
@@ -143,21 +130,12 @@ still_safe : (men later : Men) (c : Colour) (t r f a : ℕ) (king rook : Option 
     → is_none rook ≡ false → is_of c king ≡ false → is_of c rook ≡ false → (t == r) ≡ false → r < 64
     → ((b : ℕ) → is_between b t a ≡ true → is_between b t r ≡ true) → ((b : ℕ) → is_between b t f ≡ false)
     → is_attacked men t c ≡ false → is_attacked later t c ≡ false
-unfolding is_attacked attacks
-still_safe men later c t r f a king rook after some own mine apart low past beyond before =
-    some_square-none _
-    (λ b l.
-    false_from_ne_true _
-    (λ e.
-    let both = and_parts (is_of c (man_at later b)) (could_capture_as later (man_at later b) b t) e in
-    let stood : man_at later b ≡ man_at men b =
-    after b l ∙ enemy_stood (t == b) (r == b) ((f == b) || (a == b)) king rook (man_at men b) c own mine
-    (rw (after b l) at both.0) in
-    let was : is_of c (man_at men b) ≡ true = rw (← stood) both.0 in
-    let hit : could_capture_as men (man_at men b) b t ≡ true =
-    could_capture_as_clear men later (man_at men b) b t
-    (clear_stood men later t r f a b king rook after some apart low (past b) (beyond b)) (rw (← stood) both.1) in
-    both_ways _ before (some_square-at _ b l (and_from _ _ was hit))))
+still_safe men later c t r f a king rook after some own mine apart low past beyond =
+    attacked_before men later t c
+    (λ b l theirs. after b l
+    ∙ enemy_stood (t == b) (r == b) ((f == b) || (a == b)) king rook (man_at men b) c own mine (rw (after b l) at theirs))
+    (λ b l was. could_capture_as_clear men later (man_at men b) b t
+    (clear_stood men later t r f a b king rook after some apart low (past b) (beyond b)))
 
 -- ---- so it is legal
 
@@ -180,22 +158,12 @@ way_end men c k safe low =
 home_starts : (p : Setup) (m : Move) (w : CastlingSide) (r : ℕ) → IsSound p → p.variant ≡ Normal → castling p m ≡ Some w
     → right_of p.rights p.side w ≡ Some r
     → (m.from ≡ home_square p.side king_home_file) × (r ≡ home_square p.side (rook_file w))
-unfolding right_is_sound
 home_starts p m w r sound normal says right =
-    let names = (castling_says p m w (says_from_castling p m w says)).1 in
-    let named : names_castling_with p.variant p.side m w r ≡ true = rw right at names in
-    let at : names_castling_with Normal p.side m w r ≡ true =
-    sym (ap (λ (v : Variant). names_castling_with v p.side m w r) normal) ∙ named in
-    let stands : are_placed_for_castling Normal p.men p.side w r ≡ true =
-    sym (ap (λ (v : Variant). are_placed_for_castling v p.men p.side w r) normal)
-    ∙ placed_for_right p.variant p.men p.side w (right_of p.rights p.side w) r (right_is_sound_of p sound p.side w)
-    right in
+    let king = (castling_says p m w (says_from_castling p m w says)).0 in
     let two = and_parts ((r == home_square p.side (rook_file w))
     && is_man p.side King (man_at p.men (home_square p.side king_home_file))) (is_man p.side Rook (man_at p.men r))
-    stands in (
-      eqb-true m.from (home_square p.side king_home_file)
-          (and_parts (m.from == home_square p.side king_home_file)
-          (m.to == home_square p.side (castled_king_file w)) at).0,
+    (stands p w r sound normal right) in (
+      at_home p w m.from r sound normal right king (in_board p.men p.side King m.from sound.board king),
       eqb-true r (home_square p.side (rook_file w))
           (and_parts (r == home_square p.side (rook_file w))
           (is_man p.side King (man_at p.men (home_square p.side king_home_file))) two.0).0,
@@ -212,11 +180,11 @@ safe_by p m w r sound normal says right e pattern safe =
     let k = castle_from p.side w m.from r in
     still_safe p.men (men_after p m) (other p.side) t (home_square p.side (castled_rook_file w)) r m.from
     (arriving_man (man_at p.men m.from) m.promotion) (Some (record { colour = p.side; kind = Rook }))
-    (λ s l. after_castling p m k s e l) refl (mover_own p m pattern) (own_rook p.side) (ends_apart p.side w)
-    (rook_end p.side w)
+    (λ s l. after_castling p m k s e l) refl (mover_own p m pattern) (theirs_of p.side (record { colour = p.side; kind = Rook }) refl) (ends_apart p.side w)
+    (home_low p.side (castled_rook_file w) (rook_end_low w))
     (λ b i. past_king p.side w b (ap (λ y. is_between b t y) (sym home.0) ∙ i))
     (λ b. ap (λ y. is_between b t y) home.1 ∙ past_rook p.side w b)
-    (way_end p.men p.side k safe (king_end p.side w))
+    (way_end p.men p.side k safe (home_low p.side (castled_king_file w) (king_end_low w)))
 
 by_side : (p : Setup) (m : Move) (k : Castle) → IsSound p → p.variant ≡ Normal → castle_of p m ≡ Some k
     → is_pseudo_legal p m ≡ true → castling_way_is_safe p.men p.side k ≡ true
@@ -230,7 +198,7 @@ by_side p m k sound normal e pattern safe (Some w) says =
       ap (λ s. is_attacked (men_after p m) s (other p.side)) to
           ∙ safe_by p m w there.0 sound normal says there.1 (e ∙ ap (λ (j : Castle). Some j) (sym same)) pattern
           (ap (λ (j : Castle). castling_way_is_safe p.men p.side j) same ∙ safe),
-      rw to (king_end p.side w),
+      rw to (home_low p.side (castled_king_file w) (king_end_low w)),
     )
 
 pub castles_safely : (p : Setup) (m : Move) (k : Castle) → IsSound p → p.variant ≡ Normal → castle_of p m ≡ Some k

@@ -1,13 +1,14 @@
 -- Legal moves counted.
-use Rattle.std.proofs.Common.{◌≡◌, ℕ, zero, suc, ◌+◌, ◌≤◌, inl, inr, Bool, true, ◌||◌, List, [], ◌∷◌, ◌++◌, length, refl, sym, ap, ◌∙◌, length-append, nat_lt, ◌<◌, arith}
-use Rattle.std.proofs.lemmas.Bool.{cases_Bool, cases_lt, lt-ltb, ltb-true}
-use Rattle.std.specs.List.{filter, flat_map, list_any, range_with_len}
+use Rattle.std.proofs.Common.{◌≡◌, ℕ, suc, ◌+◌, ◌≤◌, inl, inr, Bool, true, ◌||◌, List, [], ◌∷◌, ◌++◌, length, refl, sym, ap, ◌∙◌, length-append, nat_lt, ◌<◌, arith}
+use Rattle.std.proofs.lemmas.Bool.{cases_Bool, lt-ltb, ltb-true}
+use Rattle.std.specs.List.{filter, flat_map, list_any}
 use Rattle.chess_base.specs.declared.setup.Setup.{Setup}
 use Rattle.chess_base.specs.MoveList.{squares, moves}
 use Rattle.chess_base.specs.Sound.{IsSound}
 use Rattle.chess_moves.specs.shared.MovesBySquares.{moves_from}
 use Rattle.chess_moves.specs.Sets.{contains, members}
 use Rattle.chess_moves.proofs.shared.MovesBySquares.{moves-by_start}
+use Rattle.chess_moves.proofs.shared.AnyMove.{any-square}
 use Rattle.chess_moves.proofs.shared.LegalMoves.{moves_fit}
 
 -- before the first
@@ -43,27 +44,6 @@ some_fit p w sound =
     let fits = moves_fit p sound in
     omega (arith, less, all, fits)
 
--- those from one square are among all
-one_among : {A : Type 0} (g : ℕ → List A) (k n a : ℕ) → a ≤ k → k < a + n
-    → length (g k) ≤ length (flat_map g (range_with_len a n))
-one_among g k zero a low high = absurd (omega (arith, low, high))
-one_among g k (suc n) a low high =
-    let all = length-append (g a) (flat_map g (range_with_len (a + 1) n)) in
-    elim (cases_lt a k) [
-      | inl before ↦
-          let rest = one_among g k n (a + 1) (omega (arith, before)) (omega (arith, high)) in
-          omega (arith, all, rest)
-      | inr on ↦ let same : k ≡ a = omega (arith, low, on) in rw same (omega (arith, all))
-    ]
-
-pub some_from : (p : Setup) (a : ℕ) → a < 64 → 0 < length (moves_from p a) → true ≡ nat_lt 0 (length (moves p))
-unfolding squares
-some_from p a low h =
-    let less : length (moves_from p a) ≤ length (flat_map (λ a. moves_from p a) squares) =
-    one_among (λ a. moves_from p a) a 64 0 (omega arith) (omega (arith, low)) in
-    let all = ap length (moves-by_start p) in
-    sym (lt-ltb 0 (length (moves p)) (omega (arith, less, all, h)))
-
 -- there are some if there are for one of the squares
 pub any_of : {A : Type 0} (g : ℕ → List A) (xs : List ℕ)
     → list_any (λ a. nat_lt 0 (length (g a))) xs ≡ nat_lt 0 (length (flat_map g xs))
@@ -76,3 +56,9 @@ any_of {A = A} g (x ∷ xs) = by _ (g x) (flat_map g xs) (any_of g xs)
     by t (y ∷ ys) zs e =
         ap (λ s. s || t) (lt-ltb 0 (suc (length ys)) (omega arith))
         ∙ sym (lt-ltb 0 (suc (length (ys ++ zs))) (omega arith))
+
+-- and so if there are for one square of all
+pub some_from : (p : Setup) (a : ℕ) → a < 64 → 0 < length (moves_from p a) → true ≡ nat_lt 0 (length (moves p))
+some_from p a low h =
+    sym (any-square (λ b. nat_lt 0 (length (moves_from p b))) a low (lt-ltb 0 (length (moves_from p a)) h))
+    ∙ any_of (λ b. moves_from p b) squares ∙ ap (λ ms. nat_lt 0 (length ms)) (sym (moves-by_start p))

@@ -1,37 +1,38 @@
 -- Pieces without which their king is not attacked: where they go, they go legally.
-use Rattle.std.proofs.Common.{◌≡◌, ℕ, ◌+◌, ◌<◌, ◌≤◌, ◌⊎◌, inl, inr, Bool, true, false, not, ◌&&◌, ◌||◌, ◌==◌, Option, Some, None, cond, [], ◌∷◌, length, map, refl, sym, ap, ◌∙◌, subst, arith}
-use Rattle.std.proofs.lemmas.List.{length-map}
-use Rattle.std.proofs.lemmas.Bool.{and_parts, and_from, false_from_ne_true, and_right, or_cases, or_parts, eqb-true, eq-eqb, ne_eqb, both_ways, cases_Bool, and_left}
+use Rattle.std.proofs.Common.{◌≡◌, ℕ, ◌+◌, ◌<◌, ◌≤◌, ◌⊎◌, inl, inr, Bool, true, false, not, ◌&&◌, ◌||◌, ◌==◌, Option, Some, None, cond, [], ◌∷◌, map, refl, sym, ap, ◌∙◌, subst, arith}
+use Rattle.std.proofs.lemmas.Bool.{and_parts, and_from, and_right, or_cases, or_left, or_right, or_parts, eqb-false, eqb-true, eq-eqb, ne_eqb, cases_Bool, and_left}
 use Rattle.chess_base.specs.declared.man.Colour.{Colour}
 use Rattle.chess_base.specs.declared.man.Colour.TheVariants.{White, Black}
 use Rattle.chess_base.specs.declared.man.Kind.{Kind}
-use Rattle.chess_base.specs.declared.man.Kind.TheVariants.{King, Queen, Rook, Bishop, Knight, Pawn}
+use Rattle.chess_base.specs.declared.man.Kind.TheVariants.{King, Queen, Rook, Bishop, Pawn}
 use Rattle.chess_base.specs.declared.man.Man.{Man}
 use Rattle.chess_base.specs.declared.man.Move.{Move}
 use Rattle.chess_base.specs.declared.setup.Setup.{Setup}
-use Rattle.chess_base.specs.Attacks.{attacks, is_clear, is_in_check, is_attacked, is_rank_ahead, could_capture}
+use Rattle.chess_base.specs.Attacks.{attacks, is_in_check, is_attacked, is_rank_ahead, could_capture}
 use Rattle.chess_base.specs.shared.Splits.{could_capture_as}
-use Rattle.chess_base.specs.Castling.{castle_of, castling_rook_to}
-use Rattle.chess_base.specs.Men.{Men, man_at, same_kind, other, is_of, is_man, forward, first_rank, pawn_rank}
+use Rattle.chess_base.specs.Castling.{castle_of}
+use Rattle.chess_base.specs.Men.{man_at, same_kind, other, is_of, is_man, forward, first_rank, pawn_rank}
 use Rattle.chess_base.specs.MoveList.{move_of}
-use Rattle.chess_base.specs.Moves.{is_pseudo_legal, is_legal, is_en_passant, men_after, second_square_emptied, pawn_advances, pawn_captures}
+use Rattle.chess_base.specs.Moves.{is_pseudo_legal, is_legal, is_en_passant, men_after, pawn_advances, pawn_captures}
 use Rattle.chess_base.specs.Sound.{IsSound, no_pawn_on_end_ranks}
-use Rattle.chess_base.specs.Squares.{rank, some_square, is_square, share_rank_or_file, share_diagonal}
+use Rattle.chess_base.specs.Squares.{rank, is_square, share_rank_or_file, share_diagonal}
 use Rattle.chess_base.proofs.shared.Changes.{advance_goes, pawn_attack}
-use Rattle.chess_base.proofs.shared.Squares.{each_square-at, some_square-at, some_square-none}
+use Rattle.chess_base.proofs.shared.Squares.{each_square-at}
 use Rattle.chess_bits.proofs.Lifted.{lifted_at}
 use Rattle.chess_moves.specs.shared.MovesBySquares.{moves_between, moves_from}
 use Rattle.chess_moves.specs.Promoting.{would_promote}
 use Rattle.chess_moves.specs.Sets.{contains, members}
 use Rattle.chess_bits.specs.declared.table.Shape.TheVariants as shape
 use Rattle.chess_bits.specs.ties.Shapes.{in_shape}
-use Rattle.chess_bits.specs.ties.Goes.{goes, aims_at, OpensNoLine, OpensNoDiagonal, IsFree, lifted}
+use Rattle.chess_bits.specs.ties.Goes.{goes, aims_at, IsFree, lifted}
+use Rattle.chess_bits.specs.ties.Pins.{aims_from, KeepsClosed}
 use Rattle.chess_bits.proofs.AfterSets.{check_is}
-use Rattle.chess_bits.proofs.KingAfter.{mover_some, mover_own, king_stays, check_after, legal_is}
-use Rattle.chess_bits.proofs.Listed.{all_ones, each_member, from_targets, one_between, pattern_of}
+use Rattle.chess_bits.proofs.KingAfter.{king_stays, check_after, legal_is}
+use Rattle.chess_bits.proofs.Listed.{all_ones, each_member, from_targets, one_between, unpromoted}
 use Rattle.chess_bits.proofs.OriginsOf.{off_lowest}
 use Rattle.chess_bits.proofs.Patterns.{pawn_goes}
-use Rattle.chess_bits.proofs.Quiet.{IsPlain, lands_same, stays_safe}
+use Rattle.chess_bits.proofs.Quiet.{attacked_before, capture_before, enemy_before, lands_same, plain_by, stays_safe}
+use Rattle.chess_base.proofs.shared.Men.{is_of-none}
 use Rattle.chess_bits.proofs.Reached.{pawn_from}
 use Rattle.chess_bits.proofs.TargetsOf.{man_told, no_king_castles}
 
@@ -41,19 +42,13 @@ pub free_is_legal : (p : Setup) (a b king : ℕ) → IsSound p → IsFree p a �
     → ((k : ℕ) → k < 64 → is_man p.side King (man_at p.men k) ≡ (k == king))
     → goes p a b ≡ true → would_promote p a b ≡ false → is_en_passant p (move_of a b None) ≡ false
     → is_legal p (move_of a b None) ≡ true
-unfolding second_square_emptied castling_rook_to
 free_is_legal p a b king sound free low there one go stays no_passing =
     let m = move_of a b None in
-    let pattern : is_pseudo_legal p m ≡ true = pattern_of p a b None go (rw stays refl) in
+    let pattern : is_pseudo_legal p m ≡ true = unpromoted p a b go stays in
     let here : is_man p.side King (man_at p.men king) ≡ true = one king there ∙ eq-eqb king king refl in
     let no_king : is_man p.side King (man_at p.men a) ≡ false = one a low ∙ free.apart king there here in
     let no_castle : castle_of p m ≡ None = no_king_castles p m no_king in
-    let plain : IsPlain p m = record {
-      also = rw (no_passing, no_castle) refl;
-      rook = rw no_castle refl;
-      mover = mover_some p m pattern;
-      own = mover_own p m pattern;
-    } in
+    let plain = plain_by p m pattern no_castle no_passing in
     let safe : is_attacked (men_after p m) king (other p.side) ≡ false =
     stays_safe p m king sound.board low plain (free.safe king there here) in
     let king_there : is_man p.side King (man_at (men_after p m) king) ≡ true =
@@ -129,15 +124,13 @@ pawn_ordinary p a sound low pawn no_target off = record {
 pub ordinary_from : (p : Setup) (a : ℕ) → IsSound p → a < 64
     → (is_man p.side Pawn (man_at p.men a) && (aims_at p.target p.side a || (rank a == pawn_rank (other p.side))))
     ≡ false → IsOrdinary p a
-ordinary_from p a sound low h = by (is_man p.side Pawn (man_at p.men a)) refl h
-  where
-    by : (b : Bool) → is_man p.side Pawn (man_at p.men a) ≡ b
-        → (b && (aims_at p.target p.side a || (rank a == pawn_rank (other p.side)))) ≡ false → IsOrdinary p a
-    by false e g = no_pawn_ordinary p a e
-    by true e g =
-        let neither = or_parts (aims_at p.target p.side a) (rank a == pawn_rank (other p.side)) g in
-        pawn_ordinary p a sound low e neither.0 (λ same. both_ways (rank a == pawn_rank (other p.side)) neither.1
-        (eq-eqb (rank a) (pawn_rank (other p.side)) same))
+ordinary_from p a sound low h =
+    elim (cases_Bool (is_man p.side Pawn (man_at p.men a))) [
+      | inr e ↦ no_pawn_ordinary p a e
+      | inl e ↦
+          let neither = or_parts (aims_at p.target p.side a) (rank a == pawn_rank (other p.side)) (rw e at h) in
+          pawn_ordinary p a sound low e neither.0 (eqb-false (rank a) (pawn_rank (other p.side)) neither.1)
+    ]
 
 -- ---- so each square is the end of one legal move
 
@@ -161,15 +154,6 @@ free_listed p a king w sound free ordinary low there one sets all =
     (each_member w (λ b. moves_between p a b ≡ move_of a b None ∷ [])
     (λ b high h. free_between p a b king sound free ordinary low high there one (sets b high h)))
 
-pub free_counted : (p : Setup) (a king w : ℕ) → IsSound p → IsFree p a → IsOrdinary p a → a < 64 → king < 64
-    → ((k : ℕ) → k < 64 → is_man p.side King (man_at p.men k) ≡ (k == king))
-    → ((k : ℕ) → k < 64 → contains w k ≡ true → goes p a k ≡ true)
-    → ((m : Move) → is_legal p m ≡ true → m.from ≡ a → contains w m.to ≡ true)
-    → length (members w) ≡ length (moves_from p a)
-free_counted p a king w sound free ordinary low there one sets all =
-    sym (ap length (free_listed p a king w sound free ordinary low there one sets all)
-    ∙ length-map (members w) (λ b. move_of a b None))
-
 -- ---- the set of the free pieces
 
 at_king : (p : Setup) (a king : ℕ) (P : ℕ → Type 0)
@@ -178,79 +162,42 @@ at_king : (p : Setup) (a king : ℕ) (P : ℕ → Type 0)
 at_king p a king P one h k low man = subst P (sym (eqb-true k king (sym (one k low) ∙ man))) h
 
 -- what attacks with that piece taken off attacks as it is, if that opens nothing
-last_told : (n s t u : Bool) → ((n && s) ≡ true → t ≡ true → u ≡ true) → (n && s && t) ≡ true → (n && s && u) ≡ true
-last_told true true t u h e = h refl e
-last_told true false t u h e = e
-last_told false s t u h e = e
-
-queen_told : (n s d t u : Bool) → ((n && s) ≡ true → t ≡ true → u ≡ true) → ((n && d) ≡ true → t ≡ true → u ≡ true)
-    → (n && (s || d) && t) ≡ true → (n && (s || d) && u) ≡ true
-queen_told true true d t u h g e = h refl e
-queen_told true false true t u h g e = g refl e
-queen_told true false false t u h g e = e
-queen_told false s d t u h g e = e
-
-capture_before : (men later : Men) (c : Colour) (k : Kind) (a b : ℕ)
-    → ((same_kind Rook k || same_kind Queen k) ≡ true → (not (a == b) && share_rank_or_file a b) ≡ true
-    → is_clear later a b ≡ true → is_clear men a b ≡ true)
-    → ((same_kind Bishop k || same_kind Queen k) ≡ true → (not (a == b) && share_diagonal a b) ≡ true
-    → is_clear later a b ≡ true → is_clear men a b ≡ true)
-    → could_capture later c k a b ≡ true → could_capture men c k a b ≡ true
-unfolding could_capture
-capture_before men later c King a b l d e = e
-capture_before men later c Knight a b l d e = e
-capture_before men later c Pawn a b l d e = e
-capture_before men later c Queen a b l d e =
-    queen_told (not (a == b)) (share_rank_or_file a b) (share_diagonal a b) (is_clear later a b) (is_clear men a b)
-    (l refl) (d refl) e
-capture_before men later c Rook a b l d e =
-    last_told (not (a == b)) (share_rank_or_file a b) (is_clear later a b) (is_clear men a b) (l refl) e
-capture_before men later c Bishop a b l d e =
-    last_told (not (a == b)) (share_diagonal a b) (is_clear later a b) (is_clear men a b) (d refl) e
-
 of_kinds : (c : Colour) (x : Man) (j k : Kind) → is_of c (Some x) ≡ true
     → (same_kind j x.kind || same_kind k x.kind) ≡ true → (is_man c j (Some x) || is_man c k (Some x)) ≡ true
 unfolding is_of is_man
 of_kinds c x j k own h = rw own h
 
-hits_before : (p : Setup) (a b king : ℕ) (o : Option Man) → b < 64 → man_at p.men b ≡ o → is_of (other p.side) o ≡ true
-    → OpensNoLine p a king → OpensNoDiagonal p a king
+hits_before : (p : Setup) (a b king : ℕ) (o : Option Man) → man_at p.men b ≡ o → is_of (other p.side) o ≡ true
+    → (aims_from p b king ≡ true → KeepsClosed p a b king)
     → could_capture_as (lifted p.men a) o b king ≡ true → could_capture_as p.men o b king ≡ true
-hits_before p a b king None low at own lines diagonals e = cc
-hits_before p a b king (Some x) low at own lines diagonals e =
+hits_before p a b king None at own keeps e = cc
+hits_before p a b king (Some x) at own keeps e =
     capture_before p.men (lifted p.men a) x.colour x.kind b king
-    (λ h. lines b low (rw at (of_kinds (other p.side) x Rook Queen own h)))
-    (λ h. diagonals b low (rw at (of_kinds (other p.side) x Bishop Queen own h)))
-    e
+    (λ h on. keeps (or_left (straight && (not (b == king) && share_rank_or_file b king))
+    (aslant && (not (b == king) && share_diagonal b king))
+    (and_from straight _ (rw at (of_kinds (other p.side) x Rook Queen own h)) on)))
+    (λ h on. keeps (or_right (straight && (not (b == king) && share_rank_or_file b king))
+    (aslant && (not (b == king) && share_diagonal b king))
+    (and_from aslant _ (rw at (of_kinds (other p.side) x Bishop Queen own h)) on))) e
+  where
+    straight : Bool
+    straight = is_man (other p.side) Rook (man_at p.men b) || is_man (other p.side) Queen (man_at p.men b)
 
-lifted_enemy : (t : Bool) (o : Option Man) (c : Colour) → is_of c (cond t None o) ≡ true → cond t None o ≡ o
-unfolding is_of
-lifted_enemy true o c h = cc
-lifted_enemy false o c h = refl
+    aslant : Bool
+    aslant = is_man (other p.side) Bishop (man_at p.men b) || is_man (other p.side) Queen (man_at p.men b)
 
 pub freed : (p : Setup) (a king : ℕ) → IsSound p → a < 64 → king < 64 → is_in_check p.men p.side ≡ false
     → ((k : ℕ) → k < 64 → is_man p.side King (man_at p.men k) ≡ (k == king))
-    → (a == king) ≡ false → OpensNoLine p a king → OpensNoDiagonal p a king → IsFree p a
-unfolding is_attacked attacks
-freed p a king sound low there calm one out lines diagonals = record {
+    → (a == king) ≡ false → ((b : ℕ) → b < 64 → aims_from p b king ≡ true → KeepsClosed p a b king) → IsFree p a
+freed p a king sound low there calm one out keeps = record {
   apart = at_king p a king (λ k. (a == k) ≡ false) one out;
-  safe = at_king p a king
-      (λ k. some_square (λ b. is_of (other p.side) (man_at (lifted p.men a) b)
-      && could_capture_as (lifted p.men a) (man_at (lifted p.men a) b) b k) ≡ false) one
-      (some_square-none _
-      (λ b l.
-      false_from_ne_true _
-      (λ e.
-      let both = and_parts (is_of (other p.side) (man_at (lifted p.men a) b))
-      (could_capture_as (lifted p.men a) (man_at (lifted p.men a) b) b king) e in
-      let stood : man_at (lifted p.men a) b ≡ man_at p.men b =
-      lifted_at p.men a b sound.board low ∙ lifted_enemy (b == a) (man_at p.men b) (other p.side)
-      (rw (lifted_at p.men a b sound.board low) at both.0) in
-      let was : is_of (other p.side) (man_at p.men b) ≡ true = rw (← stood) both.0 in
-      let hit : could_capture_as p.men (man_at p.men b) b king ≡ true =
-      hits_before p a b king (man_at p.men b) l refl was lines diagonals (rw (← stood) both.1) in
-      both_ways (is_attacked p.men king (other p.side)) (sym (check_is p.men p.side king there one) ∙ calm)
-      (some_square-at _ b l (and_from _ _ was hit)))));
+  safe = at_king p a king (λ k. is_attacked (lifted p.men a) k (other p.side) ≡ false) one
+      (attacked_before p.men (lifted p.men a) king (other p.side)
+      (λ b l own. lifted_at p.men a b sound.board low
+      ∙ enemy_before (b == a) None (man_at p.men b) (other p.side) (is_of-none (other p.side) None refl)
+      (rw (lifted_at p.men a b sound.board low) at own))
+      (λ b l was. hits_before p a b king (man_at p.men b) refl was (keeps b l))
+      (sym (check_is p.men p.side king there one) ∙ calm));
 }
 
 -- a test whose negation fails holds

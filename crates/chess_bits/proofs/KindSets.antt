@@ -1,6 +1,6 @@
 -- A piece put on an empty square, or taken from its square.
 use mathlib.Core.Bool.{and-true, and-false, or-true, or-false}
-use Rattle.std.proofs.Common.{◌≡◌, ℕ, ◌<◌, inl, inr, Bool, true, false, not, ◌&&◌, ◌||◌, ◌==◌, refl, sym, ap, ◌∙◌, arith, Option, Some, None, List, length, length-set, subst, get_or, set, get_or-set_same, get_or-set_other}
+use Rattle.std.proofs.Common.{◌≡◌, ℕ, ◌<◌, inl, inr, Bool, false, not, ◌&&◌, ◌||◌, ◌==◌, refl, sym, ap, ◌∙◌, arith, Option, Some, None, List, length, length-set, subst, get_or, set, get_or-set_same, get_or-set_other}
 use Rattle.std.proofs.lemmas.Bool.{and_left, and_right, cases_Bool, eq-eqb, ne_eqb, cases_eq}
 use Rattle.std.proofs.lemmas.List.{get_or_default}
 use Rattle.chess_base.specs.declared.man.Colour.{Colour}
@@ -8,8 +8,8 @@ use Rattle.chess_base.specs.declared.man.Kind.{Kind}
 use Rattle.chess_base.specs.declared.man.Kind.TheVariants.{King, Queen, Rook, Bishop, Knight, Pawn}
 use Rattle.chess_base.specs.declared.man.Man.{Man}
 use Rattle.chess_base.specs.Attacks.{attacks}
-use Rattle.chess_base.specs.Men.{Men, man_at, is_man, is_of, same_colour, same_kind, kind_number}
-use Rattle.chess_base.proofs.shared.Men.{same_colour-self, is_man-none}
+use Rattle.chess_base.specs.Men.{Men, man_at, is_man, is_of, same_colour, kind_number}
+use Rattle.chess_base.proofs.shared.Men.{same_colour-self, same_kind-self, is_man-none}
 use Rattle.chess_moves.specs.Sets.{contains}
 use Rattle.chess_bits.specs.ties.Occupancy.{IsLater}
 use Rattle.chess_bits.specs.ties.KindSets.{AreKindsAt, IsKinds}
@@ -28,41 +28,27 @@ own_man : (c : Colour) (x y : Kind) → is_man c y (Some (record { colour = c; k
 unfolding is_man
 own_man c x y = rw (same_colour-self c) refl
 
-put_at : (sets : List ℕ) (men : Men) (c : Colour) (x y : Kind) (s k w : ℕ)
-    → length sets ≡ 6 → length men ≡ 64 → s < 64 → k < 64 → man_at men s ≡ None
-    → IsKinds sets c men
-    → ((j : ℕ) → contains w j ≡ (contains (get_or sets (kind_number x) 0) j || (j == s)))
-    → contains (get_or (set sets (kind_number x) w) (kind_number y) 0) k
-    ≡ is_man c y (get_or (set men s (Some (record { colour = c; kind = x }))) k None)
-put_at sets men c x y s k w six all ls lk bare h made =
+-- one set and one square written
+written_at : (sets : List ℕ) (men : Men) (c : Colour) (x y : Kind) (s k w : ℕ) (o : Option Man)
+    → length sets ≡ 6 → length men ≡ 64 → s < 64 → k < 64 → IsKinds sets c men
+    → (kind_number y ≡ kind_number x → contains w s ≡ is_man c y o)
+    → ((kind_number y ≡ kind_number x → ⊥) → is_man c y (man_at men s) ≡ is_man c y o)
+    → ((k ≡ s → ⊥) → contains w k ≡ contains (get_or sets (kind_number x) 0) k)
+    → contains (get_or (set sets (kind_number x) w) (kind_number y) 0) k ≡ is_man c y (get_or (set men s o) k None)
+written_at sets men c x y s k w o six all ls lk h here others away =
     let in_sets : kind_number x < length sets = let b = kind_below x in omega arith in
     let in_men : s < length men = omega arith in
     elim (cases_eq k s) [
-      | inl here ↦
-          rw (here, get_or-set_same, own_man c x y)
+      | inl same ↦
+          rw (same, get_or-set_same)
           (elim (cases_eq (kind_number y) (kind_number x)) [
-            | inl e ↦ rw (e, get_or-set_same, made s, eq-eqb s s refl, eq-eqb (kind_number x) (kind_number x) refl)
-                (or-true _)
-            | inr n ↦
-                rw (
-                  get_or-set_other sets (kind_number x) (kind_number y) w 0 n,
-                  ne_eqb (kind_number y) (kind_number x)
-                      n,
-                )
-                (h.of_kind y s ls ∙ rw bare (is_man-none c y None refl))
+            | inl e ↦ rw (e, get_or-set_same) (here e)
+            | inr n ↦ rw (get_or-set_other sets (kind_number x) (kind_number y) w 0 n) (h.of_kind y s ls ∙ others n)
           ])
-      | inr there ↦
-          rw (get_or-set_other men s k (Some (record { colour = c; kind = x })) None there)
+      | inr apart ↦
+          rw (get_or-set_other men s k o None apart)
           (elim (cases_eq (kind_number y) (kind_number x)) [
-            | inl e ↦ rw (
-              e,
-              get_or-set_same,
-              made k,
-              ne_eqb k s there,
-              or-false
-                  (contains (get_or sets (kind_number x) 0) k),
-              ← e,
-            ) (h.of_kind y k lk)
+            | inl e ↦ rw (e, get_or-set_same, away apart, ← e) (h.of_kind y k lk)
             | inr n ↦ rw (get_or-set_other sets (kind_number x) (kind_number y) w 0 n) (h.of_kind y k lk)
           ])
     ]
@@ -74,42 +60,15 @@ pub put_kinds : (sets : List ℕ) (men : Men) (c : Colour) (x : Kind) (s w d : �
     → IsKinds (set sets (kind_number x) w) c (set men s (Some (record { colour = c; kind = x })))
 put_kinds sets men c x s w d six all ls bare h made =
     let in_sets : kind_number x < length sets = let b = kind_below x in omega arith in
-    let read : get_or sets (kind_number x) d ≡ get_or sets (kind_number x) 0 =
-    get_or_default sets (kind_number x) d 0 in_sets in
-    record { of_kind = λ y k lk. put_at sets men c x y s k w six all ls lk bare h (λ j. made j ∙ rw read refl) }
-
-lift_at : (sets : List ℕ) (men : Men) (c : Colour) (x y : Kind) (s k w : ℕ)
-    → length sets ≡ 6 → length men ≡ 64 → s < 64 → k < 64 → man_at men s ≡ Some (record { colour = c; kind = x })
-    → IsKinds sets c men
-    → ((j : ℕ) → j < 64 → contains w j ≡ (contains (get_or sets (kind_number x) 0) j && not (j == s)))
-    → contains (get_or (set sets (kind_number x) w) (kind_number y) 0) k ≡ is_man c y (get_or (set men s None) k None)
-lift_at sets men c x y s k w six all ls lk there h made =
-    let in_sets : kind_number x < length sets = let b = kind_below x in omega arith in
-    let in_men : s < length men = omega arith in
-    elim (cases_eq k s) [
-      | inl here ↦
-          rw (here, get_or-set_same, is_man-none c y None refl)
-          (elim (cases_eq (kind_number y) (kind_number x)) [
-            | inl e ↦ rw (e, get_or-set_same, made s ls, eq-eqb s s refl) (and-false _)
-            | inr n ↦
-                rw (get_or-set_other sets (kind_number x) (kind_number y) w 0 n)
-                (h.of_kind y s ls ∙ rw there (own_man c x y ∙ ne_eqb (kind_number y) (kind_number x) n))
-          ])
-      | inr away ↦
-          rw (get_or-set_other men s k None None away)
-          (elim (cases_eq (kind_number y) (kind_number x)) [
-            | inl e ↦ rw (
-              e,
-              get_or-set_same,
-              made k lk,
-              ne_eqb k s away,
-              and-true
-                  (contains (get_or sets (kind_number x) 0) k),
-              ← e,
-            ) (h.of_kind y k lk)
-            | inr n ↦ rw (get_or-set_other sets (kind_number x) (kind_number y) w 0 n) (h.of_kind y k lk)
-          ])
-    ]
+    record {
+      of_kind = λ y k lk.
+          written_at sets men c x y s k w (Some (record { colour = c; kind = x })) six all ls lk h
+          (λ e. made s ∙ rw (eq-eqb s s refl) (or-true _)
+          ∙ sym (own_man c x y ∙ eq-eqb (kind_number y) (kind_number x) e))
+          (λ n. ap (is_man c y) bare ∙ is_man-none c y None refl
+          ∙ sym (own_man c x y ∙ ne_eqb (kind_number y) (kind_number x) n))
+          (λ apart. made k ∙ rw (ne_eqb k s apart, get_or_default sets (kind_number x) d 0 in_sets) (or-false _));
+    }
 
 pub lift_kinds : (sets : List ℕ) (men : Men) (c : Colour) (x : Kind) (s w d : ℕ)
     → length sets ≡ 6 → length men ≡ 64 → s < 64 → man_at men s ≡ Some (record { colour = c; kind = x })
@@ -118,9 +77,14 @@ pub lift_kinds : (sets : List ℕ) (men : Men) (c : Colour) (x : Kind) (s w d : 
     → IsKinds (set sets (kind_number x) w) c (set men s None)
 lift_kinds sets men c x s w d six all ls there h made =
     let in_sets : kind_number x < length sets = let b = kind_below x in omega arith in
-    let read : get_or sets (kind_number x) d ≡ get_or sets (kind_number x) 0 =
-    get_or_default sets (kind_number x) d 0 in_sets in
-    record { of_kind = λ y k lk. lift_at sets men c x y s k w six all ls lk there h (λ j l. made j l ∙ rw read refl) }
+    record {
+      of_kind = λ y k lk.
+          let none : is_man c y None ≡ false = is_man-none c y None refl in
+          written_at sets men c x y s k w None six all ls lk h
+          (λ e. made s ls ∙ rw (eq-eqb s s refl) (and-false _) ∙ sym none)
+          (λ n. ap (is_man c y) there ∙ own_man c x y ∙ ne_eqb (kind_number y) (kind_number x) n ∙ sym none)
+          (λ apart. made k lk ∙ rw (ne_eqb k s apart, get_or_default sets (kind_number x) d 0 in_sets) (and-true _));
+    }
 
 pub shift_kinds : (sets : List ℕ) (men : Men) (c : Colour) (x : Kind) (a b v w d : ℕ)
     → length sets ≡ 6 → length men ≡ 64 → a < 64 → b < 64 → man_at men a ≡ Some (record { colour = c; kind = x })
@@ -143,13 +107,8 @@ shift_kinds sets men c x a b v w d six all la lb there bare h lifted put =
 nobody_there : (c : Colour) (o : Option Man) → ((kind : Kind) → is_man c kind o ≡ false) → is_of c o ≡ false
 unfolding is_of is_man
 nobody_there c None h = refl
-nobody_there c (Some x) h = other_colour (same_colour c x.colour) (same_kind x.kind x.kind)
-    (eq-eqb (kind_number x.kind) (kind_number x.kind) refl) (h x.kind)
-  where
-    other_colour : (s t : Bool) → t ≡ true → (s && t) ≡ false → s ≡ false
-    other_colour true true e f = f
-    other_colour true false e f = cc
-    other_colour false t e f = refl
+nobody_there c (Some x) h =
+    sym (ap (λ t. same_colour c x.colour && t) (same_kind-self x.kind) ∙ and-true (same_colour c x.colour)) ∙ h x.kind
 
 -- those who attack a square later are those who would attack it now, but for the squares that change
 pub left_out : (sets : List ℕ) (changed filled a w : ℕ) (c : Colour) (men later : Men) (square : ℕ)

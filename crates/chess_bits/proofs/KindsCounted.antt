@@ -1,5 +1,5 @@
 -- The moves of free pieces of a kind, counted together.
-use Rattle.std.proofs.Common.{◌≡◌, ℕ, zero, suc, ◌+◌, ◌<◌, ◌≤◌, inl, inr, Bool, true, false, not, ◌&&◌, ◌||◌, ◌==◌, List, length, length-append, refl, ap, ◌∙◌, arith}
+use Rattle.std.proofs.Common.{◌≡◌, ℕ, zero, suc, ◌+◌, ◌<◌, ◌≤◌, inl, inr, Bool, true, false, not, ◌&&◌, ◌||◌, ◌==◌, List, length, length-append, None, refl, sym, ap, ◌∙◌, arith}
 use Rattle.std.specs.List.{filter, flat_map, range_with_len}
 use Rattle.std.proofs.lemmas.Bool.{or_parts, cases_Bool}
 use Rattle.chess_base.specs.declared.man.Kind.{Kind}
@@ -7,13 +7,14 @@ use Rattle.chess_base.specs.declared.man.Kind.TheVariants.{King, Pawn}
 use Rattle.chess_base.specs.declared.setup.Setup.{Setup}
 use Rattle.chess_base.specs.Attacks.{could_capture}
 use Rattle.chess_base.specs.Men.{man_at, is_of, is_man, same_kind}
-use Rattle.chess_base.specs.MoveList.{squares}
+use Rattle.chess_base.specs.MoveList.{move_of, squares}
+use Rattle.std.proofs.lemmas.List.{length-map}
 use Rattle.chess_base.specs.Sound.{IsSound}
 use Rattle.chess_base.proofs.shared.Men.{is_of-from_is_man, is_man-kind}
 use Rattle.chess_moves.specs.shared.MovesBySquares.{moves_from}
 use Rattle.chess_moves.specs.Sets.{contains, members}
 use Rattle.chess_bits.specs.ties.Goes.{man_goes, IsFree}
-use Rattle.chess_bits.proofs.Freely.{no_pawn_ordinary, free_counted}
+use Rattle.chess_bits.proofs.Freely.{no_pawn_ordinary, free_listed}
 use Rattle.chess_bits.proofs.TargetsOf.{man_told, officer_is, man_set_sound, man_set_complete}
 
 -- ---- a set in two
@@ -69,5 +70,6 @@ officer_counted p a king w kind sound free man kinds low there one set =
     let own = is_of-from_is_man p.side kind (man_at p.men a) man in
     let no_pawn = is_man-kind p.side p.side kind Pawn (man_at p.men a) neither.1 man in
     let goes_so : (k : ℕ) → k < 64 → contains w k ≡ man_goes p a k = λ k l. set k l ∙ officer_is p a k _ at own neither.0 in
-    free_counted p a king w sound free (no_pawn_ordinary p a no_pawn) low there one
-    (man_set_sound p a w own no_pawn low goes_so) (man_set_complete p a w own no_pawn low goes_so)
+    sym (ap length (free_listed p a king w sound free (no_pawn_ordinary p a no_pawn) low there one
+    (man_set_sound p a w own no_pawn low goes_so) (man_set_complete p a w own no_pawn low goes_so))
+    ∙ length-map (members w) (λ b. move_of a b None))

@@ -15,11 +15,11 @@ use Rattle.chess_base.specs.declared.man.Variant.TheVariants.{Normal, Fischerand
 use Rattle.chess_base.specs.declared.setup.Setup.{Setup}
 use Rattle.chess_base.specs.Attacks.{is_clear, could_capture, attacks, is_attacked}
 use Rattle.chess_base.specs.shared.Splits.{could_capture_as, names_castling}
-use Rattle.chess_base.specs.Castling.{home_square, king_home_file, castled_king_file, right_of, is_castling_to, castle_of, mover_end, castling_rook_to}
+use Rattle.chess_base.specs.Castling.{home_square, king_home_file, castled_king_file, right_of, is_castling_to, castle_of, mover_end}
 use Rattle.chess_base.specs.Before.{mover_to}
 use Rattle.chess_base.specs.Men.{Men, man_at, other, is_of, is_man}
 use Rattle.chess_base.specs.MoveList.{move_of}
-use Rattle.chess_base.specs.Moves.{is_pseudo_legal, is_legal, is_en_passant, man_moves, men_after, second_square_emptied}
+use Rattle.chess_base.specs.Moves.{is_pseudo_legal, is_legal, is_en_passant, man_moves, men_after}
 use Rattle.chess_base.specs.Sound.{IsSound}
 use Rattle.chess_base.specs.Squares.{file, rank, is_between, is_between_on_file, is_between_on_rank, is_between_on_diagonal}
 use Rattle.chess_base.proofs.shared.Castling.{right_is_sound_of, castling_rook_is_there}
@@ -28,11 +28,11 @@ use Rattle.chess_base.proofs.shared.Squares.{each_square_same, some_square_same}
 use Rattle.chess_moves.specs.Promoting.{would_promote}
 use Rattle.chess_bits.specs.ties.Goes.{goes, legal_or, lifted}
 use Rattle.chess_bits.proofs.Attackers.{eq_back}
-use Rattle.chess_bits.proofs.KingAfter.{mover_some, mover_own, king_lands, check_after, legal_is}
+use Rattle.chess_bits.proofs.KingAfter.{king_lands, check_after, legal_is}
 use Rattle.chess_bits.proofs.Lifted.{lifted_at}
-use Rattle.chess_bits.proofs.Listed.{pattern_of}
+use Rattle.chess_bits.proofs.Listed.{unpromoted}
 use Rattle.chess_bits.proofs.Patterns.{man_sound, not_promoting}
-use Rattle.chess_bits.proofs.Quiet.{IsPlain, lands_same, plain_after, not_passing}
+use Rattle.chess_bits.proofs.Quiet.{lands_same, plain_after, plain_by, not_passing}
 use Rattle.chess_bits.proofs.TargetsOf.{man_told, none_castles, steps_of_man}
 
 -- ---- a square is attacked from elsewhere: what is on it doesn't count
@@ -164,7 +164,7 @@ step_no_castling p a b sound king moves =
 pub step_is : (p : Setup) (a b : ℕ) → IsSound p → is_man p.side King (man_at p.men a) ≡ true
     → man_moves p (move_of a b None) ≡ true → a < 64 → b < 64
     → not (is_attacked (lifted p.men a) b (other p.side)) ≡ is_legal p (move_of a b None)
-unfolding second_square_emptied castling_rook_to mover_end
+unfolding mover_end
 step_is p a b sound king moves low high =
     let m = move_of a b None in
     let at = man_told p.side King (man_at p.men a) king in
@@ -172,18 +172,13 @@ step_is p a b sound king moves low high =
     let go : goes p a b ≡ true = man_sound p a b _ at refl refl low high
     (ap (λ o. legal_or p m o (man_moves p m)) none ∙ moves) in
     let stays : would_promote p a b ≡ false = not_promoting p a b _ at refl in
-    let pattern : is_pseudo_legal p m ≡ true = pattern_of p a b None go (rw stays refl) in
+    let pattern : is_pseudo_legal p m ≡ true = unpromoted p a b go stays in
     let lands : mover_end p m ≡ b = ap (mover_to m) none in
     let there : is_man p.side King (man_at (men_after p m) b) ≡ true =
     king_lands p m b (sym lands) high (ap (λ o. is_man p.side King o) (lands_same (man_at p.men a)) ∙ king) in
     let no_passing : is_en_passant p m ≡ false =
     not_passing p m (rw (is_man-kind p.side p.side King Pawn (man_at p.men a) refl king) refl) in
-    let plain : IsPlain p m = record {
-      also = rw (no_passing, none) refl;
-      rook = rw none refl;
-      mover = mover_some p m pattern;
-      own = mover_own p m pattern;
-    } in
+    let plain = plain_by p m pattern none no_passing in
     let same : (k : ℕ) → k < 64 → (k == b) ≡ false → man_at (lifted p.men a) k ≡ man_at (men_after p m) k =
     λ k l apart. lifted_at p.men a k sound.board low
     ∙ sym (plain_after p m k plain l ∙ rw (lands, eq_back b k, apart, eq_back a k) refl) in

@@ -6,7 +6,6 @@ mod BoardSets
 mod AfterSets
 mod Quiet
 mod Making
-mod Keyed
 mod Reached
 mod OneKing
 mod Standing

@@ -4,10 +4,10 @@ use Rattle.std.proofs.Common.{◌≡◌, ℕ, ◌<◌, inl, inr, Bool, true, fal
 use Rattle.std.proofs.lemmas.Bool.{cases_eq, eq-eqb, ne_eqb}
 use Rattle.chess_base.specs.declared.man.Colour.{Colour}
 use Rattle.chess_base.specs.declared.man.Man.{Man}
-use Rattle.chess_base.specs.Men.{Men, man_at, is_of, is_man}
-use Rattle.chess_base.proofs.shared.Men.{not_is_man, is_man-none}
+use Rattle.chess_base.specs.Men.{Men, man_at, is_of}
 use Rattle.chess_moves.specs.Sets.{contains}
 use Rattle.chess_bits.specs.ties.Goes.{lifted}
+use Rattle.chess_bits.proofs.BoardSets.{kinds_kept, none_of}
 use Rattle.chess_bits.specs.ties.KindSets.{IsKinds}
 use Rattle.chess_bits.specs.ties.Occupancy.{IsOccupied}
 
@@ -23,20 +23,7 @@ lifted_at men a k all low =
 -- the sets of the other colour stay
 pub lifted_kinds : (sets : List ℕ) (men : Men) (c : Colour) (a : ℕ) → length men ≡ 64 → a < 64
     → is_of c (man_at men a) ≡ false → IsKinds sets c men → IsKinds sets c (lifted men a)
-lifted_kinds sets men c a all low theirs h = record {
-  of_kind = λ kind k l.
-      elim (cases_eq k a) [
-        | inl here ↦
-            h.of_kind kind k l
-            ∙ ap (λ s. is_man c kind (man_at men s)) here ∙ not_is_man c kind (man_at men a) theirs
-            ∙ sym (ap (is_man c kind)
-            (lifted_at men a k all low ∙ ap (λ t. cond t None (man_at men k)) (eq-eqb k a here))
-            ∙ is_man-none c kind None refl)
-        | inr away ↦ h.of_kind kind k l
-            ∙ sym (ap (is_man c kind)
-            (lifted_at men a k all low ∙ ap (λ t. cond t None (man_at men k)) (ne_eqb k a away)))
-      ];
-}
+lifted_kinds sets men c a all low theirs = kinds_kept sets men c a None all low theirs (none_of c None refl)
 
 -- its square is empty
 pub lifted_occupied : (w v : ℕ) (men : Men) (a : ℕ) → length men ≡ 64 → a < 64 → IsOccupied w men

@@ -1,7 +1,8 @@
 -- The list of legal moves, over the members of sets.
 use Rattle.std.proofs.Common.{◌≡◌, ℕ, zero, suc, ◌+◌, ◌<◌, ◌≤◌, inl, inr, Bool, true, false, Option, Some, None, List, [], ◌∷◌, ◌++◌, length, map, take, cond, refl, sym, ap, subst, ◌∙◌, arith, length-append}
 use Rattle.std.specs.List.{filter, flat_map, range_with_len}
-use Rattle.std.proofs.lemmas.Bool.{cases_Bool, and_from, false_from_ne_true, both_ways}
+use Rattle.std.proofs.lemmas.List.{length-map, length-take-le}
+use Rattle.std.proofs.lemmas.Bool.{cases_Bool, false_from_ne_true, both_ways}
 use Rattle.chess_base.specs.declared.man.Kind.{Kind}
 use Rattle.chess_base.specs.declared.man.Kind.TheVariants.{Queen, Rook, Bishop, Knight}
 use Rattle.chess_base.specs.declared.man.Move.{Move}
@@ -17,7 +18,7 @@ use Rattle.chess_moves.proofs.shared.Members.{flat_map_members}
 use Rattle.chess_moves.proofs.shared.MovesBySquares.{moves-by_start, none_from, promoting, all_promote, none_promotes}
 use Rattle.chess_moves.proofs.shared.LegalMoves.{moves_fit}
 use Rattle.chess_bits.specs.ties.Goes.{goes}
-use Rattle.chess_bits.proofs.Patterns.{pattern_is}
+use Rattle.chess_bits.proofs.Patterns.{pattern_from}
 
 -- ---- members
 
@@ -61,19 +62,12 @@ room_onto f now whole ms s ns n e h fits =
     ∙ ap length all in
     omega (arith, long, fits)
 
-more_than : {A B : Type 0} (f : A → B) (xs : List A) (i : ℕ) → i < length xs
-    → length (map f (take i xs)) < length xs
-more_than f [] i h = absurd (omega (arith, h))
-more_than f (x ∷ xs) zero h = omega arith
-more_than f (x ∷ xs) (suc i) h = let rest = more_than f xs i (omega (arith, h)) in omega (arith, rest)
-
 -- where all of a list fit, there is room for the next of them
 pub room_for_each : {A B : Type 0} (f : A → B) (xs : List A) (i : ℕ) (start now : List B) (room : ℕ) → i < length xs
     → now ≡ start ++ map f (take i xs) → length start + length xs ≤ room → length now < room
 room_for_each f xs i start now room h e fits =
-    let more = more_than f xs i h in
-    let all : length now ≡ length start + length (map f (take i xs)) = rw e (length-append start (map f (take i xs))) in
-    omega (arith, more, all, fits)
+    let long = ap length e ∙ length-append start (map f (take i xs)) in
+    omega (arith, long, length-map (take i xs) f, length-take-le i xs (omega (arith, h)), h, fits)
 
 -- there is room for the next
 pub room_for : {A : Type 0} (g : ℕ → List A) (now whole : List A) (ms : List ℕ) (s : ℕ) (ns : List ℕ) (n : ℕ)
@@ -87,15 +81,10 @@ room_for g now whole ms s ns n e h fits =
 
 -- ---- legal moves
 
-pub pattern_of : (p : Setup) (a b : ℕ) (k : Option Kind) → goes p a b ≡ true → promotion_fits (would_promote p a b) k
-    ≡ true → is_pseudo_legal p (move_of a b k) ≡ true
-pattern_of p a b k g f = pattern_is p (move_of a b k) ∙ and_from (goes p a b) (promotion_fits (would_promote p a b) k) g
-    f
-
 -- a move without a promotion has the pattern where no pawn would promote
 pub unpromoted : (p : Setup) (a b : ℕ) → goes p a b ≡ true → would_promote p a b ≡ false
     → is_pseudo_legal p (move_of a b None) ≡ true
-unpromoted p a b g e = pattern_of p a b None g (rw e refl)
+unpromoted p a b g e = pattern_from p (move_of a b None) g (rw e refl)
 
 all_or_none : {A : Type 0} (q : A → Bool) (w x y z : A) (t : Bool) → t ≡ q w → t ≡ q x → t ≡ q y → t ≡ q z
     → filter q (w ∷ x ∷ y ∷ z ∷ []) ≡ cond t (w ∷ x ∷ y ∷ z ∷ []) []

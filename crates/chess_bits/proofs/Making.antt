@@ -1,6 +1,6 @@
 -- Moves made by cheaper means than their definitions give.
 use mathlib.Core.Bool.{and-false}
-use Rattle.std.proofs.Common.{◌≡◌, ◌≢◌, ℕ, true, false, not, ◌&&◌, Bool, length, set, refl, sym, ap, ◌∙◌, ◌||◌, ◌==◌, Option, Some, None, is_none, if◌then◌else◌}
+use Rattle.std.proofs.Common.{◌≡◌, ◌≢◌, ℕ, true, false, not, ◌&&◌, Bool, length, set, refl, sym, ap, arith, ◌∙◌, ◌||◌, ◌==◌, Option, Some, None, is_none, if◌then◌else◌}
 use Rattle.std.proofs.lemmas.Bool.{and_parts, and_left, and_right, both_ways, ne_eqb, not-true, or_parts}
 use Rattle.std.proofs.lemmas.List.{set_comm}
 use Rattle.std.specs.Option.{is_some}
@@ -13,18 +13,16 @@ use Rattle.chess_base.specs.declared.man.Kind.TheVariants.{King, Queen, Rook, Bi
 use Rattle.chess_base.specs.declared.man.Man.{Man}
 use Rattle.chess_base.specs.declared.man.Move.{Move}
 use Rattle.chess_base.specs.declared.man.Rights.{Rights}
-use Rattle.chess_base.specs.declared.man.Variant.{Variant}
-use Rattle.chess_base.specs.declared.man.Variant.TheVariants.{Normal, Fischerandom}
 use Rattle.chess_base.specs.declared.setup.Saved.{Saved}
 use Rattle.chess_base.specs.declared.setup.Setup.{Setup}
 use Rattle.chess_base.specs.Squares.{is_square}
 use Rattle.chess_base.specs.Men.{Men, man_at, other, is_man, is_of, same_colour, same_kind}
 use Rattle.chess_base.specs.Before.{man_on, saved_of}
-use Rattle.chess_base.specs.Castling.{castling_rook_to, home_square, is_beside, king_home_file, king_square, mover_end, right_of, right_is_sound, rook_file, is_castling_to, are_placed_for_castling}
-use Rattle.chess_base.specs.shared.Splits.{right_is_sound_at}
+use Rattle.chess_base.specs.Castling.{castling_rook_to, mover_end, right_of, is_castling_to}
 use Rattle.chess_base.specs.Sound.{IsSound}
 use Rattle.chess_base.specs.Attacks.{is_in_check}
 use Rattle.chess_base.specs.Moves.{after, captured_square, fullmove_after, halfmove_after, is_pseudo_legal, is_double_advance, is_legal, arriving_man, men_after, right_after, rights_after, second_square_emptied, target_after}
+use Rattle.chess_base.proofs.shared.Castling.{castling_rook_is_there, right_is_sound_of}
 use Rattle.chess_base.proofs.shared.LegalMoves.{change_of}
 use Rattle.chess_base.proofs.shared.Captures.{resets_clock_is}
 use Rattle.chess_base.proofs.shared.Changes.{Change, Rest, Alone, WithCapture, WithRook}
@@ -38,69 +36,41 @@ use Rattle.chess_bits.proofs.TargetsOf.{none_castles, no_king_castles, other_man
 
 -- ---- rights
 
--- no right is there
-pub record NoRight (r : Rights) : Type 0 where
-  pub white_king_side : r.white.king_side ≡ None
-  pub white_queen_side : r.white.queen_side ≡ None
-  pub black_king_side : r.black.king_side ≡ None
-  pub black_queen_side : r.black.queen_side ≡ None
-
-no_right : (r : Rights) → has_no_right r ≡ true → NoRight r
-no_right r h =
-    let a = and_parts (is_none r.white.king_side && is_none r.white.queen_side && is_none r.black.king_side)
-    (is_none r.black.queen_side) h in
-    let b = and_parts (is_none r.white.king_side && is_none r.white.queen_side) (is_none r.black.king_side) a.0 in
-    let c = and_parts (is_none r.white.king_side) (is_none r.white.queen_side) b.0 in
-    record {
-      white_king_side = is_none-None r.white.king_side c.0;
-      white_queen_side = is_none-None r.white.queen_side c.1;
-      black_king_side = is_none-None r.black.king_side b.1;
-      black_queen_side = is_none-None r.black.queen_side a.1;
-    }
+none_of : (r : Rights) (c : Colour) (w : CastlingSide) → has_no_right r ≡ true → right_of r c w ≡ None
+none_of r White KingSide h = is_none-None r.white.king_side (grind (arith, h))
+none_of r White QueenSide h = is_none-None r.white.queen_side (grind (arith, h))
+none_of r Black KingSide h = is_none-None r.black.king_side (grind (arith, h))
+none_of r Black QueenSide h = is_none-None r.black.queen_side (grind (arith, h))
 
 pub none_lost : (p : Setup) (m : Move) → has_no_right p.rights ≡ true → p.rights ≡ rights_after p m
 unfolding rights_after
 none_lost p m h =
-    let none = no_right p.rights h in
-    rw (none.white_king_side, none.white_queen_side, none.black_king_side, none.black_queen_side) refl
+    rw (
+      none_of p.rights White KingSide h,
+      none_of p.rights White QueenSide h,
+      none_of p.rights Black KingSide h,
+      none_of p.rights Black QueenSide h,
+    ) refl
 
-no_king : (c : Colour) (o : Option Man) → is_king_or_rook o ≡ false → is_man c King o ≡ false
+no_king_or_rook : (c : Colour) (o : Option Man) → is_king_or_rook o ≡ false
+    → (is_man c King o ≡ false) × (is_man c Rook o ≡ false)
 unfolding is_man
-no_king c None e = refl
-no_king c (Some x) e = and_right (same_colour c x.colour) (same_kind King x.kind)
-    (or_parts (same_kind King x.kind) (same_kind Rook x.kind) e).0
+no_king_or_rook c None e = (refl, refl)
+no_king_or_rook c (Some x) e =
+    let neither = or_parts (same_kind King x.kind) (same_kind Rook x.kind) e in
+    (and_right (same_colour c x.colour) _ neither.0, and_right (same_colour c x.colour) _ neither.1)
 
-no_rook : (c : Colour) (o : Option Man) → is_king_or_rook o ≡ false → is_man c Rook o ≡ false
-unfolding is_man
-no_rook c None e = refl
-no_rook c (Some x) e = and_right (same_colour c x.colour) (same_kind Rook x.kind)
-    (or_parts (same_kind King x.kind) (same_kind Rook x.kind) e).1
-
--- the rook of a right is on its square
-rook_there : (v : Variant) (men : Men) (c : Colour) (w : CastlingSide) (s : ℕ) → are_placed_for_castling v men c w s ≡ true
-    → is_man c Rook (man_at men s) ≡ true
-rook_there Normal men c w s h =
-    (and_parts ((s == home_square c (rook_file w)) && is_man c King (man_at men (home_square c king_home_file)))
-    (is_man c Rook (man_at men s)) h).1
-rook_there Fischerandom men c w s h =
-    (and_parts (is_beside c w (king_square men c) s) (is_man c Rook (man_at men s)) h).1
-
-right_kept : (p : Setup) (m : Move) (c : Colour) (w : CastlingSide) (o : Option ℕ)
+right_kept : (p : Setup) (m : Move) (c : Colour) (w : CastlingSide) (o : Option ℕ) → IsSound p
     → is_king_or_rook (man_at p.men m.from) ≡ false → is_king_or_rook (man_at p.men m.to) ≡ false
-    → right_is_sound_at p.variant p.men c w o ≡ true → right_after p m c o ≡ o
-right_kept p m c w None mover taken stands = refl
-right_kept p m c w (Some s) mover taken stands =
-    let there = rook_there p.variant p.men c w s stands in
-    let not_from : (m.from == s) ≡ false =
-    ne_eqb m.from s (λ e. both_ways _ (no_rook c (man_at p.men m.from) mover) (rw e there)) in
+    → right_of p.rights c w ≡ o → right_after p m c o ≡ o
+right_kept p m c w None sound mover taken at = refl
+right_kept p m c w (Some s) sound mover taken at =
+    let there = castling_rook_is_there p c w s (right_is_sound_of p sound c w) at in
+    let starts = no_king_or_rook c (man_at p.men m.from) mover in
+    let not_from : (m.from == s) ≡ false = ne_eqb m.from s (λ e. both_ways _ starts.1 (rw e there)) in
     let not_to : (m.to == s) ≡ false =
-    ne_eqb m.to s (λ e. both_ways _ (no_rook c (man_at p.men m.to) taken) (rw e there)) in
-    rw (no_king c (man_at p.men m.from) mover, not_from, not_to) refl
-
-stands_at : (p : Setup) (c : Colour) (w : CastlingSide) → right_is_sound p c w ≡ true
-    → right_is_sound_at p.variant p.men c w (right_of p.rights c w) ≡ true
-unfolding right_is_sound
-stands_at p c w h = h
+    ne_eqb m.to s (λ e. both_ways _ (no_king_or_rook c (man_at p.men m.to) taken).1 (rw e there)) in
+    rw (starts.0, not_from, not_to) refl
 
 rights_kept_at : (p : Setup) (m : Move) → IsSound p
     → (is_king_or_rook (man_at p.men m.from) || is_king_or_rook (man_at p.men m.to)) ≡ false
@@ -109,29 +79,19 @@ unfolding rights_after
 rights_kept_at p m sound h =
     let none = or_parts (is_king_or_rook (man_at p.men m.from)) (is_king_or_rook (man_at p.men m.to)) h in
     rw (
-      right_kept p m White KingSide p.rights.white.king_side none.0 none.1
-          (stands_at p White KingSide sound.white_king_side),
-      right_kept p m White QueenSide p.rights.white.queen_side none.0 none.1
-          (stands_at p White QueenSide sound.white_queen_side),
-      right_kept p m Black KingSide p.rights.black.king_side none.0 none.1
-          (stands_at p Black KingSide sound.black_king_side),
-      right_kept p m Black QueenSide p.rights.black.queen_side none.0 none.1
-          (stands_at p Black QueenSide sound.black_queen_side),
+      right_kept p m White KingSide p.rights.white.king_side sound none.0 none.1 refl,
+      right_kept p m White QueenSide p.rights.white.queen_side sound none.0 none.1 refl,
+      right_kept p m Black KingSide p.rights.black.king_side sound none.0 none.1 refl,
+      right_kept p m Black QueenSide p.rights.black.queen_side sound none.0 none.1 refl,
     ) refl
 
 pub rights_kept : (p : Setup) (m : Move) (x : Man) (o : Option Man) → IsSound p → man_at p.men m.from ≡ Some x
     → man_at p.men m.to ≡ o → (is_king_or_rook (Some x) || is_king_or_rook o) ≡ false → p.rights ≡ rights_after p m
 rights_kept p m x o sound from to h = rights_kept_at p m sound (rw (from, to) h)
 
-none_of : (r : Rights) (c : Colour) (w : CastlingSide) → NoRight r → right_of r c w ≡ None
-none_of r White KingSide none = none.white_king_side
-none_of r White QueenSide none = none.white_queen_side
-none_of r Black KingSide none = none.black_king_side
-none_of r Black QueenSide none = none.black_queen_side
-
 no_right_says : (p : Setup) (m : Move) (w : CastlingSide) → has_no_right p.rights ≡ true → is_castling_to p m w ≡ false
 unfolding is_castling_to
-no_right_says p m w h = rw (none_of p.rights p.side w (no_right p.rights h)) (and-false _)
+no_right_says p m w h = rw (none_of p.rights p.side w h) (and-false _)
 
 -- ---- plain moves
 
@@ -142,9 +102,10 @@ no_king_plainly p m no_king no_passing = record {
   no_passing = not_passing p m no_passing;
 }
 
-officer_plainly : (p : Setup) (m : Move) → is_man p.side King (man_at p.men m.from) ≡ false
-    → is_man p.side Pawn (man_at p.men m.from) ≡ false → IsPlainly p m
-officer_plainly p m no_king no_pawn = no_king_plainly p m no_king (and_left _ _ no_pawn)
+officer_plainly : (p : Setup) (m : Move) (x : Man) → man_at p.men m.from ≡ Some x → same_kind King x.kind ≡ false
+    → same_kind Pawn x.kind ≡ false → IsPlainly p m
+officer_plainly p m x at no_king no_pawn = no_king_plainly p m (other_man p.side King (man_at p.men m.from) x at no_king)
+    (and_left _ _ (other_man p.side Pawn (man_at p.men m.from) x at no_pawn))
 
 plain_second : (p : Setup) (m : Move) → IsPlainly p m → second_square_emptied p m ≡ None
 unfolding second_square_emptied
@@ -175,18 +136,10 @@ plainly_by p m x at King e h = record {
 plainly_by p m x at Pawn e h = no_king_plainly p m
     (other_man p.side King (man_at p.men m.from) x at (ap (λ k. same_kind King k) e))
     (and_right _ _ (not-true (is_square p.target m.to) h))
-plainly_by p m x at Queen e h = officer_plainly p m
-    (other_man p.side King (man_at p.men m.from) x at (ap (λ k. same_kind King k) e))
-    (other_man p.side Pawn (man_at p.men m.from) x at (ap (λ k. same_kind Pawn k) e))
-plainly_by p m x at Rook e h = officer_plainly p m
-    (other_man p.side King (man_at p.men m.from) x at (ap (λ k. same_kind King k) e))
-    (other_man p.side Pawn (man_at p.men m.from) x at (ap (λ k. same_kind Pawn k) e))
-plainly_by p m x at Bishop e h = officer_plainly p m
-    (other_man p.side King (man_at p.men m.from) x at (ap (λ k. same_kind King k) e))
-    (other_man p.side Pawn (man_at p.men m.from) x at (ap (λ k. same_kind Pawn k) e))
-plainly_by p m x at Knight e h = officer_plainly p m
-    (other_man p.side King (man_at p.men m.from) x at (ap (λ k. same_kind King k) e))
-    (other_man p.side Pawn (man_at p.men m.from) x at (ap (λ k. same_kind Pawn k) e))
+plainly_by p m x at Queen e h = officer_plainly p m x at (ap (same_kind King) e) (ap (same_kind Pawn) e)
+plainly_by p m x at Rook e h = officer_plainly p m x at (ap (same_kind King) e) (ap (same_kind Pawn) e)
+plainly_by p m x at Bishop e h = officer_plainly p m x at (ap (same_kind King) e) (ap (same_kind Pawn) e)
+plainly_by p m x at Knight e h = officer_plainly p m x at (ap (same_kind King) e) (ap (same_kind Pawn) e)
 
 pub record Shifts (p : Setup) (m : Move) (x : Man) : Type 0 where
   pub mover : man_at p.men m.from ≡ Some x

@@ -28,12 +28,6 @@ some_king men c zero all one set =
     absurd (omega (arith, none, counted))
 some_king men c (suc n) all one set = omega arith
 
-apart : (men : Men) (c : Colour) (f k : ℕ) → is_man c King (man_at men f) ≡ true → is_man c King (man_at men k) ≡ false
-    → (k == f) ≡ true → ⊥
-apart men c f k here other e =
-    let same : k ≡ f = eqb-true k f e in
-    both_ways _ other (ap (λ s. is_man c King (man_at men s)) same ∙ here)
-
 -- and no other square is
 pub alone : (men : Men) (c : Colour) (f : ℕ) → length men ≡ 64 → has_one_king men c ≡ true
     → is_man c King (man_at men f) ≡ true
@@ -41,5 +35,6 @@ pub alone : (men : Men) (c : Colour) (f : ℕ) → length men ≡ 64 → has_one
 alone men c f all one here k low =
     elim (cases_Bool (is_man c King (man_at men k))) [
       | inl king ↦ king ∙ sym (eq-eqb k f (one_king men c k f all one king here))
-      | inr other ↦ other ∙ sym (false_from_ne_true (k == f) (λ e. apart men c f k here other e))
+      | inr other ↦ other ∙ sym (false_from_ne_true (k == f)
+          (λ e. both_ways _ other (ap (λ s. is_man c King (man_at men s)) (eqb-true k f e) ∙ here)))
     ]

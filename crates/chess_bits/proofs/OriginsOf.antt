@@ -8,8 +8,8 @@ use Rattle.chess_base.specs.declared.man.Kind.{Kind}
 use Rattle.chess_base.specs.declared.man.Kind.TheVariants.{King, Queen, Rook, Bishop, Knight, Pawn}
 use Rattle.chess_base.specs.declared.man.Move.{Move}
 use Rattle.chess_base.specs.declared.setup.Setup.{Setup}
-use Rattle.chess_base.specs.Attacks.{is_clear, could_capture}
-use Rattle.chess_base.specs.Men.{Men, man_at, is_of, is_man, same_kind}
+use Rattle.chess_base.specs.Attacks.{could_capture}
+use Rattle.chess_base.specs.Men.{Men, man_at, is_of, is_man, same_kind, forward}
 use Rattle.chess_base.specs.MoveList.{move_of}
 use Rattle.chess_base.specs.Moves.{is_legal, pawn_advances, pawn_captures}
 use Rattle.chess_base.specs.Sound.{pawn_is_allowed}
@@ -72,6 +72,13 @@ off_lowest men Black a man e = by (is_man White Pawn (man_at men a)) (rw man at 
     by : (w : Bool) → not ((w || true) && ((rank a == 0) || (rank a == 7))) ≡ true → 8 ≤ a
     by true h = let f = not-true _ h in grind (arith, nat_tests, f)
     by false h = let f = not-true _ h in grind (arith, nat_tests, f)
+
+-- and one square ahead of a pawn is on the board
+pub on_board : (men : Men) (c : Colour) (a : ℕ) → is_man c Pawn (man_at men a) ≡ true → pawn_is_allowed men a ≡ true
+    → a < 64 → forward c a < 64
+unfolding pawn_is_allowed
+on_board men White a man e low = let f = not-true _ (rw man at e) in grind (arith, nat_tests, f, low)
+on_board men Black a man e low = omega (arith, low)
 
 -- a pawn goes where it goes legally
 pawn_comes : (p : Setup) (m : Move) → is_man p.side Pawn (man_at p.men m.from) ≡ true → is_legal p m ≡ true

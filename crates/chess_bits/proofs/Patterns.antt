@@ -167,10 +167,6 @@ legal_goes p m h =
     and_parts (goes p m.from m.to) (promotion_fits (would_promote p m.from m.to) m.promotion)
     (sym (pattern_is p m) ∙ pattern)
 
--- what castles legally goes so
-castling_goes : (p : Setup) (a b : ℕ) → is_legal p (move_of a b None) ≡ true → goes p a b ≡ true
-castling_goes p a b h = (legal_goes p (move_of a b None) h).0
-
 pub man_sound : (p : Setup) (a b : ℕ) (x : Man) → man_at p.men a ≡ Some x → x.colour ≡ p.side
     → same_kind Pawn x.kind ≡ false → a < 64 → b < 64
     → man_goes p a b ≡ true → goes p a b ≡ true
@@ -179,7 +175,7 @@ man_sound p a b x at own no_pawn low high h = by (castle_of p (move_of a b None)
     by : (o : Option Castle) → castle_of p (move_of a b None) ≡ o
         → legal_or p (move_of a b None) o (man_moves p (move_of a b None)) ≡ true → goes p a b ≡ true
     by None e g = officer_goes p a b x at own no_pawn low high ∙ ap (castles_or_moves p (move_of a b None)) e ∙ g
-    by (Some castle) e g = castling_goes p a b g
+    by (Some castle) e g = (legal_goes p (move_of a b None) g).0
 
 none_fits : (k : Option Kind) → promotion_fits false k ≡ true → k ≡ None
 none_fits None h = refl

@@ -1,15 +1,15 @@
 -- The moves of free pawns that neither promote nor take en passant, counted together: by the ways that are open to each.
 use mathlib.Core.Bool.{not-not, or-false}
-use Rattle.std.proofs.Common.{◌≡◌, ℕ, zero, suc, ◌+◌, ◌-◌, ◌/◌, ◌<◌, ◌≤◌, ◌⊎◌, inl, inr, Bool, true, false, not, ◌&&◌, ◌||◌, ◌==◌, cond, Option, Some, None, is_none, List, [], ◌∷◌, length, length-append, refl, sym, ap, ◌∙◌, arith}
+use Rattle.std.proofs.Common.{◌≡◌, ℕ, zero, suc, ◌+◌, ◌-◌, ◌/◌, ◌<◌, ◌≤◌, inl, inr, Bool, true, false, not, ◌&&◌, ◌||◌, ◌==◌, cond, Option, Some, None, is_none, List, [], ◌∷◌, length, length-append, refl, sym, ap, ◌∙◌, arith}
 use Rattle.std.specs.List.{filter, flat_map, range_with_len}
-use Rattle.std.proofs.lemmas.Bool.{and_parts, and_from, and_right, or_cases, or_parts, or_left, or_right, cases_Bool, eqb-true, eq-eqb, ne_eqb, both_ways, false_from_ne_true, not-true}
+use Rattle.std.proofs.lemmas.List.Sums.{count_by-le-length, length-filter}
+use Rattle.std.proofs.lemmas.Bool.{or_parts, cases_Bool, eqb-false, eqb-true, eq-eqb, ne_eqb, both_ways, false_from_ne_true}
 use Rattle.std.proofs.lemmas.Bool.Decides.{nat_tests}
-use Rattle.std.specs.Int.{abs_diff}
 use Rattle.chess_base.specs.declared.man.Colour.{Colour}
 use Rattle.chess_base.specs.declared.man.Colour.TheVariants.{White, Black}
 use Rattle.chess_base.specs.declared.man.Kind.TheVariants.{King, Pawn}
 use Rattle.chess_base.specs.declared.setup.Setup.{Setup}
-use Rattle.chess_base.specs.Attacks.{could_capture, is_rank_ahead}
+use Rattle.chess_base.specs.Attacks.{could_capture}
 use Rattle.chess_base.specs.Men.{Men, man_at, is_of, is_man, other, forward, pawn_rank}
 use Rattle.chess_base.specs.MoveList.{move_of, squares}
 use Rattle.chess_base.specs.Moves.{is_legal, pawn_advances, pawn_captures}
@@ -25,7 +25,7 @@ use Rattle.chess_bits.specs.ties.Shapes.{in_shape}
 use Rattle.chess_bits.proofs.Attackers.{pawn_back}
 use Rattle.chess_bits.proofs.Freely.{IsOrdinary, pawn_ordinary, free_between}
 use Rattle.chess_bits.proofs.Listed.{none_there}
-use Rattle.chess_bits.proofs.OriginsOf.{off_lowest}
+use Rattle.chess_bits.proofs.OriginsOf.{off_lowest, on_board}
 use Rattle.chess_bits.proofs.Patterns.{pawn_goes, legal_goes}
 use Rattle.chess_bits.proofs.Reached.{pawn_from}
 use Rattle.chess_bits.proofs.TargetsOf.{man_told, advances_is, captures_is}
@@ -35,10 +35,6 @@ use Rattle.chess_bits.proofs.TargetsOf.{man_told, advances_is, captures_is}
 -- one if the test holds, and else none
 abbrev once : Bool → ℕ
 once t = cond t 1 0
-
-either : (s t : Bool) → (s ≡ true → t ≡ false) → once (s || t) ≡ once s + once t
-either true t h = rw (h refl) refl
-either false t h = omega arith
 
 one_more : (q : ℕ → Bool) (a : ℕ) (xs : List ℕ) → length (filter q (a ∷ xs)) ≡ once (q a) + length (filter q xs)
 one_more q a xs = elim (cases_Bool (q a)) [ inl kept ↦ rw kept (omega arith) | inr left ↦ rw left (omega arith) ]
@@ -88,16 +84,12 @@ alone true n low =
 pub summed : {a b c d e f g h : ℕ} → a ≡ e → b ≡ f → c ≡ g → d ≡ h → a + b + c + d ≡ e + f + g + h
 summed p q r s = omega (arith, p, q, r, s)
 
-few_kept : (q : ℕ → Bool) (n a : ℕ) → length (filter q (range_with_len a n)) ≤ n
-few_kept q zero a = omega arith
-few_kept q (suc n) a =
-    let rest = few_kept q n (a + 1) in
-    elim (cases_Bool (q a)) [ inl on ↦ rw on (omega (arith, rest)) | inr off ↦ rw off (omega (arith, rest)) ]
-
 -- a set has 64 squares at most
 pub members_fit : (w : ℕ) → length (members w) ≤ 64
 unfolding members squares
-members_fit w = few_kept (λ k. contains w k) 64 0
+members_fit w =
+    let all : length squares ≡ 64 = refl in
+    omega (arith, all, length-filter (λ k. contains w k) squares, count_by-le-length (λ k. contains w k) squares)
 
 -- ---- the squares to which an ordinary pawn may go
 
@@ -106,20 +98,13 @@ abbrev Inside : Colour → ℕ → Type 0
 Inside White a = (8 ≤ a) × (a < 48)
 Inside Black a = (16 ≤ a) × (a < 64)
 
-off_highest : (men : Men) (a : ℕ) → is_man White Pawn (man_at men a) ≡ true → pawn_is_allowed men a ≡ true
-    → rank a ≡ 7 → ⊥
-unfolding pawn_is_allowed
-off_highest men a man e top = let f = not-true _ (rw man at e) in grind (arith, nat_tests, f, top)
-
 inside : (men : Men) (c : Colour) (a : ℕ) → is_man c Pawn (man_at men a) ≡ true → pawn_is_allowed men a ≡ true → a < 64
     → (rank a ≡ pawn_rank (other c) → ⊥) → Inside c a
 inside men White a man stands low off =
-    let from = off_lowest men White a man stands in
-    let below : rank a ≡ 7 → ⊥ = off_highest men a man stands in
-    (from, below_last (rank a) refl off below)
+    (off_lowest men White a man stands, below_last (rank a) refl off (on_board men White a man stands low))
   where
-    below_last : (r : ℕ) → a / 8 ≡ r → (r ≡ 6 → ⊥) → (r ≡ 7 → ⊥) → a < 48
-    below_last r e six seven = grind (arith, e, low, six, seven)
+    below_last : (r : ℕ) → a / 8 ≡ r → (r ≡ 6 → ⊥) → a + 8 < 64 → a < 48
+    below_last r e six high = grind (arith, e, low, six, high)
 inside men Black a man stands low off =
     let from = off_lowest men Black a man stands in
     (past_last (rank a) refl off from, low)
@@ -142,108 +127,16 @@ record AreApart (n t l r : ℕ) : Type 0 where
 
 apart : (c : Colour) (a : ℕ) → Inside c a
     → AreApart (forward c a) (forward c (forward c a)) (forward c a - 1) (forward c a + 1)
-apart White a i = record {
-  low_n = omega (arith, i.1);
-  low_t = omega (arith, i.1);
-  low_l = omega (arith, i.1);
-  low_r = omega (arith, i.1);
-  nt = λ e. omega (arith, e);
-  nl = λ e. omega (arith, e);
-  nr = λ e. omega (arith, e);
-  tl = λ e. omega (arith, e);
-  tr = λ e. omega (arith, e);
-  lr = λ e. omega (arith, e);
-}
-apart Black a i = record {
-  low_n = omega (arith, i.1);
-  low_t = omega (arith, i.1);
-  low_l = omega (arith, i.1);
-  low_r = omega (arith, i.1);
-  nt = λ e. omega (arith, e, i.0);
-  nl = λ e. omega (arith, e, i.0);
-  nr = λ e. omega (arith, e, i.0);
-  tl = λ e. omega (arith, e, i.0);
-  tr = λ e. omega (arith, e, i.0);
-  lr = λ e. omega (arith, e, i.0);
-}
-
-same_tests : (s t : Bool) → (s ≡ true → t ≡ true) → (t ≡ true → s ≡ true) → s ≡ t
-same_tests true t h g = sym (h refl)
-same_tests false true h g = g refl
-same_tests false false h g = refl
-
--- one file apart is to the left or to the right
-aside : (m n : ℕ) → abs_diff m n ≡ 1 → (m ≡ n + 1) ⊎ (n ≡ m + 1)
-aside m n e = grind (arith, e)
-
-off_edge : (n m : ℕ) → not (n == m) ≡ true → n ≡ m → ⊥
-off_edge n m h e = both_ways (n == m) (not-true _ h) (eq-eqb n m e)
-
-off_edge' : (n m : ℕ) → (n ≡ m → ⊥) → not (n == m) ≡ true
-off_edge' n m h = rw (ne_eqb n m h) refl
+apart White a i = let low = i.0 in let high = i.1 in grind arith
+apart Black a i = let low = i.0 in let high = i.1 in grind arith
 
 -- where a pawn attacks
-left_of : (c : Colour) (a b : ℕ) → Inside c a → file a ≡ file b + 1 → is_rank_ahead c a b ≡ true → b ≡ forward c a - 1
-left_of White a b i f e = let r = eqb-true (rank b) (rank a + 1) e in omega (arith, f, r)
-left_of Black a b i f e = let r = eqb-true (rank a) (rank b + 1) e in omega (arith, f, r)
-
-right_of : (c : Colour) (a b : ℕ) → Inside c a → file b ≡ file a + 1 → is_rank_ahead c a b ≡ true
-    → b ≡ forward c a + 1
-right_of White a b i f e = let r = eqb-true (rank b) (rank a + 1) e in omega (arith, f, r)
-right_of Black a b i f e = let r = eqb-true (rank a) (rank b + 1) e in omega (arith, f, r)
-
-to_left : (men : Men) (c : Colour) (a b : ℕ) → Inside c a → (file a ≡ 0 → ⊥) → b ≡ forward c a - 1
-    → could_capture men c Pawn a b ≡ true
-unfolding could_capture
-to_left men White a b i off e =
-    and_from (abs_diff (file a) (file b) == 1) (rank b == rank a + 1)
-    (eq-eqb (abs_diff (file a) (file b)) 1 (omega (arith, e, off)))
-    (eq-eqb (rank b) (rank a + 1) (omega (arith, e, off)))
-to_left men Black a b i off e =
-    and_from (abs_diff (file a) (file b) == 1) (rank a == rank b + 1)
-    (eq-eqb (abs_diff (file a) (file b)) 1 (omega (arith, e, off, i.0)))
-    (eq-eqb (rank a) (rank b + 1) (omega (arith, e, off, i.0)))
-
-to_right : (men : Men) (c : Colour) (a b : ℕ) → Inside c a → (file a ≡ 7 → ⊥) → b ≡ forward c a + 1
-    → could_capture men c Pawn a b ≡ true
-unfolding could_capture
-to_right men White a b i off e =
-    and_from (abs_diff (file a) (file b) == 1) (rank b == rank a + 1)
-    (eq-eqb (abs_diff (file a) (file b)) 1 (omega (arith, e, off)))
-    (eq-eqb (rank b) (rank a + 1) (omega (arith, e, off)))
-to_right men Black a b i off e =
-    and_from (abs_diff (file a) (file b) == 1) (rank a == rank b + 1)
-    (eq-eqb (abs_diff (file a) (file b)) 1 (omega (arith, e, off, i.0)))
-    (eq-eqb (rank a) (rank b + 1) (omega (arith, e, off, i.0)))
-
-attacked : (men : Men) (c : Colour) (a b : ℕ) → Inside c a → could_capture men c Pawn a b ≡ true
-    → ((not (file a == 0) && (b == forward c a - 1)) || (not (file a == 7) && (b == forward c a + 1))) ≡ true
-unfolding could_capture
-attacked men c a b i h =
-    let both = and_parts (abs_diff (file a) (file b) == 1) (is_rank_ahead c a b) h in
-    elim (aside (file a) (file b) (eqb-true (abs_diff (file a) (file b)) 1 both.0)) [
-      | inl left ↦
-          or_left (not (file a == 0) && (b == forward c a - 1)) (not (file a == 7) && (b == forward c a + 1))
-          (and_from (not (file a == 0)) (b == forward c a - 1) (off_edge' (file a) 0 (λ e. omega (arith, e, left)))
-          (eq-eqb b (forward c a - 1) (left_of c a b i left both.1)))
-      | inr right ↦
-          or_right (not (file a == 0) && (b == forward c a - 1)) (not (file a == 7) && (b == forward c a + 1))
-          (and_from (not (file a == 7)) (b == forward c a + 1) (off_edge' (file a) 7 (λ e. omega (arith, e, right)))
-          (eq-eqb b (forward c a + 1) (right_of c a b i right both.1)))
-    ]
-
 attacks_so : (men : Men) (c : Colour) (a b : ℕ) → Inside c a
     → could_capture men c Pawn a b
     ≡ ((not (file a == 0) && (b == forward c a - 1)) || (not (file a == 7) && (b == forward c a + 1)))
-attacks_so men c a b i = same_tests _ _ (attacked men c a b i) (λ h.
-    elim (or_cases (not (file a == 0) && (b == forward c a - 1)) (not (file a == 7) && (b == forward c a + 1)) h) [
-      | inl left ↦
-          let two = and_parts (not (file a == 0)) (b == forward c a - 1) left in
-          to_left men c a b i (off_edge (file a) 0 two.0) (eqb-true b (forward c a - 1) two.1)
-      | inr right ↦
-          let two = and_parts (not (file a == 7)) (b == forward c a + 1) right in
-          to_right men c a b i (off_edge (file a) 7 two.0) (eqb-true b (forward c a + 1) two.1)
-    ])
+unfolding could_capture
+attacks_so men White a b i = grind (arith, nat_tests, i.0, i.1)
+attacks_so men Black a b i = grind (arith, nat_tests, i.0, i.1)
 
 -- it attacks a square from where an enemy pawn there attacks
 pub aims_back : (c : Colour) (k t : ℕ) → in_shape (shape.Pawn (other c)) t k ≡ in_shape (shape.Pawn c) k t
@@ -302,27 +195,11 @@ advances_so p a b pawn =
 -- ---- the moves of one
 
 -- it goes to one of four squares, each of which it may reach in one way
-off_other : (o s : Bool) (b n m : ℕ) → (n ≡ m → ⊥) → (o && (b == n)) ≡ true → (s && (b == m)) ≡ false
-off_other o s b n m apart h =
-    let at = eqb-true b n (and_parts o (b == n) h).1 in
-    and_right s (b == m) (ne_eqb b m (λ e. apart (sym at ∙ e)))
-
 four_ways : (q r s t : Bool) (b n m l k : ℕ) → AreApart n m l k
     → once (((q && (b == n)) || (r && (b == m))) || ((s && (b == l)) || (t && (b == k))))
     ≡ once (q && (b == n)) + once (r && (b == m)) + once (s && (b == l)) + once (t && (b == k))
 four_ways q r s t b n m l k are =
-    let ahead = either (q && (b == n)) (r && (b == m)) (off_other q r b n m are.nt) in
-    let sides = either (s && (b == l)) (t && (b == k)) (off_other s t b l k are.lr) in
-    let neither : ((q && (b == n)) || (r && (b == m))) ≡ true → ((s && (b == l)) || (t && (b == k))) ≡ false = λ h.
-    elim (or_cases (q && (b == n)) (r && (b == m)) h) [
-      | inl one ↦ none_of (off_other q s b n l are.nl one) (off_other q t b n k are.nr one)
-      | inr two ↦ none_of (off_other r s b m l are.tl two) (off_other r t b m k are.tr two)
-    ] in
-    let all = either ((q && (b == n)) || (r && (b == m))) ((s && (b == l)) || (t && (b == k))) neither in
-    omega (arith, ahead, sides, all)
-  where
-    none_of : {x y : Bool} → x ≡ false → y ≡ false → (x || y) ≡ false
-    none_of e f = rw (e, f) refl
+    grind (arith, nat_tests, are.nt, are.nl, are.nr, are.tl, are.tr, are.lr)
 
 four_alone : (q r s t : Bool) (n m l k : ℕ) → AreApart n m l k
     → length (filter (λ b. q && (b == n)) (range_with_len 0 64)) + length
@@ -363,9 +240,8 @@ pub stands_inside : (p : Setup) (a : ℕ) → IsSound p → is_man p.side Pawn (
 unfolding no_pawn_on_end_ranks
 stands_inside p a sound pawn low ordinary =
     inside p.men p.side a pawn (each_square-at _ sound.pawns a low) low
-    (λ e. both_ways (rank a == pawn_rank (other p.side))
-    (or_parts (aims_at p.target p.side a) (rank a == pawn_rank (other p.side)) ordinary).1
-    (eq-eqb (rank a) (pawn_rank (other p.side)) e))
+    (eqb-false (rank a) (pawn_rank (other p.side))
+    (or_parts (aims_at p.target p.side a) (rank a == pawn_rank (other p.side)) ordinary).1)
 
 pub pawn_counted : (p : Setup) (a king : ℕ) → IsSound p → IsFree p a → is_man p.side Pawn (man_at p.men a) ≡ true
     → a < 64 → king < 64 → ((k : ℕ) → k < 64 → is_man p.side King (man_at p.men k) ≡ (k == king))
@@ -376,7 +252,7 @@ unfolding moves_from
 pawn_counted p a king sound free pawn low there one ordinary =
     let neither = or_parts (aims_at p.target p.side a) (rank a == pawn_rank (other p.side)) ordinary in
     let is_ordinary = pawn_ordinary p a sound low pawn neither.0
-    (λ e. both_ways (rank a == pawn_rank (other p.side)) neither.1 (eq-eqb (rank a) (pawn_rank (other p.side)) e)) in
+    (eqb-false (rank a) (pawn_rank (other p.side)) neither.1) in
     let i = stands_inside p a sound pawn low ordinary in
     let are = apart p.side a i in
     let n = forward p.side a in

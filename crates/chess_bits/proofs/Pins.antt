@@ -2,7 +2,8 @@
 -- would attack it, or to that piece.
 use Rattle.chess_base.proofs.shared.Changes.{at_target}
 use Rattle.chess_bits.proofs.TargetsOf.{no_king_castles}
-use Rattle.std.proofs.Common.{◌≡◌, ℕ, ◌<◌, ◌⊎◌, inl, inr, Bool, true, false, not, ◌&&◌, ◌||◌, ◌==◌, cond, Option, Some, None, is_none, length, refl, sym, ap, ◌∙◌, arith}
+use Rattle.std.specs.Int.{abs_diff}
+use Rattle.std.proofs.Common.{◌≡◌, ℕ, ◌+◌, ◌-◌, ◌<◌, ◌⊎◌, inl, inr, Bool, true, false, not, ◌&&◌, ◌||◌, ◌==◌, cond, Option, Some, None, is_none, length, refl, sym, ap, ◌∙◌, arith}
 use Rattle.std.proofs.lemmas.Bool.Decides.{nat_tests}
 use Rattle.std.proofs.lemmas.Bool.{and_parts, and_from, and_right, or_parts, or_cases, or_left, or_right, both_ways, cases_Bool, eqb-true, eq-eqb, false_from_ne_true, not-true}
 use Rattle.chess_base.specs.declared.man.Colour.{Colour}
@@ -22,20 +23,21 @@ use Rattle.chess_base.specs.shared.Splits.{could_capture_as}
 use Rattle.chess_base.proofs.shared.Men.{is_none-None}
 use Rattle.chess_base.proofs.shared.MoveKinds.{Moves, MoveKind, ManMoves, Castles, PawnMoves, moves_from_pattern, castles_unpromoted}
 use Rattle.chess_base.proofs.shared.Squares.{each_square-all, each_square-at, some_square-at}
+use Rattle.chess_moves.proofs.shared.Origins.{begins_below}
 use Rattle.chess_moves.specs.Sets.{contains}
 use Rattle.chess_bits.specs.ties.Pins.{aims_from, IsShield}
 use Rattle.chess_bits.specs.ties.Goes.{lifted}
 use Rattle.chess_base.specs.declared.line.Line.{Line}
 use Rattle.chess_base.specs.declared.line.Line.TheVariants.{Rank, File, Diagonal, Antidiagonal}
-use Rattle.chess_base.specs.shared.Lines.{line_number, same_line}
+use Rattle.chess_base.specs.shared.Lines.{same_line}
 use Rattle.chess_bits.proofs.Attackers.{de_morgan, eq_back}
 use Rattle.chess_bits.proofs.BetweenSquares.{are_on_line}
-use Rattle.chess_bits.proofs.BoardSets.{own_of, theirs_of}
+use Rattle.chess_bits.proofs.BoardSets.{theirs_of}
 use Rattle.chess_bits.proofs.Freely.{from_not}
-use Rattle.chess_base.proofs.shared.Geometry.{share_diagonal_is, between_back}
-use Rattle.chess_bits.proofs.KingAfter.{mover_some, mover_own, king_stays, check_after, legal_is}
+use Rattle.chess_base.proofs.shared.Geometry.{between_back}
+use Rattle.chess_bits.proofs.KingAfter.{king_stays, check_after, legal_is}
 use Rattle.chess_bits.proofs.Lifted.{lifted_at}
-use Rattle.chess_bits.proofs.Quiet.{IsPlain, lands_over, lands_same, not_passing, could_capture_as_clear}
+use Rattle.chess_bits.proofs.Quiet.{IsPlain, lands_over, lands_same, not_passing, plain_by, could_capture_as_clear}
 
 -- ---- no king arrives but one that leaves
 
@@ -114,27 +116,6 @@ clear_lifted men a b k all low clear =
 
 -- ---- the way to the king
 
-pub to_in : (p : Setup) (m : Move) → is_legal p m ≡ true → m.to < 64
-unfolding is_legal
-to_in p m legal =
-    let moves = moves_from_pattern p m (and_parts (is_pseudo_legal p m) (not (is_in_check (after p m).men p.side)) legal).0
-    in
-    moves.to_in
-
-from_in : (p : Setup) (m : Move) → is_legal p m ≡ true → m.from < 64
-unfolding is_legal
-from_in p m legal =
-    let moves = moves_from_pattern p m (and_parts (is_pseudo_legal p m) (not (is_in_check (after p m).men p.side)) legal).0
-    in
-    moves.from_in
-
-pub mover_told : (p : Setup) (m : Move) → is_legal p m ≡ true → is_of p.side (man_at p.men m.from) ≡ true
-unfolding is_legal
-mover_told p m legal =
-    let moves = moves_from_pattern p m (and_parts (is_pseudo_legal p m) (not (is_in_check (after p m).men p.side)) legal).0
-    in
-    ap (is_of p.side) moves.at_from ∙ own_of p.side moves.mover moves.own
-
 -- an enemy that attacks the king once the mover is off the board is captured, or the mover comes between them
 pub must_end : (p : Setup) (m : Move) (king b : ℕ) → IsSound p → is_legal p m ≡ true → king < 64
     → ((k : ℕ) → k < 64 → is_man p.side King (man_at p.men k) ≡ (k == king))
@@ -155,15 +136,8 @@ must_end p m king b sound legal there one no_king low theirs hits no_target =
     no_castle = no_king_castles p m no_king
 
     plain : IsPlain p m
-    plain =
-        let no_passing = not_passing p m (and_right (is_man p.side Pawn (man_at p.men m.from)) (is_square p.target m.to)
-        no_target) in
-        record {
-          also = rw (no_passing, no_castle) refl;
-          rook = rw no_castle refl;
-          mover = mover_some p m pattern;
-          own = mover_own p m pattern;
-        }
+    plain = plain_by p m pattern no_castle (not_passing p m
+        (and_right (is_man p.side Pawn (man_at p.men m.from)) (is_square p.target m.to) no_target))
 
     moves : Moves p m
     moves = moves_from_pattern p m pattern
@@ -340,74 +314,44 @@ many_hide p h r s a b k all low high hides here others clear x l =
 
 -- ---- what has squares between it is on one line
 
+not_level : (f g h r s t : ℕ) (over along : Bool)
+    → ((((h == f) && (h == g)) && over) || (((t == r) && (t == s)) && along)) ≡ true → (f == g) ≡ false
+    → (r == s) ≡ false → ⊥
+not_level f g h r s t over along e level upright = grind (arith, nat_tests, e, level, upright)
+
+aslant : (f r g s h t : ℕ) → f < 8 → g < 8 → h < 8
+    → ((((abs_diff f h == abs_diff r t) && (abs_diff h g == abs_diff t s)) && is_strictly_between r s t)
+    && is_strictly_between f g h) ≡ true
+    → (r + 7 - f == s + 7 - g) ≡ false → (r + f == s + g) ≡ true
+aslant f r g s h t lf lg lh e off = grind (arith, nat_tests, e, off, lf, lg, lh)
+
 pub line_between : (a b x : ℕ) → a < 64 → b < 64 → x < 64 → is_between a b x ≡ true
     → (l : Line) × (same_line l a b ≡ true)
 unfolding is_between is_between_on_file is_between_on_rank is_between_on_diagonal
 line_between a b x la lb lx h =
-    elim (or_cases (is_between_on_file a b x || is_between_on_rank a b x) (is_between_on_diagonal a b x) h) [
-      | inl straight ↦
-          elim (or_cases (is_between_on_file a b x) (is_between_on_rank a b x) straight) [
-            | inl f ↦
-                let one = and_parts ((file x == file a) && (file x == file b))
-                (is_strictly_between (rank a) (rank b) (rank x))
-                f in
-                let two = and_parts (file x == file a) (file x == file b) one.0 in (
-                  File,
-                  eq-eqb (file a) (file b)
-                      (sym (eqb-true (file x) (file a) two.0) ∙ eqb-true (file x) (file b) two.1),
-                )
-            | inr r ↦
-                let one = and_parts ((rank x == rank a) && (rank x == rank b))
-                (is_strictly_between (file a) (file b) (file x))
-                r in
-                let two = and_parts (rank x == rank a) (rank x == rank b) one.0 in (
-                  Rank,
-                  eq-eqb (rank a) (rank b)
-                      (sym (eqb-true (rank x) (rank a) two.0) ∙ eqb-true (rank x) (rank b) two.1),
-                )
+    elim (cases_Bool (same_line File a b)) [
+      | inl e ↦ (File, e)
+      | inr level ↦
+          elim (cases_Bool (same_line Rank a b)) [
+            | inl e ↦ (Rank, e)
+            | inr upright ↦
+                elim (cases_Bool (same_line Diagonal a b)) [
+                  | inl e ↦ (Diagonal, e)
+                  | inr off ↦
+                      elim (or_cases (is_between_on_file a b x || is_between_on_rank a b x)
+                      (is_between_on_diagonal a b x) h) [
+                        | inl straight ↦ absurd (not_level (file a) (file b) (file x) (rank a) (rank b) (rank x)
+                            (is_strictly_between (rank a) (rank b) (rank x))
+                            (is_strictly_between (file a) (file b) (file x)) straight level upright)
+                        | inr d ↦ (
+                          Antidiagonal,
+                          aslant (file a) (rank a) (file b) (rank b) (file x) (rank x) (omega arith) (omega arith)
+                              (omega arith) d off,
+                        )
+                      ]
+                ]
           ]
-      | inr d ↦
-          let one = and_parts
-          ((share_diagonal a x && share_diagonal x b) && is_strictly_between (rank a) (rank b) (rank x))
-          (is_strictly_between (file a) (file b) (file x)) d in
-          let two = and_parts (share_diagonal a x && share_diagonal x b)
-          (is_strictly_between (rank a) (rank b) (rank x)) one.0
-          in
-          let both = and_parts (share_diagonal a x) (share_diagonal x b) two.0 in
-          aslant (or_cases (same_line Diagonal a x) (same_line Antidiagonal a x)
-          (sym (share_diagonal_is a x la lx) ∙ both.0))
-          (or_cases (same_line Diagonal x b) (same_line Antidiagonal x b)
-          (sym (share_diagonal_is x b lx lb) ∙ both.1)) two.1 one.1
     ]
-  where
-    bent : same_line Diagonal a x ≡ true → same_line Antidiagonal x b ≡ true
-        → is_strictly_between (rank a) (rank b) (rank x) ≡ true → is_strictly_between (file a) (file b) (file x) ≡ true
-        → ⊥
-    bent e f r s = grind (arith, nat_tests, e, f, r, s)
-
-    bent_back : same_line Antidiagonal a x ≡ true → same_line Diagonal x b ≡ true
-        → is_strictly_between (rank a) (rank b) (rank x) ≡ true → is_strictly_between (file a) (file b) (file x) ≡ true
-        → ⊥
-    bent_back e f r s = grind (arith, nat_tests, e, f, r, s)
-
-    aslant : ((same_line Diagonal a x ≡ true) ⊎ (same_line Antidiagonal a x ≡ true))
-        → ((same_line Diagonal x b ≡ true) ⊎ (same_line Antidiagonal x b ≡ true))
-        → is_strictly_between (rank a) (rank b) (rank x) ≡ true → is_strictly_between (file a) (file b) (file x) ≡ true
-        → (l : Line) × (same_line l a b ≡ true)
-    aslant (inl e) (inl f) r s = (
-      Diagonal,
-      eq-eqb (line_number Diagonal a) (line_number Diagonal b)
-          (eqb-true (line_number Diagonal a) (line_number Diagonal x) e
-          ∙ eqb-true (line_number Diagonal x) (line_number Diagonal b) f),
-    )
-    aslant (inr e) (inr f) r s = (
-      Antidiagonal,
-      eq-eqb (line_number Antidiagonal a) (line_number Antidiagonal b)
-          (eqb-true (line_number Antidiagonal a) (line_number Antidiagonal x) e
-          ∙ eqb-true (line_number Antidiagonal x) (line_number Antidiagonal b) f),
-    )
-    aslant (inl e) (inr f) r s = absurd (bent e f r s)
-    aslant (inr e) (inl f) r s = absurd (bent_back e f r s)
 
 -- a square that is no longer in a set was taken out of it, or was not in it
 pub taken_out : (before now one : Bool) → now ≡ (before && not one) → now ≡ false
@@ -425,7 +369,7 @@ pub check_met : (p : Setup) (m : Move) (king b : ℕ) → IsSound p → is_legal
 unfolding attacks
 check_met p m king b sound legal there one no_king low gives =
     let both = and_parts (is_of (other p.side) (man_at p.men b)) (attacks p.men b king) gives in
-    let start = from_in p m legal in
+    let start = begins_below p m legal in
     answered p m king b sound legal there one no_king low both.0
     (could_capture_as_clear (lifted p.men m.from) p.men (man_at p.men b) b king
     (clear_lifted p.men m.from b king sound.board start) both.1)

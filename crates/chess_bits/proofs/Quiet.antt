@@ -9,43 +9,57 @@ use Rattle.chess_base.specs.declared.man.Kind.TheVariants.{King, Queen, Rook, Bi
 use Rattle.chess_base.specs.declared.man.Man.{Man}
 use Rattle.chess_base.specs.declared.man.Move.{Move}
 use Rattle.chess_base.specs.Squares.{is_square, share_rank_or_file, share_diagonal, is_between}
-use Rattle.chess_base.specs.Men.{Men, man_at, other, is_man, is_of}
+use Rattle.chess_base.specs.Men.{Men, man_at, other, is_man, is_of, same_kind}
 use Rattle.chess_base.specs.Attacks.{is_clear, could_capture, attacks, is_attacked}
 use Rattle.chess_base.specs.shared.Splits.{could_capture_as}
 use Rattle.chess_base.specs.declared.setup.Setup.{Setup}
-use Rattle.chess_base.specs.Moves.{is_en_passant, arriving_man, men_after, second_square_emptied, steps_of}
+use Rattle.chess_base.specs.Moves.{is_en_passant, is_pseudo_legal, arriving_man, men_after, second_square_emptied}
 use Rattle.chess_base.specs.Castling.{castle_of, mover_end, castling_rook_to}
 use Rattle.chess_base.proofs.shared.MenAfter.{man_after, man_at-men_after}
 use Rattle.chess_base.proofs.shared.Squares.{some_square-at, some_square-none, each_square-all, each_square-at}
-use Rattle.chess_base.specs.declared.steps.Steps.{Steps}
 use Rattle.chess_bits.specs.ties.Changes.{is_changed, is_filled}
 use Rattle.chess_bits.specs.ties.Goes.{lifted}
 use Rattle.chess_bits.proofs.Attackers.{eq_back}
+use Rattle.chess_bits.proofs.KingAfter.{mover_some, mover_own}
 use Rattle.chess_bits.proofs.Lifted.{lifted_at}
 
-last_of_three : (p q r s : Bool) → (r ≡ true → s ≡ true) → (p && q && r) ≡ true → (p && q && s) ≡ true
-last_of_three true true r s h e = h e
-last_of_three true false r s h e = e
-last_of_three false q r s h e = e
+-- a piece could capture no less where the lines that it uses are as clear
+last_told : (n s t u : Bool) → ((n && s) ≡ true → t ≡ true → u ≡ true) → (n && s && t) ≡ true → (n && s && u) ≡ true
+last_told true true t u h e = h refl e
+last_told true false t u h e = e
+last_told false s t u h e = e
 
--- a piece could_capture no less where fewer squares are in the way
-could_capture_clear : (men later : Men) (c : Colour) (k : Kind) (a b : ℕ)
-    → (is_clear later a b ≡ true → is_clear men a b ≡ true)
+queen_told : (n s d t u : Bool) → ((n && s) ≡ true → t ≡ true → u ≡ true) → ((n && d) ≡ true → t ≡ true → u ≡ true)
+    → (n && (s || d) && t) ≡ true → (n && (s || d) && u) ≡ true
+queen_told true true d t u h g e = h refl e
+queen_told true false true t u h g e = g refl e
+queen_told true false false t u h g e = e
+queen_told false s d t u h g e = e
+
+pub capture_before : (men later : Men) (c : Colour) (k : Kind) (a b : ℕ)
+    → ((same_kind Rook k || same_kind Queen k) ≡ true → (not (a == b) && share_rank_or_file a b) ≡ true
+    → is_clear later a b ≡ true → is_clear men a b ≡ true)
+    → ((same_kind Bishop k || same_kind Queen k) ≡ true → (not (a == b) && share_diagonal a b) ≡ true
+    → is_clear later a b ≡ true → is_clear men a b ≡ true)
     → could_capture later c k a b ≡ true → could_capture men c k a b ≡ true
 unfolding could_capture
-could_capture_clear men later c King a b h e = e
-could_capture_clear men later c Knight a b h e = e
-could_capture_clear men later c Pawn a b h e = e
-could_capture_clear men later c Queen a b h e =
-    last_of_three (not (a == b)) (share_rank_or_file a b || share_diagonal a b) _ _ h e
-could_capture_clear men later c Rook a b h e = last_of_three (not (a == b)) (share_rank_or_file a b) _ _ h e
-could_capture_clear men later c Bishop a b h e = last_of_three (not (a == b)) (share_diagonal a b) _ _ h e
+capture_before men later c King a b l d e = e
+capture_before men later c Knight a b l d e = e
+capture_before men later c Pawn a b l d e = e
+capture_before men later c Queen a b l d e =
+    queen_told (not (a == b)) (share_rank_or_file a b) (share_diagonal a b) (is_clear later a b) (is_clear men a b)
+    (l refl) (d refl) e
+capture_before men later c Rook a b l d e =
+    last_told (not (a == b)) (share_rank_or_file a b) (is_clear later a b) (is_clear men a b) (l refl) e
+capture_before men later c Bishop a b l d e =
+    last_told (not (a == b)) (share_diagonal a b) (is_clear later a b) (is_clear men a b) (d refl) e
 
 pub could_capture_as_clear : (men later : Men) (o : Option Man) (a b : ℕ)
     → (is_clear later a b ≡ true → is_clear men a b ≡ true)
     → could_capture_as later o a b ≡ true → could_capture_as men o a b ≡ true
 could_capture_as_clear men later None a b h e = e
-could_capture_as_clear men later (Some x) a b h e = could_capture_clear men later x.colour x.kind a b h e
+could_capture_as_clear men later (Some x) a b h e =
+    capture_before men later x.colour x.kind a b (λ lines on. h) (λ lines on. h) e
 
 -- what a move that changes only its two squares leaves on a square
 pub record IsPlain (p : Setup) (m : Move) : Type 0 where
@@ -62,8 +76,26 @@ plain_after p m k h l = man_at-men_after p m k l ∙ rw (h.also, h.rook) refl
 
 -- ---- the king is as safe after such a move as with the mover taken off
 
+-- a square that is not attacked stays so where each enemy that is there later was there before, and could capture there
+-- if it can later
+pub attacked_before : (men later : Men) (s : ℕ) (c : Colour)
+    → ((b : ℕ) → b < 64 → is_of c (man_at later b) ≡ true → man_at later b ≡ man_at men b)
+    → ((b : ℕ) → b < 64 → is_of c (man_at men b) ≡ true → could_capture_as later (man_at men b) b s ≡ true
+    → could_capture_as men (man_at men b) b s ≡ true)
+    → is_attacked men s c ≡ false → is_attacked later s c ≡ false
+unfolding is_attacked attacks
+attacked_before men later s c stood hits before =
+    some_square-none _
+    (λ b low.
+    false_from_ne_true _
+    (λ e.
+    let both = and_parts (is_of c (man_at later b)) (could_capture_as later (man_at later b) b s) e in
+    let same = stood b low both.0 in
+    let was : is_of c (man_at men b) ≡ true = rw (← same) both.0 in
+    both_ways _ before (some_square-at _ b low (and_from _ _ was (hits b low was (rw (← same) both.1))))))
+
 -- an enemy that is there after the move was there before
-enemy_before : (t : Bool) (arr o : Option Man) (c : Colour) → is_of c arr ≡ false → is_of c (cond t arr o) ≡ true
+pub enemy_before : (t : Bool) (arr o : Option Man) (c : Colour) → is_of c arr ≡ false → is_of c (cond t arr o) ≡ true
     → cond t arr o ≡ o
 unfolding is_of
 enemy_before true arr o c n e = absurd (both_ways _ n e)
@@ -101,24 +133,12 @@ clear_before p m a b all low h e =
 pub stays_safe : (p : Setup) (m : Move) (king : ℕ) → length p.men ≡ 64 → m.from < 64 → IsPlain p m
     → is_attacked (lifted p.men m.from) king (other p.side) ≡ false
     → is_attacked (men_after p m) king (other p.side) ≡ false
-unfolding is_attacked attacks
-stays_safe p m king all low h before =
-    some_square-none _
-    (λ a k.
-    false_from_ne_true _
-    (λ e.
-    let both = and_parts (is_of (other p.side) (man_at (men_after p m) a))
-    (could_capture_as (men_after p m) (man_at (men_after p m) a) a king) e in
-    let stood : man_at (men_after p m) a ≡ man_at (lifted p.men m.from) a =
-    lands_over p m a all low h k
-    ∙ enemy_before (mover_end p m == a) (arriving_man (man_at p.men m.from) m.promotion)
-    (man_at (lifted p.men m.from) a) (other p.side) h.own
-    (rw (lands_over p m a all low h k) at both.0) in
-    let was : is_of (other p.side) (man_at (lifted p.men m.from) a) ≡ true = rw (← stood) both.0 in
-    let hit : could_capture_as (lifted p.men m.from) (man_at (lifted p.men m.from) a) a king ≡ true =
-    could_capture_as_clear (lifted p.men m.from) (men_after p m) (man_at (lifted p.men m.from) a) a king
-    (clear_before p m a king all low h) (rw (← stood) both.1) in
-    both_ways _ before (some_square-at _ a k (and_from _ _ was hit))))
+stays_safe p m king all low h =
+    attacked_before (lifted p.men m.from) (men_after p m) king (other p.side)
+    (λ a k own. lands_over p m a all low h k
+    ∙ enemy_before (mover_end p m == a) (arriving_man (man_at p.men m.from) m.promotion) (man_at (lifted p.men m.from) a)
+    (other p.side) h.own (rw (lands_over p m a all low h k) at own))
+    (λ a k was. could_capture_as_clear _ _ (man_at (lifted p.men m.from) a) a king (clear_before p m a king all low h))
 
 -- ---- moves that change only their two squares
 
@@ -131,23 +151,6 @@ not_passing p m h = out (is_man p.side Pawn (man_at p.men m.from)) (attacks p.me
     out : (a b c : Bool) → (a && c) ≡ false → ((a && b) && c) ≡ false
     out a b c e = grind (arith, e)
 
-pub plain_steps : (p : Setup) (m : Move) → is_man p.side King (man_at p.men m.from) ≡ false
-    → (is_man p.side Pawn (man_at p.men m.from) && is_square p.target m.to) ≡ false
-    → record {
-      from = m.from;
-      second_from = None;
-      second_to = None;
-      second = Some (record { colour = p.side; kind = Rook });
-      to = m.to;
-      mover =
-          arriving_man (man_at p.men m.from) m.promotion;
-    } ≡ steps_of p m
-unfolding second_square_emptied castling_rook_to mover_end
-plain_steps p m no_king no_passing =
-    let still = not_passing p m no_passing in
-    let no_castle : castle_of p m ≡ None = no_king_castles p m no_king in
-    rw (still, no_castle) refl
-
 pub lands_same : (o : Option Man) → arriving_man o None ≡ o
 lands_same None = refl
 lands_same (Some x) = refl
@@ -155,15 +158,24 @@ lands_same (Some x) = refl
 -- such a move fills its end square, and changes that and its start
 pub fills_end : (p : Setup) (m : Move) (k : ℕ) → is_man p.side King (man_at p.men m.from) ≡ false
     → (is_man p.side Pawn (man_at p.men m.from) && is_square p.target m.to) ≡ false → (k == m.to) ≡ is_filled p m k
+unfolding castling_rook_to mover_end
 fills_end p m k no_king no_passing =
-    eq_back k m.to ∙ sym (or-false (m.to == k))
-    ∙ ap (λ (t : Steps). (t.to == k) || is_square t.second_to k) (plain_steps p m no_king no_passing)
+    rw (no_king_castles p m no_king) (eq_back k m.to ∙ sym (or-false (m.to == k)))
 
 pub changes_both : (p : Setup) (m : Move) (k : ℕ) → is_man p.side King (man_at p.men m.from) ≡ false
     → (is_man p.side Pawn (man_at p.men m.from) && is_square p.target m.to) ≡ false
     → ((k == m.to) || (k == m.from)) ≡ is_changed p m k
+unfolding second_square_emptied castling_rook_to mover_end
 changes_both p m k no_king no_passing =
-    ap (λ f. f || (k == m.from)) (fills_end p m k no_king no_passing)
-    ∙ ap (λ e. is_filled p m k || e)
-    (eq_back k m.from
-    ∙ ap (λ (t : Steps). is_square t.second_from k || (t.from == k)) (plain_steps p m no_king no_passing))
+    rw (not_passing p m no_passing, no_king_castles p m no_king, eq_back k m.to, eq_back k m.from) (grind arith)
+
+-- it is plain, as any move that is neither castling nor en passant
+pub plain_by : (p : Setup) (m : Move) → is_pseudo_legal p m ≡ true → castle_of p m ≡ None → is_en_passant p m ≡ false
+    → IsPlain p m
+unfolding second_square_emptied castling_rook_to
+plain_by p m pattern none still = record {
+  also = rw (still, none) refl;
+  rook = rw none refl;
+  mover = mover_some p m pattern;
+  own = mover_own p m pattern;
+}

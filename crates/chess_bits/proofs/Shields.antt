@@ -1,29 +1,15 @@
 -- Pieces that hide a piece of the other side from their king: those that it sees along a line.
-use Rattle.std.proofs.Common.{◌≡◌, ℕ, ◌<◌, inl, inr, Bool, true, false, not, ◌&&◌, ◌==◌, cond, None, is_none, length, refl, sym, ap, ◌∙◌}
-use Rattle.std.proofs.lemmas.Bool.{and_parts, or_cases, or_left, or_right, both_ways, cases_Bool, eqb-true, eq-eqb, false_from_ne_true}
+use Rattle.std.proofs.Common.{◌≡◌, ℕ, ◌<◌, inl, inr, arith, Bool, true, false, not, ◌&&◌, ◌||◌, ◌==◌, cond, None, is_none, length, refl, sym, ap, ◌∙◌}
+use Rattle.std.proofs.lemmas.Bool.{cases_Bool, eqb-true, false_from_ne_true, or_cases}
 use Rattle.chess_base.specs.Attacks.{is_clear}
 use Rattle.chess_base.specs.Men.{Men, man_at}
-use Rattle.chess_base.specs.Squares.{share_rank_or_file, share_diagonal, is_strictly_between, is_between}
+use Rattle.std.proofs.lemmas.Bool.Decides.{nat_tests}
+use Rattle.std.specs.Int.{abs_diff}
+use Rattle.chess_bits.proofs.Attackers.{eq_back}
+use Rattle.chess_base.specs.Squares.{file, rank, is_strictly_between, share_rank_or_file, share_diagonal, is_between, is_between_on_file, is_between_on_rank, is_between_on_diagonal}
 use Rattle.chess_base.proofs.shared.Squares.{each_square-all, each_square-at}
-use Rattle.chess_base.specs.declared.line.Line.{Line}
-use Rattle.chess_base.specs.declared.line.Line.TheVariants.{Rank, File, Diagonal, Antidiagonal}
 use Rattle.chess_bits.specs.ties.Goes.{lifted}
-use Rattle.chess_base.specs.shared.Lines.{line_number, same_line}
-use Rattle.chess_base.proofs.shared.Geometry.{share_diagonal_is, between_on_line}
 use Rattle.chess_bits.proofs.Lifted.{lifted_at}
-
--- ---- three squares on a line
-
-parts_on : (l : Line) (b k a : ℕ) → same_line l b k ≡ true → is_between b k a ≡ true → (same_line l b a ≡ true)
-    × (is_strictly_between b k a ≡ true)
-parts_on l b k a same h = and_parts (same_line l b a) (is_strictly_between b k a)
-    (sym (between_on_line l b k a same) ∙ h)
-
-line_on : (l : Line) (b k a : ℕ) → same_line l b k ≡ true → is_between b k a ≡ true → same_line l a k ≡ true
-line_on l b k a same h =
-    let one = eqb-true (line_number l b) (line_number l k) same in
-    let two = eqb-true (line_number l b) (line_number l a) (parts_on l b k a same h).0 in
-    eq-eqb (line_number l a) (line_number l k) (sym two ∙ one)
 
 -- ---- with one piece taken off
 
@@ -47,47 +33,39 @@ clear_without men a b k all low out clear =
 
 -- ---- what the code computes
 
--- which line it is
-pub line_of : (b k : ℕ) → share_rank_or_file b k ≡ true → (l : Line) × (same_line l b k ≡ true)
-    × ((a : ℕ) → same_line l a k ≡ true → share_rank_or_file a k ≡ true)
-line_of b k h =
-    elim (or_cases (same_line File b k) (same_line Rank b k) h) [
-      | inl e ↦ (File, e, λ a f. or_left (same_line File a k) (same_line Rank a k) f)
-      | inr e ↦ (Rank, e, λ a f. or_right (same_line File a k) (same_line Rank a k) f)
-    ]
+-- what is between k and a square of its lines is on the same line
+between_line : (a b k : ℕ) → share_rank_or_file a k ≡ false → share_rank_or_file b k ≡ true → is_between b k a ≡ true → ⊥
+unfolding is_between is_between_on_file is_between_on_rank is_between_on_diagonal
+between_line a b k off on inside = grind (arith, nat_tests, off, on, inside)
 
-pub diagonal_of : (b k : ℕ) → b < 64 → k < 64 → share_diagonal b k ≡ true → (l : Line) × (same_line l b k ≡ true)
-    × ((a : ℕ) → a < 64 → same_line l a k ≡ true → share_diagonal a k ≡ true)
-diagonal_of b k high low h =
-    elim (or_cases (same_line Diagonal b k) (same_line Antidiagonal b k) (sym (share_diagonal_is b k high low) ∙ h)) [
-      | inl e ↦ (
-        Diagonal,
-        e,
-        λ a l f. share_diagonal_is a k l low
-            ∙ or_left (same_line Diagonal a k) (same_line Antidiagonal a k) f,
-      )
-      | inr e ↦ (
-        Antidiagonal,
-        e,
-        λ a l f. share_diagonal_is a k l low
-            ∙ or_right (same_line Diagonal a k) (same_line Antidiagonal a k) f,
-      )
+between_aslant : (a b k : ℕ) → share_diagonal a k ≡ false → share_diagonal b k ≡ true → is_between b k a ≡ true → ⊥
+unfolding is_between is_between_on_file is_between_on_rank is_between_on_diagonal
+between_aslant a b k off on inside =
+    elim (or_cases (is_between_on_file b k a || is_between_on_rank b k a) (is_between_on_diagonal b k a) inside) [
+      | inl straight ↦
+          elim (or_cases (is_between_on_file b k a) (is_between_on_rank b k a) straight) [
+            | inl f ↦ apart (file b) (file k) (file a) (rank b) (rank k) (rank a) f on
+            | inr r ↦ apart (rank b) (rank k) (rank a) (file b) (file k) (file a) r
+                (eq_back (abs_diff (rank b) (rank k)) (abs_diff (file b) (file k)) ∙ on)
+          ]
+      | inr d ↦ second (share_diagonal b a) (share_diagonal a k) _ _ d off
     ]
+  where
+    apart : (f g h r s t : ℕ) → (((h == f) && (h == g)) && is_strictly_between r s t) ≡ true
+        → (abs_diff f g == abs_diff r s) ≡ true → ⊥
+    apart f g h r s t e d = grind (arith, nat_tests, e, d)
+
+    second : (p q r s : Bool) → (((p && q) && r) && s) ≡ true → q ≡ false → ⊥
+    second p q r s e f = grind (arith, e, f)
 
 -- a piece on none of the lines of k is between k and nothing
 pub off_line : (men : Men) (a b k : ℕ) → length men ≡ 64 → a < 64 → share_rank_or_file a k ≡ false
     → share_rank_or_file b k ≡ true → is_clear (lifted men a) b k ≡ true → is_clear men b k ≡ true
-off_line men a b k all low off on clear =
-    let line = line_of b k on in
-    clear_without men a b k all low
-    (λ inside. both_ways (share_rank_or_file a k) off (line.2 a (line_on line.0 b k a line.1 inside))) clear
+off_line men a b k all low off on = clear_without men a b k all low (between_line a b k off on)
 
-pub off_diagonal : (men : Men) (a b k : ℕ) → length men ≡ 64 → a < 64 → b < 64 → k < 64 → share_diagonal a k ≡ false
+pub off_diagonal : (men : Men) (a b k : ℕ) → length men ≡ 64 → a < 64 → share_diagonal a k ≡ false
     → share_diagonal b k ≡ true → is_clear (lifted men a) b k ≡ true → is_clear men b k ≡ true
-off_diagonal men a b k all low high there off on clear =
-    let line = diagonal_of b k high there on in
-    clear_without men a b k all low
-    (λ inside. both_ways (share_diagonal a k) off (line.2 a low (line_on line.0 b k a line.1 inside))) clear
+off_diagonal men a b k all low off on = clear_without men a b k all low (between_aslant a b k off on)
 
 -- what a table of lines says of another square
 pub off_shape : (same share : Bool) → same ≡ false → (not same && share) ≡ false → share ≡ false

@@ -38,7 +38,7 @@ no_kinds e c men empty none = record {
 
 pub no_sets : (s : Sets) (men : Men) → ((k : ℕ) → k < 64 → man_at men k ≡ None) → IsKinds s.white.sets White men
     → IsKinds s.black.sets Black men
-    → ((k : ℕ) → contains s.all_white k ≡ false) → ((k : ℕ) → contains s.all_black k ≡ false) → s.men_word ≡ 0 → IsSets s men
+    → ((k : ℕ) → contains s.white.all k ≡ false) → ((k : ℕ) → contains s.black.all k ≡ false) → s.men_word ≡ 0 → IsSets s men
 no_sets s men none white black all_white all_black word = record {
   of_white = white;
   of_black = black;
@@ -60,7 +60,7 @@ some_of (Some x) = by_colour x.colour
     by_colour Black = refl
 
 pub occupied_by : (s : Sets) (men : Men) (w : ℕ) → IsSets s men
-    → ((k : ℕ) → contains w k ≡ (contains s.all_white k || contains s.all_black k)) → IsOccupied w men
+    → ((k : ℕ) → contains w k ≡ (contains s.white.all k || contains s.black.all k)) → IsOccupied w men
 occupied_by s men w h union = record {
   of_men = λ k low. union k ∙ rw (h.all_white k low, h.all_black k low) (some_of (man_at men k));
 }

@@ -1,18 +1,17 @@
 -- Where each kind of piece goes, as its sets say.
 use Rattle.chess_base.proofs.shared.Changes.{no_castling}
-use mathlib.Core.Bool.{or-false}
-use Rattle.std.proofs.Common.{◌≡◌, ℕ, ◌<◌, ◌≤◌, Bool, true, false, not, ◌&&◌, ◌||◌, ◌==◌, Option, Some, None, is_none, refl, sym, ap, subst, ◌∙◌, arith, get_or, [], ◌∷◌}
+use mathlib.Core.Bool.{and-false, and-true, or-false}
+use Rattle.std.proofs.Common.{◌≡◌, ℕ, ◌+◌, ◌-◌, ◌<◌, ◌≤◌, inl, inr, nat_le, Bool, true, false, not, ◌&&◌, ◌||◌, ◌==◌, Option, Some, None, is_none, refl, sym, ap, subst, ◌∙◌, arith}
 use Rattle.std.specs.Prelude.{if◌then◌else◌}
-use Rattle.std.specs.Option.{is_some}
 use Rattle.std.proofs.lemmas.Bool.Decides.{nat_tests}
-use Rattle.std.proofs.lemmas.Bool.{and_parts, and_right, both_ways, eqb-true, eq-eqb, ne_eqb}
+use Rattle.std.proofs.lemmas.Bool.{and_parts, and_right, both_ways, cases_Bool, cases_eq, eqb-true, eq-eqb, ne_eqb}
 use Rattle.chess_base.specs.declared.castling.Castle.{Castle}
 use Rattle.chess_base.specs.declared.man.Colour.{Colour}
 use Rattle.chess_base.specs.declared.man.Colour.TheVariants.{White, Black}
 use Rattle.chess_base.specs.declared.man.CastlingSide.{CastlingSide}
 use Rattle.chess_base.specs.declared.man.CastlingSide.TheVariants.{KingSide, QueenSide}
 use Rattle.chess_base.specs.declared.man.Kind.{Kind}
-use Rattle.chess_base.specs.declared.man.Kind.TheVariants.{King, Queen, Rook, Bishop, Knight, Pawn}
+use Rattle.chess_base.specs.declared.man.Kind.TheVariants.{King, Pawn}
 use Rattle.chess_base.specs.declared.man.Man.{Man}
 use Rattle.chess_base.specs.declared.man.Move.{Move}
 use Rattle.chess_base.specs.declared.man.Variant.{Variant}
@@ -21,15 +20,16 @@ use Rattle.chess_base.specs.declared.setup.Setup.{Setup}
 use Rattle.chess_base.specs.Attacks.{attacks, could_capture}
 use Rattle.chess_base.specs.shared.Splits.{could_capture_as, names_castling}
 use Rattle.chess_base.specs.Castling.{home_square, king_home_file, castled_king_file, right_of, is_castling_to, castling, castle_of}
-use Rattle.chess_base.specs.Men.{man_at, other, is_of, is_man, same_kind, same_colour, kind_number, forward, pawn_rank}
+use Rattle.chess_base.specs.Men.{Men, man_at, other, is_of, is_man, same_kind, same_colour, forward, pawn_rank}
 use Rattle.chess_base.specs.MoveList.{move_of}
 use Rattle.chess_base.specs.Moves.{is_legal, is_pseudo_legal, man_moves, pawn_advances, pawn_captures, is_double_advance}
-use Rattle.chess_base.specs.Squares.{rank, is_square}
+use Rattle.chess_base.proofs.shared.Squares.{some_square-at, some_square-none}
+use Rattle.chess_base.specs.Squares.{rank, is_square, some_square}
 use Rattle.chess_base.proofs.shared.Castling.{no_castle}
-use Rattle.chess_base.proofs.shared.Men.{same_colour-self, same_colour-true}
+use Rattle.chess_base.proofs.shared.Men.{same_colour-self, same_colour-true, same_kind-true}
 use Rattle.chess_moves.specs.Sets.{contains}
 use Rattle.chess_moves.proofs.shared.LegalMoves.{own_man_moves}
-use Rattle.chess_bits.specs.ties.Goes.{goes, names_end, legal_or, castling_or, man_goes}
+use Rattle.chess_bits.specs.ties.Goes.{goes, IsAhead, names_end, legal_or, castling_or, man_goes}
 use Rattle.chess_bits.proofs.Patterns.{pawn_goes, legal_goes, man_sound, man_complete}
 
 -- ---- officers
@@ -49,14 +49,10 @@ steps_of_man p a b x at own =
 pub no_king_castles : (p : Setup) (m : Move) → is_man p.side King (man_at p.men m.from) ≡ false → castle_of p m ≡ None
 no_king_castles p m h = no_castle p m (no_castling p m h)
 
-neither : (p : Setup) (m : Move) → is_castling_to p m KingSide ≡ false → is_castling_to p m QueenSide ≡ false
-    → castling p m ≡ None
-unfolding castling
-neither p m k q = rw (k, q) refl
-
 pub none_castles : (p : Setup) (m : Move) → is_castling_to p m KingSide ≡ false → is_castling_to p m QueenSide ≡ false
     → castle_of p m ≡ None
-none_castles p m k q = no_castle p m (neither p m k q)
+unfolding castling
+none_castles p m k q = no_castle p m (rw (k, q) refl)
 
 pub other_man : (c : Colour) (k : Kind) (o : Option Man) (x : Man) → o ≡ Some x → same_kind k x.kind ≡ false
     → is_man c k o ≡ false
@@ -92,53 +88,30 @@ not_said p a b w h =
 told : (p : Setup) (m : Move) (o : Option Castle) (k q s : Bool) → (k ≡ false → q ≡ false → o ≡ None)
     → (if k then legal_or p m o (if q then legal_or p m o s else s) else (if q then legal_or p m o s else s))
     ≡ legal_or p m o s
-told p m None true true s h = refl
-told p m None true false s h = refl
-told p m None false true s h = refl
-told p m None false false s h = refl
+told p m None k q s h = grind arith
 told p m (Some x) true q s h = refl
 told p m (Some x) false true s h = refl
 told p m (Some x) false false s h = let none = h refl refl in absurd cc
+
+-- corrected for castling to both sides
+pub corrected : (p : Setup) (a b : ℕ) (s f t : Bool) → f ≡ castling_or p QueenSide a b s
+    → t ≡ castling_or p KingSide a b f → t ≡ legal_or p (move_of a b None) (castle_of p (move_of a b None)) s
+corrected p a b s f t far near =
+    near ∙ ap (castling_or p KingSide a b) far
+    ∙ told p (move_of a b None) (castle_of p (move_of a b None))
+    (names_end p.variant p.side KingSide (right_of p.rights p.side KingSide) b)
+    (names_end p.variant p.side QueenSide (right_of p.rights p.side QueenSide) b) s
+    (λ k q. none_castles p (move_of a b None) (not_said p a b KingSide k) (not_said p a b QueenSide q))
 
 pub king_is : (p : Setup) (a b : ℕ) (x : Man) (s f t : Bool) → man_at p.men a ≡ Some x
     → is_of p.side (man_at p.men a) ≡ true
     → s ≡ (could_capture p.men p.side x.kind a b && not (is_of p.side (man_at p.men b)))
     → f ≡ castling_or p QueenSide a b s → t ≡ castling_or p KingSide a b f → t ≡ man_goes p a b
 king_is p a b x s f t at own steps far near =
-    near ∙ ap (castling_or p KingSide a b)
-    (far ∙ ap (castling_or p QueenSide a b)
-    (steps ∙ sym (steps_of_man p a b x at (own_colour p.side x (man_at p.men a) at own))))
-    ∙ told p (move_of a b None) (castle_of p (move_of a b None))
-    (names_end p.variant p.side KingSide (right_of p.rights p.side KingSide) b)
-    (names_end p.variant p.side QueenSide (right_of p.rights p.side QueenSide) b) (man_moves p (move_of a b None))
-    (λ k q. none_castles p (move_of a b None) (not_said p a b KingSide k) (not_said p a b QueenSide q))
-
--- castling alone
-pub ends_are : (p : Setup) (a b : ℕ) (z f t : Bool) → z ≡ false → f ≡ castling_or p QueenSide a b z
-    → t ≡ castling_or p KingSide a b f
-    → t ≡ legal_or p (move_of a b None) (castle_of p (move_of a b None)) false
-ends_are p a b z f t none far near =
-    near ∙ ap (castling_or p KingSide a b) (far ∙ ap (castling_or p QueenSide a b) none)
-    ∙ told p (move_of a b None) (castle_of p (move_of a b None))
-    (names_end p.variant p.side KingSide (right_of p.rights p.side KingSide) b)
-    (names_end p.variant p.side QueenSide (right_of p.rights p.side QueenSide) b) false
-    (λ k q. none_castles p (move_of a b None) (not_said p a b KingSide k) (not_said p a b QueenSide q))
+    corrected p a b s f t far near ∙ ap (legal_or p (move_of a b None) (castle_of p (move_of a b None)))
+    (steps ∙ sym (steps_of_man p a b x at (own_colour p.side x (man_at p.men a) at own)))
 
 -- ---- pawns
-
-abbrev kind_at : ℕ → Kind
-kind_at n = get_or (King ∷ Queen ∷ Rook ∷ Bishop ∷ Knight ∷ Pawn ∷ []) n King
-
-kind_back : (k : Kind) → kind_at (kind_number k) ≡ k
-kind_back King = refl
-kind_back Queen = refl
-kind_back Rook = refl
-kind_back Bishop = refl
-kind_back Knight = refl
-kind_back Pawn = refl
-
-pub same_kind-true : (k l : Kind) → same_kind k l ≡ true → l ≡ k
-same_kind-true k l h = sym (kind_back l) ∙ ap kind_at (sym (eqb-true (kind_number k) (kind_number l) h)) ∙ kind_back k
 
 -- the piece that passes a test
 pub man_told : (c : Colour) (k : Kind) (o : Option Man) → is_man c k o ≡ true
@@ -149,7 +122,7 @@ man_told c k (Some x) h =
     let both = and_parts (same_colour c x.colour) (same_kind k x.kind) h in
     ap (λ (d : Colour). let y : Man = record { colour = d; kind = x.kind } in Some y)
     (sym (same_colour-true c x.colour both.0))
-    ∙ ap (λ (l : Kind). let y : Man = record { colour = c; kind = l } in Some y) (same_kind-true k x.kind both.1)
+    ∙ ap (λ (l : Kind). let y : Man = record { colour = c; kind = l } in Some y) (sym (same_kind-true k x.kind both.1))
 
 pub captures_is : (p : Setup) (a b : ℕ) → is_man p.side Pawn (man_at p.men a) ≡ true
     → (could_capture p.men p.side Pawn a b && (is_of (other p.side) (man_at p.men b) || is_square p.target b))
@@ -237,68 +210,68 @@ man_set_complete p a w own other low set m legal e =
     ∙ man_complete p m man.0 there mine (no_pawn_kind p.side man.0 (man_at p.men a) man.1 mine other)
     (subst (λ s. s < 64) (sym e) low) high legal
 
--- ---- straight ahead, by what is there
+-- ---- straight ahead
 
-some_is_not_none : {A : Type 0} (o : Option A) (b : Bool) → is_some o ≡ b → is_none o ≡ not b
-some_is_not_none None b e = rw (← e) refl
-some_is_not_none (Some x) b e = rw (← e) refl
+-- one rank ahead of a square
+pub next_is : (c : Colour) (a s w k : ℕ) → 8 ≤ a → ((j : ℕ) → contains s j ≡ (j == a)) → IsAhead c s w → k < 64
+    → contains w k ≡ (k == forward c a)
+next_is White a s w k high one h low = h.up refl k low ∙ rw (one (k - 8)) (grind (arith, nat_tests, high))
+next_is Black a s w k high one h low = h.down refl k ∙ rw (one (k + 8)) (grind (arith, nat_tests, high))
 
-past_too : (c : Colour) (a : ℕ) → a < 64 → 64 ≤ forward c a → 64 ≤ forward c (forward c a)
-past_too White a low past = omega (arith, past)
-past_too Black a low past = absurd (omega (arith, low, past))
+-- and two, from a pawn's home
+pub second_is : (c : Colour) (a s w v k : ℕ) → 8 ≤ a → rank a ≡ pawn_rank c → ((j : ℕ) → contains s j ≡ (j == a))
+    → IsAhead c s w → IsAhead c w v → k < 64 → contains v k ≡ (k == forward c (forward c a))
+second_is White a s w v k high home one h g low =
+    g.up refl k low ∙ ap (λ t. nat_le 8 k && t) (next_is White a s w (k - 8) high one h (omega (arith, low)))
+    ∙ grind (arith, nat_tests, high)
+second_is Black a s w v k high home one h g low =
+    g.down refl k ∙ h.down refl (k + 8) ∙ one (k + 8 + 8) ∙ grind (arith, nat_tests, high, home)
 
-neither_square : (x y z : Bool) → ((x && false) || (y && (z && false))) ≡ false
-neither_square x y z = grind arith
+-- whether the square there is empty, by what is met
+pub met_is : (men : Men) (n next full met : ℕ) → n < 64 → ((k : ℕ) → k < 64 → contains next k ≡ (k == n))
+    → ((k : ℕ) → k < 64 → contains full k ≡ not (is_none (man_at men k)))
+    → ((k : ℕ) → contains met k ≡ (contains next k && contains full k))
+    → not (some_square (λ k. contains met k)) ≡ is_none (man_at men n)
+met_is men n next full met low one stood both =
+    elim (cases_Bool (is_none (man_at men n))) [
+      | inl free ↦
+          ap not (some_square-none _
+          (λ k l. both k
+          ∙ rw (one k l, stood k l)
+          (elim (cases_eq k n) [
+            | inl e ↦ rw (e, free) (and-false _)
+            | inr apart ↦ rw (ne_eqb k n apart) refl
+          ]))) ∙ sym free
+      | inr taken ↦
+          ap not (some_square-at _ n low (both n ∙ rw (one n low, stood n low, eq-eqb n n refl, taken) refl)) ∙ sym taken
+    ]
 
-pub off_board : (p : Setup) (a k : ℕ) → is_man p.side Pawn (man_at p.men a) ≡ true → a < 64 → 64 ≤ forward p.side a
-    → k < 64 → false ≡ pawn_advances p (move_of a k None)
-off_board p a k pawn low past high =
-    let further = past_too p.side a low past in
-    sym (advances_is p a k (forward p.side a) (forward p.side (forward p.side a)) pawn refl refl
-    ∙ rw (
-      ne_eqb k (forward p.side a) (λ e. omega (arith, e, past, high)),
-      ne_eqb k (forward p.side (forward p.side a))
-          (λ e. omega (arith, e, further, high)),
-    )
-    (neither_square (is_none (man_at p.men (forward p.side a)))
-    (is_none (man_at p.men (forward p.side a)) && (rank a == pawn_rank p.side))
-    (is_none (man_at p.men (forward p.side (forward p.side a))))))
+pub blocked : (p : Setup) (a k : ℕ) → is_man p.side Pawn (man_at p.men a) ≡ true
+    → is_none (man_at p.men (forward p.side a)) ≡ false → false ≡ pawn_advances p (move_of a k None)
+blocked p a k pawn full = sym (advances_is p a k (forward p.side a) _ pawn refl refl ∙ rw full refl)
 
-pub blocked : (p : Setup) (a n k : ℕ) → is_man p.side Pawn (man_at p.men a) ≡ true → n ≡ forward p.side a
-    → is_some (man_at p.men n) ≡ true → false ≡ pawn_advances p (move_of a k None)
-blocked p a n k pawn one some =
-    sym (advances_is p a k n (forward p.side n) pawn one refl ∙ rw (some_is_not_none (man_at p.men n) true some) refl)
+pub one_only : (p : Setup) (a k : ℕ) → is_man p.side Pawn (man_at p.men a) ≡ true
+    → is_none (man_at p.men (forward p.side a)) ≡ true → (rank a ≡ pawn_rank p.side → ⊥)
+    → (k == forward p.side a) ≡ pawn_advances p (move_of a k None)
+one_only p a k pawn free away =
+    sym (advances_is p a k (forward p.side a) _ pawn refl refl
+    ∙ rw (free, ne_eqb (rank a) (pawn_rank p.side) away) (or-false (k == forward p.side a)))
 
-pub one_only : (p : Setup) (a n k : ℕ) → is_man p.side Pawn (man_at p.men a) ≡ true → n ≡ forward p.side a
-    → is_some (man_at p.men n) ≡ false → (rank a ≡ pawn_rank p.side → ⊥)
-    → (k == n) ≡ pawn_advances p (move_of a k None)
-one_only p a n k pawn one free away =
-    sym (advances_is p a k n (forward p.side n) pawn one refl
-    ∙ rw (some_is_not_none (man_at p.men n) false free, ne_eqb (rank a) (pawn_rank p.side) away)
-    (or-false (k == n)))
-
-second : (r x y : Bool) → (x || (r && (false && y))) ≡ x
-second r x y = grind arith
-
-pub second_blocked : (p : Setup) (a n t k : ℕ) → is_man p.side Pawn (man_at p.men a) ≡ true → n ≡ forward p.side a
-    → t ≡ forward p.side n → is_some (man_at p.men n) ≡ false → is_some (man_at p.men t) ≡ true
-    → (k == n) ≡ pawn_advances p (move_of a k None)
-second_blocked p a n t k pawn one two free taken =
-    sym (advances_is p a k n t pawn one two
-    ∙ rw (some_is_not_none (man_at p.men n) false free, some_is_not_none (man_at p.men t) true taken)
-    (second (rank a == pawn_rank p.side) (k == n) (k == t)))
-
-pub both_squares : (p : Setup) (a n t k : ℕ) → is_man p.side Pawn (man_at p.men a) ≡ true → n ≡ forward p.side a
-    → t ≡ forward p.side n → is_some (man_at p.men n) ≡ false → is_some (man_at p.men t) ≡ false
-    → rank a ≡ pawn_rank p.side → ((k == n) || (k == t)) ≡ pawn_advances p (move_of a k None)
-both_squares p a n t k pawn one two free free' home =
-    sym (advances_is p a k n t pawn one two
-    ∙ rw (
-      some_is_not_none (man_at p.men n) false free,
-      some_is_not_none (man_at p.men t) false free',
-      eq-eqb (rank a)
-          (pawn_rank p.side) home,
-    ) refl)
+pub two_too : (p : Setup) (a k : ℕ) → is_man p.side Pawn (man_at p.men a) ≡ true
+    → is_none (man_at p.men (forward p.side a)) ≡ true → rank a ≡ pawn_rank p.side
+    → ((k == forward p.side a) || ((k == forward p.side (forward p.side a)) && is_none (man_at p.men k)))
+    ≡ pawn_advances p (move_of a k None)
+two_too p a k pawn free home =
+    sym (advances_is p a k (forward p.side a) _ pawn refl refl
+    ∙ rw (free, eq-eqb (rank a) (pawn_rank p.side) home)
+    (ap (λ t. (k == forward p.side a) || t) (there (forward p.side (forward p.side a)))))
+  where
+    there : (t : ℕ) → (is_none (man_at p.men t) && (k == t)) ≡ ((k == t) && is_none (man_at p.men k))
+    there t =
+        elim (cases_eq k t) [
+          | inl e ↦ rw (e, eq-eqb t t refl) (and-true _)
+          | inr apart ↦ rw (ne_eqb k t apart) (and-false _)
+        ]
 
 pub no_own : (c : Colour) (o : Option Man) → o ≡ None → is_of c o ≡ true → ⊥
 unfolding is_of

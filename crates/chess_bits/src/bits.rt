@@ -3,7 +3,7 @@
 ghost use Rattle.std.specs.Prelude.{◌≡◌, ℕ, ◌<◌, ◌==◌};
 ghost use Rattle.chess_base.specs.Attacks.{is_attacked};
 ghost use Rattle.chess_base.specs.Initial.{initial_setup};
-ghost use Rattle.chess_base.specs.Men.{Men, man_at, is_man};
+ghost use Rattle.chess_base.specs.Men.{man_at, is_man};
 ghost use Rattle.chess_base.specs.declared.man.Kind.TheVariants.{King};
 ghost use Rattle.chess_bits.specs.ties.Occupancy.{IsOccupied};
 
@@ -138,7 +138,7 @@ impl Board for Bits<'_> {
         if is_pawn(kind) {
             return self.pawns_to(to);
         }
-        reached_among(self.tables, self.sets.occupied(), side, kind, to, own)
+        reached_among(self.tables, self.sets.occupied(), kind, to, own)
     }
 
     // The squares of this colour's pieces of this kind.

@@ -1,12 +1,13 @@
 //! The pieces of one colour as sets of squares, and what they attack.
 
-ghost use Rattle.std.specs.Prelude.{◌≡◌, ℕ, ◌<◌, ◌&&◌, Some, None, length, slice_set, slice_index};
+ghost use Rattle.std.specs.Prelude.{◌≡◌, ℕ, ◌<◌, ◌&&◌, Option, Some, None, true, false, length, slice_set, slice_index};
 ghost use Rattle.chess_base.specs.declared.man.Colour.{Colour as Side};
+ghost use Rattle.chess_base.specs.declared.man.Man.{Man as Piece};
 ghost use Rattle.chess_base.specs.Men.{Men, man_at, is_of, other, kind_number};
 ghost use Rattle.chess_base.specs.Attacks.{attacks, is_attacked};
 ghost use Rattle.chess_moves.specs.Sets.{contains};
 ghost use Rattle.chess_bits.specs.ties.Occupancy.{IsOccupied, IsLater};
-ghost use Rattle.chess_bits.specs.ties.KindSets.{AreKindsAt, IsKinds};
+ghost use Rattle.chess_bits.specs.ties.KindSets.{AreKindsAt, IsAll, IsKinds};
 
 use crate::sliding::{met_on_diagonals, met_on_lines};
 use crate::table::Shape;
@@ -14,10 +15,11 @@ use crate::tables::AttackTables;
 use chess_base::{Colour, Kind, Square};
 use chess_moves::SquareSet;
 
-/// The pieces of one colour: a set of squares for each kind, at the kind's index (king 0 to pawn 5).
+/// The pieces of one colour: the set of all, and for each kind one, at the kind's index (king 0 to pawn 5).
 #[derive(Clone, Copy)]
 pub struct Kinds {
     sets: [SquareSet; 6],
+    pub all: SquareSet,
 }
 
 // The index of a kind's set: king 0 to pawn 5.
@@ -39,47 +41,66 @@ impl Kinds {
     /// The sets of a colour that has no pieces.
     #[tactic(auto, using(crate::proofs::Standing::no_kinds))]
     pub fn empty() -> Kinds
-        ensures { (c : Side) → (men : Men) → ((k : ℕ) → k < 64 → man_at men k ≡ None) → IsKinds result.sets c men }
+        ensures kinds { (c : Side) → (men : Men) → ((k : ℕ) → k < 64 → man_at men k ≡ None)
+            → IsKinds result.sets c men }
+        ensures none { (k : ℕ) → contains result.all k ≡ false }
     {
         let none = SquareSet::empty();
         Kinds {
             sets: [none, none, none, none, none, none],
+            all: none,
         }
     }
 
     /// Adds a piece of this kind on a square, which is empty.
     pub fn put(&mut self, kind: Kind, square: Square)
-        ensures { (men : Men) → (c : Side) → length men ≡ 64 → man_at men square ≡ None → IsKinds self.old.sets c men
+        ensures kinds { (men : Men) → (c : Side) → length men ≡ 64 → man_at men square ≡ None → IsKinds self.old.sets c men
             → IsKinds self.new.sets c (slice_set men square (Some (record { colour = c; kind = kind }))) }
+        ensures all { (men : Men) → (c : Side) → (o : Option Piece) → length men ≡ 64 → is_of c o ≡ true
+            → IsAll self.old.all c men → IsAll self.new.all c (slice_set men square o) }
+        ensures in_range { square < 64 }
     {
         let at = number(kind);
-        self.sets[at] = self.sets[at].union(SquareSet::single(square));
+        let here = SquareSet::single(square);
+        self.sets[at] = self.sets[at].union(here);
+        self.all = self.all.union(here);
     }
 
     /// Removes a piece of this kind from its square.
     pub fn lift(&mut self, kind: Kind, square: Square)
-        ensures { (men : Men) → (c : Side) → length men ≡ 64
+        ensures kinds { (men : Men) → (c : Side) → length men ≡ 64
             → man_at men square ≡ Some (record { colour = c; kind = kind }) → IsKinds self.old.sets c men
             → IsKinds self.new.sets c (slice_set men square None) }
+        ensures all { (men : Men) → (c : Side) → length men ≡ 64
+            → IsAll self.old.all c men → IsAll self.new.all c (slice_set men square None) }
+        ensures in_range { square < 64 }
     {
         let at = number(kind);
-        self.sets[at] = self.sets[at].without(SquareSet::single(square));
+        let here = SquareSet::single(square);
+        self.sets[at] = self.sets[at].without(here);
+        self.all = self.all.without(here);
     }
 
     /// Moves a piece of this kind from one square to another, which is empty.
     #[inline(always)]
     pub fn shift(&mut self, kind: Kind, from: Square, to: Square)
-        ensures { (men : Men) → (c : Side) → length men ≡ 64
+        ensures kinds { (men : Men) → (c : Side) → length men ≡ 64
             → man_at men from ≡ Some (record { colour = c; kind = kind }) → man_at men to ≡ None
             → IsKinds self.old.sets c men
             → IsKinds self.new.sets c
             (slice_set (slice_set men from None) to (Some (record { colour = c; kind = kind }))) }
+        ensures all { (men : Men) → (c : Side) → (o : Option Piece) → length men ≡ 64 → is_of c o ≡ true
+            → IsAll self.old.all c men → IsAll self.new.all c (slice_set (slice_set men from None) to o) }
+        ensures starts_in_range { from < 64 }
+        ensures ends_in_range { to < 64 }
     {
         let at = number(kind);
         let left = SquareSet::single(from);
         let entered = SquareSet::single(to);
         let rest = self.sets[at].without(left);
         self.sets[at] = rest.union(entered);
+        let others = self.all.without(left);
+        self.all = others.union(entered);
     }
 
     /// The squares of the pieces of this kind, of the colour that these sets are of.

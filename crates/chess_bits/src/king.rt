@@ -114,7 +114,7 @@ impl Bits<'_> {
     }
 
     // Whether the move `m` is neither the king's nor a pawn's to the en passant target: so only its two squares change,
-    // and the king stays.
+    // and the king stays, which `goes_plainly` of placing.rt doesn't ask.
     #[inline(always)]
     fn steps_plainly(&self, m: &Move) -> bool
         ensures { result ≡ (not (is_man (self.now).side King (man_at (self.now).men m.now.from))

@@ -13,7 +13,7 @@ ghost use Rattle.chess_moves.specs.Sets.{contains, HasLegalStarts};
 use crate::bits::Bits;
 use crate::placing::is_target;
 use crate::reaching::reached_among;
-use crate::squares::filter;
+use crate::squares::{filter, single_if};
 use crate::targets::{is_king, is_pawn};
 use chess_base::rules::{first_rank, is_of, promotion_fits};
 use chess_base::{Colour, Kind, Man, Move, Square};
@@ -47,33 +47,24 @@ fn officer_of(colour: Colour, man: Option<Man>) -> Option<Kind>
 }
 
 impl Bits<'_> {
-    // Whether the piece on `from`, a queen, rook, bishop or knight of this kind, may legally go to `to`.
-    #[inline(always)]
-    #[tactic(auto, using(crate::proofs::ByKind::officer_pattern, crate::proofs::ByKind::no_pattern, crate::proofs::ByKind::officer_plain))]
-    fn goes_legally(&self, kind: Kind, from: Square, to: Square) -> bool
-        requires { IsOfficer (self.now).side kind (man_at (self.now).men from) }
-        ensures { result ≡ is_legal self.now (move_of from to None) }
-    {
-        // The prover wants these facts: the numbers of both squares are below 64.
-        let _start = from.number();
-        let _end = to.number();
-        if !self.steps(kind, from).contains(to) {
-            return false;
-        }
-        self.is_safe_plain(from, to)
-    }
-
     // Whether the move `m` is legal; the piece on its start square is a queen, rook, bishop or knight of this kind.
+    // `is_legal_by_targets` would say it too, but would ask also what only a king or a pawn does.
     #[inline(always)]
-    #[tactic(auto, using(crate::proofs::ByKind::promotes_not, crate::proofs::ByKind::as_triple))]
+    #[tactic(auto, using(crate::proofs::ByKind::promotes_not, crate::proofs::ByKind::as_triple, crate::proofs::ByKind::officer_pattern, crate::proofs::ByKind::no_pattern, crate::proofs::ByKind::officer_plain))]
     fn is_officer_legal(&self, kind: Kind, m: &Move) -> bool
         requires { IsOfficer (self.now).side kind (man_at (self.now).men m.now.from) }
         ensures { result ≡ is_legal self.now m.now }
     {
+        // The prover wants these facts: the numbers of both squares are below 64.
+        let _start = m.from.number();
+        let _end = m.to.number();
         if m.promotion.is_some() {
             return false;
         }
-        self.goes_legally(kind, m.from, m.to)
+        if !self.steps(kind, m.from).contains(m.to) {
+            return false;
+        }
+        self.is_safe_plain(m.from, m.to)
     }
 
     // Whether the move `m` of any piece is legal: its end square is among those of its piece, its promotion fits, and
@@ -146,7 +137,7 @@ impl Bits<'_> {
         }
         let occupied = self.sets.occupied();
         let own = self.sets.of(side).of(kind);
-        let men = reached_among(self.tables, occupied, side, kind, to, own);
+        let men = reached_among(self.tables, occupied, kind, to, own);
         self.safe_starts(men, to)
     }
 
@@ -170,11 +161,7 @@ impl Bits<'_> {
         ensures { HasLegalStarts self.now King to result }
     {
         let king = self.king(self.setup.side);
-        if self.king_goes_legally(king, to) {
-            SquareSet::single(king)
-        } else {
-            SquareSet::empty()
-        }
+        single_if(self.king_goes_legally(king, to), king)
     }
 
     // Whether `to` is on the last rank of the side on move, where its pawns promote.

@@ -7,7 +7,7 @@ ghost use Rattle.chess_base.specs.MoveList.{move_of};
 ghost use Rattle.chess_base.specs.Moves.{pawn_advances, pawn_captures};
 ghost use Rattle.chess_base.specs.Squares.{file};
 ghost use Rattle.chess_base.specs.declared.man.Kind.TheVariants.{Pawn};
-ghost use Rattle.chess_bits.specs.ties.Goes.{AreFree, GoesFreely, IsFree, goes_specially};
+ghost use Rattle.chess_bits.specs.ties.Goes.{AreFree, GoesFreely, IsAhead, IsFree, goes_specially};
 ghost use Rattle.chess_moves.specs.shared.MovesBySquares.{moves_from};
 ghost use Rattle.chess_moves.specs.Sets.{contains, members};
 
@@ -17,16 +17,25 @@ use chess_base::rules::pawn_rank;
 use chess_base::{Colour, Kind, Square};
 use chess_moves::{Board, SquareSet};
 
-// The squares from which one step straight ahead takes a pawn of this colour to a square of the set: for White the set
-// moved one rank down, for Black one rank up.
+// The squares to which one step straight ahead takes a pawn of this colour from a square of the set: for White the set
+// moved one rank up, for Black one rank down.
+#[inline(always)]
+pub(crate) fn ahead(colour: Colour, squares: SquareSet) -> SquareSet
+    ensures { IsAhead colour squares result }
+{
+    match colour {
+        Colour::White => squares.raised(8),
+        Colour::Black => squares.lowered(8),
+    }
+}
+
+// The squares from which one step straight ahead takes a pawn of this colour to a square of the set: those to which a
+// pawn of the other colour would go.
 #[inline(always)]
 fn behind(colour: Colour, squares: SquareSet) -> SquareSet
     ensures { (k : ℕ) → k < 64 → 8 ≤ k → contains result k ≡ contains squares (forward colour k) }
 {
-    match colour {
-        Colour::White => squares.lowered(8),
-        Colour::Black => squares.raised(8),
-    }
+    ahead(colour.other(), squares)
 }
 
 // The squares from which a pawn of this colour attacks a square of the set on the next file towards the a-file.
@@ -103,7 +112,10 @@ impl Bits<'_> {
     #[inline(always)]
     pub(crate) fn without_special_pawns(&self, free: SquareSet) -> SquareSet
         requires { (k : ℕ) → k < 64 → contains free k ≡ true → IsFree self.now k }
-        ensures { (k : ℕ) → k < 64 → contains result k ≡ true → GoesFreely self.now k }
+        ensures squares { (k : ℕ) → k < 64
+            → contains result k ≡ (contains free k
+            && not (is_man (self.now).side Pawn (man_at (self.now).men k) && goes_specially self.now k)) }
+        ensures freely { (k : ℕ) → k < 64 → contains result k ≡ true → GoesFreely self.now k }
     {
         let pawns = self.men_of(self.setup.side, Kind::Pawn);
         let special = pawns.intersection(self.special_squares());
@@ -113,6 +125,7 @@ impl Bits<'_> {
     // How many legal moves these pawns have. They are free (their king is safe wherever they go), and none may promote
     // or take en passant. Each has a move for each way open to it: one or two squares ahead, a capture to the left or
     // right.
+    #[tactic(auto, using(crate::proofs::PawnsCounted::members_fit))]
     pub(crate) fn count_ordinary_pawns(&self, pawns: SquareSet) -> usize
         requires free { AreFree self.now Pawn pawns }
         requires ordinary { (k : ℕ) → k < 64 → contains pawns k ≡ true → goes_specially self.now k ≡ false }

@@ -1,10 +1,10 @@
 //! A setup and its sets changed in place by a move, and back.
 
-ghost use Rattle.std.specs.Prelude.{◌≡◌, ℕ, ◌==◌, ◌&&◌, ◌||◌, length, IsTrue, Some, None, if◌then◌else◌};
+ghost use Rattle.std.specs.Prelude.{◌≡◌, ◌==◌, ◌&&◌, ◌||◌, IsTrue, Some, None, if◌then◌else◌};
 ghost use Rattle.chess_base.specs.Before.{before, saved_of};
-ghost use Rattle.chess_base.specs.Men.{man_at};
+ghost use Rattle.chess_base.specs.Men.{man_at, other};
 ghost use Rattle.chess_base.specs.shared.OneSquare.{with_man};
-ghost use Rattle.chess_base.specs.Moves.{after, is_legal, rights_after, target_after};
+ghost use Rattle.chess_base.specs.Moves.{after, fullmove_after, is_legal, rights_after, target_after};
 ghost use Rattle.chess_base.specs.Sound.{IsSound};
 ghost use Rattle.chess_base.specs.Squares.{is_square};
 ghost use Rattle.chess_base.specs.Steps.{men_stepped};
@@ -12,7 +12,6 @@ ghost use Rattle.chess_bits.specs.ties.BoardSets.{IsSets};
 ghost use Rattle.chess_bits.specs.ties.Changes.{clock_left, goes_plainly, has_no_right, is_king_or_rook, shifted, shifts};
 ghost use Rattle.chess_bits.specs.ties.Occupancy.{IsOccupied};
 ghost use Rattle.chess_moves.specs.Made.{IsMade};
-ghost use Rattle.chess_moves.specs.Sets.{contains};
 
 use crate::keys::KeyTable;
 use crate::sets::Sets;
@@ -208,6 +207,26 @@ fn halfmove_left(setup: &Setup, man: Man, taken: Option<Man>) -> u32
     }
 }
 
+// Passes the turn to the other side, with these rights, this en passant target and this halfmove clock.
+#[inline(always)]
+fn pass_turn(setup: &mut Setup, rights: Rights, target: Option<Square>, halfmove: u32)
+    ensures { setup.new ≡ record {
+      variant = setup.old.variant;
+      men = setup.old.men;
+      side = other setup.old.side;
+      rights = rights;
+      target = target;
+      halfmove = halfmove;
+      fullmove = fullmove_after setup.old.side setup.old.fullmove;
+    } }
+{
+    setup.fullmove = fullmove_after(setup.side, setup.fullmove);
+    setup.side = setup.side.other();
+    setup.rights = rights;
+    setup.target = target;
+    setup.halfmove = halfmove;
+}
+
 // Makes the legal move `m` of the piece `man`, which does no more than take it from one square to the other, in place;
 // returns what is needed to take it back. `keys` keep the pieces' hash up to date.
 #[inline(always)]
@@ -230,11 +249,7 @@ fn shift(setup: &mut Setup, sets: &mut Sets, keys: &KeyTable, m: &Move, man: Man
     let rights = rights_left(setup, m, man, taken);
     let target = target_left(setup, m, man);
     let halfmove = halfmove_left(setup, man, taken);
-    setup.rights = rights;
-    setup.target = target;
-    setup.halfmove = halfmove;
-    setup.fullmove = fullmove_after(setup.side, setup.fullmove);
-    setup.side = setup.side.other();
+    pass_turn(setup, rights, target, halfmove);
     sets.clear(keys, m.to, taken);
     sets.shift(keys, man, m.from, m.to);
     setup.men[m.from.index()] = None;
@@ -243,7 +258,8 @@ fn shift(setup: &mut Setup, sets: &mut Sets, keys: &KeyTable, m: &Move, man: Man
 }
 
 // Makes any legal move `m` in place, and returns what is needed to take it back; `keys` keep the pieces' hash up to
-// date. Few moves need it (such as castling, en passant and promotions), so it is not inlined.
+// date. `shift` looks at two squares in place of four; few moves need this one (such as castling, en passant and
+// promotions), so it is not inlined.
 #[inline(never)]
 #[tactic(auto, unfolding(chess_base::specs::Moves::after), using(chess_base::proofs::shared::MenAfter::men_after_by_steps))]
 fn make_in_steps(setup: &mut Setup, sets: &mut Sets, keys: &KeyTable, m: &Move) -> Saved
@@ -258,11 +274,7 @@ fn make_in_steps(setup: &mut Setup, sets: &mut Sets, keys: &KeyTable, m: &Move) 
     let halfmove = halfmove_after(setup, m);
     let steps = steps_of(setup, m);
     take_steps(&mut setup.men, sets, keys, &steps);
-    setup.fullmove = fullmove_after(setup.side, setup.fullmove);
-    setup.side = setup.side.other();
-    setup.rights = rights;
-    setup.target = target;
-    setup.halfmove = halfmove;
+    pass_turn(setup, rights, target, halfmove);
     saved
 }
 

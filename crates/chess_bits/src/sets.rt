@@ -2,7 +2,6 @@
 
 ghost use Rattle.std.specs.Prelude.{◌≡◌, ℕ, ◌<◌, length, slice_set, Some, None};
 ghost use Rattle.chess_base.specs.Men.{Men, man_at, is_of};
-ghost use Rattle.chess_base.specs.declared.man.Colour.{Colour as Side};
 ghost use Rattle.chess_bits.specs.ties.BoardSets.{IsSets};
 ghost use Rattle.chess_bits.specs.ties.KindSets.{IsKinds};
 ghost use Rattle.chess_bits.specs.ties.Occupancy.{IsOccupied};
@@ -13,14 +12,11 @@ use crate::kinds::Kinds;
 use chess_base::{Colour, Man, Square};
 use chess_moves::{SquareSet, man_key};
 
-/// The pieces as sets of squares: for each colour by kind and all together; and `men_word`, the exclusive or of the
-/// pieces' keys.
+/// The pieces of both colours as sets of squares; and `men_word`, the exclusive or of the pieces' keys.
 #[derive(Clone, Copy)]
 pub struct Sets {
     pub white: Kinds,
     pub black: Kinds,
-    pub all_white: SquareSet,
-    pub all_black: SquareSet,
     pub men_word: u64,
 }
 
@@ -33,8 +29,6 @@ impl Sets {
         Sets {
             white: Kinds::empty(),
             black: Kinds::empty(),
-            all_white: SquareSet::empty(),
-            all_black: SquareSet::empty(),
             men_word: 0,
         }
     }
@@ -54,8 +48,8 @@ impl Sets {
         ensures { (men : Men) → IsSets self.now men → (k : ℕ) → k < 64 → contains result k ≡ is_of colour (man_at men k) }
     {
         match colour {
-            Colour::White => self.all_white,
-            Colour::Black => self.all_black,
+            Colour::White => self.white.all,
+            Colour::Black => self.black.all,
         }
     }
 
@@ -64,7 +58,7 @@ impl Sets {
     pub fn occupied(&self) -> SquareSet
         ensures { (men : Men) → IsSets self.now men → IsOccupied result men }
     {
-        self.all_white.union(self.all_black)
+        self.white.all.union(self.black.all)
     }
 
     // Removes the piece `man` from its square, and its key from the hash.
@@ -73,17 +67,10 @@ impl Sets {
         ensures { (men : Men) → length men ≡ 64 → man_at men square ≡ Some man → IsSets self.old men
             → IsSets self.new (slice_set men square None) }
     {
-        let here = SquareSet::single(square);
         self.men_word ^= man_key(keys, man, square);
         match man.colour {
-            Colour::White => {
-                self.white.lift(man.kind, square);
-                self.all_white = self.all_white.without(here);
-            }
-            Colour::Black => {
-                self.black.lift(man.kind, square);
-                self.all_black = self.all_black.without(here);
-            }
+            Colour::White => self.white.lift(man.kind, square),
+            Colour::Black => self.black.lift(man.kind, square),
         }
     }
 
@@ -93,17 +80,10 @@ impl Sets {
         ensures { (men : Men) → length men ≡ 64 → man_at men square ≡ None → IsSets self.old men
             → IsSets self.new (slice_set men square (Some man)) }
     {
-        let here = SquareSet::single(square);
         self.men_word ^= man_key(keys, man, square);
         match man.colour {
-            Colour::White => {
-                self.white.put(man.kind, square);
-                self.all_white = self.all_white.union(here);
-            }
-            Colour::Black => {
-                self.black.put(man.kind, square);
-                self.all_black = self.all_black.union(here);
-            }
+            Colour::White => self.white.put(man.kind, square),
+            Colour::Black => self.black.put(man.kind, square),
         }
     }
 
@@ -113,21 +93,15 @@ impl Sets {
         ensures { (men : Men) → length men ≡ 64 → man_at men from ≡ Some man → man_at men to ≡ None
             → IsSets self.old men → IsSets self.new (slice_set (slice_set men from None) to (Some man)) }
     {
-        let left = SquareSet::single(from);
-        let entered = SquareSet::single(to);
         // One key before the sets change and one after: next to each other they become a branch on the piece's kind.
         self.men_word ^= man_key(keys, man, from);
         match man.colour {
             Colour::White => {
                 self.white.shift(man.kind, from, to);
-                let rest = self.all_white.without(left);
-                self.all_white = rest.union(entered);
                 self.men_word ^= man_key(keys, man, to);
             }
             Colour::Black => {
                 self.black.shift(man.kind, from, to);
-                let rest = self.all_black.without(left);
-                self.all_black = rest.union(entered);
                 self.men_word ^= man_key(keys, man, to);
             }
         }

@@ -2,6 +2,7 @@
 
 ghost use Rattle.std.specs.Prelude.{◌≡◌, ℕ, ◌<◌, ◌&&◌, ◌||◌, not, true, ◌==◌};
 ghost use Rattle.chess_base.specs.Squares.{share_rank_or_file, share_diagonal};
+ghost use Rattle.chess_base.specs.shared.Lines.{same_line};
 ghost use Rattle.chess_moves.specs.Sets.{contains};
 ghost use Rattle.chess_bits.specs.ties.Rays.{is_open};
 
@@ -12,22 +13,30 @@ use chess_base::Square;
 use chess_base::rules::Line;
 use chess_moves::SquareSet;
 
-// The squares that a rook on `square` attacks: in each of its four directions up to the first occupied square, that one
-// included.
+// The squares that are seen from `square` along its line of this kind: in both directions up to the first occupied
+// square, that one included.
+#[inline(always)]
+#[tactic(auto, using(crate::proofs::Attackers::both_rays))]
+fn along(tables: &AttackTables, line: Line, square: Square, occupied: SquareSet) -> SquareSet
+    ensures { (k : ℕ) → k < 64
+        → contains result k ≡ (not (k == square) && same_line line k square && is_open occupied square k) }
+{
+    let rising = tables.sweep(line, true, square, occupied);
+    let falling = tables.sweep(line, false, square, occupied);
+    rising.union(falling)
+}
+
+// The squares that a rook on `square` attacks.
 #[tactic(auto, using(crate::proofs::Attackers::on_lines))]
 pub(crate) fn along_lines(tables: &AttackTables, square: Square, occupied: SquareSet) -> SquareSet
     ensures { (k : ℕ) → k < 64
         → contains result k ≡ (not (k == square) && share_rank_or_file k square && is_open occupied square k) }
 {
-    let right = tables.sweep(Line::Rank, true, square, occupied);
-    let left = tables.sweep(Line::Rank, false, square, occupied);
-    let up = tables.sweep(Line::File, true, square, occupied);
-    let down = tables.sweep(Line::File, false, square, occupied);
-    right.union(left).union(up.union(down))
+    let rank = along(tables, Line::Rank, square, occupied);
+    rank.union(along(tables, Line::File, square, occupied))
 }
 
-// The squares that a bishop on `square` attacks: in each of its four directions up to the first occupied square, that
-// one included.
+// The squares that a bishop on `square` attacks.
 #[tactic(auto, using(crate::proofs::Attackers::on_diagonals))]
 pub(crate) fn along_diagonals(
     tables: &AttackTables,
@@ -37,11 +46,8 @@ pub(crate) fn along_diagonals(
     ensures { (k : ℕ) → k < 64
         → contains result k ≡ (not (k == square) && share_diagonal k square && is_open occupied square k) }
 {
-    let up_right = tables.sweep(Line::Diagonal, true, square, occupied);
-    let down_left = tables.sweep(Line::Diagonal, false, square, occupied);
-    let up_left = tables.sweep(Line::Antidiagonal, true, square, occupied);
-    let down_right = tables.sweep(Line::Antidiagonal, false, square, occupied);
-    up_right.union(down_left).union(up_left.union(down_right))
+    let diagonal = along(tables, Line::Diagonal, square, occupied);
+    diagonal.union(along(tables, Line::Antidiagonal, square, occupied))
 }
 
 // Whether nothing occupied lies between two squares of one line.

@@ -45,7 +45,8 @@ fn in_shape(shape: Shape, a: Square, b: Square) -> bool
     }
 }
 
-// The squares that belong to the shape from square a: for `Knight`, those that a knight on a attacks.
+// The squares that belong to the shape from square a: for `Knight`, those that a knight on a attacks. It goes over the
+// numbers, since `filter` would need a set of all squares.
 fn squares_of(shape: Shape, a: Square) -> SquareSet
     ensures { (k : ℕ) → k < 64 → contains result k ≡ in_shape shape a k }
 {

@@ -1,6 +1,6 @@
 //! All tables together, and sweeps: the squares of a ray up to and with the first one of a set.
 
-ghost use Rattle.std.specs.Prelude.{◌≡◌, ℕ, ◌<◌, ◌&&◌, ◌||◌, true, false};
+ghost use Rattle.std.specs.Prelude.{◌≡◌, ℕ, ◌<◌, ◌&&◌, true, false};
 ghost use Rattle.chess_moves.specs.Sets.{contains, is_beyond};
 ghost use Rattle.chess_bits.specs.ties.Shapes.{in_shape};
 ghost use Rattle.chess_base.specs.shared.Lines.{same_line};

@@ -1,9 +1,9 @@
 //! Where pieces go: sets of end squares, whatever becomes of the king. Castling is among them only where it is legal.
 
-ghost use Rattle.std.specs.Prelude.{◌≡◌, ◌+◌, ◌≤◌, ◌<◌, ℕ, ◌&&◌, ◌||◌, not, true, false, Some, None, MatchOption};
+ghost use Rattle.std.specs.Prelude.{◌≡◌, ◌<◌, ℕ, ◌&&◌, ◌||◌, not, true, false, Some, None};
 ghost use Rattle.chess_base.specs.Attacks.{could_capture};
 ghost use Rattle.chess_base.specs.Squares.{is_square};
-ghost use Rattle.chess_base.specs.Men.{man_at, other, is_of, is_man, same_kind, forward, pawn_rank};
+ghost use Rattle.chess_base.specs.Men.{man_at, other, is_of, is_man, same_kind};
 ghost use Rattle.chess_base.specs.MoveList.{move_of};
 ghost use Rattle.chess_base.specs.Moves.{is_legal, pawn_advances, pawn_captures};
 ghost use Rattle.chess_base.specs.declared.man.Kind.TheVariants.{King, Pawn};
@@ -15,26 +15,15 @@ ghost use Rattle.chess_moves.specs.Sets.{contains};
 
 use crate::bits::Bits;
 use crate::king::set_of;
+use crate::pawns::ahead;
 use crate::reaching::reached_from;
 use crate::table::Shape;
 use chess_base::rules::{
     Castle, castle_of, castled_king_file, castled_rook_file, home_square, is_man, is_of, pawn_rank,
     right_of,
 };
-use chess_base::{CastlingSide, Colour, Kind, Move, Square, Variant};
+use chess_base::{CastlingSide, Kind, Move, Square, Variant};
 use chess_moves::SquareSet;
-
-// The square straight ahead of `square` for a pawn of this colour. From its last rank, where no pawn stands, it is
-// `None` for White, and a1 for Black, since the number 0 gets no lower.
-fn ahead(colour: Colour, square: Square) -> Option<Square>
-    ensures { MatchOption result (64 ≤ forward colour square) (λ s. s ≡ forward colour square) }
-{
-    match colour {
-        Colour::White if square.number() >= 56 => None,
-        Colour::White => Some(Square::new(square.number() + 8)),
-        Colour::Black => Some(Square::new(square.number().saturating_sub(8))),
-    }
-}
 
 // Whether the kind is a king.
 pub(crate) fn is_king(kind: Kind) -> bool
@@ -170,32 +159,22 @@ impl Bits<'_> {
     }
 
     // The squares, one or two, to which the pawn on `from` may go straight ahead.
-    #[tactic(auto, using(crate::proofs::TargetsOf::off_board, crate::proofs::TargetsOf::blocked, crate::proofs::TargetsOf::one_only, crate::proofs::TargetsOf::second_blocked, crate::proofs::TargetsOf::both_squares))]
     fn advances(&self, from: Square) -> SquareSet
         requires { is_man (self.now).side Pawn (man_at (self.now).men from) ≡ true }
         ensures { (k : ℕ) → k < 64 → contains result k ≡ pawn_advances self.now (move_of from k None) }
     {
-        // The prover wants this fact: the start's number is below 64.
-        let _start = from.number();
         let side = self.setup.side;
-        let Some(next) = ahead(side, from) else {
-            return SquareSet::empty();
-        };
-        if self.setup.men[next.index()].is_some() {
+        let occupied = self.sets.occupied();
+        let next = ahead(side, SquareSet::single(from));
+        let met = next.intersection(occupied);
+        if !met.is_empty() {
             return SquareSet::empty();
         }
-        let one = SquareSet::single(next);
         if from.rank() != pawn_rank(side) {
-            return one;
+            return next;
         }
-        let Some(second) = ahead(side, next) else {
-            return one;
-        };
-        if self.setup.men[second.index()].is_some() {
-            one
-        } else {
-            one.union(SquareSet::single(second))
-        }
+        let second = ahead(side, next).without(occupied);
+        next.union(second)
     }
 
     // The squares on which the pawn on `from` may capture, the en passant target included.

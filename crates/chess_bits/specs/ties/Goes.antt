@@ -1,22 +1,23 @@
 -- Where the pieces of the side on move go, whatever becomes of their king.
-use Rattle.std.specs.Prelude.{◌≡◌, ℕ, ◌<◌, ◌==◌, not, ◌&&◌, ◌||◌, Bool, true, false, Option, Some, None, if◌then◌else◌}
+use Rattle.std.specs.Prelude.{◌≡◌, ℕ, ◌+◌, ◌-◌, ◌<◌, ◌==◌, nat_le, ◌&&◌, ◌||◌, Bool, true, false, Option, Some, None, if◌then◌else◌}
 use Rattle.chess_base.specs.declared.castling.Castle.{Castle}
 use Rattle.chess_base.specs.declared.man.CastlingSide.{CastlingSide}
 use Rattle.chess_base.specs.declared.man.Colour.{Colour}
+use Rattle.chess_base.specs.declared.man.Colour.TheVariants.{White, Black}
 use Rattle.chess_base.specs.declared.man.Kind.{Kind}
-use Rattle.chess_base.specs.declared.man.Kind.TheVariants.{King, Queen, Rook, Bishop, Pawn}
+use Rattle.chess_base.specs.declared.man.Kind.TheVariants.{King, Queen, Pawn}
 use Rattle.chess_base.specs.declared.man.Man.{Man}
 use Rattle.chess_base.specs.declared.man.Move.{Move}
 use Rattle.chess_base.specs.declared.man.Variant.{Variant}
 use Rattle.chess_base.specs.declared.man.Variant.TheVariants.{Normal, Fischerandom}
 use Rattle.chess_base.specs.declared.setup.Setup.{Setup}
-use Rattle.chess_base.specs.Attacks.{is_clear, is_attacked}
+use Rattle.chess_base.specs.Attacks.{is_attacked}
 use Rattle.chess_base.specs.Castling.{home_square, castled_king_file, right_of, castle_of}
 use Rattle.chess_base.specs.Men.{Men, man_at, other, is_man, same_kind, pawn_rank}
 use Rattle.chess_base.specs.shared.OneSquare.{with_man}
 use Rattle.chess_base.specs.MoveList.{move_of}
 use Rattle.chess_base.specs.Moves.{is_pseudo_legal, is_legal, man_moves}
-use Rattle.chess_base.specs.Squares.{rank, share_rank_or_file, share_diagonal}
+use Rattle.chess_base.specs.Squares.{rank}
 use Rattle.chess_bits.specs.declared.table.Shape.TheVariants as shape
 use Rattle.chess_bits.specs.ties.Shapes.{in_shape}
 use Rattle.chess_moves.specs.Promoting.{would_promote}
@@ -64,22 +65,6 @@ man_goes p a b = legal_or p (move_of a b None) (castle_of p (move_of a b None)) 
 abbrev pub lifted : Men → ℕ → Men
 lifted men a = with_man men (Some a) None
 
--- with the piece on a taken off, no rook or queen of the other side attacks square k along a rank or file that did not
--- do so before
-abbrev pub OpensNoLine : Setup → ℕ → ℕ → Type 0
-OpensNoLine p a k =
-    (b : ℕ) → b < 64 → (is_man (other p.side) Rook (man_at p.men b) || is_man (other p.side) Queen (man_at p.men b))
-    ≡ true
-    → (not (b == k) && share_rank_or_file b k) ≡ true → is_clear (lifted p.men a) b k ≡ true → is_clear p.men b k ≡ true
-
--- with the piece on a taken off, no bishop or queen of the other side attacks square k along a diagonal that did not do
--- so before
-abbrev pub OpensNoDiagonal : Setup → ℕ → ℕ → Type 0
-OpensNoDiagonal p a k =
-    (b : ℕ) → b < 64 → (is_man (other p.side) Bishop (man_at p.men b) || is_man (other p.side) Queen (man_at p.men b))
-    ≡ true
-    → (not (b == k) && share_diagonal b k) ≡ true → is_clear (lifted p.men a) b k ≡ true → is_clear p.men b k ≡ true
-
 -- a does not hold the king of the side on move, and this king is not attacked even with the piece on a taken off: so it
 -- is safe wherever that piece goes
 pub record IsFree (p : Setup) (a : ℕ) : Type 0 where
@@ -96,6 +81,11 @@ AreFree p kind w = (k : ℕ) → k < 64 → contains w k ≡ true → (is_man p.
 pub record IsOfficer (c : Colour) (kind : Kind) (o : Option Man) : Type 0 where
   pub man : is_man c kind o ≡ true
   pub officer : (same_kind King kind || same_kind Pawn kind) ≡ false
+
+-- the set w is the set s moved one rank ahead, as pawns of colour c go: up for White, down for Black
+pub record IsAhead (c : Colour) (s w : ℕ) : Type 0 where
+  pub up : c ≡ White → (k : ℕ) → k < 64 → contains w k ≡ (nat_le 8 k && contains s (k - 8))
+  pub down : c ≡ Black → (k : ℕ) → contains w k ≡ contains s (k + 8)
 
 -- a pawn of colour c on square a would attack the given square, if there is one
 abbrev pub aims_at : Option ℕ → Colour → ℕ → Bool

@@ -9,7 +9,8 @@ use Rattle.chess_base.specs.Men.{man_at, is_man}
 use Rattle.chess_bits.specs.ties.Pins.{aims_from}
 use Rattle.chess_bits.specs.ties.Goes.{lifted}
 use Rattle.chess_moves.specs.Sets.{contains}
-use Rattle.chess_bits.proofs.Pins.{aims_hit, answered, taken_out, to_in}
+use Rattle.chess_bits.proofs.Pins.{aims_hit, answered, taken_out}
+use Rattle.chess_bits.proofs.TargetsOf.{ends_below}
 use Rattle.chess_bits.proofs.OneKing.{alone}
 use Rattle.chess_bits.proofs.bits.Bits.add_pin.Goals as goal
 
@@ -41,7 +42,7 @@ returns-in-Some-clause-evasions c =
           let hits = aims_hit p (lifted p.men m.from) c.args.from c.args.king aims opens in
           c.union-pins.ensures m.to
           ∙ or_right (contains c.args.pins.now.evasions m.to) (contains c.evasions.result m.to)
-          (evasions m.to (to_in p m legal)
+          (evasions m.to (ends_below p m legal)
           (answered p m c.args.king c.args.from c.self.invariant.0 legal king one
           (ap (λ k. is_man p.side King (man_at p.men k)) at ∙ no_king) from hits.0 hits.1))
     ])

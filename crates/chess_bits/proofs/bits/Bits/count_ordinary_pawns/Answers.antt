@@ -1,12 +1,12 @@
 -- Each pawn has as many legal moves as ways are open to it (pawns_counted of PawnsCounted), and the sets computed are
 -- those of the pawns to which each way is open (ways_are).
-use Rattle.std.proofs.Common.{◌≡◌, ◌<◌, ◌==◌, ℕ, true, false, ap, ◌∙◌, arith}
+use Rattle.std.proofs.Common.{◌≡◌, ◌<◌, ◌==◌, ℕ, true, false, ap, ◌∙◌}
 use Rattle.chess_base.specs.declared.man.Kind.TheVariants.{Pawn}
 use Rattle.chess_base.specs.Men.{man_at, is_of}
 use Rattle.chess_base.specs.Squares.{rank}
 use Rattle.chess_moves.specs.Sets.{contains}
 use Rattle.chess_bits.specs.ties.Goes.{goes_specially, AreFree}
-use Rattle.chess_bits.proofs.PawnsCounted.{AreSets, members_fit, summed, ways_are, pawns_counted}
+use Rattle.chess_bits.proofs.PawnsCounted.{AreSets, summed, ways_are, pawns_counted}
 use Rattle.chess_bits.proofs.bits.Bits.count_ordinary_pawns.Goals as goal
 
 pub returns : goal.returns
@@ -39,12 +39,3 @@ returns c =
     ∙ pawns_counted p c.king-king.result c.args.pawns c.without-once.result c.without-twice.result
     c.intersection-left.result c.intersection-right.result c.self.invariant.0 c.king-king.ensures.in_range
     alone free ordinary ways)
-
-pub overflow_add-result : goal.overflow_add-result
-overflow_add-result c = omega (arith, members_fit)
-
-pub overflow_add-result-2 : goal.overflow_add-result-2
-overflow_add-result-2 c = omega (arith, members_fit)
-
-pub overflow_add-result-3 : goal.overflow_add-result-3
-overflow_add-result-3 c = omega (arith, members_fit)

@@ -1,7 +1,7 @@
--- The side on move has one king (king_start, no_king_start of ByKind).
-use Rattle.std.proofs.Common.{sym, refl, ◌∙◌}
+-- The side on move has one king (king_start of ByKind).
+use Rattle.std.proofs.Common.{ap, refl, ◌&&◌, ◌==◌, ◌∙◌}
 use Rattle.std.proofs.lemmas.Bool.{eq-eqb}
-use Rattle.chess_bits.proofs.ByKind.{king_start, no_king_start}
+use Rattle.chess_bits.proofs.ByKind.{king_start}
 use Rattle.chess_bits.proofs.bits.Bits.king_starts.Goals as goal
 
 pub king_goes_legally-requires : goal.king_goes_legally-requires
@@ -10,20 +10,8 @@ king_goes_legally-requires c =
     rw (← c.self.view_is)
     (alone c.king-king.result c.king-king.ensures.in_range ∙ eq-eqb c.king-king.result c.king-king.result refl)
 
-pub returns-then-king_goes_legally : goal.returns-then-king_goes_legally
-returns-then-king_goes_legally c = λ k low.
-    let p = c.self.inside.setup in
-    let alone = rw (← c.self.view_is) at c.king-king.ensures.alone in
-    let legal = rw (← c.self.view_is) at c.king_goes_legally.ensures in
-    rw (← c.self.view_is)
-    (c.single.ensures.value k
-    ∙ king_start p c.args.to c.king-king.result k (alone k low) (sym legal ∙ c.if-king_goes_legally.true))
-
-pub returns-else-king_goes_legally : goal.returns-else-king_goes_legally
-returns-else-king_goes_legally c = λ k low.
-    let p = c.self.inside.setup in
-    let alone = rw (← c.self.view_is) at c.king-king.ensures.alone in
-    let legal = rw (← c.self.view_is) at c.king_goes_legally.ensures in
-    rw (← c.self.view_is)
-    (c.empty.ensures k
-    ∙ no_king_start p c.args.to c.king-king.result k (alone k low) (sym legal ∙ c.if-king_goes_legally.false))
+pub returns : goal.returns
+returns c = λ k low.
+    let alone = rw c.self.view_is at c.king-king.ensures.alone in
+    c.single_if.ensures k ∙ ap (λ t. t && (k == c.king-king.result)) c.king_goes_legally.ensures
+    ∙ king_start c.args.self.now c.args.to c.king-king.result k (alone k low)

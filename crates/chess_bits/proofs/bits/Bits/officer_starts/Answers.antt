@@ -23,7 +23,7 @@ safe_starts-requires c =
     let kinds = c.of.ensures p.men c.self.invariant.1 in
     rw (← c.self.view_is)
     (starts_plain p c.args.kind c.args.to c.of-own.result c.reached_among-men.result c.requires free high
-    (c.reached_among-men.ensures p.men (c.occupied-occupied.ensures p.men c.self.invariant.1))
+    (c.reached_among-men.ensures p.men p.side (c.occupied-occupied.ensures p.men c.self.invariant.1))
     (λ k low. ap (λ w. contains w k) c.of-own.ensures ∙ kinds.of_kind c.args.kind k low))
 
 pub returns : goal.returns
@@ -34,5 +34,5 @@ returns c = λ k low.
     rw (← c.self.view_is)
     (officer_starts_are p c.args.kind c.args.to c.of-own.result c.reached_among-men.result k
     (contains c.safe_starts.result k) c.requires
-    (c.reached_among-men.ensures p.men (c.occupied-occupied.ensures p.men c.self.invariant.1))
+    (c.reached_among-men.ensures p.men p.side (c.occupied-occupied.ensures p.men c.self.invariant.1))
     (λ j l. ap (λ w. contains w j) c.of-own.ensures ∙ kinds.of_kind c.args.kind j l) low made)

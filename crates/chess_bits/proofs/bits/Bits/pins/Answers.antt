@@ -7,7 +7,8 @@ use Rattle.chess_base.specs.declared.man.Kind.TheVariants.{King}
 use Rattle.chess_moves.specs.Sets.{contains}
 use Rattle.chess_bits.proofs.AfterSets.{check_is}
 use Rattle.chess_bits.proofs.Attackers.{attacked_is}
-use Rattle.chess_bits.proofs.Pins.{check_met, to_in}
+use Rattle.chess_bits.proofs.Pins.{check_met}
+use Rattle.chess_bits.proofs.TargetsOf.{ends_below}
 use Rattle.chess_bits.proofs.bits.Bits.pins.Goals as goal
 
 pub pins_without_check-requires-clause-calm : goal.pins_without_check-requires-clause-calm
@@ -40,7 +41,7 @@ returns-clause-evasions c =
     let evasions = rw (← c.self.view_is) at c.evasions.ensures in
     rw (← c.self.view_is)
     (λ a low no_king outside m legal at.
-    evasions m.to (to_in p m legal)
+    evasions m.to (ends_below p m legal)
     (check_met p m king c.first.result c.self.invariant.0 legal c.king-king.ensures.in_range one
     (ap (λ k. is_man p.side King (man_at p.men k)) at ∙ no_king) c.first.ensures.in_range
     (sym (gives c.first.result c.first.ensures.in_range) ∙ c.first.ensures.nearest.here)))

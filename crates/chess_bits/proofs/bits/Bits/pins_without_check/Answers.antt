@@ -3,14 +3,13 @@
 -- Freely).
 use Rattle.chess_base.proofs.shared.Kings.{one_king_of}
 use Rattle.std.proofs.Common.{◌≡◌, ◌<◌, ◌==◌, ◌&&◌, ◌||◌, ℕ, inl, inr, not, false, true, sym, ap, refl, subst, ◌∙◌}
-use Rattle.std.proofs.lemmas.Bool.{and_parts, and_from, or_left, or_right, cases_Bool, both_ways, eqb-true, not-true}
+use Rattle.std.proofs.lemmas.Bool.{and_parts, and_from, or_right, cases_Bool, both_ways, eqb-true, not-true}
 use Rattle.chess_base.specs.Attacks.{is_in_check}
-use Rattle.chess_base.specs.declared.man.Kind.TheVariants.{King, Queen, Rook, Bishop}
-use Rattle.chess_base.specs.Men.{man_at, is_man, is_of, other}
-use Rattle.chess_base.specs.Squares.{share_rank_or_file, share_diagonal}
+use Rattle.chess_base.specs.declared.man.Kind.TheVariants.{King}
+use Rattle.chess_base.specs.Men.{man_at, is_man, is_of}
 use Rattle.chess_bits.specs.ties.Pins.{aims_from, KeepsClosed}
 use Rattle.chess_moves.specs.Sets.{contains}
-use Rattle.chess_bits.proofs.Pins.{mover_told}
+use Rattle.chess_moves.proofs.shared.LegalMoves.{own_man_moves}
 use Rattle.chess_bits.proofs.Freely.{freed}
 use Rattle.chess_bits.proofs.Listed.{each_member, each_first}
 use Rattle.chess_bits.proofs.OneKing.{alone}
@@ -37,7 +36,7 @@ loop-from-init c =
           (both_ways (contains c.without.result a) outside
           (own a low
           ∙ and_from (is_of p.side (man_at p.men a)) (not (a == king))
-          (ap (λ k. is_of p.side (man_at p.men k)) (sym at) ∙ mover_told p m legal)
+          (ap (λ k. is_of p.side (man_at p.men k)) (sym at) ∙ own_man_moves p m legal)
           (ap not (sym (one a low) ∙ no_king))));
     })
 
@@ -80,13 +79,4 @@ returns-clause-free c =
     (λ k low h.
     let mine = and_parts (is_of p.side (man_at p.men k)) (not (k == king)) (own k low h) in
     freed p k king c.self.invariant.0 low there calm one (not-true _ mine.1)
-    (λ b high theirs on clear.
-    closed k b low high h
-    (or_left _ ((is_man (other p.side) Bishop (man_at p.men b) || is_man (other p.side) Queen (man_at p.men b))
-    && (not (b == king) && share_diagonal b king)) (and_from _ _ theirs on))
-    (none_left c.loop-from.rest b high c.in_default.ensures.0) clear)
-    (λ b high theirs on clear.
-    closed k b low high h
-    (or_right ((is_man (other p.side) Rook (man_at p.men b) || is_man (other p.side) Queen (man_at p.men b))
-    && (not (b == king) && share_rank_or_file b king)) _ (and_from _ _ theirs on))
-    (none_left c.loop-from.rest b high c.in_default.ensures.0) clear))
+    (λ b high aims. closed k b low high h aims (none_left c.loop-from.rest b high c.in_default.ensures.0)))

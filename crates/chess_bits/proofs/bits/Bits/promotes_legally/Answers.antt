@@ -1,4 +1,4 @@
--- A promotion has the pattern of a move with each kind that fits (pattern_of of Listed), and is neither the king's nor en
+-- A promotion has the pattern of a move with each kind that fits (pattern_from of Patterns), and is neither the king's nor en
 -- passant, since the target is not on the last rank (no_target_there of Pins).
 use Rattle.chess_base.proofs.shared.Men.{is_man-kind}
 use Rattle.std.proofs.Common.{◌≡◌, ◌==◌, true, Some, sym, subst, refl}
@@ -10,7 +10,8 @@ use Rattle.chess_base.specs.Squares.{is_square, rank}
 use Rattle.chess_moves.specs.Promoting.{would_promote}
 use Rattle.chess_bits.specs.ties.Goes.{goes}
 use Rattle.chess_bits.proofs.Pins.{no_target_there}
-use Rattle.chess_bits.proofs.Listed.{pattern_of}
+use Rattle.chess_base.specs.MoveList.{move_of}
+use Rattle.chess_bits.proofs.Patterns.{pattern_from}
 use Rattle.chess_bits.proofs.bits.Bits.promotes_legally.Goals as goal
 
 pub returns : goal.returns
@@ -27,7 +28,7 @@ returns c =
     rw (← c.self.view_is)
     (λ kind fits.
     safe (Some kind) (record {
-      pattern = pattern_of p a b (Some kind) go (subst (λ t. promotion_fits t (Some kind) ≡ true) (sym last) fits);
+      pattern = pattern_from p (move_of a b (Some kind)) go (subst (λ t. promotion_fits t (Some kind) ≡ true) (sym last) fits);
       no_king = is_man-kind p.side p.side Pawn King (man_at p.men a) refl both.0;
       no_passing = and_right (is_man p.side Pawn (man_at p.men a)) (is_square p.target b) off;
     }))

@@ -1,14 +1,14 @@
 use Rattle.std.proofs.Common.{sym, subst, ◌∙◌}
 use Rattle.chess_base.specs.declared.man.Kind.TheVariants.{King}
+use Rattle.chess_base.proofs.shared.Men.{same_kind-true}
 use Rattle.chess_moves.specs.Sets.{HasLegalStarts}
 use Rattle.chess_bits.proofs.ByKind.{pawn_left}
-use Rattle.chess_bits.proofs.TargetsOf.{same_kind-true}
 use Rattle.chess_bits.proofs.bits.Bits.starts_of.Goals as goal
 
 pub returns-then-is_king : goal.returns-then-is_king
 returns-then-is_king c =
     subst (λ kind. HasLegalStarts c.args.self.now kind c.args.to c.king_starts.result)
-    (sym (same_kind-true King c.args.kind (sym c.is_king.ensures ∙ c.if-is_king.true))) c.king_starts.ensures
+    (same_kind-true King c.args.kind (sym c.is_king.ensures ∙ c.if-is_king.true)) c.king_starts.ensures
 
 pub returns : goal.returns
 returns c =

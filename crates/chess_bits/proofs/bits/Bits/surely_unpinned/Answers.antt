@@ -1,12 +1,13 @@
 -- A piece on none of the king's lines is between it and nothing (off_line, off_diagonal of Shields), so without it
 -- nothing opens to the king, and it is free (freed of Freely).
-use Rattle.std.proofs.Common.{◌≡◌, ◌==◌, not, false, sym, ◌∙◌}
-use Rattle.std.proofs.lemmas.Bool.{and_parts, or_parts, both_ways, not-true}
+use Rattle.std.proofs.Common.{◌≡◌, ◌==◌, inl, inr, not, false, sym, ◌∙◌}
+use Rattle.std.proofs.lemmas.Bool.{and_parts, or_cases, or_parts, both_ways, not-true}
 use Rattle.chess_base.specs.Attacks.{is_in_check}
 use Rattle.chess_base.specs.Squares.{share_rank_or_file, share_diagonal}
 use Rattle.chess_moves.specs.Sets.{contains}
 use Rattle.chess_bits.specs.ties.Shapes.{in_shape}
 use Rattle.chess_bits.proofs.Freely.{freed}
+use Rattle.chess_bits.proofs.Pins.{aims_on_line}
 use Rattle.chess_bits.proofs.Shields.{off_line, off_diagonal, off_shape}
 use Rattle.chess_bits.proofs.bits.Bits.surely_unpinned.Goals as goal
 
@@ -34,7 +35,8 @@ returns c = λ k low h.
     let there = c.king-king.ensures.in_range in
     rw (← c.self.view_is)
     (freed p k king c.self.invariant.0 low there calm alone apart
-    (λ b high theirs on clear. off_line p.men k b king c.self.invariant.0.board low line
-    (and_parts (not (b == king)) (share_rank_or_file b king) on).1 clear)
-    (λ b high theirs on clear. off_diagonal p.men k b king c.self.invariant.0.board low high there diagonal
-    (and_parts (not (b == king)) (share_diagonal b king) on).1 clear))
+    (λ b high aims.
+    elim (or_cases (share_rank_or_file b king) (share_diagonal b king) (aims_on_line p b king aims)) [
+      | inl on ↦ off_line p.men k b king c.self.invariant.0.board low line on
+      | inr on ↦ off_diagonal p.men k b king c.self.invariant.0.board low diagonal on
+    ]))

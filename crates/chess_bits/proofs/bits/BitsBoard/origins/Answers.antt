@@ -26,5 +26,5 @@ returns c =
     rw (← c.self.view_is)
     (officer_origins p c.args.kind c.args.to c.reached_among.result c.of-own.result
     (sym c.is_pawn.ensures ∙ c.if-is_pawn.false) (sym c.is_king.ensures ∙ c.if-is_king.false)
-    (c.reached_among.ensures p.men (c.occupied.ensures p.men c.self.invariant.1))
+    (c.reached_among.ensures p.men p.side (c.occupied.ensures p.men c.self.invariant.1))
     (λ k low. ap (λ w. contains w k) c.of-own.ensures ∙ kinds.of_kind c.args.kind k low))

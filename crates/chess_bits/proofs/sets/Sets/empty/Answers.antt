@@ -4,5 +4,5 @@ use Rattle.chess_bits.proofs.Standing.{no_sets}
 use Rattle.chess_bits.proofs.sets.Sets.empty.Goals as goal
 
 pub returns : goal.returns
-returns c = λ men none. no_sets _ men none (c.empty.ensures White men none) (c.empty-2.ensures Black men none)
-    c.empty-3.ensures c.empty-4.ensures refl
+returns c = λ men none. no_sets _ men none (c.empty.ensures.kinds White men none) (c.empty-2.ensures.kinds Black men none)
+    c.empty.ensures.none c.empty-2.ensures.none refl
