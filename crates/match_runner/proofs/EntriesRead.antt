@@ -90,7 +90,7 @@ module _ (front : List ℕ) where
 -- ---- whole lines
 
 -- whether the note, if it is of bytes that an engine is sent, has whole lines: the last byte is `\n`
-abbrev is_whole : Note → Bool
+abbrev pub is_whole : Note → Bool
 is_whole (Gives c bytes) = ends_line true bytes
 is_whole _ = true
 
@@ -118,7 +118,7 @@ failure_whole true c notes e = e
 failure_whole false c notes e = e
 
 -- the notes of any acts are of whole lines
-notes_whole : (reason : Reason) (H : List Act) → list_all is_whole (notes_given reason H) ≡ true
+pub notes_whole : (reason : Reason) (H : List Act) → list_all is_whole (notes_given reason H) ≡ true
 notes_whole reason [] = refl
 notes_whole reason (Sends b ∷ H) = block_whole b.lines (notes_given reason H) b.to (notes_whole reason H)
 notes_whole reason (SendFails b ∷ H) =

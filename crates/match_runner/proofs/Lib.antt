@@ -3,3 +3,7 @@ mod GameFaults
 mod EntriesRead
 mod Logged
 mod FaultTexts
+mod PlayedAgain
+mod LastLines
+mod ResultLines
+mod LogsRead
