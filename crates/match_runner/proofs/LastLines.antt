@@ -1,12 +1,12 @@
 -- The last lines that are sent in a match are its result and `quit`.
 use native.Mathlib.Omega.{arith}
-use Rattle.std.proofs.Common.{◌≡◌, ◌⊎◌, ℕ, ◌-◌, Bool, true, false, ◌||◌, length, drop, List, [], ◌∷◌, ◌++◌, refl, ap, sym, ◌∙◌, subst, append_assoc, append-nil, Option, inl, inr}
+use Rattle.std.proofs.Common.{◌≡◌, ◌⊎◌, ℕ, Bool, true, false, length, drop, List, [], ◌∷◌, ◌++◌, refl, ap, sym, ◌∙◌, subst, append_assoc, append-nil, Option, inl, inr}
 use Rattle.std.specs.Prelude.{if◌then◌else◌, codes, fold}
 use Rattle.std.proofs.lemmas.Bool.{and_parts}
 use Rattle.chess_base.specs.Letters.{new_line}
 use Rattle.chess_base.specs.declared.man.Colour.{Colour}
 use Rattle.chess_base.specs.declared.man.Colour.TheVariants.{White, Black}
-use Rattle.chess_base.specs.Men.{other, same_colour}
+use Rattle.chess_base.specs.Men.{other}
 use Rattle.cecp_engine.specs.EngineLines.{line_kind}
 use Rattle.chess_match.specs.Acts.{Act, IsMatch}
 use Rattle.chess_match.specs.ByDevice.{notes_given}
@@ -27,9 +27,9 @@ use Rattle.chess_match.specs.laws.Blocks.{block, draw_line, lines_on_entering, e
 use Rattle.chess_match.specs.laws.Laws.{events_in}
 use Rattle.chess_match.specs.laws.Machine.{Match, match_after, phase_of, start, seat, view}
 use Rattle.chess_match.specs.laws.OfActs.{NotesHaveTheEventsInMatches}
-use Rattle.chess_match.specs.laws.Transcript.{block_at, fits, fits_from, fits_next, is_on, joined_blocks, match_of, reads}
-use Rattle.chess_match.specs.laws.TranscriptNotes.{both_notes, first_sent, given_note, notes_from, notes_of}
-use Rattle.match_runner.specs.laws.PlayedAgain.{ends_by_flag, text_of_result}
+use Rattle.chess_match.specs.laws.Transcript.{block_at, fits_from, is_on, joined_blocks, match_of, reads}
+use Rattle.chess_match.specs.laws.TranscriptNotes.{both_notes, first_sent, given_note, notes_from}
+use Rattle.match_runner.specs.laws.ReadBack.{ends_by_flag, text_of_result}
 use Rattle.match_runner.proofs.PlayedAgain.{Again, Falls, awaited, fits_on, line_again, over_back, view_kept}
 
 -- the line of the result, and `quit`

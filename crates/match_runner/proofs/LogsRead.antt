@@ -1,30 +1,26 @@
 -- What the lines of a log show of its match, and that a log gives the match back.
-use Rattle.std.proofs.Common.{◌≡◌, ◌∙◌, ℕ, Bool, true, false, List, [], ◌∷◌, ◌++◌, map, refl, sym, ap, subst, append_assoc, append-nil, Option, Some, None, arith}
-use Rattle.std.specs.Prelude.{◌==◌, ◌&&◌, codes, cond, flat_map, if◌then◌else◌, not}
+use Rattle.std.proofs.Common.{◌≡◌, ◌∙◌, ℕ, Bool, true, false, List, [], ◌∷◌, ◌++◌, map, refl, sym, ap, subst, append_assoc, append-nil, Some, None, arith}
+use Rattle.std.specs.Prelude.{◌==◌, codes, cond, flat_map, if◌then◌else◌, not}
 use Rattle.std.proofs.lemmas.Bool.{and_parts}
 use Rattle.std.proofs.lemmas.Bool.Decides.{nat_tests}
-use Rattle.std.specs.List.{AllByRecursion, list_all, onto_first}
-use Rattle.std.specs.Str.{bytes_eq}
+use Rattle.std.specs.List.{list_all, onto_first}
 use Rattle.std.proofs.lemmas.List.Concat.{flat_map-append}
 use Rattle.chess_base.specs.Letters.{byte, new_line}
 use Rattle.chess_base.specs.Options.{list_if}
 use Rattle.chess_base.specs.declared.man.Colour.{Colour}
-use Rattle.chess_base.specs.declared.man.Colour.TheVariants.{White, Black}
 use Rattle.chess_base.specs.Men.{other, same_colour}
-use Rattle.chess_match.specs.Acts.{Act, IsMatch}
 use Rattle.chess_match.specs.ByDevice.{notes_given}
-use Rattle.chess_match.specs.Effects.{Match, Over, beginning}
+use Rattle.chess_match.specs.Effects.{Match, beginning}
 use Rattle.chess_match.specs.Events.{Event, Line, Opened, OutputEnds, FailsToRead, FailsToWrite}
 use Rattle.chess_match.specs.Lines.{SentLine, bytes_of, text_of}
 use Rattle.chess_match.specs.Notes.{Note, Happened, Gives}
-use Rattle.chess_match.specs.Rules.{Rules}
 use Rattle.chess_match.specs.laws.Laws.{events_in, given_in}
-use Rattle.chess_match.specs.laws.OfActs.{NotesHaveAllLinesInMatches, NotesHaveTheEventsInMatches, lines_given}
+use Rattle.chess_match.specs.laws.OfActs.{NotesHaveAllLinesInMatches, NotesHaveTheEventsInMatches}
 use Rattle.chess_match.specs.declared.reason.Reason.{Reason}
 use Rattle.text_lines.specs.Lines.{parts}
-use Rattle.match_runner.specs.Log.{ends_line, log_text}
-use Rattle.match_runner.specs.laws.Entries.{Entry, IsShown, ended_parts, entries_from, entries_text, moment_after, note_entries}
-use Rattle.match_runner.specs.laws.PlayedAgain.{AreAlike, EventsShownGiveTheGame, LogsGiveTheGame, LogsShow, entry_event, entry_given, events_in_time, events_shown, played_again, result_line, text_of_result}
+use Rattle.match_runner.specs.Log.{ends_line}
+use Rattle.match_runner.specs.laws.Entries.{Entry, ended_parts, entries_from, moment_after, note_entries}
+use Rattle.match_runner.specs.laws.ReadBack.{LogsGiveTheGame, LogsShow, entry_event, entry_given, events_in_time, events_shown, played_again, result_line, text_of_result}
 use Rattle.match_runner.proofs.EntriesRead.{is_whole, logs_are_entries, logs_have_one_reading, notes_whole}
 use Rattle.match_runner.proofs.LastLines.{last_lines, last_lines_are_the_result}
 use Rattle.match_runner.proofs.PlayedAgain.{events_shown_give_the_game}

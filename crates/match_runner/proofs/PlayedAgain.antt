@@ -13,15 +13,15 @@ use Rattle.chess_base.specs.Men.{other, same_colour}
 use Rattle.chess_game.specs.declared.verdicts.Verdict.{Verdict}
 use Rattle.cecp_engine.specs.EngineLines.{LineKind, line_kind, Features, Moves, Resigns, OffersDraw, ClaimsDraw, ClaimsWin, Rejects, Answers, SaysElse}
 use Rattle.cecp_engine.specs.Items.{Item, has_done}
-use Rattle.chess_match.specs.Effects.{Match, Phase, Handshake, Setup, Opening, BeforeMove, AfterMove, Over, Effect, after_move, beginning, flag_row, before_move, clock, effect, ends, enter, handshake_done, handshake_row, begins_turn, ignores, items_said, judged, line_row, missing, move_row, moved, offer_row, ping_number, sends_nothing, sends_to, setup_done, setup_row, turn_row, was_sent_move, with_answers, with_seat}
-use Rattle.chess_match.specs.Acts.{Act, IsMatch, awaits_line, is_over}
+use Rattle.chess_match.specs.Effects.{Match, Phase, Handshake, Setup, Opening, BeforeMove, AfterMove, Over, Effect, after_move, beginning, flag_row, before_move, clock, effect, ends, handshake_done, handshake_row, begins_turn, ignores, items_said, judged, line_row, missing, move_row, moved, offer_row, ping_number, sends_nothing, sends_to, setup_done, setup_row, turn_row, was_sent_move, with_answers, with_seat}
+use Rattle.chess_match.specs.Acts.{awaits_line, is_over}
 use Rattle.chess_match.specs.ByDevice.{notes_given}
 use Rattle.chess_match.specs.laws.Blocks.{block, lines_on_entering}
 use Rattle.chess_match.specs.laws.Laws.{events_in}
 use Rattle.chess_match.specs.laws.Machine as machine
 use Rattle.chess_match.specs.laws.Machine.{kept_match, opened_kept, phase_kept, phase_of, view}
 use Rattle.chess_match.specs.laws.OfActs.{NotesHaveTheEventsInMatches}
-use Rattle.chess_match.specs.laws.Transcript.{fits, fits_from, fits_next, is_on, match_of, opens, reads}
+use Rattle.chess_match.specs.laws.Transcript.{fits_from, fits_next, is_on, match_of, opens, reads}
 use Rattle.chess_match.specs.declared.phase.Phase.{Phase as MachinePhase}
 use Rattle.chess_match.specs.declared.phase.Phase.TheVariants as phases
 use Rattle.chess_match.specs.Events.{Event, Line, Opened, OutputEnds, FailsToRead, FailsToWrite, Seat}
@@ -33,7 +33,7 @@ use Rattle.chess_match.specs.declared.reason.Reason.{Reason}
 use Rattle.chess_match.specs.Lines.{SentLine, ping}
 use Rattle.chess_match.specs.Reasons.{is_unwritten}
 use Rattle.chess_match.specs.declared.reason.Reason.TheVariants as over_by
-use Rattle.match_runner.specs.laws.PlayedAgain.{EventsShownGiveTheGame, at_zero, but_last, ends_by_flag, events_in_time, events_shown, once_opened, played_again}
+use Rattle.match_runner.specs.laws.ReadBack.{EventsShownGiveTheGame, at_zero, but_last, ends_by_flag, events_in_time, events_shown, once_opened, played_again}
 
 -- what is known of an engine whose moves took no time
 abbrev zero : Seat → Seat

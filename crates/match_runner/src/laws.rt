@@ -2,7 +2,7 @@
 
 ghost use Rattle.match_runner.specs.laws.Entries.{LogsAreEntries, LogsHaveOneReading};
 ghost use Rattle.match_runner.specs.laws.Faults.{OnlyLastGamesHaveFailedWrites};
-ghost use Rattle.match_runner.specs.laws.PlayedAgain.{EventsShownGiveTheGame, LogsGiveTheGame, LogsShow};
+ghost use Rattle.match_runner.specs.laws.ReadBack.{EventsShownGiveTheGame, LogsGiveTheGame, LogsShow};
 
 use chess_match::notes_have_all;
 

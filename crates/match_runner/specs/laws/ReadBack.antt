@@ -1,4 +1,5 @@
--- A match played again from the events that a log shows, without the moments at which turns were opened.
+-- Laws of what the log of a match gives back: its moves, the reason for which it ended, and all that each engine sent and
+-- was sent.
 use Rattle.std.specs.Prelude.{◌≡◌, ◌==◌, ◌&&◌, ℕ, Bool, true, false, if◌then◌else◌, List, [], ◌∷◌, ◌++◌, flat_map, codes, Some, None}
 use Rattle.std.specs.List.{AllByRecursion}
 use Rattle.std.specs.Str.{bytes_eq}
@@ -14,8 +15,7 @@ use Rattle.chess_match.specs.laws.Laws.{events_in}
 use Rattle.chess_match.specs.laws.OfActs.{lines_given}
 use Rattle.match_runner.specs.Log.{log_text}
 use Rattle.match_runner.specs.laws.Entries.{Entry, IsShown, entries_from}
-use Rattle.chess_match.specs.Lines.{SentLine, Says, bytes_of}
-use Rattle.chess_match.specs.Notes.{Note, Gives}
+use Rattle.chess_match.specs.Lines.{bytes_of}
 use Rattle.chess_match.specs.Reasons.{comment_of, outcome_by_reason}
 use Rattle.chess_match.specs.Rules.{Rules}
 use Rattle.chess_match.specs.declared.reason.Reason.{Reason}
@@ -64,20 +64,21 @@ but_last (e ∷ f ∷ es) = e ∷ but_last (f ∷ es)
 abbrev pub events_in_time : Reason → List Event → List Event
 events_in_time reason es = if ends_by_flag reason then but_last es else es
 
--- what a log shows of a match is enough to play it again: every match that ended for this reason has the moves and the
--- engines' items of one that is played from these events alone; and if no flag fell, that one ends for the same reason
+-- in every match that ended for this reason: its moves, and what is known of both engines, are those of the match that
+-- is played again from the events that its log shows; and if no flag fell, that one ends for the same reason
 abbrev pub EventsShownGiveTheGame : Type 0
 EventsShownGiveTheGame = (r : Rules) (reason : Reason) (H : List Act) (final : Match) → IsMatch r H final
     → final.phase ≡ Over reason
-    → let again = played_again r beginning.after (events_in_time reason (events_shown (events_in (notes_given reason H)))) in
+    → let shown = events_shown (events_in (notes_given reason H)) in
+    let again = played_again r beginning.after (events_in_time reason shown) in
     (final.played ≡ again.played) × ((S : Colour) → (final.seat S).items ≡ (again.seat S).items)
     × (ends_by_flag reason ≡ false → again.phase ≡ Over reason)
 
--- the line that an engine is sent at the end of a match for this reason, such as `result 1-0 {Black resigns}`
+-- ---- the lines of a log
+
+-- the line that engines are sent at the end of a match that ended for this reason, such as `result 1-0 {Black resigns}`
 abbrev pub text_of_result : Reason → List ℕ
 text_of_result reason = codes "result " ++ result_text (outcome_by_reason reason) (comment_of reason)
-
--- ---- a log read back
 
 -- the side of a line's engine; `first` is that of the engine of `--white`
 abbrev pub side_of : Colour → Entry → Colour
@@ -108,7 +109,7 @@ result_line (e ∷ f ∷ g ∷ es) = result_line (f ∷ g ∷ es)
 result_line (e ∷ f ∷ []) = e.text
 result_line _ = []
 
--- in the log of every match: its lines show the events but for the openings of turns, the bytes that each engine is
+-- in the log of every match: its lines show the events but for the openings of turns, all bytes that each engine is
 -- sent, and the result
 abbrev pub LogsShow : Type 0
 LogsShow = (r : Rules) (first : Colour) (reason : Reason) (H : List Act) (final : Match) → IsMatch r H final
@@ -118,19 +119,19 @@ LogsShow = (r : Rules) (first : Colour) (reason : Reason) (H : List Act) (final 
     × ((S : Colour) → flat_map (entry_given first S) lines ≡ bytes_of (lines_given S H))
     × (result_line lines ≡ text_of_result reason)
 
--- two matches by the same rules that ended for these reasons are alike but for what logs leave out: the moment at which
--- a turn was opened, and whether a write of the last lines failed
+-- two matches, of the acts `H` and `K`, are alike: they ended for the same reason, so with the same result, with the
+-- same moves, and so on. A log leaves out the moments at which turns were opened, and whether a last line was written
 pub record AreAlike (reason reason' : Reason) (H K : List Act) (final final' : Match) : Type 0 where
   pub reasons : reason ≡ reason'
   pub moves : final.played ≡ final'.played
   pub items : (S : Colour) → (final.seat S).items ≡ (final'.seat S).items
-  -- each engine was sent the same, also the same clocks in its `time` and `otim` lines
+  -- each engine was sent the same, so also the same clocks in `time` and `otim` lines
   pub sent : (S : Colour) → bytes_of (lines_given S H) ≡ bytes_of (lines_given S K)
-  -- each engine sent the same lines at the same moments
+  -- each engine sent the same lines, at the same moments
   pub events : events_shown (events_in (notes_given reason H)) ≡ events_shown (events_in (notes_given reason' K))
 
--- the log gives the game back: if two matches by the same rules have the same log, and it shows their lines as they
--- are, they are alike
+-- the log gives the game back: two matches by the same rules that have the same log, which shows their lines as they
+-- are, are alike
 abbrev pub LogsGiveTheGame : Type 0
 LogsGiveTheGame = (r : Rules) (first : Colour) (reason reason' : Reason) (H K : List Act) (final final' : Match)
     → IsMatch r H final → IsMatch r K final' → final.phase ≡ Over reason → final'.phase ≡ Over reason'
