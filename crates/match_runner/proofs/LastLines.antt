@@ -105,7 +105,8 @@ both_last reason first lines h =
 
 module _ (r : Rules) (reason : Reason) (m : Match) (on : is_on m.phase ≡ true) where
   -- both sides are sent the end
-  last_event : (e : Event) → (match_after r m e).phase ≡ phases.Over reason → ((S : Colour) → is_unwritten reason S ≡ false)
+  last_event : (e : Event) → (match_after r m e).phase ≡ phases.Over reason
+      → ((S : Colour) → is_unwritten reason S ≡ false)
       → ((S : Colour) → block_at r m e [] S ≡ block r m (match_after r m e) S ∷ [])
       → EndsAs reason (notes_from r m (e ∷ []))
   last_event e over mild whole =
@@ -144,12 +145,14 @@ module _ (r : Rules) (reason : Reason) (m : Match) (on : is_on m.phase ≡ true)
         before,
         ap (λ (l : List SentLine). Happened (FailsToWrite Black) ∷ ((given_note White (bytes_of l) ++ []) ++ []))
             (append-nil (block r m m' White) ∙ is)
-            ∙ ap (λ (l : List Note). Happened (FailsToWrite Black) ∷ ((l ++ []) ++ [])) (given_last reason White before),
+            ∙ ap (λ (l : List Note). Happened (FailsToWrite Black) ∷ ((l ++ []) ++ []))
+            (given_last reason White before),
       )
 
 -- a line does not end a match because a write failed
-line_mild : (r : Rules) (m : Match) (S : Colour) (t : Option (List ℕ)) (k : ℕ) (reason : Reason) → reads m.phase S ≡ true
-    → (match_after r m (Line S t k)).phase ≡ phases.Over reason → (c : Colour) → is_unwritten reason c ≡ false
+line_mild : (r : Rules) (m : Match) (S : Colour) (t : Option (List ℕ)) (k : ℕ) (reason : Reason)
+    → reads m.phase S ≡ true → (match_after r m (Line S t k)).phase ≡ phases.Over reason → (c : Colour)
+    → is_unwritten reason c ≡ false
 line_mild r m S t k reason f over c =
     let w = awaited m.opened m.phase S f in
     at (line_again r S (line_kind t) k (view m) (phase_of m.opened m.phase) w.0 w.1)
@@ -161,8 +164,8 @@ line_mild r m S t k reason f over c =
     flag_mild : (x : Reason) → ends_by_flag x ≡ true → is_unwritten x c ≡ false
     flag_mild x h1 = grind arith
 
-    at : {redone : Effect} → Falls (view m) (effect r (view m) (Line S t k)) ⊎ Again (effect r (view m) (Line S t k)) redone
-        → is_unwritten reason c ≡ false
+    at : {redone : Effect} → Falls (view m) (effect r (view m) (Line S t k))
+        ⊎ Again (effect r (view m) (Line S t k)) redone → is_unwritten reason c ≡ false
     at (inl (x, flag, is)) =
         let same : Over x ≡ Over reason = sym (ap (λ n. n.phase) is) ∙ now in
         let is_it : x ≡ reason = cc in ap (λ (y : Reason). is_unwritten y c) (sym is_it) ∙ flag_mild x flag
@@ -193,7 +196,8 @@ ends_as r reason due m (FailsToRead S ∷ []) f on over =
     last_event r reason m on (FailsToRead S) over (fault_mild S Read reason over (λ c. refl)) (λ c. refl)
 ends_as r reason due m (FailsToWrite S ∷ []) f on over = last_failure r reason m on S over
 
-pub last_lines_are_the_result : NotesHaveTheEventsInMatches → (r : Rules) (reason : Reason) (H : List Act) (final : effects.Match) → IsMatch r H final → final.phase ≡ Over reason → EndsAs reason (notes_given reason H)
+pub last_lines_are_the_result : NotesHaveTheEventsInMatches → (r : Rules) (reason : Reason) (H : List Act)
+    (final : effects.Match) → IsMatch r H final → final.phase ≡ Over reason → EndsAs reason (notes_given reason H)
 last_lines_are_the_result notes_have r reason H final is over =
     let T : List Event = events_in (notes_given reason H) in
     let (fitting, same, acts, notes) = notes_have r reason H final is over in

@@ -77,60 +77,56 @@ last_part [] = []
 last_part (p ∷ []) = p
 last_part (p ∷ q ∷ ps) = last_part (q ∷ ps)
 
+-- the parts of a text, joined, give it back; what is in a line, and what ends one
 abbrev IsCut : List ℕ → List (List ℕ) → Type 0
 IsCut bytes ps = (p : List ℕ) × (more : List (List ℕ)) × (ps ≡ p ∷ more)
-    × (joined (ended_parts ps) ++ last_part ps ≡ bytes)
-    × (ends_line true bytes ≡ true → last_part ps ≡ [])
+    × (joined (ended_parts (p ∷ more)) ++ last_part (p ∷ more) ≡ bytes)
+    × (ends_line true bytes ≡ true → last_part (p ∷ more) ≡ [])
     × (ends_line false bytes ≡ true → (q : List ℕ) × (rest : List (List ℕ)) × (more ≡ q ∷ rest))
 
 ends_anyway : (bytes : List ℕ) → ends_line false bytes ≡ true → ends_line true bytes ≡ true
 ends_anyway [] h = absurd cc
 ends_anyway (b ∷ bs) h = h
 
+is_new_line : (b : ℕ) → (b == new_line) ≡ true → new_line ≡ b
+is_new_line b h1 = grind (arith, nat_tests)
+
 cut : (bytes : List ℕ) → IsCut bytes (parts bytes)
 cut [] = ([], [], refl, refl, λ e. refl, λ e. absurd cc)
 cut (b ∷ bs) = at (b == new_line) refl (cut bs)
   where
-    is_new_line : (b == new_line) ≡ true → new_line ≡ b
-    is_new_line h1 = grind (arith, nat_tests)
-
     at : (x : Bool) → (b == new_line) ≡ x → IsCut bs (parts bs)
         → IsCut (b ∷ bs) (cond x ([] ∷ parts bs) (onto_first b (parts bs)))
-    at true e (p, more, is, all, ended, middle) =
-        subst (λ (ps : List (List ℕ)). IsCut (b ∷ bs) ([] ∷ ps)) (sym is) (
-          [],
-          p ∷ more,
-          refl,
-          ap (λ (l : List ℕ). new_line ∷ l) (subst (λ (ps : List (List ℕ)). joined (ended_parts ps) ++ last_part ps ≡ bs) is all)
-              ∙ ap (λ (n : ℕ). n ∷ bs) (is_new_line e),
-          λ h. subst (λ (ps : List (List ℕ)). last_part ps ≡ []) is
-              (ended (subst (λ (x : Bool). ends_line x bs ≡ true) e h)),
-          λ h. (p, more, refl),
-        )
-    at false e (p, [], is, all, ended, middle) =
-        subst (λ (ps : List (List ℕ)). IsCut (b ∷ bs) (onto_first b ps)) (sym is) (
-          b ∷ p,
-          [],
-          refl,
-          ap (λ (l : List ℕ). b ∷ l) (subst (λ (ps : List (List ℕ)). joined (ended_parts ps) ++ last_part ps ≡ bs) is all),
-          λ h. let (q, rest, none) = middle (subst (λ (x : Bool). ends_line x bs ≡ true) e h) in absurd cc,
-          λ h. middle (subst (λ (x : Bool). ends_line x bs ≡ true) e h),
-        )
-    at false e (p, q ∷ more, is, all, ended, middle) =
-        subst (λ (ps : List (List ℕ)). IsCut (b ∷ bs) (onto_first b ps)) (sym is) (
-          b ∷ p,
-          q ∷ more,
-          refl,
-          ap (λ (l : List ℕ). b ∷ l) (subst (λ (ps : List (List ℕ)). joined (ended_parts ps) ++ last_part ps ≡ bs) is all),
-          λ h. subst (λ (ps : List (List ℕ)). last_part ps ≡ []) is (ended (ends_anyway bs (subst (λ (x : Bool). ends_line x bs ≡ true) e h))),
-          λ h. (q, more, refl),
-        )
+    at true e (p, more, is, all, ended, middle) = (
+      [],
+      p ∷ more,
+      ap (λ (ps : List (List ℕ)). [] ∷ ps) is,
+      ap (λ (l : List ℕ). new_line ∷ l) all ∙ ap (λ (n : ℕ). n ∷ bs) (is_new_line b e),
+      λ h. ended (subst (λ (x : Bool). ends_line x bs ≡ true) e h),
+      λ h. (p, more, refl),
+    )
+    at false e (p, [], is, all, ended, middle) = (
+      b ∷ p,
+      [],
+      ap (λ (ps : List (List ℕ)). onto_first b ps) is,
+      ap (λ (l : List ℕ). b ∷ l) all,
+      λ h. let (q, rest, none) = middle (subst (λ (x : Bool). ends_line x bs ≡ true) e h) in absurd cc,
+      λ h. middle (subst (λ (x : Bool). ends_line x bs ≡ true) e h),
+    )
+    at false e (p, q ∷ more, is, all, ended, middle) = (
+      b ∷ p,
+      q ∷ more,
+      ap (λ (ps : List (List ℕ)). onto_first b ps) is,
+      ap (λ (l : List ℕ). b ∷ l) all,
+      λ h. ended (ends_anyway bs (subst (λ (x : Bool). ends_line x bs ≡ true) e h)),
+      λ h. (q, more, refl),
+    )
 
 whole_again : (bytes : List ℕ) → ends_line true bytes ≡ true → joined (ended_parts (parts bytes)) ≡ bytes
 whole_again bytes h =
     let (p, more, is, all, ended, middle) = cut bytes in
-    sym (append-nil (joined (ended_parts (parts bytes))))
-    ∙ ap (λ (l : List ℕ). joined (ended_parts (parts bytes)) ++ l) (sym (ended h)) ∙ all
+    ap (λ (ps : List (List ℕ)). joined (ended_parts ps)) is ∙ sym (append-nil (joined (ended_parts (p ∷ more))))
+    ∙ ap (λ (l : List ℕ). joined (ended_parts (p ∷ more)) ++ l) (sym (ended h)) ∙ all
 
 given_entries : (first S c : Colour) (moment : ℕ) (texts : List (List ℕ))
     → flat_map (entry_given first S) (map (sent_entry moment (same_colour c first)) texts)
@@ -174,7 +170,8 @@ result_is (a ∷ b ∷ c ∷ before) e f = result_is (b ∷ c ∷ before) e f
 
 -- the lines of the last note come last
 last_note : (first : Colour) (moment : ℕ) (before : List Note) (n : Note)
-    → (lines : List Entry) × (now : ℕ) × (entries_from first moment (before ++ n ∷ []) ≡ lines ++ note_entries first now n)
+    → (lines : List Entry) × (now : ℕ)
+    × (entries_from first moment (before ++ n ∷ []) ≡ lines ++ note_entries first now n)
 last_note first moment [] n = ([], moment, append-nil (note_entries first moment n))
 last_note first moment (x ∷ before) n =
     let (lines, now, e) = last_note first (moment_after moment x) before n in (
@@ -216,7 +213,8 @@ plain_part (b ∷ bs) rest h =
     let p = and_parts (not (b == new_line)) (list_all (λ b. not (b == new_line)) bs) h in
     at (b == new_line) p.0 ∙ ap (λ (l : List (List ℕ)). onto_first b l) (plain_part bs rest p.1)
   where
-    at : (x : Bool) → not x ≡ true → cond x ([] ∷ parts (bs ++ new_line ∷ rest)) (onto_first b (parts (bs ++ new_line ∷ rest)))
+    at : (x : Bool) → not x ≡ true
+        → cond x ([] ∷ parts (bs ++ new_line ∷ rest)) (onto_first b (parts (bs ++ new_line ∷ rest)))
         ≡ onto_first b (parts (bs ++ new_line ∷ rest))
     at true h = absurd cc
     at false h = refl
@@ -289,10 +287,9 @@ module _ (all_events : NotesHaveTheEventsInMatches) (all_lines : NotesHaveAllLin
       ∙ reason_read reason' in
       let events : events_shown (events_in (notes_given reason H)) ≡ events_shown (events_in (notes_given reason' K)) =
       sym a.0 ∙ ap (λ (l : List Entry). flat_map (entry_event first) l) entries ∙ b.0 in
-      let games : (let m : Match = played_again r beginning.after (events_in_time reason (events_shown (events_in (notes_given reason H)))) in m)
-      ≡ played_again r beginning.after (events_in_time reason' (events_shown (events_in (notes_given reason' K)))) =
-      ap (λ (x : Reason). played_again r beginning.after (events_in_time x (events_shown (events_in (notes_given reason H))))) reasons
-      ∙ ap (λ (es : List Event). played_again r beginning.after (events_in_time reason' es)) events in
+      let again : Reason → List Event → Match = λ x es. played_again r beginning.after (events_in_time x es) in
+      let games = ap (λ (x : Reason). again x (events_shown (events_in (notes_given reason H)))) reasons
+      ∙ ap (λ (es : List Event). again reason' es) events in
       let c = events_shown_give_the_game all_events r reason H final h over in
       let d = events_shown_give_the_game all_events r reason' K final' k over' in
       record {

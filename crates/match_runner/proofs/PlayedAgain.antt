@@ -84,7 +84,8 @@ test_again true x x' y y' h k = h
 test_again false x x' y y' h k = k
 
 -- the same match with another phase, or other seats
-with_phase : (m : Match) (p p' : Phase) → p ≡ p' → (let x : Match = record m { phase = p } in x) ≡ record m { phase = p' }
+with_phase : (m : Match) (p p' : Phase) → p ≡ p'
+    → (let x : Match = record m { phase = p } in x) ≡ record m { phase = p' }
 with_phase m p p' e = ap (λ (q : Phase). let x : Match = record m { phase = q } in x) e
 
 with_seats : (m : Match) (f g : Colour → Seat) → ((S : Colour) → f S ≡ g S)
@@ -92,7 +93,8 @@ with_seats : (m : Match) (f g : Colour → Seat) → ((S : Colour) → f S ≡ g
 with_seats m f g e = ap (λ (h : Colour → Seat). let x : Match = record m { seat = h } in x) (fun_ext e)
 
 counted_again : (m : Match) (n : ℕ) → again (record m { count = n }) ≡ opened (record (again m) { count = n })
-counted_again m n = with_phase (record (again m) { count = n }) (waits m.phase) (once_opened (waits m.phase)) (waits_twice m.phase)
+counted_again m n = with_phase (record (again m) { count = n }) (waits m.phase) (once_opened (waits m.phase))
+    (waits_twice m.phase)
 
 -- a change of a seat that has nothing to do with times
 seated_again : (S : Colour) (change : Seat → Seat) (m : Match) → ((s : Seat) → zero (change s) ≡ change (zero s))
@@ -125,7 +127,8 @@ module _ (r : Rules) (S : Colour) (m : Match) (on : is_over m.phase ≡ false) w
   in_turn OffersDraw = offered
   in_turn ClaimsDraw = at (r.claim m.played)
     where
-      at : (c : Option DrawClaim) → Again (option_map_or (λ claim. ends r (over_by.Claimed claim) m) c (offer_row r S m))
+      at : (c : Option DrawClaim)
+          → Again (option_map_or (λ claim. ends r (over_by.Claimed claim) m) c (offer_row r S m))
           (option_map_or (λ claim. ends r (over_by.Claimed claim) (again m)) c (offer_row r S (again m)))
       at (Some c) = over_again r (over_by.Claimed c) m (refl, λ c. refl)
       at None = offered
@@ -173,7 +176,8 @@ module _ (r : Rules) (S : Colour) (m : Match) (on : is_over m.phase ≡ false) w
   decided_again None n done redone h = h
 
   before : (used : ℕ) (kind : LineKind) → Again (before_move r S used kind m) (before_move r S 0 kind (again m))
-  before used (Moves t) = test_again (nat_le r.limit (length m.played)) _ _ _ _ (over_again r over_by.GameTooLong m (refl, λ c. refl))
+  before used (Moves t) = test_again (nat_le r.limit (length m.played)) _ _ _ _
+      (over_again r over_by.GameTooLong m (refl, λ c. refl))
       (at (r.reading m.played t))
     where
       at : (move : Option Move) → Again (move_row r S used move m) (move_row r S 0 move (again m))
@@ -302,8 +306,8 @@ timed r S used kind m on false = inr (subst (λ (b : Bool). Again (before_move r
     (if b then flag_row r S (again m) else before_move r S 0 kind (again m)))
     (sym (none_less (clock r (again m) S))) (before r S m on used kind))
 
-pub line_again : (r : Rules) (S : Colour) (kind : LineKind) (moment : ℕ) (m : Match) (p : Phase) → awaits_line p S ≡ true
-    → is_over m.phase ≡ false
+pub line_again : (r : Rules) (S : Colour) (kind : LineKind) (moment : ℕ) (m : Match) (p : Phase)
+    → awaits_line p S ≡ true → is_over m.phase ≡ false
     → Falls m (line_row r p kind moment m)
     ⊎ Again (line_row r p kind moment m) (line_row r (waits p) kind 0 (again m))
 line_again r S kind moment m (Handshake c) aw on = inr (handshake r c m on (items_said kind))
@@ -463,7 +467,8 @@ module _ (r : Rules) (reason : Reason) where
       subst (λ (x : Match). Same reason (view (fold (machine.match_after r) n T))
       (played_again r x (events_in_time reason (events_shown T))))
       (ap (λ (x : Match). again x) (view_kept m (effect r (view m) (Opened S k)).after)
-      ∙ with_phase (again (view m)) (BeforeMove S 0) (waits (phase_of m.opened m.phase)) (opening m.opened m.phase S p.0))
+      ∙ with_phase (again (view m)) (BeforeMove S 0) (waits (phase_of m.opened m.phase))
+      (opening m.opened m.phase S p.0))
       (all_shown (block r m n) n T p.1 over)
   all_shown due m (Line S t k ∷ T) f over =
       let p = and_parts _ _ f in
@@ -496,5 +501,6 @@ events_shown_give_the_game notes_have r reason H final is over =
     (ap (λ (n : Match). n.phase) (sym same) ∙ over) in
     subst (λ (n : Match). Same reason n (played_again r beginning.after (events_in_time reason (events_shown T))))
     (sym same)
-    (subst (λ (n : Match). Same reason (view (match_of r T)) (played_again r n (events_in_time reason (events_shown T))))
+    (subst (λ (n : Match). Same reason (view (match_of r T))
+    (played_again r n (events_in_time reason (events_shown T))))
     (sym begun) (all_shown r reason (lines_on_entering r machine.start) machine.start T fitting ended))
