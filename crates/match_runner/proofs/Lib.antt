@@ -7,3 +7,4 @@ mod PlayedAgain
 mod LastLines
 mod ResultLines
 mod LogsRead
+mod PgnOfLogs

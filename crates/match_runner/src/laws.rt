@@ -2,7 +2,7 @@
 
 ghost use Rattle.match_runner.specs.laws.Entries.{LogsAreEntries, LogsHaveOneReading};
 ghost use Rattle.match_runner.specs.laws.Faults.{OnlyLastGamesHaveFailedWrites};
-ghost use Rattle.match_runner.specs.laws.ReadBack.{EventsShownGiveTheGame, LogsGiveTheGame, LogsShow};
+ghost use Rattle.match_runner.specs.laws.ReadBack.{EventsShownGiveTheGame, LogsGiveTheGame, LogsGiveThePgn, LogsShow};
 
 use chess_match::notes_have_all;
 
@@ -22,11 +22,12 @@ pub fn logs_have_one_reading()
 
 /// States a law: a log gives its game back. From its lines, if their texts are printable ASCII, follow the lines that
 /// each engine sent, with their moments, and those that it was sent, which show the clocks; the moves, which are those
-/// of the game played again from these lines; and the reason for which it ended, and so its result.
+/// of the game played again from these lines; the reason for which it ended, and so its result; and its PGN.
 pub fn logs_give_the_game()
     ensures again { EventsShownGiveTheGame }
     ensures shows { LogsShow }
     ensures gives { LogsGiveTheGame }
+    ensures pgn { LogsGiveThePgn }
 {
     notes_have_all();
 }

@@ -13,6 +13,8 @@ use Rattle.chess_match.specs.Effects.{Match, Phase, Opening, BeforeMove, Over, b
 use Rattle.chess_match.specs.Events.{Event, Line, Opened, OutputEnds, FailsToRead, FailsToWrite}
 use Rattle.chess_match.specs.laws.Laws.{events_in}
 use Rattle.chess_match.specs.laws.OfActs.{lines_given}
+use Rattle.match_runner.specs.declared.plan.GamesPlan.{GamesPlan}
+use Rattle.match_runner.specs.Games.{GameRecord, IsOfPlan, first_side, game_text}
 use Rattle.match_runner.specs.Log.{log_text}
 use Rattle.match_runner.specs.laws.Entries.{Entry, IsShown, entries_from}
 use Rattle.chess_match.specs.Lines.{bytes_of}
@@ -139,3 +141,12 @@ LogsGiveTheGame = (r : Rules) (first : Colour) (reason reason' : Reason) (H K : 
     → AllByRecursion IsShown (entries_from first 0 (notes_given reason' K))
     → log_text first (notes_given reason H) ≡ log_text first (notes_given reason' K)
     → AreAlike reason reason' H K final final'
+
+-- the PGN of a game follows from its log: two games of this number of the plan that have the same log, which shows their
+-- lines as they are, have the same PGN and count alike in the score
+abbrev pub LogsGiveThePgn : Type 0
+LogsGiveThePgn = (plan : GamesPlan) (number : ℕ) (one two : GameRecord) → IsOfPlan plan one → IsOfPlan plan two
+    → AllByRecursion IsShown (entries_from (first_side number) 0 one.notes)
+    → AllByRecursion IsShown (entries_from (first_side number) 0 two.notes)
+    → log_text (first_side number) one.notes ≡ log_text (first_side number) two.notes
+    → (game_text plan number one ≡ game_text plan number two) × (one.end.outcome ≡ two.end.outcome)

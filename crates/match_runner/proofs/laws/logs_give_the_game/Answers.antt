@@ -1,4 +1,5 @@
 use Rattle.match_runner.proofs.LogsRead.{logs_give_the_game, logs_show}
+use Rattle.match_runner.proofs.PgnOfLogs.{logs_give_the_pgn}
 use Rattle.match_runner.proofs.PlayedAgain.{events_shown_give_the_game}
 use Rattle.match_runner.proofs.laws.logs_give_the_game.Goals as goal
 
@@ -10,4 +11,5 @@ returns c =
       again = events_shown_give_the_game events;
       shows = logs_show events lines;
       gives = logs_give_the_game events lines;
+      pgn = logs_give_the_pgn events lines;
     }
