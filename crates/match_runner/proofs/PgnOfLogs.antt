@@ -1,30 +1,33 @@
--- The PGN of a game follows from its log.
-use Rattle.std.proofs.Common.{◌≡◌, ◌∙◌, ℕ, List, sym, ap, subst}
-use Rattle.std.specs.Prelude.{[], codes, decimal}
-use Rattle.std.specs.List.{AllByRecursion}
+-- The PGN of a game follows from its log, and what a match writes from the logs of its games.
+use Rattle.std.proofs.Common.{◌≡◌, ◌∙◌, ◌+◌, ℕ, List, [], ◌∷◌, ◌++◌, map, refl, sym, ap, subst}
+use Rattle.std.specs.Prelude.{⊤, codes, cond, decimal, flat_map, fold}
+use Rattle.std.specs.List.{AllByRecursion, enumerate_from}
 use Rattle.chess_base.specs.declared.man.Colour.{Colour}
 use Rattle.chess_base.specs.declared.man.Colour.TheVariants.{White, Black}
 use Rattle.chess_base.specs.declared.man.Move.{Move}
 use Rattle.cecp_engine.specs.Items.{Item, last_value}
 use Rattle.chess_game.specs.Game.{Seen, State}
-use Rattle.chess_game.specs.Results.{cut_tag}
+use Rattle.chess_base.specs.Men.{other}
+use Rattle.chess_game.specs.Results.{cut_tag, same_outcome}
 use Rattle.chess_game.specs.declared.game.TheConstants.{MOST_MOVES}
 use Rattle.chess_game.specs.declared.results.Outcome.{Outcome}
+use Rattle.chess_game.specs.declared.results.Outcome.TheVariants.{Draw, Unfinished}
 use Rattle.chess_game.specs.declared.tags.HowEnded.{HowEnded}
 use Rattle.chess_match.specs.Acts.{Act, IsMatch}
 use Rattle.chess_match.specs.ByDevice.{notes_given}
 use Rattle.chess_match.specs.Effects.{Match, Over}
 use Rattle.chess_match.specs.Notes.{Note}
-use Rattle.chess_match.specs.Reasons.{declared_at, ended_by, outcome_by_reason}
+use Rattle.chess_match.specs.Reasons.{declared_at, ended_by, outcome_by_reason, win_of}
 use Rattle.chess_match.specs.Rules.{Rules, rules_of}
 use Rattle.chess_match.specs.declared.reason.Reason.{Reason}
 use Rattle.chess_match.specs.laws.OfActs.{NotesHaveAllLinesInMatches, NotesHaveTheEventsInMatches}
 use Rattle.chess_pgn.specs.GameText.{pgn}
 use Rattle.match_runner.specs.declared.plan.GamesPlan.{GamesPlan}
-use Rattle.match_runner.specs.Games.{GameRecord, IsOfPlan, engine_command, first_side, player_name}
+use Rattle.match_runner.specs.declared.score.Score.{Score}
+use Rattle.match_runner.specs.Games.{GameRecord, IsOfPlan, count_of, engine_command, first_side, game_text, game_texts, player_name, score_line, score_of}
 use Rattle.match_runner.specs.Log.{log_text}
 use Rattle.match_runner.specs.laws.Entries.{IsShown, entries_from}
-use Rattle.match_runner.specs.laws.ReadBack.{AreAlike, LogsGiveThePgn}
+use Rattle.match_runner.specs.laws.ReadBack.{AreAlike, LogsGiveTheOutput, LogsGiveThePgn}
 use Rattle.match_runner.proofs.LogsRead.{logs_give_the_game}
 
 abbrev rules : GamesPlan → Rules
@@ -115,3 +118,80 @@ logs_give_the_pgn all_events all_lines plan number one two h k plain plain' same
           ∙ ap (λ (ms : List Move). left plan reason' ms) a.moves ∙ sym q.game),
       p.outcome ∙ ap outcome_by_reason a.reasons ∙ sym q.outcome,
     )
+
+-- ---- all games of a match
+
+-- two games, each with its number, have the same number, PGN and outcome
+record AreAsOne (plan : GamesPlan) (g h : ℕ × GameRecord) : Type 0 where
+  pub numbers : g.0 ≡ h.0
+  pub texts : game_text plan g.0 g.1 ≡ game_text plan h.0 h.1
+  pub outcomes : g.1.end.outcome ≡ h.1.end.outcome
+
+abbrev Alike : GamesPlan → List (ℕ × GameRecord) → List (ℕ × GameRecord) → Type 0
+Alike plan [] [] = ⊤
+Alike plan (g ∷ gs) (h ∷ hs) = AreAsOne plan g h × Alike plan gs hs
+Alike plan _ _ = ⊥
+
+abbrev IsOfLog : GamesPlan → ℕ × GameRecord → Type 0
+IsOfLog plan g = IsOfPlan plan g.1 × AllByRecursion IsShown (entries_from (first_side g.0) 0 g.1.notes)
+
+abbrev log_of : ℕ × GameRecord → List ℕ
+log_of g = log_text (first_side g.0) g.1.notes
+
+texts_alike : (plan : GamesPlan) (gs hs : List (ℕ × GameRecord)) → Alike plan gs hs
+    → flat_map (λ g. game_text plan g.0 g.1) gs ≡ flat_map (λ g. game_text plan g.0 g.1) hs
+texts_alike plan [] [] a = refl
+texts_alike plan (g ∷ gs) (h ∷ hs) (one, more) =
+    ap (λ (l : List ℕ). l ++ flat_map (λ g. game_text plan g.0 g.1) gs) one.texts
+    ∙ ap (λ (l : List ℕ). game_text plan h.0 h.1 ++ l) (texts_alike plan gs hs more)
+texts_alike plan [] (h ∷ hs) a = absurd a
+texts_alike plan (g ∷ gs) [] a = absurd a
+
+-- a game more is counted, or not
+abbrev counted : (ℕ → Outcome) → ℕ → ℕ × GameRecord → ℕ
+counted wanted n g = n + cond (same_outcome g.1.end.outcome (wanted g.0)) 1 0
+
+counts_alike : (plan : GamesPlan) (wanted : ℕ → Outcome) (n : ℕ) (gs hs : List (ℕ × GameRecord)) → Alike plan gs hs
+    → fold (counted wanted) n gs ≡ fold (counted wanted) n hs
+counts_alike plan wanted n [] [] a = refl
+counts_alike plan wanted n (g ∷ gs) (h ∷ hs) (one, more) =
+    counts_alike plan wanted (counted wanted n g) gs hs more
+    ∙ ap (λ (k : ℕ). fold (counted wanted) k hs)
+    (ap (λ (o : Outcome). n + cond (same_outcome o (wanted g.0)) 1 0) one.outcomes
+    ∙ ap (λ (k : ℕ). n + cond (same_outcome h.1.end.outcome (wanted k)) 1 0) one.numbers)
+counts_alike plan wanted n [] (h ∷ hs) a = absurd a
+counts_alike plan wanted n (g ∷ gs) [] a = absurd a
+
+module _ (all_events : NotesHaveTheEventsInMatches) (all_lines : NotesHaveAllLinesInMatches) (plan : GamesPlan) where
+  all_alike : (number : ℕ) (games games' : List GameRecord)
+      → AllByRecursion (IsOfLog plan) (enumerate_from number games)
+      → AllByRecursion (IsOfLog plan) (enumerate_from number games')
+      → map log_of (enumerate_from number games) ≡ map log_of (enumerate_from number games')
+      → Alike plan (enumerate_from number games) (enumerate_from number games')
+  all_alike number [] [] h k same = tt
+  all_alike number (g ∷ gs) (g' ∷ gs') (h, hs) (k, ks) same =
+      let head : log_of (number, g) ≡ log_of (number, g') = cc in
+      let rest : map log_of (enumerate_from (number + 1) gs) ≡ map log_of (enumerate_from (number + 1) gs') = cc in
+      let p = logs_give_the_pgn all_events all_lines plan number g g' h.0 k.0 h.1 k.1 head in (
+        record { numbers = refl; texts = p.0; outcomes = p.1 },
+        all_alike (number + 1) gs gs' hs ks rest,
+      )
+  all_alike number [] (g ∷ gs) h k same = absurd cc
+  all_alike number (g ∷ gs) [] h k same = absurd cc
+
+pub logs_give_the_output : NotesHaveTheEventsInMatches → NotesHaveAllLinesInMatches → LogsGiveTheOutput
+logs_give_the_output all_events all_lines plan games games' h k same =
+    let a = all_alike all_events all_lines plan 1 games games' h k same in
+    let counts : (wanted : ℕ → Outcome) → count_of wanted games ≡ count_of wanted games' =
+    λ wanted. counts_alike plan wanted 0 (enumerate_from 1 games) (enumerate_from 1 games') a in
+    let score : score_of games ≡ score_of games' = score_is _ _ _ _ _ _ _ _
+    (counts (λ number. win_of (first_side number))) (counts (λ number. win_of (other (first_side number))))
+    (counts (λ number. Draw)) (counts (λ number. Unfinished)) in
+    ap (λ (l : List ℕ). l ++ score_line (score_of games))
+    (texts_alike plan (enumerate_from 1 games) (enumerate_from 1 games') a)
+    ∙ ap (λ (s : Score). game_texts plan games' ++ score_line s) score
+  where
+    score_is : (a a' b b' c c' d d' : ℕ) → a ≡ a' → b ≡ b' → c ≡ c' → d ≡ d'
+        → (let s : Score = record { first = a; second = b; drawn = c; unfinished = d } in s)
+        ≡ (let s : Score = record { first = a'; second = b'; drawn = c'; unfinished = d' } in s)
+    score_is a a' b b' c c' d d' p q r t = rw (p, q, r, t) refl

@@ -1,7 +1,7 @@
 -- Laws of what the log of a match gives back: its moves, the reason for which it ended, and all that each engine sent
 -- and was sent.
-use Rattle.std.specs.Prelude.{◌≡◌, ◌==◌, ◌&&◌, ℕ, Bool, true, false, if◌then◌else◌, List, [], ◌∷◌, ◌++◌, flat_map, codes, Some, None}
-use Rattle.std.specs.List.{AllByRecursion}
+use Rattle.std.specs.Prelude.{◌≡◌, ◌==◌, ◌&&◌, ℕ, Bool, true, false, if◌then◌else◌, List, [], ◌∷◌, ◌++◌, flat_map, codes, Some, None, map}
+use Rattle.std.specs.List.{AllByRecursion, enumerate_from}
 use Rattle.std.specs.Str.{bytes_eq}
 use Rattle.chess_base.specs.Letters.{byte, new_line}
 use Rattle.chess_base.specs.Men.{other, same_colour}
@@ -14,7 +14,7 @@ use Rattle.chess_match.specs.Events.{Event, Line, Opened, OutputEnds, FailsToRea
 use Rattle.chess_match.specs.laws.Laws.{events_in}
 use Rattle.chess_match.specs.laws.OfActs.{lines_given}
 use Rattle.match_runner.specs.declared.plan.GamesPlan.{GamesPlan}
-use Rattle.match_runner.specs.Games.{GameRecord, IsOfPlan, first_side, game_text}
+use Rattle.match_runner.specs.Games.{GameRecord, IsOfPlan, first_side, game_text, match_text}
 use Rattle.match_runner.specs.Log.{log_text}
 use Rattle.match_runner.specs.laws.Entries.{Entry, IsShown, entries_from}
 use Rattle.chess_match.specs.Lines.{bytes_of}
@@ -150,3 +150,19 @@ LogsGiveThePgn = (plan : GamesPlan) (number : ℕ) (one two : GameRecord) → Is
     → AllByRecursion IsShown (entries_from (first_side number) 0 two.notes)
     → log_text (first_side number) one.notes ≡ log_text (first_side number) two.notes
     → (game_text plan number one ≡ game_text plan number two) × (one.end.outcome ≡ two.end.outcome)
+
+-- the log of each of these games by itself, where `game_logs` has them one after another
+abbrev pub logs_of : List GameRecord → List (List ℕ)
+logs_of games = map (λ g. log_text (first_side g.0) g.1.notes) (enumerate_from 1 games)
+
+-- these games, numbered from 1, were played by the plan, and their logs show their lines as they are
+abbrev pub AreOfLogs : GamesPlan → List GameRecord → Type 0
+AreOfLogs plan games = AllByRecursion
+    (λ g. IsOfPlan plan g.1 × AllByRecursion IsShown (entries_from (first_side g.0) 0 g.1.notes))
+    (enumerate_from 1 games)
+
+-- what a match writes to the output, the PGN of its games and the score, follows from the logs of its games: two matches
+-- by one plan whose games have the same logs write the same
+abbrev pub LogsGiveTheOutput : Type 0
+LogsGiveTheOutput = (plan : GamesPlan) (games games' : List GameRecord) → AreOfLogs plan games
+    → AreOfLogs plan games' → logs_of games ≡ logs_of games' → match_text plan games ≡ match_text plan games'

@@ -1,5 +1,5 @@
 use Rattle.match_runner.proofs.LogsRead.{logs_give_the_game, logs_show}
-use Rattle.match_runner.proofs.PgnOfLogs.{logs_give_the_pgn}
+use Rattle.match_runner.proofs.PgnOfLogs.{logs_give_the_output, logs_give_the_pgn}
 use Rattle.match_runner.proofs.PlayedAgain.{events_shown_give_the_game}
 use Rattle.match_runner.proofs.laws.logs_give_the_game.Goals as goal
 
@@ -12,4 +12,5 @@ returns c =
       shows = logs_show events lines;
       gives = logs_give_the_game events lines;
       pgn = logs_give_the_pgn events lines;
+      output = logs_give_the_output events lines;
     }
