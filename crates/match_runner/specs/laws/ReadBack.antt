@@ -121,8 +121,9 @@ LogsShow = (r : Rules) (first : Colour) (reason : Reason) (H : List Act) (final 
     × ((S : Colour) → flat_map (entry_given first S) lines ≡ bytes_of (lines_given S H))
     × (result_line lines ≡ text_of_result reason)
 
--- two matches, of the acts `H` and `K`, are alike: they ended for the same reason, so with the same result, with the
--- same moves, and so on. A log leaves out the moments at which turns were opened, and whether a last line was written
+-- two matches are alike, those of the acts `H` and `K`: they ended for the same reason, so with the same result; they
+-- have the same moves; and so on. What a log leaves out may differ: the moments at which turns were opened (so the
+-- milliseconds that moves used), and whether a write of the last lines failed
 pub record AreAlike (reason reason' : Reason) (H K : List Act) (final final' : Match) : Type 0 where
   pub reasons : reason ≡ reason'
   pub moves : final.played ≡ final'.played
@@ -142,8 +143,8 @@ LogsGiveTheGame = (r : Rules) (first : Colour) (reason reason' : Reason) (H K : 
     → log_text first (notes_given reason H) ≡ log_text first (notes_given reason' K)
     → AreAlike reason reason' H K final final'
 
--- the PGN of a game follows from its log: two games of this number of the plan that have the same log, which shows their
--- lines as they are, have the same PGN and count alike in the score
+-- the PGN of a game follows from its log: two games of this number of the plan that have the same log, which shows
+-- their lines as they are, have the same PGN and the same outcome
 abbrev pub LogsGiveThePgn : Type 0
 LogsGiveThePgn = (plan : GamesPlan) (number : ℕ) (one two : GameRecord) → IsOfPlan plan one → IsOfPlan plan two
     → AllByRecursion IsShown (entries_from (first_side number) 0 one.notes)
@@ -161,8 +162,8 @@ AreOfLogs plan games = AllByRecursion
     (λ g. IsOfPlan plan g.1 × AllByRecursion IsShown (entries_from (first_side g.0) 0 g.1.notes))
     (enumerate_from 1 games)
 
--- what a match writes to the output, the PGN of its games and the score, follows from the logs of its games: two matches
--- by one plan whose games have the same logs write the same
+-- what a match writes to the output, the PGN of its games and the score, follows from the logs of its games: two
+-- matches by one plan whose games have the same logs write the same
 abbrev pub LogsGiveTheOutput : Type 0
 LogsGiveTheOutput = (plan : GamesPlan) (games games' : List GameRecord) → AreOfLogs plan games
     → AreOfLogs plan games' → logs_of games ≡ logs_of games' → match_text plan games ≡ match_text plan games'
