@@ -1,5 +1,5 @@
 -- Each reason for which a match may end has a result line of its own.
-use Rattle.std.proofs.Common.{◌≡◌, ℕ, true, List, [], ◌∷◌, ◌++◌, refl}
+use Rattle.std.proofs.Common.{arith, ◌≡◌, ℕ, true, List, [], ◌∷◌, ◌++◌}
 use Rattle.std.specs.Prelude.{◌==◌, if◌then◌else◌, not, flat_map}
 use Rattle.std.specs.List.{list_all}
 use Rattle.std.specs.Str.{bytes_eq}
@@ -35,53 +35,10 @@ find text (x ∷ xs) = if bytes_eq (text_of_result x) text then x else find text
 abbrev pub reason_of : List ℕ → Reason
 reason_of text = find text (flat_map reasons_of (White ∷ Black ∷ []) ++ others)
 
-abbrev IsLineRead : Reason → Type 0
-IsLineRead x = (reason_of (text_of_result x) ≡ x) × (list_all (λ b. not (b == new_line)) (text_of_result x) ≡ true)
-
-line_read : (x : Reason) → IsLineRead x
-unfolding result_text
-line_read (Resigns White) = (refl, refl)
-line_read (Resigns Black) = (refl, refl)
-line_read (MovesIllegally White) = (refl, refl)
-line_read (MovesIllegally Black) = (refl, refl)
-line_read (MovesOutOfTurn White) = (refl, refl)
-line_read (MovesOutOfTurn Black) = (refl, refl)
-line_read (ClaimsFalsely White) = (refl, refl)
-line_read (ClaimsFalsely Black) = (refl, refl)
-line_read (RejectsLegalMove White) = (refl, refl)
-line_read (RejectsLegalMove Black) = (refl, refl)
-line_read (Forfeits White) = (refl, refl)
-line_read (Forfeits Black) = (refl, refl)
-line_read (Faulted White Ended) = (refl, refl)
-line_read (Faulted White Read) = (refl, refl)
-line_read (Faulted White Write) = (refl, refl)
-line_read (Faulted White NoDone) = (refl, refl)
-line_read (Faulted White NoPing) = (refl, refl)
-line_read (Faulted White NoSetboard) = (refl, refl)
-line_read (Faulted White Flood) = (refl, refl)
-line_read (Faulted White NoVariant) = (refl, refl)
-line_read (Faulted Black Ended) = (refl, refl)
-line_read (Faulted Black Read) = (refl, refl)
-line_read (Faulted Black Write) = (refl, refl)
-line_read (Faulted Black NoDone) = (refl, refl)
-line_read (Faulted Black NoPing) = (refl, refl)
-line_read (Faulted Black NoSetboard) = (refl, refl)
-line_read (Faulted Black Flood) = (refl, refl)
-line_read (Faulted Black NoVariant) = (refl, refl)
-line_read (Decided WhiteMates) = (refl, refl)
-line_read (Decided BlackMates) = (refl, refl)
-line_read (Decided Stalemate) = (refl, refl)
-line_read (Decided InsufficientMaterial) = (refl, refl)
-line_read (Decided FivefoldRepetition) = (refl, refl)
-line_read (Decided SeventyFiveMoves) = (refl, refl)
-line_read (Claimed Threefold) = (refl, refl)
-line_read (Claimed FiftyMoves) = (refl, refl)
-line_read Agreed = (refl, refl)
-line_read ForfeitsToBareKing = (refl, refl)
-line_read GameTooLong = (refl, refl)
-
 pub reason_read : (x : Reason) → reason_of (text_of_result x) ≡ x
-reason_read x = (line_read x).0
+unfolding result_text
+reason_read x = grind arith
 
 pub result_plain : (x : Reason) → list_all (λ b. not (b == new_line)) (text_of_result x) ≡ true
-result_plain x = (line_read x).1
+unfolding result_text
+result_plain x = grind arith
