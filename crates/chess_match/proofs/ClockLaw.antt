@@ -1,81 +1,81 @@
 -- No clock underflows.
-use Rattle.std.proofs.Common.{◌≡◌, ℕ, ◌+◌, ◌-◌, ◌≤◌, true, List, [], ◌∷◌, ◌++◌, length, length-append, arith}
-use Rattle.std.specs.Prelude.{sum}
+use Rattle.std.proofs.Common.{◌≡◌, ℕ, ◌+◌, ◌-◌, ◌≤◌, Bool, true, false, List, [], ◌∷◌, ◌++◌, length, length-append, refl, subst, arith}
+use Rattle.std.specs.Prelude.{if◌then◌else◌, sum}
 use Rattle.chess_base.specs.declared.man.Colour.{Colour}
-use Rattle.chess_base.specs.declared.man.Colour.TheVariants.{White, Black}
 use Rattle.chess_base.specs.declared.man.Move.{Move}
+use Rattle.chess_base.specs.Men.{same_colour}
+use Rattle.chess_base.proofs.shared.Men.{same_colour-true}
 use Rattle.cecp_engine.specs.EngineLines.{LineKind, line_kind}
-use Rattle.chess_match.specs.laws.Laws.{ClocksDoNotUnderflow}
 use Rattle.cecp_engine.specs.Levels.{LevelSeen, allotted, time_left}
-use Rattle.chess_match.specs.laws.Machine.{Match, start, clock, played_by, match_after}
-use Rattle.chess_match.specs.Events.{Event}
-use Rattle.chess_match.specs.Rules.{Rules}
-use Rattle.chess_match.specs.Lines.{SentLine}
-use Rattle.chess_match.specs.laws.Blocks.{lines_on_entering}
-use Rattle.chess_match.specs.laws.Transcript.{fits_next, fits, match_of}
 use Rattle.cecp_engine.proofs.shared.Levels.{allotted_grows}
-use Rattle.chess_match.proofs.Outcomes.{InTurn, event_outcome, kept_by}
+use Rattle.chess_match.specs.Acts.{awaits_line}
+use Rattle.chess_match.specs.Effects.{Match, beginning, clock, line_row, moved}
+use Rattle.chess_match.specs.Rules.{Rules}
+use Rattle.chess_match.specs.laws.OfActs.{AtEachMoment, ClocksDoNotUnderflow, match_after}
 use Rattle.chess_match.proofs.Going.{sum-snoc}
+use Rattle.chess_match.proofs.LineCases.{line_cases, said_by}
+use Rattle.chess_match.proofs.Points.{by_points, moved_used, offered_used, said_used}
+
+abbrev InTime : LevelSeen → List ℕ → Type 0
+InTime level used = sum used ≤ allotted level (length used)
 
 -- neither side used more than it was given
-abbrev IsInTime : LevelSeen → Match → Type 0
-IsInTime level m = (sum m.white.used ≤ allotted level (length m.white.used))
-    × (sum m.black.used ≤ allotted level (length m.black.used))
+abbrev AreInTime : Rules → Match → Type 0
+AreInTime r m = (C : Colour) → InTime r.level (m.seat C).used
 
-used_more : (level : LevelSeen) (xs : List ℕ) (x : ℕ) → sum xs ≤ allotted level (length xs)
-    → x ≤ time_left level (length xs) (sum xs)
-    → sum (xs ++ x ∷ []) ≤ allotted level (length (xs ++ x ∷ []))
+used_more : (level : LevelSeen) (xs : List ℕ) (x : ℕ) → InTime level xs
+    → x ≤ time_left level (length xs) (sum xs) → InTime level (xs ++ x ∷ [])
 unfolding time_left
 used_more level xs x w timely =
     let grows : allotted level (length xs) ≤ allotted level (length xs + 1) = allotted_grows level (length xs) in
     rw (sum-snoc xs x, length-append xs (x ∷ [])) (omega (arith, grows, w, timely))
 
-played : (r : Rules) (S : Colour) (move : Move) (used : ℕ) (m : Match) → used ≤ clock r m S → IsInTime r.level m
-    → IsInTime r.level (played_by S move used m)
-played r White move used m timely w = (used_more r.level m.white.used used w.0 timely, w.1)
-played r Black move used m timely w = (w.0, used_more r.level m.black.used used w.1 timely)
+played : (r : Rules) (S C : Colour) (move : Move) (used : ℕ) (m : Match) → used ≤ clock r m S → AreInTime r m
+    → InTime r.level ((moved S move used m).seat C).used
+played r S C move used m timely w = rw (moved_used S C move used m) (at (same_colour S C) (same_colour-true S C))
+  where
+    at : (b : Bool) → (b ≡ true → S ≡ C)
+        → InTime r.level (if b then (m.seat C).used ++ used ∷ [] else (m.seat C).used)
+    at true e = let same : S ≡ C = e refl in
+        used_more r.level (m.seat C).used used (w C) (subst (λ (x : Colour). used ≤ clock r m x) same timely)
+    at false e = w C
 
-step : (r : Rules) (due : Colour → List SentLine) (m : Match) (e : Event) → fits_next due m e ≡ true
-    → IsInTime r.level m → IsInTime r.level (match_after r m e)
-step r due m e f w =
-    let P : Match → Type 0 = λ m'. IsInTime r.level m' in
-    let row : (S : Colour) (kind : LineKind) → InTurn r S kind m P = λ S kind. record {
-      ends = λ reason n. w;
-      counts = λ k n. w;
-      offers = λ k own theirs. grind (arith, w);
-    } in
-    event_outcome r due m e P f (record {
-      line = λ S text moment is h. record {
-        handshake_ends = λ p d. grind (arith, w);
-        handshake_counts = λ p d k. grind (arith, w);
-        handshake_next = λ p s d. grind (arith, w);
-        handshake_judged = λ p s d c x mild. grind (arith, w);
-        handshake_done = λ p s d. grind (arith, w);
-        setup_ends = λ p reason n. w;
-        setup_counts = λ p k n. w;
-        setup_next = λ p s k. w;
-        setup_done = λ p s k v. w;
-        before = λ p. record {
-          row = row S (line_kind text);
-          plays = λ text' move k rd room timely v. played r S move _ m timely w;
-          decides = λ text' move v k rd room timely. played r S move _ m timely w;
-        };
-        after = λ p. record { row = row S (line_kind text); passes = λ k. w };
-      };
-      opened = λ S moment is p. w;
-      faulted = λ S x on u. w;
-    })
+line_in_time : (r : Rules) (S : Colour) (kind : LineKind) (moment : ℕ) (m : Match) → awaits_line m.phase S ≡ true
+    → AreInTime r m → AreInTime r (line_row r m.phase kind moment m).after
+line_in_time r S kind moment m aw w = line_cases r S kind moment m (λ e. AreInTime r e.after) aw (record {
+  handshake_stops = λ p reason c n. said;
+  handshake_counts = λ p d few. said;
+  handshake_next = λ p s d. said;
+  handshake_last = λ p s d. said;
+  setup_counts = λ p pong few. w;
+  setup_next = λ p s pong. w;
+  setup_last = λ p s pong v. w;
+  setup_decides = λ p v e. w;
+  stops = λ g reason n. w;
+  counts = λ on none few. w;
+  offers = λ on none own C. rw (offered_used S C m) (w C);
+  plays = λ text move opened is p read room timely verdict C. played r S C move (moment - opened) m timely w;
+  decides = λ text move opened v is p read room timely verdict C. played r S C move (moment - opened) m timely w;
+  passes = λ p none. w;
+})
+  where
+    said : (C : Colour) → InTime r.level ((said_by S kind m).seat C).used
+    said C = rw (said_used S C kind m) (w C)
 
-in_time : (r : Rules) (T : List Event) → fits r T ≡ true → IsInTime r.level (match_of r T)
-in_time r T f = kept_by r (λ m. IsInTime r.level m) (step r) (lines_on_entering r start) start T f
-    (omega arith, omega arith)
-
-sums : (given used : ℕ) → used ≤ given → given - used + used ≡ given
-sums given used h = omega (arith, h)
-
-pub clocks_do_not_underflow : ClocksDoNotUnderflow
+pub clocks_do_not_underflow : AtEachMoment ClocksDoNotUnderflow
 unfolding time_left
-clocks_do_not_underflow r T White f = sums (allotted r.level (length (match_of r T).white.used))
-    (sum (match_of r T).white.used) (in_time r T f).0
-clocks_do_not_underflow r T Black f = sums (allotted r.level (length (match_of r T).black.used))
-    (sum (match_of r T).black.used) (in_time r T f).1
+clocks_do_not_underflow r H K final g e S =
+    let m : Match = match_after r beginning.after H in
+    let w : AreInTime r m = by_points r (λ m due H n. AreInTime r m → AreInTime r n) (record {
+      sends = λ m n b due H p. p;
+      fails = λ m n b due H on q s u p. p;
+      fails_late = λ m n b due H o s u p. p;
+      reads = λ m n S t x H aw q s p w. p (line_in_time r S (line_kind t) x m aw w);
+      opens = λ m n S x H o q p. p;
+      output_ends = λ m n S H aw q s u p. p;
+      read_fails = λ m n S H aw q s u p. p;
+    }) H K final (λ m due q f w. w) g (λ k. e) (λ C. omega arith) in
+    sums (allotted r.level (length (m.seat S).used)) (sum (m.seat S).used) (w S)
+  where
+    sums : (given used : ℕ) → used ≤ given → given - used + used ≡ given
+    sums given used h = omega (arith, h)

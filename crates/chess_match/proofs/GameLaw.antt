@@ -11,8 +11,9 @@ use Rattle.cecp_engine.specs.Levels.{LevelSeen}
 use Rattle.chess_match.specs.ByDevice.{lines_read}
 use Rattle.chess_match.specs.Rules.{Rules, rules_of}
 use Rattle.chess_match.specs.laws.Laws.{AreRead, moves_of}
-use Rattle.chess_match.specs.laws.OfActs.{GamesAreLines}
-use Rattle.chess_match.proofs.LawsOfActs.{moves_read}
+use Rattle.chess_match.specs.laws.OfActs.{GamesAreLines, MovesAreRead}
+use Rattle.chess_match.proofs.Points.{in_each}
+use Rattle.chess_match.proofs.ReadLaw.{moves_are_read}
 use Rattle.chess_match.proofs.Playing.{legal_read}
 
 one_after : (start : Setup) (before : List Move) (m : Move)
@@ -38,4 +39,4 @@ pub games_are_lines : ReadMovesAreLegal → GamesAreLines
 games_are_lines legal start level limit H final is_match =
     let r : Rules = rules_of start level limit in
     line_from legal start level limit [] final.played (moves_of (lines_read r.first H))
-    (moves_of (lines_read (other r.first) H)) (moves_read r H final is_match)
+    (moves_of (lines_read (other r.first) H)) (in_each MovesAreRead moves_are_read r H final is_match)

@@ -1,21 +1,19 @@
 -- A match ends within so many lines.
-use Rattle.std.proofs.Common.{◌≡◌, ℕ, ◌+◌, ◌*◌, ◌≤◌, ◌<◌, Bool, true, false, List, [], ◌∷◌, length, length-append, refl, arith}
+use Rattle.std.proofs.Common.{◌≡◌, ℕ, ◌+◌, ◌*◌, ◌≤◌, ◌<◌, Bool, true, false, List, [], ◌∷◌, ◌++◌, length, length-append, refl, subst, arith, Option}
 use Rattle.chess_base.specs.declared.man.Colour.{Colour}
 use Rattle.chess_base.specs.declared.man.Colour.TheVariants.{White, Black}
+use Rattle.chess_base.specs.Men.{same_colour}
+use Rattle.chess_base.specs.Options.{list_if}
 use Rattle.cecp_engine.specs.EngineLines.{LineKind, line_kind}
-use Rattle.chess_match.specs.laws.Laws.{LinesAreFew, line_count}
-use Rattle.chess_match.specs.laws.Machine.{Match, seat, start, over, match_after}
-use Rattle.chess_match.specs.Events.{Event, Line, Opened, OutputEnds, FailsToRead, FailsToWrite}
+use Rattle.chess_match.specs.Acts.{Act, Block, awaits_line}
+use Rattle.chess_match.specs.ByDevice.{lines_read}
+use Rattle.chess_match.specs.Effects.{Match, Phase, Handshake, Setup, Opening, BeforeMove, AfterMove, Over, ends, line_row}
 use Rattle.chess_match.specs.Rules.{Rules}
-use Rattle.chess_match.specs.Lines.{SentLine}
-use Rattle.chess_match.specs.laws.Blocks.{lines_on_entering, block}
-use Rattle.chess_match.specs.laws.Transcript.{reads, opens, fits_next, fits_from}
-use Rattle.chess_match.specs.declared.phase.Phase.{Phase}
-use Rattle.chess_match.specs.declared.phase.Phase.TheVariants.{Handshake, Setup, SendTurn, AwaitMove, AwaitPong, Over}
 use Rattle.chess_match.specs.declared.reason.Reason.{Reason}
 use Rattle.chess_match.specs.declared.reason.Reason.TheVariants.{Agreed}
-use Rattle.chess_match.proofs.Outcomes.{Lines, line_outcome, and_first, and_second}
-use Rattle.chess_match.proofs.Going.{opens_at}
+use Rattle.chess_match.specs.laws.OfActs.{AtEachMoment, LinesAreFew}
+use Rattle.chess_match.proofs.LineCases.{line_cases}
+use Rattle.chess_match.proofs.Points.{by_points}
 
 abbrev one_if : Bool → ℕ
 one_if true = 1
@@ -28,96 +26,75 @@ AreFew limit k (Handshake White) count n offers = (k ≤ count) × (count < 1000
 AreFew limit k (Handshake Black) count n offers = (k ≤ 1000 + count) × (count < 1000) × (n ≡ 0)
 AreFew limit k (Setup White) count n offers = (k ≤ 2000 + count) × (count < 10000) × (n ≡ 0)
 AreFew limit k (Setup Black) count n offers = (k ≤ 12000 + count) × (count < 10000) × (n ≡ 0)
-AreFew limit k (SendTurn c) count n offers = (k ≤ 22000 + 10002 * n) × (count < 10000) × (n ≤ limit)
-AreFew limit k (AwaitMove c) count n offers = (k ≤ 22000 + 10002 * n + count + one_if (offers c)) × (count < 10000)
-    × (n ≤ limit)
-AreFew limit k (AwaitPong c) count n offers = (k + 10001 ≤ 22000 + 10002 * n + count + one_if (offers c))
+AreFew limit k (Opening c) count n offers = (k ≤ 22000 + 10002 * n) × (count < 10000) × (n ≤ limit)
+AreFew limit k (BeforeMove c opened) count n offers = (k ≤ 22000 + 10002 * n + count + one_if (offers c))
+    × (count < 10000) × (n ≤ limit)
+AreFew limit k (AfterMove c) count n offers = (k + 10001 ≤ 22000 + 10002 * n + count + one_if (offers c))
     × (count < 10000) × (n ≤ limit)
 AreFew limit k (Over reason) count n offers = k ≤ 22000 + 10002 * (limit + 1)
 
-abbrev Few : Rules → ℕ → Match → Type 0
-Few r k m = AreFew r.limit k m.phase m.count (length m.played) (λ c. (seat m c).offers)
-
 abbrev FewIn : Rules → ℕ → Phase → Match → Type 0
-FewIn r k p m = AreFew r.limit k p m.count (length m.played) (λ c. (seat m c).offers)
+FewIn r k p m = AreFew r.limit k p m.count (length m.played) (λ c. (m.seat c).offers)
+
+abbrev Few : Rules → ℕ → Match → Type 0
+Few r k m = FewIn r k m.phase m
 
 at_most_one : (b : Bool) → one_if b ≤ 1
 at_most_one true = omega arith
 at_most_one false = omega arith
 
--- one line more
-
 -- a match that is over had no more lines than all
-few_over : (r : Rules) (k : ℕ) (reason : Reason) (m : Match) → Few r k m → Few r k (over reason m)
-few_over r k reason m w = grind (arith, at_most_one (seat m White).offers, at_most_one (seat m Black).offers)
+few_over : (r : Rules) (k : ℕ) (m : Match) → Few r k m → k ≤ 22000 + 10002 * (r.limit + 1)
+few_over r k m w = grind (arith, at_most_one (m.seat White).offers, at_most_one (m.seat Black).offers)
 
-lines : (r : Rules) (k : ℕ) (S : Colour) (kind : LineKind) (moment : ℕ) (m : Match) → Few r k m
-    → Lines r S kind moment m (λ m'. Few r (k + 1) m')
-lines r k S kind moment m w = record {
-  handshake_ends = λ p d. grind (arith, p, w);
+-- one line more
+lines : (r : Rules) (k : ℕ) (S : Colour) (kind : LineKind) (moment : ℕ) (m : Match) → awaits_line m.phase S ≡ true
+    → Few r k m → Few r (k + 1) (line_row r m.phase kind moment m).after
+lines r k S kind moment m aw w = line_cases r S kind moment m (λ e. Few r (k + 1) e.after) aw (record {
+  handshake_stops = λ p reason c n. grind (arith, p, w);
   handshake_counts = λ p d few. grind (arith, p, w, few);
   handshake_next = λ p s d. grind (arith, p, s, w);
-  handshake_judged = λ p s d c x mild. grind (arith, p, s, w);
-  handshake_done = λ p s d. grind (arith, p, s, w);
-  setup_ends = λ p reason n. grind (arith, p, w);
+  handshake_last = λ p s d. grind (arith, p, s, w);
   setup_counts = λ p pong few. grind (arith, p, w, few);
-  setup_next = λ p s pong. grind (arith, p, w);
-  setup_done = λ p s pong undecided. grind (arith, p, w);
-  before = λ p. record {
-    row = record {
-      ends = λ reason n. grind (arith, p, w, at_most_one (seat m S).offers);
-      counts = λ none few. grind (arith, p, w, few);
-      offers = λ none own theirs. grind (arith, p, w, own);
-    };
-    plays = λ text move is reading room timely undecided.
-        grind (arith, p, w, room, length-append m.played (move ∷ []));
-    decides = λ text move v is reading room timely. grind (arith, p, w, at_most_one (seat m S).offers);
-  };
-  after = λ p. record {
-    row = record {
-      ends = λ reason n. grind (arith, p, w, at_most_one (seat m S).offers);
-      counts = λ none few. grind (arith, p, w, few);
-      offers = λ none own theirs. grind (arith, p, w, own);
-    };
-    passes = λ none. grind (arith, p, w, at_most_one (seat m S).offers);
-  };
-}
+  setup_next = λ p s pong. grind (arith, p, s, w);
+  setup_last = λ p s pong v. grind (arith, p, s, w);
+  setup_decides = λ p v e. stopped;
+  stops = λ g reason n. stopped;
+  counts = λ on none few. grind (arith, on, w, few);
+  offers = λ on none own. grind (arith, on, aw, w, own);
+  plays = λ text move opened is p read room timely verdict.
+      grind (arith, p, w, room, length-append m.played (move ∷ []));
+  decides = λ text move opened v is p read room timely verdict. stopped;
+  passes = λ p none. grind (arith, p, w, at_most_one (m.seat S).offers);
+})
+  where
+    stopped : k + 1 ≤ 22000 + 10002 * (r.limit + 1)
+    stopped = grind (arith, aw, w, at_most_one (m.seat White).offers, at_most_one (m.seat Black).offers)
 
-opened : (r : Rules) (k : ℕ) (S : Colour) (moment : ℕ) (m : Match) → FewIn r k (SendTurn S) m
-    → Few r k (record m { phase = AwaitMove S; opened = moment })
+opened : (r : Rules) (k : ℕ) (S : Colour) (moment : ℕ) (m : Match) → FewIn r k (Opening S) m
+    → FewIn r k (BeforeMove S moment) m
 opened r k S moment m h1 = grind arith
 
-few_opened : (r : Rules) (k : ℕ) (S : Colour) (moment : ℕ) (m : Match) → opens m.phase S ≡ true → Few r k m
-    → Few r k (record m { phase = AwaitMove S; opened = moment })
-few_opened r k S moment m o w = let p = opens_at m.phase S o in grind (arith, p, w)
+more_lines : (S : Colour) (t : Option (List ℕ)) (xs ys : List (Option (List ℕ))) (k n : ℕ)
+    → k + 1 + length xs + length ys ≤ n
+    → k + length (list_if (same_colour S White) (t ∷ []) ++ xs) + length (list_if (same_colour S Black) (t ∷ []) ++ ys) ≤ n
+more_lines White t xs ys k n h = omega (arith, h)
+more_lines Black t xs ys k n h = omega (arith, h)
 
--- after so many lines a match goes on for few more
-few : (r : Rules) (due : Colour → List SentLine) (m : Match) (T : List Event) (k : ℕ) → fits_from r due m T ≡ true
-    → Few r k m → k + line_count T ≤ 22000 + 10002 * (r.limit + 1)
-few r due m [] k f w = let h : k ≤ 22000 + 10002 * (r.limit + 1) = few_over r k Agreed m w in omega (arith, h)
-few r due m (Line S t n ∷ T) k f w =
-    let here : reads m.phase S ≡ true = and_first (reads m.phase S) _ f in
-    let next : Few r (k + 1) (match_after r m (Line S t n)) =
-    line_outcome r S (line_kind t) n m (λ m'. Few r (k + 1) m') here (lines r k S (line_kind t) n m w) in
-    let h : k + 1 + line_count T ≤ 22000 + 10002 * (r.limit + 1) =
-    few r (block r m (match_after r m (Line S t n))) (match_after r m (Line S t n)) T (k + 1)
-    (and_second (reads m.phase S) _ f) next in
-    omega (arith, h)
-few r due m (Opened S n ∷ T) k f w =
-    few r (block r m (match_after r m (Opened S n))) (match_after r m (Opened S n)) T k
-    (and_second (opens m.phase S) _ f)
-    (few_opened r k S n m (and_first (opens m.phase S) _ f) w)
-few r due m (OutputEnds S ∷ T) k f w = few r (block r m (match_after r m (OutputEnds S)))
-    (match_after r m (OutputEnds S)) T k
-    (and_second (fits_next due m (OutputEnds S)) _ f) (few_over r k Agreed m w)
-few r due m (FailsToRead S ∷ T) k f w = few r (block r m (match_after r m (FailsToRead S)))
-    (match_after r m (FailsToRead S)) T k
-    (and_second (fits_next due m (FailsToRead S)) _ f) (few_over r k Agreed m w)
-few r due m (FailsToWrite S ∷ T) k f w = few r (block r m (match_after r m (FailsToWrite S)))
-    (match_after r m (FailsToWrite S)) T k
-    (and_second (fits_next due m (FailsToWrite S)) _ f) (few_over r k Agreed m w)
-
-pub lines_are_few : LinesAreFew
-lines_are_few r T f =
-    let h : 0 + line_count T ≤ 22000 + 10002 * (r.limit + 1) =
-    few r (lines_on_entering r start) start T 0 f (omega arith, omega arith, refl) in omega (arith, h)
+pub lines_are_few : AtEachMoment LinesAreFew
+lines_are_few r H K final g e =
+    let most : ℕ = 22000 + 10002 * (r.limit + 1) in
+    let Q : Match → List Act → Type 0 =
+    λ m H. (k : ℕ) → Few r k m → k + length (lines_read White H) + length (lines_read Black H) ≤ most in
+    let h : 0 + length (lines_read White H) + length (lines_read Black H) ≤ most =
+    by_points r (λ m due H n. Q m H) (record {
+      sends = λ m n b due H p. p;
+      fails = λ m n b due H on q s u p k w. p k (few_over r k m w);
+      fails_late = λ m n b due H o s u p. p;
+      reads = λ m n S t x H aw q s p k w. more_lines S t (lines_read White H) (lines_read Black H) k most
+          (p (k + 1) (lines r k S (line_kind t) x m aw w));
+      opens = λ m n S x H o q p k w. p k (opened r k S x m (subst (λ (y : Phase). FewIn r k y m) o w));
+      output_ends = λ m n S H aw q s u p k w. p k (few_over r k m w);
+      read_fails = λ m n S H aw q s u p k w. p k (few_over r k m w);
+    }) H K final (λ m due q f k w. let l = few_over r k m w in omega (arith, l)) g (λ k. e) 0
+    (omega arith, omega arith, refl) in omega (arith, h)

@@ -1,6 +1,6 @@
 -- What holds of the acts of a match, by the kinds of act.
 use native.Mathlib.Omega.{arith}
-use Rattle.std.proofs.Common.{◌≡◌, ℕ, Bool, true, false, List, [], ◌∷◌, refl, ap, sym, ◌∙◌, subst, Option}
+use Rattle.std.proofs.Common.{◌≡◌, ℕ, Bool, true, false, List, [], ◌∷◌, ◌++◌, refl, ap, sym, ◌∙◌, subst, append-nil, Option}
 use Rattle.std.specs.Prelude.{if◌then◌else◌}
 use Rattle.chess_base.specs.declared.man.Colour.{Colour}
 use Rattle.chess_base.specs.declared.man.Colour.TheVariants.{White}
@@ -10,6 +10,103 @@ use Rattle.chess_match.specs.Effects.{Match, Phase, Opening, effect, beginning}
 use Rattle.chess_match.specs.Events.{Line, Opened, OutputEnds, FailsToRead, FailsToWrite}
 use Rattle.chess_match.specs.Lines.{SentLine}
 use Rattle.chess_match.specs.Rules.{Rules}
+use Rattle.chess_match.specs.laws.OfActs.{ends_in_line, match_after}
+
+-- what holds before each act of a match, of what is due, of the acts up to a moment, and of the match then, if it holds
+-- after the act
+pub record Acts (r : Rules) (P : Match → List Block → List Act → Match → Type 0) : Type 0 where
+  pub sends : (m n : Match) (b : Block) (due : List Block) (H : List Act) → P m due H n → P m (b ∷ due) (Sends b ∷ H) n
+  pub fails : (m n : Match) (b : Block) (due : List Block) (H : List Act) → is_over m.phase ≡ false
+      → P (effect r m (FailsToWrite b.to)).after (blocks_from White (effect r m (FailsToWrite b.to)).to) H n
+      → P m (b ∷ due) (SendFails b ∷ H) n
+  pub fails_late : (m n : Match) (b : Block) (due : List Block) (H : List Act) → is_over m.phase ≡ true → P m due H n
+      → P m (b ∷ due) (SendFails b ∷ H) n
+  pub reads : (m n : Match) (S : Colour) (t : Option (List ℕ)) (k : ℕ) (H : List Act) → awaits_line m.phase S ≡ true
+      → P (effect r m (Line S t k)).after (blocks_after S (effect r m (Line S t k))) H n
+      → P m [] (Reads S t ∷ ReadsClock S k ∷ H) n
+  pub opens : (m n : Match) (S : Colour) (k : ℕ) (H : List Act) → m.phase ≡ Opening S
+      → P (effect r m (Opened S k)).after [] H n → P m [] (ReadsClock S k ∷ H) n
+  pub ends : (m n : Match) (S : Colour) (H : List Act) → awaits_line m.phase S ≡ true
+      → P (effect r m (OutputEnds S)).after (blocks_from White (effect r m (OutputEnds S)).to) H n
+      → P m [] (ReadsEnd S ∷ H) n
+  pub read_fails : (m n : Match) (S : Colour) (H : List Act) → awaits_line m.phase S ≡ true
+      → P (effect r m (FailsToRead S)).after (blocks_from White (effect r m (FailsToRead S)).to) H n
+      → P m [] (ReadFails S ∷ H) n
+
+-- whether these acts begin with a moment
+abbrev pub begins_in_moment : List Act → Bool
+begins_in_moment (ReadsClock S n ∷ H) = true
+begins_in_moment _ = false
+
+-- a line and its moment are not parted
+abbrev pub Uncut : List Act → List Act → Type 0
+Uncut H K = begins_in_moment K ≡ true → ends_in_line H ≡ false
+
+module _ (r : Rules) (P : Match → List Block → List Act → Match → Type 0) (k : Acts r P) (K : List Act) (final : Match)
+    (rest : (m : Match) (due : List Block) → IsMatchFrom r m due K final → P m due [] m) where
+  pub by_acts : (m : Match) (due : List Block) (H : List Act) → IsMatchFrom r m due (H ++ K) final → Uncut H K
+      → P m due H (match_after r m H)
+  by_acts m due [] g e = rest m due g
+  by_acts m (b ∷ due) (Sends s ∷ H) (q, g) e = subst (λ (x : Block). P m (b ∷ due) (Sends x ∷ H) (match_after r m H)) q
+      (k.sends m (match_after r m H) b due H (by_acts m due H g e))
+  by_acts m (b ∷ due) (SendFails s ∷ H) (q, g) e = subst (λ (x : Block). P m (b ∷ due) (SendFails x ∷ H)
+      (let n : Match × List Block = if is_over m.phase then (m, []) else (
+        (effect r m (FailsToWrite x.to)).after,
+        blocks_from White (effect r m (FailsToWrite x.to)).to,
+      ) in match_after r n.0 H)) q
+      (at (is_over m.phase) refl (λ m' due' h. by_acts m' due' H h e)
+      (subst (λ (x : Block). let n : Match × List Block = if is_over m.phase then (m, due) else (
+        (effect r m (FailsToWrite x.to)).after,
+        blocks_from White (effect r m (FailsToWrite x.to)).to,
+      ) in IsMatchFrom r n.0 n.1 (H ++ K) final) (sym q) g))
+    where
+      at : (x : Bool) → is_over m.phase ≡ x
+          → ((m' : Match) (due' : List Block) → IsMatchFrom r m' due' (H ++ K) final
+          → P m' due' H (match_after r m' H))
+          → (let n : Match × List Block = if x then (m, due) else (
+            (effect r m (FailsToWrite b.to)).after,
+            blocks_from White (effect r m (FailsToWrite b.to)).to,
+          ) in IsMatchFrom r n.0 n.1 (H ++ K) final)
+          → (let n : Match × List Block = if x then (m, []) else (
+            (effect r m (FailsToWrite b.to)).after,
+            blocks_from White (effect r m (FailsToWrite b.to)).to,
+          ) in P m (b ∷ due) (SendFails b ∷ H) (match_after r n.0 H))
+      at true o more h = k.fails_late m (match_after r m H) b due H o (more m due h)
+      at false o more h = k.fails m (match_after r (effect r m (FailsToWrite b.to)).after H) b due H o
+          (more (effect r m (FailsToWrite b.to)).after (blocks_from White (effect r m (FailsToWrite b.to)).to) h)
+  by_acts m [] (Reads S t ∷ ReadsClock c n ∷ H) (q, aw, g) e =
+      subst (λ (x : Colour). P m [] (Reads S t ∷ ReadsClock x n ∷ H) (match_after r (effect r m (Line S t n)).after H))
+      (sym q) (k.reads m (match_after r (effect r m (Line S t n)).after H) S t n H aw (by_acts _ _ H g e))
+  by_acts m [] (ReadsClock S n ∷ H) (o, g) e =
+      k.opens m (match_after r (effect r m (Opened S n)).after H) S n H o (by_acts _ [] H g e)
+  by_acts m [] (ReadsEnd S ∷ H) (aw, g) e =
+      k.ends m (match_after r (effect r m (OutputEnds S)).after H) S H aw (by_acts _ _ H g e)
+  by_acts m [] (ReadFails S ∷ H) (aw, g) e =
+      k.read_fails m (match_after r (effect r m (FailsToRead S)).after H) S H aw (by_acts _ _ H g e)
+  by_acts m (b ∷ due) (Reads S t ∷ H) g e = absurd g
+  by_acts m (b ∷ due) (ReadsClock S n ∷ H) g e = absurd g
+  by_acts m (b ∷ due) (ReadsEnd S ∷ H) g e = absurd g
+  by_acts m (b ∷ due) (ReadFails S ∷ H) g e = absurd g
+  by_acts m [] (Sends s ∷ H) g e = absurd g
+  by_acts m [] (SendFails s ∷ H) g e = absurd g
+  by_acts m [] (Reads S t ∷ []) g e = cut K g e
+    where
+      cut : (J : List Act) → IsMatchFrom r m [] (Reads S t ∷ J) final → (begins_in_moment J ≡ true → true ≡ false)
+          → P m [] (Reads S t ∷ []) m
+      cut [] g e = absurd g
+      cut (ReadsClock c n ∷ J) g e = let no : true ≡ false = e refl in absurd cc
+      cut (Sends b ∷ J) g e = absurd g
+      cut (SendFails b ∷ J) g e = absurd g
+      cut (Reads c u ∷ J) g e = absurd g
+      cut (ReadsEnd c ∷ J) g e = absurd g
+      cut (ReadFails c ∷ J) g e = absurd g
+  by_acts m [] (Reads S t ∷ Sends s ∷ H) g e = absurd g
+  by_acts m [] (Reads S t ∷ SendFails s ∷ H) g e = absurd g
+  by_acts m [] (Reads S t ∷ Reads c u ∷ H) g e = absurd g
+  by_acts m [] (Reads S t ∷ ReadsEnd c ∷ H) g e = absurd g
+  by_acts m [] (Reads S t ∷ ReadFails c ∷ H) g e = absurd g
+
+-- ---- a whole match
 
 -- what holds of a match and what is due follows from what holds after each kind of act
 pub record Cases (r : Rules) (final : Match) (P : Match → List Block → List Act → Type 0) : Type 0 where
@@ -34,54 +131,19 @@ pub record Cases (r : Rules) (final : Match) (P : Match → List Block → List 
 
 pub by_cases : (r : Rules) (final : Match) (P : Match → List Block → List Act → Type 0) → Cases r final P → (m : Match)
     (due : List Block) (H : List Act) → IsMatchFrom r m due H final → P m due H
-by_cases r final P k m (b ∷ due) (Sends s ∷ H) (e, g) =
-    subst (λ (x : Block). P m (b ∷ due) (Sends x ∷ H)) e (k.sends m b due H (by_cases r final P k m due H g))
-by_cases r final P k m (b ∷ due) (SendFails s ∷ H) (e, g) =
-    subst (λ (x : Block). P m (b ∷ due) (SendFails x ∷ H)) e
-    (at (is_over m.phase) refl (λ m' due' h. by_cases r final P k m' due' H h)
-    (subst (λ (x : Block). let n : Match × List Block = if is_over m.phase then (m, due) else (
-      (effect r m (FailsToWrite x.to)).after,
-      blocks_from White (effect r m (FailsToWrite x.to)).to,
-    ) in IsMatchFrom r n.0 n.1 H final) (sym e) g))
+by_cases r final P k m due H g = by_acts r (λ m due H n. P m due H) (record {
+  sends = λ m n. k.sends m;
+  fails = λ m n. k.fails m;
+  fails_late = λ m n. k.fails_late m;
+  reads = λ m n. k.reads m;
+  opens = λ m n. k.opens m;
+  ends = λ m n. k.ends m;
+  read_fails = λ m n. k.read_fails m;
+}) [] final at m due H (subst (λ (K : List Act). IsMatchFrom r m due K final) (sym (append-nil H)) g) (λ cut. absurd cc)
   where
-    at : (x : Bool) → is_over m.phase ≡ x
-        → ((m' : Match) (due' : List Block) → IsMatchFrom r m' due' H final → P m' due' H)
-        → (let n : Match × List Block = if is_over m.phase then (m, due) else (
-          (effect r m (FailsToWrite b.to)).after,
-          blocks_from White (effect r m (FailsToWrite b.to)).to,
-        ) in IsMatchFrom r n.0 n.1 H final) → P m (b ∷ due) (SendFails b ∷ H)
-    at true o more h = k.fails_late m b due H o (more m due
-        (subst (λ (x : Bool). let n : Match × List Block = if x then (m, due) else (
-          (effect r m (FailsToWrite b.to)).after,
-          blocks_from White (effect r m (FailsToWrite b.to)).to,
-        ) in IsMatchFrom r n.0 n.1 H final) o h))
-    at false o more h = k.fails m b due H o (more (effect r m (FailsToWrite b.to)).after
-        (blocks_from White (effect r m (FailsToWrite b.to)).to)
-        (subst (λ (x : Bool). let n : Match × List Block = if x then (m, due) else (
-          (effect r m (FailsToWrite b.to)).after,
-          blocks_from White (effect r m (FailsToWrite b.to)).to,
-        ) in IsMatchFrom r n.0 n.1 H final) o h))
-by_cases r final P k m [] (Reads S t ∷ ReadsClock c n ∷ H) (e, aw, g) =
-    subst (λ (x : Colour). P m [] (Reads S t ∷ ReadsClock x n ∷ H)) (sym e)
-    (k.reads m S t n H aw (by_cases r final P k _ _ H g))
-by_cases r final P k m [] (ReadsClock S n ∷ H) (o, g) = k.opens m S n H o (by_cases r final P k _ [] H g)
-by_cases r final P k m [] (ReadsEnd S ∷ H) (aw, g) = k.ends m S H aw (by_cases r final P k _ _ H g)
-by_cases r final P k m [] (ReadFails S ∷ H) (aw, g) = k.read_fails m S H aw (by_cases r final P k _ _ H g)
-by_cases r final P k m [] [] (o, e) =
-    subst (λ (x : Match). P x [] []) e (k.over (ap (λ (x : Match). is_over x.phase) e ∙ o))
-by_cases r final P k m (b ∷ due) [] g = absurd g
-by_cases r final P k m (b ∷ due) (Reads S t ∷ H) g = absurd g
-by_cases r final P k m (b ∷ due) (ReadsClock S n ∷ H) g = absurd g
-by_cases r final P k m (b ∷ due) (ReadsEnd S ∷ H) g = absurd g
-by_cases r final P k m (b ∷ due) (ReadFails S ∷ H) g = absurd g
-by_cases r final P k m [] (Sends s ∷ H) g = absurd g
-by_cases r final P k m [] (SendFails s ∷ H) g = absurd g
-by_cases r final P k m [] (Reads S t ∷ []) g = absurd g
-by_cases r final P k m [] (Reads S t ∷ Sends s ∷ H) g = absurd g
-by_cases r final P k m [] (Reads S t ∷ SendFails s ∷ H) g = absurd g
-by_cases r final P k m [] (Reads S t ∷ Reads c u ∷ H) g = absurd g
-by_cases r final P k m [] (Reads S t ∷ ReadsEnd c ∷ H) g = absurd g
-by_cases r final P k m [] (Reads S t ∷ ReadFails c ∷ H) g = absurd g
+    at : (m : Match) (due : List Block) → IsMatchFrom r m due [] final → P m due []
+    at m [] (o, e) = subst (λ (x : Match). P x [] []) e (k.over (ap (λ (x : Match). is_over x.phase) e ∙ o))
+    at m (b ∷ due) g = absurd g
 
 -- ---- nothing is read after an end
 

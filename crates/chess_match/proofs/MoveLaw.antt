@@ -1,48 +1,34 @@
 -- An engine is sent the other's moves, each once and in order.
-use mathlib.Core.Bool.{or-false}
-use Rattle.std.proofs.Common.{◌≡◌, ℕ, ◌+◌, ◌-◌, ◌<◌, Bool, true, false, ◌||◌, List, [], ◌∷◌, ◌++◌, length, length-append, refl, ap, sym, subst, ◌∙◌, append-nil, append_assoc, Option, None, Some, arith}
-use Rattle.std.specs.Prelude.{if◌then◌else◌, nat_lt, codes, is_some}
+use Rattle.std.proofs.Common.{◌≡◌, ℕ, ◌+◌, ◌≤◌, ◌<◌, Bool, true, false, List, [], ◌∷◌, ◌++◌, length, length-append, refl, ap, sym, subst, ◌∙◌, append-nil, append_assoc, lt-ltb, Option, arith}
+use Rattle.std.specs.Prelude.{if◌then◌else◌, nat_lt, codes}
 use Rattle.std.specs.List.{flat_map}
-use Rattle.std.proofs.lemmas.Bool.{lt-ltb}
 use Rattle.std.proofs.lemmas.Grind.{flat_map-append}
 use Rattle.chess_base.specs.declared.man.Colour.{Colour}
 use Rattle.chess_base.specs.declared.man.Colour.TheVariants.{White, Black}
 use Rattle.chess_base.specs.declared.man.Move.{Move}
 use Rattle.chess_base.specs.Men.{other, same_colour}
-use Rattle.chess_game.specs.declared.verdicts.Verdict.{Verdict}
-use Rattle.cecp_engine.specs.EngineLines.{LineKind, line_kind}
-use Rattle.cecp_engine.specs.Items.{Item, takes}
-use Rattle.chess_match.specs.laws.Laws.{move_sent, moves_sent, texts_from, move_texts, owed_to, MovesAreSent, AllMovesAreSent, sent, ending_in}
-use Rattle.chess_match.specs.laws.Machine.{Match, seat, take_items, start, over, open_turn, played_by, match_after}
-use Rattle.chess_match.specs.Events.{Event, Line, Opened, OutputEnds, FailsToRead, FailsToWrite}
-use Rattle.chess_match.specs.Rules.{Rules}
-use Rattle.chess_match.specs.Lines.{SentLine, setup_lines}
-use Rattle.chess_match.specs.laws.Blocks.{block, lines_on_entering, entry_to, is_same_phase, opening_lines, last_move_sent, last_move_lines, clock_lines, end_lines, unsent_lines}
+use Rattle.chess_base.specs.Options.{list_if}
+use Rattle.chess_base.proofs.shared.Men.{same_colour-self, same_colour-true}
+use Rattle.cecp_engine.specs.EngineLines.{line_kind}
+use Rattle.cecp_engine.specs.Items.{takes}
+use Rattle.chess_match.specs.Acts.{Act, Block, IsMatch, IsMatchFrom, Sends, SendFails, Reads, ReadsEnd, ReadFails, ReadsClock, awaits_line, is_over}
+use Rattle.chess_match.specs.ByDevice.{broken_blocks, is_broken, lines_sent}
+use Rattle.chess_match.specs.Effects.{Match, Phase, Handshake, Setup, Opening, BeforeMove, AfterMove, Over, begins_turn, beginning, effect, ends, enter, is_owed, line_row, moved, opening}
+use Rattle.chess_match.specs.Events.{Line}
+use Rattle.chess_match.specs.Lines.{SentLine}
 use Rattle.chess_match.specs.Reasons.{is_unwritten}
-use Rattle.chess_match.specs.laws.Transcript.{is_on, reads, match_of, fits, fits_next, fits_from, is_fault, blocks_from, joined_blocks, has_fault}
-use Rattle.chess_match.specs.declared.phase.Phase.{Phase}
-use Rattle.chess_match.specs.declared.phase.Phase.TheVariants.{Handshake, Setup, SendTurn, AwaitMove, AwaitPong, Over}
+use Rattle.chess_match.specs.Rules.{Rules}
+use Rattle.chess_match.specs.declared.reason.MatchFault.TheVariants.{Write}
 use Rattle.chess_match.specs.declared.reason.Reason.{Reason}
-use Rattle.chess_match.specs.declared.reason.Reason.TheVariants.{Decided, Faulted}
-use Rattle.chess_match.specs.declared.reason.MatchFault.TheVariants.{Ended, Read, Write}
-use Rattle.chess_match.proofs.Blocks.{if_nil}
-use Rattle.chess_match.proofs.LastBlocks.{no_write}
-use Rattle.chess_match.proofs.LinesOfOneKind.{InOpenings, gathered, now, unsent}
-use Rattle.chess_match.proofs.Outcomes.{Lines, InTurn, line_outcome, and_first, and_second, fits_on}
-use Rattle.chess_match.proofs.Going.{is_opening, leaves, opens_at, reads_on, reads_stays}
-use Rattle.chess_match.proofs.Seats.{items_same}
-use Rattle.chess_match.specs.ties.Steps.{match_from}
+use Rattle.chess_match.specs.declared.reason.Reason.TheVariants.{Faulted}
+use Rattle.chess_match.specs.laws.Laws.{move_sent, moves_sent, texts_from}
+use Rattle.chess_match.specs.laws.OfActs.{AllMovesAreSent, AtEachLine, AtEachMoment, InEachMatch, IsSentAllMoves, MovesAreSent, MovesSentAreKnown, lines_given, match_after, others_moves}
+use Rattle.chess_match.proofs.Givings.{Gives, Goes, Sofar, given_at, grows, keeps, sends}
+use Rattle.chess_match.proofs.LineCases.{line_cases, offering, said_by}
+use Rattle.chess_match.proofs.MatchCases.{Uncut, both_not, on_when_read}
+use Rattle.chess_match.proofs.Points.{Kept, by_points, whole, mover, moved_items, offered_items, turn_in, turns_of}
 
--- ---- who moves
-
--- who is on move after these moves, which c begins
-abbrev pub mover : Colour → List Move → Colour
-mover c [] = c
-mover c (m ∷ ms) = mover (other c) ms
-
-pub mover-snoc : (c : Colour) (ms : List Move) (m : Move) → mover c (ms ++ m ∷ []) ≡ other (mover c ms)
-mover-snoc c [] m = refl
-mover-snoc c (x ∷ ms) m = mover-snoc (other c) ms m
+-- ---- texts of moves
 
 texts-snoc : (r : Rules) (as_san : Bool) (S c : Colour) (before ms : List Move) (m : Move)
     → texts_from r as_san S c before (ms ++ m ∷ [])
@@ -56,401 +42,297 @@ texts-snoc r as_san S c before (x ∷ ms) m =
     (texts_from r as_san S (other c) (before ++ x ∷ []) ms)
     (if same_colour (mover (other c) ms) S then r.move_text as_san (before ++ (x ∷ (ms ++ m ∷ []))) ∷ [] else [])))
 
--- ---- what is so of every match
-
--- no move is played before the first turn; a turn is of the side on move, which was sent the last move in its opening,
--- and whose move is still to be sent to the other once it has moved
-abbrev pub OrderlyIn : Colour → Phase → List Move → Option Colour → Type 0
-OrderlyIn first (Handshake c) played unsent_to = (played ≡ []) × (unsent_to ≡ None)
-OrderlyIn first (Setup c) played unsent_to = (played ≡ []) × (unsent_to ≡ None)
-OrderlyIn first (SendTurn c) played unsent_to = (mover first played ≡ c) × (unsent_to ≡ None)
-OrderlyIn first (AwaitMove c) played unsent_to = (mover first played ≡ c) × (unsent_to ≡ None)
-OrderlyIn first (AwaitPong c) played unsent_to = (mover first played ≡ other c) × (unsent_to ≡ Some (other c))
-    × (0 < length played)
-OrderlyIn first (Over reason) played unsent_to = Unit {0}
-
-abbrev pub Orderly : Rules → Match → Type 0
-Orderly r m = OrderlyIn r.first m.phase m.played m.unsent_to
-
-pub orderly_in : (r : Rules) (m : Match) (p : Phase) → m.phase ≡ p → Orderly r m
-    → OrderlyIn r.first p m.played m.unsent_to
-orderly_in r m p e o = subst (λ (q : Phase). OrderlyIn r.first q m.played m.unsent_to) e o
-
--- ---- what a phase says of moves
-
-abbrev last_text : Rules → Match → Colour → List (List ℕ)
-last_text r m O = r.move_text (takes (codes "san") (seat m O).items) m.played ∷ []
-
-abbrev unsent_by : Rules → Colour → List Item → List Move → Option Colour → List (List ℕ)
-unsent_by r O items ms None = []
-unsent_by r O items ms (Some c) = if same_colour c O then r.move_text (takes (codes "san") items) ms ∷ [] else []
-
-abbrev unsent_text : Rules → Match → Colour → Option Colour → List (List ℕ)
-unsent_text r m O unsent_to = unsent_by r O (seat m O).items m.played unsent_to
-
-abbrev entry_moves : Rules → Match → Colour → Phase → List (List ℕ)
-entry_moves r m O (Handshake c) = []
-entry_moves r m O (Setup c) = []
-entry_moves r m O (SendTurn c) = if same_colour c O then (if nat_lt 0 (length m.played) then last_text r m O else [])
-    else []
-entry_moves r m O (AwaitMove c) = []
-entry_moves r m O (AwaitPong c) = []
-entry_moves r m O (Over reason) = if is_unwritten reason O then [] else unsent_text r m O m.unsent_to
-
-setup_moves : (r : Rules) → moves_sent (setup_lines r) ≡ []
-unfolding setup_lines
-setup_moves r = grind arith
-
-clock_moves : (r : Rules) (m : Match) (O : Colour) → moves_sent (clock_lines r m O) ≡ []
-unfolding clock_lines
-clock_moves r m O = grind arith
-
-last_moves : (r : Rules) (m : Match) (O : Colour) → moves_sent (last_move_lines r m O)
-    ≡ (if nat_lt 0 (length m.played) then last_text r m O else [])
-unfolding last_move_sent
-last_moves r m O = grind arith
-
-opening_moves : (r : Rules) (m : Match) (O : Colour) → moves_sent (opening_lines r m O)
-    ≡ (if nat_lt 0 (length m.played) then last_text r m O else [])
-unfolding opening_lines
-opening_moves r m O = grind (arith, flat_map-append, clock_moves r m O, last_moves r m O, append-nil)
-
-unsent_moves : (r : Rules) (m : Match) (O : Colour) (unsent_to : Option Colour)
-    → moves_sent (unsent_lines r m O unsent_to) ≡ unsent_text r m O unsent_to
-unfolding last_move_sent
-unsent_moves r m O unsent_to = grind arith
-
-end_moves : (r : Rules) (m : Match) (O : Colour) (reason : Reason) → moves_sent (end_lines r m O reason)
-    ≡ unsent_text r m O m.unsent_to
-unfolding end_lines
-end_moves r m O reason = flat_map-append move_sent (unsent_lines r m O m.unsent_to) _
-    ∙ append-nil (flat_map move_sent (unsent_lines r m O m.unsent_to)) ∙ unsent_moves r m O m.unsent_to
-
-entry_sent : (r : Rules) (m : Match) (O : Colour) (p : Phase) → moves_sent (entry_to r m O p) ≡ entry_moves r m O p
-entry_sent r m O p = grind (arith, setup_moves r, opening_moves r m O, end_moves r m O)
-
--- ---- one event
-
-abbrev all_texts : Rules → Match → Colour → List (List ℕ)
-all_texts r m O = move_texts r m O (other O)
-
--- where a match goes to m' from a phase, what was sent before, what is sent now, and what is owed then are the other's
--- moves
-abbrev AreSent : Rules → List (List ℕ) → Colour → Bool → Phase → Match → Type 0
-AreSent r X O failed p m' = (X ++ (if is_same_phase p m'.phase then [] else entry_moves r m' O m'.phase))
-    ++ owed_to r m' O m'.unsent_to failed ≡ all_texts r m' O
-
-owed_on : (r : Rules) (m : Match) (O : Colour) (unsent_to : Option Colour) (failed : Bool) → is_on m.phase ≡ true
-    → owed_to r m O unsent_to failed ≡ unsent_text r m O unsent_to
-owed_on r m O unsent_to failed h1 = grind arith
-
--- nothing is sent on the way into this phase
-quiet_sent : (r : Rules) (X : List (List ℕ)) (O : Colour) (p : Phase) (m' : Match) → entry_moves r m' O m'.phase ≡ []
-    → is_on m'.phase ≡ true
-    → X ++ unsent_text r m' O m'.unsent_to ≡ all_texts r m' O → AreSent r X O false p m'
-quiet_sent r X O p m' none on h = rw (
-  if_nil (is_same_phase p m'.phase) (entry_moves r m' O m'.phase) none,
-  append-nil
-      X,
-  owed_on r m' O m'.unsent_to false on,
-) h
-
--- what is owed is sent where the match is over, unless a write failed
-ended_sent : (r : Rules) (X A : List (List ℕ)) (O : Colour) (failed : Bool) (reason : Reason) (m : Match)
-    (unsent_to : Option Colour) → X ++ unsent_text r (over reason m) O unsent_to ≡ A
-    → (X ++ (if failed then [] else unsent_text r (over reason m) O unsent_to))
-    ++ owed_to r (over reason m) O unsent_to failed ≡ A
-ended_sent r X A O failed reason m unsent_to h = grind (arith, append-nil)
-
-over_sent : (r : Rules) (X : List (List ℕ)) (O : Colour) (failed : Bool) (p : Phase) (reason : Reason) (m : Match)
-    → is_same_phase p (Over reason) ≡ false
-    → is_unwritten reason O ≡ failed → X ++ unsent_text r (over reason m) O m.unsent_to
-    ≡ all_texts r (over reason m) O → AreSent r X O failed p (over reason m)
-over_sent r X O failed p reason m out u h =
-    rw (out, u) (ended_sent r X (all_texts r (over reason m) O) O failed reason m m.unsent_to h)
-
--- ---- what was sent before is carried on
-
-abbrev SofarBy : Rules → List (List ℕ) → Colour → List Item → List Move → Option Colour → Type 0
-SofarBy r X O items ms unsent_to = X ++ unsent_by r O items ms unsent_to
-    ≡ texts_from r (takes (codes "san") items) (other O) r.first [] ms
-
-abbrev Sofar : Rules → List (List ℕ) → Colour → Match → Type 0
-Sofar r X O m = SofarBy r X O (seat m O).items m.played m.unsent_to
-
-carried : (r : Rules) (X : List (List ℕ)) (O : Colour) (m m' : Match) → m'.played ≡ m.played → m'.unsent_to
-    ≡ m.unsent_to → m'.white.items ≡ m.white.items → m'.black.items ≡ m.black.items
-    → Sofar r X O m → Sofar r X O m'
-carried r X O m m' p u w b h =
-    rw (p, u, items_same m m' w b O) h
-
--- nothing is sent, and nothing was, where no move is current
-fresh : (r : Rules) (X : List (List ℕ)) (O : Colour) (m m' : Match) → m.played ≡ [] → m.unsent_to ≡ None
-    → m'.played ≡ [] → m'.unsent_to ≡ None → Sofar r X O m → Sofar r X O m'
-fresh r X O m m' p u p' u' h =
-    let none : X ++ [] ≡ [] = at m.played m.unsent_to p u h in rw (p', u') none
+texts-length : (r : Rules) (as_san : Bool) (C c : Colour) (before ms : List Move)
+    → length (texts_from r as_san C c before ms) ≡ turns_of C c ms
+texts-length r as_san C c before [] = refl
+texts-length r as_san C c before (m ∷ ms) =
+    length-append (if same_colour c C then r.move_text as_san (before ++ m ∷ []) ∷ [] else [])
+    (texts_from r as_san C (other c) (before ++ m ∷ []) ms)
+    ∙ ap (λ (n : ℕ). length (if same_colour c C then r.move_text as_san (before ++ m ∷ []) ∷ [] else []) + n)
+    (texts-length r as_san C (other c) (before ++ m ∷ []) ms)
+    ∙ ap (λ (n : ℕ). n + turns_of C (other c) ms) (at (same_colour c C))
   where
-    at : (ms : List Move) (unsent_to : Option Colour) → ms ≡ [] → unsent_to ≡ None
-        → SofarBy r X O (seat m O).items ms unsent_to → X ++ [] ≡ []
-    at [] None p u h = h
-    at [] (Some c) p u h = cc
-    at (x ∷ ms) unsent_to p u h = cc
+    at : (b : Bool) → length (if b then r.move_text as_san (before ++ m ∷ []) ∷ [] else []) ≡ (if b then 1 else 0)
+    at true = refl
+    at false = refl
 
--- S's move is played, and is still to be sent to the other
-moved : (r : Rules) (X : List (List ℕ)) (S O : Colour) (items : List Item) (ms : List Move) (move : Move)
-    → mover r.first ms ≡ S → SofarBy r X O items ms None
-    → SofarBy r X O items (ms ++ move ∷ []) (Some (other S))
-moved r X S O items ms move e h =
-    grind (arith, texts-snoc r (takes (codes "san") items) (other O) r.first [] ms move, append-nil)
+-- ---- what a match still owes
 
-pub some_move : (ms : List Move) (move : Move) → 0 < length (ms ++ move ∷ [])
-some_move ms move = let l : length (ms ++ move ∷ []) ≡ length ms + 1 = length-append ms (move ∷ []) in omega (arith, l)
+-- the text of the last move, as a list of one
+abbrev last_text : Rules → Colour → Match → List (List ℕ)
+last_text r O m = r.move_text (takes (codes "san") (m.seat O).items) m.played ∷ []
 
--- ---- the lines
+-- in this phase `rest` is what O is still to be sent
+abbrev OwedIn : Colour → List (List ℕ) → Phase → List (List ℕ) → Type 0
+OwedIn O text (AfterMove c) rest = rest ≡ (if same_colour (other c) O then text else [])
+OwedIn O text (Over reason) rest = is_unwritten reason O ≡ false → rest ≡ []
+OwedIn O text p rest = rest ≡ []
 
-abbrev Goes : Rules → List (List ℕ) → Colour → Match → Match → Type 0
-Goes r X O m m' = AreSent r X O false m.phase m' × Orderly r m'
+abbrev all_texts : Rules → Colour → Match → List (List ℕ)
+all_texts r O m = others_moves r O (m.seat O).items m.played
 
-played_goes : (r : Rules) (X : List (List ℕ)) (S O : Colour) (move : Move) (used : ℕ) (m : Match) → m.phase
-    ≡ AwaitMove S → Orderly r m → Sofar r X O m
-    → Sofar r X O (played_by S move used m)
-played_goes r X White White move used m p o h =
-    moved r X White White m.white.items m.played move (orderly_in r m (AwaitMove White) p o).0
-    (rw (orderly_in r m (AwaitMove White) p o).1 at h)
-played_goes r X White Black move used m p o h =
-    moved r X White Black m.black.items m.played move (orderly_in r m (AwaitMove White) p o).0
-    (rw (orderly_in r m (AwaitMove White) p o).1 at h)
-played_goes r X Black White move used m p o h =
-    moved r X Black White m.white.items m.played move (orderly_in r m (AwaitMove Black) p o).0
-    (rw (orderly_in r m (AwaitMove Black) p o).1 at h)
-played_goes r X Black Black move used m p o h =
-    moved r X Black Black m.black.items m.played move (orderly_in r m (AwaitMove Black) p o).0
-    (rw (orderly_in r m (AwaitMove Black) p o).1 at h)
+abbrev Owed : Rules → Colour → Match → List (List ℕ) → Type 0
+Owed r O m rest = OwedIn O (last_text r O m) m.phase rest
 
-plays_goes : (r : Rules) (X : List (List ℕ)) (S O : Colour) (move : Move) (used : ℕ) (m : Match) → m.phase ≡ AwaitMove S
-    → Orderly r m → Sofar r X O m → Goes r X O m (played_by S move used m)
-plays_goes r X S O move used m p o h =
-    grind (
-      arith,
-      append-nil,
-      p,
-      (orderly_in r m (AwaitMove S) p o).0,
-      played_goes r X S O move used m p o h,
-      mover-snoc r.first m.played move,
-      some_move m.played move,
-    )
+owed_in : (r : Rules) (O : Colour) (m : Match) (p : Phase) (rest : List (List ℕ)) → m.phase ≡ p → Owed r O m rest
+    → OwedIn O (last_text r O m) p rest
+owed_in r O m p rest e h = subst (λ (q : Phase). OwedIn O (last_text r O m) q rest) e h
 
-decides_goes : (r : Rules) (X : List (List ℕ)) (S O : Colour) (move : Move) (used : ℕ) (v : Verdict) (m : Match)
-    → m.phase ≡ AwaitMove S → Orderly r m → Sofar r X O m
-    → Goes r X O m (over (Decided v) (played_by S move used m))
-decides_goes r X S O move used v m p o h = (
-  over_sent r X O false m.phase (Decided v) (played_by S move used m) (rw p refl) refl
-      (carried r X O (played_by S move used m) (over (Decided v) (played_by S move used m)) refl refl refl refl
-      (played_goes r X S O move used m p o h)),
-  tt,
-)
+opening_moves : (r : Rules) (m : Match) (S : Colour) → moves_sent (opening r m S)
+    ≡ (if nat_lt 0 (length m.played) then last_text r S m else [])
+opening_moves r m S = grind (arith, flat_map-append, append-nil)
 
--- the turn passes to the other side, whose opening has the last move
-opening_sent : (r : Rules) (X : List (List ℕ)) (O c : Colour) (items : List Item) (ms : List Move) → 0 < length ms
-    → SofarBy r X O items ms (Some c)
-    → X ++ (if same_colour c O then (if nat_lt 0 (length ms) then r.move_text (takes (codes "san") items) ms ∷ []
-    else []) else []) ≡ texts_from r (takes (codes "san") items) (other O) r.first [] ms
-opening_sent r X O c items ms some h = rw (lt-ltb 0 (length ms) some) h
+end_moves : (r : Rules) (m : Match) (reason : Reason) (O : Colour) → moves_sent ((ends r reason m).to O)
+    ≡ (if is_unwritten reason O then [] else if is_owed m.phase O then last_text r O m else [])
+end_moves r m reason O = grind arith
 
-passes_sent : (r : Rules) (X : List (List ℕ)) (O c : Colour) (items : List Item) (m m' : Match) → (seat m' O).items
-    ≡ items → m'.played ≡ m.played → m'.unsent_to ≡ None → m'.phase ≡ SendTurn c
-    → 0 < length m.played → is_same_phase m.phase (SendTurn c) ≡ false → SofarBy r X O items m.played (Some c)
-    → AreSent r X O false m.phase m'
-passes_sent r X O c items m m' i p u e some out h =
-    rw (e, u, p, i, out) (append-nil (X ++ (if same_colour c O
-    then (if nat_lt 0 (length m.played) then r.move_text (takes (codes "san") items) m.played ∷ [] else [])
-    else []))
-    ∙ opening_sent r X O c items m.played some h)
+owed_on : (O : Colour) (text : List (List ℕ)) (p : Phase) (rest : List (List ℕ)) → is_over p ≡ false
+    → OwedIn O text p rest → rest ≡ (if is_owed p O then text else [])
+owed_on O text p rest h1 h2 = grind arith
 
-passes_goes : (r : Rules) (X : List (List ℕ)) (S O : Colour) (m : Match) → m.phase ≡ AwaitPong S → Orderly r m
-    → Sofar r X O m → Goes r X O m (open_turn (other S) m)
-passes_goes r X S O m p o h =
-    let known = orderly_in r m (AwaitPong S) p o in (
-      passes_sent r X O (other S) (seat m O).items m (open_turn (other S) m)
-          (items_same m (open_turn (other S) m) refl refl O) refl refl refl known.2 (rw p refl) (rw known.1 at h),
-      (known.0, refl),
-    )
-
--- before the first move
-
-handshake_counts : (r : Rules) (X : List (List ℕ)) (S O : Colour) (items : List Item) (m : Match)
-    → reads m.phase S ≡ true → (m.played ≡ []) × (m.unsent_to ≡ None) → Orderly r m → Sofar r X O m
-    → (let m' = take_items S items m in Goes r X O m (record m' { count = m.count + 1 }))
-handshake_counts r X S O items m here k o h =
-    grind (arith, append-nil, reads_stays m.phase S here, reads_on m.phase S here, h, o, k.0, k.1)
-
-none_sent : (c O : Colour) (t : List (List ℕ)) (ms : List Move) → ms ≡ []
-    → (if same_colour c O then (if nat_lt 0 (length ms) then t else []) else []) ≡ []
-none_sent c O t ms e = rw e (if_nil (same_colour c O) [] refl)
-
-setup_opens : (r : Rules) (X : List (List ℕ)) (O : Colour) (m : Match) → (m.played ≡ []) × (m.unsent_to ≡ None)
-    → Sofar r X O m → Goes r X O m (open_turn r.first m)
-setup_opens r X O m k h = (
-  quiet_sent r X O m.phase (open_turn r.first m)
-      (none_sent r.first O (last_text r (open_turn r.first m) O) m.played k.0) refl
-      (fresh r X O m (open_turn r.first m) k.0 k.1 k.0 refl h),
-  (rw (k.0) refl, refl),
-)
-
-lines_go : (r : Rules) (X : List (List ℕ)) (S O : Colour) (kind : LineKind) (moment : ℕ) (m : Match) → reads m.phase S
-    ≡ true → Orderly r m → Sofar r X O m
-    → Lines r S kind moment m (λ m'. Goes r X O m m')
-lines_go r X S O kind moment m here o h =
-    let stay : is_same_phase m.phase m.phase ≡ true = reads_stays m.phase S here in
-    let on : is_on m.phase ≡ true = reads_on m.phase S here in
-    let row : InTurn r S kind m (λ m'. Goes r X O m m') = record {
-      ends = λ reason n. grind (arith, append-nil, leaves m.phase reason on, n O, h);
-      counts = λ none few. grind (arith, append-nil, stay, on, o, h);
-      offers = λ none own theirs. grind (arith, append-nil, stay, on, o, h);
-    } in
-    record {
-      handshake_ends = λ p d. grind (arith, append-nil, p, o, h);
-      handshake_counts = λ p d few. grind (arith, append-nil, stay, on, p, o, h);
-      handshake_next = λ p s d. grind (arith, append-nil, p, o, h);
-      handshake_judged = λ p s d c f mild. grind (arith, append-nil, p, o, h);
-      handshake_done = λ p s d. grind (arith, append-nil, p, o, h);
-      setup_ends = λ p reason n. grind (arith, append-nil, leaves m.phase reason on, n O, h);
-      setup_counts = λ p pong few. grind (arith, append-nil, stay, on, o, h);
-      setup_next = λ p s pong. grind (arith, append-nil, p, o, h);
-      setup_done = λ p s pong undecided. setup_opens r X O m (orderly_in r m (Setup Black) p o) h;
-      before = λ p. record {
-        row = row;
-        plays = λ text move is reading room timely undecided. plays_goes r X S O move (moment - m.opened) m p o h;
-        decides = λ text move v is reading room timely. decides_goes r X S O move (moment - m.opened) v m p o h;
-      };
-      after = λ p. record { row = row; passes = λ none. passes_goes r X S O m p o h };
-    }
-
-step_goes : (r : Rules) (X : List (List ℕ)) (O : Colour) (due : Colour → List SentLine) (m : Match) (e : Event)
-    → fits_next due m e ≡ true → Orderly r m → Sofar r X O m
-    → AreSent r X O (is_fault Write O e) m.phase (match_after r m e) × Orderly r (match_after r m e)
-step_goes r X O due m (Line S t n) f o h =
-    line_outcome r S (line_kind t) n m (λ m'. Goes r X O m m') f (lines_go r X S O (line_kind t) n m f o h)
-step_goes r X O due m (Opened S n) f o h = (
-  quiet_sent r X O m.phase (record m { phase = AwaitMove S; opened = n }) refl refl
-      (carried r X O m (record m { phase = AwaitMove S; opened = n }) refl refl refl refl h),
-  orderly_in r m (SendTurn S) (opens_at m.phase S f) o,
-)
-step_goes r X O due m (OutputEnds S) f o h = faulted (Faulted S Ended) (reads_on m.phase S f) refl
+stops : (r : Rules) (O : Colour) (m : Match) (reason : Reason) (rest : List (List ℕ)) → is_over m.phase ≡ false
+    → length rest ≤ 1 → Owed r O m rest
+    → Goes (all_texts r O) (Owed r O) m rest (moves_sent ((ends r reason m).to O)) (ends r reason m).after
+stops r O m reason rest on l h =
+    rw (end_moves r m reason O, sym (owed_on O (last_text r O m) m.phase rest on h)) (at (is_unwritten reason O) refl)
   where
-    faulted : (reason : Reason) → is_on m.phase ≡ true → is_unwritten reason O ≡ false
-        → AreSent r X O false m.phase (over reason m) × Unit {0}
-    faulted reason on n = (
-      over_sent r X O false m.phase reason m (leaves m.phase reason on) n
-          (carried r X O m (over reason m) refl refl refl refl h),
-      tt,
-    )
-step_goes r X O due m (FailsToRead S) f o h = (
-  over_sent r X O false m.phase (Faulted S Read) m (leaves m.phase (Faulted S Read) (reads_on m.phase S f)) refl
-      (carried r X O m (over (Faulted S Read) m) refl refl refl refl h),
-  tt,
-)
-step_goes r X O due m (FailsToWrite S) f o h = (
-  over_sent r X O (same_colour S O) m.phase (Faulted S Write) m
-      (leaves m.phase (Faulted S Write) (and_first (is_on m.phase) _ f)) refl
-      (carried r X O m (over (Faulted S Write) m) refl refl refl refl h),
-  tt,
-)
+    n : Match
+    n = (ends r reason m).after
 
--- ---- the transcript
+    at : (b : Bool) → is_unwritten reason O ≡ b
+        → Goes (all_texts r O) (Owed r O) m rest (if b then [] else rest) (ends r reason m).after
+    at true e = sends (all_texts r O) (Owed r O) m n rest [] rest l refl refl (λ w. both_not (is_unwritten reason O) w e)
+    at false e = sends (all_texts r O) (Owed r O) m n rest rest [] l (sym (append-nil rest)) refl (λ w. refl)
 
-moves_in_openings : InOpenings move_sent
-moves_in_openings r m O p e on = entry_sent r m O p ∙ at p e on
+-- a turn begins
+begins : (r : Rules) (O c : Colour) (m : Match) (rest : List (List ℕ)) → length rest ≤ 1
+    → rest ≡ (if same_colour c O then (if nat_lt 0 (length m.played) then last_text r O m else []) else [])
+    → Goes (all_texts r O) (Owed r O) m rest (moves_sent ((begins_turn r c m).to O)) (begins_turn r c m).after
+begins r O c m rest l e =
+    let now : List (List ℕ) = moves_sent ((begins_turn r c m).to O) in
+    sends (all_texts r O) (Owed r O) m (begins_turn r c m).after rest now [] l
+    (e ∙ sym (at (same_colour c O) (same_colour-true c O)) ∙ sym (append-nil now)) refl refl
   where
-    at : (p : Phase) → is_opening p ≡ false → is_on p ≡ true → entry_moves r m O p ≡ []
-    at (Handshake c) e on = refl
-    at (Setup c) e on = refl
-    at (AwaitMove c) e on = refl
-    at (AwaitPong c) e on = refl
-    at (SendTurn c) e on = cc
-    at (Over x) e on = cc
+    at : (b : Bool) → (b ≡ true → c ≡ O) → moves_sent (list_if b (opening r (enter (Opening c) m) c))
+        ≡ (if b then (if nat_lt 0 (length m.played) then last_text r O m else []) else [])
+    at true h = opening_moves r (enter (Opening c) m) c
+        ∙ ap (λ (x : Colour). if nat_lt 0 (length m.played) then last_text r x m else []) (h refl)
+    at false h = refl
 
--- whether the match ended because a write to that side failed
-abbrev unwritten_in : Phase → Colour → Bool
+gives : (r : Rules) (O : Colour) → Gives move_sent r O (all_texts r O) (Owed r O)
+gives r O = record {
+  stops = stops r O;
+  said = λ m S kind rest p q h. (
+    rw (turn_in r m (Handshake S) p q) refl,
+    rw p (owed_in r O m (Handshake S) rest p h),
+  );
+  counts = λ m k rest h. (refl, h);
+  enters = λ m S c rest p h. let e = owed_in r O m (Handshake S) rest p h in (refl, e, refl, e);
+  sets_up = λ m S c rest p h. (refl, owed_in r O m (Setup S) rest p h);
+  offers = λ m S rest h. (
+    ap (λ is. others_moves r O is m.played) (offered_items S O m),
+    rw (offered_items S O m) h,
+  );
+  begins = λ m S rest p l q h. begins r O r.first m rest l (owed_in r O m (Setup S) rest p h
+      ∙ rw (turn_in r m (Setup S) p q) (none (same_colour r.first O)));
+  passes = λ m S rest p l q h. begins r O (other S) m rest l (owed_in r O m (AfterMove S) rest p h
+      ∙ rw (lt-ltb 0 (length m.played) (turn_in r m (AfterMove S) p q).1) refl);
+  plays = λ m S move opened used rest p l q h.
+      let as_san : Bool = takes (codes "san") (m.seat O).items in
+      let text : List (List ℕ) = r.move_text as_san (m.played ++ move ∷ []) ∷ [] in
+      grows (all_texts r O) (Owed r O) m (moved S move used m) rest (if same_colour (other S) O then text else []) []
+      (if same_colour (other S) O then text else [])
+      (owed_in r O m (BeforeMove S opened) rest p h) (short (same_colour (other S) O) _)
+      (ap (λ is. others_moves r O is (m.played ++ move ∷ [])) (moved_items S O move used m)
+      ∙ texts-snoc r as_san (other O) r.first [] m.played move
+      ∙ ap (λ (b : Bool). all_texts r O m ++ (if b then text else []))
+      (ap (λ c. same_colour c (other O)) (turn_in r m (BeforeMove S opened) p q) ∙ turned S O))
+      refl (rw (moved_items S O move used m) refl);
+  opened = λ m S k rest p h. (refl, owed_in r O m (Opening S) rest p h);
+}
+  where
+    none : (b : Bool) → [] ≡ (if b then [] else (let t : List (List ℕ) = [] in t))
+    none true = refl
+    none false = refl
+
+    short : (b : Bool) (t : List ℕ) → length (if b then t ∷ [] else []) ≤ 1
+    short true t = omega arith
+    short false t = omega arith
+
+    turned : (S O : Colour) → same_colour S (other O) ≡ same_colour (other S) O
+    turned S O = grind arith
+
+-- at a moment, of what was sent so far
+sent_at : (r : Rules) (O : Colour) (C : Match → List (List ℕ) → Type 0) (H K : List Act) (final : Match)
+    → ((m : Match) (due : List Block) → IsMatchFrom r m due K final → (X Y rest : List (List ℕ)) → (due ≡ [] → Y ≡ [])
+    → length (Y ++ rest) ≤ 1 → X ++ (Y ++ rest) ≡ all_texts r O m → Owed r O m rest → C m X)
+    → IsMatch r (H ++ K) final → Uncut H K
+    → C (match_after r beginning.after H) (moves_sent (lines_given O H))
+sent_at r O C H K final done g e = given_at move_sent (λ text. refl) r O (all_texts r O) (Owed r O) (gives r O) C H K final
+    (λ m due q X s. done m due q X _ s.0 (λ none. rw none refl) s.1 s.2 s.3) g e (begun O)
+  where
+    begun : (O : Colour) → (rest : List (List ℕ)) × (length (moves_sent (beginning.to O) ++ rest) ≤ 1)
+        × ([] ++ (moves_sent (beginning.to O) ++ rest) ≡ all_texts r O beginning.after) × Owed r O beginning.after rest
+    begun White = ([], omega arith, refl, refl)
+    begun Black = ([], omega arith, refl, refl)
+
+pub moves_are_sent : AtEachMoment MovesAreSent
+moves_are_sent r H K final g e O = sent_at r O
+    (λ m X. (rest : List (List ℕ)) × (length rest ≤ 1) × (X ++ rest ≡ all_texts r O m)) H K final
+    (λ m due q X Y rest none l a o. (Y ++ rest, l, a)) g (λ k. e)
+
+-- ---- a whole match
+
+-- if no block is broken, all were sent
+pub all_sent : (S : Colour) (H : List Act) → is_broken H S ≡ false → lines_sent S H ≡ lines_given S H
+all_sent S [] h = refl
+all_sent S (Sends b ∷ H) h = ap (λ (l : List SentLine). list_if (same_colour b.to S) b.lines ++ l) (all_sent S H h)
+all_sent S (SendFails b ∷ H) h = at (same_colour b.to S) h (all_sent S H)
+  where
+    at : (x : Bool) → nat_lt 0 (length (list_if x (b.lines ∷ []) ++ broken_blocks S H)) ≡ false
+        → (is_broken H S ≡ false → lines_sent S H ≡ lines_given S H)
+        → lines_sent S H ≡ list_if x b.lines ++ lines_given S H
+    at true h more = both_not (nat_lt 0 (length (b.lines ∷ broken_blocks S H))) h
+        (lt-ltb 0 (length (b.lines ∷ broken_blocks S H)) (omega arith))
+    at false h more = more h
+all_sent S (Reads c t ∷ H) h = all_sent S H h
+all_sent S (ReadsEnd c ∷ H) h = all_sent S H h
+all_sent S (ReadFails c ∷ H) h = all_sent S H h
+all_sent S (ReadsClock c n ∷ H) h = all_sent S H h
+
+-- whether a match ended since writing to O failed
+abbrev pub unwritten_in : Phase → Colour → Bool
 unwritten_in (Over reason) O = is_unwritten reason O
-unwritten_in p O = false
+unwritten_in _ O = false
 
-calm : (r : Rules) (m : Match) (e : Event) (O : Colour) → is_on (match_after r m e).phase ≡ true
-    → is_fault Write O e ≡ false
-calm r m e O h1 = grind arith
-
-unwritten_by : (r : Rules) (due : Colour → List SentLine) (m : Match) (e : Event) (O : Colour)
-    → fits_next due m e ≡ true → is_fault Write O e ≡ unwritten_in (match_after r m e).phase O
-unwritten_by r due m e O f = at (match_after r m e).phase refl
+broken_more : (b : Block) (H : List Act) (O : Colour) → is_broken (SendFails b ∷ H) O ≡ false
+    → (same_colour b.to O ≡ false) × (is_broken H O ≡ false)
+broken_more b H O h = at (same_colour b.to O) h
   where
-    at : (p : Phase) → (match_after r m e).phase ≡ p → is_fault Write O e ≡ unwritten_in p O
-    at (Over reason) h = sym (no_write r due m e f reason h O)
-    at (Handshake c) h = calm r m e O (ap is_on h)
-    at (Setup c) h = calm r m e O (ap is_on h)
-    at (SendTurn c) h = calm r m e O (ap is_on h)
-    at (AwaitMove c) h = calm r m e O (ap is_on h)
-    at (AwaitPong c) h = calm r m e O (ap is_on h)
+    at : (x : Bool) → nat_lt 0 (length (list_if x (b.lines ∷ []) ++ broken_blocks O H)) ≡ false
+        → (x ≡ false) × (is_broken H O ≡ false)
+    at true h = both_not (nat_lt 0 (length (b.lines ∷ broken_blocks O H))) h
+        (lt-ltb 0 (length (b.lines ∷ broken_blocks O H)) (omega arith))
+    at false h = (refl, h)
 
--- what was sent, and what is owed, are the other's moves
-abbrev AreSentSoFar : Rules → Colour → List (List ℕ) → Match → Type 0
-AreSentSoFar r O X m =
-    (X ++ owed_to r m O m.unsent_to (unwritten_in m.phase O) ≡ all_texts r m O) × Orderly r m
+-- a line ends no match since a write failed
+pub line_written : (r : Rules) (O S : Colour) (t : Option (List ℕ)) (x : ℕ) (m : Match) → awaits_line m.phase S ≡ true
+    → unwritten_in (effect r m (Line S t x)).after.phase O ≡ false
+line_written r O S t x m aw =
+    line_cases r S (line_kind t) x m (λ e. unwritten_in e.after.phase O ≡ false) aw (record {
+  handshake_stops = λ p reason c w. w.0 O;
+  handshake_counts = λ p d few. rw p refl;
+  handshake_next = λ p s d. refl;
+  handshake_last = λ p s d. refl;
+  setup_counts = λ p pong few. rw p refl;
+  setup_next = λ p s pong. refl;
+  setup_last = λ p s pong v. refl;
+  setup_decides = λ p v e. refl;
+  stops = λ g reason w. w.0 O;
+  counts = λ on none few. on_written m.phase (on_when_read m.phase S aw);
+  offers = λ on none own. on_written m.phase (on_when_read m.phase S aw);
+  plays = λ text move opened is p read room timely verdict. refl;
+  decides = λ text move opened v is p read room timely verdict. refl;
+  passes = λ p none. refl;
+})
+  where
+    on_written : (p : Phase) → is_over p ≡ false → unwritten_in p O ≡ false
+    on_written p h1 = grind arith
 
-step_sent : (r : Rules) (O : Colour) (due : Colour → List SentLine) (m : Match) (e : Event) (X : List (List ℕ))
-    → fits_next due m e ≡ true → AreSentSoFar r O X m
-    → AreSentSoFar r O (X ++ now move_sent r O m (match_after r m e)) (match_after r m e)
-step_sent r O due m e X f (h, o) =
-    let m' : Match = match_after r m e in
-    let s : AreSent r X O (is_fault Write O e) m.phase m' × Orderly r m' = step_goes r X O due m e f o
-    (ap (λ (l : List (List ℕ)). X ++ l)
-    (sym (owed_on r m O m.unsent_to (unwritten_in m.phase O) (fits_on due m e f))) ∙ h) in
-    let sent : now move_sent r O m m' ≡ (if is_same_phase m.phase m'.phase then [] else entry_moves r m' O m'.phase) =
-    ap (λ (l : List (List ℕ)). if is_same_phase m.phase m'.phase then [] else l) (entry_sent r m' O m'.phase) in (
-      ap (λ (l : List (List ℕ)). (X ++ l) ++ owed_to r m' O m'.unsent_to (unwritten_in m'.phase O)) sent
-          ∙ ap (λ (b : Bool). (X ++ (if is_same_phase m.phase m'.phase then [] else entry_moves r m' O m'.phase))
-          ++ owed_to r m' O m'.unsent_to b) (sym (unwritten_by r due m e O f)) ∙ s.0,
-      s.1,
+-- if each block for O was sent, no write to O ended the match
+written : (r : Rules) (O : Colour) (H K : List Act) (final : Match) → IsMatch r (H ++ K) final → Uncut H K
+    → is_broken H O ≡ false → unwritten_in (match_after r beginning.after H).phase O ≡ false
+written r O H K final g e = by_points r
+    (λ m due H n. unwritten_in m.phase O ≡ false → is_broken H O ≡ false → unwritten_in n.phase O ≡ false) (record {
+  sends = λ m n b due H p. p;
+  fails = λ m n b due H on q only same p w h. p (broken_more b H O h).0 (broken_more b H O h).1;
+  fails_late = λ m n b due H o only same p w h. p w (broken_more b H O h).1;
+  reads = λ m n S t x H aw q stays p w h. p (line_written r O S t x m aw) h;
+  opens = λ m n S x H o q p w h. p refl h;
+  output_ends = λ m n S H aw q only same p w h. p refl h;
+  read_fails = λ m n S H aw q only same p w h. p refl h;
+}) H K final (λ m due q g w h. w) g e refl
+
+pub all_moves_are_sent : InEachMatch AllMovesAreSent
+all_moves_are_sent r H final g O unbroken =
+    let (g', e) = whole r H final g in
+    subst (λ (m : Match). moves_sent (lines_sent O H) ≡ all_texts r O m) e
+    (ap moves_sent (all_sent O H unbroken)
+    ∙ sent_at r O (λ m X. unwritten_in m.phase O ≡ false → X ≡ all_texts r O m) H [] final done g' (λ cut. absurd cc)
+    (written r O H [] final g' (λ cut. absurd cc) unbroken))
+  where
+    none_left : (p : Phase) (text rest : List (List ℕ)) → is_over p ≡ true → unwritten_in p O ≡ false
+        → OwedIn O text p rest → rest ≡ []
+    none_left p text rest h1 h2 h3 = grind (arith, h3)
+
+    done : (m : Match) (due : List Block) → IsMatchFrom r m due [] final → (X Y rest : List (List ℕ))
+        → (due ≡ [] → Y ≡ []) → length (Y ++ rest) ≤ 1 → X ++ (Y ++ rest) ≡ all_texts r O m → Owed r O m rest
+        → unwritten_in m.phase O ≡ false → X ≡ all_texts r O m
+    done m [] (o, e) X Y rest none l a owed w =
+        sym (rw (none refl, none_left m.phase (last_text r O m) rest o w owed) (append-nil X)) ∙ a
+    done m (b ∷ due) q X Y rest none l a owed w = absurd q
+
+-- ---- when a line is read
+
+-- no write failed before
+unbroken_on : (r : Rules) (S : Colour) (H K : List Act) (final : Match) → IsMatch r (H ++ K) final → Uncut H K
+    → is_over (match_after r beginning.after H).phase ≡ false → is_broken H S ≡ false
+unbroken_on r S H K final g e = by_points r (λ m due H n. is_over n.phase ≡ false → is_broken H S ≡ false) (record {
+  sends = λ m n b due H p. p;
+  fails = λ m n b due H on q only same p w. both_not (is_over n.phase) w (ap (λ (x : Match). is_over x.phase) same);
+  fails_late = λ m n b due H o only same p w. both_not (is_over n.phase) w (ap (λ (x : Match). is_over x.phase) same ∙ o);
+  reads = λ m n S t x H aw q stays p. p;
+  opens = λ m n S x H o q p. p;
+  output_ends = λ m n S H aw q only same p. p;
+  read_fails = λ m n S H aw q only same p. p;
+}) H K final (λ m due q g w. refl) g e
+
+-- the side that a line is read of is awaited, and nothing is due
+pub all_sent_at_lines : AtEachLine IsSentAllMoves
+all_sent_at_lines r H after S text final g =
+    let u : Uncut H (Reads S text ∷ after) = λ cut. absurd cc in
+    let C : Match → List (List ℕ) → Type 0 = λ m X. (X ≡ all_texts r S m) × (is_over m.phase ≡ false) in
+    let c = sent_at r S C H (Reads S text ∷ after) final done g u in
+    ap moves_sent (all_sent S H (unbroken_on r S H (Reads S text ∷ after) final g u c.1)) ∙ c.0
+  where
+    none_left : (p : Phase) (text rest : List (List ℕ)) → awaits_line p S ≡ true → OwedIn S text p rest → rest ≡ []
+    none_left p text rest h1 h2 = grind (arith, h2)
+
+    awaited : (m : Match) (K : List Act) → IsMatchFrom r m [] (Reads S text ∷ K) final → awaits_line m.phase S ≡ true
+    awaited m [] q = absurd q
+    awaited m (ReadsClock c n ∷ K) (e, aw, q) = aw
+    awaited m (Sends b ∷ K) q = absurd q
+    awaited m (SendFails b ∷ K) q = absurd q
+    awaited m (Reads c u ∷ K) q = absurd q
+    awaited m (ReadsEnd c ∷ K) q = absurd q
+    awaited m (ReadFails c ∷ K) q = absurd q
+
+    done : (m : Match) (due : List Block) → IsMatchFrom r m due (Reads S text ∷ after) final → (X Y rest : List (List ℕ))
+        → (due ≡ [] → Y ≡ []) → length (Y ++ rest) ≤ 1 → X ++ (Y ++ rest) ≡ all_texts r S m → Owed r S m rest
+        → (X ≡ all_texts r S m) × (is_over m.phase ≡ false)
+    done m [] q X Y rest none l a owed = let aw = awaited m after q in (
+      sym (rw (none refl, none_left m.phase (last_text r S m) rest aw owed) (append-nil X)) ∙ a,
+      on_when_read m.phase S aw,
     )
+    done m (b ∷ due) q X Y rest none l a owed = absurd q
 
-sent_so_far : (r : Rules) (O : Colour) (T : List Event) → fits r T ≡ true
-    → AreSentSoFar r O (moves_sent (sent r O T)) (match_of r T)
-sent_so_far r O T f =
-    rw (
-      flat_map-append move_sent (lines_on_entering r start O) (joined_blocks (blocks_from r O start T)),
-      entry_sent r start O (Handshake White),
-    )
-    (gathered move_sent (λ text. refl) r O (AreSentSoFar r O) (step_sent r O) (unsent move_sent r O moves_in_openings)
-    (lines_on_entering r start) start T [] f (refl, (refl, refl)))
+-- there is a used time for each move
+used_are_turns : (r : Rules) (C : Colour) (H K : List Act) (final : Match) → IsMatch r (H ++ K) final → Uncut H K
+    → (let m = match_after r beginning.after H in length (m.seat C).used ≡ turns_of C r.first m.played)
+used_are_turns r C H K final g e = by_points r
+    (λ m due H n. length (n.seat C).used ≡ turns_of C r.first n.played) (record {
+  sends = λ m n b due H p. p;
+  fails = λ m n b due H on q only same p. p;
+  fails_late = λ m n b due H o only same p. p;
+  reads = λ m n S t x H aw q stays p. p;
+  opens = λ m n S x H o q p. p;
+  output_ends = λ m n S H aw q only same p. p;
+  read_fails = λ m n S H aw q only same p. p;
+}) H K final (λ m due q g. q.1 C) g e
 
--- a write to that side failed if the match ended so
-written_from : (r : Rules) (O : Colour) (due : Colour → List SentLine) (m : Match) (T : List Event) (b : Bool)
-    → fits_from r due m T ≡ true → b ≡ unwritten_in m.phase O → (is_on m.phase ≡ true → b ≡ false)
-    → (b || has_fault Write O T) ≡ unwritten_in (match_from r m T).phase O
-written_from r O due m [] b f e quiet = or-false b ∙ e
-written_from r O due m (e ∷ T) b f h quiet =
-    ap (λ (x : Bool). x || (is_fault Write O e || has_fault Write O T))
-    (quiet (fits_on due m e (and_first (fits_next due m e) _ f)))
-    ∙ written_from r O (block r m (match_after r m e)) (match_after r m e) T (is_fault Write O e)
-    (and_second (fits_next due m e) _ f) (unwritten_by r due m e O (and_first (fits_next due m e) _ f))
-    (calm r m e O)
-
-pub moves_are_sent : MovesAreSent
-moves_are_sent r T O f =
-    ap (λ (b : Bool). moves_sent (sent r O T) ++ owed_to r (match_of r T) O (match_of r T).unsent_to b)
-    (written_from r O (lines_on_entering r start) start T false f refl (λ on. refl))
-    ∙ (sent_so_far r O T f).0
-
--- every match is orderly
-pub orderly : (r : Rules) (T : List Event) → fits r T ≡ true → Orderly r (match_of r T)
-orderly r T f = (sent_so_far r White T f).1
-
-pub nothing_owed : (r : Rules) (m : Match) (O : Colour) (unsent_to : Option Colour) → is_some (ending_in m.phase) ≡ true
-    → owed_to r m O unsent_to false ≡ []
-nothing_owed r m O unsent_to h1 = grind arith
-
-pub all_moves_are_sent : AllMovesAreSent
-all_moves_are_sent r T O f ended quiet =
-    sym (append-nil (moves_sent (sent r O T)))
-    ∙ ap (λ (l : List (List ℕ)). moves_sent (sent r O T) ++ l)
-    (sym (rw quiet (nothing_owed r (match_of r T) O (match_of r T).unsent_to ended)))
-    ∙ moves_are_sent r T O f
+pub moves_sent_are_known : AtEachLine MovesSentAreKnown
+moves_sent_are_known r H after S text final g =
+    let m = match_after r beginning.after H in
+    ap (λ (l : ℕ). nat_lt 0 l) (used_are_turns r (other S) H (Reads S text ∷ after) final g (λ cut. absurd cc)
+    ∙ sym (texts-length r (takes (codes "san") (m.seat S).items) (other S) r.first [] m.played)
+    ∙ ap (λ (l : List (List ℕ)). length l) (sym (all_sent_at_lines r H after S text final g)))

@@ -1,118 +1,132 @@
--- What the notes of a transcript hold.
-use native.Mathlib.Omega.{arith}
-use Rattle.std.proofs.Common.{◌≡◌, ℕ, Bool, true, false, ◌||◌, List, [], ◌∷◌, ◌++◌, refl, ap, sym, ◌∙◌, append_assoc, append-nil}
+-- The notes of a match have all its events and all lines that are sent.
+use Rattle.std.proofs.Common.{◌≡◌, ℕ, Bool, true, false, List, [], ◌∷◌, ◌++◌, refl, ap, sym, subst, ◌∙◌, Option, arith}
 use Rattle.std.specs.Prelude.{if◌then◌else◌}
 use Rattle.chess_base.specs.declared.man.Colour.{Colour}
-use Rattle.chess_base.specs.declared.man.Colour.TheVariants.{White}
-use Rattle.chess_base.specs.Men.{other, same_colour}
-use Rattle.chess_match.specs.laws.Machine.{Match, start, match_after}
-use Rattle.chess_match.specs.Events.{Event}
-use Rattle.chess_match.specs.Notes.{Note, Happened, Gives}
-use Rattle.chess_match.specs.laws.TranscriptNotes.{given_note, both_notes, first_sent, notes_from, notes_of}
-use Rattle.chess_match.specs.laws.Laws.{events_in, given_in, sent}
-use Rattle.chess_match.specs.Rules.{Rules}
+use Rattle.chess_base.specs.declared.man.Colour.TheVariants.{White, Black}
+use Rattle.chess_base.specs.Men.{same_colour}
+use Rattle.chess_base.specs.Options.{list_if}
+use Rattle.chess_match.specs.Acts.{Act, Block, Sends, SendFails, Reads, ReadsEnd, ReadFails, ReadsClock, awaits_line, blocks_from, is_over}
+use Rattle.chess_match.specs.ByDevice.{notes_given}
+use Rattle.chess_match.specs.Effects.{Match, Phase, Over, beginning, effect, farewell}
+use Rattle.chess_match.specs.Events.{Event, Line, OutputEnds, FailsToRead, FailsToWrite}
 use Rattle.chess_match.specs.Lines.{SentLine, bytes_of}
-use Rattle.chess_match.specs.laws.Blocks.{block, lines_on_entering}
-use Rattle.chess_match.specs.laws.Transcript.{is_dropped, is_fault, blocks_from, joined_blocks}
-use Rattle.chess_match.proofs.Blocks.{lines_at}
-use Rattle.chess_match.proofs.Sends.{bytes_of-append}
+use Rattle.chess_match.specs.Notes.{Note, Happened}
+use Rattle.chess_match.specs.Reasons.{is_unwritten}
+use Rattle.chess_match.specs.Rules.{Rules}
 use Rattle.chess_match.specs.declared.reason.MatchFault.TheVariants.{Write}
-
--- ---- events
-
-events-append : (M N : List Note) → events_in (M ++ N) ≡ events_in M ++ events_in N
-events-append [] N = refl
-events-append (Happened e ∷ M) N = ap (λ (es : List Event). e ∷ es) (events-append M N)
-events-append (Gives c t ∷ M) N = events-append M N
-
-given_events : (S : Colour) (text : List ℕ) → events_in (given_note S text) ≡ []
-given_events S [] = refl
-given_events S (b ∷ text) = refl
-
-both_events : (S : Colour) (lines : Colour → List SentLine) → events_in (both_notes S lines) ≡ []
-both_events S lines =
-    events-append (given_note S (bytes_of (lines S))) (given_note (other S) (bytes_of (lines (other S))))
-    ∙ ap (λ (es : List Event). es ++ events_in (given_note (other S) (bytes_of (lines (other S)))))
-    (given_events S (bytes_of (lines S)))
-    ∙ given_events (other S) (bytes_of (lines (other S)))
-
-after_both : (S : Colour) (lines : Colour → List SentLine) (notes : List Note)
-    → events_in (both_notes S lines ++ notes) ≡ events_in notes
-after_both S lines notes =
-    events-append (both_notes S lines) notes
-    ∙ ap (λ (es : List Event). es ++ events_in notes) (both_events S lines)
-
-events_from : (r : Rules) (m : Match) (T : List Event) → events_in (notes_from r m T) ≡ T
-events_from r m [] = refl
-events_from r m (e ∷ es) = ap (λ (l : List Event). e ∷ l)
-    (after_both (first_sent (match_after r m e) e) (lines_at r m e es) (notes_from r (match_after r m e) es)
-    ∙ events_from r (match_after r m e) es)
-
-pub all_events : (r : Rules) (T : List Event) → events_in (notes_of r T) ≡ T
-all_events r T = after_both White (λ S. lines_on_entering r start S) (notes_from r start T) ∙ events_from r start T
+use Rattle.chess_match.specs.declared.reason.Reason.{Reason}
+use Rattle.chess_match.specs.declared.reason.Reason.TheVariants.{Faulted}
+use Rattle.chess_match.specs.laws.Laws.{events_in, given_in}
+use Rattle.chess_match.specs.laws.OfActs.{NotesHaveAllLines, NotesHaveTheEvents, after_events, lines_given}
+use Rattle.chess_match.proofs.Leading.{unwritten}
+use Rattle.chess_match.proofs.MatchCases.{both_not, by_cases, on_when_read}
+use Rattle.chess_match.proofs.MoveLaw.{line_written, unwritten_in}
+use Rattle.chess_match.proofs.Sends.{bytes_of-append}
 
 -- ---- lines
 
-given-append : (S : Colour) (M N : List Note) → given_in S (M ++ N) ≡ given_in S M ++ given_in S N
-given-append S [] N = refl
-given-append S (Happened e ∷ M) N = given-append S M N
-given-append S (Gives c t ∷ M) N =
-    ap (λ (l : List ℕ). (if same_colour c S then t else []) ++ l) (given-append S M N)
-    ∙ sym (append_assoc (if same_colour c S then t else []) (given_in S M) (given_in S N))
+block_bytes : (x : Bool) (lines more : List SentLine) (given : List ℕ) → given ≡ bytes_of more
+    → list_if x (bytes_of lines) ++ given ≡ bytes_of (list_if x lines ++ more)
+block_bytes true lines more given e = ap (λ (l : List ℕ). bytes_of lines ++ l) e ∙ sym (bytes_of-append lines more)
+block_bytes false lines more given e = e
 
-abbrev no_text : List ℕ
-no_text = []
+no_bytes : (x : Bool) (S : Colour) (e : Event) (notes : List Note)
+    → given_in S (list_if x (Happened e ∷ []) ++ notes) ≡ given_in S notes
+no_bytes true S e notes = refl
+no_bytes false S e notes = refl
 
-if_nothing : (b : Bool) → no_text ≡ (if b then no_text else [])
-if_nothing true = refl
-if_nothing false = refl
-
-given_one : (c S : Colour) (text : List ℕ) → given_in S (given_note c text) ≡ (if same_colour c S then text else [])
-given_one c S [] = if_nothing (same_colour c S)
-given_one c S (b ∷ text) = append-nil (if same_colour c S then b ∷ text else [])
-
-one_of_both : (first S : Colour) (lines : Colour → List SentLine)
-    → (if same_colour first S then bytes_of (lines first) else [])
-    ++ (if same_colour (other first) S then bytes_of (lines (other first)) else []) ≡ bytes_of (lines S)
-one_of_both first S lines = grind (arith, append-nil)
-
-given_both : (first S : Colour) (lines : Colour → List SentLine)
-    → given_in S (both_notes first lines) ≡ bytes_of (lines S)
-given_both first S lines =
-    let own : List Note = given_note first (bytes_of (lines first)) in
-    let others : List Note = given_note (other first) (bytes_of (lines (other first))) in
-    given-append S own others
-    ∙ ap (λ (l : List ℕ). l ++ given_in S others) (given_one first S (bytes_of (lines first)))
-    ∙ ap (λ (l : List ℕ). (if same_colour first S then bytes_of (lines first) else []) ++ l)
-    (given_one (other first) S (bytes_of (lines (other first))))
-    ∙ one_of_both first S lines
-
--- the lines of both, and of what follows
-given_more : (first S : Colour) (lines : Colour → List SentLine) (notes : List Note) (more : List SentLine)
-    → given_in S notes ≡ bytes_of more → given_in S (both_notes first lines ++ notes) ≡ bytes_of (lines S ++ more)
-given_more first S lines notes more e =
-    given-append S (both_notes first lines) notes
-    ∙ ap (λ (l : List ℕ). l ++ given_in S notes) (given_both first S lines)
-    ∙ ap (λ (l : List ℕ). bytes_of (lines S) ++ l) e
-    ∙ sym (bytes_of-append (lines S) more)
-
-joined_one : (b : Bool) (lines : List SentLine) (more : List (List SentLine))
-    → joined_blocks (if b then [] else lines ∷ []) ++ joined_blocks more
-    ≡ joined_blocks ((if b then [] else lines ∷ []) ++ more)
-joined_one true lines more = refl
-joined_one false lines more = ap (λ (ls : List SentLine). ls ++ joined_blocks more) (append-nil lines)
-
-given_from : (r : Rules) (S : Colour) (m : Match) (T : List Event)
-    → given_in S (notes_from r m T) ≡ bytes_of (joined_blocks (blocks_from r S m T))
+pub all_lines : NotesHaveAllLines
 unfolding bytes_of
-given_from r S m [] = refl
-given_from r S m (e ∷ es) =
-    given_more (first_sent (match_after r m e) e) S (lines_at r m e es) (notes_from r (match_after r m e) es)
-    (joined_blocks (blocks_from r S (match_after r m e) es)) (given_from r S (match_after r m e) es)
-    ∙ ap (λ (l : List SentLine). bytes_of l)
-    (joined_one (is_dropped e es S || is_fault Write S e) (block r m (match_after r m e) S)
-    (blocks_from r S (match_after r m e) es))
+all_lines reason [] S = refl
+all_lines reason (Sends b ∷ H) S = block_bytes (same_colour b.to S) b.lines (lines_given S H) _ (all_lines reason H S)
+all_lines reason (SendFails b ∷ H) S = block_bytes (same_colour b.to S) b.lines (lines_given S H) _
+    (no_bytes (is_unwritten reason b.to) S (FailsToWrite b.to) (notes_given reason H) ∙ all_lines reason H S)
+all_lines reason (Reads c t ∷ ReadsClock d n ∷ H) S = all_lines reason H S
+all_lines reason (ReadsClock c n ∷ H) S = all_lines reason H S
+all_lines reason (ReadsEnd c ∷ H) S = all_lines reason H S
+all_lines reason (ReadFails c ∷ H) S = all_lines reason H S
+all_lines reason (Reads c t ∷ []) S = refl
+all_lines reason (Reads c t ∷ Sends b ∷ H) S = all_lines reason (Sends b ∷ H) S
+all_lines reason (Reads c t ∷ SendFails b ∷ H) S = all_lines reason (SendFails b ∷ H) S
+all_lines reason (Reads c t ∷ Reads d u ∷ H) S = all_lines reason (Reads d u ∷ H) S
+all_lines reason (Reads c t ∷ ReadsEnd d ∷ H) S = all_lines reason (ReadsEnd d ∷ H) S
+all_lines reason (Reads c t ∷ ReadFails d ∷ H) S = all_lines reason (ReadFails d ∷ H) S
 
-pub all_lines : (r : Rules) (T : List Event) (S : Colour) → given_in S (notes_of r T) ≡ bytes_of (sent r S T)
-all_lines r T S = given_more White S (λ X. lines_on_entering r start X) (notes_from r start T)
-    (joined_blocks (blocks_from r S start T)) (given_from r S start T)
+-- ---- events
+
+-- none of these blocks is for a side to which a write ended the match
+abbrev AreWritten : Reason → List Block → Type 0
+AreWritten reason [] = Unit {0}
+AreWritten reason (b ∷ due) = (is_unwritten reason b.to ≡ false) × AreWritten reason due
+
+all_written : (reason : Reason) (due : List Block) → ((O : Colour) → is_unwritten reason O ≡ false) → AreWritten reason due
+all_written reason [] w = tt
+all_written reason (b ∷ due) w = (w b.to, all_written reason due w)
+
+failed_written : (r : Rules) (m : Match) (c : Colour)
+    → AreWritten (Faulted c Write) (blocks_from White (effect r m (FailsToWrite c)).to)
+failed_written r m White = at (farewell r m (Faulted White Write) Black)
+  where
+    at : (ls : List SentLine) → AreWritten (Faulted White Write)
+        (blocks_from White (λ S. if is_unwritten (Faulted White Write) S then [] else ls))
+    at [] = tt
+    at (l ∷ ls) = (refl, tt)
+failed_written r m Black = at (farewell r m (Faulted Black Write) White)
+  where
+    at : (ls : List SentLine) → AreWritten (Faulted Black Write)
+        (blocks_from White (λ S. if is_unwritten (Faulted Black Write) S then [] else ls))
+    at [] = tt
+    at (l ∷ ls) = (refl, tt)
+
+module _ (r : Rules) (reason : Reason) (final : Match) (over : final.phase ≡ Over reason) where
+  -- the events of the notes lead from here to the end; a match that is over stays so
+  abbrev Leads : Match → List Block → List Act → Type 0
+  Leads m due H = (is_over m.phase ≡ true → m.phase ≡ final.phase)
+      × ((is_over m.phase ≡ true → AreWritten reason due) → final ≡ after_events r m (events_in (notes_given reason H)))
+
+  on_not_over : {A : Type 0} (m : Match) → is_over m.phase ≡ false → is_over m.phase ≡ true → A
+  on_not_over m on o = both_not (is_over m.phase) on o
+
+  -- blocks after what ended the match
+  due_written : (m : Match) (due : List Block) → ((O : Colour) → unwritten_in m.phase O ≡ false)
+      → m.phase ≡ final.phase → AreWritten reason due
+  due_written m due w e = all_written reason due
+      (λ O. subst (λ (p : Phase). unwritten_in p O ≡ false) (e ∙ over) (w O))
+
+  broken : (m : Match) (b : Block) (H : List Act)
+      → Leads (effect r m (FailsToWrite b.to)).after (blocks_from White (effect r m (FailsToWrite b.to)).to) H
+      → final ≡ after_events r m (events_in (list_if (is_unwritten reason b.to) (Happened (FailsToWrite b.to) ∷ [])
+      ++ notes_given reason H))
+  broken m b H p =
+      let same : Over (Faulted b.to Write) ≡ Over reason = p.0 refl ∙ over in
+      let is : Faulted b.to Write ≡ reason = cc in
+      rw (unwritten b.to reason same) (p.1 (λ o. subst
+      (λ (x : Reason). AreWritten x (blocks_from White (effect r m (FailsToWrite b.to)).to)) is
+      (failed_written r m b.to)))
+
+  late : (m : Match) (b : Block) (H : List Act) → is_unwritten reason b.to ≡ false
+      → final ≡ after_events r m (events_in (notes_given reason H))
+      → final ≡ after_events r m (events_in (list_if (is_unwritten reason b.to) (Happened (FailsToWrite b.to) ∷ [])
+      ++ notes_given reason H))
+  late m b H w e = rw w e
+
+pub all_events : NotesHaveTheEvents
+all_events r reason H final g over = (by_cases r final (Leads r reason final over) (record {
+  sends = λ m b due H p. (p.0, λ w. p.1 (λ o. (w o).1));
+  fails = λ m b due H on p. (on_not_over r reason final over m on, λ w. broken r reason final over m b H p);
+  fails_late = λ m b due H o p. (p.0, λ w. late r reason final over m b H (w o).0 (p.1 (λ o. (w o).1)));
+  reads = λ m S t n H aw p. (
+    on_not_over r reason final over m (on_when_read m.phase S aw),
+    λ w. p.1 (λ o. due_written r reason final over (effect r m (Line S t n)).after _ (λ O. line_written r O S t n m aw) (p.0 o)),
+  );
+  opens = λ m S n H o p. (on_not_over r reason final over m (ap is_over o), λ w. p.1 (λ o. absurd cc));
+  ends = λ m S H aw p. (
+    on_not_over r reason final over m (on_when_read m.phase S aw),
+    λ w. p.1 (λ o. due_written r reason final over (effect r m (OutputEnds S)).after _ (λ O. refl) (p.0 o)),
+  );
+  read_fails = λ m S H aw p. (
+    on_not_over r reason final over m (on_when_read m.phase S aw),
+    λ w. p.1 (λ o. due_written r reason final over (effect r m (FailsToRead S)).after _ (λ O. refl) (p.0 o)),
+  );
+  over = λ o. (λ x. refl, λ w. refl);
+}) beginning.after (blocks_from White beginning.to) H g).1 (λ o. absurd cc)

@@ -1,58 +1,64 @@
--- There is only one transcript.
-use Rattle.std.proofs.Common.{◌≡◌, ℕ, ◌<◌, Bool, true, false, ◌||◌, List, [], ◌∷◌, ◌++◌, length, drop, suc, subst, refl, ap, sym, ◌∙◌, append_assoc, Option, Some, arith}
-use Rattle.std.specs.Prelude.{slice_get, is_some}
+-- There is only one match of two engines and a clock.
+use Rattle.std.proofs.Common.{◌≡◌, ℕ, ◌<◌, Bool, true, false, ◌||◌, List, [], ◌∷◌, ◌++◌, length, drop, suc, subst, refl, ap, sym, ◌∙◌, append_assoc, lt-ltb, Option, None, Some, arith}
+use Rattle.std.specs.Prelude.{nat_lt, slice_get}
 use Rattle.std.proofs.Math.Seq.{drop-append_seam}
 use Rattle.std.proofs.lemmas.Bool.{or_left, or_right}
 use Rattle.chess_base.specs.declared.man.Colour.{Colour}
 use Rattle.chess_base.specs.declared.man.Colour.TheVariants.{White, Black}
 use Rattle.chess_base.specs.Men.{same_colour}
+use Rattle.chess_base.specs.Options.{list_if}
 use Rattle.chess_base.proofs.shared.Men.{same_colour-self}
-use Rattle.chess_match.specs.laws.Laws.{Streams, IsOf, OnlyOne, ending_in}
-use Rattle.chess_match.specs.laws.Machine.{Match, start, match_after}
+use Rattle.chess_match.specs.Acts.{Act, Block, IsMatch, IsMatchFrom, Sends, SendFails, Reads, ReadsEnd, ReadFails, ReadsClock, awaits_line, blocks_after, blocks_from, is_over}
+use Rattle.chess_match.specs.ByDevice.{broken_blocks, has_ended, has_failed_read, is_broken, lines_read, moments_shown}
+use Rattle.chess_match.specs.Effects.{Match, Phase, Opening, beginning, effect}
 use Rattle.chess_match.specs.Events.{Event, Line, Opened, OutputEnds, FailsToRead, FailsToWrite}
 use Rattle.chess_match.specs.Rules.{Rules}
-use Rattle.chess_match.specs.Lines.{SentLine}
-use Rattle.chess_match.specs.laws.Blocks.{block, lines_on_entering}
-use Rattle.chess_match.specs.laws.Transcript.{reads, opens, is_on, fits_next, fits_from, lines_of_engine, line_in, moments_of, has_fault, is_fault}
-use Rattle.chess_match.specs.declared.phase.Phase.{Phase}
-use Rattle.chess_match.proofs.Outcomes.{and_first, and_second, fits_on, not_on}
-use Rattle.chess_match.specs.ties.Steps.{match_from}
-use Rattle.chess_match.specs.declared.reason.MatchFault.TheVariants.{Ended, Read, Write}
+use Rattle.chess_match.specs.laws.Laws.{Streams}
+use Rattle.chess_match.specs.laws.OfActs.{AreOf, OnlyOneMatch}
+use Rattle.chess_match.proofs.MatchCases.{both_not, by_cases, none_read, on_when_read, unread}
 
-or_none : (a b : Bool) → a || b ≡ false → b ≡ false
-or_none true b h = cc
-or_none false b h = h
+-- ---- what comes next
 
-or_first : (a b : Bool) → a || b ≡ false → a ≡ false
-or_first true b h = cc
-or_first false b h = refl
+-- the acts of an event, and what follows them (`J`), are what follows in the match (`K`), where nothing is due; or it is
+-- over
+abbrev Begins : Rules → Match → Match → List Act → List Act → Option Event → Type 0
+Begins r m final K J None = (K ≡ []) × (is_over m.phase ≡ true)
+Begins r m final K J (Some (Line S t n)) = (K ≡ Reads S t ∷ ReadsClock S n ∷ J) × (awaits_line m.phase S ≡ true)
+    × IsMatchFrom r (effect r m (Line S t n)).after (blocks_after S (effect r m (Line S t n))) J final
+Begins r m final K J (Some (Opened S n)) = (K ≡ ReadsClock S n ∷ J) × (m.phase ≡ Opening S)
+    × IsMatchFrom r (effect r m (Opened S n)).after [] J final
+Begins r m final K J (Some (OutputEnds S)) = (K ≡ ReadsEnd S ∷ J) × (awaits_line m.phase S ≡ true)
+    × IsMatchFrom r (effect r m (OutputEnds S)).after (blocks_from White (effect r m (OutputEnds S)).to) J final
+Begins r m final K J (Some (FailsToRead S)) = (K ≡ ReadFails S ∷ J) × (awaits_line m.phase S ≡ true)
+    × IsMatchFrom r (effect r m (FailsToRead S)).after (blocks_from White (effect r m (FailsToRead S)).to) J final
+Begins r m final K J (Some (FailsToWrite S)) = ⊥
 
--- one phase reads one side
-one_reads : (p : Phase) (c d : Colour) → reads p c ≡ true → reads p d ≡ true → c ≡ d
-one_reads p c d h1 h2 = grind arith
+next : (r : Rules) (m final : Match) (K : List Act) → IsMatchFrom r m [] K final
+    → (e : Option Event) × (J : List Act) × Begins r m final K J e
+next r m final [] (o, e) = (None, [], (refl, o))
+next r m final (Reads S t ∷ ReadsClock c n ∷ J) (e, aw, g) =
+    (Some (Line S t n), J, (ap (λ (x : Colour). Reads S t ∷ ReadsClock x n ∷ J) e, aw, g))
+next r m final (ReadsClock S n ∷ J) (o, g) = (Some (Opened S n), J, (refl, o, g))
+next r m final (ReadsEnd S ∷ J) (aw, g) = (Some (OutputEnds S), J, (refl, aw, g))
+next r m final (ReadFails S ∷ J) (aw, g) = (Some (FailsToRead S), J, (refl, aw, g))
+next r m final (Sends b ∷ J) g = absurd g
+next r m final (SendFails b ∷ J) g = absurd g
+next r m final (Reads S t ∷ []) g = absurd g
+next r m final (Reads S t ∷ Sends b ∷ J) g = absurd g
+next r m final (Reads S t ∷ SendFails b ∷ J) g = absurd g
+next r m final (Reads S t ∷ Reads c u ∷ J) g = absurd g
+next r m final (Reads S t ∷ ReadsEnd c ∷ J) g = absurd g
+next r m final (Reads S t ∷ ReadFails c ∷ J) g = absurd g
 
-one_opens : (p : Phase) (c d : Colour) → opens p c ≡ true → opens p d ≡ true → c ≡ d
-one_opens p c d h1 h2 = grind arith
+-- one phase awaits one side's line
+one_awaits : (p : Phase) (c d : Colour) → awaits_line p c ≡ true → awaits_line p d ≡ true → c ≡ d
+one_awaits p c d h1 h2 = grind arith
 
--- a phase that reads opens no turn
-reads_or_opens : {A : Type 0} (p : Phase) (c d : Colour) → reads p c ≡ true → opens p d ≡ true → A
-reads_or_opens p c d h1 h2 = grind arith
+-- one that awaits a line opens no turn
+awaits_or_opens : {A : Type 0} (p : Phase) (c d : Colour) → awaits_line p c ≡ true → p ≡ Opening d → A
+awaits_or_opens p c d h1 h2 = grind arith
 
--- ---- the streams after an event
-
-abbrev moments_after : Event → (ℕ → ℕ) → ℕ → ℕ
-moments_after (Line c t n) moments k = moments (suc k)
-moments_after (Opened c n) moments k = moments (suc k)
-moments_after (OutputEnds c) moments k = moments k
-moments_after (FailsToRead c) moments k = moments k
-moments_after (FailsToWrite c) moments k = moments k
-
-abbrev streams_after : Event → Streams → Streams
-streams_after e s = record {
-  lines = λ S. drop (length (line_in S e)) (s.lines S);
-  fails = s.fails;
-  moments = moments_after e s.moments;
-}
+-- ---- the streams after an act
 
 drop_front : {A : Type 0} (a b c xs : List A) → xs ≡ (a ++ b) ++ c → drop (length a) xs ≡ b ++ c
 drop_front a b c xs e = rw (e, append_assoc a b c) (drop-append_seam a (b ++ c))
@@ -60,163 +66,255 @@ drop_front a b c xs e = rw (e, append_assoc a b c) (drop-append_seam a (b ++ c))
 drop_exact : {A : Type 0} (a b xs : List A) → xs ≡ a ++ b → drop (length a) xs ≡ b
 drop_exact a b xs e = rw e (drop-append_seam a b)
 
-next_moments : (e : Event) (T : List Event) (moments : ℕ → ℕ)
-    → ((n : ℕ) → n < length (moments_of (e ∷ T)) → slice_get (moments_of (e ∷ T)) n ≡ Some (moments n))
-    → (n : ℕ) → n < length (moments_of T) → slice_get (moments_of T) n ≡ Some (moments_after e moments n)
-next_moments e T moments h1 n h2 = grind arith
+abbrev Shown : List ℕ → (ℕ → ℕ) → Type 0
+Shown shown moments = (n : ℕ) → n < length shown → slice_get shown n ≡ Some (moments n)
 
-is_of_after : (s : Streams) (e : Event) (T : List Event) → IsOf s (e ∷ T) → IsOf (streams_after e s) T
-is_of_after s e T i = record {
-  lines = λ S. ((i.lines S).0, drop_front (line_in S e) (lines_of_engine S T) (i.lines S).0 (s.lines S) (i.lines S).1);
-  ends = λ S h. (
-    drop_exact (line_in S e) (lines_of_engine S T) (s.lines S)
-        (i.ends S (or_right (is_fault Ended S e) (has_fault Ended S T) h)).0,
-    (i.ends S (or_right (is_fault Ended S e) (has_fault Ended S T) h)).1,
-  );
-  failures = λ S h. (
-    drop_exact (line_in S e) (lines_of_engine S T) (s.lines S)
-        (i.failures S (or_right (is_fault Read S e) (has_fault Read S T) h)).0,
-    (i.failures S (or_right (is_fault Read S e) (has_fault Read S T) h)).1,
-  );
-  moments = next_moments e T s.moments i.moments;
-  writes = λ S. or_none (is_fault Write S e) (has_fault Write S T) (i.writes S);
+later : (k : ℕ) (shown : List ℕ) (moments : ℕ → ℕ) → Shown (k ∷ shown) moments → Shown shown (λ n. moments (suc n))
+later k shown moments h1 n h2 = grind arith
+
+first_moment : (k : ℕ) (shown : List ℕ) (moments : ℕ → ℕ) → Shown (k ∷ shown) moments → Some k ≡ Some (moments 0)
+first_moment k shown moments h = h 0 (omega arith)
+
+abbrev line_of : Colour → Option (List ℕ) → Colour → List (Option (List ℕ))
+line_of S t X = list_if (same_colour S X) (t ∷ [])
+
+abbrev after_read : Colour → Option (List ℕ) → Streams → Streams
+after_read S t s = record {
+  lines = λ X. drop (length (line_of S t X)) (s.lines X);
+  fails = s.fails;
+  moments = λ n. s.moments (suc n);
 }
 
--- ---- the first events are one
+of_read : (s : Streams) (S : Colour) (t : Option (List ℕ)) (n : ℕ) (H : List Act)
+    → AreOf s (Reads S t ∷ ReadsClock S n ∷ H) → AreOf (after_read S t s) H
+of_read s S t n H o = record {
+  lines = λ X. ((o.lines X).0, drop_front (line_of S t X) (lines_read X H) (o.lines X).0 (s.lines X) (o.lines X).1);
+  ends = λ X h. (drop_exact (line_of S t X) (lines_read X H) (s.lines X) (o.ends X h).0, (o.ends X h).1);
+  failures = λ X h. (drop_exact (line_of S t X) (lines_read X H) (s.lines X) (o.failures X h).0, (o.failures X h).1);
+  moments = later n (moments_shown H) s.moments o.moments;
+  sent = o.sent;
+}
 
-first_line : (s : Streams) (c : Colour) (t : Option (List ℕ)) (n : ℕ) (T : List Event) → IsOf s (Line c t n ∷ T)
-    → (rest : List (Option (List ℕ))) × (s.lines c ≡ t ∷ rest)
-first_line s White t n T i = (lines_of_engine White T ++ (i.lines White).0, (i.lines White).1)
-first_line s Black t n T i = (lines_of_engine Black T ++ (i.lines Black).0, (i.lines Black).1)
+of_opened : (s : Streams) (S : Colour) (n : ℕ) (H : List Act) → AreOf s (ReadsClock S n ∷ H)
+    → AreOf (record s { moments = λ n. s.moments (suc n) }) H
+of_opened s S n H o = record {
+  lines = o.lines;
+  ends = o.ends;
+  failures = o.failures;
+  moments = later n (moments_shown H) s.moments o.moments;
+  sent = o.sent;
+}
 
-pub over_stops : (r : Rules) (due : Colour → List SentLine) (m : Match) (T : List Event) → is_on m.phase ≡ false
-    → fits_from r due m T ≡ true → T ≡ []
-over_stops r due m [] off f = refl
-over_stops r due m (e ∷ T) off f = not_on (sym off ∙ fits_on due m e (and_first (fits_next due m e) _ f))
+of_sent : (s : Streams) (b : Block) (H : List Act) → AreOf s (Sends b ∷ H) → AreOf s H
+of_sent s b H o =
+    record { lines = o.lines; ends = o.ends; failures = o.failures; moments = o.moments; sent = o.sent }
+
+of_end : (s : Streams) (S : Colour) (H : List Act) → AreOf s (ReadsEnd S ∷ H) → AreOf s H
+of_end s S H o = record {
+  lines = o.lines;
+  ends = λ X h. o.ends X (or_right (same_colour S X) (has_ended X H) h);
+  failures = o.failures;
+  moments = o.moments;
+  sent = o.sent;
+}
+
+of_failure : (s : Streams) (S : Colour) (H : List Act) → AreOf s (ReadFails S ∷ H) → AreOf s H
+of_failure s S H o = record {
+  lines = o.lines;
+  ends = o.ends;
+  failures = λ X h. o.failures X (or_right (same_colour S X) (has_failed_read X H) h);
+  moments = o.moments;
+  sent = o.sent;
+}
+
+none_broke : {A : Type 0} (s : Streams) (b : Block) (H : List Act) → AreOf s (SendFails b ∷ H) → A
+none_broke s b H o = at (same_colour b.to b.to) (same_colour-self b.to) (o.sent b.to)
+  where
+    at : {A : Type 0} (x : Bool) → x ≡ true
+        → nat_lt 0 (length (list_if x (b.lines ∷ []) ++ broken_blocks b.to H)) ≡ false → A
+    at true e h = both_not (nat_lt 0 (length (b.lines ∷ broken_blocks b.to H))) h
+        (lt-ltb 0 (length (b.lines ∷ broken_blocks b.to H)) (omega arith))
+    at false e h = absurd cc
+
+-- ---- the first line, or none
+
+first_line : (s : Streams) (S : Colour) (t : Option (List ℕ)) (n : ℕ) (H : List Act)
+    → AreOf s (Reads S t ∷ ReadsClock S n ∷ H) → (rest : List (Option (List ℕ))) × (s.lines S ≡ t ∷ rest)
+first_line s White t n H o = (lines_read White H ++ (o.lines White).0, (o.lines White).1)
+first_line s Black t n H o = (lines_read Black H ++ (o.lines Black).0, (o.lines Black).1)
+
+unread_none : (S : Colour) (H : List Act) → unread H ≡ true → lines_read S H ≡ []
+unread_none S [] h = refl
+unread_none S (Sends b ∷ H) h = unread_none S H h
+unread_none S (SendFails b ∷ H) h = unread_none S H h
+unread_none S (ReadsClock c n ∷ H) h = unread_none S H h
+unread_none S (Reads c t ∷ H) h = cc
+unread_none S (ReadsEnd c ∷ H) h = cc
+unread_none S (ReadFails c ∷ H) h = cc
 
 -- an engine whose end was reported, or of which a read failed, has no line left
-no_line : (r : Rules) (due : Colour → List SentLine) (m : Match) (S : Colour) (T : List Event)
-    (lines : List (Option (List ℕ))) → is_on m.phase ≡ false → fits_from r due m T ≡ true
-    → lines ≡ lines_of_engine S T → lines ≡ []
-no_line r due m S T lines off f e = e ∙ ap (λ (U : List Event). lines_of_engine S U) (over_stops r due m T off f)
+ended_none : (s : Streams) (S : Colour) (H : List Act) → unread H ≡ true
+    → AreOf s (ReadsEnd S ∷ H) → (s.lines S ≡ []) × (s.fails S ≡ false)
+ended_none s S H u o =
+    let e = o.ends S (or_left (same_colour S S) (has_ended S H) (same_colour-self S)) in
+    (e.0 ∙ unread_none S H u, e.1)
 
-cons_not_nil : {A B : Type 0} (x : A) (xs ys : List A) → ys ≡ x ∷ xs → ys ≡ [] → B
-cons_not_nil x xs ys e n = cc
+failed_none : (s : Streams) (S : Colour) (H : List Act) → unread H ≡ true
+    → AreOf s (ReadFails S ∷ H) → (s.lines S ≡ []) × (s.fails S ≡ true)
+failed_none s S H u o =
+    let e = o.failures S (or_left (same_colour S S) (has_failed_read S H) (same_colour-self S)) in
+    (e.0 ∙ unread_none S H u, e.1)
 
-ended_none : (r : Rules) (s : Streams) (m : Match) (c : Colour) (T : List Event)
-    → fits_from r (block r m (match_after r m (OutputEnds c))) (match_after r m (OutputEnds c)) T ≡ true
-    → IsOf s (OutputEnds c ∷ T) → (s.lines c ≡ []) × (s.fails c ≡ false)
-ended_none r s m c T f i =
-    let k = i.ends c (or_left (same_colour c c) (has_fault Ended c T) (same_colour-self c)) in (
-      no_line r (block r m (match_after r m (OutputEnds c))) (match_after r m (OutputEnds c)) c T (s.lines c)
-          refl f k.0,
-      k.1,
-    )
+line_not_none : {A : Type 0} (s : Streams) (S c : Colour) (t : Option (List ℕ)) (n : ℕ) (H : List Act) → S ≡ c
+    → AreOf s (Reads S t ∷ ReadsClock S n ∷ H) → s.lines c ≡ [] → A
+line_not_none s S c t n H e o k = absurd (at (s.lines S) (first_line s S t n H o).1 (ap s.lines e ∙ k))
+  where
+    at : (xs : List (Option (List ℕ))) → xs ≡ t ∷ (first_line s S t n H o).0 → xs ≡ [] → ⊥
+    at xs e k = cc
 
-failed_none : (r : Rules) (s : Streams) (m : Match) (c : Colour) (T : List Event)
-    → fits_from r (block r m (match_after r m (FailsToRead c))) (match_after r m (FailsToRead c)) T ≡ true
-    → IsOf s (FailsToRead c ∷ T)
-    → (s.lines c ≡ []) × (s.fails c ≡ true)
-failed_none r s m c T f i =
-    let k = i.failures c (or_left (same_colour c c) (has_fault Read c T) (same_colour-self c)) in (
-      no_line r (block r m (match_after r m (FailsToRead c))) (match_after r m (FailsToRead c)) c T (s.lines c)
-          refl f k.0,
-      k.1,
-    )
-
-no_write : {A : Type 0} (s : Streams) (c : Colour) (T : List Event) → IsOf s (FailsToWrite c ∷ T) → A
-no_write s c T i = not_on (sym (or_first (same_colour c c) (has_fault Write c T) (i.writes c)) ∙ same_colour-self c)
-
-line_not_ended : {A : Type 0} (r : Rules) (s : Streams) (m : Match) (c d : Colour) (t : Option (List ℕ)) (n : ℕ)
-    (T U : List Event) → c ≡ d → IsOf s (Line c t n ∷ T)
-    → (s.lines d ≡ []) → A
-line_not_ended r s m c d t n T U e i k = cons_not_nil t (first_line s c t n T i).0 (s.lines c)
-    (first_line s c t n T i).1 (rw e k)
-
-first_moment : (s : Streams) (c : Colour) (t : Option (List ℕ)) (n : ℕ) (T : List Event) → IsOf s (Line c t n ∷ T)
-    → Some n ≡ Some (s.moments 0)
-first_moment s c t n T i = i.moments 0 (omega arith)
-
-opened_moment : (s : Streams) (c : Colour) (n : ℕ) (T : List Event) → IsOf s (Opened c n ∷ T) → Some n
-    ≡ Some (s.moments 0)
-opened_moment s c n T i = i.moments 0 (omega arith)
-
-same_line : (c d : Colour) (t u : Option (List ℕ)) (n k m : ℕ) (rest rest' lines lines' : List (Option (List ℕ))) → c
-    ≡ d → lines ≡ t ∷ rest → lines' ≡ u ∷ rest' → lines ≡ lines' → Some n ≡ Some m → Some k ≡ Some m
+same_line : (c d : Colour) (t u : Option (List ℕ)) (n k m : ℕ) (rest rest' lines lines' : List (Option (List ℕ)))
+    → c ≡ d → lines ≡ t ∷ rest → lines' ≡ u ∷ rest' → lines ≡ lines' → Some n ≡ Some m → Some k ≡ Some m
     → Line c t n ≡ Line d u k
 same_line c d t u n k m rest rest' lines lines' e f g l x y = cc
 
-same_opened : (c d : Colour) (n k m : ℕ) → c ≡ d → Some n ≡ Some m → Some k ≡ Some m → Opened c n ≡ Opened d k
-same_opened c d n k m e x y = cc
+same_opened : (c d : Colour) (n k m : ℕ) (p : Phase) → p ≡ Opening c → p ≡ Opening d → Some n ≡ Some m
+    → Some k ≡ Some m → Opened c n ≡ Opened d k
+same_opened c d n k m p e f x y = cc
 
-abbrev Goes : Rules → Match → Event → List Event → Type 0
-Goes r m e T = fits_from r (block r m (match_after r m e)) (match_after r m e) T ≡ true
+-- ---- the whole
 
-same_event : (r : Rules) (s : Streams) (due due' : Colour → List SentLine) (m : Match) (e f : Event) (T U : List Event)
-    → fits_next due m e ≡ true → fits_next due' m f ≡ true
-    → Goes r m e T → Goes r m f U → IsOf s (e ∷ T) → IsOf s (f ∷ U) → e ≡ f
-same_event r s due due' m (Line c t n) (Line d u k) T U a b g h i j =
-    let e : c ≡ d = one_reads m.phase c d a b in
-    same_line c d t u n k (s.moments 0) (first_line s c t n T i).0 (first_line s d u k U j).0 (s.lines c) (s.lines d) e
-    (first_line s c t n T i).1 (first_line s d u k U j).1 (ap s.lines e)
-    (first_moment s c t n T i) (first_moment s d u k U j)
-same_event r s due due' m (Opened c n) (Opened d k) T U a b g h i j =
-    same_opened c d n k (s.moments 0) (one_opens m.phase c d a b) (opened_moment s c n T i) (opened_moment s d k U j)
-same_event r s due due' m (OutputEnds c) (OutputEnds d) T U a b g h i j = ap OutputEnds (one_reads m.phase c d a b)
-same_event r s due due' m (FailsToRead c) (FailsToRead d) T U a b g h i j = ap FailsToRead (one_reads m.phase c d a b)
-same_event r s due due' m (Line c t n) (OutputEnds d) T U a b g h i j =
-    line_not_ended r s m c d t n T U (one_reads m.phase c d a b) i (ended_none r s m d U h j).0
-same_event r s due due' m (Line c t n) (FailsToRead d) T U a b g h i j =
-    line_not_ended r s m c d t n T U (one_reads m.phase c d a b) i (failed_none r s m d U h j).0
-same_event r s due due' m (OutputEnds c) (Line d u k) T U a b g h i j =
-    line_not_ended r s m d c u k U T (one_reads m.phase d c b a) j (ended_none r s m c T g i).0
-same_event r s due due' m (FailsToRead c) (Line d u k) T U a b g h i j =
-    line_not_ended r s m d c u k U T (one_reads m.phase d c b a) j (failed_none r s m c T g i).0
-same_event r s due due' m (OutputEnds c) (FailsToRead d) T U a b g h i j =
-    not_on (sym (ended_none r s m c T g i).1 ∙ ap s.fails (one_reads m.phase c d a b) ∙ (failed_none r s m d U h j).1)
-same_event r s due due' m (FailsToRead c) (OutputEnds d) T U a b g h i j =
-    not_on (sym (ended_none r s m d U h j).1 ∙ ap s.fails (one_reads m.phase d c b a) ∙ (failed_none r s m c T g i).1)
-same_event r s due due' m (Opened c n) (Line d u k) T U a b g h i j = reads_or_opens m.phase d c b a
-same_event r s due due' m (Opened c n) (OutputEnds d) T U a b g h i j = reads_or_opens m.phase d c b a
-same_event r s due due' m (Opened c n) (FailsToRead d) T U a b g h i j = reads_or_opens m.phase d c b a
-same_event r s due due' m (Line c t n) (Opened d k) T U a b g h i j = reads_or_opens m.phase c d a b
-same_event r s due due' m (OutputEnds c) (Opened d k) T U a b g h i j = reads_or_opens m.phase c d a b
-same_event r s due due' m (FailsToRead c) (Opened d k) T U a b g h i j = reads_or_opens m.phase c d a b
-same_event r s due due' m (FailsToWrite c) f T U a b g h i j = no_write s c T i
-same_event r s due due' m (Line c t n) (FailsToWrite d) T U a b g h i j = no_write s d U j
-same_event r s due due' m (Opened c n) (FailsToWrite d) T U a b g h i j = no_write s d U j
-same_event r s due due' m (OutputEnds c) (FailsToWrite d) T U a b g h i j = no_write s d U j
-same_event r s due due' m (FailsToRead c) (FailsToWrite d) T U a b g h i j = no_write s d U j
+-- two engines and a clock fix what follows
+abbrev One : Rules → Match → List Block → List Act → Type 0
+One r m due H = (s : Streams) (K : List Act) (final : Match) → IsMatchFrom r m due K final → AreOf s H → AreOf s K
+    → H ≡ K
 
--- ---- all events are
+one_sends : (r : Rules) (m : Match) (b : Block) (due : List Block) (H : List Act) → One r m due H
+    → One r m (b ∷ due) (Sends b ∷ H)
+one_sends r m b due H p s (Sends c ∷ K) final (e, g) o q =
+    let same : H ≡ K = p s K final g (of_sent s b H o) (of_sent s c K q) in rw (e, same) refl
+one_sends r m b due H p s (SendFails c ∷ K) final g o q = none_broke s c K q
+one_sends r m b due H p s [] final g o q = absurd g
+one_sends r m b due H p s (Reads S t ∷ K) final g o q = absurd g
+one_sends r m b due H p s (ReadsClock S n ∷ K) final g o q = absurd g
+one_sends r m b due H p s (ReadsEnd S ∷ K) final g o q = absurd g
+one_sends r m b due H p s (ReadFails S ∷ K) final g o q = absurd g
 
-over_not_on : {A : Type 0} (p : Phase) → is_some (ending_in p) ≡ true → is_on p ≡ true → A
-over_not_on p h1 h2 = grind arith
-
-one_from : (r : Rules) (s : Streams) (due due' : Colour → List SentLine) (m : Match) (T U : List Event)
-    → fits_from r due m T ≡ true → fits_from r due' m U ≡ true
-    → is_some (ending_in (match_from r m T).phase) ≡ true → is_some (ending_in (match_from r m U).phase) ≡ true
-    → IsOf s T → IsOf s U → T ≡ U
-one_from r s due due' m [] [] f g x y i j = refl
-one_from r s due due' m [] (e ∷ U) f g x y i j =
-    over_not_on m.phase x (fits_on due' m e (and_first (fits_next due' m e) _ g))
-one_from r s due due' m (e ∷ T) [] f g x y i j =
-    over_not_on m.phase y (fits_on due m e (and_first (fits_next due m e) _ f))
-one_from r s due due' m (e ∷ T) (d ∷ U) f g x y i j =
-    let goes_on : Goes r m e T = and_second (fits_next due m e) _ f in
-    let goes_too : Goes r m d U = and_second (fits_next due' m d) _ g in
-    let same : e ≡ d = same_event r s due due' m e d T U (and_first (fits_next due m e) _ f)
-    (and_first (fits_next due' m d) _ g) goes_on goes_too i j in
-    joined same (one_from r (streams_after e s) (block r m (match_after r m e)) (block r m (match_after r m e))
-    (match_after r m e) T U goes_on
-    (subst (λ (v : Event). Goes r m v U) (sym same) goes_too) x
-    (subst (λ (v : Event). is_some (ending_in (match_from r (match_after r m v) U).phase) ≡ true) (sym same) y)
-    (is_of_after s e T i)
-    (is_of_after s e U (subst (λ (v : Event). IsOf s (v ∷ U)) (sym same) j)))
+one_reads : (r : Rules) (m : Match) (S : Colour) (t : Option (List ℕ)) (n : ℕ) (H : List Act)
+    → awaits_line m.phase S ≡ true
+    → One r (effect r m (Line S t n)).after (blocks_after S (effect r m (Line S t n))) H
+    → One r m [] (Reads S t ∷ ReadsClock S n ∷ H)
+one_reads r m S t n H aw p s K final g o q = let (e, J, x) = next r m final K g in at e J x
   where
-    joined : e ≡ d → T ≡ U → e ∷ T ≡ d ∷ U
-    joined a b = rw (a, b) refl
+    at : (e : Option Event) (J : List Act) → Begins r m final K J e → Reads S t ∷ ReadsClock S n ∷ H ≡ K
+    at None J (is, over) = both_not (is_over m.phase) (on_when_read m.phase S aw) over
+    at (Some (Line c u k)) J x =
+        let q' : AreOf s (Reads c u ∷ ReadsClock c k ∷ J) = subst (λ (L : List Act). AreOf s L) x.0 q in
+        let side : S ≡ c = one_awaits m.phase S c aw x.1 in
+        let same : Line S t n ≡ Line c u k = same_line S c t u n k (s.moments 0) (first_line s S t n H o).0
+        (first_line s c u k J q').0 (s.lines S) (s.lines c) side (first_line s S t n H o).1 (first_line s c u k J q').1
+        (ap s.lines side) (first_moment n (moments_shown H) s.moments o.moments)
+        (first_moment k (moments_shown J) s.moments q'.moments) in
+        let y : Begins r m final K J (Some (Line S t n)) =
+        subst (λ (e : Event). Begins r m final K J (Some e)) (sym same) x in
+        ap (λ (L : List Act). Reads S t ∷ ReadsClock S n ∷ L) (p (after_read S t s) J final y.2 (of_read s S t n H o)
+        (of_read s S t n J (subst (λ (L : List Act). AreOf s L) y.0 q))) ∙ sym y.0
+    at (Some (Opened c k)) J x = awaits_or_opens m.phase S c aw x.1
+    at (Some (OutputEnds c)) J x = line_not_none s S c t n H (one_awaits m.phase S c aw x.1) o
+        (ended_none s c J (none_read r _ final _ J x.2 refl) (subst (λ (L : List Act). AreOf s L) x.0 q)).0
+    at (Some (FailsToRead c)) J x = line_not_none s S c t n H (one_awaits m.phase S c aw x.1) o
+        (failed_none s c J (none_read r _ final _ J x.2 refl) (subst (λ (L : List Act). AreOf s L) x.0 q)).0
+    at (Some (FailsToWrite c)) J x = absurd x
 
-pub only_one : OnlyOne
-only_one r s T U f g x y i j = one_from r s (lines_on_entering r start) (lines_on_entering r start) start T
-    U f g x y i j
+one_opens : (r : Rules) (m : Match) (S : Colour) (n : ℕ) (H : List Act) → m.phase ≡ Opening S
+    → One r (effect r m (Opened S n)).after [] H → One r m [] (ReadsClock S n ∷ H)
+one_opens r m S n H opening p s K final g o q = let (e, J, x) = next r m final K g in at e J x
+  where
+    at : (e : Option Event) (J : List Act) → Begins r m final K J e → ReadsClock S n ∷ H ≡ K
+    at None J (is, over) = both_not (is_over m.phase) (ap is_over opening) over
+    at (Some (Opened c k)) J x =
+        let q' : AreOf s (ReadsClock c k ∷ J) = subst (λ (L : List Act). AreOf s L) x.0 q in
+        let same : Opened S n ≡ Opened c k = same_opened S c n k (s.moments 0) m.phase opening x.1
+        (first_moment n (moments_shown H) s.moments o.moments)
+        (first_moment k (moments_shown J) s.moments q'.moments) in
+        let y : Begins r m final K J (Some (Opened S n)) =
+        subst (λ (e : Event). Begins r m final K J (Some e)) (sym same) x in
+        ap (λ (L : List Act). ReadsClock S n ∷ L) (p (record s { moments = λ n. s.moments (suc n) }) J final y.2
+        (of_opened s S n H o) (of_opened s S n J (subst (λ (L : List Act). AreOf s L) y.0 q))) ∙ sym y.0
+    at (Some (Line c u k)) J x = awaits_or_opens m.phase c S x.1 opening
+    at (Some (OutputEnds c)) J x = awaits_or_opens m.phase c S x.1 opening
+    at (Some (FailsToRead c)) J x = awaits_or_opens m.phase c S x.1 opening
+    at (Some (FailsToWrite c)) J x = absurd x
+
+one_ends : (r : Rules) (m : Match) (S : Colour) (H : List Act) → awaits_line m.phase S ≡ true → unread H ≡ true
+    → One r (effect r m (OutputEnds S)).after (blocks_from White (effect r m (OutputEnds S)).to) H
+    → One r m [] (ReadsEnd S ∷ H)
+one_ends r m S H aw u p s K final g o q = let (e, J, x) = next r m final K g in at e J x
+  where
+    none : (s.lines S ≡ []) × (s.fails S ≡ false)
+    none = ended_none s S H u o
+
+    at : (e : Option Event) (J : List Act) → Begins r m final K J e → ReadsEnd S ∷ H ≡ K
+    at None J (is, over) = both_not (is_over m.phase) (on_when_read m.phase S aw) over
+    at (Some (OutputEnds c)) J x =
+        let y : Begins r m final K J (Some (OutputEnds S)) =
+        subst (λ (d : Colour). Begins r m final K J (Some (OutputEnds d))) (one_awaits m.phase c S x.1 aw) x in
+        ap (λ (L : List Act). ReadsEnd S ∷ L) (p s J final y.2 (of_end s S H o)
+        (of_end s S J (subst (λ (L : List Act). AreOf s L) y.0 q))) ∙ sym y.0
+    at (Some (Line c u k)) J x = line_not_none s c S u k J (one_awaits m.phase c S x.1 aw)
+        (subst (λ (L : List Act). AreOf s L) x.0 q) none.0
+    at (Some (FailsToRead c)) J x = both_not (s.fails S) none.1 (ap s.fails (one_awaits m.phase S c aw x.1)
+        ∙ (failed_none s c J (none_read r _ final _ J x.2 refl) (subst (λ (L : List Act). AreOf s L) x.0 q)).1)
+    at (Some (Opened c k)) J x = awaits_or_opens m.phase S c aw x.1
+    at (Some (FailsToWrite c)) J x = absurd x
+
+one_fails : (r : Rules) (m : Match) (S : Colour) (H : List Act) → awaits_line m.phase S ≡ true → unread H ≡ true
+    → One r (effect r m (FailsToRead S)).after (blocks_from White (effect r m (FailsToRead S)).to) H
+    → One r m [] (ReadFails S ∷ H)
+one_fails r m S H aw u p s K final g o q = let (e, J, x) = next r m final K g in at e J x
+  where
+    none : (s.lines S ≡ []) × (s.fails S ≡ true)
+    none = failed_none s S H u o
+
+    at : (e : Option Event) (J : List Act) → Begins r m final K J e → ReadFails S ∷ H ≡ K
+    at None J (is, over) = both_not (is_over m.phase) (on_when_read m.phase S aw) over
+    at (Some (FailsToRead c)) J x =
+        let y : Begins r m final K J (Some (FailsToRead S)) =
+        subst (λ (d : Colour). Begins r m final K J (Some (FailsToRead d))) (one_awaits m.phase c S x.1 aw) x in
+        ap (λ (L : List Act). ReadFails S ∷ L) (p s J final y.2 (of_failure s S H o)
+        (of_failure s S J (subst (λ (L : List Act). AreOf s L) y.0 q))) ∙ sym y.0
+    at (Some (Line c u k)) J x = line_not_none s c S u k J (one_awaits m.phase c S x.1 aw)
+        (subst (λ (L : List Act). AreOf s L) x.0 q) none.0
+    at (Some (OutputEnds c)) J x = both_not (s.fails S) (ap s.fails (one_awaits m.phase S c aw x.1)
+        ∙ (ended_none s c J (none_read r _ final _ J x.2 refl) (subst (λ (L : List Act). AreOf s L) x.0 q)).1) none.1
+    at (Some (Opened c k)) J x = awaits_or_opens m.phase S c aw x.1
+    at (Some (FailsToWrite c)) J x = absurd x
+
+one_over : (r : Rules) (m : Match) → is_over m.phase ≡ true → One r m [] []
+one_over r m over s K final g o q = let (e, J, x) = next r m final K g in at e J x
+  where
+    at : (e : Option Event) (J : List Act) → Begins r m final K J e → [] ≡ K
+    at None J (is, o) = sym is
+    at (Some (Line c u k)) J x = both_not (is_over m.phase) (on_when_read m.phase c x.1) over
+    at (Some (Opened c k)) J x = both_not (is_over m.phase) (ap is_over x.1) over
+    at (Some (OutputEnds c)) J x = both_not (is_over m.phase) (on_when_read m.phase c x.1) over
+    at (Some (FailsToRead c)) J x = both_not (is_over m.phase) (on_when_read m.phase c x.1) over
+    at (Some (FailsToWrite c)) J x = absurd x
+
+pub only_one_match : OnlyOneMatch
+only_one_match r s H K final final' h k o q = (by_cases r final
+    (λ m due H. One r m due H × (is_over m.phase ≡ true → unread H ≡ true)) (record {
+  sends = λ m b due H p. (one_sends r m b due H p.0, p.1);
+  fails = λ m b due H on p. ((λ s K f g o q. none_broke s b H o), (λ x. both_not (is_over m.phase) on x));
+  fails_late = λ m b due H over p. ((λ s K f g o q. none_broke s b H o), p.1);
+  reads = λ m S t n H aw p. (one_reads r m S t n H aw p.0, awaits m S aw);
+  opens = λ m S n H opening p. (
+    one_opens r m S n H opening p.0,
+    λ x. both_not (is_over m.phase) (ap is_over opening) x,
+  );
+  ends = λ m S H aw p. (one_ends r m S H aw (p.1 refl) p.0, awaits m S aw);
+  read_fails = λ m S H aw p. (one_fails r m S H aw (p.1 refl) p.0, awaits m S aw);
+  over = λ over. (one_over r final over, λ x. refl);
+}) beginning.after (blocks_from White beginning.to) H h).0 s K final' k o q
+  where
+    awaits : {A : Type 0} (m : Match) (S : Colour) → awaits_line m.phase S ≡ true → is_over m.phase ≡ true → A
+    awaits m S aw over = both_not (is_over m.phase) (on_when_read m.phase S aw) over

@@ -17,7 +17,7 @@ use Rattle.chess_match.specs.Run.{engine_lines}
 use Rattle.chess_match.specs.laws.Laws.{Streams}
 use Rattle.chess_match.specs.laws.OfActs.{AreOf, OnlyOneMatchOfARun, ShowsAll}
 use Rattle.chess_match.proofs.AtDesk.{quiet_read}
-use Rattle.chess_match.proofs.LawsOfActs.{only_one_match}
+use Rattle.chess_match.proofs.OneLaw.{only_one_match}
 use Rattle.chess_match.proofs.MatchCases.{all_reads_end, both_not, reads_end}
 
 -- one run's reader gave one list of bytes

@@ -1,5 +1,5 @@
--- What a line can make of a match, whatever it says: what holds of each of these effects, and of the match that the code
--- then keeps, holds of the line's.
+-- What a line can make of a match, whatever it says: what holds of each of these effects, and of the match that the
+-- code then keeps, holds of the line's.
 use native.Mathlib.Omega.{arith}
 use Rattle.std.proofs.Common.{◌≡◌, ℕ, ◌+◌, ◌-◌, ◌≤◌, ◌<◌, Bool, true, false, not, ◌&&◌, List, [], ◌∷◌, ◌++◌, length, refl, sym, ap, subst, Option, None, Some}
 use Rattle.std.specs.Option.{option_map_or}
@@ -16,23 +16,20 @@ use Rattle.cecp_engine.specs.Items.{Item, has_done, plays_fischerandom, takes}
 use Rattle.chess_match.specs.Effects as effects
 use Rattle.chess_match.specs.Effects.{Effect}
 use Rattle.chess_match.specs.laws.Laws.{move_said, is_pong}
-use Rattle.chess_match.specs.laws.Machine.{Match, match_after, kept_match, view, phase_of, unsent_kept, items_of_line, seat, clock, over, enter, open_turn, take_items, played_by, was_sent_move, ping_number}
-use Rattle.chess_match.specs.Events.{Event, Line, Opened, OutputEnds, FailsToRead, FailsToWrite}
+use Rattle.chess_match.specs.laws.Machine.{Match, kept_match, view, phase_of, unsent_kept, items_of_line, seat, clock, over, enter, open_turn, take_items, played_by, was_sent_move, ping_number}
 use Rattle.chess_match.specs.Rules.{Rules, is_fischerandom}
 use Rattle.chess_match.specs.Lines.{SentLine, Says, ping, setup_lines}
-use Rattle.chess_match.specs.laws.Blocks.{block}
 use Rattle.chess_match.specs.Reasons.{is_unwritten}
-use Rattle.chess_match.specs.laws.Transcript.{reads, is_on, is_fault, fits_next, fits_from}
+use Rattle.chess_match.specs.laws.Transcript.{reads}
 use Rattle.chess_match.specs.declared.phase.Phase.{Phase}
 use Rattle.chess_match.specs.declared.phase.Phase.TheVariants.{Handshake, Setup, SendTurn, AwaitMove, AwaitPong, Over}
 use Rattle.chess_match.specs.declared.reason.DrawClaim.{DrawClaim}
 use Rattle.chess_match.specs.declared.reason.MatchFault.{MatchFault}
-use Rattle.chess_match.specs.declared.reason.MatchFault.TheVariants.{Flood, NoDone, NoPing, NoSetboard, NoVariant, Ended, Read, Write}
+use Rattle.chess_match.specs.declared.reason.MatchFault.TheVariants.{Flood, NoDone, NoPing, NoSetboard, NoVariant}
 use Rattle.chess_match.specs.declared.reason.Reason.{Reason}
 use Rattle.chess_match.specs.declared.reason.Reason.TheVariants.{Decided, Claimed, Agreed, Resigns as ResignsBy, MovesIllegally, MovesOutOfTurn, ClaimsFalsely, RejectsLegalMove, Forfeits, ForfeitsToBareKing, GameTooLong, Faulted}
-use Rattle.chess_match.proofs.Going.{offered, opens_at, reads_on, setup_by_pong}
+use Rattle.chess_match.proofs.Going.{offered, setup_by_pong}
 use Rattle.chess_match.proofs.KeptMatches.{counts_kept, decides_kept, items_kept, offers_kept, over_kept, plays_kept, with_items}
-use Rattle.chess_match.specs.ties.Steps.{match_from}
 
 -- ---- the effects
 
@@ -359,48 +356,10 @@ pub line_outcome : (r : Rules) (S : Colour) (kind : LineKind) (moment : ℕ) (m 
     → P (kept_match m (effects.line_row r (phase_of m.opened m.phase) kind moment (view m)).after)
 line_outcome r S kind moment m P h l = line_cases r S kind moment m (λ e m'. P m') h l
 
--- whatever an event is
-pub record Events (r : Rules) (m : Match) (e : Event) (P : Match → Type 0) : Type 0 where
-  pub line : (S : Colour) (text : Option (List ℕ)) (moment : ℕ) → e ≡ Line S text moment → reads m.phase S ≡ true
-      → Lines r S (line_kind text) moment m P
-  pub opened : (S : Colour) (moment : ℕ) → e ≡ Opened S moment → m.phase ≡ SendTurn S
-      → P (record m { phase = AwaitMove S; opened = moment })
-  pub faulted : (S : Colour) (f : MatchFault) → is_on m.phase ≡ true
-      → ((O : Colour) → is_unwritten (Faulted S f) O ≡ is_fault Write O e) → P (over (Faulted S f) m)
-
 pub and_first : (a b : Bool) → a && b ≡ true → a ≡ true
 and_first true b h = refl
 and_first false b h = cc
 
-pub and_second : (a b : Bool) → a && b ≡ true → b ≡ true
-and_second true b h = h
-and_second false b h = cc
-
 pub not_other : (S : Colour) → same_colour S (other S) ≡ false
 not_other White = refl
 not_other Black = refl
-
-pub not_on : {A : Type 0} → false ≡ true → A
-not_on h = cc
-
-pub fits_on : (due : Colour → List SentLine) (m : Match) (e : Event) → fits_next due m e ≡ true → is_on m.phase ≡ true
-fits_on due m e h1 = grind arith
-
-pub event_outcome : (r : Rules) (due : Colour → List SentLine) (m : Match) (e : Event) (P : Match → Type 0)
-    → fits_next due m e ≡ true → Events r m e P → P (match_after r m e)
-event_outcome r due m (Line S text moment) P h v =
-    line_outcome r S (line_kind text) moment m P h (v.line S text moment refl h)
-event_outcome r due m (Opened S moment) P h v = v.opened S moment refl (opens_at m.phase S h)
-event_outcome r due m (OutputEnds S) P h v = v.faulted S Ended (reads_on m.phase S h) (λ O. refl)
-event_outcome r due m (FailsToRead S) P h v = v.faulted S Read (reads_on m.phase S h) (λ O. refl)
-event_outcome r due m (FailsToWrite S) P h v = v.faulted S Write (and_first (is_on m.phase) _ h) (λ O. refl)
-
--- what each event that fits keeps is so at the end
-pub kept_by : (r : Rules) (P : Match → Type 0)
-    → ((due : Colour → List SentLine) (m : Match) (e : Event) → fits_next due m e ≡ true → P m → P (match_after r m e))
-    → (due : Colour → List SentLine) (m : Match) (T : List Event) → fits_from r due m T ≡ true → P m
-    → P (match_from r m T)
-kept_by r P step due m [] f p = p
-kept_by r P step due m (e ∷ T) f p =
-    kept_by r P step (block r m (match_after r m e)) (match_after r m e) T (and_second (fits_next due m e) _ f)
-    (step due m e (and_first (fits_next due m e) _ f) p)

@@ -1,5 +1,5 @@
 -- The times that an engine is sent are the clocks.
-use Rattle.std.proofs.Common.{◌≡◌, ℕ, ◌+◌, ◌-◌, ◌/◌, ◌≤◌, Bool, true, false, ◌||◌, List, [], ◌∷◌, ◌++◌, length, length-append, drop, refl, ap, subst, ◌∙◌, append-nil, Option, arith}
+use Rattle.std.proofs.Common.{◌≡◌, ℕ, ◌+◌, ◌/◌, ◌≤◌, Bool, true, false, ◌||◌, List, [], ◌∷◌, ◌++◌, length, length-append, drop, refl, ap, sym, subst, ◌∙◌, append-nil, arith}
 use Rattle.std.specs.Prelude.{if◌then◌else◌, codes, sum}
 use Rattle.std.specs.List.{flat_map}
 use Rattle.std.proofs.lemmas.Grind.{flat_map-append}
@@ -8,28 +8,22 @@ use Rattle.chess_base.specs.declared.man.Colour.{Colour}
 use Rattle.chess_base.specs.declared.man.Colour.TheVariants.{White, Black}
 use Rattle.chess_base.specs.declared.man.Move.{Move}
 use Rattle.chess_base.specs.Men.{other, same_colour}
-use Rattle.chess_base.proofs.shared.Men.{same_colour-self}
-use Rattle.chess_game.specs.declared.verdicts.Verdict.{Verdict}
-use Rattle.cecp_engine.specs.EngineLines.{LineKind, line_kind}
-use Rattle.cecp_engine.specs.Items.{Item, takes}
-use Rattle.chess_match.specs.laws.Laws.{centiseconds, time_sent, otim_sent, TimesAreClocks, OtherTimesAreClocks, sent}
+use Rattle.chess_base.specs.Options.{list_if}
+use Rattle.chess_base.proofs.shared.Men.{same_colour-true}
+use Rattle.cecp_engine.specs.EngineLines.{LineKind}
+use Rattle.cecp_engine.specs.Items.{takes}
 use Rattle.cecp_engine.specs.Levels.{LevelSeen, time_left}
-use Rattle.chess_match.specs.laws.Machine.{Match, items_of_line, seat, take_items, start, over, enter, open_turn, played_by, match_after, clock}
-use Rattle.chess_match.specs.Events.{Event, Line, Opened, OutputEnds, FailsToRead, FailsToWrite}
+use Rattle.chess_match.specs.Acts.{Act, Block, IsMatch, IsMatchFrom, is_over}
+use Rattle.chess_match.specs.Effects.{Match, Phase, Handshake, Setup, Opening, BeforeMove, AfterMove, Over, begins_turn, beginning, clock, ends, enter, moved, opening}
+use Rattle.chess_match.specs.Lines.{SentLine, Says}
 use Rattle.chess_match.specs.Rules.{Rules}
-use Rattle.chess_match.specs.Lines.{SentLine, Says, setup_lines}
-use Rattle.chess_match.specs.laws.Blocks.{lines_on_entering, entry_to, is_same_phase, opening_lines, last_move_sent, last_move_lines, clock_lines, end_lines, unsent_lines}
-use Rattle.chess_match.specs.laws.Transcript.{reads, match_of, fits, fits_next, blocks_from, joined_blocks}
-use Rattle.chess_match.specs.declared.phase.Phase.{Phase}
-use Rattle.chess_match.specs.declared.phase.Phase.TheVariants.{Handshake, Setup, SendTurn, AwaitMove, AwaitPong, Over}
-use Rattle.chess_match.specs.declared.reason.MatchFault.TheVariants.{NoDone, Ended, Read, Write}
 use Rattle.chess_match.specs.declared.reason.Reason.{Reason}
-use Rattle.chess_match.specs.declared.reason.Reason.TheVariants.{Decided, Faulted}
-use Rattle.chess_match.proofs.Blocks.{if_nil}
-use Rattle.chess_match.proofs.Outcomes.{Lines, InTurn, line_outcome}
-use Rattle.chess_match.proofs.LinesOfOneKind.{now, gathered, unsent}
-use Rattle.chess_match.proofs.Going.{is_opening, offered, opens_at, sum-snoc}
-use Rattle.chess_match.proofs.Seats.{items_used, items_same, used_same}
+use Rattle.chess_match.specs.laws.Laws.{centiseconds, otim_sent, time_sent}
+use Rattle.chess_match.specs.laws.OfActs.{AtEachMoment, OtherTimesAreClocks, TimesAreClocks, ends_in_line, lines_given, match_after}
+use Rattle.chess_match.proofs.Givings.{Gives, Goes, Sofar, given_at, grows, keeps, sends}
+use Rattle.chess_match.proofs.Going.{sum-snoc}
+use Rattle.chess_match.proofs.LineCases.{offering, said_by}
+use Rattle.chess_match.proofs.Points.{Kept, moved_items, moved_used, offered_items, offered_used, said_used}
 
 -- ---- the lines
 
@@ -47,53 +41,18 @@ no_text : (own : Bool) (text : List ℕ) → numbers own (Says text) ≡ []
 no_text true text = refl
 no_text false text = refl
 
-setup_times : (own : Bool) (r : Rules) → flat_map (numbers own) (setup_lines r) ≡ []
-unfolding setup_lines
-setup_times own r = grind arith
-
-last_times : (own : Bool) (r : Rules) (m : Match) (S : Colour) → flat_map (numbers own) (last_move_lines r m S) ≡ []
-unfolding last_move_sent
-last_times own r m S = grind arith
-
-unsent_times : (own : Bool) (r : Rules) (m : Match) (S : Colour) (unsent_to : Option Colour)
-    → flat_map (numbers own) (unsent_lines r m S unsent_to) ≡ []
-unfolding last_move_sent
-unsent_times own r m S unsent_to = grind arith
-
-end_times : (own : Bool) (r : Rules) (m : Match) (S : Colour) (reason : Reason)
-    → flat_map (numbers own) (end_lines r m S reason) ≡ []
-unfolding end_lines
-end_times true r m S reason = flat_map-append time_sent (unsent_lines r m S m.unsent_to) _
-    ∙ append-nil (flat_map time_sent (unsent_lines r m S m.unsent_to)) ∙ unsent_times true r m S m.unsent_to
-end_times false r m S reason = flat_map-append otim_sent (unsent_lines r m S m.unsent_to) _
-    ∙ append-nil (flat_map otim_sent (unsent_lines r m S m.unsent_to)) ∙ unsent_times false r m S m.unsent_to
-
 -- the clock that is sent in an opening, where the engine takes `time`
-abbrev clock_shown : Bool → Rules → Match → Colour → List ℕ
-clock_shown own r m S = if takes (codes "time") (seat m S).items then clock r m (whose own S) / 10 ∷ [] else []
+abbrev last_shown : Rules → Bool → List ℕ → List ℕ
+last_shown r takes used = if takes then time_left r.level (length used) (sum used) / 10 ∷ [] else []
 
-clock_times : (own : Bool) (r : Rules) (m : Match) (S : Colour) → flat_map (numbers own) (clock_lines r m S)
-    ≡ clock_shown own r m S
-unfolding clock_lines
-clock_times own r m S = grind arith
+opening_times : (own : Bool) (r : Rules) (m : Match) (S : Colour) → flat_map (numbers own) (opening r m S)
+    ≡ last_shown r (takes (codes "time") (m.seat S).items) (m.seat (whose own S)).used
+opening_times true r m S = grind (arith, flat_map-append, append-nil)
+opening_times false r m S = grind (arith, flat_map-append, append-nil)
 
-go_times : (own : Bool) → flat_map (numbers own) (Says (codes "go") ∷ []) ≡ []
-go_times true = refl
-go_times false = refl
-
-opening_times : (own : Bool) (r : Rules) (m : Match) (S : Colour) → flat_map (numbers own) (opening_lines r m S)
-    ≡ clock_shown own r m S
-unfolding opening_lines
-opening_times own r m S =
-    grind (arith, flat_map-append, last_times own r m S, clock_times own r m S, go_times own, append-nil)
-
-in_openings : (own : Bool) (r : Rules) (m : Match) (S : Colour) (p : Phase) → is_opening p ≡ false
-    → flat_map (numbers own) (entry_to r m S p) ≡ []
-in_openings own r m S p h1 = grind (arith, setup_times own r, end_times own r m S, no_text own)
-
-opening_shown : (own : Bool) (r : Rules) (m : Match) (S c : Colour)
-    → flat_map (numbers own) (entry_to r m S (SendTurn c)) ≡ (if same_colour c S then clock_shown own r m S else [])
-opening_shown own r m S c = grind (arith, opening_times own r m S)
+end_times : (own : Bool) (r : Rules) (m : Match) (reason : Reason) (S : Colour)
+    → flat_map (numbers own) ((ends r reason m).to S) ≡ []
+end_times own r m reason S = grind arith
 
 -- ---- the clocks
 
@@ -117,93 +76,61 @@ from false xs = drop 1 xs
 abbrev all_shown : Bool → Rules → Bool → List ℕ → List ℕ
 all_shown whole r takes used = if takes then from whole (centiseconds r.level 0 0 used) else []
 
-abbrev last_shown : Rules → Bool → List ℕ → List ℕ
-last_shown r takes used = if takes then time_left r.level (length used) (sum used) / 10 ∷ [] else []
-
 -- what is still to be sent in this phase: the last, where S's turn wasn't opened since the clock changed
 abbrev pending : Bool → Phase → Colour → List ℕ → List ℕ
-pending true (SendTurn c) S t = if same_colour c S then [] else t
-pending true (AwaitMove c) S t = if same_colour c S then [] else t
-pending true (AwaitPong c) S t = t
-pending false (AwaitPong c) S t = if same_colour c S then [] else t
+pending true (Opening c) S t = if same_colour c S then [] else t
+pending true (BeforeMove c opened) S t = if same_colour c S then [] else t
+pending true (AfterMove c) S t = t
+pending false (AfterMove c) S t = if same_colour c S then [] else t
 pending own p S t = []
 
 abbrev is_whole : Bool → Rules → Colour → Bool
 is_whole own r S = own || same_colour S r.first
 
-abbrev TimesIn : Bool → Rules → Colour → Phase → List ℕ → Bool → List ℕ → Type 0
-TimesIn own r S (Handshake c) X takes used = (X ≡ []) × (used ≡ [])
-TimesIn own r S (Setup c) X takes used = (X ≡ []) × (used ≡ [])
-TimesIn own r S (SendTurn c) X takes used = X ++ pending own (SendTurn c) S (last_shown r takes used)
-    ≡ all_shown (is_whole own r S) r takes used
-TimesIn own r S (AwaitMove c) X takes used = X ++ pending own (AwaitMove c) S (last_shown r takes used)
-    ≡ all_shown (is_whole own r S) r takes used
-TimesIn own r S (AwaitPong c) X takes used = X ++ pending own (AwaitPong c) S (last_shown r takes used)
-    ≡ all_shown (is_whole own r S) r takes used
-TimesIn own r S (Over reason) X takes used = (rest : List ℕ) × (length rest ≤ 1)
-    × (X ++ rest ≡ all_shown (is_whole own r S) r takes used)
+-- before the game nothing is to be sent
+abbrev AllIn : Bool → Rules → Colour → Phase → Bool → List ℕ → List ℕ
+AllIn own r S (Handshake c) takes used = []
+AllIn own r S (Setup c) takes used = []
+AllIn own r S p takes used = all_shown (is_whole own r S) r takes used
 
-abbrev TimesOf : Bool → Rules → Colour → Phase → List ℕ → Match → Type 0
-TimesOf own r S p X m = TimesIn own r S p X (takes (codes "time") (seat m S).items) (seat m (whose own S)).used
+abbrev RestIn : Bool → Rules → Colour → Phase → Bool → List ℕ → List ℕ → Type 0
+RestIn own r S (Handshake c) takes used rest = (rest ≡ []) × (used ≡ [])
+RestIn own r S (Setup c) takes used rest = (rest ≡ []) × (used ≡ [])
+RestIn own r S (Over reason) takes used rest = Unit {0}
+RestIn own r S p takes used rest = rest ≡ pending own p S (last_shown r takes used)
 
-abbrev Times : Bool → Rules → Colour → List ℕ → Match → Type 0
-Times own r S X m = TimesOf own r S m.phase X m
+abbrev takes_time : Match → Colour → Bool
+takes_time m S = takes (codes "time") (m.seat S).items
 
-times_in : (own : Bool) (r : Rules) (S : Colour) (X : List ℕ) (m : Match) (p : Phase) → m.phase ≡ p → Times own r S X m
-    → TimesOf own r S p X m
-times_in own r S X m p e h = subst (λ (q : Phase). TimesOf own r S q X m) e h
+abbrev AllOf : Bool → Rules → Colour → Match → List ℕ
+AllOf own r S m = AllIn own r S m.phase (takes_time m S) (m.seat (whose own S)).used
+
+abbrev RestIs : Bool → Rules → Colour → Match → List ℕ → Type 0
+RestIs own r S m rest = RestIn own r S m.phase (takes_time m S) (m.seat (whose own S)).used rest
+
+rest_in : (own : Bool) (r : Rules) (S : Colour) (m : Match) (p : Phase) (rest : List ℕ) → m.phase ≡ p
+    → RestIs own r S m rest → RestIn own r S p (takes_time m S) (m.seat (whose own S)).used rest
+rest_in own r S m p rest e h =
+    subst (λ (q : Phase). RestIn own r S q (takes_time m S) (m.seat (whose own S)).used rest) e h
 
 -- ---- lists
+
+all_short : (whole : Bool) (r : Rules) (takes : Bool) → length (all_shown whole r takes []) ≤ 1
+all_short whole r takes = grind arith
 
 last_short : (r : Rules) (takes : Bool) (used : List ℕ) → length (last_shown r takes used) ≤ 1
 last_short r true used = omega arith
 last_short r false used = omega arith
 
-pending_short : (own : Bool) (p : Phase) (S : Colour) (t : List ℕ) → length t ≤ 1 → length (pending own p S t) ≤ 1
-pending_short own p S t h1 = grind arith
-
-all_short : (whole : Bool) (r : Rules) (takes : Bool) → length (all_shown whole r takes []) ≤ 1
-all_short whole r takes = grind arith
-
-empty_over : (own : Bool) (r : Rules) (S : Colour) (X : List ℕ) (takes : Bool) (used : List ℕ) → X ≡ [] → used ≡ []
-    → (rest : List ℕ) × (length rest ≤ 1) × (X ++ rest ≡ all_shown (is_whole own r S) r takes used)
-empty_over own r S X takes used x u = rw (x, u)
-    (all_shown (is_whole own r S) r takes [], all_short (is_whole own r S) r takes, refl)
-
-over_times : (own : Bool) (r : Rules) (S : Colour) (X : List ℕ) (takes : Bool) (used : List ℕ) (p : Phase)
-    → TimesIn own r S p X takes used
-    → (rest : List ℕ) × (length rest ≤ 1) × (X ++ rest ≡ all_shown (is_whole own r S) r takes used)
-over_times own r S X takes used (Handshake c) h = empty_over own r S X takes used h.0 h.1
-over_times own r S X takes used (Setup c) h = empty_over own r S X takes used h.0 h.1
-over_times own r S X takes used (SendTurn c) h = (
-  pending own (SendTurn c) S (last_shown r takes used),
-  pending_short own (SendTurn c) S (last_shown r takes used)
-      (last_short r takes used),
-  h,
-)
-over_times own r S X takes used (AwaitMove c) h = (
-  pending own (AwaitMove c) S (last_shown r takes used),
-  pending_short own (AwaitMove c) S (last_shown r takes used)
-      (last_short r takes used),
-  h,
-)
-over_times own r S X takes used (AwaitPong c) h = (
-  pending own (AwaitPong c) S (last_shown r takes used),
-  pending_short own (AwaitPong c) S (last_shown r takes used)
-      (last_short r takes used),
-  h,
-)
-over_times own r S X takes used (Over reason) h = h
-
 -- the turn passes
-passes_times : (own : Bool) (c S : Colour) (X t A : List ℕ) → X ++ pending own (AwaitPong c) S t ≡ A
-    → (X ++ (if same_colour (other c) S then t else [])) ++ pending own (SendTurn (other c)) S t ≡ A
-passes_times own c S X t A h = grind (arith, append-nil)
+passes_times : (own : Bool) (c S : Colour) (t : List ℕ) → pending own (AfterMove c) S t
+    ≡ (if same_colour (other c) S then t else []) ++ pending own (Opening (other c)) S t
+passes_times own c S t = grind (arith, append-nil)
 
 -- the first turn is opened
 opens_times : (own : Bool) (r : Rules) (S c : Colour) (takes : Bool)
-    → (if same_colour c S then last_shown r takes [] else []) ++ pending own (SendTurn c) S (last_shown r takes [])
-    ≡ all_shown (own || same_colour S c) r takes []
+    → all_shown (own || same_colour S c) r takes []
+    ≡ (if same_colour c S then last_shown r takes [] else []) ++ pending own (Opening c) S (last_shown r takes [])
 opens_times own r S c takes = grind arith
 
 from-append : (whole : Bool) (level : LevelSeen) (us : List ℕ) (t : List ℕ)
@@ -222,213 +149,223 @@ all_more whole r true used u =
     (sum (used ++ u ∷ [])) (omega (arith, l)) (omega (arith, s)))
     ∙ from-append whole r.level used (time_left r.level (length (used ++ u ∷ [])) (sum (used ++ u ∷ [])) / 10 ∷ [])
 
--- ---- the matches
+-- where S's clock that is shown to O changes, all was sent before, and the last is to be sent after; else it is as it was
+none_before : (own : Bool) (S O : Colour) (opened : ℕ) (t : List ℕ) → same_colour S (whose own O) ≡ true
+    → pending own (BeforeMove S opened) O t ≡ []
+none_before own S O opened t h1 = grind arith
 
-carried : (own : Bool) (r : Rules) (S : Colour) (p : Phase) (X : List ℕ) (m m' : Match) → m'.white.items ≡ m.white.items
-    → m'.black.items ≡ m.black.items
-    → m'.white.used ≡ m.white.used → m'.black.used ≡ m.black.used → TimesOf own r S p X m → TimesOf own r S p X m'
-carried own r S p X m m' wi bi wu bu h = rw (items_same m m' wi bi S, used_same m m' wu bu (whose own S)) h
+all_after : (own : Bool) (S O : Colour) (t : List ℕ) → same_colour S (whose own O) ≡ true
+    → pending own (AfterMove S) O t ≡ t
+all_after own S O t h1 = grind arith
 
-abbrev Goes : Bool → Rules → Colour → List ℕ → Match → Match → Type 0
-Goes own r S X m m' = Times own r S (X ++ now (numbers own) r S m m') m'
+as_before : (own : Bool) (S O : Colour) (opened : ℕ) (t : List ℕ) → same_colour S (whose own O) ≡ false
+    → pending own (AfterMove S) O t ≡ pending own (BeforeMove S opened) O t
+as_before own S O opened t h1 = grind arith
 
-quiet_now : (own : Bool) (r : Rules) (S : Colour) (m m' : Match) → is_opening m'.phase ≡ false
-    → now (numbers own) r S m m' ≡ []
-quiet_now own r S m m' e = if_nil (is_same_phase m.phase m'.phase) (flat_map (numbers own) (lines_on_entering r m' S))
-    (in_openings own r m' S m'.phase e)
+opened_same : (own : Bool) (c S : Colour) (k : ℕ) (t : List ℕ) → pending own (Opening c) S t
+    ≡ pending own (BeforeMove c k) S t
+opened_same true c S k t = refl
+opened_same false c S k t = refl
 
-quiet_goes : (own : Bool) (r : Rules) (S : Colour) (X : List ℕ) (m m' : Match) → is_opening m'.phase ≡ false
-    → Times own r S X m' → Goes own r S X m m'
-quiet_goes own r S X m m' e h = rw (quiet_now own r S m m' e, append-nil X) h
+-- ---- the events
 
-not_opening : (p : Phase) (S : Colour) → reads p S ≡ true → is_opening p ≡ false
-not_opening p S h1 = grind arith
-
-over_goes : (own : Bool) (r : Rules) (S : Colour) (X : List ℕ) (reason : Reason) (m : Match) → Times own r S X m
-    → Goes own r S X m (over reason m)
-over_goes own r S X reason m h =
-    quiet_goes own r S X m (over reason m) refl
-    (carried own r S (Over reason) X m (over reason m) refl refl refl refl
-    (over_times own r S X (takes (codes "time") (seat m S).items) (seat m (whose own S)).used m.phase h))
-
-counts_goes : (own : Bool) (r : Rules) (S c : Colour) (X : List ℕ) (n : ℕ) (m : Match) → reads m.phase c ≡ true
-    → Times own r S X m → Goes own r S X m (record m { count = n })
-counts_goes own r S c X n m here h =
-    quiet_goes own r S X m (record m { count = n }) (not_opening m.phase c here)
-    (carried own r S m.phase X m (record m { count = n }) refl refl refl refl h)
-
-offers_goes : (own : Bool) (r : Rules) (S c : Colour) (X : List ℕ) (m : Match) → reads m.phase c ≡ true
-    → Times own r S X m → Goes own r S X m (offered c m)
-offers_goes own r S White X m here h =
-    quiet_goes own r S X m (offered White m) (not_opening m.phase White here)
-    (carried own r S m.phase X m (offered White m) refl refl refl refl h)
-offers_goes own r S Black X m here h =
-    quiet_goes own r S X m (offered Black m) (not_opening m.phase Black here)
-    (carried own r S m.phase X m (offered Black m) refl refl refl refl h)
-
-played_times : (own : Bool) (r : Rules) (S c : Colour) (X : List ℕ) (move : Move) (used : ℕ) (m : Match)
-    → TimesOf own r S (AwaitMove c) X m → TimesOf own r S (AwaitPong c) X (played_by c move used m)
-played_times own r S c X move used m h = grind (arith, all_more, append-nil)
-
-plays_goes : (own : Bool) (r : Rules) (S c : Colour) (X : List ℕ) (move : Move) (used : ℕ) (m : Match)
-    → TimesOf own r S (AwaitMove c) X m → Goes own r S X m (played_by c move used m)
-plays_goes own r S White X move used m h =
-    quiet_goes own r S X m (played_by White move used m) refl (played_times own r S White X move used m h)
-plays_goes own r S Black X move used m h =
-    quiet_goes own r S X m (played_by Black move used m) refl (played_times own r S Black X move used m h)
-
-decides_goes : (own : Bool) (r : Rules) (S c : Colour) (X : List ℕ) (move : Move) (used : ℕ) (v : Verdict) (m : Match)
-    → TimesOf own r S (AwaitMove c) X m
-    → Goes own r S X m (over (Decided v) (played_by c move used m))
-decides_goes own r S c X move used v m h =
-    let m' = played_by c move used m in
-    quiet_goes own r S X m (over (Decided v) m') refl
-    (carried own r S (Over (Decided v)) X m' (over (Decided v) m') refl refl refl refl
-    (over_times own r S X (takes (codes "time") (seat m' S).items) (seat m' (whose own S)).used (AwaitPong c)
-    (played_times own r S c X move used m h)))
-
-turn_goes : (own : Bool) (r : Rules) (S c : Colour) (X : List ℕ) (m : Match) → is_same_phase m.phase (SendTurn c)
-    ≡ false
-    → (X ++ (if same_colour c S then clock_shown own r m S else [])) ++ pending own (SendTurn c) S (clock_shown own r m S)
-    ≡ all_shown (is_whole own r S) r (takes (codes "time") (seat m S).items) (seat m (whose own S)).used
-    → Goes own r S X m (open_turn c m)
-turn_goes own r S c X m out h =
-    rw (out, opening_shown own r (open_turn c m) S c)
-    (carried_turn (items_same m (open_turn c m) refl refl S) (used_same m (open_turn c m) refl refl (whose own S)))
+stops : (own : Bool) (r : Rules) (O : Colour) (m : Match) (reason : Reason) (rest : List ℕ) → is_over m.phase ≡ false
+    → length rest ≤ 1 → RestIs own r O m rest
+    → Goes (AllOf own r O) (RestIs own r O) m rest (flat_map (numbers own) ((ends r reason m).to O))
+    (ends r reason m).after
+stops own r O m reason rest on l h = rw (end_times own r m reason O) (at m.phase refl on h)
   where
-    carried_turn : (seat (open_turn c m) S).items ≡ (seat m S).items → (seat (open_turn c m) (whose own S)).used
-        ≡ (seat m (whose own S)).used
-        → TimesOf own r S (SendTurn c) (X ++ (if same_colour c S then clock_shown own r (open_turn c m) S else []))
-        (open_turn c m)
-    carried_turn i u = rw (i, u) h
+    used : List ℕ
+    used = (m.seat (whose own O)).used
 
--- in a handshake nothing was sent, and no move made
-handshake_goes : (own : Bool) (r : Rules) (S c d : Colour) (X : List ℕ) (items : List Item) (m : Match) → TimesOf own r S (Handshake d) X m → (reason : Reason)
-    → (Times own r S X (enter (Handshake Black) (take_items c items m)))
-    × (Times own r S X (enter (Setup White) (take_items c items m)))
-    × (Times own r S X (enter (Over reason) (take_items c items m)))
-    × (Times own r S X (over reason (take_items c items m)))
-handshake_goes own r S c d X items m h reason =
-    let u = items_used c items m in
-    let used : (m' : Match) → m'.white.used ≡ m.white.used → m'.black.used ≡ m.black.used
-    → (seat m' (whose own S)).used ≡ [] = λ m' w b. used_same m m' w b (whose own S) ∙ h.1 in (
-      (h.0, used (enter (Handshake Black) (take_items c items m)) u.0 u.1),
-      (h.0, used (enter (Setup White) (take_items c items m)) u.0 u.1),
-      empty_over own r S X _ _ h.0 (used (enter (Over reason) (take_items c items m)) u.0 u.1),
-      empty_over own r S X _ _ h.0 (used (over reason (take_items c items m)) u.0 u.1),
-    )
+    n : Match
+    n = (ends r reason m).after
 
-handshake_counts : (own : Bool) (r : Rules) (S c : Colour) (X : List ℕ) (items : List Item) (n : ℕ) (m : Match)
-    → m.phase ≡ Handshake c → TimesOf own r S (Handshake c) X m
-    → (let m' = take_items c items m in Goes own r S X m (record m' { count = n }))
-handshake_counts own r S c X items n m p h = grind (arith, p, h.0, h.1, same_colour-self c, append-nil)
+    begun : (p : Phase) → m.phase ≡ p → AllIn own r O p (takes_time m O) used ≡ [] → rest ≡ [] → used ≡ []
+        → Goes (AllOf own r O) (RestIs own r O) m rest [] n
+    begun p e none q u = grows (AllOf own r O) (RestIs own r O) m n rest (AllOf own r O n) [] (AllOf own r O n) q
+        (rw u (all_short (is_whole own r O) r (takes_time m O))) (rw (e, none) refl) refl tt
 
-first_turn : (own : Bool) (r : Rules) (S : Colour) (X : List ℕ) (takes : Bool) (used : List ℕ) → X ≡ [] → used ≡ []
-    → (X ++ (if same_colour r.first S then last_shown r takes used else []))
-    ++ pending own (SendTurn r.first) S (last_shown r takes used) ≡ all_shown (is_whole own r S) r takes used
-first_turn own r S X takes used x u = rw (x, u) (opens_times own r S r.first takes)
+    in_game : (p : Phase) → m.phase ≡ p → AllIn own r O p (takes_time m O) used ≡ AllOf own r O n
+        → Goes (AllOf own r O) (RestIs own r O) m rest [] n
+    in_game p e same = sends (AllOf own r O) (RestIs own r O) m n rest [] rest l refl (rw e (sym same)) tt
 
-lines_go : (own : Bool) (r : Rules) (S c : Colour) (X : List ℕ) (kind : LineKind) (moment : ℕ) (m : Match)
-    → reads m.phase c ≡ true → Times own r S X m
-    → Lines r c kind moment m (λ m'. Goes own r S X m m')
-lines_go own r S c X kind moment m here h = record {
-  handshake_ends = λ p d. quiet_goes own r S X m (over (Faulted c NoDone) (take_items c (items_of_line kind) m)) refl
-      (handshake_goes own r S c c X (items_of_line kind) m (times_in own r S X m (Handshake c) p h)
-      (Faulted c NoDone)).3;
-  handshake_counts = λ p d few. handshake_counts own r S c X (items_of_line kind) (m.count + 1) m p
-      (times_in own r S X m (Handshake c) p h);
-  handshake_next = λ p s d. quiet_goes own r S X m (enter (Handshake Black) (take_items c (items_of_line kind) m)) refl
-      (handshake_goes own r S c White X (items_of_line kind) m (times_in own r S X m (Handshake White) p h)
-      (Faulted c NoDone)).0;
-  handshake_judged = λ p s d b f mild. quiet_goes own r S X m
-      (enter (Over (Faulted b f)) (take_items c (items_of_line kind) m)) refl
-      (handshake_goes own r S c Black X (items_of_line kind) m (times_in own r S X m (Handshake Black) p h)
-      (Faulted b f)).2;
-  handshake_done = λ p s d. quiet_goes own r S X m (enter (Setup White) (take_items c (items_of_line kind) m)) refl
-      (handshake_goes own r S c Black X (items_of_line kind) m (times_in own r S X m (Handshake Black) p h)
-      (Faulted c NoDone)).1;
-  setup_ends = λ p reason n. over_goes own r S X reason m h;
-  setup_counts = λ p pong few. counts_goes own r S c X (m.count + 1) m here h;
-  setup_next = λ p s pong. quiet_goes own r S X m (enter (Setup Black) m) refl
-      (carried own r S (Setup Black) X m (enter (Setup Black) m) refl refl refl refl
-      (times_in own r S X m (Setup White) p h));
-  setup_done = λ p s pong undecided. turn_goes own r S r.first X m (rw p refl)
-      (first_turn own r S X (takes (codes "time") (seat m S).items) (seat m (whose own S)).used
-      (times_in own r S X m (Setup Black) p h).0 (times_in own r S X m (Setup Black) p h).1);
-  before = λ p. record {
-    row = row;
-    plays = λ text move is reading room timely undecided. plays_goes own r S c X move (moment - m.opened) m
-        (times_in own r S X m (AwaitMove c) p h);
-    decides = λ text move v is reading room timely. decides_goes own r S c X move (moment - m.opened) v m
-        (times_in own r S X m (AwaitMove c) p h);
-  };
-  after = λ p. record {
-    row = row;
-    passes = λ none. turn_goes own r S (other c) X m (rw p refl)
-        (passes_times own c S X (clock_shown own r m S) _ (times_in own r S X m (AwaitPong c) p h));
-  };
+    at : (p : Phase) → m.phase ≡ p → is_over p ≡ false → RestIn own r O p (takes_time m O) used rest
+        → Goes (AllOf own r O) (RestIs own r O) m rest [] n
+    at (Handshake c) e on h = begun (Handshake c) e refl h.0 h.1
+    at (Setup c) e on h = begun (Setup c) e refl h.0 h.1
+    at (Opening c) e on h = in_game (Opening c) e refl
+    at (BeforeMove c opened) e on h = in_game (BeforeMove c opened) e refl
+    at (AfterMove c) e on h = in_game (AfterMove c) e refl
+    at (Over x) e on h = absurd cc
+
+-- what the opening of a turn has of these
+opened_times : (own : Bool) (r : Rules) (O c : Colour) (m : Match) → flat_map (numbers own) ((begins_turn r c m).to O)
+    ≡ (if same_colour c O then last_shown r (takes_time m O) (m.seat (whose own O)).used else [])
+opened_times own r O c m = at (same_colour c O) (same_colour-true c O)
+  where
+    at : (b : Bool) → (b ≡ true → c ≡ O) → flat_map (numbers own) (list_if b (opening r (enter (Opening c) m) c))
+        ≡ (if b then last_shown r (takes_time m O) (m.seat (whose own O)).used else [])
+    at true h = opening_times own r (enter (Opening c) m) c
+        ∙ ap (λ (x : Colour). last_shown r (takes_time m x) (m.seat (whose own x)).used) (h refl)
+    at false h = refl
+
+gives : (own : Bool) (r : Rules) (O : Colour) → Gives (numbers own) r O (AllOf own r O) (RestIs own r O)
+gives own r O = record {
+  stops = stops own r O;
+  said = λ m S kind rest p q h. let e = rest_in own r O m (Handshake S) rest p h in
+      rw p (refl, (e.0, said_used S (whose own O) kind m ∙ e.1));
+  counts = λ m k rest h. (refl, h);
+  enters = λ m S c rest p h. let e = rest_in own r O m (Handshake S) rest p h in rw p (refl, e, refl, e);
+  sets_up = λ m S c rest p h. rw p (refl, rest_in own r O m (Setup S) rest p h);
+  offers = λ m S rest h. rw (offered_items S O m, offered_used S (whose own O) m) (refl, h);
+  begins = λ m S rest p l q h.
+      let e = rest_in own r O m (Setup S) rest p h in
+      let us : List ℕ = (m.seat (whose own O)).used in
+      let tk : Bool = takes_time m O in
+      let last : List ℕ = last_shown r tk us in
+      let all : List ℕ = all_shown (is_whole own r O) r tk us in
+      rw (opened_times own r O r.first m)
+      (grows (AllOf own r O) (RestIs own r O) m (begins_turn r r.first m).after rest all
+      (if same_colour r.first O then last else []) (pending own (Opening r.first) O last) e.0
+      (subst (λ us. length (all_shown (is_whole own r O) r tk us) ≤ 1) (sym e.1)
+      (all_short (is_whole own r O) r tk))
+      (ap (λ (q : Phase). AllIn own r O q tk us ++ all) (sym p))
+      (subst (λ us. all_shown (is_whole own r O) r tk us
+      ≡ (if same_colour r.first O then last_shown r tk us else [])
+      ++ pending own (Opening r.first) O (last_shown r tk us)) (sym e.1) (opens_times own r O r.first tk))
+      refl);
+  passes = λ m S rest p l q h.
+      let e = rest_in own r O m (AfterMove S) rest p h in
+      let us : List ℕ = (m.seat (whose own O)).used in
+      let last : List ℕ = last_shown r (takes_time m O) us in
+      rw (opened_times own r O (other S) m)
+      (sends (AllOf own r O) (RestIs own r O) m (begins_turn r (other S) m).after rest
+      (if same_colour (other S) O then last else []) (pending own (Opening (other S)) O last) l
+      (e ∙ passes_times own S O last) (ap (λ (q : Phase). AllIn own r O q (takes_time m O) us) (sym p)) refl);
+  plays = λ m S move opened used rest p l q h. played m S move opened used rest p l
+      (rest_in own r O m (BeforeMove S opened) rest p h);
+  opened = λ m S k rest p h. (
+    ap (λ (q : Phase). AllIn own r O q (takes_time m O) (m.seat (whose own O)).used) (sym p),
+    rest_in own r O m (Opening S) rest p h ∙ opened_same own S O k _,
+  );
 }
   where
-    row : InTurn r c kind m (λ m'. Goes own r S X m m')
-    row = record {
-      ends = λ reason n. over_goes own r S X reason m h;
-      counts = λ none few. counts_goes own r S c X (m.count + 1) m here h;
-      offers = λ none own' theirs. offers_goes own r S c X m here h;
-    }
+    played : (m : Match) (S : Colour) (move : Move) (opened used : ℕ) (rest : List ℕ) → m.phase ≡ BeforeMove S opened
+        → length rest ≤ 1
+        → rest ≡ pending own (BeforeMove S opened) O (last_shown r (takes_time m O) (m.seat (whose own O)).used)
+        → Goes (AllOf own r O) (RestIs own r O) m rest [] (moved S move used m)
+    played m S move opened used rest p l e = at (same_colour S (whose own O)) refl
+      where
+        n : Match
+        n = moved S move used m
 
-step : (own : Bool) (r : Rules) (S : Colour) (due : Colour → List SentLine) (m : Match) (e : Event) (X : List ℕ)
-    → fits_next due m e ≡ true → Times own r S X m → Goes own r S X m (match_after r m e)
-step own r S due m (Line c t n) X f h = line_outcome r c (line_kind t) n m (λ m'. Goes own r S X m m') f
-    (lines_go own r S c X (line_kind t) n m f h)
-step own r S due m (Opened c n) X f h =
-    quiet_goes own r S X m (record m { phase = AwaitMove c; opened = n }) refl
-    (carried own r S (AwaitMove c) X m (record m { phase = AwaitMove c; opened = n }) refl refl refl refl
-    (opened own (times_in own r S X m (SendTurn c) (opens_at m.phase c f) h)))
+        xs : List ℕ
+        xs = (m.seat (whose own O)).used
+
+        shown : List ℕ → List ℕ
+        shown us = last_shown r (takes_time m O) us
+
+        all_used : List ℕ → List ℕ
+        all_used us = all_shown (is_whole own r O) r (takes_time m O) us
+
+        all_then : (us : List ℕ) → (n.seat (whose own O)).used ≡ us → AllOf own r O n ≡ all_used us
+        all_then us u =
+            ap (λ is. all_shown (is_whole own r O) r (takes (codes "time") is) (n.seat (whose own O)).used)
+            (moved_items S O move used m) ∙ ap all_used u
+
+        rest_then : (us : List ℕ) → (n.seat (whose own O)).used ≡ us → pending own (AfterMove S) O (shown us)
+            ≡ pending own (AfterMove S) O (last_shown r (takes_time n O) (n.seat (whose own O)).used)
+        rest_then us u =
+            ap (λ us. pending own (AfterMove S) O (shown us)) (sym u)
+            ∙ ap (λ is. pending own (AfterMove S) O (last_shown r (takes (codes "time") is) (n.seat (whose own O)).used))
+            (sym (moved_items S O move used m))
+
+        all_now : all_used xs ≡ AllOf own r O m
+        all_now = ap (λ (q : Phase). AllIn own r O q (takes_time m O) xs) (sym p)
+
+        at : (b : Bool) → same_colour S (whose own O) ≡ b → Goes (AllOf own r O) (RestIs own r O) m rest [] n
+        at true s =
+            let us : List ℕ = xs ++ used ∷ [] in
+            let u : (n.seat (whose own O)).used ≡ us =
+            moved_used S (whose own O) move used m ∙ ap (λ (b : Bool). if b then us else xs) s in
+            grows (AllOf own r O) (RestIs own r O) m n rest (shown us) [] (shown us) (e ∙ none_before own S O opened _ s)
+            (last_short r (takes_time m O) us)
+            (all_then us u ∙ all_more (is_whole own r O) r (takes_time m O) xs used
+            ∙ ap (λ (l : List ℕ). l ++ shown us) all_now)
+            refl (sym (all_after own S O _ s) ∙ rest_then us u)
+        at false s =
+            let u : (n.seat (whose own O)).used ≡ xs =
+            moved_used S (whose own O) move used m ∙ ap (λ (b : Bool). if b then xs ++ used ∷ [] else xs) s in
+            sends (AllOf own r O) (RestIs own r O) m n rest [] rest l refl (all_then xs u ∙ all_now)
+            (e ∙ sym (as_before own S O opened (shown xs) s) ∙ rest_then xs u)
+
+-- ---- all that is sent
+
+shown_at : (own : Bool) (r : Rules) (O : Colour) (H K : List Act) (final : Match) → IsMatch r (H ++ K) final
+    → ends_in_line H ≡ false
+    → (let m = match_after r beginning.after H in (rest : List ℕ) × (length rest ≤ 1)
+    × (flat_map (numbers own) (lines_given O H) ++ rest
+    ≡ all_shown (is_whole own r O) r (takes_time m O) (m.seat (whose own O)).used))
+shown_at own r O H K final g e =
+    given_at (numbers own) (no_text own) r O (AllOf own r O) (RestIs own r O) (gives own r O)
+    (λ m X. (rest : List ℕ) × (length rest ≤ 1)
+    × (X ++ rest ≡ all_shown (is_whole own r O) r (takes_time m O) (m.seat (whose own O)).used)) H K final
+    (λ m due q X s. done m X _ s.0 s.1 s.2 s.3) g (λ cut. e) (begun own O)
   where
-    opened : (own : Bool) → TimesOf own r S (SendTurn c) X m → TimesOf own r S (AwaitMove c) X m
-    opened true h = h
-    opened false h = h
-step own r S due m (OutputEnds c) X f h = over_goes own r S X (Faulted c Ended) m h
-step own r S due m (FailsToRead c) X f h = over_goes own r S X (Faulted c Read) m h
-step own r S due m (FailsToWrite c) X f h = over_goes own r S X (Faulted c Write) m h
+    done : (m : Match) (X Y rest : List ℕ) → length (Y ++ rest) ≤ 1 → X ++ (Y ++ rest) ≡ AllOf own r O m
+        → RestIs own r O m rest
+        → (left : List ℕ) × (length left ≤ 1)
+        × (X ++ left ≡ all_shown (is_whole own r O) r (takes_time m O) (m.seat (whose own O)).used)
+    done m X Y rest l a h = at m.phase a h
+      where
+        used : List ℕ
+        used = (m.seat (whose own O)).used
 
--- ---- the transcript
+        none : (X Z : List ℕ) → X ++ Z ≡ [] → X ≡ []
+        none [] Z a = refl
+        none (x ∷ X) Z a = cc
 
-times_so : (own : Bool) (r : Rules) (S : Colour) (T : List Event) → fits r T ≡ true
-    → Times own r S (flat_map (numbers own) (sent r S T)) (match_of r T)
-times_so own r S T f =
-    rw (
-      flat_map-append (numbers own) (lines_on_entering r start S) (joined_blocks (blocks_from r S start T)),
-      in_openings own r
-          start S (Handshake White) refl,
-    )
-    (gathered (numbers own) (no_text own) r S (λ X m. Times own r S X m) (step own r S)
-    (unsent (numbers own) r S (λ r m S p e on. in_openings own r m S p e)) (lines_on_entering r start) start T [] f
-    (refl, none S own))
+        begun : used ≡ [] → X ++ (Y ++ rest) ≡ []
+            → (left : List ℕ) × (length left ≤ 1)
+            × (X ++ left ≡ all_shown (is_whole own r O) r (takes_time m O) used)
+        begun u a = (
+          all_shown (is_whole own r O) r (takes_time m O) used,
+          subst (λ us. length (all_shown (is_whole own r O) r (takes_time m O) us) ≤ 1) (sym u)
+              (all_short (is_whole own r O) r (takes_time m O)),
+          ap (λ (xs : List ℕ). xs ++ all_shown (is_whole own r O) r (takes_time m O) used) (none X (Y ++ rest) a),
+        )
+
+        at : (p : Phase) → X ++ (Y ++ rest) ≡ AllIn own r O p (takes_time m O) used
+            → RestIn own r O p (takes_time m O) used rest
+            → (left : List ℕ) × (length left ≤ 1)
+            × (X ++ left ≡ all_shown (is_whole own r O) r (takes_time m O) used)
+        at (Handshake c) a h = begun h.1 a
+        at (Setup c) a h = begun h.1 a
+        at (Opening c) a h = (Y ++ rest, l, a)
+        at (BeforeMove c opened) a h = (Y ++ rest, l, a)
+        at (AfterMove c) a h = (Y ++ rest, l, a)
+        at (Over x) a h = (Y ++ rest, l, a)
+
+    begun : (own : Bool) (O : Colour) → (rest : List ℕ)
+        × (length (flat_map (numbers own) (beginning.to O) ++ rest) ≤ 1)
+        × ([] ++ (flat_map (numbers own) (beginning.to O) ++ rest) ≡ AllOf own r O beginning.after)
+        × RestIs own r O beginning.after rest
+    begun true White = ([], omega arith, refl, (refl, refl))
+    begun true Black = ([], omega arith, refl, (refl, refl))
+    begun false White = ([], omega arith, refl, (refl, refl))
+    begun false Black = ([], omega arith, refl, (refl, refl))
+
+pub times_are_clocks : AtEachMoment TimesAreClocks
+times_are_clocks r H K final g e S = shown_at true r S H K final g e
+
+pub other_times_are_clocks : AtEachMoment OtherTimesAreClocks
+other_times_are_clocks r H K final g e S =
+    let m = match_after r beginning.after H in
+    let h = shown_at false r S H K final g e in (h.0, h.1, h.2 ∙ at (same_colour S r.first) m)
   where
-    none : (S : Colour) (own : Bool) → (seat start (whose own S)).used ≡ []
-    none White true = refl
-    none Black true = refl
-    none White false = refl
-    none Black false = refl
-
-pub times_are_clocks : TimesAreClocks
-times_are_clocks r T S f = over_times true r S (flat_map time_sent (sent r S T))
-    (takes (codes "time") (seat (match_of r T) S).items) (seat (match_of r T) S).used (match_of r T).phase
-    (times_so true r S T f)
-
-pub other_times_are_clocks : OtherTimesAreClocks
-other_times_are_clocks r T S f =
-    at (same_colour S r.first) (over_times false r S (flat_map otim_sent (sent r S T))
-    (takes (codes "time") (seat (match_of r T) S).items) (seat (match_of r T) (other S)).used (match_of r T).phase
-    (times_so false r S T f))
-  where
-    at : (whole : Bool) → (rest : List ℕ) × (length rest ≤ 1)
-        × (flat_map otim_sent (sent r S T) ++ rest
-        ≡ all_shown whole r (takes (codes "time") (seat (match_of r T) S).items) (seat (match_of r T) (other S)).used)
-        → (rest : List ℕ) × (length rest ≤ 1) × (flat_map otim_sent (sent r S T) ++ rest
-        ≡ (if takes (codes "time") (seat (match_of r T) S).items
-        then (if whole then centiseconds r.level 0 0 (seat (match_of r T) (other S)).used else drop 1
-        (centiseconds r.level 0 0 (seat (match_of r T) (other S)).used)) else []))
-    at true h = h
-    at false h = h
+    at : (b : Bool) (m : Match) → all_shown b r (takes_time m S) (m.seat (other S)).used
+        ≡ (if takes_time m S then (if b then centiseconds r.level 0 0 (m.seat (other S)).used
+        else drop 1 (centiseconds r.level 0 0 (m.seat (other S)).used)) else [])
+    at true m = refl
+    at false m = refl

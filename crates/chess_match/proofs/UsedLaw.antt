@@ -1,40 +1,27 @@
 -- Each used time is the moment of its move's line less the moment of its turn's opening.
-use Rattle.std.proofs.Common.{◌≡◌, ℕ, ◌+◌, ◌-◌, ◌≤◌, Bool, true, false, List, [], ◌∷◌, ◌++◌, length, refl, ap, sym, ◌∙◌, append-nil, append_assoc, Option, None, Some, arith}
+use Rattle.std.proofs.Common.{◌≡◌, ℕ, ◌+◌, ◌-◌, ◌≤◌, Bool, true, false, ◌&&◌, List, [], ◌∷◌, ◌++◌, length, refl, ap, sym, subst, ◌∙◌, append-nil, append_assoc, Option, None, Some, arith}
 use Rattle.std.specs.Prelude.{if◌then◌else◌}
 use Rattle.chess_base.specs.declared.man.Colour.{Colour}
 use Rattle.chess_base.specs.declared.man.Colour.TheVariants.{White, Black}
-use Rattle.chess_base.specs.declared.man.Move.{Move}
 use Rattle.chess_base.specs.Men.{other, same_colour}
-use Rattle.cecp_engine.specs.EngineLines.{LineKind, line_kind, Moves}
-use Rattle.cecp_engine.specs.Items.{Item}
-use Rattle.chess_match.specs.laws.Laws.{is_move, move_said, turn_times, UsedTimesAreDifferences}
-use Rattle.chess_match.specs.laws.Machine.{Match, items_of_line, seat, take_items, start, over, enter, open_turn, played_by, match_after}
-use Rattle.chess_match.specs.Events.{Event, Line, Opened, OutputEnds, FailsToRead, FailsToWrite}
+use Rattle.cecp_engine.specs.EngineLines.{LineKind, line_kind}
+use Rattle.chess_match.specs.Acts.{Act, Block, Sends, SendFails, Reads, ReadsEnd, ReadFails, ReadsClock, awaits_line, is_over}
+use Rattle.chess_match.specs.Effects.{Match, Phase, Handshake, Setup, Opening, BeforeMove, AfterMove, Over, Effect, beginning, effect, enter, line_row, moved}
+use Rattle.chess_match.specs.Events.{Line}
 use Rattle.chess_match.specs.Rules.{Rules}
-use Rattle.chess_match.specs.Lines.{SentLine}
-use Rattle.chess_match.specs.laws.Blocks.{block, lines_on_entering}
-use Rattle.chess_match.specs.laws.Transcript.{is_on, reads, opens, fits_next, fits_from}
-use Rattle.chess_match.specs.declared.phase.Phase.{Phase}
-use Rattle.chess_match.specs.declared.phase.Phase.TheVariants.{Handshake, Setup, SendTurn, AwaitMove, AwaitPong, Over}
-use Rattle.chess_match.specs.declared.reason.MatchFault.TheVariants.{NoDone}
-use Rattle.chess_match.specs.declared.reason.Reason.{Reason}
-use Rattle.chess_match.specs.declared.reason.Reason.TheVariants.{Decided, Faulted}
-use Rattle.chess_match.proofs.OneLaw.{over_stops}
-use Rattle.chess_match.proofs.Outcomes.{Lines, InTurn, line_outcome, and_first, and_second, not_on}
-use Rattle.chess_match.proofs.Going.{offered, opens_at}
-use Rattle.chess_match.proofs.Seats.{items_used, used_same}
-use Rattle.chess_match.specs.ties.Steps.{match_from}
+use Rattle.chess_match.specs.declared.reason.Reason.TheVariants.{Decided}
+use Rattle.chess_match.specs.laws.Laws.{is_move, move_said}
+use Rattle.chess_match.specs.laws.OfActs.{AtEachMoment, UsedTimesAreDifferences, move_times, only_sends}
+use Rattle.chess_match.proofs.LineCases.{line_cases, offering, said_by}
+use Rattle.chess_match.proofs.MatchCases.{both_not, on_when_read}
+use Rattle.chess_match.proofs.Points.{Stays, by_points, moved_used, offered_used, said_used}
 
 -- the moment of the opening, where a move of S is awaited
-abbrev awaited : Colour → Phase → ℕ → Option ℕ
-awaited S (AwaitMove c) opened = if same_colour c S then Some opened else None
-awaited S (Handshake c) opened = None
-awaited S (Setup c) opened = None
-awaited S (SendTurn c) opened = None
-awaited S (AwaitPong c) opened = None
-awaited S (Over x) opened = None
+abbrev awaited : Colour → Phase → Option ℕ
+awaited S (BeforeMove c opened) = if same_colour c S then Some opened else None
+awaited S _ = None
 
--- the time that a line of S takes, where it is a move that is awaited
+-- the time that a line takes, where it is a move that is awaited
 abbrev taken : Option ℕ → LineKind → ℕ → List ℕ
 taken None kind n = []
 taken (Some k) kind n = if is_move kind then (n - k) ∷ [] else []
@@ -43,46 +30,40 @@ abbrev awaited_then : Option ℕ → LineKind → Option ℕ
 awaited_then None kind = None
 awaited_then (Some k) kind = if is_move kind then None else Some k
 
--- a line of c takes from m to m': S's times grow by what it takes, if the match goes on, and else perhaps by less
+-- a line takes from m to m': S's times grow by what it takes, if the match goes on, and else perhaps by less
 abbrev Grows : Colour → LineKind → ℕ → Match → Match → Type 0
 Grows S kind n m m' =
-    (rest : List ℕ) × (length rest ≤ 1) × ((seat m S).used ++ taken (awaited S m.phase m.opened) kind n
-    ≡ (seat m' S).used ++ rest)
-    × (is_on m'.phase ≡ true → (rest ≡ []) × (awaited S m'.phase m'.opened
-    ≡ awaited_then (awaited S m.phase m.opened) kind))
+    (rest : List ℕ) × (length rest ≤ 1) × ((m.seat S).used ++ taken (awaited S m.phase) kind n ≡ (m'.seat S).used ++ rest)
+    × (is_over m'.phase ≡ false
+    → (rest ≡ []) × (awaited S m'.phase ≡ awaited_then (awaited S m.phase) kind))
 
 taken_short : (o : Option ℕ) (kind : LineKind) (n : ℕ) → length (taken o kind n) ≤ 1
 taken_short o kind n = grind arith
 
--- the match is over, with the same times
-ends_grow : (S : Colour) (kind : LineKind) (n : ℕ) (m m' : Match) → m'.white.used ≡ m.white.used → m'.black.used
-    ≡ m.black.used → is_on m'.phase ≡ false → Grows S kind n m m'
-ends_grow S kind n m m' w b off = (
-  taken (awaited S m.phase m.opened) kind n,
-  taken_short (awaited S m.phase m.opened) kind n,
-  ap
-      (λ (l : List ℕ). l ++ taken (awaited S m.phase m.opened) kind n) (sym (used_same m m' w b S)),
-  λ on. not_on
-      (sym off ∙ on),
-)
-
 not_move : (kind : LineKind) → move_said kind ≡ [] → is_move kind ≡ false
 not_move kind h1 = grind arith
 
+-- the match is over, with the same times
+ends_grow : (S : Colour) (kind : LineKind) (n : ℕ) (m m' : Match) → (m'.seat S).used ≡ (m.seat S).used
+    → is_over m'.phase ≡ true → Grows S kind n m m'
+ends_grow S kind n m m' u over = (
+  taken (awaited S m.phase) kind n,
+  taken_short (awaited S m.phase) kind n,
+  ap (λ (l : List ℕ). l ++ taken (awaited S m.phase) kind n) (sym u),
+  λ on. both_not (is_over m'.phase) on over,
+)
+
 -- a line that is no move leaves all as it was
-stays_grow : (S : Colour) (kind : LineKind) (n : ℕ) (m m' : Match) → m'.white.used ≡ m.white.used → m'.black.used
-    ≡ m.black.used → m'.phase ≡ m.phase → m'.opened ≡ m.opened
-    → is_move kind ≡ false → Grows S kind n m m'
-stays_grow S kind n m m' w b p o none = (
+stays_grow : (S : Colour) (kind : LineKind) (n : ℕ) (m m' : Match) → (m'.seat S).used ≡ (m.seat S).used
+    → m'.phase ≡ m.phase → is_move kind ≡ false → Grows S kind n m m'
+stays_grow S kind n m m' u p none = (
   [],
   omega arith,
-  at (awaited S m.phase m.opened)
-      ∙ ap (λ (l : List ℕ). l ++ []) (sym (used_same m m' w b S)),
-  λ on.
-      (refl, rw (p, o) (next (awaited S m.phase m.opened))),
+  at (awaited S m.phase) ∙ ap (λ (l : List ℕ). l ++ []) (sym u),
+  λ on. (refl, ap (awaited S) p ∙ next (awaited S m.phase)),
 )
   where
-    at : (o : Option ℕ) → (seat m S).used ++ taken o kind n ≡ (seat m S).used ++ []
+    at : (o : Option ℕ) → (m.seat S).used ++ taken o kind n ≡ (m.seat S).used ++ []
     at None = refl
     at (Some k) = rw none refl
 
@@ -91,180 +72,128 @@ stays_grow S kind n m m' w b p o none = (
     next (Some k) = rw none refl
 
 -- no move is awaited before the line or after it
-apart_grow : (S : Colour) (kind : LineKind) (n : ℕ) (m m' : Match) (p : Phase) → m.phase ≡ p → awaited S p m.opened
-    ≡ None → m'.white.used ≡ m.white.used → m'.black.used ≡ m.black.used
-    → awaited S m'.phase m'.opened ≡ None → Grows S kind n m m'
-apart_grow S kind n m m' p e a w b t =
-    rw (e, a) ([], omega arith, ap (λ (l : List ℕ). l ++ []) (sym (used_same m m' w b S)), λ on. (refl, t))
+apart_grow : (S : Colour) (kind : LineKind) (n : ℕ) (m m' : Match) → awaited S m.phase ≡ None
+    → awaited S m'.phase ≡ None → (m'.seat S).used ≡ (m.seat S).used → Grows S kind n m m'
+apart_grow S kind n m m' a b u = rw a ([], omega arith, ap (λ (l : List ℕ). l ++ []) (sym u), λ on. (refl, b))
 
-plays_grow : (S c : Colour) (text : List ℕ) (move : Move) (n : ℕ) (m : Match) → m.phase ≡ AwaitMove c
-    → Grows S (Moves text) n m (played_by c move (n - m.opened) m)
-plays_grow White White text move n m p = rw p
-    ([], omega arith, sym (append-nil (m.white.used ++ (n - m.opened) ∷ [])), λ on. (refl, refl))
-plays_grow Black Black text move n m p = rw p
-    ([], omega arith, sym (append-nil (m.black.used ++ (n - m.opened) ∷ [])), λ on. (refl, refl))
-plays_grow White Black text move n m p = rw p ([], omega arith, refl, λ on. (refl, refl))
-plays_grow Black White text move n m p = rw p ([], omega arith, refl, λ on. (refl, refl))
-
-decides_grow : (S c : Colour) (text : List ℕ) (move : Move) (n : ℕ) (m : Match) (reason : Reason) → m.phase
-    ≡ AwaitMove c → Grows S (Moves text) n m (over reason (played_by c move (n - m.opened) m))
-decides_grow White White text move n m reason p =
-    rw p ([], omega arith, sym (append-nil (m.white.used ++ (n - m.opened) ∷ [])), λ on. not_on on)
-decides_grow Black Black text move n m reason p =
-    rw p ([], omega arith, sym (append-nil (m.black.used ++ (n - m.opened) ∷ [])), λ on. not_on on)
-decides_grow White Black text move n m reason p = rw p ([], omega arith, refl, λ on. not_on on)
-decides_grow Black White text move n m reason p = rw p ([], omega arith, refl, λ on. not_on on)
-
-handshake_counts : (S c : Colour) (items : List Item) (k : ℕ) (kind : LineKind) (n : ℕ) (m : Match) → m.phase
-    ≡ Handshake c → (let m' = take_items c items m in Grows S kind n m (record m' { count = k }))
-handshake_counts S White items k kind n m p =
-    let m' = take_items White items m in apart_grow S kind n m (record m' { count = k }) (Handshake White) p
-    refl refl refl
-    (rw p refl)
-handshake_counts S Black items k kind n m p =
-    let m' = take_items Black items m in apart_grow S kind n m (record m' { count = k }) (Handshake Black) p
-    refl refl refl
-    (rw p refl)
-
-offers_grow : (S c : Colour) (kind : LineKind) (n : ℕ) (m : Match) → is_move kind ≡ false
-    → Grows S kind n m (offered c m)
-offers_grow S White kind n m none = stays_grow S kind n m (offered White m) refl refl refl refl none
-offers_grow S Black kind n m none = stays_grow S kind n m (offered Black m) refl refl refl refl none
-
-lines_grow : (r : Rules) (S c : Colour) (kind : LineKind) (n : ℕ) (m : Match)
-    → Lines r c kind n m (λ m'. Grows S kind n m m')
-lines_grow r S c kind n m = record {
-  handshake_ends = λ p d. ends_grow S kind n m (over (Faulted c NoDone) (take_items c (items_of_line kind) m))
-      (items_used c (items_of_line kind) m).0 (items_used c (items_of_line kind) m).1 refl;
-  handshake_counts = λ p d few. handshake_counts S c (items_of_line kind) (m.count + 1) kind n m p;
-  handshake_next = λ p s d. apart_grow S kind n m (enter (Handshake Black) (take_items c (items_of_line kind) m))
-      (Handshake White) p refl
-      (items_used c (items_of_line kind) m).0 (items_used c (items_of_line kind) m).1 refl;
-  handshake_judged = λ p s d b f mild. ends_grow S kind n m
-      (enter (Over (Faulted b f)) (take_items c (items_of_line kind) m))
-      (items_used c (items_of_line kind) m).0 (items_used c (items_of_line kind) m).1 refl;
-  handshake_done = λ p s d. apart_grow S kind n m (enter (Setup White) (take_items c (items_of_line kind) m))
-      (Handshake Black) p refl
-      (items_used c (items_of_line kind) m).0 (items_used c (items_of_line kind) m).1 refl;
-  setup_ends = λ p reason n'. ends_grow S kind n m (over reason m) refl refl refl;
-  setup_counts = λ p pong few. apart_grow S kind n m (record m { count = m.count + 1 }) (Setup c) p refl refl refl
-      (rw p refl);
-  setup_next = λ p s pong. apart_grow S kind n m (enter (Setup Black) m) (Setup White) p refl refl refl refl;
-  setup_done = λ p s pong undecided. apart_grow S kind n m (open_turn r.first m) (Setup Black) p refl refl refl refl;
-  before = λ p. record {
-    row = row;
-    plays = λ text move is reading room timely undecided. rw is (plays_grow S c text move n m p);
-    decides = λ text move v is reading room timely. rw is (decides_grow S c text move n m (Decided v) p);
-  };
-  after = λ p. record {
-    row = row;
-    passes =
-        λ none. apart_grow S kind n m (open_turn (other c) m) (AwaitPong c) p refl refl refl refl;
-  };
-}
+-- a move is played
+moved_grow : (S c : Colour) (kind : LineKind) (n opened : ℕ) (m m' : Match) → m.phase ≡ BeforeMove c opened
+    → is_move kind ≡ true
+    → (m'.seat S).used ≡ (if same_colour c S then (m.seat S).used ++ (n - opened) ∷ [] else (m.seat S).used)
+    → awaited S m'.phase ≡ None → Grows S kind n m m'
+moved_grow S c kind n opened m m' p is u b = (
+  [],
+  omega arith,
+  ap (λ (q : Phase). (m.seat S).used ++ taken (awaited S q) kind n) p ∙ at (same_colour c S)
+      ∙ ap (λ (l : List ℕ). l ++ []) (sym u),
+  λ on. (refl, b ∙ sym (ap (λ (q : Phase). awaited_then (awaited S q) kind) p ∙ next (same_colour c S))),
+)
   where
-    row : InTurn r c kind m (λ m'. Grows S kind n m m')
-    row = record {
-      ends = λ reason n'. ends_grow S kind n m (over reason m) refl refl refl;
-      counts = λ none few. stays_grow S kind n m (record m { count = m.count + 1 }) refl refl refl refl
-          (not_move kind none);
-      offers = λ none own theirs. offers_grow S c kind n m (not_move kind none);
-    }
+    at : (b : Bool) → (m.seat S).used ++ taken (if b then Some opened else None) kind n
+        ≡ (if b then (m.seat S).used ++ (n - opened) ∷ [] else (m.seat S).used) ++ []
+    at true = rw is (sym (append-nil ((m.seat S).used ++ (n - opened) ∷ [])))
+    at false = refl
 
--- ---- the transcript
+    next : (b : Bool) → awaited_then (if b then Some opened else None) kind ≡ None
+    next true = rw is refl
+    next false = refl
 
-abbrev Ends : Rules → Colour → Match → List Event → List ℕ → Type 0
-Ends r S m T before =
-    (rest : List ℕ) × (length rest ≤ 1) × (before ++ turn_times S (awaited S m.phase m.opened) T
-    ≡ (seat (match_from r m T) S).used ++ rest) × (is_on (match_from r m T).phase ≡ true → rest ≡ [])
+lines_grow : (r : Rules) (S c : Colour) (kind : LineKind) (n : ℕ) (m : Match) → awaits_line m.phase c ≡ true
+    → Grows S kind n m (line_row r m.phase kind n m).after
+lines_grow r S c kind n m aw = line_cases r c kind n m (λ e. Grows S kind n m e.after) aw (record {
+  handshake_stops = λ p reason k w. ends_grow S kind n m (record (said_by c kind m) { phase = Over reason; count = k }) (said_used c S kind m) refl;
+  handshake_counts = λ p d few. apart_grow S kind n m (record (said_by c kind m) { count = m.count + 1 }) (ap (awaited S) p) (ap (awaited S) p) (said_used c S kind m);
+  handshake_next = λ p s d. apart_grow S kind n m (enter (Handshake Black) (said_by c kind m)) (ap (awaited S) p) refl (said_used c S kind m);
+  handshake_last = λ p s d. apart_grow S kind n m (enter (Setup White) (said_by c kind m)) (ap (awaited S) p) refl (said_used c S kind m);
+  setup_counts = λ p pong few. apart_grow S kind n m (record m { count = m.count + 1 }) (ap (awaited S) p) (ap (awaited S) p) refl;
+  setup_next = λ p s pong. apart_grow S kind n m (enter (Setup Black) m) (ap (awaited S) p) refl refl;
+  setup_last = λ p s pong v. apart_grow S kind n m (enter (Opening r.first) m) (ap (awaited S) p) refl refl;
+  setup_decides = λ p v e. ends_grow S kind n m (record m { phase = Over (Decided v) }) refl refl;
+  stops = λ g reason w. ends_grow S kind n m (record m { phase = Over reason }) refl refl;
+  counts = λ on none few. stays_grow S kind n m (record m { count = m.count + 1 }) refl refl (not_move kind none);
+  offers = λ on none own. stays_grow S kind n m (offering c m).after (offered_used c S m) refl (not_move kind none);
+  plays = λ text move opened is p read room timely verdict. moved_grow S c kind n opened m (moved c move (n - opened) m) p (ap is_move is)
+      (moved_used c S move (n - opened) m) refl;
+  decides = λ text move opened v is p read room timely verdict. moved_grow S c kind n opened m (record (moved c move (n - opened) m) { phase = Over (Decided v) }) p (ap is_move is)
+      (moved_used c S move (n - opened) m) refl;
+  passes = λ p none. apart_grow S kind n m (enter (Opening (other c)) m) (ap (awaited S) p) refl refl;
+})
 
 -- a line that a turn reads is S's, if S's move is awaited
-line_times : (S c : Colour) (p : Phase) (opened : ℕ) (text : Option (List ℕ)) (n : ℕ) (T : List Event) → reads p c
-    ≡ true
-    → turn_times S (awaited S p opened) (Line c text n ∷ T) ≡ taken (awaited S p opened) (line_kind text) n
-    ++ turn_times S (awaited_then (awaited S p opened) (line_kind text)) T
-line_times S c p opened text n T h1 = grind arith
+line_times : (S c : Colour) (p : Phase) (text : Option (List ℕ)) (n : ℕ) (H : List Act) → awaits_line p c ≡ true
+    → move_times S (awaited S p) (Reads c text ∷ ReadsClock c n ∷ H) ≡ taken (awaited S p) (line_kind text) n
+    ++ move_times S (awaited_then (awaited S p) (line_kind text)) H
+line_times S c p text n H h1 = grind arith
 
-line_goes_on : (r : Rules) (S c : Colour) (text : Option (List ℕ)) (n : ℕ) (due : Colour → List SentLine) (m m' : Match)
-    (T : List Event) → reads m.phase c ≡ true → fits_from r due m' T ≡ true
-    → Grows S (line_kind text) n m m' → Ends r S m' T (seat m' S).used
-    → (rest : List ℕ) × (length rest ≤ 1) × ((seat m S).used
-    ++ turn_times S (awaited S m.phase m.opened) (Line c text n ∷ T) ≡ (seat (match_from r m' T) S).used ++ rest)
-    × (is_on (match_from r m' T).phase ≡ true → rest ≡ [])
-line_goes_on r S c text n due m m' T here f g e = at (is_on m'.phase) refl
+no_times : (S : Colour) (o : Option ℕ) (H : List Act) → only_sends H ≡ true → move_times S o H ≡ []
+no_times S o [] h = refl
+no_times S o (Sends b ∷ H) h = no_times S o H h
+no_times S o (SendFails b ∷ H) h = no_times S o H h
+no_times S o (Reads c t ∷ H) h = cc
+no_times S o (ReadsClock c n ∷ H) h = cc
+no_times S o (ReadsEnd c ∷ H) h = cc
+no_times S o (ReadFails c ∷ H) h = cc
+
+-- from here on the times are those of these acts
+abbrev Ends : Colour → Match → Option ℕ → List Act → Match → Type 0
+Ends S m o H n = (rest : List ℕ) × (length rest ≤ 1) × ((m.seat S).used ++ move_times S o H ≡ (n.seat S).used ++ rest)
+    × (is_over n.phase ≡ false → rest ≡ [])
+
+goes_on : (S c : Colour) (text : Option (List ℕ)) (k : ℕ) (H : List Act) (m m' n : Match) → awaits_line m.phase c ≡ true
+    → Stays m' H n → Grows S (line_kind text) k m m' → Ends S m' (awaited S m'.phase) H n
+    → Ends S m (awaited S m.phase) (Reads c text ∷ ReadsClock c k ∷ H) n
+goes_on S c text k H m m' n aw stays g e = at (is_over m'.phase) refl
   where
-    at : (b : Bool) → is_on m'.phase ≡ b → (rest : List ℕ) × (length rest ≤ 1)
-        × ((seat m S).used ++ turn_times S (awaited S m.phase m.opened) (Line c text n ∷ T)
-        ≡ (seat (match_from r m' T) S).used ++ rest) × (is_on (match_from r m' T).phase ≡ true → rest ≡ [])
-    at true on = (
+    kind : LineKind
+    kind = line_kind text
+
+    now : List ℕ
+    now = taken (awaited S m.phase) kind k
+
+    all : (X : List ℕ) → move_times S (awaited_then (awaited S m.phase) kind) H ≡ X
+        → (m.seat S).used ++ move_times S (awaited S m.phase) (Reads c text ∷ ReadsClock c k ∷ H)
+        ≡ ((m'.seat S).used ++ g.0) ++ X
+    all X x = ap (λ (l : List ℕ). (m.seat S).used ++ l)
+        (line_times S c m.phase text k H aw ∙ ap (λ (l : List ℕ). now ++ l) x)
+        ∙ sym (append_assoc (m.seat S).used now X) ∙ ap (λ (l : List ℕ). l ++ X) g.2
+
+    at : (b : Bool) → is_over m'.phase ≡ b → Ends S m (awaited S m.phase) (Reads c text ∷ ReadsClock c k ∷ H) n
+    at false on = (
       e.0,
       e.1,
-      ap (λ (l : List ℕ). (seat m S).used ++ l) (line_times S c m.phase m.opened text n T here)
-          ∙ sym (append_assoc (seat m S).used (taken (awaited S m.phase m.opened) (line_kind text) n)
-          (turn_times S (awaited_then (awaited S m.phase m.opened) (line_kind text)) T))
-          ∙ ap (λ (l : List ℕ). l ++ turn_times S (awaited_then (awaited S m.phase m.opened) (line_kind text)) T)
-          (g.2 ∙ ap (λ (l : List ℕ). (seat m' S).used ++ l) (g.3 on).0 ∙ append-nil (seat m' S).used)
-          ∙ ap (λ (o : Option ℕ). (seat m' S).used ++ turn_times S o T) (sym (g.3 on).1)
+      all _ (ap (λ (o : Option ℕ). move_times S o H) (sym (g.3 on).1))
+          ∙ ap (λ (l : List ℕ). l ++ move_times S (awaited S m'.phase) H)
+          (ap (λ (l : List ℕ). (m'.seat S).used ++ l) (g.3 on).0 ∙ append-nil (m'.seat S).used)
           ∙ e.2,
       e.3,
     )
-    at false off = rw (over_stops r due m' T off f) (
+    at true over = let (same, only) = stays over in (
       g.0,
       g.1,
-      ap (λ (l : List ℕ). (seat m S).used ++ l)
-          (line_times S c m.phase m.opened text n [] here
-          ∙ append-nil (taken (awaited S m.phase m.opened) (line_kind text) n)) ∙ g.2,
-      λ on. not_on (sym off ∙ on),
+      all [] (no_times S (awaited_then (awaited S m.phase) kind) H only) ∙ append-nil ((m'.seat S).used ++ g.0)
+          ∙ ap (λ (x : Match). (x.seat S).used ++ g.0) (sym same),
+      λ on. both_not (is_over n.phase) on (ap (λ (x : Match). is_over x.phase) same ∙ over),
     )
 
-stopped : (r : Rules) (S : Colour) (due : Colour → List SentLine) (o : Option ℕ) (m m' : Match) (T : List Event)
-    → m'.white.used ≡ m.white.used → m'.black.used ≡ m.black.used → is_on m'.phase ≡ false
-    → fits_from r due m' T ≡ true
-    → (rest : List ℕ) × (length rest ≤ 1) × ((seat m S).used ++ turn_times S o T ≡ (seat (match_from r m' T) S).used
-    ++ rest) × (is_on (match_from r m' T).phase ≡ true → rest ≡ [])
-stopped r S due o m m' T w b off f = rw (over_stops r due m' T off f)
-    ([], omega arith, ap (λ (l : List ℕ). l ++ []) (sym (used_same m m' w b S)), λ on. refl)
+stopped : (S : Colour) (o : Option ℕ) (H : List Act) (m n : Match) → (n.seat S).used ≡ (m.seat S).used
+    → only_sends H ≡ true → Ends S m o H n
+stopped S o H m n u only = (
+  [],
+  omega arith,
+  ap (λ (l : List ℕ). (m.seat S).used ++ l) (no_times S o H only) ∙ ap (λ (l : List ℕ). l ++ []) (sym u),
+  λ on. refl,
+)
 
-opened_goes_on : (r : Rules) (S c : Colour) (n : ℕ) (m : Match) (T : List Event) → m.phase ≡ SendTurn c
-    → (let m' : Match = record m { phase = AwaitMove c; opened = n } in Ends r S m' T (seat m' S).used)
-    → Ends r S m (Opened c n ∷ T) (seat m S).used
-opened_goes_on r S c n m T p e =
-    let m' : Match = record m { phase = AwaitMove c; opened = n } in
-    rw p (
-      e.0,
-      e.1,
-      ap (λ (l : List ℕ). l ++ turn_times S (if same_colour c S then Some n else None) T)
-          (sym (used_same m m' refl refl S)) ∙ e.2,
-      e.3,
-    )
-
-used_from : (r : Rules) (S : Colour) (due : Colour → List SentLine) (m : Match) (T : List Event) → fits_from r due m T
-    ≡ true → Ends r S m T (seat m S).used
-used_from r S due m [] f = ([], omega arith, refl, λ on. refl)
-used_from r S due m (Line c t n ∷ T) f =
-    line_goes_on r S c t n (block r m (match_after r m (Line c t n))) m (match_after r m (Line c t n)) T
-    (and_first (reads m.phase c) _ f) (and_second (reads m.phase c) _ f)
-    (line_outcome r c (line_kind t) n m (λ m'. Grows S (line_kind t) n m m') (and_first (reads m.phase c) _ f)
-    (lines_grow r S c (line_kind t) n m))
-    (used_from r S (block r m (match_after r m (Line c t n))) (match_after r m (Line c t n)) T
-    (and_second (reads m.phase c) _ f))
-used_from r S due m (Opened c n ∷ T) f =
-    opened_goes_on r S c n m T (opens_at m.phase c (and_first (opens m.phase c) _ f))
-    (used_from r S (block r m (match_after r m (Opened c n))) (match_after r m (Opened c n)) T
-    (and_second (opens m.phase c) _ f))
-used_from r S due m (OutputEnds c ∷ T) f =
-    stopped r S (block r m (match_after r m (OutputEnds c))) (awaited S m.phase m.opened) m
-    (match_after r m (OutputEnds c)) T refl
-    refl refl (and_second (fits_next due m (OutputEnds c)) _ f)
-used_from r S due m (FailsToRead c ∷ T) f =
-    stopped r S (block r m (match_after r m (FailsToRead c))) (awaited S m.phase m.opened) m
-    (match_after r m (FailsToRead c)) T
-    refl refl refl (and_second (fits_next due m (FailsToRead c)) _ f)
-used_from r S due m (FailsToWrite c ∷ T) f =
-    stopped r S (block r m (match_after r m (FailsToWrite c))) (awaited S m.phase m.opened) m
-    (match_after r m (FailsToWrite c)) T
-    refl refl refl (and_second (fits_next due m (FailsToWrite c)) _ f)
-
-pub used_times_are_differences : UsedTimesAreDifferences
-used_times_are_differences r T White f = used_from r White (lines_on_entering r start) start T f
-used_times_are_differences r T Black f = used_from r Black (lines_on_entering r start) start T f
+pub used_times_are_differences : AtEachMoment UsedTimesAreDifferences
+used_times_are_differences r H K final g e S = by_points r (λ m due H n. Ends S m (awaited S m.phase) H n) (record {
+  sends = λ m n b due H p. p;
+  fails = λ m n b due H on q only same p. stopped S (awaited S m.phase) H m n (ap (λ (x : Match). (x.seat S).used) same) only;
+  fails_late = λ m n b due H o only same p. p;
+  reads = λ m n c t k H aw q stays p. goes_on S c t k H m (effect r m (Line c t k)).after n aw stays
+      (lines_grow r S c (line_kind t) k m aw) p;
+  opens = λ m n c k H o q p. subst (λ (x : Phase). Ends S m (awaited S x) (ReadsClock c k ∷ H) n) (sym o) p;
+  output_ends = λ m n c H aw q only same p. stopped S (awaited S m.phase) H m n (ap (λ (x : Match). (x.seat S).used) same)
+      only;
+  read_fails = λ m n c H aw q only same p. stopped S (awaited S m.phase) H m n (ap (λ (x : Match). (x.seat S).used) same)
+      only;
+}) H K final (λ m due q g. ([], omega arith, refl, λ on. refl)) g (λ cut. e)

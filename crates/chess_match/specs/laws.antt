@@ -2,6 +2,5 @@
 pub mod Machine
 pub mod Blocks
 pub mod Transcript
-pub mod TranscriptNotes
 pub mod Laws
 pub mod OfActs

@@ -10,4 +10,3 @@ pub mod Driving
 pub mod EngineOutput
 pub mod AtDesk
 pub mod SameEffects
-pub mod TranscriptActs

@@ -1,6 +1,6 @@
 -- Laws of the acts of a match.
 use Rattle.std.specs.Prelude.{◌≡◌, ◌<◌, ◌≤◌, ◌+◌, ◌-◌, ◌*◌, ◌^◌, ◌&&◌, ℕ, Bool, true, false, if◌then◌else◌, List, [], ◌∷◌, ◌++◌, length, drop, nat_lt, sum, codes, slice_get, Option, None, Some, is_some, unwrap_or}
-use Rattle.std.specs.List.{flat_map}
+use Rattle.std.specs.List.{flat_map, fold}
 use Rattle.chess_base.specs.declared.man.Colour.{Colour}
 use Rattle.chess_base.specs.declared.man.Colour.TheVariants.{White, Black}
 use Rattle.chess_base.specs.declared.man.Move.{Move}
@@ -9,24 +9,59 @@ use Rattle.chess_base.specs.declared.setup.Setup.{Setup as Position}
 use Rattle.chess_game.specs.Line.{IsLine}
 use Rattle.chess_game.specs.declared.verdicts.Verdict.{Verdict}
 use Rattle.cecp_engine.specs.EngineLines.{line_kind}
-use Rattle.cecp_engine.specs.Items.{takes}
+use Rattle.cecp_engine.specs.Items.{Item, takes}
 use Rattle.cecp_engine.specs.Levels.{LevelSeen, allotted}
 use Rattle.chess_match.specs.ByDevice.{lines_read, has_ended, has_failed_read, moments_shown, lines_sent, is_broken, notes_given}
 use Rattle.chess_base.specs.Options.{list_if}
 use Rattle.chess_match.specs.Lines.{SentLine, bytes_of}
 use Rattle.chess_match.specs.laws.Laws.{Streams, AreRead, events_in, given_in, is_move, moves_of, items_said, moves_sent, texts_from, time_sent, otim_sent, centiseconds}
-use Rattle.chess_match.specs.Acts.{Act, Block, Sends, SendFails, Reads, ReadsEnd, ReadFails, ReadsClock, IsMatch, IsMatchFrom, after_failed_send}
+use Rattle.chess_match.specs.Acts.{Act, Block, Sends, SendFails, Reads, ReadsEnd, ReadFails, ReadsClock, IsMatch, IsMatchFrom, after_failed_send, is_over}
 use Rattle.chess_match.specs.Effects.{Match, Over, beginning, clock, effect, was_sent_move}
 use Rattle.chess_match.specs.Events.{Event, Line, Opened, OutputEnds, FailsToRead}
-use Rattle.chess_match.specs.laws.TranscriptNotes.{notes_of}
 use Rattle.chess_match.specs.Played.{World, Passed}
 use Rattle.chess_match.specs.Rules.{Rules, rules_of}
-use Rattle.chess_match.specs.laws.Transcript.{fits, match_of, is_on, has_fault}
-use Rattle.chess_match.specs.declared.reason.MatchFault.TheVariants.{Write}
 use Rattle.chess_match.specs.declared.reason.Reason.{Reason}
 use Rattle.chess_match.specs.declared.reason.Reason.TheVariants.{Decided, Resigns, MovesIllegally, MovesOutOfTurn, ClaimsFalsely, RejectsLegalMove, Forfeits}
-use Rattle.chess_match.specs.laws.Machine.{view}
-use Rattle.chess_match.specs.ties.TranscriptActs.{acts_of}
+
+-- ---- each match, and each moment of one
+
+-- the match after these acts, if it is `m` before them
+abbrev pub match_after : Rules → Match → List Act → Match
+match_after r m [] = m
+match_after r m (Sends block ∷ H) = match_after r m H
+match_after r m (SendFails block ∷ H) = match_after r (after_failed_send r m [] block.to).0 H
+match_after r m (Reads S text ∷ ReadsClock side moment ∷ H) = match_after r (effect r m (Line S text moment)).after H
+match_after r m (ReadsClock S moment ∷ H) = match_after r (effect r m (Opened S moment)).after H
+match_after r m (ReadsEnd S ∷ H) = match_after r (effect r m (OutputEnds S)).after H
+match_after r m (ReadFails S ∷ H) = match_after r (effect r m (FailsToRead S)).after H
+match_after r m (Reads S text ∷ H) = match_after r m H
+
+-- whether these acts are cut off after a line, before the moment that the clock then shows
+abbrev pub ends_in_line : List Act → Bool
+ends_in_line [] = false
+ends_in_line (Reads S text ∷ []) = true
+ends_in_line (_ ∷ H) = ends_in_line H
+
+-- in every match `P` holds of the rules, of all acts, and of the match at its end
+abbrev pub InEachMatch : (Rules → List Act → Match → Type 0) → Type 0
+InEachMatch P = (r : Rules) (H : List Act) (final : Match) → IsMatch r H final → P r H final
+
+-- at each moment of every match `P` holds of the rules, of the acts so far (`before`; a line and the moment that the
+-- clock then shows are not parted), and of the match after them
+abbrev pub AtEachMoment : (Rules → List Act → Match → Type 0) → Type 0
+AtEachMoment P = (r : Rules) (before after : List Act) (final : Match) → IsMatch r (before ++ after) final
+    → ends_in_line before ≡ false → P r before (match_after r beginning.after before)
+
+-- whenever a line of a side is read, `P` holds of the rules, of the side, of the acts before, and of the match then
+abbrev pub AtEachLine : (Rules → Colour → List Act → Match → Type 0) → Type 0
+AtEachLine P = (r : Rules) (before after : List Act) (S : Colour) (text : Option (List ℕ)) (final : Match)
+    → IsMatch r (before ++ Reads S text ∷ after) final → P r S before (match_after r beginning.after before)
+
+-- the match after all its acts is the match at its end
+abbrev pub EndsAfterItsActs : Rules → List Act → Match → Type 0
+EndsAfterItsActs r H m = match_after r beginning.after H ≡ m
+
+-- ---- order
 
 -- in every match: when a line is read nothing is due, and the next act is to read the clock for that side
 abbrev pub LinesAreReadInOrder : Type 0
@@ -40,14 +75,6 @@ NothingIsDueAtOthers = (r : Rules) (m final : Match) (due : List Block) (S : Col
     → (IsMatchFrom r m due (ReadsClock S moment ∷ H) final → due ≡ [])
     × (IsMatchFrom r m due (ReadsEnd S ∷ H) final → due ≡ [])
     × (IsMatchFrom r m due (ReadFails S ∷ H) final → due ≡ [])
-
--- each match is the acts of a transcript that fits and has ended, as the match does. A write that failed before the end
--- is in the transcript, one of the end only in the acts
-abbrev pub MatchesAreTranscripts : Type 0
-MatchesAreTranscripts = (r : Rules) (H : List Act) (final : Match) → IsMatch r H final
-    → (T : List Event) × (fits r T ≡ true) × (is_on (match_of r T).phase ≡ false)
-    × (H ≡ acts_of r (is_broken H) T) × (final ≡ view (match_of r T))
-    × ((S : Colour) → has_fault Write S T ≡ true → is_broken H S ≡ true)
 
 -- ---- what two engines and a clock give fixes the match
 
@@ -120,28 +147,15 @@ LastLineIsTheirs = (r : Rules) (reason : Reason) (S : Colour) (H : List Act) (fi
 
 -- ---- moves
 
--- the match after these acts, if it is `m` before them
-abbrev pub match_after : Rules → Match → List Act → Match
-match_after r m [] = m
-match_after r m (Sends block ∷ H) = match_after r m H
-match_after r m (SendFails block ∷ H) = match_after r (after_failed_send r m [] block.to).0 H
-match_after r m (Reads S text ∷ ReadsClock side moment ∷ H) = match_after r (effect r m (Line S text moment)).after H
-match_after r m (ReadsClock S moment ∷ H) = match_after r (effect r m (Opened S moment)).after H
-match_after r m (ReadsEnd S ∷ H) = match_after r (effect r m (OutputEnds S)).after H
-match_after r m (ReadFails S ∷ H) = match_after r (effect r m (FailsToRead S)).after H
-match_after r m (Reads S text ∷ H) = match_after r m H
+-- the moves played are what the two engines' `move` lines denote in turn, beginning with the side that moves first; at
+-- most one `move` line is left over, which ended the match
+abbrev pub MovesAreRead : Rules → List Act → Match → Type 0
+MovesAreRead r H m = AreRead r [] m.played (moves_of (lines_read r.first H)) (moves_of (lines_read (other r.first) H))
 
--- in every match: the match after all its acts is the match at its end
-abbrev pub MatchesEndAfterTheirActs : Type 0
-MatchesEndAfterTheirActs = (r : Rules) (H : List Act) (final : Match) → IsMatch r H final
-    → match_after r beginning.after H ≡ final
-
--- in every match: when a line of the side `S` is read, `S` was sent a move (by the acts before) if and only if
--- `was_sent_move` says so of the match at that moment
-abbrev pub MovesSentAreKnownInMatches : Type 0
-MovesSentAreKnownInMatches = (r : Rules) (before after : List Act) (S : Colour) (text : Option (List ℕ))
-    (final : Match) → IsMatch r (before ++ Reads S text ∷ after) final
-    → was_sent_move (match_after r beginning.after before) S ≡ nat_lt 0 (length (moves_sent (lines_sent S before)))
+-- the items known of the engine of each side `S` are those of its `feature` lines, up to and with the line that has
+-- `done=1`
+abbrev pub ItemsAreSaid : Rules → List Act → Match → Type 0
+ItemsAreSaid r H m = (S : Colour) → (m.seat S).items ≡ items_said (lines_read S H)
 
 -- the lines of all blocks for the side `S`, in their order, also of one that could not be sent
 abbrev pub lines_given : Colour → List Act → List SentLine
@@ -150,35 +164,40 @@ lines_given S (Sends block ∷ H) = list_if (same_colour block.to S) block.lines
 lines_given S (SendFails block ∷ H) = list_if (same_colour block.to S) block.lines ++ lines_given S H
 lines_given S (_ ∷ H) = lines_given S H
 
--- in every match: the moves played are what the two engines' `move` lines denote in turn, beginning with the side that
--- moves first; at most one `move` line is left over, which ended the match
-abbrev pub MovesAreReadInMatches : Type 0
-MovesAreReadInMatches = (r : Rules) (H : List Act) (final : Match) → IsMatch r H final
-    → AreRead r [] final.played (moves_of (lines_read r.first H)) (moves_of (lines_read (other r.first) H))
+-- the texts of the moves `ms` that the side `O` is to be sent, those of the other side, in the notation that its engine
+-- asked for with these items
+abbrev pub others_moves : Rules → Colour → List Item → List Move → List (List ℕ)
+others_moves r O items ms = texts_from r (takes (codes "san") items) (other O) r.first [] ms
 
--- in every match: the items known of the engine of the side `S` are those of its `feature` lines, up to and with the
--- line that has `done=1`
-abbrev pub ItemsAreSaidInMatches : Type 0
-ItemsAreSaidInMatches = (r : Rules) (H : List Act) (final : Match) (S : Colour) → IsMatch r H final
-    → (final.seat S).items ≡ items_said (lines_read S H)
+-- each side `O` is sent the other side's moves, each once and in order; `rest` is what `O` was not sent yet, at most
+-- the last of them
+abbrev pub MovesAreSent : Rules → List Act → Match → Type 0
+MovesAreSent r H m = (O : Colour) → (rest : List (List ℕ)) × (length rest ≤ 1)
+    × (moves_sent (lines_given O H) ++ rest ≡ others_moves r O (m.seat O).items m.played)
 
--- the engines' lines fix the moves that each engine is sent: in every match there are moves `ms`, which the two
--- engines' `move` lines denote in turn. Each side `O` is sent those of the other side, each once, in order, in the
--- notation that its handshake asked for. `rest` is what `O` was not sent: at most the last of them, and nothing if each
--- block for `O` was sent
-abbrev pub EachIsSentOthersMovesInMatches : Type 0
-EachIsSentOthersMovesInMatches = (r : Rules) (H : List Act) (final : Match) → IsMatch r H final
-    → (ms : List Move) × AreRead r [] ms (moves_of (lines_read r.first H)) (moves_of (lines_read (other r.first) H))
-    × ((O : Colour) → (rest : List (List ℕ)) × (length rest ≤ 1) × (is_broken H O ≡ false → rest ≡ [])
-    × (moves_sent (lines_given O H) ++ rest
-    ≡ texts_from r (takes (codes "san") (items_said (lines_read O H))) (other O) r.first [] ms))
+-- the engines' lines fix the moves that each engine is sent: there are moves `ms`, which the two engines' `move` lines
+-- denote in turn. Each side `O` is sent those of the other side, each once, in order, in the notation that its
+-- handshake asked for. `rest` is what `O` was not sent: at most the last of them; and nothing, if the match is whole
+-- (`whole`) and each block for `O` was sent
+abbrev pub EachIsSentOthersMoves : Bool → Rules → List Act → Match → Type 0
+EachIsSentOthersMoves whole r H m =
+    (ms : List Move) × AreRead r [] ms (moves_of (lines_read r.first H)) (moves_of (lines_read (other r.first) H))
+    × ((O : Colour) → (rest : List (List ℕ)) × (length rest ≤ 1)
+    × (whole ≡ true → is_broken H O ≡ false → rest ≡ [])
+    × (moves_sent (lines_given O H) ++ rest ≡ others_moves r O (items_said (lines_read O H)) ms))
 
--- in every match: if each block for the side `O` was sent, `O` was sent all moves of the other side, each once and in
--- order
-abbrev pub AllMovesAreSentInMatches : Type 0
-AllMovesAreSentInMatches = (r : Rules) (H : List Act) (final : Match) (O : Colour) → IsMatch r H final
-    → is_broken H O ≡ false → moves_sent (lines_sent O H)
-    ≡ texts_from r (takes (codes "san") (final.seat O).items) (other O) r.first [] final.played
+-- each side `O` was sent all moves of the other side, each once and in order, if each block for `O` was sent
+abbrev pub AllMovesAreSent : Rules → List Act → Match → Type 0
+AllMovesAreSent r H m = (O : Colour) → is_broken H O ≡ false
+    → moves_sent (lines_sent O H) ≡ others_moves r O (m.seat O).items m.played
+
+-- the side `S` was sent all moves of the other side, each once and in order
+abbrev pub IsSentAllMoves : Rules → Colour → List Act → Match → Type 0
+IsSentAllMoves r S H m = moves_sent (lines_sent S H) ≡ others_moves r S (m.seat S).items m.played
+
+-- the side `S` was sent a move if and only if `was_sent_move` says so
+abbrev pub MovesSentAreKnown : Rules → Colour → List Act → Match → Type 0
+MovesSentAreKnown r S H m = was_sent_move m S ≡ nat_lt 0 (length (moves_sent (lines_sent S H)))
 
 -- in every match of chess: each move played is legal in the position in which it is made, from the start on
 abbrev pub GamesAreLines : Type 0
@@ -187,27 +206,23 @@ GamesAreLines = (start : Position) (level : LevelSeen) (limit : ℕ) (H : List A
 
 -- ---- clocks
 
--- in every match: the `time` lines that the side `S` is sent show its own clock before its first move and after each of
--- its moves, in order (none, if its engine has `time=0`). `rest` is what is missing: at most the last one
-abbrev pub TimesAreClocksInMatches : Type 0
-TimesAreClocksInMatches = (r : Rules) (H : List Act) (final : Match) (S : Colour) → IsMatch r H final
-    → (rest : List ℕ) × (length rest ≤ 1)
+-- the `time` lines that each side `S` is sent show its own clock before its first move and after each of its moves, in
+-- order (none, if its engine has `time=0`). `rest` is what is missing: at most the last one
+abbrev pub TimesAreClocks : Rules → List Act → Match → Type 0
+TimesAreClocks r H m = (S : Colour) → (rest : List ℕ) × (length rest ≤ 1)
     × (flat_map time_sent (lines_given S H) ++ rest
-    ≡ (if takes (codes "time") (final.seat S).items
-    then centiseconds r.level 0 0 (final.seat S).used
-    else []))
+    ≡ (if takes (codes "time") (m.seat S).items then centiseconds r.level 0 0 (m.seat S).used else []))
 
--- in every match: the `otim` lines that the side `S` is sent show the other's clock after each of the other's moves, in
--- order, and before the first of them if `S` moves first (none, if its engine has `time=0`). `rest` is what is missing:
--- at most the last one
-abbrev pub OtherTimesAreClocksInMatches : Type 0
-OtherTimesAreClocksInMatches = (r : Rules) (H : List Act) (final : Match) (S : Colour) → IsMatch r H final
-    → (rest : List ℕ) × (length rest ≤ 1)
+-- the `otim` lines that each side `S` is sent show the other's clock after each of the other's moves, in order, and
+-- before the first of them if `S` moves first (none, if its engine has `time=0`). `rest` is what is missing: at most
+-- the last one
+abbrev pub OtherTimesAreClocks : Rules → List Act → Match → Type 0
+OtherTimesAreClocks r H m = (S : Colour) → (rest : List ℕ) × (length rest ≤ 1)
     × (flat_map otim_sent (lines_given S H) ++ rest
-    ≡ (if takes (codes "time") (final.seat S).items
+    ≡ (if takes (codes "time") (m.seat S).items
     then (if same_colour S r.first
-    then centiseconds r.level 0 0 (final.seat (other S)).used
-    else drop 1 (centiseconds r.level 0 0 (final.seat (other S)).used))
+    then centiseconds r.level 0 0 (m.seat (other S)).used
+    else drop 1 (centiseconds r.level 0 0 (m.seat (other S)).used))
     else []))
 
 -- the milliseconds from when each turn of the side `S` was opened to its first `move` line after that (0 if the clock
@@ -222,39 +237,38 @@ move_times S opened (ReadsClock side moment ∷ H) =
     move_times S (if same_colour side S then Some moment else None) H
 move_times S opened (_ ∷ H) = move_times S opened H
 
--- in every match: the times charged to the side `S` are those from when each of its turns was opened to its `move`
--- line. `rest` is what was not charged: at most the last, of a line that ended the match
-abbrev pub UsedTimesAreDifferencesInMatches : Type 0
-UsedTimesAreDifferencesInMatches = (r : Rules) (H : List Act) (final : Match) (S : Colour) → IsMatch r H final
-    → (rest : List ℕ) × (length rest ≤ 1) × (move_times S None H ≡ (final.seat S).used ++ rest)
+-- the times charged to each side `S` are those from when each of its turns was opened to its `move` line. `rest` is
+-- what was not charged: at most the last, of a line that ended the match, and nothing while the match is on
+abbrev pub UsedTimesAreDifferences : Rules → List Act → Match → Type 0
+UsedTimesAreDifferences r H m = (S : Colour) → (rest : List ℕ) × (length rest ≤ 1)
+    × (move_times S None H ≡ (m.seat S).used ++ rest) × (is_over m.phase ≡ false → rest ≡ [])
 
--- in every match: the time that the side `S` has left and the sum of what its moves took are together what it was given
--- so far, so that its clock never goes below 0
-abbrev pub ClocksDoNotUnderflowInMatches : Type 0
-ClocksDoNotUnderflowInMatches = (r : Rules) (H : List Act) (final : Match) (S : Colour) → IsMatch r H final
-    → clock r final S + sum (final.seat S).used ≡ allotted r.level (length (final.seat S).used)
+-- the time that each side `S` has left and the sum of what its moves took are together what it was given so far, so
+-- that its clock never goes below 0
+abbrev pub ClocksDoNotUnderflow : Rules → List Act → Match → Type 0
+ClocksDoNotUnderflow r H m =
+    (S : Colour) → clock r m S + sum (m.seat S).used ≡ allotted r.level (length (m.seat S).used)
 
 -- ---- few lines
 
--- no match has more than 22,000 + 10,002 * (limit + 1) lines of both engines, where `limit` is the most half-moves: two
--- handshakes, two setups, and in each turn the ignored lines, an offer, the move and the pong
-abbrev pub LinesAreFewInMatches : Type 0
-LinesAreFewInMatches = (r : Rules) (H : List Act) (final : Match) → IsMatch r H final
-    → length (lines_read White H) + length (lines_read Black H) ≤ 22000 + 10002 * (r.limit + 1)
+-- there are not more than 22,000 + 10,002 * (limit + 1) lines of both engines, where `limit` is the most half-moves:
+-- two handshakes, two setups, and in each turn the ignored lines, an offer, the move and the pong
+abbrev pub LinesAreFew : Rules → List Act → Match → Type 0
+LinesAreFew r H m = length (lines_read White H) + length (lines_read Black H) ≤ 22000 + 10002 * (r.limit + 1)
 
 -- ---- notes
 
--- in every match that ended for this reason: the events among its notes are a transcript that ended as the match did,
--- and the acts and the notes are those of this transcript
-abbrev pub NotesHaveTheEventsInMatches : Type 0
-NotesHaveTheEventsInMatches = (r : Rules) (reason : Reason) (H : List Act) (final : Match) → IsMatch r H final
-    → final.phase ≡ Over reason
-    → let T = events_in (notes_given reason H) in
-    (fits r T ≡ true) × (final ≡ view (match_of r T)) × (H ≡ acts_of r (is_broken H) T)
-    × (notes_given reason H ≡ notes_of r T)
+-- the match after these events, if it is `m` before them
+abbrev pub after_events : Rules → Match → List Event → Match
+after_events r m events = fold (λ n e. (effect r n e).after) m events
 
--- in every match that ended for this reason: the bytes that by its notes the side `S` is sent are, one after another,
--- just those of all lines that `S` was sent, with those of a block that could not be sent
-abbrev pub NotesHaveAllLinesInMatches : Type 0
-NotesHaveAllLinesInMatches = (r : Rules) (reason : Reason) (H : List Act) (final : Match) (S : Colour)
-    → IsMatch r H final → final.phase ≡ Over reason → given_in S (notes_given reason H) ≡ bytes_of (lines_given S H)
+-- in every match that ended for this reason: the events among its notes lead from the beginning to its end
+abbrev pub NotesHaveTheEvents : Type 0
+NotesHaveTheEvents = (r : Rules) (reason : Reason) (H : List Act) (final : Match) → IsMatch r H final
+    → final.phase ≡ Over reason → final ≡ after_events r beginning.after (events_in (notes_given reason H))
+
+-- of all acts, of a whole match or not: the bytes that by their notes the side `S` is sent are, one after another, just
+-- those of all lines that `S` was sent, with those of a block that could not be sent
+abbrev pub NotesHaveAllLines : Type 0
+NotesHaveAllLines = (reason : Reason) (H : List Act) (S : Colour)
+    → given_in S (notes_given reason H) ≡ bytes_of (lines_given S H)

@@ -1,9 +1,10 @@
-use Rattle.chess_match.proofs.LawsOfActs.{clocks_hold}
+use Rattle.chess_match.specs.laws.OfActs.{ClocksDoNotUnderflow}
 use Rattle.chess_match.proofs.ClockLaw.{clocks_do_not_underflow}
+use Rattle.chess_match.proofs.Points.{in_each}
 use Rattle.chess_match.proofs.laws.clocks_do_not_underflow.Goals as goal
 
 pub returns-clause-whole : goal.returns-clause-whole
-returns-clause-whole c = clocks_hold
+returns-clause-whole c = in_each ClocksDoNotUnderflow clocks_do_not_underflow
 
 pub returns-clause-so_far : goal.returns-clause-so_far
 returns-clause-so_far c = clocks_do_not_underflow

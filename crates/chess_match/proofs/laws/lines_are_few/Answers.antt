@@ -1,9 +1,10 @@
-use Rattle.chess_match.proofs.LawsOfActs.{lines_few}
+use Rattle.chess_match.specs.laws.OfActs.{LinesAreFew}
 use Rattle.chess_match.proofs.LineLaw.{lines_are_few}
+use Rattle.chess_match.proofs.Points.{in_each}
 use Rattle.chess_match.proofs.laws.lines_are_few.Goals as goal
 
 pub returns-clause-whole : goal.returns-clause-whole
-returns-clause-whole c = lines_few
+returns-clause-whole c = in_each LinesAreFew lines_are_few
 
 pub returns-clause-so_far : goal.returns-clause-so_far
 returns-clause-so_far c = lines_are_few

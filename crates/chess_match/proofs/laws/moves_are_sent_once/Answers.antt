@@ -1,12 +1,11 @@
-use Rattle.chess_match.proofs.LawsOfActs.{all_moves_sent}
-use Rattle.chess_match.proofs.MoveLaw.{moves_are_sent, all_moves_are_sent}
+use Rattle.chess_match.proofs.MoveLaw.{all_moves_are_sent, all_sent_at_lines, moves_are_sent}
 use Rattle.chess_match.proofs.laws.moves_are_sent_once.Goals as goal
 
 pub returns-clause-whole : goal.returns-clause-whole
-returns-clause-whole c = all_moves_sent
+returns-clause-whole c = all_moves_are_sent
 
 pub returns-clause-each : goal.returns-clause-each
 returns-clause-each c = moves_are_sent
 
 pub returns-clause-all : goal.returns-clause-all
-returns-clause-all c = all_moves_are_sent
+returns-clause-all c = all_sent_at_lines

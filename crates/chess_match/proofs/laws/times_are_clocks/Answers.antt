@@ -1,12 +1,13 @@
-use Rattle.chess_match.proofs.LawsOfActs.{other_times_shown, times_shown}
-use Rattle.chess_match.proofs.TimeLaw.{times_are_clocks, other_times_are_clocks}
+use Rattle.chess_match.specs.laws.OfActs.{OtherTimesAreClocks, TimesAreClocks}
+use Rattle.chess_match.proofs.Points.{in_each}
+use Rattle.chess_match.proofs.TimeLaw.{other_times_are_clocks, times_are_clocks}
 use Rattle.chess_match.proofs.laws.times_are_clocks.Goals as goal
 
 pub returns-clause-own : goal.returns-clause-own
-returns-clause-own c = times_shown
+returns-clause-own c = in_each TimesAreClocks times_are_clocks
 
 pub returns-clause-others : goal.returns-clause-others
-returns-clause-others c = other_times_shown
+returns-clause-others c = in_each OtherTimesAreClocks other_times_are_clocks
 
 pub returns-clause-own_so_far : goal.returns-clause-own_so_far
 returns-clause-own_so_far c = times_are_clocks
