@@ -4,7 +4,7 @@ mod EntriesRead
 mod Logged
 mod FaultTexts
 mod PlayedAgain
-mod LastLines
+mod Replays
 mod ResultLines
 mod LogsRead
 mod PgnOfLogs

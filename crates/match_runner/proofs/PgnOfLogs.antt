@@ -20,13 +20,12 @@ use Rattle.chess_match.specs.Notes.{Note}
 use Rattle.chess_match.specs.Reasons.{declared_at, ended_by, outcome_by_reason, win_of}
 use Rattle.chess_match.specs.Rules.{Rules, rules_of}
 use Rattle.chess_match.specs.declared.reason.Reason.{Reason}
-use Rattle.chess_match.specs.laws.OfActs.{NotesHaveAllLinesInMatches, NotesHaveTheEventsInMatches}
 use Rattle.chess_pgn.specs.GameText.{pgn}
 use Rattle.match_runner.specs.declared.plan.GamesPlan.{GamesPlan}
 use Rattle.match_runner.specs.declared.score.Score.{Score}
 use Rattle.match_runner.specs.Games.{GameRecord, IsOfPlan, count_of, engine_command, first_side, game_text, game_texts, player_name, score_line, score_of}
-use Rattle.match_runner.specs.Log.{log_text}
-use Rattle.match_runner.specs.laws.Entries.{IsShown, entries_from}
+use Rattle.match_runner.specs.Log.{entries_from, log_text}
+use Rattle.match_runner.specs.laws.Entries.{IsShown}
 use Rattle.match_runner.specs.laws.ReadBack.{AreAlike, LogsGiveTheOutput, LogsGiveThePgn}
 use Rattle.match_runner.proofs.LogsRead.{logs_give_the_game}
 
@@ -96,8 +95,8 @@ text_is plan number w w' b b' e e' s s' p q r t =
     ap (λ (v : List ℕ). text_by plan number v b e s) p ∙ ap (λ (v : List ℕ). text_by plan number w' v e s) q
     ∙ ap (λ (v : HowEnded). text_by plan number w' b' v s) r ∙ ap (λ (v : State). text_by plan number w' b' e' v) t
 
-pub logs_give_the_pgn : NotesHaveTheEventsInMatches → NotesHaveAllLinesInMatches → LogsGiveThePgn
-logs_give_the_pgn all_events all_lines plan number one two h k plain plain' same =
+pub logs_give_the_pgn : LogsGiveThePgn
+logs_give_the_pgn plan number one two h k plain plain' same =
     let first : Colour = first_side number in
     let (H, reason, final, p) = is_played plan one h in
     let (K, reason', final', q) = is_played plan two k in
@@ -106,7 +105,7 @@ logs_give_the_pgn all_events all_lines plan number one two h k plain plain' same
     let shown' : AllByRecursion IsShown (entries_from first 0 (notes_given reason' K)) =
     subst (λ (l : List Note). AllByRecursion IsShown (entries_from first 0 l)) (sym q.notes) plain' in
     let a : AreAlike reason reason' H K final final' =
-    logs_give_the_game all_events all_lines (rules plan) first reason reason' H K final final' p.is_match q.is_match
+    logs_give_the_game (rules plan) first reason reason' H K final final' p.is_match q.is_match
     p.over q.over shown shown'
     (ap (λ (l : List Note). log_text first l) p.notes ∙ same ∙ sym (ap (λ (l : List Note). log_text first l) q.notes))
     in (
@@ -162,7 +161,7 @@ counts_alike plan wanted n (g ∷ gs) (h ∷ hs) (one, more) =
 counts_alike plan wanted n [] (h ∷ hs) a = absurd a
 counts_alike plan wanted n (g ∷ gs) [] a = absurd a
 
-module _ (all_events : NotesHaveTheEventsInMatches) (all_lines : NotesHaveAllLinesInMatches) (plan : GamesPlan) where
+module _ (plan : GamesPlan) where
   all_alike : (number : ℕ) (games games' : List GameRecord)
       → AllByRecursion (IsOfLog plan) (enumerate_from number games)
       → AllByRecursion (IsOfLog plan) (enumerate_from number games')
@@ -172,16 +171,16 @@ module _ (all_events : NotesHaveTheEventsInMatches) (all_lines : NotesHaveAllLin
   all_alike number (g ∷ gs) (g' ∷ gs') (h, hs) (k, ks) same =
       let head : log_of (number, g) ≡ log_of (number, g') = cc in
       let rest : map log_of (enumerate_from (number + 1) gs) ≡ map log_of (enumerate_from (number + 1) gs') = cc in
-      let p = logs_give_the_pgn all_events all_lines plan number g g' h.0 k.0 h.1 k.1 head in (
+      let p = logs_give_the_pgn plan number g g' h.0 k.0 h.1 k.1 head in (
         record { numbers = refl; texts = p.0; outcomes = p.1 },
         all_alike (number + 1) gs gs' hs ks rest,
       )
   all_alike number [] (g ∷ gs) h k same = absurd cc
   all_alike number (g ∷ gs) [] h k same = absurd cc
 
-pub logs_give_the_output : NotesHaveTheEventsInMatches → NotesHaveAllLinesInMatches → LogsGiveTheOutput
-logs_give_the_output all_events all_lines plan games games' h k same =
-    let a = all_alike all_events all_lines plan 1 games games' h k same in
+pub logs_give_the_output : LogsGiveTheOutput
+logs_give_the_output plan games games' h k same =
+    let a = all_alike plan 1 games games' h k same in
     let counts : (wanted : ℕ → Outcome) → count_of wanted games ≡ count_of wanted games' =
     λ wanted. counts_alike plan wanted 0 (enumerate_from 1 games) (enumerate_from 1 games') a in
     let score : score_of games ≡ score_of games' = score_is _ _ _ _ _ _ _ _

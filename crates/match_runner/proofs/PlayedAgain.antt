@@ -1,8 +1,7 @@
--- A match is played again from the events that a log shows.
-use Rattle.std.proofs.Common.{◌≡◌, ◌⊎◌, ℕ, ◌+◌, ◌-◌, Bool, true, false, List, [], ◌∷◌, ◌++◌, length, map, refl, ap, sym, ◌∙◌, subst, Option, None, Some, inl, inr, arith}
+-- What a line does to a match by a clock that stands still; and what is sent when it ends the match.
+use Rattle.std.proofs.Common.{◌≡◌, ◌⊎◌, ℕ, ◌+◌, ◌-◌, Bool, true, false, List, [], ◌∷◌, ◌++◌, length, map, refl, ap, sym, ◌∙◌, subst, append_assoc, Option, None, Some, inl, inr, arith}
 use Rattle.std.specs.Option.{option_map_or}
-use Rattle.std.specs.Prelude.{if◌then◌else◌, nat_le, nat_lt, ◌==◌, fold}
-use Rattle.std.proofs.lemmas.Bool.{and_parts}
+use Rattle.std.specs.Prelude.{if◌then◌else◌, nat_le, nat_lt, ◌==◌, codes}
 use Rattle.std.proofs.lemmas.Bool.Decides.{nat_tests}
 use Rattle.std.proofs.Math.Path.{fun_ext}
 use Rattle.std.proofs.lemmas.List.{length-map, map-append}
@@ -10,46 +9,72 @@ use Rattle.chess_base.specs.declared.man.Colour.{Colour}
 use Rattle.chess_base.specs.declared.man.Colour.TheVariants.{White, Black}
 use Rattle.chess_base.specs.declared.man.Move.{Move}
 use Rattle.chess_base.specs.Men.{other, same_colour}
+use Rattle.chess_base.specs.Options.{list_if}
 use Rattle.chess_game.specs.declared.verdicts.Verdict.{Verdict}
-use Rattle.cecp_engine.specs.EngineLines.{LineKind, line_kind, Features, Moves, Resigns, OffersDraw, ClaimsDraw, ClaimsWin, Rejects, Answers, SaysElse}
+use Rattle.cecp_engine.specs.EngineLines.{LineKind, Features, Moves, Resigns, OffersDraw, ClaimsDraw, ClaimsWin, Rejects, Answers, SaysElse}
 use Rattle.cecp_engine.specs.Items.{Item, has_done}
-use Rattle.chess_match.specs.Effects.{Match, Phase, Handshake, Setup, Opening, BeforeMove, AfterMove, Over, Effect, after_move, beginning, flag_row, before_move, clock, effect, ends, handshake_done, handshake_row, begins_turn, ignores, items_said, judged, line_row, missing, move_row, moved, offer_row, ping_number, sends_nothing, sends_to, setup_done, setup_row, turn_row, was_sent_move, with_answers, with_seat}
+use Rattle.chess_match.specs.Effects.{Match, Phase, Handshake, Setup, Opening, BeforeMove, AfterMove, Over, Effect, after_move, flag_row, before_move, clock, ends, farewell, handshake_done, handshake_row, begins_turn, ignores, is_owed, items_said, judged, line_row, missing, move_line, move_row, moved, offer_row, ping_number, sends_nothing, sends_to, setup_done, setup_row, turn_row, was_sent_move, with_answers, with_seat}
 use Rattle.chess_match.specs.Acts.{awaits_line, is_over}
-use Rattle.chess_match.specs.ByDevice.{notes_given}
-use Rattle.chess_match.specs.laws.Blocks.{block, lines_on_entering}
-use Rattle.chess_match.specs.laws.Laws.{events_in}
-use Rattle.chess_match.specs.laws.Machine as machine
-use Rattle.chess_match.specs.laws.Machine.{kept_match, opened_kept, phase_kept, phase_of, view}
-use Rattle.chess_match.specs.laws.OfActs.{NotesHaveTheEventsInMatches}
-use Rattle.chess_match.specs.laws.Transcript.{fits_from, fits_next, is_on, match_of, opens, reads}
-use Rattle.chess_match.specs.declared.phase.Phase.{Phase as MachinePhase}
-use Rattle.chess_match.specs.declared.phase.Phase.TheVariants as phases
-use Rattle.chess_match.specs.Events.{Event, Line, Opened, OutputEnds, FailsToRead, FailsToWrite, Seat}
+use Rattle.chess_match.specs.Events.{Seat}
 use Rattle.chess_match.specs.Rules.{Rules}
 use Rattle.chess_match.specs.declared.reason.DrawClaim.{DrawClaim}
 use Rattle.chess_match.specs.declared.reason.MatchFault.{MatchFault}
-use Rattle.chess_match.specs.declared.reason.MatchFault.TheVariants.{Ended, Flood, NoDone, NoPing, NoSetboard, NoVariant, Read, Write}
+use Rattle.chess_match.specs.declared.reason.MatchFault.TheVariants.{Flood, NoDone, NoPing, NoSetboard, NoVariant}
 use Rattle.chess_match.specs.declared.reason.Reason.{Reason}
-use Rattle.chess_match.specs.Lines.{SentLine, ping}
+use Rattle.chess_match.specs.Lines.{SentLine, Says, answers_to, ping}
 use Rattle.chess_match.specs.Reasons.{is_unwritten}
 use Rattle.chess_match.specs.declared.reason.Reason.TheVariants as over_by
-use Rattle.match_runner.specs.laws.ReadBack.{EventsShownGiveTheGame, at_zero, but_last, ends_by_flag, events_in_time, events_shown, once_opened, played_again}
+use Rattle.match_runner.specs.laws.ReadBack.{text_of_result}
+
+-- ---- how a match ends
+
+-- whether a match that ended for this reason ended because a flag fell
+abbrev pub ends_by_flag : Reason → Bool
+ends_by_flag (over_by.Forfeits S) = true
+ends_by_flag over_by.ForfeitsToBareKing = true
+ends_by_flag _ = false
+
+-- the line of the result, and `quit`
+abbrev pub last_lines : Reason → List SentLine
+last_lines reason = Says (text_of_result reason) ∷ Says (codes "quit") ∷ []
+
+-- a match that ended for this reason: no write failed, and each side is sent the last lines
+pub record Stops (reason : Reason) (to : Colour → List SentLine) : Type 0 where
+  pub written : (S : Colour) → is_unwritten reason S ≡ false
+  pub last : (S : Colour) → (before : List SentLine) × (to S ≡ before ++ last_lines reason)
+
+stops_at : (r : Rules) (reason : Reason) (m : Match) → ((S : Colour) → is_unwritten reason S ≡ false)
+    → Stops reason (ends r reason m).to
+stops_at r reason m w = record {
+  written = w;
+  last = λ S. (
+    list_if (is_owed m.phase S) (move_line r m S ∷ []),
+    ap (λ (b : Bool). if b then [] else farewell r m reason S) (w S),
+  );
+}
+
+-- ---- a clock that stands still
+
+-- what a match waits for once the lines that open a turn are sent, if the clock always shows 0
+abbrev pub once_opened : Phase → Phase
+once_opened (Opening S) = BeforeMove S 0
+once_opened phase = phase
 
 -- what is known of an engine whose moves took no time
-abbrev zero : Seat → Seat
+abbrev pub zero : Seat → Seat
 zero s = record s { used = map (λ u. 0) s.used }
 
 -- what a match in this phase waits for, if the clock always shows 0
-abbrev waits : Phase → Phase
+abbrev pub waits : Phase → Phase
 waits (Opening S) = BeforeMove S 0
 waits (BeforeMove S opened) = BeforeMove S 0
 waits phase = phase
 
 -- the match `m`, if the clock always shows 0
-abbrev again : Match → Match
+abbrev pub again : Match → Match
 again m = record m { phase = waits m.phase; seat = λ S. zero (m.seat S) }
 
-abbrev opened : Match → Match
+abbrev pub opened : Match → Match
 opened m = record m { phase = once_opened m.phase }
 
 -- no flag fell, and no write failed
@@ -59,23 +84,26 @@ IsPlain reason = (ends_by_flag reason ≡ false) × ((S : Colour) → is_unwritt
 -- what is done is done again, and no flag falls
 pub record Again (done redone : Effect) : Type 0 where
   pub same : again done.after ≡ opened redone.after
-  pub plain : (reason : Reason) → done.after.phase ≡ Over reason → IsPlain reason
+  pub stops : (reason : Reason) → done.after.phase ≡ Over reason
+      → (ends_by_flag reason ≡ false) × Stops reason done.to
 
 waits_twice : (p : Phase) → waits p ≡ once_opened (waits p)
 waits_twice p = grind arith
 
-over_again : (r : Rules) (reason : Reason) (m : Match) → IsPlain reason
+pub over_again : (r : Rules) (reason : Reason) (m : Match) → IsPlain reason
     → Again (ends r reason m) (ends r reason (again m))
 over_again r reason m h = record {
   same = refl;
-  plain = λ reason' e. let same : reason ≡ reason' = cc in subst IsPlain same h;
+  stops = λ reason' e. let same : reason ≡ reason' = cc in
+      subst (λ (x : Reason). (ends_by_flag x ≡ false) × Stops x (ends r reason m).to) same
+      (h.0, stops_at r reason m h.1);
 }
 
 on_again : (done redone : Effect) → again done.after ≡ opened redone.after → is_over done.after.phase ≡ false
     → Again done redone
 on_again done redone e on = record {
   same = e;
-  plain = λ reason over. let no : false ≡ true = sym on ∙ ap is_over over in absurd cc;
+  stops = λ reason over. let no : false ≡ true = sym on ∙ ap is_over over in absurd cc;
 }
 
 test_again : (b : Bool) (x x' y y' : Effect) → Again x x' → Again y y'
@@ -270,7 +298,21 @@ module _ (r : Rules) (S : Colour) (m : Match) (on : is_over m.phase ≡ false) w
 
       answered : (done redone : Effect) → Again done redone
           → Again (with_answers S items done) (with_answers S items redone)
-      answered done redone h = record { same = h.same; plain = h.plain }
+      answered done redone h = record {
+        same = h.same;
+        stops = λ reason over. let (plain, stops) = h.stops reason over in (
+          plain,
+          record {
+            written = stops.written;
+            last = λ O.
+                let (before, e) = stops.last O in
+                let answers : List SentLine = list_if (same_colour S O) (answers_to items) in (
+                  answers ++ before,
+                  ap (λ (l : List SentLine). answers ++ l) e ∙ sym (append_assoc answers before (last_lines reason)),
+                );
+          },
+        );
+      }
 
       at : (x y : Bool) → Again (with_answers S items (if x then handshake_done r S met
           else if y then ends r (over_by.Faulted S NoDone) met else sends_nothing (record met { count = m.count + 1 })))
@@ -286,6 +328,7 @@ module _ (r : Rules) (S : Colour) (m : Match) (on : is_over m.phase ≡ false) w
 -- a flag fell, and the match ended for that
 abbrev pub Falls : Match → Effect → Type 0
 Falls m done = (reason : Reason) × (ends_by_flag reason ≡ true) × (done.after ≡ record m { phase = Over reason })
+    × Stops reason done.to
 
 none_less : (n : ℕ) → nat_lt n 0 ≡ false
 none_less n = grind (arith, nat_tests)
@@ -294,8 +337,8 @@ flagged : (r : Rules) (S : Colour) (m : Match) → Falls m (flag_row r S m)
 flagged r S m = at (r.has_bare_king m.played (other S))
   where
     at : (b : Bool) → Falls m (ends r (if b then over_by.ForfeitsToBareKing else over_by.Forfeits S) m)
-    at true = (over_by.ForfeitsToBareKing, refl, refl)
-    at false = (over_by.Forfeits S, refl, refl)
+    at true = (over_by.ForfeitsToBareKing, refl, refl, stops_at r over_by.ForfeitsToBareKing m (λ O. refl))
+    at false = (over_by.Forfeits S, refl, refl, stops_at r (over_by.Forfeits S) m (λ O. refl))
 
 timed : (r : Rules) (S : Colour) (used : ℕ) (kind : LineKind) (m : Match) → is_over m.phase ≡ false → (late : Bool)
     → Falls m (if late then flag_row r S m else before_move r S used kind m)
@@ -317,190 +360,3 @@ line_again r S kind moment m (BeforeMove c opened) aw on =
 line_again r S kind moment m (AfterMove c) aw on = inr (after r c m on kind)
 line_again r S kind moment m (Opening c) aw on = absurd cc
 line_again r S kind moment m (Over reason) aw on = absurd cc
-
--- ---- all events
-
-phase_again : (opened : ℕ) (p : Phase) → phase_of (opened_kept p opened) (phase_kept p) ≡ p
-phase_again opened p = grind arith
-
-seat_again : (f : Colour → Seat) (m : machine.Match) (c : Colour)
-    → machine.seat (record m { white = f White; black = f Black }) c ≡ f c
-seat_again f m White = refl
-seat_again f m Black = refl
-
-pub view_kept : (m : machine.Match) (n : Match) → view (kept_match m n) ≡ n
-view_kept m n =
-    with_phase (view (kept_match m n)) (phase_of (opened_kept n.phase m.opened) (phase_kept n.phase)) n.phase
-    (phase_again m.opened n.phase)
-    ∙ with_seats n (λ c. machine.seat (record m { white = n.seat White; black = n.seat Black }) c) n.seat
-    (seat_again n.seat m)
-
-pub awaited : (opened : ℕ) (p : MachinePhase) (S : Colour) → reads p S ≡ true
-    → (awaits_line (phase_of opened p) S ≡ true) × (is_over (phase_of opened p) ≡ false)
-awaited opened p S h = (grind (arith, h), grind (arith, h))
-
--- the match after an event which is no opening: a flag fell, or the event is seen again
-abbrev Step : Rules → Match → Event → Type 0
-Step r m e = Falls m (effect r m e) ⊎ ((again (effect r m e).after ≡ opened (effect r (again m) (at_zero e)).after)
-    × ((reason : Reason) → (effect r m e).after.phase ≡ Over reason → ends_by_flag reason ≡ false))
-
-step_again : (r : Rules) (m : Match) (e : Event) → Falls m (effect r m e)
-    ⊎ Again (effect r m e) (effect r (again m) (at_zero e)) → Step r m e
-step_again r m e (inl falls) = inl falls
-step_again r m e (inr h) = inr (h.same, λ reason over. (h.plain reason over).0)
-
--- what a game played again has of the game
-abbrev Same : Reason → Match → Match → Type 0
-Same reason final n = (final.played ≡ n.played) × ((S : Colour) → (final.seat S).items ≡ (n.seat S).items)
-    × (ends_by_flag reason ≡ false → n.phase ≡ Over reason)
-
-over_now : (k : ℕ) (p : MachinePhase) (reason : Reason) → p ≡ phases.Over reason → waits (phase_of k p) ≡ Over reason
-over_now k p reason e = ap (λ (q : MachinePhase). waits (phase_of k q)) e
-
-pub over_back : (k : ℕ) (p : MachinePhase) (reason : Reason) → phase_of k p ≡ Over reason → p ≡ phases.Over reason
-over_back k p reason h1 = grind arith
-
-begun : beginning.after ≡ again (view machine.start)
-begun = with_seats beginning.after beginning.after.seat (λ S. zero (machine.seat machine.start S)) (λ S. grind arith)
-
-fault_again : (r : Rules) (e : Event) (m : Match) (S : Colour) (fault : MatchFault)
-    → effect r m e ≡ ends r (over_by.Faulted S fault) m
-    → effect r (again m) (at_zero e) ≡ ends r (over_by.Faulted S fault) (again m) → Step r m e
-fault_again r e m S fault is is' = inr (
-  ap (λ (x : Effect). again x.after) is ∙ sym (ap (λ (x : Effect). opened x.after) is'),
-  λ reason over.
-      let same : Over (over_by.Faulted S fault) ≡ Over reason = sym (ap (λ (x : Effect). x.after.phase) is) ∙ over in
-      grind (arith, same),
-)
-
--- after the match is over for a flag that did not fall yet, a line is shown
-some_shown : (r : Rules) (due : Colour → List SentLine) (m : machine.Match) (T : List Event) (reason : Reason)
-    → fits_from r due m T ≡ true → (fold (machine.match_after r) m T).phase ≡ phases.Over reason
-    → ends_by_flag reason ≡ true → ((x : Reason) → m.phase ≡ phases.Over x → ends_by_flag x ≡ false)
-    → (e : Event) × (es : List Event) × (events_shown T ≡ e ∷ es)
-some_shown r due m [] reason f over flag none = let no : true ≡ false = sym flag ∙ none reason over in absurd cc
-some_shown r due m (Opened S k ∷ T) reason f over flag none =
-    some_shown r (block r m (machine.match_after r m (Opened S k))) (machine.match_after r m (Opened S k)) T reason
-    (and_parts _ _ f).1 over flag (λ x e. absurd cc)
-some_shown r due m (Line S t k ∷ T) reason f over flag none = (Line S t k, events_shown T, refl)
-some_shown r due m (OutputEnds S ∷ T) reason f over flag none = (OutputEnds S, events_shown T, refl)
-some_shown r due m (FailsToRead S ∷ T) reason f over flag none = (FailsToRead S, events_shown T, refl)
-some_shown r due m (FailsToWrite S ∷ T) reason f over flag none = (FailsToWrite S, events_shown T, refl)
-
-pub fits_on : (due : Colour → List SentLine) (m : machine.Match) (e : Event) → fits_next due m e ≡ true
-    → is_on m.phase ≡ true
-fits_on due m e h1 = grind arith
-
-over_off : (k : ℕ) (p : MachinePhase) (reason : Reason) → phase_of k p ≡ Over reason → is_on p ≡ false
-over_off k p reason h1 = grind arith
-
-over_is : (k : ℕ) (p : MachinePhase) (x reason : Reason) → phase_of k p ≡ Over x → p ≡ phases.Over reason → x ≡ reason
-over_is k p x reason h1 h2 = let same : phase_of k (phases.Over reason) ≡ Over x = sym (ap (phase_of k) h2) ∙ h1 in cc
-
-opening : (k : ℕ) (p : MachinePhase) (S : Colour) → opens p S ≡ true → BeforeMove S 0 ≡ waits (phase_of k p)
-opening k p S h1 = grind arith
-
--- a flag fell at the event: it is the last, and does not count
-fell : (r : Rules) (due : Colour → List SentLine) (m : Match) (n : machine.Match) (e : Event) (T : List Event)
-    (x reason : Reason) → ends_by_flag x ≡ true → view n ≡ record m { phase = Over x } → fits_from r due n T ≡ true
-    → (fold (machine.match_after r) n T).phase ≡ phases.Over reason
-    → Same reason (view (fold (machine.match_after r) n T))
-    (played_again r (again m) (events_in_time reason (e ∷ events_shown T)))
-fell r due m n e [] x reason flag is f over =
-    let now : phase_of n.opened n.phase ≡ Over x = ap (λ (k : Match). k.phase) is in
-    let late : ends_by_flag reason ≡ true = ap ends_by_flag (sym (over_is n.opened n.phase x reason now over)) ∙ flag in
-    subst (λ (b : Bool). Same reason (view n) (played_again r (again m) (if b then [] else e ∷ []))) (sym late) (
-      ap (λ (k : Match). k.played) is,
-      λ S. ap (λ (k : Match). (k.seat S).items) is,
-      λ timely. let no : true ≡ false = sym late ∙ timely in absurd cc,
-    )
-fell r due m n e (g ∷ T) x reason flag is f over =
-    let no : false ≡ true = sym (over_off n.opened n.phase x (ap (λ (k : Match). k.phase) is))
-    ∙ fits_on due n g (and_parts _ _ f).0 in
-    absurd cc
-
--- an event more
-seen_more : (r : Rules) (n : Match) (e : Event) (b : Bool) (es : List Event)
-    → (b ≡ true → (x : Event) × (xs : List Event) × (es ≡ x ∷ xs))
-    → played_again r (opened (effect r n (at_zero e)).after) (if b then but_last es else es)
-    ≡ played_again r n (if b then but_last (e ∷ es) else e ∷ es)
-seen_more r n e false es h = refl
-seen_more r n e true es h =
-    let (x, xs, is) = h refl in
-    subst (λ (l : List Event). played_again r (opened (effect r n (at_zero e)).after) (but_last l)
-    ≡ played_again r n (but_last (e ∷ l))) (sym is) refl
-
-module _ (r : Rules) (reason : Reason) where
-  -- after an event that is no opening
-  one_more : (due : Colour → List SentLine) (m : machine.Match) (e : Event) (T : List Event) → Step r (view m) e
-      → fits_from r due (machine.match_after r m e) T ≡ true
-      → (fold (machine.match_after r) (machine.match_after r m e) T).phase ≡ phases.Over reason
-      → Same reason (view (fold (machine.match_after r) (machine.match_after r m e) T))
-      (played_again r (again (view (machine.match_after r m e))) (events_in_time reason (events_shown T)))
-      → Same reason (view (fold (machine.match_after r) (machine.match_after r m e) T))
-      (played_again r (again (view m)) (events_in_time reason (e ∷ events_shown T)))
-  one_more due m e T (inl (x, flag, is)) f over h = fell r due (view m) (machine.match_after r m e) e T x reason flag
-      (view_kept m (effect r (view m) e).after ∙ is) f over
-  one_more due m e T (inr (same, plain)) f over h =
-      let done : view (machine.match_after r m e) ≡ (effect r (view m) e).after =
-      view_kept m (effect r (view m) e).after in
-      subst (λ (n : Match). Same reason (view (fold (machine.match_after r) (machine.match_after r m e) T)) n)
-      (ap (λ (n : Match). played_again r n (events_in_time reason (events_shown T)))
-      (ap (λ (n : Match). again n) done ∙ same)
-      ∙ seen_more r (again (view m)) e (ends_by_flag reason) (events_shown T)
-      (λ flag. some_shown r due (machine.match_after r m e) T reason f over flag
-      (λ x now. plain x (ap (λ (n : Match). n.phase) (sym done)
-      ∙ ap (λ (p : MachinePhase). phase_of (machine.match_after r m e).opened p) now)))) h
-
-  all_shown : (due : Colour → List SentLine) (m : machine.Match) (T : List Event) → fits_from r due m T ≡ true
-      → (fold (machine.match_after r) m T).phase ≡ phases.Over reason
-      → Same reason (view (fold (machine.match_after r) m T))
-      (played_again r (again (view m)) (events_in_time reason (events_shown T)))
-  all_shown due m [] f over = at (ends_by_flag reason)
-    where
-      at : (b : Bool) → Same reason (view m) (played_again r (again (view m)) (if b then [] else []))
-      at true = (refl, λ S. refl, λ h. over_now m.opened m.phase reason over)
-      at false = (refl, λ S. refl, λ h. over_now m.opened m.phase reason over)
-  all_shown due m (Opened S k ∷ T) f over =
-      let p = and_parts _ _ f in
-      let n : machine.Match = machine.match_after r m (Opened S k) in
-      subst (λ (x : Match). Same reason (view (fold (machine.match_after r) n T))
-      (played_again r x (events_in_time reason (events_shown T))))
-      (ap (λ (x : Match). again x) (view_kept m (effect r (view m) (Opened S k)).after)
-      ∙ with_phase (again (view m)) (BeforeMove S 0) (waits (phase_of m.opened m.phase))
-      (opening m.opened m.phase S p.0))
-      (all_shown (block r m n) n T p.1 over)
-  all_shown due m (Line S t k ∷ T) f over =
-      let p = and_parts _ _ f in
-      let w = awaited m.opened m.phase S p.0 in
-      let n : machine.Match = machine.match_after r m (Line S t k) in
-      one_more (block r m n) m (Line S t k) T (step_again r (view m) (Line S t k)
-      (line_again r S (line_kind t) k (view m) (phase_of m.opened m.phase) w.0 w.1)) p.1 over
-      (all_shown (block r m n) n T p.1 over)
-  all_shown due m (OutputEnds S ∷ T) f over =
-      let p = and_parts _ _ f in
-      let n : machine.Match = machine.match_after r m (OutputEnds S) in
-      one_more (block r m n) m (OutputEnds S) T (fault_again r (OutputEnds S) (view m) S Ended refl refl) p.1 over
-      (all_shown (block r m n) n T p.1 over)
-  all_shown due m (FailsToRead S ∷ T) f over =
-      let p = and_parts _ _ f in
-      let n : machine.Match = machine.match_after r m (FailsToRead S) in
-      one_more (block r m n) m (FailsToRead S) T (fault_again r (FailsToRead S) (view m) S Read refl refl) p.1 over
-      (all_shown (block r m n) n T p.1 over)
-  all_shown due m (FailsToWrite S ∷ T) f over =
-      let p = and_parts _ _ f in
-      let n : machine.Match = machine.match_after r m (FailsToWrite S) in
-      one_more (block r m n) m (FailsToWrite S) T (fault_again r (FailsToWrite S) (view m) S Write refl refl) p.1 over
-      (all_shown (block r m n) n T p.1 over)
-
-pub events_shown_give_the_game : NotesHaveTheEventsInMatches → EventsShownGiveTheGame
-events_shown_give_the_game notes_have r reason H final is over =
-    let T : List Event = events_in (notes_given reason H) in
-    let (fitting, same, acts, notes) = notes_have r reason H final is over in
-    let ended : (match_of r T).phase ≡ phases.Over reason = over_back (match_of r T).opened (match_of r T).phase reason
-    (ap (λ (n : Match). n.phase) (sym same) ∙ over) in
-    subst (λ (n : Match). Same reason n (played_again r beginning.after (events_in_time reason (events_shown T))))
-    (sym same)
-    (subst (λ (n : Match). Same reason (view (match_of r T))
-    (played_again r n (events_in_time reason (events_shown T))))
-    (sym begun) (all_shown r reason (lines_on_entering r machine.start) machine.start T fitting ended))

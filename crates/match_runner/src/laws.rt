@@ -2,9 +2,7 @@
 
 ghost use Rattle.match_runner.specs.laws.Entries.{LogsHaveOneReading};
 ghost use Rattle.match_runner.specs.laws.Faults.{OnlyLastGamesHaveFailedWrites};
-ghost use Rattle.match_runner.specs.laws.ReadBack.{EventsShownGiveTheGame, LogsGiveTheGame, LogsGiveTheOutput, LogsGiveThePgn, LogsShow};
-
-use chess_match::notes_have_all;
+ghost use Rattle.match_runner.specs.laws.ReadBack.{LogsGiveTheGame, LogsGiveTheOutput, LogsGiveThePgn, LogsShow};
 
 /// States a law and does nothing: a game without a fault of an engine leaves the counts of failed writes and flushes of
 /// both engines' inputs as they were, also at its end lines. So only the last game of a match can raise them.
@@ -18,16 +16,13 @@ pub fn logs_have_one_reading()
     ensures { LogsHaveOneReading }
 {}
 
-/// States a law: a log gives its game back. From its lines, if their texts are printable ASCII, follow the lines that
-/// each engine sent, with their moments, and those that it was sent, which show the clocks; the moves, which are those
-/// of the game played again from these lines; the reason for which it ended, and so its result; and its PGN. All that a
-/// match writes to the output follows from the logs of its games.
+/// States a law and does nothing: a log gives its game back. From its lines, if their texts are printable ASCII, follow
+/// the lines that each engine sent, with their moments, and those that it was sent, which show the clocks; the moves;
+/// the reason for which it ended, and so its result; and its PGN. All that a match writes to the output follows from
+/// the logs of its games.
 pub fn logs_give_the_game()
-    ensures again { EventsShownGiveTheGame }
     ensures shows { LogsShow }
     ensures gives { LogsGiveTheGame }
     ensures pgn { LogsGiveThePgn }
     ensures output { LogsGiveTheOutput }
-{
-    notes_have_all();
-}
+{}

@@ -9,74 +9,27 @@ use Rattle.chess_base.specs.Options.{list_if}
 use Rattle.chess_base.specs.declared.man.Colour.{Colour}
 use Rattle.chess_match.specs.Acts.{Act, IsMatch}
 use Rattle.chess_match.specs.ByDevice.{notes_given}
-use Rattle.chess_match.specs.Effects.{Match, Phase, Opening, BeforeMove, Over, beginning, effect}
+use Rattle.chess_match.specs.Effects.{Match, Over}
 use Rattle.chess_match.specs.Events.{Event, Line, Opened, OutputEnds, FailsToRead, FailsToWrite}
 use Rattle.chess_match.specs.laws.Laws.{events_in}
 use Rattle.chess_match.specs.laws.OfActs.{lines_given}
 use Rattle.match_runner.specs.declared.plan.GamesPlan.{GamesPlan}
 use Rattle.match_runner.specs.Games.{GameRecord, IsOfPlan, first_side, game_text, match_text}
-use Rattle.match_runner.specs.Log.{log_text}
-use Rattle.match_runner.specs.laws.Entries.{Entry, IsShown, entries_from}
+use Rattle.match_runner.specs.Log.{Entry, entries_from, log_text}
+use Rattle.match_runner.specs.laws.Entries.{IsShown}
 use Rattle.chess_match.specs.Lines.{bytes_of}
 use Rattle.chess_match.specs.Reasons.{comment_of, outcome_by_reason}
 use Rattle.chess_match.specs.Rules.{Rules}
 use Rattle.chess_match.specs.declared.reason.Reason.{Reason}
-use Rattle.chess_match.specs.declared.reason.Reason.TheVariants.{Forfeits, ForfeitsToBareKing}
 use Rattle.chess_game.specs.Results.{result_text}
 
--- ---- a clock that stands still
+-- ---- the lines of a log
 
 -- of these events those that a log shows: all but the openings of turns
 abbrev pub events_shown : List Event → List Event
 events_shown [] = []
 events_shown (Opened S moment ∷ es) = events_shown es
 events_shown (e ∷ es) = e ∷ events_shown es
-
--- this event, if the clock always shows 0
-abbrev pub at_zero : Event → Event
-at_zero (Line S text moment) = Line S text 0
-at_zero e = e
-
--- what a match waits for once the lines that open a turn are sent, if the clock always shows 0
-abbrev pub once_opened : Phase → Phase
-once_opened (Opening S) = BeforeMove S 0
-once_opened phase = phase
-
--- the match after these events, which have no openings of turns, if it is `m` before them and the clock always shows 0:
--- so each turn is opened at 0, and no flag falls
-abbrev pub played_again : Rules → Match → List Event → Match
-played_again r m [] = m
-played_again r m (e ∷ es) =
-    let n = (effect r m (at_zero e)).after in played_again r (record n { phase = once_opened n.phase }) es
-
--- whether a match that ended for this reason ended because a flag fell
-abbrev pub ends_by_flag : Reason → Bool
-ends_by_flag (Forfeits S) = true
-ends_by_flag ForfeitsToBareKing = true
-ends_by_flag _ = false
-
--- these events but the last
-abbrev pub but_last : List Event → List Event
-but_last [] = []
-but_last (e ∷ []) = []
-but_last (e ∷ f ∷ es) = e ∷ but_last (f ∷ es)
-
--- of the events that a log shows, those that count: all; but not the last, a line that came too late, if the match
--- ended because a flag fell
-abbrev pub events_in_time : Reason → List Event → List Event
-events_in_time reason es = if ends_by_flag reason then but_last es else es
-
--- in every match that ended for this reason: its moves, and what is known of both engines, are those of the match that
--- is played again from the events that its log shows; and if no flag fell, that one ends for the same reason
-abbrev pub EventsShownGiveTheGame : Type 0
-EventsShownGiveTheGame = (r : Rules) (reason : Reason) (H : List Act) (final : Match) → IsMatch r H final
-    → final.phase ≡ Over reason
-    → let shown = events_shown (events_in (notes_given reason H)) in
-    let again = played_again r beginning.after (events_in_time reason shown) in
-    (final.played ≡ again.played) × ((S : Colour) → (final.seat S).items ≡ (again.seat S).items)
-    × (ends_by_flag reason ≡ false → again.phase ≡ Over reason)
-
--- ---- the lines of a log
 
 -- the line that engines are sent at the end of a match that ended for this reason, such as `result 1-0 {Black resigns}`
 abbrev pub text_of_result : Reason → List ℕ
