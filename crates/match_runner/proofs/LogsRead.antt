@@ -1,6 +1,6 @@
 -- What the lines of a log show of its match, and that a log gives the match back.
-use Rattle.std.proofs.Common.{◌≡◌, ◌∙◌, ℕ, Bool, true, false, List, [], ◌∷◌, ◌++◌, map, refl, sym, ap, subst, append_assoc, append-nil, Some, None, arith}
-use Rattle.std.specs.Prelude.{◌==◌, codes, cond, flat_map, if◌then◌else◌, not}
+use Rattle.std.proofs.Common.{◌≡◌, ◌∙◌, ℕ, Bool, true, false, List, [], ◌∷◌, ◌++◌, map, refl, sym, ap, append_assoc, append-nil, Some, None, arith}
+use Rattle.std.specs.Prelude.{◌==◌, codes, flat_map, if◌then◌else◌, not}
 use Rattle.std.proofs.lemmas.Bool.{and_parts}
 use Rattle.std.specs.List.{list_all, onto_first}
 use Rattle.std.proofs.lemmas.List.{map-append}

@@ -139,6 +139,14 @@ seated_again S change m e =
 opened_again : (m : Match) → again m ≡ opened (again m)
 opened_again m = with_phase (again m) (waits m.phase) (once_opened (waits m.phase)) (waits_twice m.phase)
 
+-- what an engine lacks is no write that failed
+abbrev Lacks : Option MatchFault → Type 0
+Lacks lack = (fault : MatchFault) → lack ≡ Some fault → (c O : Colour)
+    → is_unwritten (over_by.Faulted c fault) O ≡ false
+
+lacks : (r : Rules) (items : List Item) → Lacks (missing r items)
+lacks r items fault h1 c O = grind arith
+
 module _ (r : Rules) (S : Colour) (m : Match) (on : is_over m.phase ≡ false) where
   ignored : Again (ignores r S m) (ignores r S (again m))
   ignored = test_again (nat_le 10000 (m.count + 1)) _ _ _ _ (over_again r (over_by.Faulted S Flood) m (refl, λ c. refl))
@@ -171,31 +179,13 @@ module _ (r : Rules) (S : Colour) (m : Match) (on : is_over m.phase ≡ false) w
       (if nat_lt 0 n then ends r (over_by.RejectsLegalMove S) (again m) else ignores r S (again m)))
       (sym (length-map (m.seat (other S)).used (λ u. 0)))
       (test_again (was_sent_move m S) _ _ _ _ (over_again r (over_by.RejectsLegalMove S) m (refl, λ c. refl)) ignored)
-  in_turn (Features t) = ignored
-  in_turn (Moves t) = ignored
-  in_turn (Answers n) = ignored
-  in_turn SaysElse = ignored
+  in_turn _ = ignored
 
   -- the match after a move
   moved_again : (move : Move) (used : ℕ) → again (moved S move used m) ≡ moved S move 0 (again m)
-  moved_again move used =
-      seated_again (other S) (λ s. record s { offers = false })
-      (with_seat S (λ s. record s { used = s.used ++ used ∷ [] })
-      (record m { phase = AfterMove S; played = m.played ++ move ∷ [] })) (λ s. refl)
-      ∙ ap (λ (n : Match). with_seat (other S) (λ s. record s { offers = false }) n)
-      (with_seats (record (again m) { phase = AfterMove S; played = m.played ++ move ∷ [] })
-      (λ side. zero (if same_colour side S then charged used (m.seat side) else m.seat side))
-      (λ side. if same_colour side S then charged 0 (zero (m.seat side)) else zero (m.seat side))
-      (λ side. at (same_colour side S) (m.seat side)))
-    where
-      charged : ℕ → Seat → Seat
-      charged u s = record s { used = s.used ++ u ∷ [] }
-
-      at : (b : Bool) (s : Seat)
-          → zero (if b then charged used s else s) ≡ (if b then charged 0 (zero s) else zero s)
-      at true s = ap (λ (l : List ℕ). let x : Seat = record s { used = l } in x)
-          (map-append (λ (u : ℕ). 0) s.used (used ∷ []))
-      at false s = refl
+  moved_again move used = with_seats (record (again m) { phase = AfterMove S; played = m.played ++ move ∷ [] })
+      (λ side. zero ((moved S move used m).seat side)) (moved S move 0 (again m)).seat
+      (λ side. grind (arith, map-append {B = ℕ} (λ u. 0) (m.seat side).used (used ∷ [])))
 
   decided_again : (v : Option Verdict) (n : Match) (done redone : Effect) → Again done redone
       → Again (option_map_or (λ verdict. ends r (over_by.Decided verdict) n) v done)
@@ -216,14 +206,7 @@ module _ (r : Rules) (S : Colour) (m : Match) (on : is_over m.phase ≡ false) w
           (sends_to S (ping (ping_number n S) ∷ []) n)))
           (moved_again move used)
           (decided_again (r.verdict (m.played ++ move ∷ [])) (moved S move used m) _ _ (on_again _ _ refl refl))
-  before used Resigns = in_turn Resigns
-  before used OffersDraw = in_turn OffersDraw
-  before used ClaimsDraw = in_turn ClaimsDraw
-  before used (ClaimsWin c) = in_turn (ClaimsWin c)
-  before used Rejects = in_turn Rejects
-  before used (Features t) = ignored
-  before used (Answers n) = ignored
-  before used SaysElse = ignored
+  before used kind = in_turn kind
 
   after : (kind : LineKind) → Again (after_move r S kind m) (after_move r S kind (again m))
   after (Moves t) = over_again r (over_by.MovesOutOfTurn S) m (refl, λ c. refl)
@@ -232,13 +215,7 @@ module _ (r : Rules) (S : Colour) (m : Match) (on : is_over m.phase ≡ false) w
       (if n == k + 1 then begins_turn r (other S) (again m) else ignores r S (again m)))
       (sym (length-map (m.seat S).used (λ u. 0)))
       (test_again (n == ping_number m S) _ _ _ _ (on_again _ _ refl refl) ignored)
-  after Resigns = in_turn Resigns
-  after OffersDraw = in_turn OffersDraw
-  after ClaimsDraw = in_turn ClaimsDraw
-  after (ClaimsWin c) = in_turn (ClaimsWin c)
-  after Rejects = in_turn Rejects
-  after (Features t) = ignored
-  after SaysElse = ignored
+  after kind = in_turn kind
 
   setup : (kind : LineKind) → Again (setup_row r S kind m) (setup_row r S kind (again m))
   setup (Answers n) = test_again (n == 1) _ _ _ _ (ready S) ignored
@@ -246,14 +223,7 @@ module _ (r : Rules) (S : Colour) (m : Match) (on : is_over m.phase ≡ false) w
       ready : (side : Colour) → Again (setup_done r side m) (setup_done r side (again m))
       ready White = on_again _ _ refl refl
       ready Black = decided_again (r.verdict m.played) m _ _ (on_again _ _ refl refl)
-  setup Resigns = ignored
-  setup OffersDraw = ignored
-  setup ClaimsDraw = ignored
-  setup (ClaimsWin c) = ignored
-  setup Rejects = ignored
-  setup (Features t) = ignored
-  setup (Moves t) = ignored
-  setup SaysElse = ignored
+  setup _ = ignored
 
   handshake : (items : List Item) → Again (handshake_row r S items m) (handshake_row r S items (again m))
   handshake items =
@@ -269,32 +239,20 @@ module _ (r : Rules) (S : Colour) (m : Match) (on : is_over m.phase ≡ false) w
       met : Match
       met = with_seat S added m
 
-      -- what an engine lacks, if it is this
-      lacks : Bool → Bool → Bool → Option MatchFault
-      lacks a b c = if a then Some NoPing else if b then Some NoSetboard else if c then Some NoVariant else None
-
-      faulted : (c : Colour) (fault : MatchFault) → ((S : Colour) → is_unwritten (over_by.Faulted c fault) S ≡ false)
+      faulted : (c : Colour) (fault : MatchFault) → ((O : Colour) → is_unwritten (over_by.Faulted c fault) O ≡ false)
           → Again (ends r (over_by.Faulted c fault) (record met { count = 0 }))
           (ends r (over_by.Faulted c fault) (record (again met) { count = 0 }))
-      faulted c fault mild = over_again r (over_by.Faulted c fault) (record met { count = 0 }) (refl, mild)
+      faulted c fault h = over_again r (over_by.Faulted c fault) (record met { count = 0 }) (refl, h)
 
-      second : (a b c : Bool) → Again (judged r None (lacks a b c) met) (judged r None (lacks a b c) (again met))
-      second true b c = faulted Black NoPing (λ c. refl)
-      second false true c = faulted Black NoSetboard (λ c. refl)
-      second false false true = faulted Black NoVariant (λ c. refl)
-      second false false false = on_again _ _ refl refl
-
-      first : (a b c : Bool) (theirs : Option MatchFault)
-          → Again (judged r None theirs met) (judged r None theirs (again met))
-          → Again (judged r (lacks a b c) theirs met) (judged r (lacks a b c) theirs (again met))
-      first true b c theirs h = faulted White NoPing (λ c. refl)
-      first false true c theirs h = faulted White NoSetboard (λ c. refl)
-      first false false true theirs h = faulted White NoVariant (λ c. refl)
-      first false false false theirs h = h
+      both : (w b : Option MatchFault) → Lacks w → Lacks b → Again (judged r w b met) (judged r w b (again met))
+      both (Some f) b x y = faulted White f (x f refl White)
+      both None (Some f) x y = faulted Black f (y f refl Black)
+      both None None x y = on_again _ _ refl refl
 
       shaken : (side : Colour) → Again (handshake_done r side met) (handshake_done r side (again met))
       shaken White = on_again _ _ refl refl
-      shaken Black = first _ _ _ (missing r (met.seat Black).items) (second _ _ _)
+      shaken Black = both (missing r (met.seat White).items) (missing r (met.seat Black).items)
+          (lacks r (met.seat White).items) (lacks r (met.seat Black).items)
 
       answered : (done redone : Effect) → Again done redone
           → Again (with_answers S items done) (with_answers S items redone)

@@ -1,5 +1,5 @@
 -- What the acts of a match lead to, by what a log shows of them: the moves, the items and the last lines.
-use Rattle.std.proofs.Common.{◌≡◌, ◌⊎◌, ℕ, Bool, true, false, List, [], ◌∷◌, ◌++◌, map, refl, ap, sym, ◌∙◌, subst, append_assoc, Option, None, Some, inl, inr, arith}
+use Rattle.std.proofs.Common.{◌≡◌, ◌⊎◌, ℕ, Bool, true, false, List, [], ◌∷◌, ◌++◌, map, refl, ap, sym, ◌∙◌, subst, append_assoc, inl, inr, arith}
 use Rattle.std.specs.Prelude.{if◌then◌else◌, fold}
 use Rattle.std.specs.List.{AllByRecursion}
 use Rattle.std.proofs.lemmas.List.{map-append}
@@ -10,8 +10,8 @@ use Rattle.chess_base.specs.Options.{list_if}
 use Rattle.cecp_engine.specs.EngineLines.{line_kind}
 use Rattle.chess_match.specs.Acts.{Act, Block, Sends, SendFails, Reads, ReadsEnd, ReadFails, ReadsClock, IsMatch, IsMatchFrom, awaits_line, block_of, blocks_after, blocks_from, is_over}
 use Rattle.chess_match.specs.ByDevice.{notes_given}
-use Rattle.chess_match.specs.Effects.{Match, Phase, Opening, BeforeMove, Over, Effect, beginning, effect, ends, is_owed, move_line}
-use Rattle.chess_match.specs.Events.{Event, Line, Opened, OutputEnds, FailsToRead, FailsToWrite, Seat}
+use Rattle.chess_match.specs.Effects.{Match, Phase, Opening, Over, beginning, effect, ends, is_owed, move_line}
+use Rattle.chess_match.specs.Events.{Event, Line, Opened, OutputEnds, FailsToRead, FailsToWrite}
 use Rattle.chess_match.specs.Lines.{SentLine, bytes_of}
 use Rattle.chess_match.specs.Notes.{Note, Happened, Gives}
 use Rattle.chess_match.specs.Reasons.{is_unwritten}
@@ -21,7 +21,7 @@ use Rattle.chess_match.specs.declared.reason.Reason.{Reason}
 use Rattle.chess_match.specs.declared.reason.Reason.TheVariants.{Faulted}
 use Rattle.chess_match.specs.laws.Laws.{events_in}
 use Rattle.match_runner.specs.laws.ReadBack.{events_shown}
-use Rattle.match_runner.proofs.PlayedAgain.{Again, Falls, Stops, again, ends_by_flag, last_lines, line_again, once_opened, opened, over_again, waits, zero}
+use Rattle.match_runner.proofs.PlayedAgain.{Again, Falls, Stops, again, ends_by_flag, last_lines, line_again, opened, over_again, waits}
 
 -- ---- the last notes
 
@@ -107,8 +107,8 @@ which _ h = absurd cc
 abbrev Rests : Reason → Match → Match → List Block → List Note → Type 0
 Rests reason final m due notes = (final ≡ m) × (AreWritten reason due → notes ≡ map give due)
 
-sent_more : (reason : Reason) (b s : Block) (l l' : List Note) → b ≡ s → l ≡ l' → Gives s.to (bytes_of s.lines) ∷ l ≡ give b ∷ l'
-sent_more reason b s l l' q e = ap (λ (x : Block). give x ∷ l) (sym q) ∙ ap (λ (l : List Note). give b ∷ l) e
+sent_more : (b s : Block) (l l' : List Note) → b ≡ s → l ≡ l' → Gives s.to (bytes_of s.lines) ∷ l ≡ give b ∷ l'
+sent_more b s l l' q e = ap (λ (x : Block). give x ∷ l) (sym q) ∙ ap (λ (l : List Note). give b ∷ l) e
 
 unsent_more : (reason : Reason) (b s : Block) (l l' : List Note) → b ≡ s → is_unwritten reason b.to ≡ false → l ≡ l'
     → Gives s.to (bytes_of s.lines)
@@ -261,7 +261,7 @@ module _ (r : Rules) (reason : Reason) (final : Match) (over : final.phase ≡ O
   leads : (m : Match) (due : List Block) (H : List Act) → IsMatchFrom r m due H final
       → Leads r reason final m due (notes_given reason H)
   leads m (b ∷ due) (Sends s ∷ H) (q, g) = let p = leads m due H g in (
-    λ o. let (e, n) = p.0 o in (e, λ w. sent_more reason b s _ _ q (n w.1)),
+    λ o. let (e, n) = p.0 o in (e, λ w. sent_more b s _ _ q (n w.1)),
     λ on. record {
       last = more_before reason (give s ∷ []) (notes_given reason H) (p.1 on).last;
       some = (p.1 on).some;
@@ -302,19 +302,7 @@ module _ (r : Rules) (reason : Reason) (final : Match) (over : final.phase ≡ O
         (leads (effect r m (FailsToRead S)).after (blocks_from White (effect r m (FailsToRead S)).to) H g),
   )
   leads m [] [] (o, e) = (λ over. (e, λ w. refl), λ on. not_over (is_over m.phase) o on)
-  leads m (b ∷ due) [] g = absurd g
-  leads m (b ∷ due) (Reads S t ∷ H) g = absurd g
-  leads m (b ∷ due) (ReadsClock S k ∷ H) g = absurd g
-  leads m (b ∷ due) (ReadsEnd S ∷ H) g = absurd g
-  leads m (b ∷ due) (ReadFails S ∷ H) g = absurd g
-  leads m [] (Sends s ∷ H) g = absurd g
-  leads m [] (SendFails s ∷ H) g = absurd g
-  leads m [] (Reads S t ∷ []) g = absurd g
-  leads m [] (Reads S t ∷ Sends s ∷ H) g = absurd g
-  leads m [] (Reads S t ∷ SendFails s ∷ H) g = absurd g
-  leads m [] (Reads S t ∷ Reads c u ∷ H) g = absurd g
-  leads m [] (Reads S t ∷ ReadsEnd c ∷ H) g = absurd g
-  leads m [] (Reads S t ∷ ReadFails c ∷ H) g = absurd g
+  leads m due H g = absurd g
 
 -- a whole match
 pub match_goes : (r : Rules) (reason : Reason) (H : List Act) (final : Match) → IsMatch r H final
