@@ -198,12 +198,7 @@ given_read first S moment reason (Reads c None ∷ ReadsClock d now ∷ H) = giv
 given_read first S moment reason (ReadsClock c now ∷ H) = given_read first S now reason H
 given_read first S moment reason (ReadsEnd c ∷ H) = given_read first S moment reason H
 given_read first S moment reason (ReadFails c ∷ H) = given_read first S moment reason H
-given_read first S moment reason (Reads c t ∷ []) = refl
-given_read first S moment reason (Reads c t ∷ Sends b ∷ H) = given_read first S moment reason (Sends b ∷ H)
-given_read first S moment reason (Reads c t ∷ SendFails b ∷ H) = given_read first S moment reason (SendFails b ∷ H)
-given_read first S moment reason (Reads c t ∷ Reads d u ∷ H) = given_read first S moment reason (Reads d u ∷ H)
-given_read first S moment reason (Reads c t ∷ ReadsEnd d ∷ H) = given_read first S moment reason (ReadsEnd d ∷ H)
-given_read first S moment reason (Reads c t ∷ ReadFails d ∷ H) = given_read first S moment reason (ReadFails d ∷ H)
+given_read first S moment reason (Reads c t ∷ H) = given_read first S moment reason H
 
 -- ---- the result
 

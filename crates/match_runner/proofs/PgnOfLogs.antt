@@ -143,8 +143,7 @@ texts_alike plan [] [] a = refl
 texts_alike plan (g ∷ gs) (h ∷ hs) (one, more) =
     ap (λ (l : List ℕ). l ++ flat_map (λ g. game_text plan g.0 g.1) gs) one.texts
     ∙ ap (λ (l : List ℕ). game_text plan h.0 h.1 ++ l) (texts_alike plan gs hs more)
-texts_alike plan [] (h ∷ hs) a = absurd a
-texts_alike plan (g ∷ gs) [] a = absurd a
+texts_alike plan gs hs a = absurd a
 
 -- a game more is counted, or not
 abbrev counted : (ℕ → Outcome) → ℕ → ℕ × GameRecord → ℕ
@@ -158,8 +157,7 @@ counts_alike plan wanted n (g ∷ gs) (h ∷ hs) (one, more) =
     ∙ ap (λ (k : ℕ). fold (counted wanted) k hs)
     (ap (λ (o : Outcome). n + cond (same_outcome o (wanted g.0)) 1 0) one.outcomes
     ∙ ap (λ (k : ℕ). n + cond (same_outcome h.1.end.outcome (wanted k)) 1 0) one.numbers)
-counts_alike plan wanted n [] (h ∷ hs) a = absurd a
-counts_alike plan wanted n (g ∷ gs) [] a = absurd a
+counts_alike plan wanted n gs hs a = absurd a
 
 module _ (plan : GamesPlan) where
   all_alike : (number : ℕ) (games games' : List GameRecord)
@@ -175,8 +173,7 @@ module _ (plan : GamesPlan) where
         record { numbers = refl; texts = p.0; outcomes = p.1 },
         all_alike (number + 1) gs gs' hs ks rest,
       )
-  all_alike number [] (g ∷ gs) h k same = absurd cc
-  all_alike number (g ∷ gs) [] h k same = absurd cc
+  all_alike number gs gs' h k same = absurd cc
 
 pub logs_give_the_output : LogsGiveTheOutput
 logs_give_the_output plan games games' h k same =

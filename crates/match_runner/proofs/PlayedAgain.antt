@@ -11,15 +11,15 @@ use Rattle.chess_base.specs.declared.man.Move.{Move}
 use Rattle.chess_base.specs.Men.{other, same_colour}
 use Rattle.chess_base.specs.Options.{list_if}
 use Rattle.chess_game.specs.declared.verdicts.Verdict.{Verdict}
-use Rattle.cecp_engine.specs.EngineLines.{LineKind, Features, Moves, Resigns, OffersDraw, ClaimsDraw, ClaimsWin, Rejects, Answers, SaysElse}
+use Rattle.cecp_engine.specs.EngineLines.{LineKind, Moves, Resigns, OffersDraw, ClaimsDraw, ClaimsWin, Rejects, Answers}
 use Rattle.cecp_engine.specs.Items.{Item, has_done}
-use Rattle.chess_match.specs.Effects.{Match, Phase, Handshake, Setup, Opening, BeforeMove, AfterMove, Over, Effect, after_move, flag_row, before_move, clock, ends, farewell, handshake_done, handshake_row, begins_turn, ignores, is_owed, items_said, judged, line_row, missing, move_line, move_row, moved, offer_row, ping_number, sends_nothing, sends_to, setup_done, setup_row, turn_row, was_sent_move, with_answers, with_seat}
+use Rattle.chess_match.specs.Effects.{Match, Phase, Handshake, Setup, Opening, BeforeMove, AfterMove, Over, Effect, after_move, flag_row, before_move, clock, ends, farewell, handshake_done, handshake_row, ignores, is_owed, items_said, judged, line_row, missing, move_line, move_row, moved, offer_row, ping_number, sends_nothing, sends_to, setup_done, setup_row, turn_row, was_sent_move, with_answers, with_seat}
 use Rattle.chess_match.specs.Acts.{awaits_line, is_over}
 use Rattle.chess_match.specs.Events.{Seat}
 use Rattle.chess_match.specs.Rules.{Rules}
 use Rattle.chess_match.specs.declared.reason.DrawClaim.{DrawClaim}
 use Rattle.chess_match.specs.declared.reason.MatchFault.{MatchFault}
-use Rattle.chess_match.specs.declared.reason.MatchFault.TheVariants.{Flood, NoDone, NoPing, NoSetboard, NoVariant}
+use Rattle.chess_match.specs.declared.reason.MatchFault.TheVariants.{Flood, NoDone}
 use Rattle.chess_match.specs.declared.reason.Reason.{Reason}
 use Rattle.chess_match.specs.Lines.{SentLine, Says, answers_to, ping}
 use Rattle.chess_match.specs.Reasons.{is_unwritten}
@@ -56,12 +56,12 @@ stops_at r reason m w = record {
 -- ---- a clock that stands still
 
 -- what a match waits for once the lines that open a turn are sent, if the clock always shows 0
-abbrev pub once_opened : Phase → Phase
+abbrev once_opened : Phase → Phase
 once_opened (Opening S) = BeforeMove S 0
 once_opened phase = phase
 
 -- what is known of an engine whose moves took no time
-abbrev pub zero : Seat → Seat
+abbrev zero : Seat → Seat
 zero s = record s { used = map (λ u. 0) s.used }
 
 -- what a match in this phase waits for, if the clock always shows 0
@@ -78,7 +78,7 @@ abbrev pub opened : Match → Match
 opened m = record m { phase = once_opened m.phase }
 
 -- no flag fell, and no write failed
-abbrev pub IsPlain : Reason → Type 0
+abbrev IsPlain : Reason → Type 0
 IsPlain reason = (ends_by_flag reason ≡ false) × ((S : Colour) → is_unwritten reason S ≡ false)
 
 -- what is done is done again, and no flag falls
@@ -86,9 +86,6 @@ pub record Again (done redone : Effect) : Type 0 where
   pub same : again done.after ≡ opened redone.after
   pub stops : (reason : Reason) → done.after.phase ≡ Over reason
       → (ends_by_flag reason ≡ false) × Stops reason done.to
-
-waits_twice : (p : Phase) → waits p ≡ once_opened (waits p)
-waits_twice p = grind arith
 
 pub over_again : (r : Rules) (reason : Reason) (m : Match) → IsPlain reason
     → Again (ends r reason m) (ends r reason (again m))
@@ -111,18 +108,13 @@ test_again : (b : Bool) (x x' y y' : Effect) → Again x x' → Again y y'
 test_again true x x' y y' h k = h
 test_again false x x' y y' h k = k
 
--- the same match with another phase, or other seats
-with_phase : (m : Match) (p p' : Phase) → p ≡ p'
-    → (let x : Match = record m { phase = p } in x) ≡ record m { phase = p' }
-with_phase m p p' e = ap (λ (q : Phase). let x : Match = record m { phase = q } in x) e
-
+-- the same match with other seats
 with_seats : (m : Match) (f g : Colour → Seat) → ((S : Colour) → f S ≡ g S)
     → (let x : Match = record m { seat = f } in x) ≡ record m { seat = g }
 with_seats m f g e = ap (λ (h : Colour → Seat). let x : Match = record m { seat = h } in x) (fun_ext e)
 
 counted_again : (m : Match) (n : ℕ) → again (record m { count = n }) ≡ opened (record (again m) { count = n })
-counted_again m n = with_phase (record (again m) { count = n }) (waits m.phase) (once_opened (waits m.phase))
-    (waits_twice m.phase)
+counted_again m n = grind arith
 
 -- a change of a seat that has nothing to do with times
 seated_again : (S : Colour) (change : Seat → Seat) (m : Match) → ((s : Seat) → zero (change s) ≡ change (zero s))
@@ -130,14 +122,10 @@ seated_again : (S : Colour) (change : Seat → Seat) (m : Match) → ((s : Seat)
 seated_again S change m e =
     with_seats (again m) (λ side. zero (if same_colour side S then change (m.seat side) else m.seat side))
     (λ side. if same_colour side S then change (zero (m.seat side)) else zero (m.seat side))
-    (λ side. at (same_colour side S) (m.seat side))
-  where
-    at : (b : Bool) (s : Seat) → zero (if b then change s else s) ≡ (if b then change (zero s) else zero s)
-    at true s = e s
-    at false s = refl
+    (λ side. grind (arith, e (m.seat side)))
 
 opened_again : (m : Match) → again m ≡ opened (again m)
-opened_again m = with_phase (again m) (waits m.phase) (once_opened (waits m.phase)) (waits_twice m.phase)
+opened_again m = grind arith
 
 -- what an engine lacks is no write that failed
 abbrev Lacks : Option MatchFault → Type 0
@@ -175,10 +163,7 @@ module _ (r : Rules) (S : Colour) (m : Match) (on : is_over m.phase ≡ false) w
       at true = over_again r (over_by.ClaimsFalsely S) m (refl, λ c. refl)
       at false = over_again r (over_by.Resigns S) m (refl, λ c. refl)
   in_turn Rejects =
-      subst (λ (n : ℕ). Again (if was_sent_move m S then ends r (over_by.RejectsLegalMove S) m else ignores r S m)
-      (if nat_lt 0 n then ends r (over_by.RejectsLegalMove S) (again m) else ignores r S (again m)))
-      (sym (length-map (m.seat (other S)).used (λ u. 0)))
-      (test_again (was_sent_move m S) _ _ _ _ (over_again r (over_by.RejectsLegalMove S) m (refl, λ c. refl)) ignored)
+      rw (length-map {B = ℕ} (m.seat (other S)).used (λ u. 0)) (test_again (was_sent_move m S) _ _ _ _ (over_again r (over_by.RejectsLegalMove S) m (refl, λ c. refl)) ignored)
   in_turn _ = ignored
 
   -- the match after a move
@@ -211,10 +196,7 @@ module _ (r : Rules) (S : Colour) (m : Match) (on : is_over m.phase ≡ false) w
   after : (kind : LineKind) → Again (after_move r S kind m) (after_move r S kind (again m))
   after (Moves t) = over_again r (over_by.MovesOutOfTurn S) m (refl, λ c. refl)
   after (Answers n) =
-      subst (λ (k : ℕ). Again (after_move r S (Answers n) m)
-      (if n == k + 1 then begins_turn r (other S) (again m) else ignores r S (again m)))
-      (sym (length-map (m.seat S).used (λ u. 0)))
-      (test_again (n == ping_number m S) _ _ _ _ (on_again _ _ refl refl) ignored)
+      rw (length-map {B = ℕ} (m.seat S).used (λ u. 0)) (test_again (n == ping_number m S) _ _ _ _ (on_again _ _ refl refl) ignored)
   after kind = in_turn kind
 
   setup : (kind : LineKind) → Again (setup_row r S kind m) (setup_row r S kind (again m))
