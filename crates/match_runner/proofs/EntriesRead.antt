@@ -108,7 +108,8 @@ never_empty (x ∷ xs) y ys e = cc
 not_empty : (e : Entry) (rest : List ℕ) → IsShown e
     → log_line e.moment e.mark e.is_first e.text ++ rest ≡ [] → ⊥
 not_empty e rest (small, plain) h =
-    never_empty (decimal e.moment) _ _ (sym (spread e.moment e.mark e.is_first e.text e.text rest (shown_text e.text plain).0) ∙ h)
+    never_empty (decimal e.moment) _ _
+    (sym (spread e.moment e.mark e.is_first e.text e.text rest (shown_text e.text plain).0) ∙ h)
 
 pub logs_have_one_reading : LogsHaveOneReading
 logs_have_one_reading [] [] h k e = refl

@@ -209,7 +209,8 @@ pub given_more : (first side : Colour) (moment : ℕ) (text line rest all done :
     ++ entries_text (note_entries first moment (Gives side rest)) ≡ all
 given_more first side moment text line rest all done is h =
     let entries : List (List ℕ) → List ℕ = λ ls.
-    entries_text (map (λ t. record { moment = moment; mark = byte ">"; is_first = same_colour side first; text = t }) ls)
+    entries_text (map (λ t. record { moment = moment; mark = byte ">"; is_first = same_colour side first; text = t })
+    ls)
     in
     append_assoc done (log_line moment (byte ">") (same_colour side first) line) (entries (lines_in rest))
     ∙ ap (λ ls. done ++ entries ls) (sym is) ∙ h

@@ -163,7 +163,8 @@ module _ (r : Rules) (S : Colour) (m : Match) (on : is_over m.phase ≡ false) w
       at true = over_again r (over_by.ClaimsFalsely S) m (refl, λ c. refl)
       at false = over_again r (over_by.Resigns S) m (refl, λ c. refl)
   in_turn Rejects =
-      rw (length-map {B = ℕ} (m.seat (other S)).used (λ u. 0)) (test_again (was_sent_move m S) _ _ _ _ (over_again r (over_by.RejectsLegalMove S) m (refl, λ c. refl)) ignored)
+      rw (length-map {B = ℕ} (m.seat (other S)).used (λ u. 0))
+      (test_again (was_sent_move m S) _ _ _ _ (over_again r (over_by.RejectsLegalMove S) m (refl, λ c. refl)) ignored)
   in_turn _ = ignored
 
   -- the match after a move
@@ -196,7 +197,8 @@ module _ (r : Rules) (S : Colour) (m : Match) (on : is_over m.phase ≡ false) w
   after : (kind : LineKind) → Again (after_move r S kind m) (after_move r S kind (again m))
   after (Moves t) = over_again r (over_by.MovesOutOfTurn S) m (refl, λ c. refl)
   after (Answers n) =
-      rw (length-map {B = ℕ} (m.seat S).used (λ u. 0)) (test_again (n == ping_number m S) _ _ _ _ (on_again _ _ refl refl) ignored)
+      rw (length-map {B = ℕ} (m.seat S).used (λ u. 0))
+      (test_again (n == ping_number m S) _ _ _ _ (on_again _ _ refl refl) ignored)
   after kind = in_turn kind
 
   setup : (kind : LineKind) → Again (setup_row r S kind m) (setup_row r S kind (again m))

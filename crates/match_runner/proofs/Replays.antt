@@ -285,8 +285,8 @@ module _ (r : Rules) (reason : Reason) (final : Match) (over : final.phase ≡ O
     λ on. record {
       last = more_before reason (Happened (Opened S k) ∷ []) (notes_given reason H) p.last;
       some = p.some;
-      same = subst (λ (n : Match).
-          Same final (replayed r reason n (events_shown (events_in (notes_given reason H))))) (on_opened m S k o) p.same;
+      same = let es : List Event = events_shown (events_in (notes_given reason H)) in
+          subst (λ (n : Match). Same final (replayed r reason n es)) (on_opened m S k o) p.same;
     },
   )
   leads m [] (ReadsEnd S ∷ H) (aw, g) = (

@@ -12,8 +12,8 @@ use Rattle.chess_match.specs.Run.{Flushed, FlushedThenFailed}
 
 -- ---- one line
 
--- a line of a log: its milliseconds, its mark (`<` for what an engine sends, `>` for what it is sent, `!` for all else),
--- whether its engine is that of `--white`, and its text
+-- a line of a log: its milliseconds, its mark (`<` for what an engine sends, `>` for what it is sent, `!` for all
+-- else), whether its engine is that of `--white`, and its text
 pub record Entry : Type 0 where
   pub moment : ℕ
   pub mark : ℕ
@@ -28,8 +28,8 @@ engine_text is_first = if is_first then codes "first : " else codes "second: "
 abbrev pub head : ℕ → ℕ → Bool → List ℕ
 head moment mark is_first = decimal moment ++ ((32 ∷ mark ∷ []) ++ engine_text is_first)
 
--- a line as it is written, such as `312 <first : move e2e4` and `\n`, from its milliseconds, its mark, whether its engine
--- is that of `--white`, and its text, with `?` for what can't be shown
+-- a line as it is written, such as `312 <first : move e2e4` and `\n`, from its milliseconds, its mark, whether its
+-- engine is that of `--white`, and its text, with `?` for what can't be shown
 abbrev pub log_line : ℕ → ℕ → Bool → List ℕ → List ℕ
 log_line moment mark is_first text = head moment mark is_first ++ (map shown_byte text ++ new_line ∷ [])
 
