@@ -196,7 +196,7 @@ fn matched<P: Processes + Clock, W: Output, E: Output>(
     log: &mut Log<E>,
 ) -> u8
     ensures { PlaysMatch plan.now (W.seen output.old) (W.seen output.new)
-        (log_seen (E.seen log.old.output) log.old.pending) (log_seen (E.seen log.new.output) log.new.pending)
+        (log_seen (E.seen log.old.output) log.old.broken) (log_seen (E.seen log.new.output) log.new.broken)
         result }
 {
     let games = GamesPlan {
@@ -247,11 +247,11 @@ pub fn run_program<'a, P: Processes + Clock, R: Input, W: Output, E: Output>(
     ensures { RanProgram (map (λ w. w.now) arguments.entry.now)
         (record {
           devices = record { input = R.seen input.old; output = W.seen output.old };
-          log = log_seen (E.seen errors.old.output) errors.old.pending;
+          log = log_seen (E.seen errors.old.output) errors.old.broken;
         })
         (record {
           devices = record { input = R.seen input.new; output = W.seen output.new };
-          log = log_seen (E.seen errors.new.output) errors.new.pending;
+          log = log_seen (E.seen errors.new.output) errors.new.broken;
         }) result }
 {
     let plan = match read_words(alloc, arguments) {

@@ -42,8 +42,8 @@ pub record GameRead : Type 0 where
   pub state : State
   pub answer : Result (Option PgnEnd) PgnFault
 
--- what a game's outcome mark declares: its outcome, but nothing if the board has a verdict (the flag) or the mark is
--- `*`
+-- what a game's outcome mark declares: its outcome, without a comment; but nothing if the mark is `*`, or if the board
+-- has a verdict (`is_decided`), since that gives the game's outcome, whatever the mark is
 abbrev pub declared_after : Bool → Outcome → Option Declared
 declared_after is_decided o =
     if is_decided || same_outcome o Unfinished then None else Some (record { outcome = o; comment = [] })

@@ -50,7 +50,8 @@ after_brace (c ∷ rest) = if c == byte "}" then Some rest else after_brace rest
 abbrev pub after_white_space : List ℕ → List ℕ
 after_white_space text = drop (prefix_len is_white_space text) text
 
--- whether a whole line is skipped in a gap: it begins with `%` (section 6) or is white space alone
+-- whether a line in a gap (white space and `%` lines between the parts of a tag) is skipped whole: it begins with `%`
+-- (section 6) or is white space alone
 abbrev pub is_gap_line : List ℕ → Bool
 is_gap_line line = bytes_eq (take 1 line) (codes "%") || list_all is_white_space line
 

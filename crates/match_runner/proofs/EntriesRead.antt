@@ -1,188 +1,17 @@
--- The lines of a log, from notes and from its text.
-use Rattle.std.proofs.Common.{◌≡◌, ◌∙◌, ℕ, Bool, true, false, List, [], ◌∷◌, ◌++◌, map, refl, sym, ap, subst, append_assoc, append-nil, Some, None, arith, rules}
-use Rattle.std.specs.Prelude.{◌==◌, ◌&&◌, codes, cond, decimal, flat_map, if◌then◌else◌}
+-- The lines of a log are read back from its text.
+use Rattle.std.proofs.Common.{◌≡◌, ◌∙◌, ℕ, Bool, true, false, List, [], ◌∷◌, ◌++◌, map, refl, sym, ap, append_assoc, arith, rules}
+use Rattle.std.specs.Prelude.{◌==◌, codes, decimal}
 use Rattle.std.proofs.lemmas.Bool.{and_parts}
 use Rattle.std.proofs.lemmas.Bool.Decides.{nat_tests}
 use Rattle.std.specs.Str.Parse.{digits_value}
-use Rattle.std.specs.List.{AllByRecursion, list_all, onto_first}
+use Rattle.std.specs.List.{AllByRecursion, list_all}
 use Rattle.std.proofs.lemmas.List.{append_cancel_left}
-use Rattle.std.proofs.lemmas.List.Concat.{flat_map-append}
 use Rattle.std.proofs.lemmas.Fmt.{decimal_injective, digits_decimal}
 use Rattle.std.proofs.lemmas.Str.Parse.{IsNumeralModel, numerals_by_value}
-use Rattle.chess_base.specs.Letters.{byte, is_digit, new_line}
-use Rattle.chess_base.specs.declared.man.Colour.{Colour}
-use Rattle.chess_base.specs.Men.{same_colour}
-use Rattle.chess_base.specs.Options.{list_if}
-use Rattle.chess_match.specs.Acts.{Act, Sends, SendFails, Reads, ReadsEnd, ReadFails, ReadsClock}
-use Rattle.chess_match.specs.ByDevice.{notes_given}
-use Rattle.chess_match.specs.Events.{Line, Opened, OutputEnds, FailsToRead, FailsToWrite}
-use Rattle.chess_match.specs.Lines.{SentLine, bytes_of, text_of}
-use Rattle.chess_match.specs.Notes.{Note, Happened, Gives}
-use Rattle.chess_match.specs.Reasons.{is_unwritten}
-use Rattle.chess_match.specs.declared.reason.Reason.{Reason}
-use Rattle.text_lines.specs.Lines.{parts}
-use Rattle.match_runner.specs.Log.{ends_line, engine_text, given_text, head, log_from, log_line, shown}
-use Rattle.match_runner.specs.laws.Entries.{Entry, IsShown, LogsAreEntries, LogsHaveOneReading, ended_parts, entries_from, entries_text, is_printable, note_entries}
-
--- ---- the lines of a block
-
-some_part : (text : List ℕ) → (first : List ℕ) × (more : List (List ℕ)) × (parts text ≡ first ∷ more)
-some_part [] = ([], [], refl)
-some_part (b ∷ bs) = at (b == new_line) (parts bs) (some_part bs)
-  where
-    at : (x : Bool) (l : List (List ℕ)) → ((first : List ℕ) × (more : List (List ℕ)) × (l ≡ first ∷ more))
-        → (first : List ℕ) × (more : List (List ℕ)) × (cond x ([] ∷ l) (onto_first b l) ≡ first ∷ more)
-    at true l h = ([], l, refl)
-    at false l (first, more, e) = (b ∷ first, more, ap (λ (k : List (List ℕ)). onto_first b k) e)
-
-module _ (front : List ℕ) where
-  abbrev lines : List (List ℕ) → List ℕ
-  lines ls = flat_map (λ l. front ++ (map shown l ++ new_line ∷ [])) ls
-
-  -- in the middle of a line, its rest comes first, and then the other lines
-  abbrev Middle : List ℕ → List (List ℕ) → Type 0
-  Middle given ps = (first : List ℕ) × (next : List ℕ) × (more : List (List ℕ)) × (ps ≡ first ∷ next ∷ more)
-      × (given ≡ map shown first ++ new_line ∷ lines (ended_parts (next ∷ more)))
-
-  -- a byte more
-  byte_more : (x : Bool) (b : ℕ) (given : Bool → List ℕ) (ps : List (List ℕ))
-      → ((first : List ℕ) × (more : List (List ℕ)) × (ps ≡ first ∷ more))
-      → (x ≡ true → given true ≡ lines (ended_parts ps)) → (x ≡ false → Middle (given false) ps)
-      → (front ++ ((if x then new_line else shown b) ∷ given x)
-      ≡ lines (ended_parts (cond x ([] ∷ ps) (onto_first b ps))))
-      × Middle ((if x then new_line else shown b) ∷ given x) (cond x ([] ∷ ps) (onto_first b ps))
-  byte_more true b given ps (first, more, e) start middle =
-      let same : given true ≡ lines (ended_parts (first ∷ more)) =
-      subst (λ (k : List (List ℕ)). given true ≡ lines (ended_parts k)) e (start refl) in (
-        subst (λ (k : List (List ℕ)). front ++ new_line ∷ given true ≡ lines (ended_parts ([] ∷ k))) (sym e)
-            (ap (λ (l : List ℕ). front ++ new_line ∷ l) same
-            ∙ sym (append_assoc front (new_line ∷ []) (lines (ended_parts (first ∷ more))))),
-        ([], first, more, ap (λ (k : List (List ℕ)). [] ∷ k) e, ap (λ (l : List ℕ). new_line ∷ l) same),
-      )
-  byte_more false b given ps some start middle =
-      let (first, next, more, e, is) = middle refl in (
-        subst (λ (k : List (List ℕ)). front ++ shown b ∷ given false ≡ lines (ended_parts (onto_first b k))) (sym e)
-            (ap (λ (l : List ℕ). front ++ shown b ∷ l) is
-            ∙ sym (append_assoc front (shown b ∷ map shown first ++ new_line ∷ []) (lines (ended_parts (next ∷ more)))
-            ∙ ap (λ (l : List ℕ). front ++ shown b ∷ l)
-            (append_assoc (map shown first) (new_line ∷ []) (lines (ended_parts (next ∷ more)))))),
-        (
-          b ∷ first,
-          next,
-          more,
-          ap (λ (k : List (List ℕ)). onto_first b k) e,
-          ap (λ (l : List ℕ). shown b ∷ l) is,
-        ),
-      )
-
-  block_lines : (text : List ℕ)
-      → (ends_line true text ≡ true → given_text front true text ≡ lines (ended_parts (parts text)))
-      × (ends_line false text ≡ true → Middle (given_text front false text) (parts text))
-  block_lines [] = (λ e. refl, λ e. absurd cc)
-  block_lines (b ∷ bs) =
-      let i = block_lines bs in
-      let h = λ (e : ends_line (b == new_line) bs ≡ true).
-      byte_more (b == new_line) b (λ at. given_text front at bs) (parts bs) (some_part bs)
-      (λ x. i.0 (subst (λ (y : Bool). ends_line y bs ≡ true) x e))
-      (λ x. i.1 (subst (λ (y : Bool). ends_line y bs ≡ true) x e)) in
-      (λ e. (h e).0, λ e. (h e).1)
-
--- ---- whole lines
-
--- whether the note, if it is of bytes that an engine is sent, has whole lines: the last byte is `\n`
-abbrev is_whole : Note → Bool
-is_whole (Gives c bytes) = ends_line true bytes
-is_whole _ = true
-
-line_ended : (before : Bool) (text rest : List ℕ) → ends_line true rest ≡ true
-    → ends_line before (text ++ new_line ∷ rest) ≡ true
-line_ended before [] rest e = e
-line_ended before (b ∷ bs) rest e = line_ended (b == new_line) bs rest e
-
-lines_ended : (ls : List SentLine) → ends_line true (bytes_of ls) ≡ true
-unfolding bytes_of
-lines_ended [] = refl
-lines_ended (l ∷ ls) = line_ended true (text_of l) (bytes_of ls) (lines_ended ls)
-
-both_true : (a b : Bool) → a ≡ true → b ≡ true → (a && b) ≡ true
-both_true true b e f = f
-both_true false b e f = e
-
-block_whole : (ls : List SentLine) (notes : List Note) (c : Colour) → list_all is_whole notes ≡ true
-    → list_all is_whole (Gives c (bytes_of ls) ∷ notes) ≡ true
-block_whole ls notes c e = both_true (ends_line true (bytes_of ls)) (list_all is_whole notes) (lines_ended ls) e
-
-failure_whole : (x : Bool) (c : Colour) (notes : List Note) → list_all is_whole notes ≡ true
-    → list_all is_whole (list_if x (Happened (FailsToWrite c) ∷ []) ++ notes) ≡ true
-failure_whole true c notes e = e
-failure_whole false c notes e = e
-
--- the notes of any acts are of whole lines
-notes_whole : (reason : Reason) (H : List Act) → list_all is_whole (notes_given reason H) ≡ true
-notes_whole reason [] = refl
-notes_whole reason (Sends b ∷ H) = block_whole b.lines (notes_given reason H) b.to (notes_whole reason H)
-notes_whole reason (SendFails b ∷ H) =
-    block_whole b.lines (list_if (is_unwritten reason b.to) (Happened (FailsToWrite b.to) ∷ []) ++ notes_given reason H)
-    b.to (failure_whole (is_unwritten reason b.to) b.to (notes_given reason H) (notes_whole reason H))
-notes_whole reason (Reads S t ∷ ReadsClock c n ∷ H) = notes_whole reason H
-notes_whole reason (ReadsClock c n ∷ H) = notes_whole reason H
-notes_whole reason (ReadsEnd c ∷ H) = notes_whole reason H
-notes_whole reason (ReadFails c ∷ H) = notes_whole reason H
-notes_whole reason (Reads S t ∷ []) = refl
-notes_whole reason (Reads S t ∷ Sends b ∷ H) = notes_whole reason (Sends b ∷ H)
-notes_whole reason (Reads S t ∷ SendFails b ∷ H) = notes_whole reason (SendFails b ∷ H)
-notes_whole reason (Reads S t ∷ Reads c u ∷ H) = notes_whole reason (Reads c u ∷ H)
-notes_whole reason (Reads S t ∷ ReadsEnd c ∷ H) = notes_whole reason (ReadsEnd c ∷ H)
-notes_whole reason (Reads S t ∷ ReadFails c ∷ H) = notes_whole reason (ReadFails c ∷ H)
-
--- ---- the lines of notes
-
--- the lines of a block are entries
-block_entries : (moment mark : ℕ) (is_first : Bool) (ls : List (List ℕ))
-    → lines (head moment mark is_first) ls
-    ≡ entries_text (map (λ l. record { moment = moment; mark = mark; is_first = is_first; text = l }) ls)
-block_entries moment mark is_first [] = refl
-block_entries moment mark is_first (l ∷ ls) =
-    ap (λ (k : List ℕ). log_line moment mark is_first l ++ k) (block_entries moment mark is_first ls)
-
-note_more : (entries : List Entry) (text rest : List ℕ) (more : List Entry) → text ≡ entries_text entries
-    → rest ≡ entries_text more → text ++ rest ≡ entries_text (entries ++ more)
-note_more entries text rest more e f =
-    ap (λ (l : List ℕ). l ++ rest) e ∙ ap (λ (l : List ℕ). entries_text entries ++ l) f
-    ∙ sym (flat_map-append (λ e. log_line e.moment e.mark e.is_first e.text) entries more)
-
-from_notes : (first : Colour) (moment : ℕ) (notes : List Note) → list_all is_whole notes ≡ true
-    → log_from first (record { moment = moment; at_start = true }) notes
-    ≡ entries_text (entries_from first moment notes)
-from_notes first moment [] e = refl
-from_notes first moment (Happened (Line c (Some text) now) ∷ notes) e =
-    note_more (note_entries first moment (Happened (Line c (Some text) now))) _ _ _ (sym (append-nil _))
-    (from_notes first now notes e)
-from_notes first moment (Happened (Line c None now) ∷ notes) e =
-    note_more (note_entries first moment (Happened (Line c None now))) _ _ _ (sym (append-nil _))
-    (from_notes first now notes e)
-from_notes first moment (Happened (Opened c now) ∷ notes) e = from_notes first now notes e
-from_notes first moment (Happened (OutputEnds c) ∷ notes) e =
-    note_more (note_entries first moment (Happened (OutputEnds c))) _ _ _ (sym (append-nil _))
-    (from_notes first moment notes e)
-from_notes first moment (Happened (FailsToRead c) ∷ notes) e =
-    note_more (note_entries first moment (Happened (FailsToRead c))) _ _ _ (sym (append-nil _))
-    (from_notes first moment notes e)
-from_notes first moment (Happened (FailsToWrite c) ∷ notes) e =
-    note_more (note_entries first moment (Happened (FailsToWrite c))) _ _ _ (sym (append-nil _))
-    (from_notes first moment notes e)
-from_notes first moment (Gives c text ∷ notes) e =
-    let p = and_parts (ends_line true text) (list_all is_whole notes) e in
-    note_more (note_entries first moment (Gives c text)) _ _ _
-    ((block_lines (head moment (byte ">") (same_colour c first)) text).0 p.0
-    ∙ block_entries moment (byte ">") (same_colour c first) (ended_parts (parts text)))
-    (subst (λ (b : Bool). log_from first (record { moment = moment; at_start = b }) notes
-    ≡ entries_text (entries_from first moment notes)) (sym p.0) (from_notes first moment notes p.1))
-
-pub logs_are_entries : LogsAreEntries
-logs_are_entries first reason H = from_notes first 0 (notes_given reason H) (notes_whole reason H)
-
--- ---- one reading
+use Rattle.chess_base.specs.Letters.{is_digit, new_line}
+use Rattle.chess_game.specs.Results.{shown_byte}
+use Rattle.match_runner.specs.Log.{Entry, engine_text, entries_text, log_line}
+use Rattle.match_runner.specs.laws.Entries.{IsShown, LogsHaveOneReading, is_printable}
 
 -- no byte is `c`
 abbrev Without : ℕ → List ℕ → Type 0
@@ -213,25 +42,25 @@ digits_without [] h = tt
 digits_without (c ∷ cs) h =
     let p = and_parts (is_digit c) (list_all is_digit cs) h in (digit_byte c p.0, digits_without cs p.1)
 
-shown_byte : (c : ℕ) → is_printable c ≡ true → (shown c ≡ c) × ((c == new_line) ≡ false)
-shown_byte c h = (grind (arith, nat_tests), grind (arith, nat_tests))
+printable_byte : (c : ℕ) → is_printable c ≡ true → (shown_byte c ≡ c) × ((c == new_line) ≡ false)
+printable_byte c h = (grind (arith, nat_tests), grind (arith, nat_tests))
 
-shown_text : (t : List ℕ) → list_all is_printable t ≡ true → (map shown t ≡ t) × Without new_line t
+shown_text : (t : List ℕ) → list_all is_printable t ≡ true → (map shown_byte t ≡ t) × Without new_line t
 shown_text [] h = (refl, tt)
 shown_text (c ∷ cs) h =
     let p = and_parts (is_printable c) (list_all is_printable cs) h in
-    let b = shown_byte c p.0 in
+    let b = printable_byte c p.0 in
     let r = shown_text cs p.1 in
-    (ap (λ (d : ℕ). d ∷ map shown cs) b.0 ∙ ap (λ (l : List ℕ). c ∷ l) r.0, (b.1, r.1))
+    (ap (λ (d : ℕ). d ∷ map shown_byte cs) b.0 ∙ ap (λ (l : List ℕ). c ∷ l) r.0, (b.1, r.1))
 
 -- a line and what follows, from left to right
-spread : (moment mark : ℕ) (is_first : Bool) (text shows rest : List ℕ) → map shown text ≡ shows
+spread : (moment mark : ℕ) (is_first : Bool) (text shows rest : List ℕ) → map shown_byte text ≡ shows
     → log_line moment mark is_first text ++ rest
     ≡ decimal moment ++ 32 ∷ mark ∷ (engine_text is_first ++ (shows ++ new_line ∷ rest))
 spread moment mark is_first text shows rest e =
     let a : List ℕ = 32 ∷ mark ∷ engine_text is_first in
-    append_assoc (decimal moment ++ a) (map shown text ++ new_line ∷ []) rest
-    ∙ ap (λ (l : List ℕ). (decimal moment ++ a) ++ l) (append_assoc (map shown text) (new_line ∷ []) rest)
+    append_assoc (decimal moment ++ a) (map shown_byte text ++ new_line ∷ []) rest
+    ∙ ap (λ (l : List ℕ). (decimal moment ++ a) ++ l) (append_assoc (map shown_byte text) (new_line ∷ []) rest)
     ∙ ap (λ (l : List ℕ). (decimal moment ++ a) ++ (l ++ new_line ∷ rest)) e
     ∙ append_assoc (decimal moment) a (shows ++ new_line ∷ rest)
 
@@ -279,7 +108,8 @@ never_empty (x ∷ xs) y ys e = cc
 not_empty : (e : Entry) (rest : List ℕ) → IsShown e
     → log_line e.moment e.mark e.is_first e.text ++ rest ≡ [] → ⊥
 not_empty e rest (small, plain) h =
-    never_empty (decimal e.moment) _ _ (sym (spread e.moment e.mark e.is_first e.text e.text rest (shown_text e.text plain).0) ∙ h)
+    never_empty (decimal e.moment) _ _
+    (sym (spread e.moment e.mark e.is_first e.text e.text rest (shown_text e.text plain).0) ∙ h)
 
 pub logs_have_one_reading : LogsHaveOneReading
 logs_have_one_reading [] [] h k e = refl

@@ -3,3 +3,8 @@ mod GameFaults
 mod EntriesRead
 mod Logged
 mod FaultTexts
+mod PlayedAgain
+mod Replays
+mod ResultLines
+mod LogsRead
+mod PgnOfLogs

@@ -1,29 +1,31 @@
 -- What was logged, put together.
-use Rattle.std.proofs.Common.{◌≡◌, ℕ, ◌+◌, ◌<◌, length, drop, get_or, Bool, true, false, List, [], ◌∷◌, ◌++◌, refl, ap, sym, ◌∙◌, subst, append_assoc, append-nil, Option, Some, None, Result, Ok, Err}
-use Rattle.std.specs.Prelude.{if◌then◌else◌, ◌==◌}
+use Rattle.std.proofs.Common.{◌≡◌, ℕ, suc, ◌+◌, ◌<◌, min, length, drop, take, get_or, map, not, Bool, true, false, List, [], ◌∷◌, ◌++◌, refl, ap, sym, ◌∙◌, subst, append_assoc, append-nil, Option, Some, None, Result, Ok, Err, arith}
+use native.Mathlib.Numerals.{unary_clauses}
+use Rattle.std.specs.Prelude.{◌==◌, if◌then◌else◌}
+use Rattle.std.specs.List.{onto_first, position_or_len}
 use Rattle.std.specs.Result.{is_err}
-use Rattle.std.proofs.lemmas.List.{drop_more}
+use Rattle.std.proofs.lemmas.Bool.Decides.{nat_tests}
+use Rattle.std.proofs.lemmas.List.{drop_min, drop_more}
+use Rattle.std.proofs.lemmas.List.Concat.{flat_map-append}
 use Rattle.std.specs.Io.KnownBytes.{Appends}
-use Rattle.chess_base.specs.Letters.{new_line}
+use Rattle.chess_base.specs.Letters.{byte, new_line}
 use Rattle.chess_base.specs.declared.man.Colour.{Colour}
 use Rattle.chess_base.specs.declared.man.Colour.TheVariants.{White, Black}
+use Rattle.chess_base.specs.Men.{same_colour}
 use Rattle.byte_devices.specs.Devices.{OutputState, Sent, Sends, saturating_increment}
 use Rattle.byte_devices.proofs.shared.Devices.{appends_more}
-use Rattle.chess_base.specs.Men.{same_colour}
-use Rattle.chess_match.specs.Events.{Line}
-use Rattle.chess_match.specs.Notes.{Note, Happened, WasNoted}
+use Rattle.chess_match.specs.Notes.{Note, Gives, WasNoted}
 use Rattle.chess_match.specs.Run.{Flushed, FlushedThenFailed}
 use Rattle.chess_match.proofs.shared.Flushes.{flushed_none, flushed_more, failed_after}
-use Rattle.match_runner.specs.Log.{LogSeen, Logged, Logs, after_note, ends_line, given_text, log_from, log_text, note_text, shown}
-use Rattle.match_runner.specs.ties.Logging.{Adds, IsLog, after_notes, first_of_text, log_of_text, log_start, received_text, text_of_log}
-use Rattle.match_runner.specs.declared.log.LogState.{LogState}
+use Rattle.match_runner.specs.Log.{Entry, LogSeen, Logged, Logs, entries_from, entries_text, lines_in, log_line, log_text, moment_after, note_entries}
+use Rattle.match_runner.specs.ties.Logging.{Adds, IsLog, LogsPending, first_of_text, log_of_text, moment_from, text_of_log}
 use Rattle.match_runner.specs.declared.log.Pending.{Pending}
 
 -- ---- the output
 
 -- nothing was logged
-pub logs_none : (b : Bool) (o : OutputState) → Logs b b o o [] []
-logs_none false o = ([], flushed_none o, refl)
+pub logs_none : (b : Bool) (o : OutputState) → Logs b b o o []
+logs_none false o = flushed_none o
 logs_none true o = (refl, refl)
 
 flushed_sent : (o o' : OutputState) (text : List ℕ) → Sent o o' text → Flushed o o' text
@@ -31,12 +33,25 @@ flushed_sent o o' text s = record { bytes = s.bytes; failures = s.failures; unfl
 
 -- a text was sent, or a beginning of it was
 pub logs_sent : {A E : Type 0} (o o' : OutputState) (r : Result A E) (failed : Bool) (text : List ℕ)
-    → Sends o o' r text → failed ≡ is_err r → Logs false failed o o' [] text
+    → Sends o o' r text → failed ≡ is_err r → Logs false failed o o' text
 logs_sent o o' (Ok v) failed text s is =
-    subst (λ (b : Bool). Logs false b o o' [] text) (sym is) (text, flushed_sent o o' text s, append-nil text)
+    subst (λ (b : Bool). Logs false b o o' text) (sym is) (flushed_sent o o' text s)
 logs_sent o o' (Err e) failed text (start, begins, took) is =
-    subst (λ (b : Bool). Logs false b o o' [] text) (sym is)
+    subst (λ (b : Bool). Logs false b o o' text) (sym is)
     ([], start, begins, failed_after o o o' [] start (flushed_none o) took)
+
+-- nothing is pending
+pends_nothing : (b b' : Bool) (o o' : OutputState) (text : List ℕ) → Logs b b' o o' text
+    → LogsPending b b' o o' [] text
+pends_nothing false false o o' text h = (text, h, append-nil text)
+pends_nothing false true o o' text h = h
+pends_nothing true b' o o' text h = h
+
+all_logged : (b b' : Bool) (o o' : OutputState) (text : List ℕ) → LogsPending b b' o o' [] text → Logs b b' o o' text
+all_logged false false o o' text (written, flushed, is) =
+    subst (λ (t : List ℕ). Flushed o o' t) (sym (append-nil written) ∙ is) flushed
+all_logged false true o o' text h = h
+all_logged true b' o o' text h = h
 
 failed_more : (a b c : OutputState) (x y start : List ℕ) → Flushed a b x → FlushedThenFailed b c y start
     → FlushedThenFailed a c (x ++ y) start
@@ -48,8 +63,8 @@ failed_more a b c x y start h k = record {
 }
 
 -- bytes more are pending
-logs_pending : (b b' : Bool) (o o' : OutputState) (pending text more : List ℕ) → Logs b b' o o' pending text
-    → Logs b b' o o' (pending ++ more) (text ++ more)
+logs_pending : (b b' : Bool) (o o' : OutputState) (pending text more : List ℕ) → LogsPending b b' o o' pending text
+    → LogsPending b b' o o' (pending ++ more) (text ++ more)
 logs_pending false false o o' pending text more (written, flushed, is) =
     (written, flushed, sym (append_assoc written pending more) ∙ ap (λ (l : List ℕ). l ++ more) is)
 logs_pending false true o o' pending text more (written, start, (rest, is), failed) = (
@@ -61,8 +76,8 @@ logs_pending false true o o' pending text more (written, start, (rest, is), fail
 logs_pending true b' o o' pending text more h = h
 
 -- the pending bytes were logged
-logs_flushed : (b b' b'' : Bool) (o o' o'' : OutputState) (pending text : List ℕ) → Logs b b' o o' pending text
-    → Logs b' b'' o' o'' [] pending → Logs b b'' o o'' [] text
+logs_flushed : (b b' b'' : Bool) (o o' o'' : OutputState) (pending text : List ℕ) → LogsPending b b' o o' pending text
+    → LogsPending b' b'' o' o'' [] pending → LogsPending b b'' o o'' [] text
 logs_flushed false false false o o' o'' pending text (x, h, is) (y, k, all) = (
   x ++ y,
   flushed_more o o' o'' x y h k,
@@ -79,29 +94,30 @@ logs_flushed false false true o o' o'' pending text (x, h, is) (y, start, (rest,
   failed_more o o' o'' x y start h k,
 )
 logs_flushed false true b'' o o' o'' pending text h (broken, same) =
-    subst (λ (b : Bool). Logs false b o o'' [] text) (sym broken)
-    (subst (λ (v : OutputState). Logs false true o v [] text) (sym same) h)
+    subst (λ (b : Bool). LogsPending false b o o'' [] text) (sym broken)
+    (subst (λ (v : OutputState). LogsPending false true o v [] text) (sym same) h)
 logs_flushed true b' b'' o o' o'' pending text (broken, same) k =
-    let (still, kept) = subst (λ (b : Bool). Logs b b'' o' o'' [] pending) broken k in (still, kept ∙ same)
+    let (still, kept) = subst (λ (b : Bool). LogsPending b b'' o' o'' [] pending) broken k in (still, kept ∙ same)
 
 -- a text was logged, and then another
 pub logged_more : (l l' l'' : LogSeen) (x y : List ℕ) → Logged l l' x → Logged l' l'' y → Logged l l'' (x ++ y)
 logged_more l l' l'' x y h k =
-    logs_flushed l.broken l'.broken l''.broken l.output l'.output l''.output y (x ++ y)
-    (logs_pending l.broken l'.broken l.output l'.output [] x y h) k
+    all_logged l.broken l''.broken l.output l''.output (x ++ y)
+    (logs_flushed l.broken l'.broken l''.broken l.output l'.output l''.output y (x ++ y)
+    (logs_pending l.broken l'.broken l.output l'.output [] x y (pends_nothing _ _ _ _ _ h)) (pends_nothing _ _ _ _ _ k))
 
 -- ---- pending bytes
 
 pub adds_none : (o : OutputState) (p : Pending) → Adds o o p p []
 adds_none o p = record {
-  after = λ from text h. subst (λ (t : List ℕ). Logs from.broken p.broken from.output o p.bytes.items t)
+  after = λ from text h. subst (λ (t : List ℕ). LogsPending from.broken p.broken from.output o p.bytes.items t)
       (sym (append-nil text)) h;
 }
 
 pub adds_more : (o o' o'' : OutputState) (p p' p'' : Pending) (a b : List ℕ) → Adds o o' p p' a → Adds o' o'' p' p'' b
     → Adds o o'' p p'' (a ++ b)
 adds_more o o' o'' p p' p'' a b x y = record {
-  after = λ from text h. subst (λ (t : List ℕ). Logs from.broken p''.broken from.output o'' p''.bytes.items t)
+  after = λ from text h. subst (λ (t : List ℕ). LogsPending from.broken p''.broken from.output o'' p''.bytes.items t)
       (append_assoc text a b) (y.after from (text ++ a) (x.after from text h));
 }
 
@@ -113,22 +129,33 @@ pub adds_pending : (o : OutputState) (p p' : Pending) (b : ℕ) → p'.broken �
     → p'.bytes.items ≡ p.bytes.items ++ b ∷ [] → Adds o o p p' (b ∷ [])
 adds_pending o p p' b same more = record {
   after = λ from text h.
-      subst (λ (c : Bool). Logs from.broken c from.output o p'.bytes.items (text ++ b ∷ [])) (sym same)
-      (subst (λ (l : List ℕ). Logs from.broken p.broken from.output o l (text ++ b ∷ [])) (sym more)
+      subst (λ (c : Bool). LogsPending from.broken c from.output o p'.bytes.items (text ++ b ∷ [])) (sym same)
+      (subst (λ (l : List ℕ). LogsPending from.broken p.broken from.output o l (text ++ b ∷ [])) (sym more)
       (logs_pending from.broken p.broken from.output o p.bytes.items text (b ∷ []) h));
 }
 
 -- the pending bytes were logged
-pub adds_flushed : (o o' : OutputState) (p p' : Pending) → Logs p.broken p'.broken o o' [] p.bytes.items
+pub adds_flushed : (o o' : OutputState) (p p' : Pending) → Logs p.broken p'.broken o o' p.bytes.items
     → p'.bytes.items ≡ [] → Adds o o' p p' []
 adds_flushed o o' p p' k none = record {
   after = λ from text h.
-      subst (λ (l : List ℕ). Logs from.broken p'.broken from.output o' l (text ++ [])) (sym none)
-      (subst (λ (t : List ℕ). Logs from.broken p'.broken from.output o' [] t) (sym (append-nil text))
-      (logs_flushed from.broken p.broken p'.broken from.output o o' p.bytes.items text h k));
+      subst (λ (l : List ℕ). LogsPending from.broken p'.broken from.output o' l (text ++ [])) (sym none)
+      (subst (λ (t : List ℕ). LogsPending from.broken p'.broken from.output o' [] t) (sym (append-nil text))
+      (logs_flushed from.broken p.broken p'.broken from.output o o' p.bytes.items text h
+      (pends_nothing p.broken p'.broken o o' p.bytes.items k)));
 }
 
--- ---- bytes, one after the other
+-- what was added to an empty line, until nothing waits, was logged
+pub line_logged : (b : Bool) (o o' : OutputState) (p p' : Pending) (text : List ℕ) → p.broken ≡ b
+    → p.bytes.items ≡ [] → p'.bytes.items ≡ [] → Adds o o' p p' text → Logs b p'.broken o o' text
+line_logged b o o' p p' text same none ended a =
+    all_logged b p'.broken o o' text
+    (subst (λ (l : List ℕ). LogsPending b p'.broken o o' l text) ended
+    (a.after (record { output = o; broken = b }) []
+    (subst (λ (l : List ℕ). LogsPending b p.broken o o l []) (sym none)
+    (subst (λ (c : Bool). LogsPending b c o o [] []) (sym same) (pends_nothing b b o o [] (logs_none b o))))))
+
+-- ---- bytes and lines, one after the other
 
 pub loop_step : (F : List ℕ → List ℕ) (text : List ℕ) (i : ℕ) (piece done : List ℕ) → i < length text
     → ((rest : List ℕ) → F (get_or text i 0 ∷ rest) ≡ piece ++ F rest) → done ++ F (drop i text) ≡ F text
@@ -138,82 +165,133 @@ loop_step F text i piece done lt f h =
     ∙ ap (λ (l : List ℕ). done ++ l) (sym (f (drop (i + 1) text)) ∙ ap F (sym (drop_more text i 0 lt)))
     ∙ h
 
--- a byte that an engine is sent, as it is shown
-abbrev pub given_byte : ℕ → ℕ
-given_byte b = if b == new_line then new_line else shown b
+-- the number of bytes before the first line feed
+abbrev line_len : List ℕ → ℕ
+line_len text = position_or_len (λ x. x == new_line) text
 
-pub given_step : (front : List ℕ) (at_first at_start : Bool) (text : List ℕ) (i : ℕ) (done : List ℕ) → i < length text
-    → done ++ given_text front at_start (drop i text) ≡ given_text front at_first text
-    → (done ++ ((if at_start then front else []) ++ (given_byte (get_or text i 0) ∷ [])))
-    ++ given_text front (get_or text i 0 == new_line) (drop (i + 1) text) ≡ given_text front at_first text
-given_step front at_first at_start text i done lt h =
-    let x : ℕ = get_or text i 0 in
-    let rest : List ℕ = given_text front (x == new_line) (drop (i + 1) text) in
-    append_assoc done ((if at_start then front else []) ++ (given_byte x ∷ [])) rest
-    ∙ ap (λ (l : List ℕ). done ++ l) (append_assoc (if at_start then front else []) (given_byte x ∷ []) rest)
-    ∙ ap (λ (l : List ℕ). done ++ given_text front at_start l) (sym (drop_more text i 0 lt))
-    ∙ h
+-- a byte more before the first line feed
+one_more : (n c : ℕ) (xs : List ℕ) → take (1 + n) (c ∷ xs) ∷ lines_in (drop (1 + n + 1) (c ∷ xs))
+    ≡ (c ∷ take n xs) ∷ lines_in (drop (n + 1) xs)
+one_more n c xs =
+    let e : 1 + n ≡ suc n = omega arith in
+    ap (λ m. take m (c ∷ xs) ∷ lines_in (drop (m + 1) (c ∷ xs))) e ∙ simp unary_clauses refl
 
-pub ends_step : (at_start end : Bool) (text : List ℕ) (i : ℕ) → i < length text
-    → ends_line at_start (drop i text) ≡ end → ends_line (get_or text i 0 == new_line) (drop (i + 1) text) ≡ end
-ends_step at_start end text i lt h = ap (λ (l : List ℕ). ends_line at_start l) (sym (drop_more text i 0 lt)) ∙ h
+line_step : (c : ℕ) (cs : List ℕ) (b : Bool)
+    → onto_first c (lines_in cs) ≡ take (1 + line_len cs) (c ∷ cs) ∷ lines_in (drop (1 + line_len cs + 1) (c ∷ cs))
+    → (if b then [] ∷ lines_in cs else onto_first c (lines_in cs))
+    ≡ take (if not b then 1 + line_len cs else 0) (c ∷ cs)
+    ∷ lines_in (drop ((if not b then 1 + line_len cs else 0) + 1) (c ∷ cs))
+line_step c cs true more = refl
+line_step c cs false more = more
+
+first_line : (c : ℕ) (cs : List ℕ) → lines_in (c ∷ cs)
+    ≡ take (line_len (c ∷ cs)) (c ∷ cs) ∷ lines_in (drop (line_len (c ∷ cs) + 1) (c ∷ cs))
+first_line c [] = line_step c [] (c == new_line) refl
+first_line c (d ∷ ds) =
+    line_step c (d ∷ ds) (c == new_line)
+    (ap (onto_first c) (first_line d ds) ∙ sym (one_more (line_len (d ∷ ds)) c (d ∷ ds)))
+
+-- the first line of a text is what comes before its first line feed
+pub line_split : (text : List ℕ) (len rest : ℕ) → 0 < length text → len ≡ line_len text
+    → rest ≡ min (len + 1) (length text) → lines_in text ≡ take len text ∷ lines_in (drop rest text)
+line_split [] len rest some is end = absurd (omega (arith, some))
+line_split (c ∷ cs) len rest some is end =
+    first_line c cs
+    ∙ ap (λ n. take n (c ∷ cs) ∷ lines_in (drop (n + 1) (c ∷ cs))) (sym is)
+    ∙ ap (λ (t : List ℕ). take len (c ∷ cs) ∷ lines_in t)
+    (sym (drop_min (len + 1) (c ∷ cs)) ∙ ap (λ n. drop n (c ∷ cs)) (sym end))
+
+-- a line more of what an engine is sent
+pub given_more : (first side : Colour) (moment : ℕ) (text line rest all done : List ℕ)
+    → lines_in text ≡ line ∷ lines_in rest
+    → done ++ entries_text (note_entries first moment (Gives side text)) ≡ all
+    → (done ++ log_line moment (byte ">") (same_colour side first) line)
+    ++ entries_text (note_entries first moment (Gives side rest)) ≡ all
+given_more first side moment text line rest all done is h =
+    let entries : List (List ℕ) → List ℕ = λ ls.
+    entries_text (map (λ t. record { moment = moment; mark = byte ">"; is_first = same_colour side first; text = t })
+    ls)
+    in
+    append_assoc done (log_line moment (byte ">") (same_colour side first) line) (entries (lines_in rest))
+    ∙ ap (λ ls. done ++ entries ls) (sym is) ∙ h
+
+-- nothing is left of what an engine is sent
+pub given_all : (first side : Colour) (moment : ℕ) (rest all done : List ℕ) → (length rest == 0) ≡ true
+    → done ++ entries_text (note_entries first moment (Gives side rest)) ≡ all → done ≡ all
+given_all first side moment [] all done none h = sym (append-nil done) ∙ h
+given_all first side moment (x ∷ xs) all done none h = absurd (grind (arith, nat_tests))
 
 -- ---- notes
 
-log_more : (first : Colour) (s : LogState) (notes : List Note) (n : Note)
-    → log_from first s (notes ++ n ∷ []) ≡ log_from first s notes ++ note_text first (after_notes s notes) n
-log_more first s [] n = append-nil (note_text first s n)
-log_more first s (x ∷ notes) n =
-    ap (λ (l : List ℕ). note_text first s x ++ l) (log_more first (after_note s x) notes n)
-    ∙ sym (append_assoc (note_text first s x) (log_from first (after_note s x) notes)
-    (note_text first (after_notes (after_note s x) notes) n))
+-- the lines of two lists, one after the other
+entries_more : (xs ys : List Entry) → entries_text (xs ++ ys) ≡ entries_text xs ++ entries_text ys
+entries_more = flat_map-append (λ e. log_line e.moment e.mark e.is_first e.text)
 
-state_more : (s : LogState) (notes : List Note) (n : Note) → after_notes s (notes ++ n ∷ [])
-    ≡ after_note (after_notes s notes) n
-state_more s [] n = refl
-state_more s (x ∷ notes) n = state_more (after_note s x) notes n
+-- a single line
+one_entry : (e : Entry) → log_line e.moment e.mark e.is_first e.text ≡ entries_text (e ∷ [])
+one_entry e = sym (append-nil (log_line e.moment e.mark e.is_first e.text))
 
--- what is written of a line that an engine sends is its note's text
-pub received_note : (first : Colour) (s : LogState) (c : Colour) (text : Option (List ℕ)) (now : ℕ)
-    → received_text now (same_colour c first) text ≡ note_text first s (Happened (Line c text now))
-received_note first s c (Some text) now = refl
-received_note first s c None now = refl
+log_more : (first : Colour) (moment : ℕ) (notes : List Note) (n : Note)
+    → entries_text (entries_from first moment (notes ++ n ∷ []))
+    ≡ entries_text (entries_from first moment notes) ++ entries_text (note_entries first (moment_from moment notes) n)
+log_more first moment [] n = ap entries_text (append-nil (note_entries first moment n))
+log_more first moment (x ∷ notes) n =
+    entries_more (note_entries first moment x) (entries_from first (moment_after moment x) (notes ++ n ∷ []))
+    ∙ ap (λ (l : List ℕ). entries_text (note_entries first moment x) ++ l)
+    (log_more first (moment_after moment x) notes n)
+    ∙ sym (append_assoc (entries_text (note_entries first moment x))
+    (entries_text (entries_from first (moment_after moment x) notes))
+    (entries_text (note_entries first (moment_from (moment_after moment x) notes) n)))
+    ∙ ap (λ (l : List ℕ). l ++ entries_text (note_entries first (moment_from (moment_after moment x) notes) n))
+    (sym (entries_more (note_entries first moment x) (entries_from first (moment_after moment x) notes)))
+
+moment_more : (moment : ℕ) (notes : List Note) (n : Note) → moment_from moment (notes ++ n ∷ [])
+    ≡ moment_after (moment_from moment notes) n
+moment_more moment [] n = refl
+moment_more moment (x ∷ notes) n = moment_more (moment_after moment x) notes n
 
 -- no note was logged yet
-pub log_begun : (first side : Colour) (o o' : OutputState) (p p' : Pending) (s : LogState) → side ≡ first → o' ≡ o
-    → p'.broken ≡ p.broken → p'.bytes.items ≡ [] → s ≡ log_start
-    → IsLog first (record { output = o; broken = p.broken }) side o' p' s []
-log_begun first side o o' p p' s sided is same none begun = record {
+pub log_begun : (first side : Colour) (l l' : LogSeen) (moment : ℕ) → side ≡ first → l' ≡ l → moment ≡ 0
+    → IsLog first l side l' moment []
+log_begun first side l l' moment sided same begun = record {
   sided = sided;
-  written =
-      subst (λ (v : OutputState). Logs p.broken p'.broken o v p'.bytes.items []) (sym is)
-      (subst (λ (b : Bool). Logs p.broken b o o p'.bytes.items []) (sym same)
-      (subst (λ (l : List ℕ). Logs p.broken p.broken o o l []) (sym none) (logs_none p.broken o)));
+  written = subst (λ (v : LogSeen). Logged l v []) (sym same) (logs_none l.broken l.output);
   reached = begun;
 }
 
 -- a note more was logged
-log_on : (first : Colour) (from : LogSeen) (side side' : Colour) (o o' : OutputState) (p p' : Pending)
-    (s s' : LogState) (notes : List Note) (n : Note) → side' ≡ side → Adds o o' p p' (note_text side s n)
-    → s' ≡ after_note s n → IsLog first from side o p s notes → IsLog first from side' o' p' s' (notes ++ n ∷ [])
-log_on first from side side' o o' p p' s s' notes n same a e l = record {
-  sided = same ∙ l.sided;
-  written = subst (λ (t : List ℕ). Logs from.broken p'.broken from.output o' p'.bytes.items t)
-      (ap (λ (c : Colour). log_text first notes ++ note_text c s n) l.sided
-      ∙ ap (λ (q : LogState). log_text first notes ++ note_text first q n) l.reached
-      ∙ sym (log_more first log_start notes n))
-      (a.after from (log_text first notes) l.written);
-  reached = e ∙ ap (λ (q : LogState). after_note q n) l.reached ∙ sym (state_more log_start notes n);
+pub noted : (side side' : Colour) (l l' : LogSeen) (moment moment' : ℕ) (n : Note)
+    → Logged l l' (entries_text (note_entries side moment n)) → side' ≡ side → moment' ≡ moment_after moment n
+    → WasNoted (λ before notes. IsLog (first_of_text before) (log_of_text before) side l moment notes)
+    (λ before notes. IsLog (first_of_text before) (log_of_text before) side' l' moment' notes) (n ∷ [])
+noted side side' l l' moment moment' n logged same after = record {
+  extends = λ before notes was.
+      let first = first_of_text before in
+      let from = log_of_text before in
+      record {
+        sided = same ∙ was.sided;
+        written = subst (λ (t : List ℕ). Logged from l' t)
+            (ap (λ (c : Colour). log_text first notes ++ entries_text (note_entries c moment n)) was.sided
+            ∙ ap (λ (m : ℕ). log_text first notes ++ entries_text (note_entries first m n)) was.reached
+            ∙ sym (log_more first 0 notes n))
+            (logged_more from l l' (log_text first notes) (entries_text (note_entries side moment n)) was.written
+            logged);
+        reached = after ∙ ap (λ (m : ℕ). moment_after m n) was.reached ∙ sym (moment_more 0 notes n);
+      };
 }
 
-pub logged : (side side' : Colour) (o o' : OutputState) (p p' : Pending) (s s' : LogState) (n : Note)
-    → side' ≡ side → Adds o o' p p' (note_text side s n) → s' ≡ after_note s n
-    → WasNoted (λ before notes. IsLog (first_of_text before) (log_of_text before) side o p s notes)
-    (λ before notes. IsLog (first_of_text before) (log_of_text before) side' o' p' s' notes) (n ∷ [])
-logged side side' o o' p p' s s' n same a e = record {
-  extends = λ before notes l.
-      log_on (first_of_text before) (log_of_text before) side side' o o' p p' s s' notes n same a e l;
-}
+-- a note of a single line was logged
+pub line_noted : (side side' c : Colour) (l l' : LogSeen) (moment moment' at mark : ℕ) (text : List ℕ) (n : Note)
+    → note_entries side moment n
+    ≡ record { moment = at; mark = mark; is_first = same_colour c side; text = text } ∷ []
+    → Logged l l' (log_line at mark (same_colour c side) text) → side' ≡ side → moment' ≡ moment_after moment n
+    → WasNoted (λ before notes. IsLog (first_of_text before) (log_of_text before) side l moment notes)
+    (λ before notes. IsLog (first_of_text before) (log_of_text before) side' l' moment' notes) (n ∷ [])
+line_noted side side' c l l' moment moment' at mark text n is logged =
+    noted side side' l l' moment moment' n
+    (subst (λ (t : List ℕ). Logged l l' t)
+    (one_entry (record { moment = at; mark = mark; is_first = same_colour c side; text = text })
+    ∙ ap entries_text (sym is)) logged)
 
 -- ---- a whole match
 
@@ -235,24 +313,20 @@ seen_again first None failures unflushed true = refl
 seen_again first (Some bytes) failures unflushed false = refl
 seen_again first (Some bytes) failures unflushed true = refl
 
--- a witness was given these notes from the beginning of its log on, and what was pending then was logged
-pub notes_logged : (first side side' : Colour) (from : LogSeen) (o o' o'' : OutputState) (p p' p'' : Pending)
-    (s s' : LogState) (notes : List Note) → IsLog first from side o p s []
-    → WasNoted (λ before more. IsLog (first_of_text before) (log_of_text before) side o p s more)
-    (λ before more. IsLog (first_of_text before) (log_of_text before) side' o' p' s' more) notes
-    → Adds o' o'' p' p'' [] → p''.bytes.items ≡ []
-    → Logged from (record { output = o''; broken = p''.broken }) (log_text first notes)
-notes_logged first side side' from o o' o'' p p' p'' s s' notes begun noted a none =
+-- a witness was given these notes from the beginning of its log on
+pub notes_logged : (first side side' : Colour) (from l l' : LogSeen) (moment moment' : ℕ) (notes : List Note)
+    → IsLog first from side l moment []
+    → WasNoted (λ before more. IsLog (first_of_text before) (log_of_text before) side l moment more)
+    (λ before more. IsLog (first_of_text before) (log_of_text before) side' l' moment' more) notes
+    → Logged from l' (log_text first notes)
+notes_logged first side side' from l l' moment moment' notes begun noted =
     let text : List ℕ = text_of_log first from in
     let first_is : first_of_text text ≡ first = first_again first from in
     let from_is : log_of_text text ≡ from =
     seen_again first from.output.known_bytes from.output.failure_count from.output.unflushed from.broken in
-    let log : IsLog first from side' o' p' s' notes =
-    subst (λ (v : LogSeen). IsLog first v side' o' p' s' notes) from_is
-    (subst (λ (c : Colour). IsLog c (log_of_text text) side' o' p' s' notes) first_is
+    let log : IsLog first from side' l' moment' notes =
+    subst (λ (v : LogSeen). IsLog first v side' l' moment' notes) from_is
+    (subst (λ (c : Colour). IsLog c (log_of_text text) side' l' moment' notes) first_is
     (noted.extends text []
-    (subst (λ (c : Colour). IsLog c (log_of_text text) side o p s []) (sym first_is)
-    (subst (λ (v : LogSeen). IsLog first v side o p s []) (sym from_is) begun)))) in
-    subst (λ (l : List ℕ). Logs from.broken p''.broken from.output o'' l (log_text first notes)) none
-    (subst (λ (t : List ℕ). Logs from.broken p''.broken from.output o'' p''.bytes.items t)
-    (append-nil (log_text first notes)) (a.after from (log_text first notes) log.written))
+    (subst (λ (c : Colour). IsLog c (log_of_text text) side l moment []) (sym first_is)
+    (subst (λ (v : LogSeen). IsLog first v side l moment []) (sym from_is) begun)))) in log.written

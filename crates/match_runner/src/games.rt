@@ -120,7 +120,7 @@ fn play_game<'a, T: GamesTable, W: Output, E: Output>(
     ensures limit { (T.game table.new).limit ≡ MOST_MOVES }
     ensures played { PlayedGame plan.now number (T.passed table.old) (T.passed table.new)
         (W.seen output.old) (W.seen output.new)
-        (log_seen (E.seen log.old.output) log.old.pending) (log_seen (E.seen log.new.output) log.new.pending)
+        (log_seen (E.seen log.old.output) log.old.broken) (log_seen (E.seen log.new.output) log.new.broken)
         result }
 {
     let setup = Setup {
@@ -167,7 +167,7 @@ fn play_each<'a, T: GamesTable, W: Output, E: Output>(
 ) -> Result<GamesPlayed, GamesFault<'a>>
     requires { (T.game table.old).limit ≡ MOST_MOVES }
     ensures { HasPlayed plan.now (T.passed table.old) (T.passed table.new) (W.seen output.old) (W.seen output.new)
-        (log_seen (E.seen log.old.output) log.old.pending) (log_seen (E.seen log.new.output) log.new.pending)
+        (log_seen (E.seen log.old.output) log.old.broken) (log_seen (E.seen log.new.output) log.new.broken)
         result }
 {
     let mut score = Score::new();
@@ -205,7 +205,7 @@ pub fn play_games_at<'a, T: GamesTable, W: Output, E: Output>(
     requires { (T.game table.old).limit ≡ MOST_MOVES }
     ensures ran { RanGamesAt plan.now (T.passed table.old) (T.passed table.new)
         (W.seen output.old) (W.seen output.new)
-        (log_seen (E.seen log.old.output) log.old.pending) (log_seen (E.seen log.new.output) log.new.pending)
+        (log_seen (E.seen log.old.output) log.old.broken) (log_seen (E.seen log.new.output) log.new.broken)
         result }
 {
     let played = play_each(table, plan, output, log)?;
@@ -233,7 +233,7 @@ pub fn play_games<'a, P: Processes + Clock, W: Output, E: Output>(
     log: &mut Log<E>,
 ) -> Result<(), GamesFault<'a>>
     ensures { RanGames plan.now (W.seen output.old) (W.seen output.new)
-        (log_seen (E.seen log.old.output) log.old.pending) (log_seen (E.seen log.new.output) log.new.pending)
+        (log_seen (E.seen log.old.output) log.old.broken) (log_seen (E.seen log.new.output) log.new.broken)
         result }
 {
     let tables = AttackTables::open(alloc)?;

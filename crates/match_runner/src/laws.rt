@@ -1,7 +1,8 @@
 //! Laws of the games of a match.
 
-ghost use Rattle.match_runner.specs.laws.Entries.{LogsAreEntries, LogsHaveOneReading};
+ghost use Rattle.match_runner.specs.laws.Entries.{LogsHaveOneReading};
 ghost use Rattle.match_runner.specs.laws.Faults.{OnlyLastGamesHaveFailedWrites};
+ghost use Rattle.match_runner.specs.laws.ReadBack.{LogsGiveTheGame, LogsGiveTheOutput, LogsGiveThePgn, LogsShow};
 
 /// States a law and does nothing: a game without a fault of an engine leaves the counts of failed writes and flushes of
 /// both engines' inputs as they were, also at its end lines. So only the last game of a match can raise them.
@@ -9,10 +10,19 @@ pub fn only_last_games_have_failed_writes()
     ensures { OnlyLastGamesHaveFailedWrites }
 {}
 
-/// States a law and does nothing: a log has a line for each line that an engine sent or was sent, and for each end and
-/// failure, in their order; and of lines whose texts are printable ASCII it can be read in only one way, with their
-/// moments, marks and engines.
+/// States a law and does nothing: a log whose lines' texts are printable ASCII can be read in only one way, as these
+/// lines with their moments, marks and engines.
 pub fn logs_have_one_reading()
-    ensures lines { LogsAreEntries }
-    ensures reading { LogsHaveOneReading }
+    ensures { LogsHaveOneReading }
+{}
+
+/// States a law and does nothing: a log gives its game back. From its lines, if their texts are printable ASCII, follow
+/// the lines that each engine sent, with their moments, and those that it was sent, which show the clocks; the moves;
+/// the reason for which it ended, and so its result; and its PGN. All that a match writes to the output follows from
+/// the logs of its games.
+pub fn logs_give_the_game()
+    ensures shows { LogsShow }
+    ensures gives { LogsGiveTheGame }
+    ensures pgn { LogsGiveThePgn }
+    ensures output { LogsGiveTheOutput }
 {}

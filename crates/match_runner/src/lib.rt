@@ -30,7 +30,7 @@ mod table;
 
 pub use fault::GamesFault;
 pub use games::{play_games, play_games_at};
-pub use laws::{logs_have_one_reading, only_last_games_have_failed_writes};
+pub use laws::{logs_give_the_game, logs_have_one_reading, only_last_games_have_failed_writes};
 pub use log::{Log, run_match_logged};
 pub use moments::SinceStart;
 pub use plan::GamesPlan;

@@ -1,17 +1,17 @@
 //! The log of a match: what the engines send and are sent.
 
-ghost use Rattle.std.specs.Prelude.{◌≡◌, ◌==◌, ◌<◌, ◌∷◌, ◌++◌, [], List, ℕ, decimal, false, true, if◌then◌else◌, map};
+ghost use Rattle.std.specs.Prelude.{◌≡◌, ◌<◌, ◌∷◌, [], decimal, false, length, map};
 ghost use Rattle.arrayvec.specs.ArrayVec.{array_vec_len};
-ghost use Rattle.byte_devices.specs.Devices.{OutputState};
-ghost use Rattle.chess_base.specs.Letters.{byte as letter, new_line};
+ghost use Rattle.chess_base.specs.Letters.{new_line};
 ghost use Rattle.chess_base.specs.Men.{same_colour};
+ghost use Rattle.chess_game.specs.Results.{shown_byte};
 ghost use Rattle.chess_match.specs.Played.{PlayedNoting};
 ghost use Rattle.chess_match.specs.Run.{ports_of, text_read};
-ghost use Rattle.match_runner.specs.Log.{Logged, Logs, ends_line, engine_text, given_text, head, log_line, log_seen, log_text, shown};
-ghost use Rattle.match_runner.specs.ties.Logging.{Adds, IsLog, log_start, received_text};
+ghost use Rattle.match_runner.specs.Log.{Logged, Logs, engine_text, head, lines_in, log_line, log_seen, log_text};
+ghost use Rattle.match_runner.specs.ties.Logging.{Adds, IsLog};
 
 use arrayvec::ArrayVec;
-use byte_devices::{Input, Output, send};
+use byte_devices::{Input, Output, len_before, send};
 use chess_base::{ByColour, Colour, same_colour};
 use chess_game::Game;
 use chess_match::{ENGINE_LINE_LEN, Ends, MatchEnd, Moments, Setup, Witness, run_match_watched};
@@ -26,28 +26,9 @@ pub(crate) struct Pending {
     broken: bool,
 }
 
-// The time of the last event that has one, and whether the log is at the start of a line.
-#[derive(Clone, Copy)]
-pub(crate) struct LogState {
-    moment: u64,
-    at_start: bool,
-}
-
-impl LogState {
-    // The log's state before a game: time 0, at the start of a line.
-    fn start() -> Self
-        ensures { result ≡ log_start }
-    {
-        LogState {
-            moment: 0,
-            at_start: true,
-        }
-    }
-}
-
 // A byte as the log shows it: `?` for what is no printable ASCII.
-fn shown(byte: u8) -> u8
-    ensures { result ≡ shown byte }
+fn shown_byte(byte: u8) -> u8
+    ensures { result ≡ shown_byte byte }
 {
     if 32 <= byte && byte <= 126 {
         byte
@@ -59,7 +40,7 @@ fn shown(byte: u8) -> u8
 // Writes and flushes a text, unless a call on the log failed before (`broken`). Returns whether one has failed, before
 // or now.
 fn send_unless_broken<E: Output>(output: &mut E, text: &[u8], broken: bool) -> bool
-    ensures { Logs broken result (E.seen output.old) (E.seen output.new) [] text.now }
+    ensures { Logs broken result (E.seen output.old) (E.seen output.new) text.now }
 {
     if broken {
         return true;
@@ -68,14 +49,14 @@ fn send_unless_broken<E: Output>(output: &mut E, text: &[u8], broken: bool) -> b
 }
 
 impl Pending {
-    // Nothing is pending, and no write or flush has failed.
-    fn new() -> Self
+    // No byte waits; `broken`: a write or flush of the log has failed.
+    fn new(broken: bool) -> Self
         ensures bytes { result.bytes.items ≡ [] }
-        ensures broken { result.broken ≡ false }
+        ensures broken { result.broken ≡ broken }
     {
         Pending {
             bytes: ArrayVec::new(),
-            broken: false,
+            broken,
         }
     }
 
@@ -102,6 +83,7 @@ impl Pending {
     // Writes and flushes the bytes that wait, if this byte ends a line.
     fn end_line<E: Output>(&mut self, output: &mut E, byte: u8)
         ensures adds { Adds (E.seen output.old) (E.seen output.new) self.old self.new [] }
+        ensures ended { byte ≡ new_line → self.new.bytes.items ≡ [] }
     {
         if byte == b'\n' {
             self.flush_pending(output);
@@ -111,7 +93,8 @@ impl Pending {
     // Logs a byte: it waits with those of its line, and all are written and flushed when the line ends or there is no
     // room for more.
     fn add<E: Output>(&mut self, output: &mut E, byte: u8)
-        ensures { Adds (E.seen output.old) (E.seen output.new) self.old self.new (byte ∷ []) }
+        ensures adds { Adds (E.seen output.old) (E.seen output.new) self.old self.new (byte ∷ []) }
+        ensures ended { byte ≡ new_line → self.new.bytes.items ≡ [] }
     {
         self.make_room(output);
         self.bytes.push(byte);
@@ -129,10 +112,10 @@ impl Pending {
 
     // Logs a text, with `?` for each byte that is no printable ASCII.
     fn add_shown<E: Output>(&mut self, output: &mut E, text: &[u8])
-        ensures { Adds (E.seen output.old) (E.seen output.new) self.old self.new (map shown text.now) }
+        ensures { Adds (E.seen output.old) (E.seen output.new) self.old self.new (map shown_byte text.now) }
     {
         for byte in text {
-            self.add(output, shown(*byte));
+            self.add(output, shown_byte(*byte));
         }
     }
 
@@ -164,94 +147,14 @@ impl Pending {
         is_first: bool,
         text: &[u8],
     )
-        ensures { Adds (E.seen output.old) (E.seen output.new) self.old self.new
+        ensures adds { Adds (E.seen output.old) (E.seen output.new) self.old self.new
             (log_line moment mark is_first text.now) }
+        ensures nothing { self.new.bytes.items ≡ [] }
     {
         self.add_head(output, moment, mark, is_first);
         self.add_shown(output, text);
         self.add(output, b'\n');
     }
-
-    // Logs a line that an engine sent, such as `312 <first : move e2e4`; `is_first`: the engine is that of `--white`.
-    fn add_received<E: Output>(
-        &mut self,
-        output: &mut E,
-        moment: u64,
-        is_first: bool,
-        line: &Line<ENGINE_LINE_LEN>,
-    )
-        ensures { Adds (E.seen output.old) (E.seen output.new) self.old self.new
-            (received_text moment is_first (text_read line.now)) }
-    {
-        if line.is_too_long() {
-            self.add_line(output, moment, b'!', is_first, b"line too long");
-            return;
-        }
-        self.add_line(output, moment, b'<', is_first, line.text());
-    }
-
-    // Logs what a line of bytes sent begins with, such as `312 >first : `, if the log is at the start of a line.
-    // `is_first`: the engine is that of `--white`.
-    fn add_head_if<E: Output>(&mut self, output: &mut E, state: LogState, is_first: bool)
-        ensures { Adds (E.seen output.old) (E.seen output.new) self.old self.new
-            (if state.at_start then head state.moment (letter ">") is_first else []) }
-    {
-        if state.at_start {
-            self.add_head(output, state.moment, b'>', is_first);
-        }
-    }
-
-    // Logs a byte that an engine is sent; before it what a line begins with (`312 >first : `), if the log is at the
-    // start of one. `is_first`: the engine is that of `--white`.
-    fn add_given_byte<E: Output>(
-        &mut self,
-        output: &mut E,
-        state: LogState,
-        is_first: bool,
-        byte: u8,
-    )
-        ensures { Adds (E.seen output.old) (E.seen output.new) self.old self.new
-            ((if state.at_start then head state.moment (letter ">") is_first else [])
-            ++ (if byte == new_line then new_line else shown byte) ∷ []) }
-    {
-        self.add_head_if(output, state, is_first);
-        self.add(output, given_byte(byte));
-    }
-
-    // Logs bytes that an engine is sent, each line as `312 >first : e2e4`, and returns the log's state after them.
-    // `is_first`: the engine is that of `--white`.
-    fn add_given<E: Output>(
-        &mut self,
-        output: &mut E,
-        state: LogState,
-        is_first: bool,
-        text: &[u8],
-    ) -> LogState
-        ensures adds { Adds (E.seen output.old) (E.seen output.new) self.old self.new
-            (given_text (head state.moment (letter ">") is_first) state.at_start text.now) }
-        ensures state { result ≡ (record { moment = state.moment; at_start = ends_line state.at_start text.now }) }
-    {
-        let mut at_start = state.at_start;
-        for byte in text {
-            let now = LogState {
-                moment: state.moment,
-                at_start,
-            };
-            self.add_given_byte(output, now, is_first, *byte);
-            at_start = *byte == b'\n';
-        }
-        LogState {
-            moment: state.moment,
-            at_start,
-        }
-    }
-}
-
-// A byte that an engine is sent as the log shows it: `\n` as it is, `?` for what else is no printable ASCII.
-fn given_byte(byte: u8) -> u8
-    ensures { result ≡ (if byte == new_line then new_line else shown byte) }
-{
-    if byte == b'\n' { byte } else { shown(byte) }
 }
 
 // How the log names an engine: `first : ` for that of `--white` (`is_first`), `second: ` for the other.
@@ -261,15 +164,28 @@ fn engine_text(is_first: bool) -> &'static [u8]
     if is_first { b"first : " } else { b"second: " }
 }
 
+// The first line of a text that isn't empty, without its `\n`, and what follows it.
+fn split_line(text: &[u8]) -> (&[u8], &[u8])
+    requires { 0 < length text.now }
+    ensures lines { lines_in text.now ≡ result.0.now ∷ lines_in result.1.now }
+    ensures less { length result.1.now < length text.now }
+{
+    let len = len_before(text, b'\n');
+    let next = (len + 1).min(text.len());
+    (&text[..len], text.split_at(next).1)
+}
+
 /// An output on which games are logged in the form of XBoard's debug file: it watches a match, and writes each line
-/// that an engine sends or is sent, and each failure and end of an output. After a write or flush that failed it logs
-/// nothing more.
+/// that an engine sends or is sent, and each failure and end of an output. All lines of a note are written and flushed
+/// before the match goes on. After a write or flush that failed it logs nothing more.
 #[derive(Drop)]
 pub struct Log<E> {
     /// Where the log goes.
     pub output: E,
-    pending: Pending,
-    state: LogState,
+    /// Whether a write or flush of the log failed.
+    broken: bool,
+    /// The time of the last event that has one.
+    moment: u64,
     /// The side of the first engine.
     first: Colour,
 }
@@ -278,12 +194,12 @@ impl<E: Output> Log<E> {
     /// An empty log on this output, before the first game.
     pub fn new(output: E) -> Self
         ensures output { result.output ≡ output }
-        ensures unbroken { result.pending.broken ≡ false }
+        ensures unbroken { result.broken ≡ false }
     {
         Log {
             output,
-            pending: Pending::new(),
-            state: LogState::start(),
+            broken: false,
+            moment: 0,
             first: Colour::White,
         }
     }
@@ -294,8 +210,8 @@ impl<E: Output> Log<E> {
     {
         let Log {
             output,
-            pending: _,
-            state: _,
+            broken: _,
+            moment: _,
             first: _,
         } = self;
         output
@@ -303,88 +219,73 @@ impl<E: Output> Log<E> {
 
     // Begins the log of a game in which the first engine, that of `--white`, has the side `first`.
     fn begin(&mut self, first: Colour)
-        ensures log { IsLog first
-            (log_seen (E.seen self.old.output) self.old.pending)
-            self.new.first (E.seen self.new.output) self.new.pending self.new.state [] }
+        ensures log { IsLog first (log_seen (E.seen self.old.output) self.old.broken)
+            self.new.first (log_seen (E.seen self.new.output) self.new.broken) self.new.moment [] }
     {
-        self.pending.bytes.clear();
-        self.state = LogState::start();
+        self.moment = 0;
         self.first = first;
     }
 
-    // Writes and flushes the bytes that still wait, at the end of a game.
-    fn finish(&mut self)
-        ensures adds { Adds (E.seen self.old.output) (E.seen self.new.output) self.old.pending self.new.pending [] }
-        ensures nothing { self.new.pending.bytes.items ≡ [] }
+    // Logs a line of this side's engine at the time of the last event, such as `312 !first : output ended`; `mark` is
+    // `<`, `>` or `!`.
+    fn add_line(&mut self, side: Colour, mark: u8, text: &[u8])
+        ensures logged { Logged (log_seen (E.seen self.old.output) self.old.broken)
+            (log_seen (E.seen self.new.output) self.new.broken)
+            (log_line self.old.moment mark (same_colour side self.old.first) text.now) }
         ensures first { self.new.first ≡ self.old.first }
-        ensures state { self.new.state ≡ self.old.state }
+        ensures moment { self.new.moment ≡ self.old.moment }
     {
-        self.pending.flush_pending(&mut self.output);
-    }
-
-    // Logs a line such as `312 !first : output ended`, with this text, at the time of the last event; `side` is the
-    // engine's.
-    fn note(&mut self, side: Colour, text: &[u8])
-        ensures adds { Adds (E.seen self.old.output) (E.seen self.new.output) self.old.pending self.new.pending
-            (log_line self.old.state.moment (letter "!") (same_colour side self.old.first) text.now) }
-        ensures first { self.new.first ≡ self.old.first }
-        ensures state { self.new.state ≡ (record { moment = self.old.state.moment; at_start = true }) }
-    {
+        let mut line = Pending::new(self.broken);
         let is_first = same_colour(side, self.first);
-        let moment = self.state.moment;
-        self.pending
-            .add_line(&mut self.output, moment, b'!', is_first, text);
-        self.state = LogState {
-            moment,
-            at_start: true,
-        };
+        line.add_line(&mut self.output, self.moment, mark, is_first, text);
+        self.broken = line.broken;
     }
 }
 
 impl<E: Output> Witness for Log<E> {
     ghost use Rattle.match_runner.specs.ties.Logging.{IsLog, first_of_text, log_of_text};
 
-    ghost noted = { λ l before notes.
-        IsLog (first_of_text before) (log_of_text before) l.first (E.seen l.output) l.pending l.state notes };
+    ghost noted = { λ l before notes. IsLog (first_of_text before) (log_of_text before)
+        l.first (log_seen (E.seen l.output) l.broken) l.moment notes };
 
     // Logs a line that an engine sent, such as `312 <first : move e2e4`.
     fn line(&mut self, side: Colour, line: &Line<ENGINE_LINE_LEN>, moment: u64) {
-        let is_first = same_colour(side, self.first);
-        self.pending
-            .add_received(&mut self.output, moment, is_first, line);
-        self.state = LogState {
-            moment,
-            at_start: true,
-        };
+        self.moment = moment;
+        if line.is_too_long() {
+            self.add_line(side, b'!', b"line too long");
+            return;
+        }
+        self.add_line(side, b'<', line.text());
     }
 
     // Keeps the time for the lines that follow, and logs nothing: the lines that opened the turn were logged before.
     fn opened(&mut self, _side: Colour, moment: u64) {
-        self.state.moment = moment;
+        self.moment = moment;
     }
 
     // Logs that an engine closed its output.
     fn output_ends(&mut self, side: Colour) {
-        self.note(side, b"output ended");
+        self.add_line(side, b'!', b"output ended");
     }
 
     // Logs that reading from an engine failed.
     fn read_fails(&mut self, side: Colour) {
-        self.note(side, b"read failed");
+        self.add_line(side, b'!', b"read failed");
     }
 
     // Logs that writing to an engine failed.
     fn write_fails(&mut self, side: Colour) {
-        self.note(side, b"write failed");
+        self.add_line(side, b'!', b"write failed");
     }
 
     // Logs the lines that an engine is sent, each such as `312 >first : e2e4`.
     fn gives(&mut self, side: Colour, text: &[u8]) {
-        let is_first = same_colour(side, self.first);
-        let state = self.state;
-        self.state = self
-            .pending
-            .add_given(&mut self.output, state, is_first, text);
+        let mut rest = text;
+        while !rest.is_empty() {
+            let (line, after) = split_line(rest);
+            self.add_line(side, b'>', line);
+            rest = after;
+        }
     }
 }
 
@@ -402,8 +303,8 @@ pub fn run_match_logged<R: Input, W: Output, M: Moments, B: Board, E: Output>(
     first: Colour,
     log: &mut Log<E>,
 ) -> MatchEnd
-    ensures ran { PlayedNoting (λ notes. Logged (log_seen (E.seen log.old.output) log.old.pending)
-        (log_seen (E.seen log.new.output) log.new.pending) (log_text first notes)) setup.now result
+    ensures ran { PlayedNoting (λ notes. Logged (log_seen (E.seen log.old.output) log.old.broken)
+        (log_seen (E.seen log.new.output) log.new.broken) (log_text first notes)) setup.now result
         (record {
           ports = ports_of R.seen W.seen ends.old.white ends.old.black;
           coming = M.coming moments.old;
@@ -416,7 +317,5 @@ pub fn run_match_logged<R: Input, W: Output, M: Moments, B: Board, E: Output>(
         }) }
 {
     log.begin(first);
-    let end = run_match_watched(&mut ends.white, &mut ends.black, moments, setup, game, log);
-    log.finish();
-    end
+    run_match_watched(&mut ends.white, &mut ends.black, moments, setup, game, log)
 }

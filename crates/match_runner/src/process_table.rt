@@ -42,8 +42,8 @@ fn relay<'t, R: Input, D: Output, M: Moments, E: Output>(
     first: Option<Colour>,
     log: &mut Log<E>,
 ) -> MatchEnd
-    ensures ran { PlayedNoting (λ notes. LogsGame first (log_seen (E.seen log.old.output) log.old.pending)
-        (log_seen (E.seen log.new.output) log.new.pending) notes) setup.now result
+    ensures ran { PlayedNoting (λ notes. LogsGame first (log_seen (E.seen log.old.output) log.old.broken)
+        (log_seen (E.seen log.new.output) log.new.broken) notes) setup.now result
         (record {
           ports = ports_of R.seen D.seen ends.old.white ends.old.black;
           coming = M.coming moments.old;

@@ -57,8 +57,8 @@ pub trait GamesTable {
         log: &mut Log<E>,
     ) -> MatchEnd
         ensures played { (notes : List Note)
-            × LogsGame first (log_seen (E.seen log.old.output) log.old.pending)
-            (log_seen (E.seen log.new.output) log.new.pending) notes
+            × LogsGame first (log_seen (E.seen log.old.output) log.old.broken)
+            (log_seen (E.seen log.new.output) log.new.broken) notes
             × PlayedNoting (λ given. given ≡ notes) setup.now result
             (record { ports = ports engines.old; coming = coming self.old; game = game self.old })
             (record { ports = ports engines.new; coming = coming self.new; game = game self.new })

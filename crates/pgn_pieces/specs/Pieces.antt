@@ -82,8 +82,8 @@ abbrev pub begins_piece : List (List ℕ) → List ℕ → Bool
 begins_piece piece line = is_tag_line line
     && (list_any is_moves_line piece || (is_event_line line && list_any is_event_line piece))
 
--- pieces with one line more: it begins a new piece, or it goes to the end of the last one. Each piece is given by its
--- lines, and the last piece comes first
+-- pieces with one line more: it begins a new piece (always, if there is none yet), or it goes to the end of the last
+-- one. Each piece is given by its lines, and the last piece comes first
 abbrev pub with_line : List ℕ → List (List (List ℕ)) → List (List (List ℕ))
 with_line line [] = (line ∷ []) ∷ []
 with_line line (last ∷ before) =

@@ -1,44 +1,39 @@
 -- What code adds to a log, and a log before as a text.
-use Rattle.std.specs.Prelude.{◌≡◌, ℕ, ◌==◌, Bool, true, false, if◌then◌else◌, List, [], ◌∷◌, ◌++◌, codes, Option, Some, None}
-use Rattle.chess_base.specs.Letters.{byte}
+use Rattle.std.specs.Prelude.{◌≡◌, ℕ, ◌==◌, Bool, true, false, if◌then◌else◌, List, [], ◌∷◌, ◌++◌, Option, Some, None}
 use Rattle.chess_base.specs.declared.man.Colour.{Colour}
 use Rattle.chess_base.specs.declared.man.Colour.TheVariants.{White, Black}
 use Rattle.chess_base.specs.Men.{same_colour}
-use Rattle.byte_devices.specs.Devices.{OutputState}
+use Rattle.byte_devices.specs.Devices.{OutputState, Begins}
 use Rattle.chess_match.specs.Notes.{Note}
+use Rattle.chess_match.specs.Run.{Flushed, FlushedThenFailed}
 use Rattle.match_runner.specs.declared.log.Pending.{Pending}
-use Rattle.match_runner.specs.declared.log.LogState.{LogState}
-use Rattle.match_runner.specs.Log.{after_note, log_line, log_text, LogSeen, Logs}
+use Rattle.match_runner.specs.Log.{log_text, moment_after, LogSeen, Logged}
 
--- the log's state before a game: the time 0, at the beginning of a line
-abbrev pub log_start : LogState
-log_start = record { moment = 0; at_start = true }
-
--- what is logged of a line that an engine sends, at this time; `None` is one that was too long. `is_first`: the engine
--- is that of `--white`
-abbrev pub received_text : ℕ → Bool → Option (List ℕ) → List ℕ
-received_text moment is_first (Some text) = log_line moment (byte "<") is_first text
-received_text moment is_first None = log_line moment (byte "!") is_first (codes "line too long")
-
--- the log's state after these notes, if it is `s` before them
-abbrev pub after_notes : LogState → List Note → LogState
-after_notes s [] = s
-after_notes s (n ∷ notes) = after_notes (after_note s n) notes
+-- what logging `text` did, as `Logs` has it, but that the bytes `pending` at its end still wait to be written
+abbrev pub LogsPending : Bool → Bool → OutputState → OutputState → List ℕ → List ℕ → Type 0
+LogsPending false false o o' pending text = (written : List ℕ) × Flushed o o' written × (written ++ pending ≡ text)
+LogsPending false true o o' pending text =
+    (written : List ℕ) × (start : List ℕ) × Begins (written ++ start) text × FlushedThenFailed o o' written start
+LogsPending true broken o o' pending text = (broken ≡ true) × (o' ≡ o)
 
 -- logging `more` took the output and the bytes that wait to be written from `o` and `p` to `o'` and `p'`: whatever text
 -- was logged since any earlier state `from` of the log, now that text and `more` are logged
 pub record Adds (o o' : OutputState) (p p' : Pending) (more : List ℕ) : Type 0 where
-  pub after : (from : LogSeen) (text : List ℕ) → Logs from.broken p.broken from.output o p.bytes.items text
-      → Logs from.broken p'.broken from.output o' p'.bytes.items (text ++ more)
+  pub after : (from : LogSeen) (text : List ℕ) → LogsPending from.broken p.broken from.output o p.bytes.items text
+      → LogsPending from.broken p'.broken from.output o' p'.bytes.items (text ++ more)
+
+-- the moment of the last event after these notes, if it was at `moment` before
+abbrev pub moment_from : ℕ → List Note → ℕ
+moment_from moment [] = moment
+moment_from moment (n ∷ notes) = moment_from (moment_after moment n) notes
 
 -- since the state `from` of the log just the log of these notes was logged, in a game in which the engine of `--white`
--- has the side `first`. The log's fields are now `side` (which is `first`), `o` (output), `p` (bytes that wait) and
--- `state`
-pub record IsLog (first : Colour) (from : LogSeen) (side : Colour) (o : OutputState) (p : Pending) (state : LogState)
-    (notes : List Note) : Type 0 where
+-- has the side `first`. Now the log is as `now`, and its fields are `side` (which is `first`) and `moment`
+pub record IsLog (first : Colour) (from : LogSeen) (side : Colour) (now : LogSeen) (moment : ℕ) (notes : List Note)
+    : Type 0 where
   pub sided : side ≡ first
-  pub written : Logs from.broken p.broken from.output o p.bytes.items (log_text first notes)
-  pub reached : state ≡ after_notes log_start notes
+  pub written : Logged from now (log_text first notes)
+  pub reached : moment ≡ moment_from 0 notes
 
 -- ---- what a log began with, as a text: a witness is known by a text that it held before
 

@@ -52,8 +52,8 @@ FailsToStart command (CanNotStart c) = c.now ≡ command
 FailsToStart command _ = ⊥
 
 -- what playing the game of this number does, by its result: its PGN was written and flushed, and the game logged; or
--- only a beginning of the PGN was written; or its engines could not be started. `p` is what may have passed at the table
--- before, `w` and `l` are output and log; `p'`, `w'` and `l'` after
+-- only a beginning of the PGN was written; or its engines could not be started. `p` is what may have passed at the
+-- table before, `w` and `l` are output and log; `p'`, `w'` and `l'` after
 abbrev pub PlayedGame : GamesPlan → ℕ → GamesPassing → GamesPassing → OutputState → OutputState → LogSeen → LogSeen
     → Result MatchEnd GamesFault → Type 0
 PlayedGame plan number p p' w w' l l' (Ok end) =

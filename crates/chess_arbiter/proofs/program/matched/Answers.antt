@@ -9,7 +9,7 @@ returns-in-Ok g c = (Ok tt, _, c.in-Ok.ensures, refl, λ e. refl)
 pub returns-in-Err : goal.returns-in-Err
 returns-in-Err g c = (
   Err c.in-Err.fault,
-  log_seen (g.E.Output.seen c.play_games.new.log.output) c.play_games.new.log.pending,
+  log_seen (g.E.Output.seen c.play_games.new.log.output) c.play_games.new.log.broken,
   c.in-Err.ensures,
   c.reported.ensures,
   λ e. absurd (cc),

@@ -14,7 +14,7 @@ pub loop-number-init : goal.loop-number-init
 loop-number-init g c =
     let p = g.T.GamesTable.passed c.args.table.now in
     let w = g.W.Output.seen c.args.output.now in
-    let l = log_seen (g.E.Output.seen c.args.log.now.output) c.args.log.now.pending in (
+    let l = log_seen (g.E.Output.seen c.args.log.now.output) c.args.log.now.broken in (
       c.requires,
       [],
       subst (λ (v : Score). SoFar c.args.plan.now p p w w l l 1 v []) (sym c.new-score.ensures)
@@ -29,9 +29,9 @@ returns-in_err-end g c =
     let w' = g.W.Output.seen c.loop-number.output in
     let p'' = g.T.GamesTable.passed c.play_game.new.table in
     let w'' = g.W.Output.seen c.play_game.new.output in
-    let l = log_seen (g.E.Output.seen c.args.log.now.output) c.args.log.now.pending in
-    let l' = log_seen (g.E.Output.seen c.loop-number.log.output) c.loop-number.log.pending in
-    let l'' = log_seen (g.E.Output.seen c.play_game.new.log.output) c.play_game.new.log.pending in
+    let l = log_seen (g.E.Output.seen c.args.log.now.output) c.args.log.now.broken in
+    let l' = log_seen (g.E.Output.seen c.loop-number.log.output) c.loop-number.log.broken in
+    let l'' = log_seen (g.E.Output.seen c.play_game.new.log.output) c.play_game.new.log.broken in
     let le : c.loop-number.number + 1 ≤ c.args.plan.now.games =
     (let t = c.loop-number-test.true in let e = c.game_count.ensures.value in omega (arith, t, e)) in
     let e = err_from_is_err_and c.from_residual.result c.from_residual.ensures.1 in
@@ -47,9 +47,9 @@ returns-in-Some g c =
     let w' = g.W.Output.seen c.loop-number.output in
     let p'' = g.T.GamesTable.passed c.play_game.new.table in
     let w'' = g.W.Output.seen c.play_game.new.output in
-    let l = log_seen (g.E.Output.seen c.args.log.now.output) c.args.log.now.pending in
-    let l' = log_seen (g.E.Output.seen c.loop-number.log.output) c.loop-number.log.pending in
-    let l'' = log_seen (g.E.Output.seen c.play_game.new.log.output) c.play_game.new.log.pending in
+    let l = log_seen (g.E.Output.seen c.args.log.now.output) c.args.log.now.broken in
+    let l' = log_seen (g.E.Output.seen c.loop-number.log.output) c.loop-number.log.broken in
+    let l'' = log_seen (g.E.Output.seen c.play_game.new.log.output) c.play_game.new.log.broken in
     let number = c.loop-number.number + 1 in
     let le : number ≤ plan.games = (let t = c.loop-number-test.true in let e = c.game_count.ensures.value in
     omega (arith, t, e)) in
@@ -79,9 +79,9 @@ loop-number-preserved g c =
     let w' = g.W.Output.seen c.loop-number.output in
     let p'' = g.T.GamesTable.passed c.play_game.new.table in
     let w'' = g.W.Output.seen c.play_game.new.output in
-    let l = log_seen (g.E.Output.seen c.args.log.now.output) c.args.log.now.pending in
-    let l' = log_seen (g.E.Output.seen c.loop-number.log.output) c.loop-number.log.pending in
-    let l'' = log_seen (g.E.Output.seen c.play_game.new.log.output) c.play_game.new.log.pending in
+    let l = log_seen (g.E.Output.seen c.args.log.now.output) c.args.log.now.broken in
+    let l' = log_seen (g.E.Output.seen c.loop-number.log.output) c.loop-number.log.broken in
+    let l'' = log_seen (g.E.Output.seen c.play_game.new.log.output) c.play_game.new.log.broken in
     let number = c.loop-number.number + 1 in
     let le : number ≤ plan.games = (let t = c.loop-number-test.true in let e = c.game_count.ensures.value in
     omega (arith, t, e)) in
@@ -107,8 +107,8 @@ pub returns : goal.returns
 returns g c =
     let past : c.args.plan.now.games < c.loop-number.number + 1 =
     (let t = c.loop-number-test.false in let e = c.game_count.ensures.value in omega (arith, t, e)) in
-    let l = log_seen (g.E.Output.seen c.args.log.now.output) c.args.log.now.pending in
-    let l' = log_seen (g.E.Output.seen c.loop-number.log.output) c.loop-number.log.pending in
+    let l = log_seen (g.E.Output.seen c.args.log.now.output) c.args.log.now.broken in
+    let l' = log_seen (g.E.Output.seen c.loop-number.log.output) c.loop-number.log.broken in
     all_played c.args.plan.now (g.T.GamesTable.passed c.args.table.now) (g.T.GamesTable.passed c.loop-number.table)
     (g.W.Output.seen c.args.output.now) (g.W.Output.seen c.loop-number.output) l l'
     (c.loop-number.number + 1) c.loop-number.score c.loop-number.invariant.1 c.loop-number.invariant.2 past

@@ -11,8 +11,8 @@ invariant-loop-number g l =
     ((g.T.GamesTable.game l.table).limit ≡ MOST_MOVES) × (games : List GameRecord)
     × SoFar l.plan (g.T.GamesTable.passed l.fn.table) (g.T.GamesTable.passed l.table)
     (g.W.Output.seen l.fn.output) (g.W.Output.seen l.output)
-    (log_seen (g.E.Output.seen l.fn.log.output) l.fn.log.pending)
-    (log_seen (g.E.Output.seen l.log.output) l.log.pending)
+    (log_seen (g.E.Output.seen l.fn.log.output) l.fn.log.broken)
+    (log_seen (g.E.Output.seen l.log.output) l.log.broken)
     (l.number + 1) l.score games
 
 abbrev pub decreases-loop-number : goal.decreases-loop-number

@@ -1,5 +1,5 @@
-use Rattle.match_runner.proofs.EntriesRead.{logs_are_entries, logs_have_one_reading}
+use Rattle.match_runner.proofs.EntriesRead.{logs_have_one_reading}
 use Rattle.match_runner.proofs.laws.logs_have_one_reading.Goals as goal
 
 pub returns : goal.returns
-returns c = record { lines = logs_are_entries; reading = logs_have_one_reading }
+returns c = logs_have_one_reading

@@ -5,13 +5,12 @@ use Rattle.match_runner.proofs.log.run_match_logged.Goals as goal
 
 pub returns : goal.returns
 returns g c =
-    let r = c.run_match_watched-end.ensures.ran in
+    let r = c.run_match_watched.ensures.ran in
     record {
       ran = (
         r.0,
         r.1,
-        notes_logged _ _ _ _ _ _ _ _ _ _ _ _ (notes_given r.1 r.0) c.begin.ensures.log r.2 c.finish.ensures.adds
-            c.finish.ensures.nothing,
+        notes_logged _ _ _ _ _ _ _ _ (notes_given r.1 r.0) c.begin.ensures.log r.2,
         r.3,
       );
     }

@@ -8,7 +8,7 @@ use Rattle.match_runner.proofs.process_table.relay.Goals as goal
 
 pub returns-in_default : goal.returns-in_default
 returns-in_default g c =
-    let l = log_seen (g.E.Output.seen c.args.log.now.output) c.args.log.now.pending in
+    let l = log_seen (g.E.Output.seen c.args.log.now.output) c.args.log.now.broken in
     let r = c.run_match.ensures.ran in
     let none : c.args.first ≡ None = search rules in
     record {
@@ -22,8 +22,8 @@ returns-in_default g c =
 
 pub returns : goal.returns
 returns g c =
-    let l = log_seen (g.E.Output.seen c.args.log.now.output) c.args.log.now.pending in
-    let l' = log_seen (g.E.Output.seen c.run_match_logged.new.log.output) c.run_match_logged.new.log.pending in
+    let l = log_seen (g.E.Output.seen c.args.log.now.output) c.args.log.now.broken in
+    let l' = log_seen (g.E.Output.seen c.run_match_logged.new.log.output) c.run_match_logged.new.log.broken in
     let r = c.run_match_logged.ensures.ran in
     let some : c.args.first ≡ Some c.in-Some.first = search rules in
     record {

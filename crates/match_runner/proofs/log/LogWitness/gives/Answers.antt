@@ -1,14 +1,39 @@
--- What is written is the note's text.
-use Rattle.std.proofs.Common.{Bool, ap, refl}
-use Rattle.chess_match.specs.Notes.{Gives}
+-- A line more was logged.
+use Rattle.std.proofs.Common.{◌≡◌, ℕ, List, ◌++◌, ◌∙◌, length, subst, sym, true}
+use Rattle.std.specs.Prelude.{◌==◌}
 use Rattle.chess_base.specs.Letters.{byte}
-use Rattle.match_runner.specs.Log.{given_text, head}
-use Rattle.match_runner.proofs.Logged.{adds_as, logged}
+use Rattle.chess_base.specs.Men.{same_colour}
+use Rattle.chess_base.specs.declared.man.Colour.{Colour}
+use Rattle.chess_match.specs.Notes.{Gives}
+use Rattle.match_runner.specs.Log.{Logged, log_line, log_seen}
+use Rattle.match_runner.proofs.Logged.{given_all, given_more, logged_more, noted}
 use Rattle.match_runner.proofs.log.LogWitness.gives.Goals as goal
 
+pub loop-rest-preserved : goal.loop-rest-preserved
+loop-rest-preserved g c =
+    let (done, logged, is, first, moment) = c.loop-rest.invariant in
+    let line : List ℕ = c.split_line.result.0.now in
+    let old = log_seen (g.E.Output.seen c.args.self.now.output) c.args.self.now.broken in
+    let mid = log_seen (g.E.Output.seen c.loop-rest.self.output) c.loop-rest.self.broken in
+    let new = log_seen (g.E.Output.seen c.add_line.new.self.output) c.add_line.new.self.broken in
+    let text = λ (m : ℕ) (f : Colour). log_line m (byte ">") (same_colour c.args.side f) line in (
+      done ++ text c.args.self.now.moment c.args.self.now.first,
+      logged_more old mid new done (text c.args.self.now.moment c.args.self.now.first) logged
+          (subst (λ (m : ℕ). Logged mid new (text m c.args.self.now.first)) moment
+          (subst (λ (f : Colour). Logged mid new (text c.loop-rest.self.moment f)) first c.add_line.ensures.logged)),
+      given_more c.args.self.now.first c.args.side c.args.self.now.moment c.loop-rest.rest.now line
+          c.split_line.result.1.now _ done c.split_line.ensures.lines is,
+      c.add_line.ensures.first ∙ first,
+      c.add_line.ensures.moment ∙ moment,
+    )
+
 pub returns : goal.returns
-returns g c = logged _ _ _ _ _ _ _ _ (Gives c.args.side c.args.text.now) refl
-    (adds_as _ _ _ _ _ _
-    (ap (λ (b : Bool). given_text (head c.args.self.now.state.moment (byte ">") b) c.args.self.now.state.at_start
-    c.args.text.now) c.same_colour-is_first.ensures) c.add_given-self.ensures.adds)
-    c.add_given-self.ensures.state
+returns g c =
+    let (done, logged, is, first, moment) = c.loop-rest.invariant in
+    let old = log_seen (g.E.Output.seen c.args.self.now.output) c.args.self.now.broken in
+    let new = log_seen (g.E.Output.seen c.loop-rest.self.output) c.loop-rest.self.broken in
+    let none : (length c.loop-rest.rest.now == 0) ≡ true = sym c.loop-rest-test.ensures in
+    noted _ _ _ _ _ _ (Gives c.args.side c.args.text.now)
+    (subst (λ (t : List ℕ). Logged old new t)
+    (given_all c.args.self.now.first c.args.side c.args.self.now.moment c.loop-rest.rest.now _ done none is) logged)
+    first moment

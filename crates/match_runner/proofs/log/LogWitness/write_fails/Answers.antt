@@ -1,9 +1,10 @@
--- What is written is the note's text.
+-- The note's line was logged.
+use Rattle.std.proofs.Common.{refl}
 use Rattle.chess_match.specs.Events.{FailsToWrite}
 use Rattle.chess_match.specs.Notes.{Happened}
-use Rattle.match_runner.proofs.Logged.{logged}
+use Rattle.match_runner.proofs.Logged.{line_noted}
 use Rattle.match_runner.proofs.log.LogWitness.write_fails.Goals as goal
 
 pub returns : goal.returns
-returns g c = logged _ _ _ _ _ _ _ _ (Happened (FailsToWrite c.args.side)) c.note.ensures.first c.note.ensures.adds
-    c.note.ensures.state
+returns g c = line_noted _ _ c.args.side _ _ _ _ _ _ _ (Happened (FailsToWrite c.args.side)) refl c.add_line.ensures.logged
+    c.add_line.ensures.first c.add_line.ensures.moment

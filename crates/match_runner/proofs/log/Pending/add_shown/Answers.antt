@@ -1,6 +1,6 @@
 -- A byte more was written, as it is shown.
 use Rattle.std.proofs.Common.{ℕ, List, [], ◌∷◌, refl, ap, map}
-use Rattle.match_runner.specs.Log.{shown}
+use Rattle.chess_game.specs.Results.{shown_byte}
 use Rattle.match_runner.proofs.Logged.{adds_as, adds_more, loop_step}
 use Rattle.match_runner.proofs.log.Pending.add_shown.Goals as goal
 
@@ -9,7 +9,7 @@ loop-byte-preserved g c =
     let i = c.loop-byte.invariant in (
       _,
       adds_more _ _ _ _ _ _ i.0 _ i.1
-          (adds_as _ _ _ _ (c.shown.result ∷ []) _ (ap (λ (b : ℕ). b ∷ []) c.shown.ensures) c.add.ensures),
-      loop_step (λ (l : List ℕ). map shown l) c.args.text.now c.loop-byte.byte-index _ i.0 c.loop-byte-test.true
+          (adds_as _ _ _ _ (c.shown_byte.result ∷ []) _ (ap (λ (b : ℕ). b ∷ []) c.shown_byte.ensures) c.add.ensures.adds),
+      loop_step (λ (l : List ℕ). map shown_byte l) c.args.text.now c.loop-byte.byte-index _ i.0 c.loop-byte-test.true
           (λ rest. refl) i.2,
     )

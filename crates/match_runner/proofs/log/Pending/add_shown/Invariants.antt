@@ -1,5 +1,5 @@
 use Rattle.std.proofs.Common.{◌≡◌, ℕ, List, ◌++◌, drop, map}
-use Rattle.match_runner.specs.Log.{shown}
+use Rattle.chess_game.specs.Results.{shown_byte}
 use Rattle.match_runner.specs.ties.Logging.{Adds}
 use Rattle.match_runner.proofs.log.Pending.add_shown.Given as goal
 
@@ -7,4 +7,4 @@ use Rattle.match_runner.proofs.log.Pending.add_shown.Given as goal
 abbrev pub invariant-loop-byte : goal.invariant-loop-byte
 invariant-loop-byte g l =
     (done : List ℕ) × Adds (g.E.Output.seen l.fn.output) (g.E.Output.seen l.output) l.fn.self l.self done
-    × (done ++ map shown (drop l.byte-index l.text) ≡ map shown l.text)
+    × (done ++ map shown_byte (drop l.byte-index l.text) ≡ map shown_byte l.text)

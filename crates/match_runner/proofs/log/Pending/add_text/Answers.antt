@@ -7,7 +7,7 @@ pub loop-byte-preserved : goal.loop-byte-preserved
 loop-byte-preserved g c =
     let i = c.loop-byte.invariant in (
       _,
-      adds_more _ _ _ _ _ _ i.0 _ i.1 c.add.ensures,
+      adds_more _ _ _ _ _ _ i.0 _ i.1 c.add.ensures.adds,
       loop_step (λ (l : List ℕ). l) c.args.text.now c.loop-byte.byte-index _ i.0 c.loop-byte-test.true
           (λ rest. refl) i.2,
     )

@@ -7,5 +7,5 @@ use Rattle.match_runner.proofs.log.Pending.flush_pending.Goals as goal
 pub returns-clause-adds : goal.returns-clause-adds
 returns-clause-adds g c = adds_flushed _ _ _ _
     (subst (λ (t : List ℕ). Logs c.args.self.now.broken c.send_unless_broken-self.result
-    (g.E.Output.seen c.args.output.now) (g.E.Output.seen c.send_unless_broken-self.new.output) [] t)
+    (g.E.Output.seen c.args.output.now) (g.E.Output.seen c.send_unless_broken-self.new.output) t)
     c.as_slice.ensures.value c.send_unless_broken-self.ensures) c.clear.ensures

@@ -1,0 +1,287 @@
+-- What the lines of a log show of its match, and that a log gives the match back.
+use Rattle.std.proofs.Common.{◌≡◌, ◌∙◌, ℕ, Bool, true, false, List, [], ◌∷◌, ◌++◌, map, refl, sym, ap, append_assoc, append-nil, Some, None, arith}
+use Rattle.std.specs.Prelude.{◌==◌, codes, flat_map, if◌then◌else◌, not}
+use Rattle.std.proofs.lemmas.Bool.{and_parts}
+use Rattle.std.specs.List.{list_all, onto_first}
+use Rattle.std.proofs.lemmas.List.{map-append}
+use Rattle.std.proofs.lemmas.List.Concat.{flat_map-append}
+use Rattle.std.proofs.lemmas.Bool.Decides.{nat_tests}
+use Rattle.chess_base.specs.Letters.{byte, new_line}
+use Rattle.chess_base.specs.Options.{list_if}
+use Rattle.chess_base.specs.declared.man.Colour.{Colour}
+use Rattle.chess_base.specs.Men.{other, same_colour}
+use Rattle.chess_match.specs.Acts.{Act, Sends, SendFails, Reads, ReadsEnd, ReadFails, ReadsClock}
+use Rattle.chess_match.specs.ByDevice.{notes_given}
+use Rattle.chess_match.specs.Effects.{Match, beginning}
+use Rattle.chess_match.specs.Events.{Event, Line, Opened, OutputEnds, FailsToRead, FailsToWrite}
+use Rattle.chess_match.specs.Lines.{SentLine, bytes_of, text_of}
+use Rattle.chess_match.specs.Notes.{Note, Happened, Gives}
+use Rattle.chess_match.specs.Reasons.{is_unwritten}
+use Rattle.chess_match.specs.laws.Laws.{events_in}
+use Rattle.chess_match.specs.laws.OfActs.{lines_given}
+use Rattle.chess_match.specs.declared.reason.Reason.{Reason}
+use Rattle.match_runner.specs.Log.{Entry, entries_from, lines_in, moment_after, note_entries}
+use Rattle.match_runner.specs.laws.ReadBack.{LogsGiveTheGame, LogsShow, entry_event, entry_given, events_shown, result_line, text_of_result}
+use Rattle.match_runner.proofs.EntriesRead.{logs_have_one_reading}
+use Rattle.match_runner.proofs.PlayedAgain.{again, last_lines}
+use Rattle.match_runner.proofs.Replays.{EndsAs, match_goes, replayed}
+use Rattle.match_runner.proofs.ResultLines.{reason_of, reason_read, result_plain}
+
+-- ---- events
+
+side_is : (c first : Colour) → (if same_colour c first then first else other first) ≡ c
+side_is c first = grind arith
+
+abbrev sent_entry : ℕ → Bool → List ℕ → Entry
+sent_entry moment is_first text = record { moment = moment; mark = byte ">"; is_first = is_first; text = text }
+
+no_event : (first : Colour) (moment : ℕ) (is_first : Bool) (texts : List (List ℕ))
+    → flat_map (entry_event first) (map (sent_entry moment is_first) texts) ≡ []
+no_event first moment is_first [] = refl
+no_event first moment is_first (t ∷ ts) = no_event first moment is_first ts
+
+event_more : (first c : Colour) (event : Colour → Event) (shown rest : List Event) → shown ≡ rest
+    → event (if same_colour c first then first else other first) ∷ shown ≡ event c ∷ rest
+event_more first c event shown rest e =
+    ap (λ (s : Colour). event s ∷ shown) (side_is c first) ∙ ap (λ (l : List Event). event c ∷ l) e
+
+events_read : (first : Colour) (moment : ℕ) (notes : List Note)
+    → flat_map (entry_event first) (entries_from first moment notes) ≡ events_shown (events_in notes)
+events_read first moment [] = refl
+events_read first moment (Happened (Line c (Some text) now) ∷ notes) =
+    event_more first c (λ s. Line s (Some text) now) _ _ (events_read first now notes)
+events_read first moment (Happened (Line c None now) ∷ notes) =
+    event_more first c (λ s. Line s None now) _ _ (events_read first now notes)
+events_read first moment (Happened (Opened c now) ∷ notes) = events_read first now notes
+events_read first moment (Happened (OutputEnds c) ∷ notes) =
+    event_more first c (λ s. OutputEnds s) _ _ (events_read first moment notes)
+events_read first moment (Happened (FailsToRead c) ∷ notes) =
+    event_more first c (λ s. FailsToRead s) _ _ (events_read first moment notes)
+events_read first moment (Happened (FailsToWrite c) ∷ notes) =
+    event_more first c (λ s. FailsToWrite s) _ _ (events_read first moment notes)
+events_read first moment (Gives c bytes ∷ notes) =
+    flat_map-append (entry_event first) (map (sent_entry moment (same_colour c first)) (lines_in bytes))
+    (entries_from first moment notes)
+    ∙ ap (λ (l : List Event). l ++ flat_map (entry_event first) (entries_from first moment notes))
+    (no_event first moment (same_colour c first) (lines_in bytes))
+    ∙ events_read first moment notes
+
+-- ---- the lines of a block
+
+-- these lines, one after another
+abbrev joined : List (List ℕ) → List ℕ
+joined ls = flat_map (λ l. l ++ new_line ∷ []) ls
+
+is_new_line : (b : ℕ) → (b == new_line) ≡ true → new_line ≡ b
+is_new_line b h1 = grind (arith, nat_tests)
+
+-- the lines of a text with `\n` at its end, and what follows
+ended_text : (text rest : List ℕ) → (p : List ℕ) × (ps : List (List ℕ))
+    × (lines_in (text ++ new_line ∷ rest) ≡ p ∷ ps ++ lines_in rest)
+    × (joined (p ∷ ps) ≡ text ++ new_line ∷ [])
+ended_text [] rest = ([], [], refl, refl)
+ended_text (b ∷ bs) rest = let (p, ps, e, j) = ended_text bs rest in at (b == new_line) refl p ps e j
+  where
+    at : (x : Bool) → (b == new_line) ≡ x → (p : List ℕ) (ps : List (List ℕ))
+        → lines_in (bs ++ new_line ∷ rest) ≡ p ∷ ps ++ lines_in rest → joined (p ∷ ps) ≡ bs ++ new_line ∷ []
+        → (q : List ℕ) × (qs : List (List ℕ))
+        × ((if x then [] ∷ lines_in (bs ++ new_line ∷ rest) else onto_first b (lines_in (bs ++ new_line ∷ rest)))
+        ≡ q ∷ qs ++ lines_in rest)
+        × (joined (q ∷ qs) ≡ b ∷ (bs ++ new_line ∷ []))
+    at true is p ps e j = (
+      [],
+      p ∷ ps,
+      ap (λ (l : List (List ℕ)). [] ∷ l) e,
+      ap (λ (l : List ℕ). new_line ∷ l) j ∙ ap (λ (n : ℕ). n ∷ (bs ++ new_line ∷ [])) (is_new_line b is),
+    )
+    at false is p ps e j =
+        (b ∷ p, ps, ap (λ (l : List (List ℕ)). onto_first b l) e, ap (λ (l : List ℕ). b ∷ l) j)
+
+-- the lines of a block are whole
+block_joined : (ls : List SentLine) → joined (lines_in (bytes_of ls)) ≡ bytes_of ls
+unfolding bytes_of
+block_joined [] = refl
+block_joined (l ∷ ls) =
+    let (p, ps, e, j) = ended_text (text_of l) (bytes_of ls) in
+    ap (λ (t : List (List ℕ)). joined t) e
+    ∙ flat_map-append (λ (t : List ℕ). t ++ new_line ∷ []) (p ∷ ps) (lines_in (bytes_of ls))
+    ∙ ap (λ (t : List ℕ). t ++ joined (lines_in (bytes_of ls))) j
+    ∙ append_assoc (text_of l) (new_line ∷ []) (joined (lines_in (bytes_of ls)))
+    ∙ ap (λ (t : List ℕ). text_of l ++ new_line ∷ t) (block_joined ls)
+
+-- the lines of a block come after one another
+block_lines : (ls more : List SentLine)
+    → (before : List (List ℕ)) × (lines_in (bytes_of (ls ++ more)) ≡ before ++ lines_in (bytes_of more))
+unfolding bytes_of
+block_lines [] more = ([], refl)
+block_lines (l ∷ ls) more =
+    let (p, ps, e, j) = ended_text (text_of l) (bytes_of (ls ++ more)) in
+    let (before, f) = block_lines ls more in (
+      p ∷ ps ++ before,
+      e ∙ ap (λ (t : List (List ℕ)). p ∷ ps ++ t) f
+          ∙ ap (λ (t : List (List ℕ)). p ∷ t) (sym (append_assoc ps before (lines_in (bytes_of more)))),
+    )
+
+plain_line : (text rest : List ℕ) → list_all (λ b. not (b == new_line)) text ≡ true
+    → lines_in (text ++ new_line ∷ rest) ≡ text ∷ lines_in rest
+plain_line [] rest h = refl
+plain_line (b ∷ bs) rest h =
+    let p = and_parts (not (b == new_line)) (list_all (λ b. not (b == new_line)) bs) h in
+    at (b == new_line) p.0 ∙ ap (λ (l : List (List ℕ)). onto_first b l) (plain_line bs rest p.1)
+  where
+    at : (x : Bool) → not x ≡ true
+        → (if x then [] ∷ lines_in (bs ++ new_line ∷ rest) else onto_first b (lines_in (bs ++ new_line ∷ rest)))
+        ≡ onto_first b (lines_in (bs ++ new_line ∷ rest))
+    at true h = absurd cc
+    at false h = refl
+
+-- ---- bytes that are sent
+
+given_entries : (first S c : Colour) (moment : ℕ) (texts : List (List ℕ))
+    → flat_map (entry_given first S) (map (sent_entry moment (same_colour c first)) texts)
+    ≡ list_if (same_colour c S) (joined texts)
+given_entries first S c moment [] = grind arith
+given_entries first S c moment (t ∷ ts) =
+    ap (λ (s : Colour). list_if (same_colour s S) (t ++ new_line ∷ [])
+    ++ flat_map (entry_given first S) (map (sent_entry moment (same_colour c first)) ts)) (side_is c first)
+    ∙ ap (λ (l : List ℕ). list_if (same_colour c S) (t ++ new_line ∷ []) ++ l) (given_entries first S c moment ts)
+    ∙ at (same_colour c S)
+  where
+    at : (b : Bool) → list_if b (t ++ new_line ∷ []) ++ list_if b (joined ts) ≡ list_if b (joined (t ∷ ts))
+    at true = refl
+    at false = refl
+
+bytes-append : (ls more : List SentLine) → bytes_of (ls ++ more) ≡ bytes_of ls ++ bytes_of more
+unfolding bytes_of
+bytes-append [] more = refl
+bytes-append (l ∷ ls) more = ap (λ (t : List ℕ). text_of l ++ new_line ∷ t) (bytes-append ls more)
+    ∙ sym (append_assoc (text_of l) (new_line ∷ bytes_of ls) (bytes_of more))
+
+-- all bytes that S is sent by these lines of a log
+abbrev given_by : Colour → Colour → List Entry → List ℕ
+given_by first S entries = flat_map (entry_given first S) entries
+
+given_block : (first S c : Colour) (moment : ℕ) (lines more : List SentLine) (entries : List Entry)
+    → given_by first S entries ≡ bytes_of more
+    → given_by first S (note_entries first moment (Gives c (bytes_of lines)) ++ entries)
+    ≡ bytes_of (list_if (same_colour c S) lines ++ more)
+given_block first S c moment lines more entries e =
+    flat_map-append (entry_given first S) (note_entries first moment (Gives c (bytes_of lines))) entries
+    ∙ ap (λ (l : List ℕ). l ++ given_by first S entries) (given_entries first S c moment (lines_in (bytes_of lines)))
+    ∙ ap (λ (l : List ℕ). list_if (same_colour c S) l ++ given_by first S entries) (block_joined lines)
+    ∙ ap (λ (l : List ℕ). list_if (same_colour c S) (bytes_of lines) ++ l) e
+    ∙ at (same_colour c S)
+  where
+    at : (b : Bool) → list_if b (bytes_of lines) ++ bytes_of more ≡ bytes_of (list_if b lines ++ more)
+    at true = sym (bytes-append lines more)
+    at false = refl
+
+-- a failed write is noted, or not
+given_failure : (first S c : Colour) (moment : ℕ) (notes : List Note) (noted : Bool)
+    → given_by first S (entries_from first moment (list_if noted (Happened (FailsToWrite c) ∷ []) ++ notes))
+    ≡ given_by first S (entries_from first moment notes)
+given_failure first S c moment notes true = refl
+given_failure first S c moment notes false = refl
+
+given_read : (first S : Colour) (moment : ℕ) (reason : Reason) (H : List Act)
+    → given_by first S (entries_from first moment (notes_given reason H)) ≡ bytes_of (lines_given S H)
+unfolding bytes_of
+given_read first S moment reason [] = refl
+given_read first S moment reason (Sends b ∷ H) =
+    given_block first S b.to moment b.lines (lines_given S H) _ (given_read first S moment reason H)
+given_read first S moment reason (SendFails b ∷ H) =
+    given_block first S b.to moment b.lines (lines_given S H) _
+    (given_failure first S b.to moment (notes_given reason H) (is_unwritten reason b.to)
+    ∙ given_read first S moment reason H)
+given_read first S moment reason (Reads c (Some t) ∷ ReadsClock d now ∷ H) = given_read first S now reason H
+given_read first S moment reason (Reads c None ∷ ReadsClock d now ∷ H) = given_read first S now reason H
+given_read first S moment reason (ReadsClock c now ∷ H) = given_read first S now reason H
+given_read first S moment reason (ReadsEnd c ∷ H) = given_read first S moment reason H
+given_read first S moment reason (ReadFails c ∷ H) = given_read first S moment reason H
+given_read first S moment reason (Reads c t ∷ H) = given_read first S moment reason H
+
+-- ---- the result
+
+result_is : (before : List Entry) (e f : Entry) → result_line (before ++ e ∷ f ∷ []) ≡ e.text
+result_is [] e f = refl
+result_is (a ∷ []) e f = refl
+result_is (a ∷ b ∷ []) e f = refl
+result_is (a ∷ b ∷ c ∷ before) e f = result_is (b ∷ c ∷ before) e f
+
+-- the lines of the last note come last
+last_note : (first : Colour) (moment : ℕ) (before : List Note) (n : Note)
+    → (lines : List Entry) × (now : ℕ)
+    × (entries_from first moment (before ++ n ∷ []) ≡ lines ++ note_entries first now n)
+last_note first moment [] n = ([], moment, append-nil (note_entries first moment n))
+last_note first moment (x ∷ before) n =
+    let (lines, now, e) = last_note first (moment_after moment x) before n in (
+      note_entries first moment x ++ lines,
+      now,
+      ap (λ (l : List Entry). note_entries first moment x ++ l) e
+          ∙ sym (append_assoc (note_entries first moment x) lines (note_entries first now n)),
+    )
+
+last_two : (reason : Reason) → lines_in (bytes_of (last_lines reason)) ≡ text_of_result reason ∷ codes "quit" ∷ []
+unfolding bytes_of
+last_two reason = plain_line (text_of_result reason) _ (result_plain reason)
+
+-- the lines of the last block
+block_result : (first S : Colour) (now : ℕ) (lines : List SentLine) (reason : Reason)
+    → (before : List Entry) × (e : Entry) × (f : Entry) × (e.text ≡ text_of_result reason)
+    × (note_entries first now (Gives S (bytes_of (lines ++ last_lines reason))) ≡ before ++ e ∷ f ∷ [])
+block_result first S now lines reason =
+    let (before, is) = block_lines lines (last_lines reason) in
+    let mark : List ℕ → Entry = sent_entry now (same_colour S first) in (
+      map mark before,
+      mark (text_of_result reason),
+      mark (codes "quit"),
+      refl,
+      ap (λ (ts : List (List ℕ)). map mark ts)
+          (is ∙ ap (λ (ts : List (List ℕ)). before ++ ts) (last_two reason))
+          ∙ map-append mark before (text_of_result reason ∷ codes "quit" ∷ []),
+    )
+
+result_read : (first : Colour) (notes : List Note) (reason : Reason) → EndsAs reason notes
+    → result_line (entries_from first 0 notes) ≡ text_of_result reason
+result_read first notes reason (before, S, lines, is) =
+    let n : Note = Gives S (bytes_of (lines ++ last_lines reason)) in
+    let (entries, now, e) = last_note first 0 before n in
+    let (more, a, b, text, f) = block_result first S now lines reason in
+    ap (λ (l : List Note). result_line (entries_from first 0 l)) is
+    ∙ ap (λ (l : List Entry). result_line l)
+    (e ∙ ap (λ (l : List Entry). entries ++ l) f ∙ sym (append_assoc entries more (a ∷ b ∷ [])))
+    ∙ result_is (entries ++ more) a b ∙ text
+
+-- ---- a whole log
+
+pub logs_show : LogsShow
+logs_show r first reason H final h over = (
+  events_read first 0 (notes_given reason H),
+  λ S. given_read first S 0 reason H,
+  result_read first (notes_given reason H) reason (match_goes r reason H final h over).last,
+)
+
+pub logs_give_the_game : LogsGiveTheGame
+logs_give_the_game r first reason reason' H K final final' h k over over' plain plain' same =
+    let xs : List Entry = entries_from first 0 (notes_given reason H) in
+    let ys : List Entry = entries_from first 0 (notes_given reason' K) in
+    let entries : xs ≡ ys = logs_have_one_reading xs ys plain plain' same in
+    let a = logs_show r first reason H final h over in
+    let b = logs_show r first reason' K final' k over' in
+    let reasons : reason ≡ reason' = sym (reason_read reason)
+    ∙ ap (λ (t : List ℕ). reason_of t) (sym a.2 ∙ ap (λ (l : List Entry). result_line l) entries ∙ b.2)
+    ∙ reason_read reason' in
+    let events : events_shown (events_in (notes_given reason H)) ≡ events_shown (events_in (notes_given reason' K)) =
+    sym a.0 ∙ ap (λ (l : List Entry). flat_map (entry_event first) l) entries ∙ b.0 in
+    let games = ap (λ (x : Reason).
+    replayed r x (again beginning.after) (events_shown (events_in (notes_given reason H)))) reasons
+    ∙ ap (λ (es : List Event). replayed r reason' (again beginning.after) es) events in
+    let c = (match_goes r reason H final h over).same in
+    let d = (match_goes r reason' K final' k over').same in
+    record {
+      reasons = reasons;
+      moves = c.0 ∙ ap (λ (m : Match). m.played) games ∙ sym d.0;
+      items = λ S. c.1 S ∙ ap (λ (m : Match). (m.seat S).items) games ∙ sym (d.1 S);
+      sent = λ S. sym (a.1 S) ∙ ap (λ (l : List Entry). flat_map (entry_given first S) l) entries ∙ b.1 S;
+      events = events;
+    }

@@ -1,0 +1,193 @@
+-- The PGN of a game follows from its log, and what a match writes from the logs of its games.
+use Rattle.std.proofs.Common.{◌≡◌, ◌∙◌, ◌+◌, ℕ, List, [], ◌∷◌, ◌++◌, map, refl, sym, ap, subst}
+use Rattle.std.specs.Prelude.{⊤, codes, cond, decimal, flat_map, fold}
+use Rattle.std.specs.List.{AllByRecursion, enumerate_from}
+use Rattle.chess_base.specs.declared.man.Colour.{Colour}
+use Rattle.chess_base.specs.declared.man.Colour.TheVariants.{White, Black}
+use Rattle.chess_base.specs.declared.man.Move.{Move}
+use Rattle.cecp_engine.specs.Items.{Item, last_value}
+use Rattle.chess_game.specs.Game.{Seen, State}
+use Rattle.chess_base.specs.Men.{other}
+use Rattle.chess_game.specs.Results.{cut_tag, same_outcome}
+use Rattle.chess_game.specs.declared.game.TheConstants.{MOST_MOVES}
+use Rattle.chess_game.specs.declared.results.Outcome.{Outcome}
+use Rattle.chess_game.specs.declared.results.Outcome.TheVariants.{Draw, Unfinished}
+use Rattle.chess_game.specs.declared.tags.HowEnded.{HowEnded}
+use Rattle.chess_match.specs.Acts.{Act, IsMatch}
+use Rattle.chess_match.specs.ByDevice.{notes_given}
+use Rattle.chess_match.specs.Effects.{Match, Over}
+use Rattle.chess_match.specs.Notes.{Note}
+use Rattle.chess_match.specs.Reasons.{declared_at, ended_by, outcome_by_reason, win_of}
+use Rattle.chess_match.specs.Rules.{Rules, rules_of}
+use Rattle.chess_match.specs.declared.reason.Reason.{Reason}
+use Rattle.chess_pgn.specs.GameText.{pgn}
+use Rattle.match_runner.specs.declared.plan.GamesPlan.{GamesPlan}
+use Rattle.match_runner.specs.declared.score.Score.{Score}
+use Rattle.match_runner.specs.Games.{GameRecord, IsOfPlan, count_of, engine_command, first_side, game_text, game_texts, player_name, score_line, score_of}
+use Rattle.match_runner.specs.Log.{entries_from, log_text}
+use Rattle.match_runner.specs.laws.Entries.{IsShown}
+use Rattle.match_runner.specs.laws.ReadBack.{AreAlike, LogsGiveTheOutput, LogsGiveThePgn}
+use Rattle.match_runner.proofs.LogsRead.{logs_give_the_game}
+
+abbrev rules : GamesPlan → Rules
+rules plan = rules_of plan.start plan.level MOST_MOVES
+
+-- the game that a match of these moves leaves, if it ended for this reason
+abbrev left : GamesPlan → Reason → List Move → State
+left plan reason moves = record {
+  start = plan.start;
+  moves = moves;
+  declared = declared_at ((rules plan).verdict moves) reason;
+}
+
+-- an engine's name, by its items
+abbrev named : List Item → List ℕ
+named items = cut_tag (last_value (codes "myname") items)
+
+-- a match of these acts was played, ended for this reason and was reported
+record IsPlayed (plan : GamesPlan) (played : GameRecord) (H : List Act) (reason : Reason) (final : Match) : Type 0 where
+  pub is_match : IsMatch (rules plan) H final
+  pub over : final.phase ≡ Over reason
+  pub notes : notes_given reason H ≡ played.notes
+  pub outcome : played.end.outcome ≡ outcome_by_reason reason
+  pub ended : played.end.ended ≡ ended_by reason
+  pub white : played.end.white_name ≡ named (final.seat White).items
+  pub black : played.end.black_name ≡ named (final.seat Black).items
+  pub game : played.after.game.state ≡ left plan reason final.played
+
+is_played : (plan : GamesPlan) (played : GameRecord) → IsOfPlan plan played
+    → (H : List Act) × (reason : Reason) × (final : Match) × IsPlayed plan played H reason final
+is_played plan played (limit, (H, reason, notes, (final, passed, reported, game))) = (
+  H,
+  reason,
+  final,
+  record {
+    is_match = subst (λ (n : ℕ). IsMatch (rules_of plan.start plan.level n) H final) limit passed.is_match;
+    over = reported.ended;
+    notes = notes;
+    outcome = sym (ap (λ (t : Outcome × List ℕ × HowEnded). t.0) reported.report);
+    ended = sym (ap (λ (t : Outcome × List ℕ × HowEnded). t.2) reported.report);
+    white = reported.name White;
+    black = reported.name Black;
+    game = subst (λ (n : ℕ). played.after.game.state ≡ (let s : State = record {
+      start = plan.start;
+      moves = final.played;
+      declared = declared_at ((rules_of plan.start plan.level n).verdict final.played) reason;
+    } in s)) limit (ap (λ (g : Seen). g.state) game);
+  },
+)
+
+-- the text of a game by its names, its end and its state
+abbrev text_by : GamesPlan → ℕ → List ℕ → List ℕ → HowEnded → State → List ℕ
+text_by plan number white black ended state = pgn [] (record {
+  event = codes "CECP match";
+  site = codes "?";
+  date = cut_tag plan.date.now;
+  round = cut_tag (decimal number);
+  white = player_name white (engine_command plan number White);
+  black = player_name black (engine_command plan number Black);
+  ended = ended;
+}) state
+
+text_is : (plan : GamesPlan) (number : ℕ) (w w' b b' : List ℕ) (e e' : HowEnded) (s s' : State) → w ≡ w' → b ≡ b'
+    → e ≡ e' → s ≡ s' → text_by plan number w b e s ≡ text_by plan number w' b' e' s'
+text_is plan number w w' b b' e e' s s' p q r t =
+    ap (λ (v : List ℕ). text_by plan number v b e s) p ∙ ap (λ (v : List ℕ). text_by plan number w' v e s) q
+    ∙ ap (λ (v : HowEnded). text_by plan number w' b' v s) r ∙ ap (λ (v : State). text_by plan number w' b' e' v) t
+
+pub logs_give_the_pgn : LogsGiveThePgn
+logs_give_the_pgn plan number one two h k plain plain' same =
+    let first : Colour = first_side number in
+    let (H, reason, final, p) = is_played plan one h in
+    let (K, reason', final', q) = is_played plan two k in
+    let shown : AllByRecursion IsShown (entries_from first 0 (notes_given reason H)) =
+    subst (λ (l : List Note). AllByRecursion IsShown (entries_from first 0 l)) (sym p.notes) plain in
+    let shown' : AllByRecursion IsShown (entries_from first 0 (notes_given reason' K)) =
+    subst (λ (l : List Note). AllByRecursion IsShown (entries_from first 0 l)) (sym q.notes) plain' in
+    let a : AreAlike reason reason' H K final final' =
+    logs_give_the_game (rules plan) first reason reason' H K final final' p.is_match q.is_match
+    p.over q.over shown shown'
+    (ap (λ (l : List Note). log_text first l) p.notes ∙ same ∙ sym (ap (λ (l : List Note). log_text first l) q.notes))
+    in (
+      text_is plan number one.end.white_name two.end.white_name one.end.black_name two.end.black_name one.end.ended
+          two.end.ended one.after.game.state two.after.game.state
+          (p.white ∙ ap named (a.items White) ∙ sym q.white) (p.black ∙ ap named (a.items Black) ∙ sym q.black)
+          (p.ended ∙ ap ended_by a.reasons ∙ sym q.ended)
+          (p.game ∙ ap (λ (x : Reason). left plan x final.played) a.reasons
+          ∙ ap (λ (ms : List Move). left plan reason' ms) a.moves ∙ sym q.game),
+      p.outcome ∙ ap outcome_by_reason a.reasons ∙ sym q.outcome,
+    )
+
+-- ---- all games of a match
+
+-- two games, each with its number, have the same number, PGN and outcome
+record AreAsOne (plan : GamesPlan) (g h : ℕ × GameRecord) : Type 0 where
+  pub numbers : g.0 ≡ h.0
+  pub texts : game_text plan g.0 g.1 ≡ game_text plan h.0 h.1
+  pub outcomes : g.1.end.outcome ≡ h.1.end.outcome
+
+abbrev Alike : GamesPlan → List (ℕ × GameRecord) → List (ℕ × GameRecord) → Type 0
+Alike plan [] [] = ⊤
+Alike plan (g ∷ gs) (h ∷ hs) = AreAsOne plan g h × Alike plan gs hs
+Alike plan _ _ = ⊥
+
+abbrev IsOfLog : GamesPlan → ℕ × GameRecord → Type 0
+IsOfLog plan g = IsOfPlan plan g.1 × AllByRecursion IsShown (entries_from (first_side g.0) 0 g.1.notes)
+
+abbrev log_of : ℕ × GameRecord → List ℕ
+log_of g = log_text (first_side g.0) g.1.notes
+
+texts_alike : (plan : GamesPlan) (gs hs : List (ℕ × GameRecord)) → Alike plan gs hs
+    → flat_map (λ g. game_text plan g.0 g.1) gs ≡ flat_map (λ g. game_text plan g.0 g.1) hs
+texts_alike plan [] [] a = refl
+texts_alike plan (g ∷ gs) (h ∷ hs) (one, more) =
+    ap (λ (l : List ℕ). l ++ flat_map (λ g. game_text plan g.0 g.1) gs) one.texts
+    ∙ ap (λ (l : List ℕ). game_text plan h.0 h.1 ++ l) (texts_alike plan gs hs more)
+texts_alike plan gs hs a = absurd a
+
+-- a game more is counted, or not
+abbrev counted : (ℕ → Outcome) → ℕ → ℕ × GameRecord → ℕ
+counted wanted n g = n + cond (same_outcome g.1.end.outcome (wanted g.0)) 1 0
+
+counts_alike : (plan : GamesPlan) (wanted : ℕ → Outcome) (n : ℕ) (gs hs : List (ℕ × GameRecord)) → Alike plan gs hs
+    → fold (counted wanted) n gs ≡ fold (counted wanted) n hs
+counts_alike plan wanted n [] [] a = refl
+counts_alike plan wanted n (g ∷ gs) (h ∷ hs) (one, more) =
+    counts_alike plan wanted (counted wanted n g) gs hs more
+    ∙ ap (λ (k : ℕ). fold (counted wanted) k hs)
+    (ap (λ (o : Outcome). n + cond (same_outcome o (wanted g.0)) 1 0) one.outcomes
+    ∙ ap (λ (k : ℕ). n + cond (same_outcome h.1.end.outcome (wanted k)) 1 0) one.numbers)
+counts_alike plan wanted n gs hs a = absurd a
+
+module _ (plan : GamesPlan) where
+  all_alike : (number : ℕ) (games games' : List GameRecord)
+      → AllByRecursion (IsOfLog plan) (enumerate_from number games)
+      → AllByRecursion (IsOfLog plan) (enumerate_from number games')
+      → map log_of (enumerate_from number games) ≡ map log_of (enumerate_from number games')
+      → Alike plan (enumerate_from number games) (enumerate_from number games')
+  all_alike number [] [] h k same = tt
+  all_alike number (g ∷ gs) (g' ∷ gs') (h, hs) (k, ks) same =
+      let head : log_of (number, g) ≡ log_of (number, g') = cc in
+      let rest : map log_of (enumerate_from (number + 1) gs) ≡ map log_of (enumerate_from (number + 1) gs') = cc in
+      let p = logs_give_the_pgn plan number g g' h.0 k.0 h.1 k.1 head in (
+        record { numbers = refl; texts = p.0; outcomes = p.1 },
+        all_alike (number + 1) gs gs' hs ks rest,
+      )
+  all_alike number gs gs' h k same = absurd cc
+
+pub logs_give_the_output : LogsGiveTheOutput
+logs_give_the_output plan games games' h k same =
+    let a = all_alike plan 1 games games' h k same in
+    let counts : (wanted : ℕ → Outcome) → count_of wanted games ≡ count_of wanted games' =
+    λ wanted. counts_alike plan wanted 0 (enumerate_from 1 games) (enumerate_from 1 games') a in
+    let score : score_of games ≡ score_of games' = score_is _ _ _ _ _ _ _ _
+    (counts (λ number. win_of (first_side number))) (counts (λ number. win_of (other (first_side number))))
+    (counts (λ number. Draw)) (counts (λ number. Unfinished)) in
+    ap (λ (l : List ℕ). l ++ score_line (score_of games))
+    (texts_alike plan (enumerate_from 1 games) (enumerate_from 1 games') a)
+    ∙ ap (λ (s : Score). game_texts plan games' ++ score_line s) score
+  where
+    score_is : (a a' b b' c c' d d' : ℕ) → a ≡ a' → b ≡ b' → c ≡ c' → d ≡ d'
+        → (let s : Score = record { first = a; second = b; drawn = c; unfinished = d } in s)
+        ≡ (let s : Score = record { first = a'; second = b'; drawn = c'; unfinished = d' } in s)
+    score_is a a' b b' c c' d d' p q r t = rw (p, q, r, t) refl

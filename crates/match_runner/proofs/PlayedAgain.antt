@@ -1,0 +1,304 @@
+-- What a line does to a match by a clock that stands still; and what is sent when it ends the match.
+use Rattle.std.proofs.Common.{◌≡◌, ◌⊎◌, ℕ, ◌+◌, ◌-◌, Bool, true, false, List, [], ◌∷◌, ◌++◌, length, map, refl, ap, sym, ◌∙◌, subst, append_assoc, Option, None, Some, inl, inr, arith}
+use Rattle.std.specs.Option.{option_map_or}
+use Rattle.std.specs.Prelude.{if◌then◌else◌, nat_le, nat_lt, ◌==◌, codes}
+use Rattle.std.proofs.lemmas.Bool.Decides.{nat_tests}
+use Rattle.std.proofs.Math.Path.{fun_ext}
+use Rattle.std.proofs.lemmas.List.{length-map, map-append}
+use Rattle.chess_base.specs.declared.man.Colour.{Colour}
+use Rattle.chess_base.specs.declared.man.Colour.TheVariants.{White, Black}
+use Rattle.chess_base.specs.declared.man.Move.{Move}
+use Rattle.chess_base.specs.Men.{other, same_colour}
+use Rattle.chess_base.specs.Options.{list_if}
+use Rattle.chess_game.specs.declared.verdicts.Verdict.{Verdict}
+use Rattle.cecp_engine.specs.EngineLines.{LineKind, Moves, Resigns, OffersDraw, ClaimsDraw, ClaimsWin, Rejects, Answers}
+use Rattle.cecp_engine.specs.Items.{Item, has_done}
+use Rattle.chess_match.specs.Effects.{Match, Phase, Handshake, Setup, Opening, BeforeMove, AfterMove, Over, Effect, after_move, flag_row, before_move, clock, ends, farewell, handshake_done, handshake_row, ignores, is_owed, items_said, judged, line_row, missing, move_line, move_row, moved, offer_row, ping_number, sends_nothing, sends_to, setup_done, setup_row, turn_row, was_sent_move, with_answers, with_seat}
+use Rattle.chess_match.specs.Acts.{awaits_line, is_over}
+use Rattle.chess_match.specs.Events.{Seat}
+use Rattle.chess_match.specs.Rules.{Rules}
+use Rattle.chess_match.specs.declared.reason.DrawClaim.{DrawClaim}
+use Rattle.chess_match.specs.declared.reason.MatchFault.{MatchFault}
+use Rattle.chess_match.specs.declared.reason.MatchFault.TheVariants.{Flood, NoDone}
+use Rattle.chess_match.specs.declared.reason.Reason.{Reason}
+use Rattle.chess_match.specs.Lines.{SentLine, Says, answers_to, ping}
+use Rattle.chess_match.specs.Reasons.{is_unwritten}
+use Rattle.chess_match.specs.declared.reason.Reason.TheVariants as over_by
+use Rattle.match_runner.specs.laws.ReadBack.{text_of_result}
+
+-- ---- how a match ends
+
+-- whether a match that ended for this reason ended because a flag fell
+abbrev pub ends_by_flag : Reason → Bool
+ends_by_flag (over_by.Forfeits S) = true
+ends_by_flag over_by.ForfeitsToBareKing = true
+ends_by_flag _ = false
+
+-- the line of the result, and `quit`
+abbrev pub last_lines : Reason → List SentLine
+last_lines reason = Says (text_of_result reason) ∷ Says (codes "quit") ∷ []
+
+-- a match that ended for this reason: no write failed, and each side is sent the last lines
+pub record Stops (reason : Reason) (to : Colour → List SentLine) : Type 0 where
+  pub written : (S : Colour) → is_unwritten reason S ≡ false
+  pub last : (S : Colour) → (before : List SentLine) × (to S ≡ before ++ last_lines reason)
+
+stops_at : (r : Rules) (reason : Reason) (m : Match) → ((S : Colour) → is_unwritten reason S ≡ false)
+    → Stops reason (ends r reason m).to
+stops_at r reason m w = record {
+  written = w;
+  last = λ S. (
+    list_if (is_owed m.phase S) (move_line r m S ∷ []),
+    ap (λ (b : Bool). if b then [] else farewell r m reason S) (w S),
+  );
+}
+
+-- ---- a clock that stands still
+
+-- what a match waits for once the lines that open a turn are sent, if the clock always shows 0
+abbrev once_opened : Phase → Phase
+once_opened (Opening S) = BeforeMove S 0
+once_opened phase = phase
+
+-- what is known of an engine whose moves took no time
+abbrev zero : Seat → Seat
+zero s = record s { used = map (λ u. 0) s.used }
+
+-- what a match in this phase waits for, if the clock always shows 0
+abbrev pub waits : Phase → Phase
+waits (Opening S) = BeforeMove S 0
+waits (BeforeMove S opened) = BeforeMove S 0
+waits phase = phase
+
+-- the match `m`, if the clock always shows 0
+abbrev pub again : Match → Match
+again m = record m { phase = waits m.phase; seat = λ S. zero (m.seat S) }
+
+abbrev pub opened : Match → Match
+opened m = record m { phase = once_opened m.phase }
+
+-- no flag fell, and no write failed
+abbrev IsPlain : Reason → Type 0
+IsPlain reason = (ends_by_flag reason ≡ false) × ((S : Colour) → is_unwritten reason S ≡ false)
+
+-- what is done is done again, and no flag falls
+pub record Again (done redone : Effect) : Type 0 where
+  pub same : again done.after ≡ opened redone.after
+  pub stops : (reason : Reason) → done.after.phase ≡ Over reason
+      → (ends_by_flag reason ≡ false) × Stops reason done.to
+
+pub over_again : (r : Rules) (reason : Reason) (m : Match) → IsPlain reason
+    → Again (ends r reason m) (ends r reason (again m))
+over_again r reason m h = record {
+  same = refl;
+  stops = λ reason' e. let same : reason ≡ reason' = cc in
+      subst (λ (x : Reason). (ends_by_flag x ≡ false) × Stops x (ends r reason m).to) same
+      (h.0, stops_at r reason m h.1);
+}
+
+on_again : (done redone : Effect) → again done.after ≡ opened redone.after → is_over done.after.phase ≡ false
+    → Again done redone
+on_again done redone e on = record {
+  same = e;
+  stops = λ reason over. let no : false ≡ true = sym on ∙ ap is_over over in absurd cc;
+}
+
+test_again : (b : Bool) (x x' y y' : Effect) → Again x x' → Again y y'
+    → Again (if b then x else y) (if b then x' else y')
+test_again true x x' y y' h k = h
+test_again false x x' y y' h k = k
+
+-- the same match with other seats
+with_seats : (m : Match) (f g : Colour → Seat) → ((S : Colour) → f S ≡ g S)
+    → (let x : Match = record m { seat = f } in x) ≡ record m { seat = g }
+with_seats m f g e = ap (λ (h : Colour → Seat). let x : Match = record m { seat = h } in x) (fun_ext e)
+
+counted_again : (m : Match) (n : ℕ) → again (record m { count = n }) ≡ opened (record (again m) { count = n })
+counted_again m n = grind arith
+
+-- a change of a seat that has nothing to do with times
+seated_again : (S : Colour) (change : Seat → Seat) (m : Match) → ((s : Seat) → zero (change s) ≡ change (zero s))
+    → again (with_seat S change m) ≡ with_seat S change (again m)
+seated_again S change m e =
+    with_seats (again m) (λ side. zero (if same_colour side S then change (m.seat side) else m.seat side))
+    (λ side. if same_colour side S then change (zero (m.seat side)) else zero (m.seat side))
+    (λ side. grind (arith, e (m.seat side)))
+
+opened_again : (m : Match) → again m ≡ opened (again m)
+opened_again m = grind arith
+
+-- what an engine lacks is no write that failed
+abbrev Lacks : Option MatchFault → Type 0
+Lacks lack = (fault : MatchFault) → lack ≡ Some fault → (c O : Colour)
+    → is_unwritten (over_by.Faulted c fault) O ≡ false
+
+lacks : (r : Rules) (items : List Item) → Lacks (missing r items)
+lacks r items fault h1 c O = grind arith
+
+module _ (r : Rules) (S : Colour) (m : Match) (on : is_over m.phase ≡ false) where
+  ignored : Again (ignores r S m) (ignores r S (again m))
+  ignored = test_again (nat_le 10000 (m.count + 1)) _ _ _ _ (over_again r (over_by.Faulted S Flood) m (refl, λ c. refl))
+      (on_again _ _ (counted_again m (m.count + 1)) on)
+
+  offered : Again (offer_row r S m) (offer_row r S (again m))
+  offered = test_again (m.seat (other S)).offers _ _ _ _ (over_again r over_by.Agreed m (refl, λ c. refl))
+      (test_again (m.seat S).offers _ _ _ _ ignored
+      (on_again _ _ (seated_again S (λ s. record s { offers = true }) m (λ s. refl)
+      ∙ ap (λ (n : Match). with_seat S (λ s. record s { offers = true }) n) (opened_again m)) on))
+
+  in_turn : (kind : LineKind) → Again (turn_row r S kind m) (turn_row r S kind (again m))
+  in_turn Resigns = over_again r (over_by.Resigns S) m (refl, λ c. refl)
+  in_turn OffersDraw = offered
+  in_turn ClaimsDraw = at (r.claim m.played)
+    where
+      at : (c : Option DrawClaim)
+          → Again (option_map_or (λ claim. ends r (over_by.Claimed claim) m) c (offer_row r S m))
+          (option_map_or (λ claim. ends r (over_by.Claimed claim) (again m)) c (offer_row r S (again m)))
+      at (Some c) = over_again r (over_by.Claimed c) m (refl, λ c. refl)
+      at None = offered
+  in_turn (ClaimsWin winner) = at (same_colour winner S)
+    where
+      at : (b : Bool) → Again (ends r (if b then over_by.ClaimsFalsely S else over_by.Resigns S) m)
+          (ends r (if b then over_by.ClaimsFalsely S else over_by.Resigns S) (again m))
+      at true = over_again r (over_by.ClaimsFalsely S) m (refl, λ c. refl)
+      at false = over_again r (over_by.Resigns S) m (refl, λ c. refl)
+  in_turn Rejects =
+      rw (length-map {B = ℕ} (m.seat (other S)).used (λ u. 0))
+      (test_again (was_sent_move m S) _ _ _ _ (over_again r (over_by.RejectsLegalMove S) m (refl, λ c. refl)) ignored)
+  in_turn _ = ignored
+
+  -- the match after a move
+  moved_again : (move : Move) (used : ℕ) → again (moved S move used m) ≡ moved S move 0 (again m)
+  moved_again move used = with_seats (record (again m) { phase = AfterMove S; played = m.played ++ move ∷ [] })
+      (λ side. zero ((moved S move used m).seat side)) (moved S move 0 (again m)).seat
+      (λ side. grind (arith, map-append {B = ℕ} (λ u. 0) (m.seat side).used (used ∷ [])))
+
+  decided_again : (v : Option Verdict) (n : Match) (done redone : Effect) → Again done redone
+      → Again (option_map_or (λ verdict. ends r (over_by.Decided verdict) n) v done)
+      (option_map_or (λ verdict. ends r (over_by.Decided verdict) (again n)) v redone)
+  decided_again (Some v) n done redone h = over_again r (over_by.Decided v) n (refl, λ c. refl)
+  decided_again None n done redone h = h
+
+  before : (used : ℕ) (kind : LineKind) → Again (before_move r S used kind m) (before_move r S 0 kind (again m))
+  before used (Moves t) = test_again (nat_le r.limit (length m.played)) _ _ _ _
+      (over_again r over_by.GameTooLong m (refl, λ c. refl))
+      (at (r.reading m.played t))
+    where
+      at : (move : Option Move) → Again (move_row r S used move m) (move_row r S 0 move (again m))
+      at None = over_again r (over_by.MovesIllegally S) m (refl, λ c. refl)
+      at (Some move) =
+          subst (λ (n : Match). Again (move_row r S used (Some move) m)
+          (option_map_or (λ verdict. ends r (over_by.Decided verdict) n) (r.verdict (m.played ++ move ∷ []))
+          (sends_to S (ping (ping_number n S) ∷ []) n)))
+          (moved_again move used)
+          (decided_again (r.verdict (m.played ++ move ∷ [])) (moved S move used m) _ _ (on_again _ _ refl refl))
+  before used kind = in_turn kind
+
+  after : (kind : LineKind) → Again (after_move r S kind m) (after_move r S kind (again m))
+  after (Moves t) = over_again r (over_by.MovesOutOfTurn S) m (refl, λ c. refl)
+  after (Answers n) =
+      rw (length-map {B = ℕ} (m.seat S).used (λ u. 0))
+      (test_again (n == ping_number m S) _ _ _ _ (on_again _ _ refl refl) ignored)
+  after kind = in_turn kind
+
+  setup : (kind : LineKind) → Again (setup_row r S kind m) (setup_row r S kind (again m))
+  setup (Answers n) = test_again (n == 1) _ _ _ _ (ready S) ignored
+    where
+      ready : (side : Colour) → Again (setup_done r side m) (setup_done r side (again m))
+      ready White = on_again _ _ refl refl
+      ready Black = decided_again (r.verdict m.played) m _ _ (on_again _ _ refl refl)
+  setup _ = ignored
+
+  handshake : (items : List Item) → Again (handshake_row r S items m) (handshake_row r S items (again m))
+  handshake items =
+      subst (λ (n : Match). Again (handshake_row r S items m)
+      (with_answers S items (if has_done items then handshake_done r S n
+      else if nat_le 1000 (m.count + 1) then ends r (over_by.Faulted S NoDone) n
+      else sends_nothing (record n { count = m.count + 1 })))) (seated_again S added m (λ s. refl))
+      (at (has_done items) (nat_le 1000 (m.count + 1)))
+    where
+      added : Seat → Seat
+      added s = record s { items = s.items ++ items }
+
+      met : Match
+      met = with_seat S added m
+
+      faulted : (c : Colour) (fault : MatchFault) → ((O : Colour) → is_unwritten (over_by.Faulted c fault) O ≡ false)
+          → Again (ends r (over_by.Faulted c fault) (record met { count = 0 }))
+          (ends r (over_by.Faulted c fault) (record (again met) { count = 0 }))
+      faulted c fault h = over_again r (over_by.Faulted c fault) (record met { count = 0 }) (refl, h)
+
+      both : (w b : Option MatchFault) → Lacks w → Lacks b → Again (judged r w b met) (judged r w b (again met))
+      both (Some f) b x y = faulted White f (x f refl White)
+      both None (Some f) x y = faulted Black f (y f refl Black)
+      both None None x y = on_again _ _ refl refl
+
+      shaken : (side : Colour) → Again (handshake_done r side met) (handshake_done r side (again met))
+      shaken White = on_again _ _ refl refl
+      shaken Black = both (missing r (met.seat White).items) (missing r (met.seat Black).items)
+          (lacks r (met.seat White).items) (lacks r (met.seat Black).items)
+
+      answered : (done redone : Effect) → Again done redone
+          → Again (with_answers S items done) (with_answers S items redone)
+      answered done redone h = record {
+        same = h.same;
+        stops = λ reason over. let (plain, stops) = h.stops reason over in (
+          plain,
+          record {
+            written = stops.written;
+            last = λ O.
+                let (before, e) = stops.last O in
+                let answers : List SentLine = list_if (same_colour S O) (answers_to items) in (
+                  answers ++ before,
+                  ap (λ (l : List SentLine). answers ++ l) e ∙ sym (append_assoc answers before (last_lines reason)),
+                );
+          },
+        );
+      }
+
+      at : (x y : Bool) → Again (with_answers S items (if x then handshake_done r S met
+          else if y then ends r (over_by.Faulted S NoDone) met else sends_nothing (record met { count = m.count + 1 })))
+          (with_answers S items (if x then handshake_done r S (again met)
+          else if y then ends r (over_by.Faulted S NoDone) (again met)
+          else sends_nothing (record (again met) { count = m.count + 1 })))
+      at true y = answered _ _ (shaken S)
+      at false true = answered _ _ (over_again r (over_by.Faulted S NoDone) met (refl, λ c. refl))
+      at false false = answered _ _ (on_again _ _ (counted_again met (m.count + 1)) on)
+
+-- ---- a line
+
+-- a flag fell, and the match ended for that
+abbrev pub Falls : Match → Effect → Type 0
+Falls m done = (reason : Reason) × (ends_by_flag reason ≡ true) × (done.after ≡ record m { phase = Over reason })
+    × Stops reason done.to
+
+none_less : (n : ℕ) → nat_lt n 0 ≡ false
+none_less n = grind (arith, nat_tests)
+
+flagged : (r : Rules) (S : Colour) (m : Match) → Falls m (flag_row r S m)
+flagged r S m = at (r.has_bare_king m.played (other S))
+  where
+    at : (b : Bool) → Falls m (ends r (if b then over_by.ForfeitsToBareKing else over_by.Forfeits S) m)
+    at true = (over_by.ForfeitsToBareKing, refl, refl, stops_at r over_by.ForfeitsToBareKing m (λ O. refl))
+    at false = (over_by.Forfeits S, refl, refl, stops_at r (over_by.Forfeits S) m (λ O. refl))
+
+timed : (r : Rules) (S : Colour) (used : ℕ) (kind : LineKind) (m : Match) → is_over m.phase ≡ false → (late : Bool)
+    → Falls m (if late then flag_row r S m else before_move r S used kind m)
+    ⊎ Again (if late then flag_row r S m else before_move r S used kind m)
+    (if nat_lt (clock r (again m) S) 0 then flag_row r S (again m) else before_move r S 0 kind (again m))
+timed r S used kind m on true = inl (flagged r S m)
+timed r S used kind m on false = inr (subst (λ (b : Bool). Again (before_move r S used kind m)
+    (if b then flag_row r S (again m) else before_move r S 0 kind (again m)))
+    (sym (none_less (clock r (again m) S))) (before r S m on used kind))
+
+pub line_again : (r : Rules) (S : Colour) (kind : LineKind) (moment : ℕ) (m : Match) (p : Phase)
+    → awaits_line p S ≡ true → is_over m.phase ≡ false
+    → Falls m (line_row r p kind moment m)
+    ⊎ Again (line_row r p kind moment m) (line_row r (waits p) kind 0 (again m))
+line_again r S kind moment m (Handshake c) aw on = inr (handshake r c m on (items_said kind))
+line_again r S kind moment m (Setup c) aw on = inr (setup r c m on kind)
+line_again r S kind moment m (BeforeMove c opened) aw on =
+    timed r c (moment - opened) kind m on (nat_lt (clock r m c) (moment - opened))
+line_again r S kind moment m (AfterMove c) aw on = inr (after r c m on kind)
+line_again r S kind moment m (Opening c) aw on = absurd cc
+line_again r S kind moment m (Over reason) aw on = absurd cc

@@ -1,0 +1,311 @@
+-- What the acts of a match lead to, by what a log shows of them: the moves, the items and the last lines.
+use Rattle.std.proofs.Common.{◌≡◌, ◌⊎◌, ℕ, Bool, true, false, List, [], ◌∷◌, ◌++◌, map, refl, ap, sym, ◌∙◌, subst, append_assoc, inl, inr, arith}
+use Rattle.std.specs.Prelude.{if◌then◌else◌, fold}
+use Rattle.std.specs.List.{AllByRecursion}
+use Rattle.std.proofs.lemmas.List.{map-append}
+use Rattle.chess_base.specs.declared.man.Colour.{Colour}
+use Rattle.chess_base.specs.declared.man.Colour.TheVariants.{White, Black}
+use Rattle.chess_base.specs.Men.{other}
+use Rattle.chess_base.specs.Options.{list_if}
+use Rattle.cecp_engine.specs.EngineLines.{line_kind}
+use Rattle.chess_match.specs.Acts.{Act, Block, Sends, SendFails, Reads, ReadsEnd, ReadFails, ReadsClock, IsMatch, IsMatchFrom, awaits_line, block_of, blocks_after, blocks_from, is_over}
+use Rattle.chess_match.specs.ByDevice.{notes_given}
+use Rattle.chess_match.specs.Effects.{Match, Phase, Opening, Over, beginning, effect, ends, is_owed, move_line}
+use Rattle.chess_match.specs.Events.{Event, Line, Opened, OutputEnds, FailsToRead, FailsToWrite}
+use Rattle.chess_match.specs.Lines.{SentLine, bytes_of}
+use Rattle.chess_match.specs.Notes.{Note, Happened, Gives}
+use Rattle.chess_match.specs.Reasons.{is_unwritten}
+use Rattle.chess_match.specs.Rules.{Rules}
+use Rattle.chess_match.specs.declared.reason.MatchFault.TheVariants.{Ended, Read, Write}
+use Rattle.chess_match.specs.declared.reason.Reason.{Reason}
+use Rattle.chess_match.specs.declared.reason.Reason.TheVariants.{Faulted}
+use Rattle.chess_match.specs.laws.Laws.{events_in}
+use Rattle.match_runner.specs.laws.ReadBack.{events_shown}
+use Rattle.match_runner.proofs.PlayedAgain.{Again, Falls, Stops, again, ends_by_flag, last_lines, line_again, opened, over_again, waits}
+
+-- ---- the last notes
+
+-- the last of these notes is of a block with the last lines at its end
+abbrev pub EndsAs : Reason → List Note → Type 0
+EndsAs reason notes = (before : List Note) × (S : Colour) × (lines : List SentLine)
+    × (notes ≡ before ++ Gives S (bytes_of (lines ++ last_lines reason)) ∷ [])
+
+more_before : (reason : Reason) (more notes : List Note) → EndsAs reason notes → EndsAs reason (more ++ notes)
+more_before reason more notes (before, S, lines, e) = (
+  more ++ before,
+  S,
+  lines,
+  ap (λ (l : List Note). more ++ l) e
+      ∙ sym (append_assoc more before (Gives S (bytes_of (lines ++ last_lines reason)) ∷ [])),
+)
+
+abbrev give : Block → Note
+give b = Gives b.to (bytes_of b.lines)
+
+no_events : (due : List Block) → events_in (map give due) ≡ []
+no_events [] = refl
+no_events (b ∷ due) = no_events due
+
+block_is : (S : Colour) (before : List SentLine) (reason : Reason)
+    → block_of S (before ++ last_lines reason) ≡ record { to = S; lines = before ++ last_lines reason } ∷ []
+block_is S [] reason = refl
+block_is S (l ∷ ls) reason = refl
+
+blocks_end : (reason : Reason) (first : Colour) (to : Colour → List SentLine) → Stops reason to
+    → EndsAs reason (map give (blocks_from first to))
+blocks_end reason first to h =
+    let (before, e) = h.last (other first) in
+    let last : Block = record { to = other first; lines = before ++ last_lines reason } in (
+      map give (block_of first (to first)),
+      other first,
+      before,
+      ap (λ (ls : List SentLine). map give (block_of first (to first) ++ block_of (other first) ls)) e
+          ∙ ap (λ (bs : List Block). map give (block_of first (to first) ++ bs)) (block_is (other first) before reason)
+          ∙ map-append give (block_of first (to first)) (last ∷ []),
+    )
+
+-- none of these blocks is for a side to which a write ended the match
+abbrev AreWritten : Reason → List Block → Type 0
+AreWritten reason due = AllByRecursion (λ b. is_unwritten reason b.to ≡ false) due
+
+all_written : (reason : Reason) (due : List Block) → ((S : Colour) → is_unwritten reason S ≡ false)
+    → AreWritten reason due
+all_written reason [] w = tt
+all_written reason (b ∷ due) w = (w b.to, all_written reason due w)
+
+-- after a failed write only the other side is sent the end
+other_block : (r : Rules) (m : Match) (c : Colour)
+    → blocks_from White (ends r (Faulted c Write) m).to ≡ record {
+      to = other c;
+      lines = list_if (is_owed m.phase (other c)) (move_line r m (other c) ∷ []) ++ last_lines (Faulted c Write);
+    } ∷ []
+other_block r m White =
+    block_is Black (list_if (is_owed m.phase Black) (move_line r m Black ∷ [])) (Faulted White Write)
+other_block r m Black = ap (λ (bs : List Block). bs ++ [])
+    (block_is White (list_if (is_owed m.phase White) (move_line r m White ∷ [])) (Faulted Black Write))
+
+other_written : (c : Colour) → is_unwritten (Faulted c Write) (other c) ≡ false
+other_written c = grind arith
+
+own_unwritten : (c : Colour) → is_unwritten (Faulted c Write) c ≡ true
+own_unwritten c = grind arith
+
+-- ---- a match that is over
+
+not_over : {A : Type 0} (b : Bool) → b ≡ true → b ≡ false → A
+not_over true e h = absurd cc
+not_over false e h = absurd cc
+
+on_when_read : (p : Phase) (S : Colour) → awaits_line p S ≡ true → is_over p ≡ false
+on_when_read p S h1 = grind arith
+
+which : (p : Phase) → is_over p ≡ true → (reason : Reason) × (p ≡ Over reason)
+which (Over reason) h = (reason, refl)
+which _ h = absurd cc
+
+-- a match that is over stays so, and what is due is given
+abbrev Rests : Reason → Match → Match → List Block → List Note → Type 0
+Rests reason final m due notes = (final ≡ m) × (AreWritten reason due → notes ≡ map give due)
+
+sent_more : (b s : Block) (l l' : List Note) → b ≡ s → l ≡ l' → Gives s.to (bytes_of s.lines) ∷ l ≡ give b ∷ l'
+sent_more b s l l' q e = ap (λ (x : Block). give x ∷ l) (sym q) ∙ ap (λ (l : List Note). give b ∷ l) e
+
+unsent_more : (reason : Reason) (b s : Block) (l l' : List Note) → b ≡ s → is_unwritten reason b.to ≡ false → l ≡ l'
+    → Gives s.to (bytes_of s.lines)
+    ∷ (list_if (is_unwritten reason s.to) (Happened (FailsToWrite s.to) ∷ []) ++ l) ≡ give b ∷ l'
+unsent_more reason b s l l' q w e =
+    ap (λ (x : Block). give x ∷ (list_if (is_unwritten reason x.to) (Happened (FailsToWrite x.to) ∷ []) ++ l)) (sym q)
+    ∙ ap (λ (x : Bool). give b ∷ (list_if x (Happened (FailsToWrite b.to) ∷ []) ++ l)) w
+    ∙ ap (λ (l : List Note). give b ∷ l) e
+
+-- ---- a match that is on
+
+-- this event, if the clock always shows 0
+abbrev at_zero : Event → Event
+at_zero (Line S text moment) = Line S text 0
+at_zero e = e
+
+-- the match after an event that is shown
+abbrev step : Rules → Match → Event → Match
+step r m e = opened (effect r m (at_zero e)).after
+
+-- these events but the last, if a flag fell at that
+abbrev in_time : Bool → List Event → List Event
+in_time late [] = []
+in_time late (e ∷ []) = if late then [] else e ∷ []
+in_time late (e ∷ f ∷ es) = e ∷ in_time late (f ∷ es)
+
+-- the match after these events, which are shown
+abbrev pub replayed : Rules → Reason → Match → List Event → Match
+replayed r reason m es = fold (step r) m (in_time (ends_by_flag reason) es)
+
+abbrev Same : Match → Match → Type 0
+Same final n = (final.played ≡ n.played) × ((S : Colour) → (final.seat S).items ≡ (n.seat S).items)
+
+-- the match that is played again from what the notes show has the moves and the items of the end; and the last notes
+pub record Goes (r : Rules) (reason : Reason) (final m : Match) (notes : List Note) : Type 0 where
+  pub last : EndsAs reason notes
+  pub some : (e : Event) × (es : List Event) × (events_shown (events_in notes) ≡ e ∷ es)
+  pub same : Same final (replayed r reason (again m) (events_shown (events_in notes)))
+
+-- what a match and its notes lead to, if it is over, and if it is not
+abbrev Leads : Rules → Reason → Match → Match → List Block → List Note → Type 0
+Leads r reason final m due notes =
+    (is_over m.phase ≡ true → Rests reason final m due notes) × (is_over m.phase ≡ false → Goes r reason final m notes)
+
+module _ (r : Rules) (reason : Reason) (final : Match) (over : final.phase ≡ Over reason) where
+  -- the match ended for this event
+  ended : (m : Match) (e : Event) (first : Colour) (x : Reason) (notes : List Note)
+      → ((es : List Event) → events_shown (e ∷ es) ≡ e ∷ events_shown es) → (effect r m e).after.phase ≡ Over x
+      → Stops x (effect r m e).to
+      → Rests reason final (effect r m e).after (blocks_from first (effect r m e).to) notes
+      → (x ≡ reason → final ≡ (effect r m e).after
+      → Same final (fold (step r) (again m) (in_time (ends_by_flag reason) (e ∷ []))))
+      → Goes r reason final m (Happened e ∷ notes)
+  ended m e first x notes shown p stops (is, given) same =
+      let both : Over x ≡ Over reason = sym p ∙ ap (λ (n : Match). n.phase) (sym is) ∙ over in
+      let same_reason : x ≡ reason = cc in
+      let stops' = subst (λ (y : Reason). Stops y (effect r m e).to) same_reason stops in
+      let due = blocks_from first (effect r m e).to in
+      let all = given (all_written reason due stops'.written) in
+      let only : events_shown (events_in (Happened e ∷ notes)) ≡ e ∷ [] =
+      shown (events_in notes) ∙ ap (λ (es : List Event). e ∷ events_shown es) (ap events_in all ∙ no_events due) in
+      record {
+        last = more_before reason (Happened e ∷ []) notes
+            (subst (EndsAs reason) (sym all) (blocks_end reason first (effect r m e).to stops'));
+        some = (e, [], only);
+        same = subst (λ (es : List Event). Same final (replayed r reason (again m) es)) (sym only)
+            (same same_reason is);
+      }
+
+  -- it did not
+  went_on : (m : Match) (e : Event) (notes : List Note)
+      → ((es : List Event) → events_shown (e ∷ es) ≡ e ∷ events_shown es)
+      → again (effect r m e).after ≡ step r (again m) e → Goes r reason final (effect r m e).after notes
+      → Goes r reason final m (Happened e ∷ notes)
+  went_on m e notes shown is g =
+      let (f, es, more) = g.some in
+      let all : events_shown (events_in (Happened e ∷ notes)) ≡ e ∷ f ∷ es =
+      shown (events_in notes) ∙ ap (λ (l : List Event). e ∷ l) more in
+      record {
+        last = more_before reason (Happened e ∷ []) notes g.last;
+        some = (e, f ∷ es, all);
+        same = subst (λ (l : List Event). Same final (replayed r reason (again m) l)) (sym all)
+            (subst (λ (n : Match). Same final (replayed r reason n (f ∷ es))) is
+            (subst (λ (l : List Event). Same final (replayed r reason (again (effect r m e).after) l)) more g.same));
+      }
+
+  shown_event : (m : Match) (e : Event) (first : Colour) (notes : List Note)
+      → ((es : List Event) → events_shown (e ∷ es) ≡ e ∷ events_shown es)
+      → Falls m (effect r m e) ⊎ Again (effect r m e) (effect r (again m) (at_zero e))
+      → Leads r reason final (effect r m e).after (blocks_from first (effect r m e).to) notes
+      → Goes r reason final m (Happened e ∷ notes)
+  shown_event m e first notes shown (inl (x, flag, is, stops)) g =
+      let p : (effect r m e).after.phase ≡ Over x = ap (λ (n : Match). n.phase) is in
+      ended m e first x notes shown p stops (g.0 (ap is_over p)) (λ q end.
+      subst (λ (b : Bool). Same final (fold (step r) (again m) (in_time b (e ∷ []))))
+      (sym (ap ends_by_flag (sym q) ∙ flag))
+      (ap (λ (n : Match). n.played) (end ∙ is), λ S. ap (λ (n : Match). (n.seat S).items) (end ∙ is)))
+  shown_event m e first notes shown (inr h) g = at (is_over (effect r m e).after.phase) refl
+    where
+      at : (b : Bool) → is_over (effect r m e).after.phase ≡ b → Goes r reason final m (Happened e ∷ notes)
+      at true o =
+          let (x, p) = which (effect r m e).after.phase o in
+          let (plain, stops) = h.stops x p in
+          ended m e first x notes shown p stops (g.0 o) (λ q end.
+          subst (λ (b : Bool). Same final (fold (step r) (again m) (in_time b (e ∷ []))))
+          (sym (ap ends_by_flag (sym q) ∙ plain))
+          (subst (λ (n : Match). Same final n) (ap (λ (n : Match). again n) end ∙ h.same) (refl, λ S. refl)))
+      at false on = went_on m e notes shown h.same (g.1 on)
+
+  -- a write failed
+  unwritten : (m : Match) (s : Block) (notes : List Note)
+      → Rests reason final (effect r m (FailsToWrite s.to)).after
+      (blocks_from White (effect r m (FailsToWrite s.to)).to) notes
+      → Goes r reason final m
+      (give s ∷ (list_if (is_unwritten reason s.to) (Happened (FailsToWrite s.to) ∷ []) ++ notes))
+  unwritten m s notes (is, given) =
+      let both : Over (Faulted s.to Write) ≡ Over reason = ap (λ (n : Match). n.phase) (sym is) ∙ over in
+      let same : Faulted s.to Write ≡ reason = cc in
+      let mine : is_unwritten reason s.to ≡ true =
+      ap (λ (x : Reason). is_unwritten x s.to) (sym same) ∙ own_unwritten s.to in
+      let timely : ends_by_flag reason ≡ false = ap ends_by_flag (sym same) in
+      let before = list_if (is_owed m.phase (other s.to)) (move_line r m (other s.to) ∷ []) in
+      let all : notes ≡ Gives (other s.to) (bytes_of (before ++ last_lines reason)) ∷ [] =
+      given (subst (AreWritten reason) (sym (other_block r m s.to))
+      (ap (λ (x : Reason). is_unwritten x (other s.to)) (sym same) ∙ other_written s.to, tt))
+      ∙ ap (λ (l : List Block). map give l) (other_block r m s.to)
+      ∙ ap (λ (x : Reason). Gives (other s.to) (bytes_of (before ++ last_lines x)) ∷ []) same in
+      rw (mine, all) (record {
+        last = (give s ∷ Happened (FailsToWrite s.to) ∷ [], other s.to, before, refl);
+        some = (FailsToWrite s.to, [], refl);
+        same = subst (λ (x : Bool). Same final (fold (step r) (again m) (in_time x (FailsToWrite s.to ∷ []))))
+            (sym timely) (ap (λ (n : Match). n.played) is, λ S. ap (λ (n : Match). (n.seat S).items) is);
+      })
+
+  on_opened : (m : Match) (S : Colour) (k : ℕ) → m.phase ≡ Opening S
+      → again (effect r m (Opened S k)).after ≡ again m
+  on_opened m S k o = ap (λ (p : Phase). let x : Match = record (again m) { phase = p } in x) (sym (ap waits o))
+
+  -- after a block could not be sent
+  abbrev Broken : Match → List Block → Block → List Act → Bool → Type 0
+  Broken m due s H x =
+      let n : Match × List Block = if x then (m, due)
+      else ((effect r m (FailsToWrite s.to)).after, blocks_from White (effect r m (FailsToWrite s.to)).to) in
+      IsMatchFrom r n.0 n.1 H final
+
+  awaiting : (m : Match) (S : Colour) (due : List Block) (notes : List Note) → awaits_line m.phase S ≡ true
+      → is_over m.phase ≡ true → Rests reason final m due notes
+  awaiting m S due notes aw o = not_over (is_over m.phase) o (on_when_read m.phase S aw)
+
+  leads : (m : Match) (due : List Block) (H : List Act) → IsMatchFrom r m due H final
+      → Leads r reason final m due (notes_given reason H)
+  leads m (b ∷ due) (Sends s ∷ H) (q, g) = let p = leads m due H g in (
+    λ o. let (e, n) = p.0 o in (e, λ w. sent_more b s _ _ q (n w.1)),
+    λ on. record {
+      last = more_before reason (give s ∷ []) (notes_given reason H) (p.1 on).last;
+      some = (p.1 on).some;
+      same = (p.1 on).same;
+    },
+  )
+  leads m (b ∷ due) (SendFails s ∷ H) (q, g) = (
+    λ o. let (e, n) = (leads m due H (subst (Broken m due s H) o g)).0 o in
+        (e, λ w. unsent_more reason b s _ _ q w.0 (n w.1)),
+    λ on. unwritten m s (notes_given reason H) ((leads (effect r m (FailsToWrite s.to)).after
+        (blocks_from White (effect r m (FailsToWrite s.to)).to) H (subst (Broken m due s H) on g)).0 refl),
+  )
+  leads m [] (Reads S t ∷ ReadsClock c k ∷ H) (q, aw, g) = (
+    awaiting m S [] _ aw,
+    λ on. shown_event m (Line S t k) (if is_over (effect r m (Line S t k)).after.phase then White else S)
+        (notes_given reason H) (λ es. refl) (line_again r S (line_kind t) k m m.phase aw on)
+        (leads (effect r m (Line S t k)).after (blocks_after S (effect r m (Line S t k))) H g),
+  )
+  leads m [] (ReadsClock S k ∷ H) (o, g) = let p = (leads (effect r m (Opened S k)).after [] H g).1 refl in (
+    λ over. not_over (is_over m.phase) over (ap is_over o),
+    λ on. record {
+      last = more_before reason (Happened (Opened S k) ∷ []) (notes_given reason H) p.last;
+      some = p.some;
+      same = let es : List Event = events_shown (events_in (notes_given reason H)) in
+          subst (λ (n : Match). Same final (replayed r reason n es)) (on_opened m S k o) p.same;
+    },
+  )
+  leads m [] (ReadsEnd S ∷ H) (aw, g) = (
+    awaiting m S [] _ aw,
+    λ on. shown_event m (OutputEnds S) White (notes_given reason H) (λ es. refl)
+        (inr (over_again r (Faulted S Ended) m (refl, λ O. refl)))
+        (leads (effect r m (OutputEnds S)).after (blocks_from White (effect r m (OutputEnds S)).to) H g),
+  )
+  leads m [] (ReadFails S ∷ H) (aw, g) = (
+    awaiting m S [] _ aw,
+    λ on. shown_event m (FailsToRead S) White (notes_given reason H) (λ es. refl)
+        (inr (over_again r (Faulted S Read) m (refl, λ O. refl)))
+        (leads (effect r m (FailsToRead S)).after (blocks_from White (effect r m (FailsToRead S)).to) H g),
+  )
+  leads m [] [] (o, e) = (λ over. (e, λ w. refl), λ on. not_over (is_over m.phase) o on)
+  leads m due H g = absurd g
+
+-- a whole match
+pub match_goes : (r : Rules) (reason : Reason) (H : List Act) (final : Match) → IsMatch r H final
+    → final.phase ≡ Over reason → Goes r reason final beginning.after (notes_given reason H)
+match_goes r reason H final g over =
+    (leads r reason final over beginning.after (blocks_from White beginning.to) H g).1 refl

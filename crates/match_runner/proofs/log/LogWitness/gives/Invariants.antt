@@ -1,0 +1,17 @@
+use Rattle.std.proofs.Common.{◌≡◌, ℕ, List, ◌++◌, length}
+use Rattle.chess_match.specs.Notes.{Gives}
+use Rattle.match_runner.specs.Log.{Logged, entries_text, log_seen, note_entries}
+use Rattle.match_runner.proofs.log.LogWitness.gives.Given as goal
+
+-- what was logged, with what is left, is all of it
+abbrev pub invariant-loop-rest : goal.invariant-loop-rest
+invariant-loop-rest g l =
+    (done : List ℕ)
+    × Logged (log_seen (g.E.Output.seen l.fn.self.output) l.fn.self.broken)
+    (log_seen (g.E.Output.seen l.self.output) l.self.broken) done
+    × (done ++ entries_text (note_entries l.fn.self.first l.fn.self.moment (Gives l.side l.rest))
+    ≡ entries_text (note_entries l.fn.self.first l.fn.self.moment (Gives l.side l.text)))
+    × (l.self.first ≡ l.fn.self.first) × (l.self.moment ≡ l.fn.self.moment)
+
+abbrev pub decreases-loop-rest : goal.decreases-loop-rest
+decreases-loop-rest g l = length l.rest
