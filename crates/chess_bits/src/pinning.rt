@@ -108,9 +108,8 @@ impl Bits<'_> {
     {
         let _king = king.number();
         let men = self.sets.of(self.setup.side.other());
-        let queens = men.of(Kind::Queen);
-        let straight = men.of(Kind::Rook).union(queens);
-        let aslant = men.of(Kind::Bishop).union(queens);
+        let straight = men.with_queens(Kind::Rook);
+        let aslant = men.with_queens(Kind::Bishop);
         let on_lines = straight.intersection(self.tables.at(Shape::Lines, king));
         on_lines.union(aslant.intersection(self.tables.at(Shape::Diagonals, king)))
     }
