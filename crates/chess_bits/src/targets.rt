@@ -56,7 +56,8 @@ impl Bits<'_> {
 
     // The four squares of the castling that the move `m` is, if the king of the side on move makes it; else `None`. The
     // caller knows that the right on that side is there, with the rook on `rook`, and that `m` ends where such a
-    // castling does.
+    // castling does. `castle_of` would ask for the side again, and `castle_from`, which gives these squares for a known
+    // side, is private in chess_base.
     fn castle_to(&self, m: &Move, castling_side: CastlingSide, rook: Square) -> Option<Castle>
         requires right { right_of (self.now).rights (self.now).side castling_side ≡ Some rook }
         requires end { m.now.to ≡ castling_end (self.now).variant (self.now).side castling_side rook }
@@ -92,6 +93,7 @@ impl Bits<'_> {
         requires { right_of (self.now).rights (self.now).side castling_side ≡ Some rook }
         ensures { (k : ℕ) → k < 64 → contains result k ≡ castles_onto self.now castling_side king k }
     {
+        // chess_base's `names_castling` knows this square too, but only tests a move's squares, and is private there.
         let to = match self.setup.variant {
             Variant::Normal => home_square(self.setup.side, castled_king_file(castling_side)),
             Variant::Fischerandom => rook,

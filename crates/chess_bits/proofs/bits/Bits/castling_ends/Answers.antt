@@ -1,7 +1,4 @@
-use Rattle.std.proofs.Common.{◌||◌, ap, ◌∙◌}
-use Rattle.chess_base.specs.declared.man.CastlingSide.TheVariants.{KingSide}
-use Rattle.chess_bits.specs.ties.Goes.{castles_onto}
-use Rattle.chess_moves.specs.Sets.{contains}
+use Rattle.std.proofs.Common.{◌∙◌}
 use Rattle.chess_bits.proofs.TargetsOf.{to_either_side}
 use Rattle.chess_bits.proofs.bits.Bits.castling_ends.Goals as goal
 
