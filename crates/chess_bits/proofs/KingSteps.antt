@@ -1,4 +1,5 @@
 -- Where a king steps, and when it is safe there.
+use mathlib.Core.Bool.{or-false}
 use Rattle.std.proofs.Common.{◌≡◌, ℕ, ◌<◌, inl, inr, Bool, true, false, not, ◌&&◌, ◌||◌, ◌==◌, Option, Some, None, refl, sym, ap, ◌∙◌, arith}
 use Rattle.std.proofs.lemmas.Bool.{and_from, and_parts, and_right, both_ways, cases_Bool, eqb-true, eq-eqb, false_from_ne_true}
 use Rattle.std.proofs.lemmas.Bool.Decides.{nat_tests}
@@ -33,7 +34,7 @@ use Rattle.chess_bits.proofs.Lifted.{lifted_at}
 use Rattle.chess_bits.proofs.Listed.{unpromoted}
 use Rattle.chess_bits.proofs.Patterns.{man_sound, not_promoting}
 use Rattle.chess_bits.proofs.Quiet.{lands_same, plain_after, plain_by, not_passing}
-use Rattle.chess_bits.proofs.TargetsOf.{man_told, none_castles, own_colour, steps_of_man}
+use Rattle.chess_bits.proofs.TargetsOf.{man_told, none_castles, steps_of_man}
 
 -- ---- a square is attacked from elsewhere: what is on it doesn't count
 
@@ -159,24 +160,20 @@ step_no_castling p a b sound king moves =
     none_castles p (move_of a b None) (not_said p a b KingSide sound parts.0 parts.1)
     (not_said p a b QueenSide sound parts.0 parts.1)
 
-king_told : (c : Colour) (x : Man) (o : Option Man) → o ≡ Some x → is_of c o ≡ true → same_kind King x.kind ≡ true
+pub king_told : (c : Colour) (x : Man) (o : Option Man) → o ≡ Some x → is_of c o ≡ true → same_kind King x.kind ≡ true
     → is_man c King o ≡ true
 unfolding is_of is_man
 king_told c x o at own king = rw at (and_from (same_colour c x.colour) (same_kind King x.kind) (rw at at own) king)
 
--- a king goes by a step or by legal castling, since no step is castling
+-- a king goes by legal castling or by a step, since no step is castling
 pub king_goes : (p : Setup) (a b : ℕ) (x : Man) (step : Bool) → IsSound p → man_at p.men a ≡ Some x
-    → is_of p.side (man_at p.men a) ≡ true → same_kind King x.kind ≡ true
-    → step ≡ (could_capture p.men p.side x.kind a b && not (is_of p.side (man_at p.men b)))
-    → (step || legal_or p (move_of a b None) (castle_of p (move_of a b None)) false) ≡ man_goes p a b
-king_goes p a b x step sound at own king steps =
-    by step (steps ∙ sym (steps_of_man p a b x at (own_colour p.side x (man_at p.men a) at own)))
-  where
-    by : (s : Bool) → s ≡ man_moves p (move_of a b None)
-        → (s || legal_or p (move_of a b None) (castle_of p (move_of a b None)) false) ≡ man_goes p a b
-    by true e = e ∙ sym (ap (λ o. legal_or p (move_of a b None) o (man_moves p (move_of a b None)))
-        (step_no_castling p a b sound (king_told p.side x (man_at p.men a) at own king) (sym e)))
-    by false e = ap (legal_or p (move_of a b None) (castle_of p (move_of a b None))) e
+    → is_of p.side (man_at p.men a) ≡ true → same_kind King x.kind ≡ true → step ≡ man_moves p (move_of a b None)
+    → (legal_or p (move_of a b None) (castle_of p (move_of a b None)) false || step) ≡ man_goes p a b
+king_goes p a b x true sound at own king steps =
+    let none = step_no_castling p a b sound (king_told p.side x (man_at p.men a) at own king) (sym steps) in
+    rw none steps
+king_goes p a b x false sound at own king steps =
+    or-false _ ∙ ap (legal_or p (move_of a b None) (castle_of p (move_of a b None))) steps
 
 -- ---- a step is legal where the square isn't attacked once the king has left his own
 

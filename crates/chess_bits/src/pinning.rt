@@ -106,8 +106,6 @@ impl Bits<'_> {
     fn pinners(&self, king: Square) -> SquareSet
         ensures { (b : ℕ) → b < 64 → contains result b ≡ aims_from self.now b king }
     {
-        // The prover wants this fact: the number of the king's square is below 64.
-        let _king = king.number();
         let men = self.sets.of(self.setup.side.other());
         let straight = men.with_queens(Kind::Rook);
         let aslant = men.with_queens(Kind::Bishop);

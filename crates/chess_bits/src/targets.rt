@@ -139,12 +139,10 @@ impl Bits<'_> {
         let Some(man) = self.setup.men[from.index()] else {
             return SquareSet::empty();
         };
-        let kind = man.kind;
-        let steps = self.steps(kind, from);
-        if !is_king(kind) {
-            return steps;
+        if is_king(man.kind) {
+            return self.castling_ends(from).union(self.steps(Kind::King, from));
         }
-        steps.union(self.castling_ends(from))
+        self.steps(man.kind, from)
     }
 
     // The squares, one or two, to which the pawn on `from` may go straight ahead.
