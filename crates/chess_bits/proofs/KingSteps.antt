@@ -1,6 +1,7 @@
 -- Where a king steps, and when it is safe there.
-use Rattle.std.proofs.Common.{◌≡◌, ℕ, ◌<◌, inl, inr, Bool, true, false, not, ◌&&◌, ◌==◌, Option, Some, None, refl, sym, ap, ◌∙◌, arith}
-use Rattle.std.proofs.lemmas.Bool.{and_parts, and_right, both_ways, cases_Bool, eqb-true, eq-eqb, false_from_ne_true}
+use mathlib.Core.Bool.{or-false}
+use Rattle.std.proofs.Common.{◌≡◌, ℕ, ◌<◌, inl, inr, Bool, true, false, not, ◌&&◌, ◌||◌, ◌==◌, Option, Some, None, refl, sym, ap, ◌∙◌, arith}
+use Rattle.std.proofs.lemmas.Bool.{and_from, and_parts, and_right, both_ways, cases_Bool, eqb-true, eq-eqb, false_from_ne_true}
 use Rattle.std.proofs.lemmas.Bool.Decides.{nat_tests}
 use Rattle.std.specs.Int.{abs_diff}
 use Rattle.chess_base.specs.declared.man.CastlingSide.{CastlingSide}
@@ -17,7 +18,7 @@ use Rattle.chess_base.specs.Attacks.{is_clear, could_capture, attacks, is_attack
 use Rattle.chess_base.specs.shared.Splits.{could_capture_as, names_castling}
 use Rattle.chess_base.specs.Castling.{home_square, king_home_file, castled_king_file, right_of, is_castling_to, castle_of, mover_end}
 use Rattle.chess_base.specs.Before.{mover_to}
-use Rattle.chess_base.specs.Men.{Men, man_at, other, is_of, is_man}
+use Rattle.chess_base.specs.Men.{Men, man_at, other, is_of, is_man, same_colour, same_kind}
 use Rattle.chess_base.specs.MoveList.{move_of}
 use Rattle.chess_base.specs.Moves.{is_pseudo_legal, is_legal, is_en_passant, man_moves, men_after}
 use Rattle.chess_base.specs.Sound.{IsSound}
@@ -26,7 +27,7 @@ use Rattle.chess_base.proofs.shared.Castling.{right_is_sound_of, castling_rook_i
 use Rattle.chess_base.proofs.shared.Men.{is_of-from_is_man, is_man-kind}
 use Rattle.chess_base.proofs.shared.Squares.{each_square_same, some_square_same}
 use Rattle.chess_moves.specs.Promoting.{would_promote}
-use Rattle.chess_bits.specs.ties.Goes.{goes, legal_or, lifted}
+use Rattle.chess_bits.specs.ties.Goes.{goes, legal_or, lifted, man_goes}
 use Rattle.chess_bits.proofs.Attackers.{eq_back}
 use Rattle.chess_bits.proofs.KingAfter.{king_lands, check_after, legal_is}
 use Rattle.chess_bits.proofs.Lifted.{lifted_at}
@@ -158,6 +159,21 @@ step_no_castling p a b sound king moves =
     let parts = step_parts p a b king moves in
     none_castles p (move_of a b None) (not_said p a b KingSide sound parts.0 parts.1)
     (not_said p a b QueenSide sound parts.0 parts.1)
+
+pub king_told : (c : Colour) (x : Man) (o : Option Man) → o ≡ Some x → is_of c o ≡ true → same_kind King x.kind ≡ true
+    → is_man c King o ≡ true
+unfolding is_of is_man
+king_told c x o at own king = rw at (and_from (same_colour c x.colour) (same_kind King x.kind) (rw at at own) king)
+
+-- a king goes by legal castling or by a step, since no step is castling
+pub king_goes : (p : Setup) (a b : ℕ) (x : Man) (step : Bool) → IsSound p → man_at p.men a ≡ Some x
+    → is_of p.side (man_at p.men a) ≡ true → same_kind King x.kind ≡ true → step ≡ man_moves p (move_of a b None)
+    → (legal_or p (move_of a b None) (castle_of p (move_of a b None)) false || step) ≡ man_goes p a b
+king_goes p a b x true sound at own king steps =
+    let none = step_no_castling p a b sound (king_told p.side x (man_at p.men a) at own king) (sym steps) in
+    rw none steps
+king_goes p a b x false sound at own king steps =
+    or-false _ ∙ ap (legal_or p (move_of a b None) (castle_of p (move_of a b None))) steps
 
 -- ---- a step is legal where the square isn't attacked once the king has left his own
 

@@ -2,7 +2,6 @@
 use Rattle.chess_base.proofs.shared.Changes.{no_castling}
 use mathlib.Core.Bool.{and-false, and-true, or-false}
 use Rattle.std.proofs.Common.{◌≡◌, ℕ, ◌+◌, ◌-◌, ◌<◌, ◌≤◌, inl, inr, nat_le, Bool, true, false, not, ◌&&◌, ◌||◌, ◌==◌, Option, Some, None, is_none, refl, sym, ap, subst, ◌∙◌, arith}
-use Rattle.std.specs.Prelude.{if◌then◌else◌}
 use Rattle.std.proofs.lemmas.Bool.Decides.{nat_tests}
 use Rattle.std.proofs.lemmas.Bool.{and_parts, and_right, both_ways, cases_Bool, cases_eq, eqb-true, eq-eqb, ne_eqb}
 use Rattle.chess_base.specs.declared.castling.Castle.{Castle}
@@ -29,12 +28,12 @@ use Rattle.chess_base.proofs.shared.Castling.{no_castle}
 use Rattle.chess_base.proofs.shared.Men.{same_colour-self, same_colour-true, same_kind-true}
 use Rattle.chess_moves.specs.Sets.{contains}
 use Rattle.chess_moves.proofs.shared.LegalMoves.{own_man_moves}
-use Rattle.chess_bits.specs.ties.Goes.{goes, IsAhead, names_end, legal_or, castling_or, man_goes}
+use Rattle.chess_bits.specs.ties.Goes.{goes, IsAhead, names_end, castles_onto, legal_or, man_goes}
 use Rattle.chess_bits.proofs.Patterns.{pawn_goes, legal_goes, man_sound, man_complete}
 
 -- ---- officers
 
-own_colour : (c : Colour) (x : Man) (o : Option Man) → o ≡ Some x → is_of c o ≡ true → x.colour ≡ c
+pub own_colour : (c : Colour) (x : Man) (o : Option Man) → o ≡ Some x → is_of c o ≡ true → x.colour ≡ c
 unfolding is_of
 own_colour c x o at own = let own' : same_colour c x.colour ≡ true = rw at at own in
     sym (same_colour-true c x.colour own')
@@ -85,31 +84,21 @@ not_said p a b w h =
     (names_castling p.variant p.side (move_of a b None) w (right_of p.rights p.side w))
     (not_named p.variant p.side a b w (right_of p.rights p.side w) h)
 
-told : (p : Setup) (m : Move) (o : Option Castle) (k q s : Bool) → (k ≡ false → q ≡ false → o ≡ None)
-    → (if k then legal_or p m o (if q then legal_or p m o s else s) else (if q then legal_or p m o s else s))
-    ≡ legal_or p m o s
-told p m None k q s h = grind arith
-told p m (Some x) true q s h = refl
-told p m (Some x) false true s h = refl
-told p m (Some x) false false s h = let none = h refl refl in absurd cc
+told : (p : Setup) (m : Move) (o : Option Castle) (k q : Bool) → (k ≡ false → q ≡ false → o ≡ None)
+    → ((q && legal_or p m o false) || (k && legal_or p m o false)) ≡ legal_or p m o false
+told p m None k q h = grind arith
+told p m (Some x) true q h = grind arith
+told p m (Some x) false true h = grind arith
+told p m (Some x) false false h = let none = h refl refl in absurd cc
 
--- corrected for castling to both sides
-pub corrected : (p : Setup) (a b : ℕ) (s f t : Bool) → f ≡ castling_or p QueenSide a b s
-    → t ≡ castling_or p KingSide a b f → t ≡ legal_or p (move_of a b None) (castle_of p (move_of a b None)) s
-corrected p a b s f t far near =
-    near ∙ ap (castling_or p KingSide a b) far
-    ∙ told p (move_of a b None) (castle_of p (move_of a b None))
+-- castling to one side or the other
+pub to_either_side : (p : Setup) (a b : ℕ) → (castles_onto p QueenSide a b || castles_onto p KingSide a b)
+    ≡ legal_or p (move_of a b None) (castle_of p (move_of a b None)) false
+to_either_side p a b =
+    told p (move_of a b None) (castle_of p (move_of a b None))
     (names_end p.variant p.side KingSide (right_of p.rights p.side KingSide) b)
-    (names_end p.variant p.side QueenSide (right_of p.rights p.side QueenSide) b) s
+    (names_end p.variant p.side QueenSide (right_of p.rights p.side QueenSide) b)
     (λ k q. none_castles p (move_of a b None) (not_said p a b KingSide k) (not_said p a b QueenSide q))
-
-pub king_is : (p : Setup) (a b : ℕ) (x : Man) (s f t : Bool) → man_at p.men a ≡ Some x
-    → is_of p.side (man_at p.men a) ≡ true
-    → s ≡ (could_capture p.men p.side x.kind a b && not (is_of p.side (man_at p.men b)))
-    → f ≡ castling_or p QueenSide a b s → t ≡ castling_or p KingSide a b f → t ≡ man_goes p a b
-king_is p a b x s f t at own steps far near =
-    corrected p a b s f t far near ∙ ap (legal_or p (move_of a b None) (castle_of p (move_of a b None)))
-    (steps ∙ sym (steps_of_man p a b x at (own_colour p.side x (man_at p.men a) at own)))
 
 -- ---- pawns
 

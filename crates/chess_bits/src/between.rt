@@ -31,8 +31,9 @@ pub struct BetweenTable {
 fn inside(tables: &Tables, line: Line, low: Square, high: Square) -> SquareSet
     ensures { (k : ℕ) → k < 64 → contains result k ≡ (is_on_ray line true low k && is_on_ray line false high k) }
 {
-    let above = tables.at(Shape::Ray(line, true), low);
-    above.intersection(tables.at(Shape::Ray(line, false), high))
+    let above = tables.table(Shape::Ray(line, true)).at(low);
+    let below = tables.table(Shape::Ray(line, false)).at(high);
+    above.intersection(below)
 }
 
 // The squares strictly between two squares of one line, of which `low` does not have the greater number.

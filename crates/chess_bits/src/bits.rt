@@ -5,7 +5,6 @@ ghost use Rattle.chess_base.specs.Attacks.{is_attacked};
 ghost use Rattle.chess_base.specs.Initial.{initial_setup};
 ghost use Rattle.chess_base.specs.Men.{man_at, is_man};
 ghost use Rattle.chess_base.specs.declared.man.Kind.TheVariants.{King};
-ghost use Rattle.chess_bits.specs.ties.Occupancy.{IsOccupied};
 
 use crate::placing::{make_move, move_back};
 use crate::reaching::reached_among;
@@ -54,13 +53,6 @@ impl<'t> Bits<'t> {
         }
     }
 
-    // The squares that are not empty: those of the pieces of both colours.
-    pub(crate) fn occupied(&self) -> SquareSet
-        ensures { IsOccupied result self.now.men }
-    {
-        self.sets.occupied()
-    }
-
     // The square of this colour's king.
     pub(crate) fn king(&self, colour: Colour) -> Square
         ensures alone { (k : ℕ) → k < 64 → is_man colour King (man_at self.now.men k) ≡ (k == result) }
@@ -75,7 +67,7 @@ impl<'t> Bits<'t> {
     pub(crate) fn is_attacked(&self, square: Square, by: Colour) -> bool
         ensures { result ≡ is_attacked self.now.men square by }
     {
-        let occupied = self.occupied();
+        let occupied = self.sets.occupied();
         self.sets.of(by).attacks(self.tables, by, square, occupied)
     }
 }

@@ -19,7 +19,8 @@ use chess_base::{Kind, Square};
 use chess_moves::{Board, SquareSet};
 
 impl Bits<'_> {
-    // How many legal moves there are from `from` to `to`: a promotion counts once for each kind.
+    // Counts the legal moves from `from` to `to`, given that one is pseudo-legal: one for each promotion with which it
+    // is legal, where `None` (no promotion) counts as one of these.
     fn count_between(&self, from: Square, to: Square) -> usize
         requires { goes self.now from to ≡ true }
         ensures { result ≡ length (moves_between self.now from to) }
@@ -67,8 +68,8 @@ impl Bits<'_> {
     }
 
     // How many legal moves the pieces of this kind (neither king nor pawn) on the squares `men` have. They are free:
-    // their king is safe wherever they go. The sums here are loops: in a helper that takes a closure, as `any` does, the
-    // closure is not inlined for each kind, and counting took 15 % more instructions.
+    // their king is safe wherever they go. The three sums of this file are loops: in a helper that takes a closure, as
+    // `any` does, the closure is not inlined for each kind, and counting took 15 % more instructions.
     #[inline(always)]
     fn count_officers(&self, kind: Kind, men: SquareSet) -> usize
         requires kind { (same_kind King kind || same_kind Pawn kind) ≡ false }

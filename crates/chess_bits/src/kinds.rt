@@ -1,7 +1,8 @@
 //! The pieces of one colour as sets of squares, and what they attack.
 
-ghost use Rattle.std.specs.Prelude.{◌≡◌, ℕ, ◌<◌, ◌&&◌, Option, Some, None, true, false, length, slice_set, slice_index};
+ghost use Rattle.std.specs.Prelude.{◌≡◌, ℕ, ◌<◌, ◌&&◌, ◌||◌, Option, Some, None, true, false, length, slice_set, slice_index};
 ghost use Rattle.chess_base.specs.declared.man.Colour.{Colour as Side};
+ghost use Rattle.chess_base.specs.declared.man.Kind.TheVariants.{Queen};
 ghost use Rattle.chess_base.specs.declared.man.Man.{Man as Piece};
 ghost use Rattle.chess_base.specs.Men.{Men, man_at, is_of, other, kind_number};
 ghost use Rattle.chess_base.specs.Attacks.{attacks, is_attacked};
@@ -110,6 +111,16 @@ impl Kinds {
         self.sets[number(kind)]
     }
 
+    /// The squares of the pieces of this kind, and of the queens: with `Rook` of all that attack along ranks and files,
+    /// with `Bishop` along diagonals.
+    #[inline(always)]
+    pub fn with_queens(&self, kind: Kind) -> SquareSet
+        ensures { (k : ℕ) → contains result k ≡ (contains (slice_index self.now.sets (kind_number kind)) k
+            || contains (slice_index self.now.sets (kind_number Queen)) k) }
+    {
+        self.of(kind).union(self.of(Kind::Queen))
+    }
+
     /// The squares of the pieces in these sets, which are of this colour, that attack `square`; `occupied` are the
     /// occupied squares of the board.
     #[inline(always)]
@@ -123,10 +134,9 @@ impl Kinds {
         ensures { (men : Men) → IsOccupied occupied men → (k : ℕ) → k < 64 → AreKindsAt self.now.sets colour men k
             → contains result k ≡ (is_of colour (man_at men k) && attacks men k square) }
     {
-        let queens = self.of(Kind::Queen);
-        let straight = self.of(Kind::Rook).union(queens);
+        let straight = self.with_queens(Kind::Rook);
+        let aslant = self.with_queens(Kind::Bishop);
         let lines = met_on_lines(tables, square, occupied, straight);
-        let aslant = self.of(Kind::Bishop).union(queens);
         let diagonals = met_on_diagonals(tables, square, occupied, aslant);
         let kings = tables
             .at(Shape::King, square)

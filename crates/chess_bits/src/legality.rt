@@ -141,7 +141,8 @@ impl Bits<'_> {
         self.safe_starts(men, to)
     }
 
-    // Whether the king on `king` may legally go to `to`: by an ordinary move, or by castling.
+    // Whether the king on `king` may legally go to `to`: by an ordinary move, or by castling. `king_ends` says it too,
+    // but tests up to eight squares, where this tests one.
     #[tactic(auto, using(crate::proofs::KingSteps::steps_are, crate::proofs::ByKind::king_otherwise))]
     fn king_goes_legally(&self, king: Square, to: Square) -> bool
         requires { is_man (self.now).side King (man_at (self.now).men king) ≡ true }
@@ -164,7 +165,7 @@ impl Bits<'_> {
         single_if(self.king_goes_legally(king, to), king)
     }
 
-    // Whether `to` is on the last rank of the side on move, where its pawns promote.
+    // Whether `to` is on the last rank of the side on move, where its pawns promote. `would_promote` asks for a pawn too.
     #[inline(always)]
     fn is_on_last_rank(&self, to: Square) -> bool
         ensures { result ≡ (rank to == first_rank (other (self.now).side)) }

@@ -106,11 +106,9 @@ impl Bits<'_> {
     fn pinners(&self, king: Square) -> SquareSet
         ensures { (b : ℕ) → b < 64 → contains result b ≡ aims_from self.now b king }
     {
-        let _king = king.number();
         let men = self.sets.of(self.setup.side.other());
-        let queens = men.of(Kind::Queen);
-        let straight = men.of(Kind::Rook).union(queens);
-        let aslant = men.of(Kind::Bishop).union(queens);
+        let straight = men.with_queens(Kind::Rook);
+        let aslant = men.with_queens(Kind::Bishop);
         let on_lines = straight.intersection(self.tables.at(Shape::Lines, king));
         on_lines.union(aslant.intersection(self.tables.at(Shape::Diagonals, king)))
     }

@@ -84,7 +84,7 @@ fn take_steps(men: &mut [Option<Man>; 64], sets: &mut Sets, keys: &KeyTable, ste
     place(men, sets, keys, Some(steps.to), steps.mover);
 }
 
-// Whether the square is the position's en passant target.
+// Whether the square is the position's en passant target. chess_base's `is_square` tells it too, but is private there.
 #[inline(always)]
 pub(crate) fn is_target(setup: &Setup, square: Square) -> bool
     ensures { result ≡ is_square (setup.now).target square }
@@ -180,7 +180,8 @@ fn shifted(setup: &Setup, m: &Move) -> Option<Man>
     }
 }
 
-// The en passant target after the move `m` of the piece `man`; none unless it is a pawn's double advance.
+// The en passant target after the move `m` of the piece `man`; none unless it is a pawn's double advance. Only for a
+// pawn is it computed, since `target_after` looks at the board again.
 #[inline(always)]
 #[tactic(auto, using(crate::proofs::Making::officer_leaves_no_target))]
 fn target_left(setup: &Setup, m: &Move, man: Man) -> Option<Square>
@@ -195,7 +196,7 @@ fn target_left(setup: &Setup, m: &Move, man: Man) -> Option<Square>
 }
 
 // The halfmove clock after a move of `man` to a square with the content `taken`: 0 for a pawn or a capture, else one
-// more than before.
+// more than before. `halfmove_after`, which gives it too, would look at both squares again.
 #[inline(always)]
 fn halfmove_left(setup: &Setup, man: Man, taken: Option<Man>) -> u32
     ensures { result ≡ clock_left setup.now.halfmove man.kind taken }
@@ -207,9 +208,10 @@ fn halfmove_left(setup: &Setup, man: Man, taken: Option<Man>) -> u32
     }
 }
 
-// Passes the turn to the other side, with these rights, this en passant target and this halfmove clock.
+// Sets what changes in each move besides the pieces: the other side is on move, the fullmove number goes on, and
+// rights, en passant target and halfmove clock are these.
 #[inline(always)]
-fn pass_turn(setup: &mut Setup, rights: Rights, target: Option<Square>, halfmove: u32)
+fn end_turn(setup: &mut Setup, rights: Rights, target: Option<Square>, halfmove: u32)
     ensures { setup.new ≡ record {
       variant = setup.old.variant;
       men = setup.old.men;
@@ -239,6 +241,7 @@ fn shift(setup: &mut Setup, sets: &mut Sets, keys: &KeyTable, m: &Move, man: Man
     ensures sets { IsSets sets.old setup.old.men → IsSets sets.new setup.new.men }
 {
     let taken = setup.men[m.to.index()];
+    // `saved_of` gives this too, but would ask again what is captured, and where.
     let saved = Saved {
         captured: taken,
         rights: setup.rights,
@@ -249,7 +252,7 @@ fn shift(setup: &mut Setup, sets: &mut Sets, keys: &KeyTable, m: &Move, man: Man
     let rights = rights_left(setup, m, man, taken);
     let target = target_left(setup, m, man);
     let halfmove = halfmove_left(setup, man, taken);
-    pass_turn(setup, rights, target, halfmove);
+    end_turn(setup, rights, target, halfmove);
     sets.clear(keys, m.to, taken);
     sets.shift(keys, man, m.from, m.to);
     setup.men[m.from.index()] = None;
@@ -274,7 +277,7 @@ fn make_in_steps(setup: &mut Setup, sets: &mut Sets, keys: &KeyTable, m: &Move) 
     let halfmove = halfmove_after(setup, m);
     let steps = steps_of(setup, m);
     take_steps(&mut setup.men, sets, keys, &steps);
-    pass_turn(setup, rights, target, halfmove);
+    end_turn(setup, rights, target, halfmove);
     saved
 }
 
@@ -310,6 +313,7 @@ pub(crate) fn move_back(
 {
     let steps = steps_back(setup, m, saved);
     take_steps(&mut setup.men, sets, keys, &steps);
+    // As in chess_moves' `move_back`, which is private there and keeps no sets.
     setup.side = setup.side.other();
     setup.rights = saved.rights;
     setup.target = saved.target;

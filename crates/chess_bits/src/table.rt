@@ -27,7 +27,8 @@ pub enum Shape {
 }
 
 // Whether square b belongs to the shape from square a: for `Knight`, whether a knight on a attacks b; for `Lines`,
-// whether b is another square of a's rank or file.
+// whether b is another square of a's rank or file. chess_base's `could_capture`, which has the same tests, is private
+// there, and asks for the pieces of a board.
 #[tactic(auto, unfolding(crate::specs::ties::Shapes::in_shape))]
 fn in_shape(shape: Shape, a: Square, b: Square) -> bool
     ensures { result ≡ in_shape shape a b }

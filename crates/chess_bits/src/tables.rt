@@ -55,7 +55,7 @@ pub(crate) struct Tables {
 
 impl Tables {
     // The table of this shape: for each square the squares that belong to the shape from there.
-    fn table(&self, shape: Shape) -> &Table
+    pub(crate) fn table(&self, shape: Shape) -> &Table
         ensures { result.now ≡ shape }
     {
         match shape {
@@ -74,13 +74,6 @@ impl Tables {
             Shape::Ray(Line::Antidiagonal, true) => &self.antidiagonal_up,
             Shape::Ray(Line::Antidiagonal, false) => &self.antidiagonal_down,
         }
-    }
-
-    // The squares that belong to this shape from `square`, looked up: for `Knight`, those that a knight there attacks.
-    pub(crate) fn at(&self, shape: Shape, square: Square) -> SquareSet
-        ensures { (k : ℕ) → k < 64 → contains result k ≡ in_shape shape square k }
-    {
-        self.table(shape).at(square)
     }
 }
 
@@ -154,7 +147,7 @@ impl AttackTables {
     pub(crate) fn at(&self, shape: Shape, square: Square) -> SquareSet
         ensures { (k : ℕ) → k < 64 → contains result k ≡ in_shape shape square k }
     {
-        self.tables.at(shape, square)
+        self.tables.table(shape).at(square)
     }
 
     /// The squares of the ray from `from` (not included) along that line, with rising numbers if `up`, up to and with

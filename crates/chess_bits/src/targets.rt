@@ -8,7 +8,7 @@ ghost use Rattle.chess_base.specs.MoveList.{move_of};
 ghost use Rattle.chess_base.specs.Moves.{is_legal, pawn_advances, pawn_captures};
 ghost use Rattle.chess_base.specs.declared.man.Kind.TheVariants.{King, Pawn};
 ghost use Rattle.chess_base.specs.Castling.{right_of, castled_rook_file, castle_of};
-ghost use Rattle.chess_bits.specs.ties.Goes.{goes, castling_end, legal_or, castling_or, man_goes};
+ghost use Rattle.chess_bits.specs.ties.Goes.{goes, castling_end, castles_onto, legal_or, man_goes};
 ghost use Rattle.chess_bits.specs.declared.table.Shape.TheVariants.{Pawn as PawnAttack};
 ghost use Rattle.chess_bits.specs.ties.Shapes.{in_shape};
 ghost use Rattle.chess_moves.specs.Sets.{contains};
@@ -17,6 +17,7 @@ use crate::bits::Bits;
 use crate::king::set_of;
 use crate::pawns::ahead;
 use crate::reaching::reached_from;
+use crate::squares::single_if;
 use crate::table::Shape;
 use chess_base::rules::{
     Castle, castle_of, castled_king_file, castled_rook_file, home_square, is_man, is_of, pawn_rank,
@@ -55,7 +56,8 @@ impl Bits<'_> {
 
     // The four squares of the castling that the move `m` is, if the king of the side on move makes it; else `None`. The
     // caller knows that the right on that side is there, with the rook on `rook`, and that `m` ends where such a
-    // castling does.
+    // castling does. `castle_of` would ask for the side again, and `castle_from`, which gives these squares for a known
+    // side, is private in chess_base.
     fn castle_to(&self, m: &Move, castling_side: CastlingSide, rook: Square) -> Option<Castle>
         requires right { right_of (self.now).rights (self.now).side castling_side ≡ Some rook }
         requires end { m.now.to ≡ castling_end (self.now).variant (self.now).side castling_side rook }
@@ -79,54 +81,43 @@ impl Bits<'_> {
         }
     }
 
-    // What `with_castling` gives where the right to castle to this side is there, with the rook on `rook`. In most
+    // What `legal_castling_end` gives where the right to castle to this side is there, with the rook on `rook`. In most
     // positions of a game it is not, so only the test for it is inlined.
     #[inline(never)]
-    fn with_right(
+    fn legal_castling_end_with(
         &self,
-        targets: SquareSet,
-        from: Square,
+        king: Square,
         castling_side: CastlingSide,
         rook: Square,
     ) -> SquareSet
         requires { right_of (self.now).rights (self.now).side castling_side ≡ Some rook }
-        ensures { (k : ℕ) → k < 64 → contains result k ≡ castling_or self.now castling_side from k (contains targets k) }
+        ensures { (k : ℕ) → k < 64 → contains result k ≡ castles_onto self.now castling_side king k }
     {
+        // chess_base's `names_castling` knows this square too, but only tests a move's squares, and is private there.
         let to = match self.setup.variant {
             Variant::Normal => home_square(self.setup.side, castled_king_file(castling_side)),
             Variant::Fischerandom => rook,
         };
         let m = Move {
-            from,
+            from: king,
             to,
             promotion: None,
         };
         let Some(castle) = self.castle_to(&m, castling_side, rook) else {
-            return targets;
+            return SquareSet::empty();
         };
-        let end = SquareSet::single(to);
-        if self.castles_legally(&m, &castle) {
-            targets.union(end)
-        } else {
-            targets.without(end)
-        }
+        single_if(self.castles_legally(&m, &castle), to)
     }
 
-    // The set `targets` of end squares from `from`, corrected for castling to this side: if the king's move from `from`
-    // to the end square of that castling is castling, the result has this square exactly if the castling is legal.
+    // The end square of castling to this side with the king on `king`, if it is legal; else the empty set.
     #[inline(always)]
-    fn with_castling(
-        &self,
-        targets: SquareSet,
-        from: Square,
-        castling_side: CastlingSide,
-    ) -> SquareSet
-        ensures { (k : ℕ) → k < 64 → contains result k ≡ castling_or self.now castling_side from k (contains targets k) }
+    fn legal_castling_end(&self, king: Square, castling_side: CastlingSide) -> SquareSet
+        ensures { (k : ℕ) → k < 64 → contains result k ≡ castles_onto self.now castling_side king k }
     {
         let Some(rook) = right_of(self.setup.rights, self.setup.side, castling_side) else {
-            return targets;
+            return SquareSet::empty();
         };
-        self.with_right(targets, from, castling_side, rook)
+        self.legal_castling_end_with(king, castling_side, rook)
     }
 
     // The end squares of the legal castlings of the king on `king`: in normal chess where he arrives (g1), in Chess960
@@ -135,9 +126,8 @@ impl Bits<'_> {
         ensures { (k : ℕ) → k < 64
             → contains result k ≡ legal_or self.now (move_of king k None) (castle_of self.now (move_of king k None)) false }
     {
-        let none = SquareSet::empty();
-        let far = self.with_castling(none, king, CastlingSide::QueenSide);
-        self.with_castling(far, king, CastlingSide::KingSide)
+        let far = self.legal_castling_end(king, CastlingSide::QueenSide);
+        far.union(self.legal_castling_end(king, CastlingSide::KingSide))
     }
 
     // The end squares of the piece on `from`, which is of the side on move and no pawn: those of its pseudo-legal
@@ -149,13 +139,10 @@ impl Bits<'_> {
         let Some(man) = self.setup.men[from.index()] else {
             return SquareSet::empty();
         };
-        let kind = man.kind;
-        let steps = self.steps(kind, from);
-        if !is_king(kind) {
-            return steps;
+        if is_king(man.kind) {
+            return self.castling_ends(from).union(self.steps(Kind::King, from));
         }
-        let far = self.with_castling(steps, from, CastlingSide::QueenSide);
-        self.with_castling(far, from, CastlingSide::KingSide)
+        self.steps(man.kind, from)
     }
 
     // The squares, one or two, to which the pawn on `from` may go straight ahead.

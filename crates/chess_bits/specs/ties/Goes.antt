@@ -50,12 +50,10 @@ abbrev pub legal_or : Setup → Move → Option Castle → Bool → Bool
 legal_or p m None s = s
 legal_or p m (Some castle) s = is_legal p m
 
--- whether the move from a to b is legal, if it is castling and b is where castling on side w ends; for any other move
--- the answer s
-abbrev pub castling_or : Setup → CastlingSide → ℕ → ℕ → Bool → Bool
-castling_or p w a b s =
-    if names_end p.variant p.side w (right_of p.rights p.side w) b then legal_or p (move_of a b None)
-    (castle_of p (move_of a b None)) s else s
+-- the move from a to b is legal castling, and b is where castling on side w ends
+abbrev pub castles_onto : Setup → CastlingSide → ℕ → ℕ → Bool
+castles_onto p w a b = names_end p.variant p.side w (right_of p.rights p.side w) b
+    && legal_or p (move_of a b None) (castle_of p (move_of a b None)) false
 
 -- a piece other than a pawn may go from a to b: by an ordinary pseudo-legal move, or by legal castling
 abbrev pub man_goes : Setup → ℕ → ℕ → Bool

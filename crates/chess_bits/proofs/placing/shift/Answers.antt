@@ -16,7 +16,7 @@ pub returns-clause-setup : goal.returns-clause-setup
 returns-clause-setup c =
     let p = c.args.setup.now in
     let m = c.args.m.now in
-    rw (c.pass_turn.ensures, c.index-2.ensures.value, c.index-3.ensures.value)
+    rw (c.end_turn.ensures, c.index-2.ensures.value, c.index-3.ensures.value)
     (after_shift p m c.args.man c.rights_left-rights.result c.target_left-target.result c.halfmove_left-halfmove.result
     c.requires.sound c.requires.legal (shifts_from p m c.args.man c.requires.shifted) c.rights_left-rights.ensures
     c.target_left-target.ensures
@@ -43,5 +43,5 @@ returns-clause-sets c =
     let there : man_at (set p.men m.to None) m.from ≡ Some c.args.man =
     get_or-set_other p.men m.to m.from None None (λ e. away (sym e)) ∙ h.mover in
     let first = c.clear.ensures p.men all (ap (man_at p.men) (sym c.index.ensures.value)) are in
-    rw (c.pass_turn.ensures, c.index-2.ensures.value, c.index-3.ensures.value, ← shifted_over p.men m.from m.to (Some c.args.man) away)
+    rw (c.end_turn.ensures, c.index-2.ensures.value, c.index-3.ensures.value, ← shifted_over p.men m.from m.to (Some c.args.man) away)
     (c.shift.ensures (set p.men m.to None) whole there (cleared p.men m.to low all) first)

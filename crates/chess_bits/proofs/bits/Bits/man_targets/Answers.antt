@@ -1,21 +1,31 @@
--- An officer goes where it attacks what is no own piece (officer_is of TargetsOf); so does a king, but for castling,
--- which is included on both sides exactly where it is legal (king_is).
-use Rattle.std.proofs.Common.{rules, ◌≡◌, sym, ◌∙◌, Some, None}
-use Rattle.chess_base.specs.Men.{man_at}
-use Rattle.chess_bits.proofs.TargetsOf.{officer_is, king_is, no_own}
+-- An officer goes where it attacks what is no own piece (officer_is of TargetsOf); so does a king, or it castles
+-- (king_goes of KingSteps).
+use Rattle.std.proofs.Common.{rules, ◌≡◌, ◌||◌, true, ap, sym, ◌∙◌, Some, None}
+use Rattle.chess_base.specs.declared.man.Kind.TheVariants.{King}
+use Rattle.chess_base.specs.Men.{man_at, same_kind}
+use Rattle.chess_base.specs.Sound.{IsSound}
+use Rattle.chess_moves.specs.Sets.{contains}
+use Rattle.chess_bits.proofs.KingSteps.{king_goes, king_told, steps_are}
+use Rattle.chess_bits.proofs.TargetsOf.{officer_is, no_own}
 use Rattle.chess_bits.proofs.bits.Bits.man_targets.Goals as goal
 
-pub returns-then-not-is_king : goal.returns-then-not-is_king
-returns-then-not-is_king c = λ k low.
+pub returns-then-is_king : goal.returns-then-is_king
+returns-then-is_king c = λ k low.
+    let p = c.args.self.now in
+    let a = c.args.from in
     let at : man_at c.args.self.now.men c.args.from ≡ Some c.in-Some.man = search rules in
-    c.steps-steps.ensures k low ∙ officer_is c.args.self.now c.args.from k c.in-Some.man at c.requires
-    (sym c.is_king.ensures ∙ c.if-not-is_king.true)
+    let king : same_kind King c.in-Some.man.kind ≡ true = sym c.is_king.ensures ∙ c.if-is_king.true in
+    let sound : IsSound c.args.self.now = rw (← c.self.view_is) c.self.invariant.0 in
+    let step = c.steps.ensures k low
+    ∙ steps_are p a k (king_told p.side c.in-Some.man (man_at p.men a) at c.requires king) in
+    c.union.ensures k ∙ ap (λ t. t || contains c.steps.result k) (c.castling_ends.ensures k low)
+    ∙ king_goes p a k c.in-Some.man (contains c.steps.result k) sound at c.requires king step
 
 pub returns : goal.returns
 returns c = λ k low.
     let at : man_at c.args.self.now.men c.args.from ≡ Some c.in-Some.man = search rules in
-    king_is c.args.self.now c.args.from k c.in-Some.man _ _ _ at c.requires (c.steps-steps.ensures k low)
-    (c.with_castling-far.ensures k low) (c.with_castling.ensures k low)
+    c.steps-2.ensures k low ∙ officer_is c.args.self.now c.args.from k c.in-Some.man at c.requires
+    (sym c.is_king.ensures ∙ c.if-is_king.false)
 
 pub returns-in_default : goal.returns-in_default
 returns-in_default c =
