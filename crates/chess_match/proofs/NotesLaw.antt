@@ -6,7 +6,7 @@ use Rattle.chess_base.specs.declared.man.Colour.TheVariants.{White, Black}
 use Rattle.chess_base.specs.Men.{same_colour}
 use Rattle.chess_base.specs.Options.{list_if}
 use Rattle.chess_match.specs.Acts.{Act, Block, Sends, SendFails, Reads, ReadsEnd, ReadFails, ReadsClock, blocks_from, is_over}
-use Rattle.chess_match.specs.ByDevice.{lines_read, moments_shown, notes_given}
+use Rattle.chess_match.specs.ByDevice.{lines_read, notes_given}
 use Rattle.chess_match.specs.Effects.{Match, Phase, Over, beginning, effect, farewell}
 use Rattle.chess_match.specs.Events.{Event, Line, OutputEnds, FailsToRead, FailsToWrite}
 use Rattle.chess_match.specs.Lines.{SentLine, bytes_of}
