@@ -19,7 +19,7 @@ use Rattle.chess_match.specs.Reasons.{is_unwritten}
 use Rattle.chess_match.specs.Rules.{Rules}
 use Rattle.chess_match.specs.declared.reason.Reason.{Reason}
 use Rattle.chess_match.specs.laws.Laws.{move_sent, moves_sent, texts_from}
-use Rattle.chess_match.specs.laws.OfActs.{AllMovesAreSent, AtEachLine, AtEachMoment, InEachMatch, IsSentAllMoves, MovesAreSent, MovesSentAreKnown, lines_given, match_after, others_moves}
+use Rattle.chess_match.specs.laws.OfActs.{AllMovesAreSent, AtEachLine, AtEachMoment, AtEachOpening, InEachMatch, IsSentAllMoves, MovesAreSent, MovesSentAreKnown, lines_given, match_after, others_moves}
 use Rattle.chess_match.proofs.Givings.{Gives, Goes, given_at, grows, sends}
 use Rattle.chess_match.proofs.LineCases.{line_cases}
 use Rattle.chess_match.proofs.MatchCases.{Uncut, both_not, on_when_read}
@@ -271,7 +271,7 @@ all_moves_are_sent r H final g O unbroken =
         sym (rw (none refl, none_left m.phase (last_text r O m) rest o w owed) (append-nil X)) ∙ a
     done m (b ∷ due) q X Y rest none l a owed w = absurd q
 
--- ---- when a line is read
+-- ---- when a line or the clock is read
 
 -- no write failed before
 unbroken_on : (r : Rules) (S : Colour) (H K : List Act) (final : Match) → IsMatch r (H ++ K) final → Uncut H K
@@ -287,16 +287,32 @@ unbroken_on r S H K final g e = by_points r (λ m due H n. is_over n.phase ≡ f
   read_fails = λ m n S H aw q only same p. p;
 }) H K final (λ m due q g w. refl) g e
 
--- the side that a line is read of is awaited, and nothing is due
+-- before these acts nothing is due, the match is on, and no move is owed to the side
+abbrev IsSettled : Rules → Colour → List Act → Match → Type 0
+IsSettled r S K final = (m : Match) (due : List Block) → IsMatchFrom r m due K final
+    → (due ≡ []) × (is_over m.phase ≡ false) × (is_owed m.phase S ≡ false)
+
+all_sent_before : (r : Rules) (S : Colour) (H K : List Act) (final : Match) → IsSettled r S K final
+    → IsMatch r (H ++ K) final → Uncut H K → IsSentAllMoves r S H (match_after r beginning.after H)
+all_sent_before r S H K final settled g u =
+    let C : Match → List (List ℕ) → Type 0 = λ m X. (X ≡ all_texts r S m) × (is_over m.phase ≡ false) in
+    let c = sent_at r S C H K final done g u in
+    ap moves_sent (all_sent S H (unbroken_on r S H K final g u c.1)) ∙ c.0
+  where
+    done : (m : Match) (due : List Block) → IsMatchFrom r m due K final → (X Y rest : List (List ℕ))
+        → (due ≡ [] → Y ≡ []) → length (Y ++ rest) ≤ 1 → X ++ (Y ++ rest) ≡ all_texts r S m → Owed r S m rest
+        → (X ≡ all_texts r S m) × (is_over m.phase ≡ false)
+    done m due q X Y rest none l a owed =
+        let (empty, on, quits) = settled m due q in
+        let left : rest ≡ [] = owed_on S (last_text r S m) m.phase rest on owed ∙ rw quits refl in
+        (sym (rw (none empty, left) (append-nil X)) ∙ a, on)
+
 pub all_sent_at_lines : AtEachLine IsSentAllMoves
 all_sent_at_lines r H after S text final g =
-    let u : Uncut H (Reads S text ∷ after) = λ cut. absurd cc in
-    let C : Match → List (List ℕ) → Type 0 = λ m X. (X ≡ all_texts r S m) × (is_over m.phase ≡ false) in
-    let c = sent_at r S C H (Reads S text ∷ after) final done g u in
-    ap moves_sent (all_sent S H (unbroken_on r S H (Reads S text ∷ after) final g u c.1)) ∙ c.0
+    all_sent_before r S H (Reads S text ∷ after) final settled g (λ cut. absurd cc)
   where
-    none_left : (p : Phase) (text rest : List (List ℕ)) → awaits_line p S ≡ true → OwedIn S text p rest → rest ≡ []
-    none_left p text rest h1 h2 = grind (arith, h2)
+    none_owed : (p : Phase) → awaits_line p S ≡ true → is_owed p S ≡ false
+    none_owed p h1 = grind arith
 
     awaited : (m : Match) (K : List Act) → IsMatchFrom r m [] (Reads S text ∷ K) final → awaits_line m.phase S ≡ true
     awaited m [] q = absurd q
@@ -307,15 +323,17 @@ all_sent_at_lines r H after S text final g =
     awaited m (ReadsEnd c ∷ K) q = absurd q
     awaited m (ReadFails c ∷ K) q = absurd q
 
-    done : (m : Match) (due : List Block) → IsMatchFrom r m due (Reads S text ∷ after) final
-        → (X Y rest : List (List ℕ))
-        → (due ≡ [] → Y ≡ []) → length (Y ++ rest) ≤ 1 → X ++ (Y ++ rest) ≡ all_texts r S m → Owed r S m rest
-        → (X ≡ all_texts r S m) × (is_over m.phase ≡ false)
-    done m [] q X Y rest none l a owed = let aw = awaited m after q in (
-      sym (rw (none refl, none_left m.phase (last_text r S m) rest aw owed) (append-nil X)) ∙ a,
-      on_when_read m.phase S aw,
-    )
-    done m (b ∷ due) q X Y rest none l a owed = absurd q
+    settled : IsSettled r S (Reads S text ∷ after) final
+    settled m [] q = let aw = awaited m after q in (refl, on_when_read m.phase S aw, none_owed m.phase aw)
+    settled m (b ∷ due) q = absurd q
+
+pub all_sent_at_openings : AtEachOpening IsSentAllMoves
+all_sent_at_openings r H after S moment final g e =
+    all_sent_before r S H (ReadsClock S moment ∷ after) final settled g (λ cut. e)
+  where
+    settled : IsSettled r S (ReadsClock S moment ∷ after) final
+    settled m [] (o, q) = (refl, ap is_over o, ap (λ p. is_owed p S) o)
+    settled m (b ∷ due) q = absurd q
 
 -- there is a used time for each move
 used_are_turns : (r : Rules) (C : Colour) (H K : List Act) (final : Match) → IsMatch r (H ++ K) final → Uncut H K

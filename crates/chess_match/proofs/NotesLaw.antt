@@ -6,7 +6,7 @@ use Rattle.chess_base.specs.declared.man.Colour.TheVariants.{White, Black}
 use Rattle.chess_base.specs.Men.{same_colour}
 use Rattle.chess_base.specs.Options.{list_if}
 use Rattle.chess_match.specs.Acts.{Act, Block, Sends, SendFails, Reads, ReadsEnd, ReadFails, ReadsClock, blocks_from, is_over}
-use Rattle.chess_match.specs.ByDevice.{notes_given}
+use Rattle.chess_match.specs.ByDevice.{lines_read, notes_given}
 use Rattle.chess_match.specs.Effects.{Match, Phase, Over, beginning, effect, farewell}
 use Rattle.chess_match.specs.Events.{Event, Line, OutputEnds, FailsToRead, FailsToWrite}
 use Rattle.chess_match.specs.Lines.{SentLine, bytes_of}
@@ -16,8 +16,8 @@ use Rattle.chess_match.specs.Rules.{Rules}
 use Rattle.chess_match.specs.declared.reason.MatchFault.TheVariants.{Write}
 use Rattle.chess_match.specs.declared.reason.Reason.{Reason}
 use Rattle.chess_match.specs.declared.reason.Reason.TheVariants.{Faulted}
-use Rattle.chess_match.specs.laws.Laws.{events_in, given_in}
-use Rattle.chess_match.specs.laws.OfActs.{NotesHaveAllLines, NotesHaveTheEvents, after_events, lines_given}
+use Rattle.chess_match.specs.laws.Laws.{events_in, given_in, lines_noted, moments_noted}
+use Rattle.chess_match.specs.laws.OfActs.{NotesHaveAllLines, NotesHaveLinesRead, NotesHaveMoments, NotesHaveTheEvents, after_events, lines_given}
 use Rattle.chess_match.proofs.Leading.{unwritten}
 use Rattle.chess_match.proofs.MatchCases.{both_not, by_cases, on_when_read}
 use Rattle.chess_match.proofs.MoveLaw.{line_written, unwritten_in}
@@ -51,6 +51,47 @@ all_lines reason (Reads c t ∷ SendFails b ∷ H) S = all_lines reason (SendFai
 all_lines reason (Reads c t ∷ Reads d u ∷ H) S = all_lines reason (Reads d u ∷ H) S
 all_lines reason (Reads c t ∷ ReadsEnd d ∷ H) S = all_lines reason (ReadsEnd d ∷ H) S
 all_lines reason (Reads c t ∷ ReadFails d ∷ H) S = all_lines reason (ReadFails d ∷ H) S
+
+-- ---- lines that are read, and moments
+
+-- a failed write is noted as neither
+no_readings : (x : Bool) (S c : Colour) (notes : List Note)
+    → (lines_noted S (list_if x (Happened (FailsToWrite c) ∷ []) ++ notes) ≡ lines_noted S notes)
+    × (moments_noted (list_if x (Happened (FailsToWrite c) ∷ []) ++ notes) ≡ moments_noted notes)
+no_readings true S c notes = (refl, refl)
+no_readings false S c notes = (refl, refl)
+
+pub all_lines_read : NotesHaveLinesRead
+all_lines_read r reason H final S g = by_cases r final
+    (λ m due H. lines_noted S (notes_given reason H) ≡ lines_read S H) (record {
+      sends = λ m end b due H p. p;
+      fails = λ m end b due H on p. failed b H ∙ p;
+      fails_late = λ m end b due H o p. failed b H ∙ p;
+      reads = λ m end c t n H aw p. ap (λ ls. list_if (same_colour c S) (t ∷ []) ++ ls) p;
+      opens = λ m end c n H o p. p;
+      ends = λ m end c H aw p. p;
+      read_fails = λ m end c H aw p. p;
+    }) (λ o. refl) beginning.after (blocks_from White beginning.to) H g
+  where
+    failed : (b : Block) (H : List Act)
+        → lines_noted S (notes_given reason (SendFails b ∷ H)) ≡ lines_noted S (notes_given reason H)
+    failed b H = (no_readings (is_unwritten reason b.to) S b.to (notes_given reason H)).0
+
+pub all_moments : NotesHaveMoments
+all_moments reason [] = refl
+all_moments reason (Sends b ∷ H) = all_moments reason H
+all_moments reason (SendFails b ∷ H) =
+    (no_readings (is_unwritten reason b.to) b.to b.to (notes_given reason H)).1 ∙ all_moments reason H
+all_moments reason (Reads c t ∷ ReadsClock d n ∷ H) = ap (λ ns. n ∷ ns) (all_moments reason H)
+all_moments reason (ReadsClock c n ∷ H) = ap (λ ns. n ∷ ns) (all_moments reason H)
+all_moments reason (ReadsEnd c ∷ H) = all_moments reason H
+all_moments reason (ReadFails c ∷ H) = all_moments reason H
+all_moments reason (Reads c t ∷ []) = refl
+all_moments reason (Reads c t ∷ Sends b ∷ H) = all_moments reason (Sends b ∷ H)
+all_moments reason (Reads c t ∷ SendFails b ∷ H) = all_moments reason (SendFails b ∷ H)
+all_moments reason (Reads c t ∷ Reads d u ∷ H) = all_moments reason (Reads d u ∷ H)
+all_moments reason (Reads c t ∷ ReadsEnd d ∷ H) = all_moments reason (ReadsEnd d ∷ H)
+all_moments reason (Reads c t ∷ ReadFails d ∷ H) = all_moments reason (ReadFails d ∷ H)
 
 -- ---- events
 

@@ -14,7 +14,7 @@ use Rattle.cecp_engine.specs.Levels.{LevelSeen, allotted}
 use Rattle.chess_match.specs.ByDevice.{lines_read, has_ended, has_failed_read, moments_shown, lines_sent, is_broken, notes_given}
 use Rattle.chess_base.specs.Options.{list_if}
 use Rattle.chess_match.specs.Lines.{SentLine, bytes_of}
-use Rattle.chess_match.specs.laws.Laws.{Streams, AreRead, events_in, given_in, is_move, moves_of, items_said, moves_sent, texts_from, time_sent, otim_sent, centiseconds}
+use Rattle.chess_match.specs.laws.Laws.{Streams, AreRead, events_in, given_in, lines_noted, moments_noted, is_move, moves_of, items_said, moves_sent, texts_from, time_sent, otim_sent, centiseconds}
 use Rattle.chess_match.specs.Acts.{Act, Block, Sends, SendFails, Reads, ReadsEnd, ReadFails, ReadsClock, IsMatch, IsMatchFrom, after_failed_send, is_over}
 use Rattle.chess_match.specs.Effects.{Match, Over, beginning, clock, effect, was_sent_move}
 use Rattle.chess_match.specs.Events.{Event, Line, Opened, OutputEnds, FailsToRead}
@@ -56,6 +56,13 @@ AtEachMoment P = (r : Rules) (before after : List Act) (final : Match) → IsMat
 abbrev pub AtEachLine : (Rules → Colour → List Act → Match → Type 0) → Type 0
 AtEachLine P = (r : Rules) (before after : List Act) (S : Colour) (text : Option (List ℕ)) (final : Match)
     → IsMatch r (before ++ Reads S text ∷ after) final → P r S before (match_after r beginning.after before)
+
+-- whenever the clock is read for the opening of a side's turn, and so not after a line, `P` holds of the rules, of the
+-- side, of the acts before, and of the match then
+abbrev pub AtEachOpening : (Rules → Colour → List Act → Match → Type 0) → Type 0
+AtEachOpening P = (r : Rules) (before after : List Act) (S : Colour) (moment : ℕ) (final : Match)
+    → IsMatch r (before ++ ReadsClock S moment ∷ after) final → ends_in_line before ≡ false
+    → P r S before (match_after r beginning.after before)
 
 -- the match after all its acts is the match at its end
 abbrev pub EndsAfterItsActs : Rules → List Act → Match → Type 0
@@ -276,3 +283,12 @@ NotesHaveTheEvents = (r : Rules) (reason : Reason) (H : List Act) (final : Match
 abbrev pub NotesHaveAllLines : Type 0
 NotesHaveAllLines = (reason : Reason) (H : List Act) (S : Colour)
     → given_in S (notes_given reason H) ≡ bytes_of (lines_given S H)
+
+-- in every match: the lines of each side `S` in the notes are just those that were read of it, in order
+abbrev pub NotesHaveLinesRead : Type 0
+NotesHaveLinesRead = (r : Rules) (reason : Reason) (H : List Act) (final : Match) (S : Colour) → IsMatch r H final
+    → lines_noted S (notes_given reason H) ≡ lines_read S H
+
+-- for any acts, a match or not: the moments in the notes are just those that the clock showed, in order
+abbrev pub NotesHaveMoments : Type 0
+NotesHaveMoments = (reason : Reason) (H : List Act) → moments_noted (notes_given reason H) ≡ moments_shown H

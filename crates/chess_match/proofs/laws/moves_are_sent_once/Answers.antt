@@ -1,4 +1,4 @@
-use Rattle.chess_match.proofs.MoveLaw.{all_moves_are_sent, all_sent_at_lines, moves_are_sent}
+use Rattle.chess_match.proofs.MoveLaw.{all_moves_are_sent, all_sent_at_lines, all_sent_at_openings, moves_are_sent}
 use Rattle.chess_match.proofs.laws.moves_are_sent_once.Goals as goal
 
 pub returns-clause-whole : goal.returns-clause-whole
@@ -9,3 +9,6 @@ returns-clause-each c = moves_are_sent
 
 pub returns-clause-all : goal.returns-clause-all
 returns-clause-all c = all_sent_at_lines
+
+pub returns-clause-opened : goal.returns-clause-opened
+returns-clause-opened c = all_sent_at_openings
