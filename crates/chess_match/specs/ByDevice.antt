@@ -57,8 +57,8 @@ is_broken H S = nat_lt 0 (length (broken_blocks S H))
 -- ---- what was noted
 
 -- the notes of these acts, of a match that ended for this reason: each event, and the bytes of each block, in order. A
--- block that could not be sent is noted whole, and then the failure, if that ended the match; a failure after the end is
--- not noted. Nor is a line without a reading of the clock after it (the last case), which no match has
+-- block that could not be sent is noted whole, and then the failure, if that ended the match; a failure after the end
+-- is not noted. Nor is a line without a reading of the clock after it (the last case), which no match has
 abbrev pub notes_given : Reason → List Act → List Note
 notes_given reason [] = []
 notes_given reason (Sends block ∷ H) = Gives block.to (bytes_of block.lines) ∷ notes_given reason H

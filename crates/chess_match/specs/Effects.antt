@@ -60,8 +60,8 @@ pub record Effect : Type 0 where
 abbrev pub clock : Rules → Match → Colour → ℕ
 clock r m S = time_left r.level (length (m.seat S).used) (sum (m.seat S).used)
 
--- the number of the latest `ping` that the side `S` was sent, or is due to be: 1 in its setup, n + 1 after its n-th move
--- (there is a used time for each of its moves)
+-- the number of the latest `ping` that the side `S` was sent, or is due to be: 1 in its setup, n + 1 after its n-th
+-- move (there is a used time for each of its moves)
 abbrev pub ping_number : Match → Colour → ℕ
 ping_number m S = length (m.seat S).used + 1
 
@@ -151,8 +151,8 @@ ignores r S m =
     if nat_le 10000 (m.count + 1) then ends r (Faulted S Flood) m
     else sends_nothing (record m { count = m.count + 1 })
 
--- the turn of the side `S` is opened: the lines for that are due, and no line of this turn is counted yet. Its time runs
--- from the moment that is read once they are sent (`Opening`)
+-- the turn of the side `S` is opened: the lines for that are due, and no line of this turn is counted yet. Its time
+-- runs from the moment that is read once they are sent (`Opening`)
 abbrev pub begins_turn : Rules → Colour → Match → Effect
 begins_turn r S m = let m' = enter (Opening S) m in sends_to S (opening r m' S) m'
 
@@ -237,7 +237,8 @@ abbrev pub with_answers : Colour → List Item → Effect → Effect
 with_answers side items e = record e { to = λ S. list_if (same_colour side S) (answers_to items) ++ e.to S }
 
 -- a line of the side `S` in its handshake, which has these items (none, if it is no `feature` line): they are kept, and
--- each is answered. `done=1` ends the handshake; if the 1,000th line, of whatever kind, comes without it, the match ends
+-- each is answered. `done=1` ends the handshake; if the 1,000th line, of whatever kind, comes without it, the match
+-- ends
 abbrev pub handshake_row : Rules → Colour → List Item → Match → Effect
 handshake_row r S items m =
     let m' = with_seat S (λ s. record s { items = s.items ++ items }) m in

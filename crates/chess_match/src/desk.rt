@@ -20,8 +20,8 @@ use byte_devices::{Input, Output, ReadFault, WriteFault, send};
 use chess_base::{ByColour, Colour};
 use text_lines::{Line, Lines};
 
-/// Both engines' pipes, the clock and the witness of a match, each on its own. Each step says what the trait says of it,
-/// and that all but its own device is as it was (`white`, `black`, `others`).
+/// Both engines' pipes, the clock and the witness of a match, each on its own. Each step says what the trait says of
+/// it, and that all but its own device is as it was (`white`, `black`, `others`).
 #[derive(Drop)]
 pub(crate) struct Desk<'a, 'b, 'c, 'd, 'e, 'f, R, W, M, L> {
     pub white_reader: &'a mut R,
@@ -39,7 +39,7 @@ impl<R: Input, W: Output, M: Moments, L: Witness> MatchTable
 
     ghost left = { λ d. left_at R.seen d };
 
-    // Sends this text by one call, and flushes.
+    // Writes this text to the engine of this side, and flushes.
     fn send(&mut self, side: Colour, text: &[u8]) -> Result<(), WriteFault>
         ensures passes { (lines : List SentLine) → bytes_of lines ≡ text.now
             → PassesAt R.seen W.seen M.coming L.noted self.old self.new

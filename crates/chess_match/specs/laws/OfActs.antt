@@ -156,8 +156,8 @@ LastLineIsTheirs = (r : Rules) (reason : Reason) (S : Colour) (H : List Act) (fi
 
 -- ---- moves
 
--- the moves played are what the two engines' `move` lines after their setup denote in turn, beginning with the side that
--- moves first; at most one `move` line is left over
+-- the moves played are what the two engines' `move` lines after their setup denote in turn, beginning with the side
+-- that moves first; at most one `move` line is left over
 abbrev pub MovesAreRead : Rules → List Act → Match → Type 0
 MovesAreRead r H m = AreRead r [] m.played (moves_of (lines_read r.first H)) (moves_of (lines_read (other r.first) H))
 
@@ -187,8 +187,8 @@ MovesAreSent r H m = (O : Colour) → (rest : List (List ℕ)) × (length rest �
 -- the engines' lines fix the moves that each engine is sent, but for the last: there are moves `ms`, which the two
 -- engines' `move` lines denote in turn (all of them, or all but the last). Each side `O` is sent those of the other
 -- side, each once, in order, in SAN or by squares, as its handshake asked for; a block that could not be sent counts.
--- `rest` is what `O` was not sent: at most the last of them; and nothing, if the match is whole (`whole`) and each block
--- for `O` was sent
+-- `rest` is what `O` was not sent: at most the last of them; and nothing, if the match is whole (`whole`) and each
+-- block for `O` was sent
 abbrev pub EachIsSentOthersMoves : Bool → Rules → List Act → Match → Type 0
 EachIsSentOthersMoves whole r H m =
     (ms : List Move) × AreRead r [] ms (moves_of (lines_read r.first H)) (moves_of (lines_read (other r.first) H))
@@ -217,8 +217,8 @@ GamesAreLines = (start : Position) (level : LevelSeen) (limit : ℕ) (H : List A
 -- ---- clocks
 
 -- the `time` lines that each side `S` is sent show its own clock before its first move and after each of its moves, in
--- order (none, if its engine has `time=0`; those of a block that could not be sent count). `rest` is what is missing: at
--- most the last one
+-- order (none, if its engine has `time=0`; those of a block that could not be sent count). `rest` is what is missing:
+-- at most the last one
 abbrev pub TimesAreClocks : Rules → List Act → Match → Type 0
 TimesAreClocks r H m = (S : Colour) → (rest : List ℕ) × (length rest ≤ 1)
     × (flat_map time_sent (lines_given S H) ++ rest
@@ -237,7 +237,8 @@ OtherTimesAreClocks r H m = (S : Colour) → (rest : List ℕ) × (length rest �
     else []))
 
 -- the milliseconds from when each turn of the side `S` was opened to its first `move` line after that (0 if the clock
--- went back); a turn is opened when the clock is read, but not after a line. `opened` is when the present turn of `S` was opened; `None` if no move of `S` is awaited
+-- went back); a turn is opened when the clock is read, but not after a line. `opened` is when the present turn of `S`
+-- was opened; `None` if no move of `S` is awaited
 abbrev pub move_times : Colour → Option ℕ → List Act → List ℕ
 move_times S opened [] = []
 move_times S opened (Reads side text ∷ ReadsClock c moment ∷ H) =
@@ -278,8 +279,8 @@ abbrev pub NotesHaveTheEvents : Type 0
 NotesHaveTheEvents = (r : Rules) (reason : Reason) (H : List Act) (final : Match) → IsMatch r H final
     → final.phase ≡ Over reason → final ≡ after_events r beginning.after (events_in (notes_given reason H))
 
--- for any acts, a match or not: the bytes in the notes for the side `S`, one after another, are those of all lines of the
--- blocks for `S`, also of those that could not be sent
+-- for any acts, a match or not: the bytes in the notes for the side `S`, one after another, are those of all lines of
+-- the blocks for `S`, also of those that could not be sent
 abbrev pub NotesHaveAllLines : Type 0
 NotesHaveAllLines = (reason : Reason) (H : List Act) (S : Colour)
     → given_in S (notes_given reason H) ≡ bytes_of (lines_given S H)
