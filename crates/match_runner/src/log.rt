@@ -180,7 +180,8 @@ fn split_line(text: &[u8]) -> (&[u8], &[u8])
 
 /// An output on which games are logged in the form of XBoard's debug file: it watches a match, and writes each line
 /// that an engine sends or is sent, and each failure and end of an output. All lines of a note are written and flushed
-/// before the match goes on. After a write or flush that failed it logs nothing more.
+/// before the match goes on, as the clause `logs` of each of its methods as a `Witness` says. After a write or flush
+/// that failed it logs nothing more.
 #[derive(Drop)]
 pub struct Log<E> {
     /// Where the log goes.

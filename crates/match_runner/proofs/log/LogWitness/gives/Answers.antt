@@ -4,7 +4,6 @@ use Rattle.std.specs.Prelude.{◌==◌}
 use Rattle.chess_base.specs.Letters.{byte}
 use Rattle.chess_base.specs.Men.{same_colour}
 use Rattle.chess_base.specs.declared.man.Colour.{Colour}
-use Rattle.chess_match.specs.Notes.{Gives}
 use Rattle.match_runner.specs.Log.{Logged, log_line, log_seen}
 use Rattle.match_runner.proofs.Logged.{given_all, given_more, logged_more}
 use Rattle.match_runner.proofs.log.LogWitness.gives.Goals as goal

@@ -1,5 +1,5 @@
 -- The line was logged, or that it was too long.
-use Rattle.std.proofs.Common.{◌≡◌, ◌∙◌, Bool, List, ℕ, Option, Some, None, ap, codes, refl, sym}
+use Rattle.std.proofs.Common.{◌≡◌, ◌∙◌, Bool, List, ℕ, Option, Some, None, ap, codes, sym}
 use Rattle.std.specs.Prelude.{if◌then◌else◌}
 use Rattle.chess_base.specs.Letters.{byte}
 use Rattle.chess_match.specs.Events.{Line}
