@@ -17,8 +17,9 @@ use Rattle.byte_devices.proofs.shared.Devices.{appends_more}
 use Rattle.chess_match.specs.Notes.{Note, Gives, WasNoted}
 use Rattle.chess_match.specs.Run.{Flushed, FlushedThenFailed}
 use Rattle.chess_match.proofs.shared.Flushes.{flushed_none, flushed_more, failed_after}
-use Rattle.match_runner.specs.Log.{Entry, LogSeen, Logged, Logs, entries_from, entries_text, lines_in, log_line, log_text, moment_after, note_entries}
-use Rattle.match_runner.specs.ties.Logging.{Adds, IsLog, LogsPending, first_of_text, log_of_text, moment_from, text_of_log}
+use Rattle.match_runner.specs.Log.{Entry, LogSeen, Logged, Logs, LogsNote, entries_from, entries_text, lines_in, log_line, log_seen, log_text, moment_after, note_entries}
+use Rattle.match_runner.specs.ties.Logging.{Adds, IsLog, LogsPending, first_of_text, log_of_text, moment_from, noted_by, text_of_log}
+use Rattle.match_runner.specs.declared.log.Log.{Log}
 use Rattle.match_runner.specs.declared.log.Pending.{Pending}
 
 -- ---- the output
@@ -260,38 +261,40 @@ log_begun first side l l' moment sided same begun = record {
 }
 
 -- a note more was logged
-pub noted : (side side' : Colour) (l l' : LogSeen) (moment moment' : ℕ) (n : Note)
-    → Logged l l' (entries_text (note_entries side moment n)) → side' ≡ side → moment' ≡ moment_after moment n
-    → WasNoted (λ before notes. IsLog (first_of_text before) (log_of_text before) side l moment notes)
-    (λ before notes. IsLog (first_of_text before) (log_of_text before) side' l' moment' notes) (n ∷ [])
-noted side side' l l' moment moment' n logged same after = record {
+pub noted : {E : Type 0} (seen : E → OutputState) (l l' : Log E) (n : Note) → LogsNote seen l l' n
+    → WasNoted (noted_by seen l) (noted_by seen l') (n ∷ [])
+noted seen l l' n (logged, same, after) = record {
   extends = λ before notes was.
       let first = first_of_text before in
       let from = log_of_text before in
+      let now = log_seen (seen l.output) l.broken in
+      let after_it = log_seen (seen l'.output) l'.broken in
+      let entries : List ℕ = entries_text (note_entries l.first l.moment n) in
       record {
         sided = same ∙ was.sided;
-        written = subst (λ (t : List ℕ). Logged from l' t)
-            (ap (λ (c : Colour). log_text first notes ++ entries_text (note_entries c moment n)) was.sided
+        written = subst (λ (t : List ℕ). Logged from after_it t)
+            (ap (λ (c : Colour). log_text first notes ++ entries_text (note_entries c l.moment n)) was.sided
             ∙ ap (λ (m : ℕ). log_text first notes ++ entries_text (note_entries first m n)) was.reached
             ∙ sym (log_more first 0 notes n))
-            (logged_more from l l' (log_text first notes) (entries_text (note_entries side moment n)) was.written
-            logged);
+            (logged_more from now after_it (log_text first notes) entries was.written logged);
         reached = after ∙ ap (λ (m : ℕ). moment_after m n) was.reached ∙ sym (moment_more 0 notes n);
       };
 }
 
 -- a note of a single line was logged
-pub line_noted : (side side' c : Colour) (l l' : LogSeen) (moment moment' at mark : ℕ) (text : List ℕ) (n : Note)
-    → note_entries side moment n
-    ≡ record { moment = at; mark = mark; is_first = same_colour c side; text = text } ∷ []
-    → Logged l l' (log_line at mark (same_colour c side) text) → side' ≡ side → moment' ≡ moment_after moment n
-    → WasNoted (λ before notes. IsLog (first_of_text before) (log_of_text before) side l moment notes)
-    (λ before notes. IsLog (first_of_text before) (log_of_text before) side' l' moment' notes) (n ∷ [])
-line_noted side side' c l l' moment moment' at mark text n is logged =
-    noted side side' l l' moment moment' n
-    (subst (λ (t : List ℕ). Logged l l' t)
-    (one_entry (record { moment = at; mark = mark; is_first = same_colour c side; text = text })
-    ∙ ap entries_text (sym is)) logged)
+pub line_logs : {E : Type 0} (seen : E → OutputState) (l l' : Log E) (c : Colour) (at mark : ℕ) (text : List ℕ)
+    (n : Note) → note_entries l.first l.moment n
+    ≡ record { moment = at; mark = mark; is_first = same_colour c l.first; text = text } ∷ []
+    → Logged (log_seen (seen l.output) l.broken) (log_seen (seen l'.output) l'.broken)
+    (log_line at mark (same_colour c l.first) text)
+    → l'.first ≡ l.first → l'.moment ≡ moment_after l.moment n → LogsNote seen l l' n
+line_logs seen l l' c at mark text n is logged same after = (
+  subst (λ (t : List ℕ). Logged (log_seen (seen l.output) l.broken) (log_seen (seen l'.output) l'.broken) t)
+      (one_entry (record { moment = at; mark = mark; is_first = same_colour c l.first; text = text })
+      ∙ ap entries_text (sym is)) logged,
+  same,
+  after,
+)
 
 -- ---- a whole match
 

@@ -9,6 +9,7 @@ use Rattle.chess_game.specs.Results.{shown_byte}
 use Rattle.chess_match.specs.Events.{Line, Opened, OutputEnds, FailsToRead, FailsToWrite}
 use Rattle.chess_match.specs.Notes.{Note, Happened, Gives}
 use Rattle.chess_match.specs.Run.{Flushed, FlushedThenFailed}
+use Rattle.match_runner.specs.declared.log.Log.{Log}
 
 -- ---- one line
 
@@ -103,3 +104,11 @@ Logs true broken o o' text = (broken ≡ true) × (o' ≡ o)
 -- was written; or one had failed before, and nothing was
 abbrev pub Logged : LogSeen → LogSeen → List ℕ → Type 0
 Logged l l' text = Logs l.broken l'.broken l.output l'.output text
+
+-- a log was given this note, which took it from `l` to `l'`: the note's lines were written and flushed, or a call
+-- failed, as in `Logged`. `seen` gives what contracts see of its output
+abbrev pub LogsNote : {E : Type 0} → (E → OutputState) → Log E → Log E → Note → Type 0
+LogsNote seen l l' note =
+    Logged (log_seen (seen l.output) l.broken) (log_seen (seen l'.output) l'.broken)
+    (entries_text (note_entries l.first l.moment note))
+    × (l'.first ≡ l.first) × (l'.moment ≡ moment_after l.moment note)

@@ -5,10 +5,13 @@ ghost use Rattle.arrayvec.specs.ArrayVec.{array_vec_len};
 ghost use Rattle.chess_base.specs.Letters.{new_line};
 ghost use Rattle.chess_base.specs.Men.{same_colour};
 ghost use Rattle.chess_game.specs.Results.{shown_byte};
+ghost use Rattle.chess_match.specs.Events as events;
+ghost use Rattle.chess_match.specs.Notes.{Gives, Happened};
 ghost use Rattle.chess_match.specs.Played.{PlayedNoting};
 ghost use Rattle.chess_match.specs.Run.{ports_of, text_read};
-ghost use Rattle.match_runner.specs.Log.{Logged, Logs, engine_text, head, lines_in, log_line, log_seen, log_text};
-ghost use Rattle.match_runner.specs.ties.Logging.{Adds, IsLog};
+ghost use Rattle.match_runner.specs.Log.{Logged, Logs, LogsNote};
+ghost use Rattle.match_runner.specs.Log.{engine_text, head, lines_in, log_line, log_seen, log_text};
+ghost use Rattle.match_runner.specs.ties.Logging.{Adds, IsLog, noted_by};
 
 use arrayvec::ArrayVec;
 use byte_devices::{Input, Output, len_before, send};
@@ -177,7 +180,8 @@ fn split_line(text: &[u8]) -> (&[u8], &[u8])
 
 /// An output on which games are logged in the form of XBoard's debug file: it watches a match, and writes each line
 /// that an engine sends or is sent, and each failure and end of an output. All lines of a note are written and flushed
-/// before the match goes on. After a write or flush that failed it logs nothing more.
+/// before the match goes on, as the clause `logs` of each of its methods as a `Witness` says. After a write or flush
+/// that failed it logs nothing more.
 #[derive(Drop)]
 pub struct Log<E> {
     /// Where the log goes.
@@ -243,13 +247,12 @@ impl<E: Output> Log<E> {
 }
 
 impl<E: Output> Witness for Log<E> {
-    ghost use Rattle.match_runner.specs.ties.Logging.{IsLog, first_of_text, log_of_text};
-
-    ghost noted = { λ l before notes. IsLog (first_of_text before) (log_of_text before)
-        l.first (log_seen (E.seen l.output) l.broken) l.moment notes };
+    ghost noted = { λ l. noted_by E.seen l };
 
     // Logs a line that an engine sent, such as `312 <first : move e2e4`.
-    fn line(&mut self, side: Colour, line: &Line<ENGINE_LINE_LEN>, moment: u64) {
+    fn line(&mut self, side: Colour, line: &Line<ENGINE_LINE_LEN>, moment: u64)
+        ensures logs { LogsNote E.seen self.old self.new (Happened (events.Line side (text_read line.now) moment)) }
+    {
         self.moment = moment;
         if line.is_too_long() {
             self.add_line(side, b'!', b"line too long");
@@ -259,27 +262,37 @@ impl<E: Output> Witness for Log<E> {
     }
 
     // Keeps the time for the lines that follow, and logs nothing: the lines that opened the turn were logged before.
-    fn opened(&mut self, _side: Colour, moment: u64) {
+    fn opened(&mut self, _side: Colour, moment: u64)
+        ensures logs { LogsNote E.seen self.old self.new (Happened (events.Opened _side moment)) }
+    {
         self.moment = moment;
     }
 
     // Logs that an engine closed its output.
-    fn output_ends(&mut self, side: Colour) {
+    fn output_ends(&mut self, side: Colour)
+        ensures logs { LogsNote E.seen self.old self.new (Happened (events.OutputEnds side)) }
+    {
         self.add_line(side, b'!', b"output ended");
     }
 
     // Logs that reading from an engine failed.
-    fn read_fails(&mut self, side: Colour) {
+    fn read_fails(&mut self, side: Colour)
+        ensures logs { LogsNote E.seen self.old self.new (Happened (events.FailsToRead side)) }
+    {
         self.add_line(side, b'!', b"read failed");
     }
 
     // Logs that writing to an engine failed.
-    fn write_fails(&mut self, side: Colour) {
+    fn write_fails(&mut self, side: Colour)
+        ensures logs { LogsNote E.seen self.old self.new (Happened (events.FailsToWrite side)) }
+    {
         self.add_line(side, b'!', b"write failed");
     }
 
     // Logs the lines that an engine is sent, each such as `312 >first : e2e4`.
-    fn gives(&mut self, side: Colour, text: &[u8]) {
+    fn gives(&mut self, side: Colour, text: &[u8])
+        ensures logs { LogsNote E.seen self.old self.new (Gives side text.now) }
+    {
         let mut rest = text;
         while !rest.is_empty() {
             let (line, after) = split_line(rest);

@@ -115,8 +115,9 @@ AreOfLogs plan games = AllByRecursion
     (λ g. IsOfPlan plan g.1 × AllByRecursion IsShown (entries_from (first_side g.0) 0 g.1.notes))
     (enumerate_from 1 games)
 
--- what a match writes to the output, the PGN of its games and the score, follows from the logs of its games: two
--- matches by one plan whose games have the same logs write the same
+-- what a match writes to the output, the PGN of its games and the score, follows from the logs of its games and the
+-- plan: two matches by one plan, both played to the end and with their score written, whose games have the same logs,
+-- which show their lines as they are, write the same
 abbrev pub LogsGiveTheOutput : Type 0
 LogsGiveTheOutput = (plan : GamesPlan) (games games' : List GameRecord) → AreOfLogs plan games
     → AreOfLogs plan games' → logs_of games ≡ logs_of games' → match_text plan games ≡ match_text plan games'

@@ -6,8 +6,9 @@ use Rattle.chess_base.specs.Men.{same_colour}
 use Rattle.byte_devices.specs.Devices.{OutputState, Begins}
 use Rattle.chess_match.specs.Notes.{Note}
 use Rattle.chess_match.specs.Run.{Flushed, FlushedThenFailed}
+use Rattle.match_runner.specs.declared.log.Log.{Log}
 use Rattle.match_runner.specs.declared.log.Pending.{Pending}
-use Rattle.match_runner.specs.Log.{log_text, moment_after, LogSeen, Logged}
+use Rattle.match_runner.specs.Log.{log_seen, log_text, moment_after, LogSeen, Logged}
 
 -- what logging `text` did, as `Logs` has it, but that the bytes `pending` at its end still wait to be written
 abbrev pub LogsPending : Bool → Bool → OutputState → OutputState → List ℕ → List ℕ → Type 0
@@ -65,3 +66,9 @@ log_of_text (_ ∷ b ∷ failures ∷ unflushed ∷ rest) = record {
   broken = b == 1;
 }
 log_of_text _ = record { output = record { known_bytes = None; failure_count = 0; unflushed = 0 }; broken = false }
+
+-- the log `l` may have been given just these notes in a game, if it held the text `before` as the game began. `seen`
+-- gives what contracts see of its output
+abbrev pub noted_by : {E : Type 0} → (E → OutputState) → Log E → List ℕ → List Note → Type 0
+noted_by seen l before notes = IsLog (first_of_text before) (log_of_text before) l.first
+    (log_seen (seen l.output) l.broken) l.moment notes

@@ -4,9 +4,8 @@ use Rattle.std.specs.Prelude.{◌==◌}
 use Rattle.chess_base.specs.Letters.{byte}
 use Rattle.chess_base.specs.Men.{same_colour}
 use Rattle.chess_base.specs.declared.man.Colour.{Colour}
-use Rattle.chess_match.specs.Notes.{Gives}
 use Rattle.match_runner.specs.Log.{Logged, log_line, log_seen}
-use Rattle.match_runner.proofs.Logged.{given_all, given_more, logged_more, noted}
+use Rattle.match_runner.proofs.Logged.{given_all, given_more, logged_more}
 use Rattle.match_runner.proofs.log.LogWitness.gives.Goals as goal
 
 pub loop-rest-preserved : goal.loop-rest-preserved
@@ -33,7 +32,12 @@ returns g c =
     let old = log_seen (g.E.Output.seen c.args.self.now.output) c.args.self.now.broken in
     let new = log_seen (g.E.Output.seen c.loop-rest.self.output) c.loop-rest.self.broken in
     let none : (length c.loop-rest.rest.now == 0) ≡ true = sym c.loop-rest-test.ensures in
-    noted _ _ _ _ _ _ (Gives c.args.side c.args.text.now)
-    (subst (λ (t : List ℕ). Logged old new t)
-    (given_all c.args.self.now.first c.args.side c.args.self.now.moment c.loop-rest.rest.now _ done none is) logged)
-    first moment
+    record {
+      logs = (
+        subst (λ (t : List ℕ). Logged old new t)
+            (given_all c.args.self.now.first c.args.side c.args.self.now.moment c.loop-rest.rest.now _ done none is)
+            logged,
+        first,
+        moment,
+      );
+    }

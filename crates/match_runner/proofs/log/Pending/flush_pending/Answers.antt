@@ -1,5 +1,5 @@
 -- The pending bytes are written and flushed, unless something failed.
-use Rattle.std.proofs.Common.{ℕ, List, [], subst}
+use Rattle.std.proofs.Common.{ℕ, List, subst}
 use Rattle.match_runner.specs.Log.{Logs}
 use Rattle.match_runner.proofs.Logged.{adds_flushed}
 use Rattle.match_runner.proofs.log.Pending.flush_pending.Goals as goal
