@@ -13,11 +13,11 @@ use Rattle.chess_base.specs.declared.fen_fault.FenFault.{FenFault}
 use Rattle.chess_base.specs.declared.fen_fault.FenFault.TheVariants as faults
 use Rattle.chess_fen.specs.RightNames.{names_well}
 use Rattle.chess_fen.specs.Texts.{number_of, placement_of, is_castling, target_of, fields_of}
-use Rattle.chess_fen.specs.Reading.{◌>>=◌, side_of, denoted_by, denoted_in, castling_field, conditions_of, unless_fault, fen_reading_as}
+use Rattle.chess_fen.specs.Reading.{◌>>=◌, side_of, denoted_by, conditions_of, unless_fault, fen_reading_as}
 use Rattle.chess_fen.specs.Denotation.{DenotesCounters, DenotesFields, DenotesText, DenotesFenAs}
 use Rattle.chess_fen.specs.FenFaults.{DenotesSomeMen, DenotesSomeSide, IsFieldFault, HasWrongFieldCount, IsMalformed, IsFaultAs}
 use Rattle.chess_fen.proofs.DenotedFields.{denoted-placement, placement-denoted, denoted-side, side-denoted, denoted-target, target-denoted}
-use Rattle.chess_fen.proofs.Steps.{steps, if_fit}
+use Rattle.chess_fen.proofs.Steps.{steps, if_fit, denoted_in, third, reading-steps}
 
 -- ---- counters
 
@@ -94,13 +94,14 @@ outcome v a b c d h f more counters =
 
 -- what the fields of a text say of it
 abbrev pub TextOutcome : Variant → List ℕ → Result Setup FenFault → Type 0
-TextOutcome v text (Ok p) = DenotesText v text p
+TextOutcome v text (Ok p) = DenotesText v text (third (fields_of text)) p
 TextOutcome v text (Err f) = HasWrongFieldCount text f ⊎ IsMalformed v text f
 
 of_fields : (v : Variant) (text : List ℕ) (a b c d : List ℕ) (more : List (List ℕ))
     → fields_of text ≡ a ∷ b ∷ c ∷ d ∷ more → (length more ≡ 0) ⊎ (length more ≡ 2) → (r : Result Setup FenFault)
     → Outcome v a b c d more r → TextOutcome v text r
-of_fields v text a b c d more are count (Ok p) s = (a, b, c, d, more, are, s)
+of_fields v text a b c d more are count (Ok p) s =
+    subst (λ castling. DenotesText v text castling p) (sym (ap third are)) (a, b, d, more, are, s)
 of_fields v text a b c d more are count (Err f) s = inr (a, b, c, d, more, are, count, s)
 
 fieldless : (v : Variant) (text : List ℕ) (n : ℕ) → length (fields_of text) ≡ n → n ≢ 4 → n ≢ 6
@@ -166,9 +167,13 @@ in_fields v a b c d (f ∷ []) p s = absurd s.counters
 in_fields v a b c d (f ∷ g ∷ []) p s = fields-denoted v a b c d f g (f ∷ g ∷ []) p (given f g) s
 in_fields v a b c d (f ∷ g ∷ h ∷ more) p s = absurd s.counters
 
-pub text-denoted : (v : Variant) (text : List ℕ) (p : Setup) → DenotesText v text p
+pub text-denoted : (v : Variant) (text castling : List ℕ) (p : Setup) → DenotesText v text castling p
     → denoted_in v (fields_of text) ≡ Ok p
-text-denoted v text p s = ap (denoted_in v) s.5 ∙ in_fields v s.0 s.1 s.2 s.3 s.4 p s.6
+text-denoted v text castling p s = ap (denoted_in v) s.4 ∙ in_fields v s.0 s.1 castling s.2 s.3 p s.5
+
+third-is : (v : Variant) (text castling : List ℕ) (p : Setup) → DenotesText v text castling p
+    → third (fields_of text) ≡ castling
+third-is v text castling p s = ap third s.4
 
 -- ---- the position
 
@@ -190,9 +195,11 @@ holds ((g, false) ∷ xs) f b ys e = absurd cc
 pub reading-denoted : (v : Variant) (text : List ℕ) (p : Setup) → DenotesFenAs v text p → IsSound p
     → fen_reading_as v text ≡ Ok p
 reading-denoted v text p s h =
-    let letters = castling_field text in
-    ap (λ r. r >>= if_fit letters) (text-denoted v text p s.0)
-    ∙ ap (unless_fault p) (named-fault letters p s.1 ∙ no_fault_from_IsSound p h)
+    let letters = third (fields_of text) in
+    let well : names_well p.variant p.men letters ≡ true =
+    ap (names_well p.variant p.men) (third-is v text s.0 p s.1) ∙ s.2 in
+    reading-steps v (fields_of text) ∙ ap (λ r. r >>= if_fit letters) (text-denoted v text s.0 p s.1)
+    ∙ ap (unless_fault p) (named-fault letters p well ∙ no_fault_from_IsSound p h)
 
 -- the text denotes what is read, and the fault is true
 abbrev ReadingOutcome : Variant → List ℕ → Result Setup FenFault → Type 0
@@ -200,24 +207,29 @@ ReadingOutcome v text (Ok p) = DenotesFenAs v text p
 ReadingOutcome v text (Err f) = IsFaultAs v text f
 
 reading_outcome : (v : Variant) (text : List ℕ) → ReadingOutcome v text (fen_reading_as v text)
-reading_outcome v text = by_fields (denoted_in v (fields_of text)) (text_outcome v text)
+reading_outcome v text =
+    subst (ReadingOutcome v text) (sym (reading-steps v (fields_of text)))
+    (by_fields (denoted_in v (fields_of text)) (text_outcome v text))
   where
-    by_conditions : (p : Setup) → DenotesText v text p → (o : Option FenFault)
-        → first_failing (conditions_of (castling_field text) p) ≡ o → ReadingOutcome v text (unless_fault p o)
+    castling : List ℕ
+    castling = third (fields_of text)
+
+    by_conditions : (p : Setup) → DenotesText v text castling p → (o : Option FenFault)
+        → first_failing (conditions_of castling p) ≡ o → ReadingOutcome v text (unless_fault p o)
     by_conditions p s None e = (
+      castling,
       s,
-      holds (take 4 (conditions p)) faults.Castling (names_well p.variant p.men (castling_field text))
-          (drop 4 (conditions p)) e,
+      holds (take 4 (conditions p)) faults.Castling (names_well p.variant p.men castling) (drop 4 (conditions p)) e,
     )
-    by_conditions p s (Some f) e = inr (inr (p, s, e))
+    by_conditions p s (Some f) e = inr (inr (p, castling, s, e))
 
     first_two : (f : FenFault) → HasWrongFieldCount text f ⊎ IsMalformed v text f → IsFaultAs v text f
     first_two f (inl h) = inl h
     first_two f (inr h) = inr (inl h)
 
     by_fields : (r : Result Setup FenFault) → TextOutcome v text r
-        → ReadingOutcome v text (r >>= if_fit (castling_field text))
-    by_fields (Ok p) s = by_conditions p s (first_failing (conditions_of (castling_field text) p)) refl
+        → ReadingOutcome v text (r >>= if_fit castling)
+    by_fields (Ok p) s = by_conditions p s (first_failing (conditions_of castling p)) refl
     by_fields (Err f) s = first_two f s
 
 -- what is read is of the variant
@@ -225,7 +237,7 @@ pub reading_in_variant : (v : Variant) (text : List ℕ) → IfOk (fen_reading_a
 reading_in_variant v text = by_result (fen_reading_as v text) (reading_outcome v text)
   where
     by_result : (r : Result Setup FenFault) → ReadingOutcome v text r → IfOk r (λ p. p.variant ≡ v)
-    by_result (Ok p) s = s.0.6.variant
+    by_result (Ok p) s = s.1.5.variant
     by_result (Err f) s = tt
 
 pub found : (v : Variant) (text : List ℕ) (p : Setup) → fen_reading_as v text ≡ Ok p → DenotesFenAs v text p
@@ -297,8 +309,14 @@ uncounted v (a ∷ b ∷ c ∷ d ∷ f ∷ g ∷ h ∷ more) four six = refl
 
 pub fault-read : (v : Variant) (text : List ℕ) (f : FenFault) → IsFaultAs v text f → fen_reading_as v text ≡ Err f
 fault-read v text f (inl h) =
-    ap (λ r. r >>= if_fit (castling_field text)) (uncounted v (fields_of text) h.1 h.2) ∙ ap Err (sym h.0)
-fault-read v text f (inr (inl h)) = ap (λ r. r >>= if_fit (castling_field text))
-    (ap (denoted_in v) h.5 ∙ misread_in v h.0 h.1 h.2 h.3 h.4 f h.6 h.7)
-fault-read v text f (inr (inr h)) = ap (λ r. r >>= if_fit (castling_field text)) (text-denoted v text h.0 h.1)
-    ∙ ap (unless_fault h.0) h.2
+    reading-steps v (fields_of text)
+    ∙ ap (λ r. r >>= if_fit (third (fields_of text))) (uncounted v (fields_of text) h.1 h.2) ∙ ap Err (sym h.0)
+fault-read v text f (inr (inl h)) =
+    reading-steps v (fields_of text)
+    ∙ ap (λ r. r >>= if_fit (third (fields_of text)))
+      (ap (denoted_in v) h.5 ∙ misread_in v h.0 h.1 h.2 h.3 h.4 f h.6 h.7)
+fault-read v text f (inr (inr h)) =
+    reading-steps v (fields_of text)
+    ∙ ap (λ r. r >>= if_fit (third (fields_of text))) (text-denoted v text h.1 h.0 h.2)
+    ∙ ap (unless_fault h.0)
+      (ap (λ castling. first_failing (conditions_of castling h.0)) (third-is v text h.1 h.0 h.2) ∙ h.3)

@@ -12,7 +12,7 @@ use Rattle.chess_base.specs.declared.setup.Setup.{Setup}
 use Rattle.chess_base.specs.Faults.{conditions, rights_are_sound, first_failing, setup_fault}
 use Rattle.chess_base.specs.Men.{Men}
 use Rattle.chess_base.proofs.shared.Normal.{normal_kept}
-use Rattle.chess_fen.specs.Reading.{◌>>=◌, side_of, denoted_by, denoted_in, unless_fault, fen_reading_as}
+use Rattle.chess_fen.specs.Reading.{◌>>=◌, side_of, denoted_by, unless_fault, reading_in, fen_reading_as}
 use Rattle.chess_fen.specs.Texts.{may_name_right, placement_of, target_of, number_of, fields_of, is_castling}
 use Rattle.chess_fen.specs.laws.Normal.{normal_rights_named, normal_setup_by, normal_setup_in, normal_rights_are_sound, normal_fault, normal_sound, normal_fen_reading}
 use Rattle.chess_fen.proofs.DenotedFen.{reading_in_variant}
@@ -91,7 +91,7 @@ pub reading_kept : (text : List ℕ) → fen_reading_as Normal text ≡ normal_f
 reading_kept text = by_fields (fields_of text)
   where
     by_fields : (fields : List (List ℕ))
-        → (denoted_in Normal fields >>= if_fit (get_or fields 2 [])) ≡ (normal_setup_in fields >>= normal_sound)
+        → reading_in Normal fields ≡ (normal_setup_in fields >>= normal_sound)
     by_fields [] = refl
     by_fields (a ∷ []) = refl
     by_fields (a ∷ b ∷ []) = refl

@@ -23,7 +23,7 @@ use Rattle.chess_base.specs.Sound.{IsSound}
 use Rattle.chess_base.proofs.shared.Sound.{no_fault_from_IsSound}
 use Rattle.chess_fen.specs.Texts.{first_letter, names_file, placement_of, number_of, is_castling, target_of, fields_of}
 use Rattle.chess_fen.specs.RightNames.{side_letter, from_edge, is_towards, names_right, rook_named, right_by, right_in, names_well, rights_in}
-use Rattle.chess_fen.specs.Reading.{◌>>=◌, side_of, denoted_by, denoted_in, unless_fault, fen_reading_as}
+use Rattle.chess_fen.specs.Reading.{◌>>=◌, side_of, denoted_by, unless_fault, reading_in, fen_reading_as}
 use Rattle.chess_fen.specs.ties.Reader.{nowhere, outer_rook, named_square, one_or_nowhere, right_by_letters, setup_by, setup_in}
 use Rattle.chess_fen.proofs.Steps.{steps, if_fit}
 
@@ -239,7 +239,7 @@ fens_are : (v : Variant) (text : List ℕ) → fen_reading_as v text ≡ (setup_
 fens_are v text = by_fields (fields_of text)
   where
     by_fields : (fields : List (List ℕ))
-        → (denoted_in v fields >>= if_fit (get_or fields 2 [])) ≡ (setup_in v fields >>= if_sound)
+        → reading_in v fields ≡ (setup_in v fields >>= if_sound)
     by_fields [] = refl
     by_fields (a ∷ []) = refl
     by_fields (a ∷ b ∷ []) = refl

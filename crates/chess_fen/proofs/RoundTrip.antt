@@ -27,7 +27,6 @@ use Rattle.text_lines.specs.Words.{short_number}
 use Rattle.chess_fen.specs.RightNames.{side_letter, right_named, right_in, names_well}
 use Rattle.chess_fen.specs.Texts.{number_of, from_top, placement_of, occurs, may_name_right, is_castling, fields_of}
 use Rattle.chess_fen.specs.Writing.{fen_rank, placement_text, side_text, right_text, or_dash, rights_text, target_text, fen}
-use Rattle.chess_fen.specs.Reading.{denoted_in, castling_field}
 use Rattle.chess_fen.specs.Denotation.{DenotesSquares, DenotesRank}
 use Rattle.chess_fen.specs.ties.Loops.{ranks_down, run_text, row_text, ranks_text}
 use Rattle.chess_fen.proofs.DenotedFields.{placement-denoted, side-text, target-denoted}
@@ -36,6 +35,7 @@ use Rattle.chess_fen.proofs.WrittenRanks.{moved, row_is}
 use Rattle.chess_fen.proofs.Lengths.{short_decimal}
 use Rattle.chess_fen.proofs.FenBytes.{target_fits, rows_plain, fields, counters_fit, fields_plain}
 use Rattle.chess_fen.proofs.Joined.{each_weaker, slice_split-join, fields_of-join}
+use Rattle.chess_fen.proofs.Steps.{denoted_in, third}
 
 -- ---- numbers
 
@@ -254,9 +254,9 @@ written-fen p h =
       t Black QueenSide,
     ) refl
 
-pub written-well : (p : Setup) → IsSound p → names_well p.variant p.men (castling_field (fen p)) ≡ true
+pub written-well : (p : Setup) → IsSound p → names_well p.variant p.men (third (fields_of (fen p))) ≡ true
 written-well p h =
     let t = (read_back p h).rights in
     let well : names_well p.variant p.men (rights_text p.variant p.rights) ≡ true =
     rw (t White KingSide, t White QueenSide, t Black KingSide, t Black QueenSide) refl in
-    ap (λ fields. names_well p.variant p.men (get_or fields 2 [])) (fen_fields p h) ∙ well
+    ap (λ fields. names_well p.variant p.men (third fields)) (fen_fields p h) ∙ well

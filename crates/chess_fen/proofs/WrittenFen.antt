@@ -3,15 +3,18 @@ use Rattle.std.proofs.Common.{◌≡◌, Ok, sym, subst, ◌∙◌}
 use Rattle.chess_base.specs.declared.setup.Setup.{Setup}
 use Rattle.chess_base.specs.Sound.{IsSound}
 use Rattle.chess_fen.specs.Denotation.{DenotesFenAs}
+use Rattle.chess_fen.specs.Texts.{fields_of}
 use Rattle.chess_fen.specs.Writing.{fen}
 use Rattle.chess_fen.proofs.RoundTrip.{written-fen, written-well}
 use Rattle.chess_fen.proofs.DenotedFen.{TextOutcome, text_outcome, text-denoted}
+use Rattle.chess_fen.proofs.Steps.{third}
 
 pub fen-denoted : (p : Setup) → IsSound p → DenotesFenAs p.variant (fen p) p
 fen-denoted p h = (
+  third (fields_of (fen p)),
   subst (TextOutcome p.variant (fen p)) (written-fen p h) (text_outcome p.variant (fen p)),
   written-well p h,
 )
 
 pub no_other : (p q : Setup) → IsSound p → DenotesFenAs p.variant (fen p) q → q ≡ p
-no_other p q h s = let e : Ok q ≡ Ok p = sym (text-denoted p.variant (fen p) q s.0) ∙ written-fen p h in cc
+no_other p q h s = let e : Ok q ≡ Ok p = sym (text-denoted p.variant (fen p) s.0 q s.1) ∙ written-fen p h in cc

@@ -9,7 +9,6 @@ use Rattle.chess_base.specs.Squares.{rank}
 use Rattle.chess_base.specs.declared.setup.Setup.{Setup}
 use Rattle.chess_base.specs.Letters.{byte, letter}
 use Rattle.chess_fen.specs.RightNames.{names_well, rights_in}
-use Rattle.chess_fen.specs.Reading.{castling_field}
 use Rattle.chess_fen.specs.Texts.{from_top, number_of, is_castling, fields_of}
 use Rattle.chess_fen.specs.Writing.{side_text, target_text}
 
@@ -59,14 +58,17 @@ pub record DenotesFields (v : Variant) (a b c d : List ℕ) (counters_text : Lis
   pub target : DenotesTarget d p.target
   pub counters : DenotesCounters counters_text p.halfmove p.fullmove
 
--- the text has four fields or six, and as those of a FEN of variant v they denote position p, sound or not
-abbrev pub DenotesText : Variant → List ℕ → Setup → Type 0
-DenotesText v text p = (a : List ℕ) × (b : List ℕ) × (c : List ℕ) × (d : List ℕ) × (more : List (List ℕ))
+-- the text has four fields or six, of which the third, with the castling rights, is c; and as those of a FEN of variant
+-- v they denote position p, sound or not
+abbrev pub DenotesText : Variant → List ℕ → List ℕ → Setup → Type 0
+DenotesText v text c p = (a : List ℕ) × (b : List ℕ) × (d : List ℕ) × (more : List (List ℕ))
     × (fields_of text ≡ a ∷ b ∷ c ∷ d ∷ more) × DenotesFields v a b c d more p
 
--- the text denotes position p as a FEN of variant v: its fields denote p, and name each castling right rightly
+-- the text denotes position p as a FEN of variant v: its fields denote p, and the third names each castling right
+-- rightly
 abbrev pub DenotesFenAs : Variant → List ℕ → Setup → Type 0
-DenotesFenAs v text p = DenotesText v text p × IsTrue (names_well p.variant p.men (castling_field text))
+DenotesFenAs v text p = (castling : List ℕ) × DenotesText v text castling p
+    × IsTrue (names_well p.variant p.men castling)
 
 -- the text denotes position p as a FEN of normal chess
 abbrev pub DenotesFen : List ℕ → Setup → Type 0

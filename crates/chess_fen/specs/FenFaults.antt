@@ -11,7 +11,7 @@ use Rattle.chess_base.specs.declared.fen_fault.FenFault.{FenFault}
 use Rattle.chess_base.specs.declared.fen_fault.FenFault.TheVariants.{Fields, Placement, Side, Castling, EnPassant, Counters}
 use Rattle.chess_fen.specs.Texts.{is_castling, fields_of}
 use Rattle.chess_fen.specs.Writing.{side_text}
-use Rattle.chess_fen.specs.Reading.{castling_field, conditions_of}
+use Rattle.chess_fen.specs.Reading.{conditions_of}
 use Rattle.chess_fen.specs.Denotation.{DenotesPlacement, DenotesTarget, DenotesCounters, DenotesText}
 
 -- the text, a FEN's first field, denotes the pieces of a board
@@ -54,8 +54,8 @@ IsMalformed v text f =
 -- each field of the text denotes something, but together they give an unsound position, or a castling right is named
 -- wrongly: f reports the first condition that fails
 abbrev pub IsUnsound : Variant → List ℕ → FenFault → Type 0
-IsUnsound v text f = (p : Setup) × DenotesText v text p
-    × (first_failing (conditions_of (castling_field text) p) ≡ Some f)
+IsUnsound v text f = (p : Setup) × (castling : List ℕ) × DenotesText v text castling p
+    × (first_failing (conditions_of castling p) ≡ Some f)
 
 -- f is the fault of a text that is read as a FEN of variant v: a wrong number of fields, or else a field that denotes
 -- nothing, or else a condition that fails

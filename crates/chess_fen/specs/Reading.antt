@@ -2,7 +2,7 @@
 -- counters may be left out, and a fullmove number of 0 is read as 1. Denotation and FenFaults say the same of a text
 -- and a position or a fault, with relations for the placement, the side, the target and the order of faults; that both
 -- agree is proved by the clauses `found`, `only`, `fault` and `refused` of `read_fen_as`.
-use Rattle.std.specs.Prelude.{ℕ, max, codes, Bool, List, [], ◌∷◌, ◌++◌, take, drop, slice_index_or, Option, Some, None, Result, Ok, Err, ◌==◌, if◌then◌else◌}
+use Rattle.std.specs.Prelude.{ℕ, max, codes, Bool, List, [], ◌∷◌, ◌++◌, take, drop, Option, Some, None, Result, Ok, Err, ◌==◌, if◌then◌else◌}
 use Rattle.std.specs.Option.{ok_or, option_map_or}
 use Rattle.chess_base.specs.declared.man.Colour.{Colour}
 use Rattle.chess_base.specs.declared.man.Colour.TheVariants.{White, Black}
@@ -47,17 +47,6 @@ denoted_by v placement side castling target halfmove fullmove = do
     fullmove = max number 1;
   })
 
--- the position that a list of a FEN's fields denotes: six fields, or four, and then the counters are 0 and 1; any other
--- number of fields is a fault
-abbrev pub denoted_in : Variant → List (List ℕ) → Result Setup FenFault
-denoted_in v (a ∷ b ∷ c ∷ d ∷ []) = denoted_by v a b c d (codes "0") (codes "1")
-denoted_in v (a ∷ b ∷ c ∷ d ∷ e ∷ f ∷ []) = denoted_by v a b c d e f
-denoted_in v _ = Err faults.Fields
-
--- a text's third field, which has the letters of a FEN's castling rights; empty if there are fewer fields
-abbrev pub castling_field : List ℕ → List ℕ
-castling_field text = slice_index_or (fields_of text) 2 []
-
 -- each fault with the condition whose failure it reports, in the order in which they are checked: the conditions of
 -- soundness, and just before that of castling rights, which is the fifth, the condition that the castling field
 -- `letters` names no right wrongly
@@ -69,13 +58,25 @@ conditions_of letters p =
 abbrev pub unless_fault : Setup → Option FenFault → Result Setup FenFault
 unless_fault p fault = option_map_or Err fault (Ok p)
 
--- the sound position that a text denotes as a FEN of variant v; or the fault: of the first wrong field, or of the first
--- condition that fails
-abbrev pub fen_reading_as : Variant → List ℕ → Result Setup FenFault
-fen_reading_as v text = denoted_in v (fields_of text)
-    >>= λ p. unless_fault p (first_failing (conditions_of (castling_field text) p))
+-- the sound position that the six fields of a FEN denote; or the fault: of the first field that denotes nothing, or of
+-- the first condition that fails
+abbrev pub reading_by : Variant → List ℕ → List ℕ → List ℕ → List ℕ → List ℕ → List ℕ → Result Setup FenFault
+reading_by v placement side castling target halfmove fullmove =
+    denoted_by v placement side castling target halfmove fullmove
+    >>= λ p. unless_fault p (first_failing (conditions_of castling p))
 
--- the sound position that a text denotes as a FEN of normal chess; or the fault: of the first wrong field, or of the
--- first condition that fails
+-- the sound position that a list of a FEN's fields denotes, or the fault. There are six fields, or four, and then the
+-- counters are 0 and 1; any other number of fields is a fault
+abbrev pub reading_in : Variant → List (List ℕ) → Result Setup FenFault
+reading_in v (a ∷ b ∷ c ∷ d ∷ []) = reading_by v a b c d (codes "0") (codes "1")
+reading_in v (a ∷ b ∷ c ∷ d ∷ e ∷ f ∷ []) = reading_by v a b c d e f
+reading_in v _ = Err faults.Fields
+
+-- the sound position that a text denotes as a FEN of variant v; or the fault: a wrong number of fields, the first field
+-- that denotes nothing, or the first condition that fails
+abbrev pub fen_reading_as : Variant → List ℕ → Result Setup FenFault
+fen_reading_as v text = reading_in v (fields_of text)
+
+-- the sound position that a text denotes as a FEN of normal chess, or the fault, as `fen_reading_as` says
 abbrev pub fen_reading : List ℕ → Result Setup FenFault
 fen_reading text = fen_reading_as Normal text

@@ -1,6 +1,6 @@
 //! Laws of FEN. A caller learns one by calling its function, which does nothing.
 
-ghost use Rattle.std.specs.Prelude.{◌≡◌, ◌∷◌, ◌++◌, ℕ, true, false, List, Option, Some, None, Ok, codes, length, replicate};
+ghost use Rattle.std.specs.Prelude.{◌≡◌, ◌∷◌, ◌++◌, ℕ, true, false, List, [], Option, Some, None, Ok, codes, length, replicate};
 ghost use Rattle.chess_base.specs.declared.man.CastlingSide.TheVariants.{KingSide, QueenSide};
 ghost use Rattle.chess_base.specs.declared.man.Colour.TheVariants.{White, Black};
 ghost use Rattle.chess_base.specs.declared.man.Kind.TheVariants.{Pawn};
@@ -8,7 +8,7 @@ ghost use Rattle.chess_base.specs.declared.man.Man.{Man};
 ghost use Rattle.chess_base.specs.declared.man.Variant.TheVariants.{Normal, Fischerandom};
 ghost use Rattle.chess_base.specs.declared.setup.Setup.{Setup};
 ghost use Rattle.chess_base.specs.Initial.{man_of};
-ghost use Rattle.chess_fen.specs.Reading.{denoted_in, fen_reading_as};
+ghost use Rattle.chess_fen.specs.Reading.{denoted_by, fen_reading_as};
 ghost use Rattle.chess_fen.specs.RightNames.{right_in, names_well};
 ghost use Rattle.chess_fen.specs.Texts.{fields_of};
 ghost use Rattle.chess_fen.specs.Writing.{fen, fen_rank};
@@ -51,7 +51,10 @@ pub fn a_rank_has_one_text()
 /// text; and how letters name rights of Chess960, where White's king is on c1 and White's rooks are on b1, f1 and h1.
 pub fn fens_are_worked_out()
     // The third field names no right, and no right wrongly.
-    ensures fields { (denoted_in Normal (fields_of (codes "4k3/8/8/8/8/8/4P3/4K3 b - - 5 39")) ≡ Ok kings_and_pawn)
+    ensures fields { (fields_of (codes "4k3/8/8/8/8/8/4P3/4K3 b - - 5 39")
+            ≡ codes "4k3/8/8/8/8/8/4P3/4K3" ∷ codes "b" ∷ codes "-" ∷ codes "-" ∷ codes "5" ∷ codes "39" ∷ [])
+        × (denoted_by Normal (codes "4k3/8/8/8/8/8/4P3/4K3") (codes "b") (codes "-") (codes "-") (codes "5") (codes "39")
+            ≡ Ok kings_and_pawn)
         × (names_well Normal kings_and_pawn_men (codes "-") ≡ true) }
     ensures rank { IsRankText (replicate 4 None ++ (man_of White Pawn ∷ replicate 3 None)) (codes "4P3") }
     // The outermost rook on the king's side is on h1, the only one on the queen's side on b1.

@@ -5,7 +5,7 @@ use Rattle.std.specs.List.{prefix_len}
 use Rattle.std.specs.Option.{option_map_or}
 use Rattle.chess_base.specs.Letters.{byte, space}
 use Rattle.chess_base.specs.declared.fen_fault.FenFault.{FenFault}
-use Rattle.chess_base.specs.declared.fen_fault.FenFault.TheVariants.{Side, Castling, EnPassant, Counters}
+use Rattle.chess_base.specs.declared.fen_fault.FenFault.TheVariants.{Fields, Placement, Side, Castling, EnPassant, Counters, Kings, Pawns, Men, Check}
 use Rattle.text_lines.specs.Words.{short_number}
 use Rattle.chess_pgn.specs.Tokens.{is_word_byte, after_gap, name_at, after_next, string_at}
 
@@ -28,19 +28,25 @@ unfoldable pub from_field : ℕ → List ℕ → List ℕ
 from_field zero fen = after_spaces fen
 from_field (suc number) fen = from_field number (from_space (after_spaces fen))
 
--- the field with this number; empty if there are fewer
+-- the field with this number: the bytes from its first to the next space or the FEN's end. Of a FEN with fewer fields it
+-- is the empty text at the end
 abbrev pub field_at : ℕ → List ℕ → List ℕ
 field_at number fen = take_while (λ c. not (c == space)) (from_field number fen)
 
 -- the number of the field that this fault of a FEN is about, 0 for the first field. For a counter it is 5 (the fullmove
--- number) if field 4 (the halfmove clock) is a number of one to six digits, else 4. A fault of the whole FEN, or of the
--- pieces together, is about the first field
+-- number) if field 4 (the halfmove clock) is a number of one to six digits, else 4. A wrong number of fields, and a fault
+-- of the pieces together, such as a third king, are shown at the first field
 abbrev pub field_number : FenFault → List ℕ → ℕ
+field_number Fields fen = 0
+field_number Placement fen = 0
 field_number Side fen = 1
 field_number Castling fen = 2
 field_number EnPassant fen = 3
 field_number Counters fen = if is_some (short_number 6 (field_at 4 fen)) then 5 else 4
-field_number _ fen = 0
+field_number Kings fen = 0
+field_number Pawns fen = 0
+field_number Men fen = 0
+field_number Check fen = 0
 
 -- the field that a FEN's fault is about
 abbrev pub wrong_field : FenFault → List ℕ → List ℕ

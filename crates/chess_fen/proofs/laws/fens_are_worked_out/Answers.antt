@@ -11,7 +11,7 @@ use Rattle.chess_fen.proofs.laws.fens_are_worked_out.Goals as goal
 
 pub returns-clause-fields : goal.returns-clause-fields
 unfolding may_name_right
-returns-clause-fields c = (refl, refl)
+returns-clause-fields c = (refl, refl, refl)
 
 pub returns-clause-rank : goal.returns-clause-rank
 returns-clause-rank c = rank_text_is (replicate 4 None ++ (man_of White Pawn ∷ replicate 3 None)) refl
