@@ -68,13 +68,14 @@ impl Seen {
 
     // Looks at `line`, the next bytes up to the first `\n` and with it: a whole line, or the end of a line whose
     // beginning the piece has already (`inside`). Returns whether the next piece begins with it. If not, it belongs to
-    // this piece, and its kind is noted.
+    // this piece, and the kind of a whole line is noted.
     #[inline(always)]
     fn see_whole(&mut self, line: &[u8]) -> bool
         requires whole { (body : List ℕ) × (line.now ≡ body ++ 10 ∷ []) × (has_line_end body ≡ false) }
         ensures { SeesWhole self.old self.new line.now result }
     {
         if self.inside {
+            // The line ends here. Its kind is noted already.
             self.inside = false;
             return false;
         }
@@ -102,6 +103,7 @@ impl Seen {
         if self.ends_at(kind) {
             return Step::Begins;
         }
+        // It may still become a tag line, which may begin the next piece.
         if !kind.is_tag && line.len() < FRONT_LEN {
             return Step::Waits;
         }
@@ -117,6 +119,7 @@ impl Seen {
         ensures { Steps self.old self.new text.now result }
     {
         let len = len_before(text, b'\n');
+        // No `\n` is in the text.
         if len == text.len() {
             return self.see_open(text);
         }

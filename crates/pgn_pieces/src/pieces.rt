@@ -68,7 +68,7 @@ pub struct PgnPieces {
     //     `len` bytes from `at` on   of the current piece
     //     the rest                   read after the current piece
     held: Vec<u8>,
-    // Where a read puts its bytes.
+    // Where a read puts its bytes, `CHUNK_LEN` at most.
     chunk: Vec<u8>,
     // The index in `held` of the current piece's first byte, or of the first that was not let go.
     at: usize,
@@ -249,6 +249,7 @@ impl PgnPieces {
     {
         self.pass_piece();
         let mut seen = Seen::nothing();
+        // Each round looks for the piece's end in what was read, and if it isn't there, reads once more.
         loop {
             if self.find_end(&mut seen) {
                 return Ok(true);
