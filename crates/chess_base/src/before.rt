@@ -1,4 +1,5 @@
-//! What a move does not keep, and the position before it, from what was saved.
+//! What is lost by a move and so has to be saved to take it back, such as the captured piece; and how the move is taken
+//! back with what was saved.
 
 ghost use Rattle.std.specs.Prelude.{◌≡◌, ◌<◌, IsTrue};
 ghost use Rattle.chess_base.specs.Squares.{is_square};
@@ -53,9 +54,10 @@ pub fn saved_of(setup: &Setup, m: &Move) -> Saved
     }
 }
 
-// The square of the piece that the move of this colour captured, from what was saved; none if it captured nothing. A
-// capture on the saved en passant target was en passant: that square was empty, so nothing else could be captured
-// there.
+// The square of the piece that move `m` of this colour captured, from what was saved; none if it captured nothing. It
+// is the move's end square, or `e5` for White's en passant capture on `e6`. A capture on the saved en passant target
+// was en passant, since that square was empty. The square one rank back from there, as this colour sees it, must then
+// be on the board.
 #[tactic(auto, unfolding(crate::specs::Before::captured_from))]
 fn captured_from(colour: Colour, m: &Move, saved: &Saved) -> Option<Square>
     requires { IsTrue (is_square saved.now.target m.now.to) → one_rank_back colour m.now.to < 64 }
@@ -94,8 +96,8 @@ fn was_castling(
         )
 }
 
-// The side to which move `m` of this colour castled; `None` if it was not castling. `men` are the pieces after it,
-// `saved` is what was saved of the position before it.
+// The side to which move `m` of this colour castled: king's side for `e1g1` of a king. `None` if it was not castling.
+// `men` are the pieces after the move, `saved` is what was saved of the position before it.
 #[tactic(auto, unfolding(crate::specs::Before::castling_side_undone))]
 fn castled(
     variant: Variant,
@@ -126,7 +128,8 @@ fn castling_undone(setup: &Setup, m: &Move, saved: &Saved) -> Option<Castle>
     castle_by(colour, saved.rights, m, castling)
 }
 
-// The moving piece as it was before the move, from the piece as it arrived: a pawn if the move names a promotion.
+// The moving piece as it was before the move, from `man`, the piece as it arrived: a pawn if the move names a
+// promotion, as for the queen of `e7e8q`.
 fn leaving_man(man: Option<Man>, promotion: Option<Kind>) -> Option<Man>
     ensures { result ≡ leaving_man man promotion }
 {
@@ -140,8 +143,9 @@ fn leaving_man(man: Option<Man>, promotion: Option<Kind>) -> Option<Man>
     }
 }
 
-// The square on which a second piece returns when move `m` of this colour is taken back: that of the castling rook, if
-// `m` was castling (`castle`), or else of the captured piece; `None` if nothing was captured.
+// The square on which a second piece returns, apart from the mover, when move `m` of this colour is taken back: the
+// castling rook's start square, if `m` was castling (`castle`), otherwise the square of the captured piece; `None` if
+// there is no such piece. What must be on the board is said at `captured_from`.
 fn returning_square(
     colour: Colour,
     m: &Move,
@@ -157,8 +161,8 @@ fn returning_square(
     }
 }
 
-// The second piece that returns when a move of this colour is taken back: the castling rook, if the move was castling
-// (`castle`), or else the captured piece; `None` if nothing was captured.
+// The second piece that returns, apart from the mover, when a move of this colour is taken back: the castling rook, if
+// the move was castling (`castle`), otherwise the captured piece; `None` if there is no such piece.
 fn returning_man(colour: Colour, saved: &Saved, castle: &Option<Castle>) -> Option<Man>
     ensures { result ≡ returning_man colour saved.now castle.now }
 {
@@ -171,10 +175,12 @@ fn returning_man(colour: Colour, saved: &Saved, castle: &Option<Castle>) -> Opti
     }
 }
 
-/// What taking the move back changes on the board, from the position after it (`setup`) and what was saved. After an en
-/// passant capture the captured pawn returns one rank back from the move's end square, as the mover sees it: on `e5` if
-/// White captured on `e6`. So if the move ended on the saved target, the square one rank back from the target must be
-/// on the board. After a legal move it is.
+/// What taking move `m` back changes on the board, from the position after it (`setup`) and what was saved of the one
+/// before: the mover returns, and the castling rook or the captured piece.
+///
+/// After an en passant capture the captured pawn returns one rank back from the move's end square, as the mover sees
+/// it: on `e5` if White captured on `e6`. So if the move ended on the saved target, the square one rank back from the
+/// target must be on the board. After a legal move it is.
 #[tactic(auto, unfolding(crate::specs::Before::steps_back))]
 pub fn steps_back(setup: &Setup, m: &Move, saved: &Saved) -> Steps
     requires { IsTrue (is_square saved.now.target m.now.to) → one_rank_back (other setup.now.side) m.now.to < 64 }

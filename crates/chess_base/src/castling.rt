@@ -172,8 +172,9 @@ pub(crate) fn right_is_sound(setup: &Setup, colour: Colour, castling_side: Castl
     }
 }
 
-// Whether the castling right, given as its rook's square, is there, and the move's squares are those of castling with
+// Whether the castling right is there (`right`, its rook's square), and the move's squares are those of castling with
 // it: in normal chess the king's start and end square (`e1g1`), in Chess960 the king's and the rook's square (`e1h1`).
+// Which piece moves is not asked: so in Chess960 any start square on the rook's rank will do.
 pub(crate) fn names_castling(
     variant: Variant,
     colour: Colour,
@@ -239,8 +240,8 @@ fn castle_from(colour: Colour, castling_side: CastlingSide, king: Square, rook: 
     }
 }
 
-// The four squares of this colour's castling to the given side: the king starts on the move's start square, the rook on
-// the square of its right. None if there is no side, or no right.
+// The four squares of this colour's castling to the side `castling`: the king starts on the move's start square, the
+// rook on the square of its right. None if no side is given, or the colour has no right on that side.
 pub(crate) fn castle_by(
     colour: Colour,
     rights: Rights,
@@ -320,7 +321,7 @@ fn is_on_way(a: Square, b: Square, x: Square) -> bool
 }
 
 // Whether by this castling king or rook crosses x or ends there, and neither of the two starts there: x must then be
-// empty.
+// empty. For White's castling on the king's side in normal chess these are f1 and g1.
 #[tactic(auto, unfolding(crate::specs::Castling::castling_crosses))]
 fn castling_crosses(castle: &Castle, x: Square) -> bool
     ensures { result ≡ castling_crosses castle.now x }
@@ -361,8 +362,8 @@ fn castling_way_is_safe(men: &[Option<Man>; 64], colour: Colour, castle: &Castle
     true
 }
 
-// Whether nothing prevents this castling, which the move is: its way is empty, no square of the king's way is attacked,
-// and the move names no promotion. A check that the rook uncovers in Chess960 is left to `is_legal`.
+// Whether nothing prevents `castle`, the castling that move `m` is: its way is empty, no square of the king's way is
+// attacked, and the move names no promotion. A check that the rook uncovers in Chess960 is left to `is_legal`.
 #[tactic(auto, unfolding(crate::specs::Castling::castles))]
 pub(crate) fn castles(setup: &Setup, m: &Move, castle: &Castle) -> bool
     ensures { result ≡ castles setup.now m.now castle.now }

@@ -84,7 +84,7 @@ fn take_steps(men: &mut [Option<Man>; 64], sets: &mut Sets, keys: &KeyTable, ste
     place(men, sets, keys, Some(steps.to), steps.mover);
 }
 
-// Whether the square is the position's en passant target. chess_base's `is_square` tells it too, but is private there.
+// Whether the square is the position's en passant target. chess_base's `is_square` says so too, but is private there.
 #[inline(always)]
 pub(crate) fn is_target(setup: &Setup, square: Square) -> bool
     ensures { result ≡ is_square (setup.now).target square }

@@ -22,8 +22,9 @@ pub(crate) struct Hashed {
 }
 
 impl Hashed {
-    // The board's present position, packed, with its hash and its legal en passant square. It is packed last: so
-    // nothing has to be kept through the search for a capture on the target, which there rarely is.
+    // The board's present position, packed, with its hash and its legal en passant square (see
+    // `legal_en_passant_square`). It is packed last: so no packed position has to be kept while captures en passant are
+    // searched for, which is only done if there is a target.
     #[inline(always)]
     pub(crate) fn on<B: Board>(board: &B) -> Self
         ensures position { result.position ≡ B.position board.now }
@@ -39,7 +40,8 @@ impl Hashed {
         }
     }
 
-    // Whether the hashes of the two positions differ; if they do, the positions are not the same.
+    // Whether the hashes of the two positions differ; if they do, the positions are not the same. Equal hashes show
+    // nothing.
     fn hash_differs(&self, other: &Hashed) -> bool
         requires { ShareHashing self.now other.now }
         ensures { result ≡ true → is_same_position self.now.position other.now.position ≡ false }
@@ -50,7 +52,8 @@ impl Hashed {
         self.hash != other.hash
     }
 
-    // Whether the two positions are the same (Laws of Chess 2023, article 9.2.3).
+    // Whether the two positions are the same (Laws of Chess 2023, article 9.2.3): the same side on move, pieces,
+    // castling rights, and legal en passant square. Clock and move number make no difference.
     #[tactic(auto, unfolding(crate::specs::Same::is_same_position))]
     pub(crate) fn is_same(&self, other: &Hashed) -> bool
         requires this { IsKnown self.now }
@@ -69,7 +72,7 @@ impl Hashed {
             && same_square(self.legal_en_passant_square, other.legal_en_passant_square)
     }
 
-    // 1 if the two positions are the same (Laws of Chess 2023, article 9.2.3), else 0.
+    // `is_same` as a number to add up: 1 if the two positions are the same (Laws of Chess 2023, article 9.2.3), else 0.
     pub(crate) fn times_same(&self, other: &Hashed) -> u32
         requires this { IsKnown self.now }
         requires other { IsKnown other.now }
@@ -80,7 +83,8 @@ impl Hashed {
     }
 }
 
-// The en passant target, if some legal move captures on it; else none.
+// The en passant target, if some legal move captures on it; else none. After `1. e4` the target is e3, but no pawn
+// captures there, so this is none.
 #[inline(always)]
 #[tactic(auto, unfolding(crate::specs::Same::legal_en_passant_square))]
 fn legal_en_passant_square<B: Board>(board: &B) -> Option<Square>
@@ -94,8 +98,8 @@ fn legal_en_passant_square<B: Board>(board: &B) -> Option<Square>
     }
 }
 
-// Whether some legal move captures en passant on the square `target`. Few positions have a target, so this is not
-// inlined.
+// Whether some legal move captures en passant on `target`, the position's en passant target. Few positions have a
+// target, so this is not inlined.
 #[inline(never)]
 fn is_captured_on<B: Board>(board: &B, target: Square) -> bool
     requires { (B.position board.now).target ≡ Some target }
@@ -112,7 +116,7 @@ fn is_captured_on<B: Board>(board: &B, target: Square) -> bool
     false
 }
 
-// Whether the move from `from` to `to` is a legal capture en passant in the board's position.
+// Whether the move from `from` to `to` (no promotion) is a legal capture en passant in the board's position.
 fn is_en_passant_from<B: Board>(board: &B, from: Square, to: Square) -> bool
     ensures { result ≡ captures_legally (B.position board.now) to from }
 {

@@ -38,7 +38,7 @@ impl Model for Plain {
     ghost inverse = { λ v. record { setup = v } };
 }
 
-// The squares of this colour's pieces of this kind.
+// The squares of this colour's pieces of this kind: for White's knights in the initial position b1 and g1.
 fn men_of(men: &[Option<Man>; 64], colour: Colour, kind: Kind) -> SquareSet
     ensures { (k : ℕ) → k < 64 → contains result k ≡ is_man colour kind (man_at men.now k) }
 {
@@ -66,7 +66,8 @@ fn is_legal_start(setup: &Setup, kind: Kind, from: Square, to: Square) -> bool
     is_man(setup.side, kind, setup.men[from.index()]) && is_legal(setup, &m)
 }
 
-// The squares from which a piece of this kind, of the side on move, may legally move to `to` without a promotion.
+// The squares from which a piece of this kind, of the side on move, may legally move to `to` without a promotion: for a
+// knight and f3 in the initial position only g1. It asks this of each of the 64 squares.
 fn legal_starts(setup: &Setup, kind: Kind, to: Square) -> SquareSet
     requires { IsSound setup.now }
     ensures { HasLegalStarts setup.now kind to result }

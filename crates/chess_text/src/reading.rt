@@ -285,7 +285,8 @@ fn denoted_among(setup: &Setup, parts: &Parts, kind: Kind, starts: SquareSet) ->
 
 // What a text of these parts, in which only pieces of this kind can be meant, and no promotion, is read as in the
 // board's position: one legal move, several (`Ambiguous`) or none (`NoSuch`). `denoted_from_origins` would read the
-// same, but describes each move in full, and asks of each apart whether it is legal: `legal_starts` tells that at once.
+// same, but describes each move in full, and asks of each apart whether it is legal: `legal_starts` answers that at
+// once.
 #[inline(always)]
 fn denoted_by_kind<B: Board>(board: &B, parts: &Parts, kind: Kind) -> Reading
     requires { one_kind parts.now ≡ Some kind }

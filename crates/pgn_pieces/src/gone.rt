@@ -1,4 +1,5 @@
-//! What is known of bytes that are no longer held.
+//! What is known of bytes that are no longer held: of a piece of over 16,777,216 bytes (`PIECE_LEN`) only the first 40
+//! bytes are kept, and the others are counted.
 
 ghost use Rattle.std.specs.Prelude.{◌≡◌, ◌≤◌, ◌<◌, ◌+◌, ◌^◌, ◌++◌, ◌==◌, [], length, take};
 ghost use Rattle.pgn_pieces.specs.Places.{line_ends};
@@ -9,17 +10,19 @@ use arrayvec::ArrayVec;
 use byte_devices::append;
 use std::marker::Model;
 
-/// How many of a piece's first bytes are kept, even if it is too long.
+/// How many of a piece's first bytes are kept, even if it is too long. `verify --explain` shows them.
 pub const BEGINNING_LEN: usize = 40;
 
-/// The bytes of a piece that were let go: the first of them, and how many there are.
+/// The bytes of a piece that were let go, which means dropped from memory: the first 40 of them, and how many of the
+/// others are `\n` and how many aren't. In contracts it is a list of bytes with these counts: the first ones, then a 10
+/// for each `\n` among the others, and a 0 for each other byte.
 #[derive(Drop)]
 pub(crate) struct Gone {
-    // The first of them.
+    // The first of them, at most 40.
     beginning: ArrayVec<u8, BEGINNING_LEN>,
     // How many of the others are `\n`.
     line_ends: usize,
-    // How many of the others are not.
+    // How many of the others are not `\n`.
     plain: usize,
 }
 
@@ -35,7 +38,7 @@ impl Model for Gone {
 }
 
 impl Gone {
-    // No bytes.
+    // The state before any byte of a piece is let go: no bytes.
     pub(crate) fn none() -> Self
         ensures { result ≡ [] }
     {
@@ -46,7 +49,7 @@ impl Gone {
         }
     }
 
-    // How many bytes were let go.
+    // How many bytes were let go, the first 40 included.
     pub(crate) fn len(&self) -> usize
         requires { length self.now < 2 ^ 64 }
         ensures { result ≡ length self.now }
@@ -54,14 +57,14 @@ impl Gone {
         self.beginning.len() + self.line_ends + self.plain
     }
 
-    // Whether no bytes were let go.
+    // Whether no bytes were let go. If any were, the first of them are in `beginning`.
     pub(crate) fn is_empty(&self) -> bool
         ensures { result ≡ (length self.now == 0) }
     {
         self.beginning.is_empty()
     }
 
-    // How many of the bytes are `\n`.
+    // How many of the bytes that were let go are `\n`: those among the first 40, and those counted among the others.
     pub(crate) fn line_ends(&self) -> usize
         requires { length self.now < 2 ^ 64 }
         ensures value { result ≡ line_ends self.now }
@@ -70,14 +73,15 @@ impl Gone {
         line_ends(self.beginning.as_slice()) + self.line_ends
     }
 
-    // The first of the bytes.
+    // The first 40 of the bytes that were let go; all of them, if they are fewer.
     pub(crate) fn beginning(&self) -> &[u8]
         ensures { result.now ≡ take 40 self.now }
     {
         self.beginning.as_slice()
     }
 
-    // Adds bytes that are let go after these.
+    // Lets go of these bytes too: those of the piece that follow the ones let go before. `beginning` is filled up to 40
+    // bytes; of the rest it is only counted how many are `\n` and how many aren't.
     pub(crate) fn add(&mut self, bytes: &[u8])
         requires { length self.old + length bytes.now < 2 ^ 64 }
         ensures { SameCounts (self.old ++ bytes.now) self.new }

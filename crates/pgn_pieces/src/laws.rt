@@ -1,23 +1,26 @@
-//! Laws of the definitions, each the contract of a function that does nothing.
+//! Laws of the definitions, each the contract of a function that does nothing. A piece is a part of a collection that
+//! is read as a text of its own, mostly one game.
 
 ghost use Rattle.pgn_pieces.specs.laws.Shards.{ShardsAreCut};
 ghost use Rattle.pgn_pieces.specs.laws.HandedOut.{PiecesAreCut};
 ghost use Rattle.pgn_pieces.specs.laws.Places.{PiecesAreInPlace};
 
-/// States a law and does nothing: the pieces that are returned one by one are those that a text is cut into.
+/// States a law and does nothing: the pieces that are still to come before anything is read are the pieces that the
+/// text is cut into. So `PgnPieces::next`, whose contract is about the pieces still to come, returns just these, in
+/// order.
 pub fn pieces_are_cut()
     ensures { PiecesAreCut }
 {}
 
-/// States a law and does nothing: a text that is cut in two after a line of moves and any empty lines, before a tag
-/// line, has the pieces of the one part and then those of the other. So shards that are cut at such lines have the
-/// pieces of the whole.
+/// States a law and does nothing: if a text is divided in two after a line of moves and any empty lines, and before a
+/// tag line, its pieces are those of the first part and then those of the second. So a large collection may be divided
+/// at such lines into shards, which are verified one by one.
 pub fn shards_are_cut()
     ensures { ShardsAreCut }
 {}
 
-/// States a law and does nothing: each piece of a text has the bytes at its offset and begins where a line begins, and
-/// the number of that line is known from the line ends in the pieces before it.
+/// States a law and does nothing: each piece of a text has the bytes that are at its offset in the text, and begins
+/// where a line begins. The number of that line is one more than the number of line ends in all pieces before it.
 pub fn pieces_are_in_place()
     ensures { PiecesAreInPlace }
 {}

@@ -1,5 +1,6 @@
-//! The pieces of a collection of games of any length, one after another: each begins at the first byte, or at a tag
-//! line after a line of moves, or at an Event line after an Event line, and ends where the next one begins.
+//! Cuts a collection of PGN games, of any length, into pieces, and returns them one after another. A piece is mostly
+//! one game with its tags: it begins at the first byte, or at a tag line after a line of moves, or at an Event line
+//! after an Event line, and ends where the next one begins. Each piece can be read as a text of its own.
 //!
 //! ```
 //! let mut pieces = PgnPieces::open(alloc)?;

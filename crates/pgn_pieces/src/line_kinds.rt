@@ -1,5 +1,12 @@
-//! Which kind of line a line of a collection is. What `kind_of` calls is inlined, since `verify --keep-going` asks it
-//! of every line of a collection (the workload collections). What that gains was not measured apart.
+//! Which kind of line a line of a collection is, by its first 256 bytes without a byte order mark, its front:
+//!
+//! - a tag line begins with `[`, a name, perhaps spaces and tabs, and `"`: `[White "Carlsen"]`
+//! - an Event line is a tag line of the tag Event: `[Event "Oslo"]`
+//! - an empty line has only white space, or begins with `%` or `;`
+//! - a line of moves is any other line: `1. e4 e5`, but also `{a comment}`
+//!
+//! What `kind_of` calls is inlined, since `verify --keep-going` asks it of every line of a collection (the workload
+//! collections). What that gains was not measured apart.
 
 ghost use Rattle.std.specs.Prelude.{◌≡◌, ◌≤◌, true, false, length, take, drop, codes};
 ghost use Rattle.std.specs.Str.{bytes_eq};
@@ -7,10 +14,10 @@ ghost use Rattle.std.specs.List.{prefix_len, list_all};
 ghost use Rattle.pgn_pieces.specs.Pieces.{without_mark, front_of, after_name, is_name_byte, is_blank, is_white, tag_name, begins_tag, is_empty_front, is_tag_line, is_event_line, is_moves_line};
 ghost use Rattle.pgn_pieces.specs.Places.{line_ends};
 
-// The most bytes of a line that decide its kind.
+// How many of a line's first bytes decide its kind; those after them are not looked at.
 pub(crate) const FRONT_LEN: usize = 256;
 
-// What kind of line a line is. One of moves is neither a tag line nor empty.
+// What kind of line a line is. An Event line is a tag line too; for an empty line all three are false.
 #[derive(Clone, Copy)]
 pub(crate) struct Kind {
     // Whether it is a tag line.
@@ -21,7 +28,9 @@ pub(crate) struct Kind {
     pub(crate) is_moves: bool,
 }
 
-// What kind of line this is.
+// What kind of line this is: `[Event "Oslo"]` is a tag line and an Event line, `[White "Carlsen"]` only a tag line,
+// `1. e4 e5` a line of moves, and an empty line, or one that begins with `%` or `;`, is none of these. `line` may still
+// have its `\n`.
 #[inline(always)]
 pub(crate) fn kind_of(line: &[u8]) -> Kind
     ensures tag { result.is_tag ≡ is_tag_line line.now }
@@ -46,7 +55,7 @@ pub(crate) fn kind_of(line: &[u8]) -> Kind
     }
 }
 
-// A text without a byte order mark at its front.
+// A text without the byte order mark (the bytes EF BB BF of UTF-8) at its front; without one, all of the text.
 #[inline(always)]
 fn without_mark(text: &[u8]) -> &[u8]
     ensures { result.now ≡ without_mark text.now }
@@ -57,7 +66,7 @@ fn without_mark(text: &[u8]) -> &[u8]
     text
 }
 
-// The first bytes of a line, at most as many as are looked at.
+// The first 256 bytes of a line (`FRONT_LEN`), which is as many as are looked at; a shorter line as it is.
 #[inline(always)]
 fn first_bytes(line: &[u8]) -> &[u8]
     ensures { result.now ≡ take 256 line.now }
@@ -68,7 +77,7 @@ fn first_bytes(line: &[u8]) -> &[u8]
     line
 }
 
-// The bytes of a line that decide its kind.
+// The front of a line, by which its kind is known: its first 256 bytes, without a byte order mark.
 #[inline(always)]
 fn front_of(line: &[u8]) -> &[u8]
     ensures { result.now ≡ front_of line.now }
@@ -76,8 +85,8 @@ fn front_of(line: &[u8]) -> &[u8]
     without_mark(first_bytes(line))
 }
 
-// Whether a byte may be part of a tag's name. chess_pgn has this test too, and text_lines the next one, but this crate
-// rests on byte_devices alone, which has neither.
+// Whether a byte may be part of a tag's name: a letter, a digit or `_`. chess_pgn has this test too, but this crate
+// uses only byte_devices.
 #[inline(always)]
 fn is_name_byte(byte: u8) -> bool
     ensures { result ≡ is_name_byte byte }
@@ -85,7 +94,7 @@ fn is_name_byte(byte: u8) -> bool
     byte.is_ascii_alphanumeric() || byte == b'_'
 }
 
-// Whether a byte is a space or a tab.
+// Whether a byte is a space or a tab. text_lines has this test too, but this crate uses only byte_devices.
 #[inline(always)]
 fn is_blank(byte: u8) -> bool
     ensures { result ≡ is_blank byte }
@@ -93,7 +102,7 @@ fn is_blank(byte: u8) -> bool
     byte == b' ' || byte == b'\t'
 }
 
-// How many bytes of a tag's name a text begins with.
+// How many letters, digits and `_` a text begins with, which may be a tag's name: 5 for `Event "Oslo"]`.
 #[inline(always)]
 fn name_len(text: &[u8]) -> usize
     ensures count { result ≡ prefix_len is_name_byte text.now }
@@ -102,7 +111,7 @@ fn name_len(text: &[u8]) -> usize
     text.iter().take_while(|byte| is_name_byte(**byte)).count()
 }
 
-// How many spaces and tabs a text begins with.
+// How many spaces and tabs a text begins with: 1 for ` "Oslo"]`.
 #[inline(always)]
 fn blank_len(text: &[u8]) -> usize
     ensures count { result ≡ prefix_len is_blank text.now }
@@ -111,7 +120,7 @@ fn blank_len(text: &[u8]) -> usize
     text.iter().take_while(|byte| is_blank(**byte)).count()
 }
 
-// A text without its first byte, if it has one.
+// A text without its first byte; an empty text stays empty.
 #[inline(always)]
 fn without_first(text: &[u8]) -> &[u8]
     ensures { result.now ≡ drop 1 text.now }
@@ -119,7 +128,8 @@ fn without_first(text: &[u8]) -> &[u8]
     &text[text.len().min(1)..]
 }
 
-// The name of the tag with which a line's front begins.
+// The name of the tag with which a line's front begins: the letters, digits and `_` after the first byte. So it is
+// `Event` for `[Event "Oslo"]`. That the first byte is `[` is tested by the caller.
 #[inline(always)]
 fn tag_name(front: &[u8]) -> &[u8]
     ensures { result.now ≡ tag_name front.now }
@@ -128,7 +138,7 @@ fn tag_name(front: &[u8]) -> &[u8]
     &rest[..name_len(rest)]
 }
 
-// A text without the spaces and tabs at its front.
+// A text without the spaces and tabs at its front: `"Oslo"]` for ` "Oslo"]`.
 #[inline(always)]
 fn without_blanks(text: &[u8]) -> &[u8]
     ensures { result.now ≡ drop (prefix_len is_blank text.now) text.now }
@@ -136,7 +146,8 @@ fn without_blanks(text: &[u8]) -> &[u8]
     &text[blank_len(text)..]
 }
 
-// The text after the tag name at a line's front, and after any spaces and tabs.
+// What follows the tag's name, and any spaces and tabs after that, in a line's front: `"Oslo"]` for `[Event "Oslo"]`.
+// `name` is what `tag_name` returned for this front.
 #[inline(always)]
 fn after_name<'t>(front: &'t [u8], name: &[u8]) -> &'t [u8]
     requires { name.now ≡ tag_name front.now }
@@ -146,8 +157,8 @@ fn after_name<'t>(front: &'t [u8], name: &[u8]) -> &'t [u8]
     without_blanks(&rest[name.len()..])
 }
 
-// Whether a line with this front, which begins with `[`, is a tag line: then come a name, perhaps blanks, and `"`.
-// `name` is the front's tag name, which the caller knows already.
+// Whether a line with this front, which is known to begin with `[`, is a tag line: after the `[` come a name of one
+// byte or more, perhaps spaces and tabs, and `"`. `name` is what `tag_name` returned for this front.
 #[inline(always)]
 fn begins_tag(front: &[u8], name: &[u8]) -> bool
     requires bracket { bytes_eq (take 1 front.now) (codes "[") ≡ true }
@@ -157,7 +168,7 @@ fn begins_tag(front: &[u8], name: &[u8]) -> bool
     !name.is_empty() && after_name(front, name).starts_with(b"\"")
 }
 
-// Whether a byte may be in an empty line.
+// Whether a byte is white space, as an empty line may contain: a space, a tab, `\r` or `\n`.
 #[inline(always)]
 fn is_white(byte: u8) -> bool
     ensures { result ≡ is_white byte }
@@ -165,7 +176,7 @@ fn is_white(byte: u8) -> bool
     is_blank(byte) || byte == b'\r' || byte == b'\n'
 }
 
-// Whether all these bytes may be in an empty line.
+// Whether all these bytes are white space; true of no bytes.
 #[inline(always)]
 fn is_all_white(bytes: &[u8]) -> bool
     ensures { result ≡ list_all is_white bytes.now }
@@ -173,7 +184,8 @@ fn is_all_white(bytes: &[u8]) -> bool
     bytes.iter().all(|byte| is_white(*byte))
 }
 
-// Whether a line with this front is empty.
+// Whether a line with this front counts as empty, so neither as a tag line nor as a line of moves: the front has only
+// white space, or begins with `%` (PGN's escape) or `;` (a comment up to the line's end).
 #[inline(always)]
 fn is_empty_front(front: &[u8]) -> bool
     ensures { result ≡ is_empty_front front.now }
@@ -181,8 +193,8 @@ fn is_empty_front(front: &[u8]) -> bool
     front.starts_with(b"%") || front.starts_with(b";") || is_all_white(front)
 }
 
-/// How many lines end in a text: its bytes that are `\n`. What follows the last of them is not counted. Each byte is
-/// looked at once.
+/// How many lines end in a text: the number of its bytes that are `\n`. What follows the last of them is not counted:
+/// `a\nb` has one line end. Each byte is looked at once.
 pub fn line_ends(bytes: &[u8]) -> usize
     ensures value { result ≡ line_ends bytes.now }
     ensures within { result ≤ length bytes.now }

@@ -1,4 +1,9 @@
-//! Where a piece ends. The functions of the search are inlined for the reason at the head of line_kinds.rt.
+//! Where a piece ends: before a tag line, if the piece has a line of moves, and before an Event line, if it has an
+//! Event line already. The next piece begins there. The kinds of lines are explained at the head of line_kinds.rt.
+//!
+//! A piece may be read in several parts, so the last line that was read may lack its `\n`.
+//!
+//! The functions of the search are inlined for the reason at the head of line_kinds.rt.
 
 ghost use Rattle.std.specs.Prelude.{◌≡◌, ◌<◌, ◌++◌, ◌∷◌, ◌&&◌, ◌||◌, List, ℕ, [], length, take, drop, true, false};
 ghost use Rattle.pgn_pieces.specs.ties.Held.{HasSeen, Steps, SeesWhole, Looks, has_line_end};
@@ -13,22 +18,23 @@ pub(crate) struct Seen {
     pub(crate) moves: bool,
     // Whether an Event line is among them.
     pub(crate) event: bool,
-    // Whether the last of them may go on. Its kind is known already.
+    // Whether the `\n` of the last of them isn't read yet: then the next bytes are more of this line, whose kind is
+    // known already.
     pub(crate) inside: bool,
 }
 
-// What is found of the line that comes next.
+// What is found of the line that comes next, or of as much of it as was read.
 pub(crate) enum Step {
-    // A piece begins there.
+    // The next piece begins with it.
     Begins,
-    // Its kind isn't known before more is read.
+    // So few bytes of it were read that its kind isn't known yet.
     Waits,
-    // So many bytes of it belong to the piece.
+    // It belongs to the piece. The number is how many bytes of it were read, its `\n` included.
     Belongs(usize),
 }
 
 impl Seen {
-    // Of a piece that has no bytes so far.
+    // What is known of a piece that has no bytes so far: no line was seen.
     pub(crate) fn nothing() -> Self
         ensures { HasSeen result [] }
     {
@@ -39,7 +45,8 @@ impl Seen {
         }
     }
 
-    // Whether a piece begins at a line of this kind.
+    // Whether the piece ends before a line of this kind, which then begins the next piece: a tag line, if the piece has
+    // a line of moves, or an Event line, if it has an Event line.
     #[inline(always)]
     fn ends_at(&self, kind: Kind) -> bool
         ensures { result ≡ (kind.is_tag && (self.now.moves || (kind.is_event && self.now.event))) }
@@ -47,7 +54,7 @@ impl Seen {
         kind.is_tag && (self.moves || (kind.is_event && self.event))
     }
 
-    // Adds a line of this kind.
+    // Notes that a line of this kind belongs to the piece. `goes_on`: its `\n` isn't read yet.
     #[inline(always)]
     fn add(&mut self, kind: Kind, goes_on: bool)
         ensures moves { self.new.moves ≡ (self.old.moves || kind.is_moves) }
@@ -59,14 +66,16 @@ impl Seen {
         self.inside = goes_on;
     }
 
-    // Looks at what comes next, the rest of a line with its `\n`, and returns whether a piece begins there; if not, the
-    // line is noted.
+    // Looks at `line`, the next bytes up to the first `\n` and with it: a whole line, or the end of a line whose
+    // beginning the piece has already (`inside`). Returns whether the next piece begins with it. If not, it belongs to
+    // this piece, and the kind of a whole line is noted.
     #[inline(always)]
     fn see_whole(&mut self, line: &[u8]) -> bool
         requires whole { (body : List ℕ) × (line.now ≡ body ++ 10 ∷ []) × (has_line_end body ≡ false) }
         ensures { SeesWhole self.old self.new line.now result }
     {
         if self.inside {
+            // The line ends here. Its kind is noted already.
             self.inside = false;
             return false;
         }
@@ -78,10 +87,10 @@ impl Seen {
         false
     }
 
-    // Looks at what comes next, bytes of a line whose `\n` isn't read yet, and returns what they are: more of the
-    // piece's last line or a new line of it (`Belongs`), the beginning of the next piece (`Begins`), or too few to tell
-    // (`Waits`). A line that is no tag line so far may become one by more bytes, until it has the 256 (`FRONT_LEN`) that
-    // decide its kind; a line that is one stays one.
+    // Looks at `line`, the next bytes, which are all that was read of a line: its `\n` isn't among them. Returns what
+    // they are: more of the piece's last line or a new line of it (`Belongs`), the beginning of the next piece
+    // (`Begins`), or too few to decide (`Waits`). A line that is no tag line so far, such as `[Eve`, may become one by
+    // more bytes until it has the 256 (`FRONT_LEN`) that decide its kind; a line that is one remains one.
     #[inline(always)]
     fn see_open(&mut self, line: &[u8]) -> Step
         requires plain { (0 < length line.now) × (has_line_end line.now ≡ false) }
@@ -94,6 +103,7 @@ impl Seen {
         if self.ends_at(kind) {
             return Step::Begins;
         }
+        // It may still become a tag line, which may begin the next piece.
         if !kind.is_tag && line.len() < FRONT_LEN {
             return Step::Waits;
         }
@@ -101,13 +111,15 @@ impl Seen {
         Step::Belongs(line.len())
     }
 
-    // Looks at the line with which a text begins.
+    // Looks at the first line of `text`, the next bytes: by `see_whole` if its `\n` is among them, by `see_open` if
+    // not. Returns what is found of this line. Nothing after it is looked at.
     #[inline(always)]
     fn step(&mut self, text: &[u8]) -> Step
         requires { 0 < length text.now }
         ensures { Steps self.old self.new text.now result }
     {
         let len = len_before(text, b'\n');
+        // No `\n` is in the text.
         if len == text.len() {
             return self.see_open(text);
         }
@@ -117,8 +129,9 @@ impl Seen {
         Step::Belongs(len + 1)
     }
 
-    // Looks for the end of the piece in the text that comes after what was seen. `(true, n)`: it ends after `n` bytes.
-    // `(false, n)`: `n` bytes belong to it, and of the others it is not known yet.
+    // Looks for the end of the piece in `text`, the bytes that follow those seen so far, line by line. `(true, n)`: the
+    // piece ends after `n` bytes of `text`. `(false, n)`: these `n` bytes belong to it; the others, if any, are the
+    // beginning of a line, too short to decide whether it begins the next piece.
     pub(crate) fn find_end(&mut self, text: &[u8]) -> (bool, usize)
         ensures { Looks self.old self.new text.now result.0 result.1 }
     {

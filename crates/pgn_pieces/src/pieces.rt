@@ -1,4 +1,4 @@
-//! A text's pieces, through what is held of it.
+//! The pieces of an input, which is read in parts: only the current piece, and what was read after it, is held.
 
 ghost use Rattle.std.specs.Prelude.{◌≡◌, ℕ, ◌≤◌, ◌<◌, ◌+◌, ◌^◌, ◌++◌, List, [], length, nat_lt, IfOk, false, true, Ok};
 ghost use Rattle.std.specs.Option.{option_map};
@@ -15,14 +15,14 @@ use byte_devices::{Input, ReadFault};
 use std::alloc::{AllocError, Global};
 use std::marker::Model;
 
-/// The most bytes of a piece that is returned.
+/// The most bytes of a piece that `text` returns.
 pub const PIECE_LEN: usize = 16_777_216;
 
 // How many bytes a read asks for.
 const CHUNK_LEN: usize = 65_536;
 
-// The most bytes after which the input is read once more, 2^63 - 1 - `CHUNK_LEN`: after one more read all sums of
-// offsets stay below 2^63.
+// Once more bytes than this were read, the input is not read again. It is 2^63 - 1 - `CHUNK_LEN`: so all offsets and
+// their sums stay below 2^63.
 const MOST_READ: usize = 9_223_372_036_854_710_271;
 
 /// Why there are no more pieces.
@@ -42,6 +42,7 @@ pub enum PieceFault {
 impl From<ReadFault> for PieceFault {
     ghost from_gives = { λ _ fault. fault ≡ ReadFailed };
 
+    // What `?` makes of a read that failed: `ReadFailed`.
     fn from(_fault: ReadFault) -> PieceFault {
         PieceFault::ReadFailed
     }
@@ -50,28 +51,34 @@ impl From<ReadFault> for PieceFault {
 impl From<AllocError> for PieceFault {
     ghost from_gives = { λ _ fault. fault ≡ NoMemory };
 
+    // What `?` makes of memory that ran out: `NoMemory`.
     fn from(_error: AllocError) -> PieceFault {
         PieceFault::NoMemory
     }
 }
 
-/// The pieces of an input, one after another. What is held of it is a piece of at most `PIECE_LEN` bytes, which are
-/// 16,777,216, and what was read after it.
+/// The pieces of an input, one after another. Each call of `next` moves to the next piece; `text`, `offset`,
+/// `beginning` and `line_ends` are then of this piece, the current one. What is held of the input is the current piece,
+/// unless it is too long (over `PIECE_LEN` bytes, 16,777,216), and what was read after it.
 #[derive(Drop)]
 pub struct PgnPieces {
-    // What is held of the input. What is before `at` is done with.
+    // What is held of the input, in three parts:
+    //
+    //     bytes before `at`          done with
+    //     `len` bytes from `at` on   of the current piece
+    //     the rest                   read after the current piece
     held: Vec<u8>,
-    // Where a read puts its bytes.
+    // Where a read puts its bytes, `CHUNK_LEN` at most.
     chunk: Vec<u8>,
-    // Where in what is held the piece begins, or what is held of it.
+    // The index in `held` of the current piece's first byte, or of the first that was not let go.
     at: usize,
-    // How many bytes are held of it.
+    // How many bytes of the current piece are in `held`.
     len: usize,
-    // What was let go of it: nothing, unless it is too long.
+    // What was let go of the current piece, its bytes before those in `held`: none, unless it is too long.
     gone: Gone,
-    // Where in the input it begins.
+    // The offset of the current piece's first byte in the input.
     offset: usize,
-    // Whether the input has ended.
+    // Whether the input has ended: the last read gave no bytes.
     ended: bool,
 }
 
@@ -96,7 +103,8 @@ impl Model for PgnPieces {
 }
 
 impl PgnPieces {
-    /// For an input of which nothing was read; it has no piece before the first call of `next`.
+    /// For an input of which nothing was read yet, and which is given to each call of `next`. Before the first call
+    /// there is no piece: `text` has no bytes.
     ///
     /// # Errors
     /// If memory runs out.
@@ -115,7 +123,7 @@ impl PgnPieces {
         })
     }
 
-    /// The offset of the piece's first byte in the input.
+    /// The offset of the current piece's first byte in the input: how many bytes come before it.
     pub fn offset(&self) -> usize
         ensures value { result ≡ self.now.offset }
         ensures small { result + length self.now.part < 2 ^ 63 }
@@ -123,7 +131,7 @@ impl PgnPieces {
         self.offset
     }
 
-    /// The piece's bytes; `None` where it has more than `PIECE_LEN`.
+    /// The current piece's bytes; `None` if it is too long, which means over `PIECE_LEN` bytes (16,777,216).
     pub fn text(&self) -> Option<&[u8]>
         ensures { option_map (λ text. text.now) result ≡ (current self.now).bytes }
     {
@@ -133,7 +141,7 @@ impl PgnPieces {
         Some(&self.held[self.at..self.at + self.len])
     }
 
-    /// The piece's first bytes, at most 40, even if it is too long.
+    /// The current piece's first 40 bytes, or all if it has fewer. A piece that is too long has them too.
     pub fn beginning(&self) -> &[u8]
         ensures { result.now ≡ (current self.now).beginning }
     {
@@ -144,7 +152,7 @@ impl PgnPieces {
         self.gone.beginning()
     }
 
-    /// How many lines end in the piece: the number of its bytes 10.
+    /// How many lines end in the current piece: the number of its bytes that are `\n`, also if it is too long.
     pub fn line_ends(&self) -> usize
         ensures value { result ≡ (current self.now).line_ends }
         ensures within { result ≤ length self.now.part }
@@ -152,7 +160,7 @@ impl PgnPieces {
         self.gone.line_ends() + line_ends(&self.held[self.at..self.at + self.len])
     }
 
-    // Goes past the piece: the next one begins at its end, and has no bytes so far.
+    // Makes the next piece the current one: it begins at the end of the piece before, and has no bytes so far.
     fn pass_piece(&mut self)
         ensures { self.new ≡ past_piece self.old }
     {
@@ -162,9 +170,9 @@ impl PgnPieces {
         self.len = 0;
     }
 
-    // Looks for the current piece's end in the bytes that were read after it, adds those up to there to the piece, and
-    // returns whether it was found. If not, it adds all but a last line that is still too short to tell whether it
-    // begins the next piece. `seen` is what is known of the piece's lines so far.
+    // Looks for the current piece's end in the bytes that were read after it, adds the bytes before the end to the
+    // piece, and returns whether the end was found. If not, it adds all bytes but those of a last line that is still
+    // too short to decide whether it begins the next piece. `seen` is what is known of the piece's lines so far.
     fn find_end(&mut self, seen: &mut Seen) -> bool
         ensures { FindsEnd self.old self.new seen.old seen.new result }
     {
@@ -173,7 +181,8 @@ impl PgnPieces {
         is_found
     }
 
-    // Adds all bytes that were read to the current piece, the input's last, and returns whether the piece has any byte.
+    // Called once the input has ended: adds all bytes that are left to the current piece, which is the last, and
+    // returns whether the piece has any byte, in `held` or let go. If it has none, there is no such piece.
     fn take_rest(&mut self) -> bool
         ensures state { self.new ≡ passed (length self.old.coming) self.old }
         ensures some { result ≡ nat_lt 0 (length self.new.part) }
@@ -182,7 +191,8 @@ impl PgnPieces {
         self.len > 0 || !self.gone.is_empty()
     }
 
-    // Lets the bytes of the current piece go if it is too long (over `PIECE_LEN` bytes).
+    // If the current piece is too long (over `PIECE_LEN` bytes), lets go of its bytes in `held`: the first 40 of the
+    // piece are kept in `gone`, the others are only counted there.
     fn let_go(&mut self)
         ensures { LetGo self.old self.new }
     {
@@ -193,7 +203,8 @@ impl PgnPieces {
         }
     }
 
-    // Removes the bytes before the current piece from `held`; nothing else changes.
+    // Removes from `held` the bytes before the current piece, which are done with, by moving the rest to its front. The
+    // piece and what was read after it don't change.
     fn compact(&mut self)
         ensures { self.new ≡ self.old }
     {
@@ -206,7 +217,8 @@ impl PgnPieces {
         }
     }
 
-    // Reads once, and adds the bytes to `held`. A read without bytes is the input's end.
+    // Reads up to 65,536 bytes (`CHUNK_LEN`) once, and adds them at the end of `held`. If the read gives no bytes, the
+    // input has ended.
     fn read_more<R: Input>(&mut self, input: &mut R) -> Result<(), PieceFault>
         ensures { Adds self.old self.new (R.seen input.old) (R.seen input.new) result }
     {
@@ -215,6 +227,7 @@ impl PgnPieces {
         }
         self.held.reserve(CHUNK_LEN)?;
         let count = input.read(&mut self.chunk)?;
+        // It has room for `CHUNK_LEN` more bytes, so this never runs out of memory.
         if self.held.extend_from_slice(&self.chunk[..count]).is_err() {
             unreachable!();
         }
@@ -222,11 +235,12 @@ impl PgnPieces {
         Ok(())
     }
 
-    /// Goes on to the next piece, and returns whether there is one. Nothing is read if its end is among the bytes held.
+    /// Moves to the next piece, which is then the current one, and returns whether there is one. It reads until the
+    /// piece's end is among the bytes held: not at all, if it is there already.
     ///
     /// # Errors
-    /// If a read fails, memory runs out, or nearly 2^63 bytes or more were read. There is no next piece then, as far as
-    /// the input was read: its end was not seen. No clause says what later calls return.
+    /// If a read fails, memory runs out, or nearly 2^63 bytes or more were read. No further piece ends in what was read
+    /// so far, so none is skipped. No clause says what later calls return.
     pub fn next<R: Input>(&mut self, input: &mut R) -> Result<bool, PieceFault>
         ensures next { (r : InputState) (text : List ℕ) → IsStateOf self.old r (R.seen input.old) text
             → Next self.old self.new r (R.seen input.new) text result }
@@ -235,6 +249,7 @@ impl PgnPieces {
     {
         self.pass_piece();
         let mut seen = Seen::nothing();
+        // Each round looks for the piece's end in what was read, and if it isn't there, reads once more.
         loop {
             if self.find_end(&mut seen) {
                 return Ok(true);
