@@ -48,7 +48,7 @@ fn officer_of(colour: Colour, man: Option<Man>) -> Option<Kind>
 
 impl Bits<'_> {
     // Whether the move `m` is legal; the piece on its start square is a queen, rook, bishop or knight of this kind.
-    // `is_legal_by_targets` would say it too, but would ask also what only a king or a pawn does.
+    // `is_legal_by_targets` gives the same answer, but also looks at what only a king or a pawn does.
     #[inline(always)]
     #[tactic(auto, using(crate::proofs::ByKind::promotes_not, crate::proofs::ByKind::as_triple, crate::proofs::ByKind::officer_pattern, crate::proofs::ByKind::no_pattern, crate::proofs::ByKind::officer_plain))]
     fn is_officer_legal(&self, kind: Kind, m: &Move) -> bool
@@ -96,9 +96,9 @@ impl Bits<'_> {
         }
     }
 
-    // Those of the squares `men` from which the piece there may legally go to `to`. The caller makes sure that each
-    // such move is pseudo-legal and no promotion. It may take en passant, which is rare, so this is out of the common
-    // way.
+    // Those of the squares `men` from which the piece there may legally go to `to`, each by the general test. The
+    // caller makes sure that each such move is pseudo-legal and no promotion. It is for pawns that may take en passant,
+    // which is rare, so it is not inlined.
     #[inline(never)]
     fn tried_starts(&self, men: SquareSet, to: Square) -> SquareSet
         requires { (k : ℕ) → k < 64 → contains men k ≡ true → is_pseudo_legal self.now (move_of k to None) ≡ true }
@@ -113,8 +113,8 @@ impl Bits<'_> {
         })
     }
 
-    // Those of the squares `men` from which the piece there may legally go to `to`. The caller makes sure that each
-    // such move is pseudo-legal, not the king's, no promotion and not en passant.
+    // Those of the squares `men` from which the piece there may legally go to `to`, each by the short test. The caller
+    // makes sure that each such move is pseudo-legal, not the king's, no promotion and not en passant.
     #[inline(always)]
     fn safe_starts(&self, men: SquareSet, to: Square) -> SquareSet
         requires { (k : ℕ) → k < 64 → contains men k ≡ true → StepsPlainly self.now (move_of k to None) }
@@ -124,7 +124,8 @@ impl Bits<'_> {
     }
 
     // The squares from which pieces of this kind (queen, rook, bishop or knight) of the side on move may legally go to
-    // `to`. They are among those that such a piece on `to` would attack.
+    // `to`. They are looked for from `to`: only a piece on a square that one of this kind on `to` would attack can go
+    // there.
     fn officer_starts(&self, kind: Kind, to: Square) -> SquareSet
         requires { (same_kind King kind || same_kind Pawn kind) ≡ false }
         ensures { HasLegalStarts self.now kind to result }
@@ -141,8 +142,8 @@ impl Bits<'_> {
         self.safe_starts(men, to)
     }
 
-    // Whether the king on `king` may legally go to `to`: by an ordinary move, or by castling. `king_ends` says it too,
-    // but tests up to eight squares, where this tests one.
+    // Whether the king on `king` may legally go to `to`: by an ordinary move, or by castling. `king_ends` would answer
+    // it too, but tests up to eight squares, where this tests one.
     #[tactic(auto, using(crate::proofs::KingSteps::steps_are, crate::proofs::ByKind::king_otherwise))]
     fn king_goes_legally(&self, king: Square, to: Square) -> bool
         requires { is_man (self.now).side King (man_at (self.now).men king) ≡ true }
@@ -157,7 +158,7 @@ impl Bits<'_> {
         self.castling_ends(king).contains(to)
     }
 
-    // The set of the king's square, of the side on move, if the king may legally go to `to`; else the empty set.
+    // As a set, the square of the king of the side on move, if it may legally go to `to`; otherwise the empty set.
     fn king_starts(&self, to: Square) -> SquareSet
         ensures { HasLegalStarts self.now King to result }
     {
@@ -173,7 +174,8 @@ impl Bits<'_> {
         to.rank() == first_rank(self.setup.side.other())
     }
 
-    // The squares from which pawns of the side on move may legally go to `to` without a promotion.
+    // The squares from which pawns of the side on move may legally go to `to` without a promotion. Where `to` is the en
+    // passant target, the pawns that take there need the general test.
     #[tactic(auto, using(crate::proofs::PawnStarts::none_on_last, crate::proofs::PawnStarts::pawn_patterns, crate::proofs::PawnStarts::pawn_starts_are))]
     fn legal_pawn_starts(&self, to: Square) -> SquareSet
         ensures { HasLegalStarts self.now Pawn to result }

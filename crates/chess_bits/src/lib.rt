@@ -10,7 +10,7 @@
 
 // What a board answers is put together from small functions. Most are `#[inline(always)]`: left to the compiler, some
 // of them became calls, and walks that list, count, make and take back moves (as the workload boards does) took 4 %
-// more instructions. Where one of them has a reason of its own, it stands beside it.
+// more instructions. A function with a reason of its own for it says so.
 
 mod between;
 mod bits;
