@@ -63,7 +63,8 @@ fn between_by_rays(tables: &Tables, a: Square, b: Square) -> SquareSet
 }
 
 impl BetweenTable {
-    /// Computes the table from the rays, in memory that `alloc` gives.
+    /// Computes the table from the rays, in memory that `alloc` gives. The set of the squares with the numbers a and b
+    /// is put at 64 a + b.
     ///
     /// # Errors
     /// If there is no memory for it.

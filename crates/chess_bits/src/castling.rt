@@ -34,8 +34,8 @@ impl Bits<'_> {
         attacked.is_empty()
     }
 
-    // Whether the squares that king and rook cross or end on in this castling are empty, but for the two on which they
-    // are now.
+    // Whether the squares that king (`walk`) and rook (`ride`) cross or end on in this castling are empty, but for the
+    // two on which they are now.
     fn is_way_empty(&self, castle: &Castle) -> bool
         requires kings { rank castle.now.king_from ≡ rank castle.now.king_to }
         requires rooks { rank castle.now.rook_from ≡ rank castle.now.rook_to }

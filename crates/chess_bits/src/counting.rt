@@ -87,8 +87,8 @@ impl Bits<'_> {
     }
 
     // Counts the legal moves of the pieces of this kind, not the king, that are in both sets, `ordinary` and `men`; and
-    // takes these pieces out of `men`, the ones that remain to be counted. Pieces in `ordinary` are free, and no pawns
-    // that may promote or take en passant.
+    // takes these pieces out of `men`, the ones that remain to be counted. Pieces in `ordinary` are free (their king is
+    // safe wherever they go), and no pawns that may promote or take en passant.
     #[inline(always)]
     fn count_kind(&self, kind: Kind, ordinary: SquareSet, men: &mut SquareSet) -> usize
         requires kind { same_kind King kind ≡ false }

@@ -105,8 +105,9 @@ impl Bits<'_> {
         }
     }
 
-    // Appends to `list` the legal moves of the piece on `from`. If the piece is in the set `ordinary`, they need no
-    // test: it is free, and no pawn that may promote or take en passant. Those of another piece are tested one by one.
+    // Appends to `list` the legal moves of the piece on `from`. If it is in the set `ordinary`, they need no test: it
+    // is free (its king is safe wherever it goes), and no pawn that may promote or take en passant. Those of another
+    // piece are tested one by one.
     fn add_moves_of(&self, from: Square, ordinary: SquareSet, pins: &Pins, list: &mut MoveList)
         requires ordinary { (k : ℕ) → k < 64 → contains ordinary k ≡ true → GoesFreely self.now k }
         requires evasions { AreEvasions self.now pins.now.free pins.now.evasions }

@@ -97,9 +97,9 @@ impl Bits<'_> {
         own.intersection(starts)
     }
 
-    // The squares from which a pawn of the side on move may promote or take en passant: its last rank but one, and the
-    // squares from which it attacks the en passant target. These are the ones that an enemy pawn on the target would
-    // attack.
+    // The squares from which a pawn of the side on move may promote or take en passant: its last rank but one, where
+    // the enemy pawns start, and the squares from which it attacks the en passant target, which are those that an enemy
+    // pawn on the target would attack.
     #[tactic(auto, using(crate::proofs::PawnsCounted::aims_back))]
     fn special_squares(&self) -> SquareSet
         ensures { (k : ℕ) → k < 64 → contains result k ≡ goes_specially self.now k }
@@ -129,8 +129,8 @@ impl Bits<'_> {
 
     // How many legal moves these pawns have. They are free (their king is safe wherever they go), and none may promote
     // or take en passant. Each has a move for each way open to it: one or two squares ahead, a capture to the left or
-    // right. The whole set is moved each way at once, in place of `pawn_targets` for each pawn. `blocked` are the
-    // squares right before which a piece is.
+    // right. The whole set is moved each way at once, in place of `pawn_targets` for each pawn. The squares `blocked`
+    // have a piece right ahead, and those behind them have one two steps ahead.
     #[tactic(auto, using(crate::proofs::PawnsCounted::members_fit))]
     pub(crate) fn count_ordinary_pawns(&self, pawns: SquareSet) -> usize
         requires free { AreFree self.now Pawn pawns }

@@ -88,7 +88,8 @@ pub struct AttackTables {
 }
 
 // The first of the squares that a ray meets: the lowest if the ray goes `up`, otherwise the highest. For the empty set
-// it is the board's last square in that direction, h8 or a1, from which no ray continues.
+// it is the board's last square in that direction, h8 or a1, from which no ray continues. That square is always added
+// to the set: to another set it makes no difference.
 #[inline(always)]
 fn nearest(squares: SquareSet, up: bool) -> Square
     ensures in_range { result < 64 }
