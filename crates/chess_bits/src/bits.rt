@@ -96,8 +96,8 @@ impl Board for Bits<'_> {
         &self.setup
     }
 
-    // All legal moves, each once, in rising order of start square and then end square (a1 first, h8 last); of
-    // promotions queen, rook, bishop, knight.
+    // All legal moves, each once, in rising order of start square and then end square (a1 first, h8 last); promotions
+    // in the order queen, rook, bishop, knight.
     fn legal_moves(&self) -> MoveList {
         let mut list = MoveList::new();
         self.add_moves(&mut list);

@@ -52,7 +52,7 @@ fn emptied_by(steps: &Steps) -> SquareSet
 
 impl Bits<'_> {
     // The square of the king of the side on move after a pseudo-legal move, which makes these steps: where the mover
-    // arrives if it is the king, else where the king is now.
+    // arrives if it is the king, otherwise where the king is now.
     fn king_after(&self, steps: &Steps) -> Square
         ensures there { (m : Move) → is_pseudo_legal self.now m ≡ true → steps.now ≡ steps_of self.now m
             → is_man (self.now).side King (man_at (men_after self.now m) result) ≡ true }
@@ -167,8 +167,9 @@ impl Bits<'_> {
         self.is_safe_at(king, filled, changed)
     }
 
-    // Whether the pawn on `from` may legally promote on `to`: to all four kinds to which pawns do, or to none of them.
-    // With a test for each kind, counting moves with three such pawns a side took 1.4 times as long.
+    // Whether the pawn on `from` may legally promote on `to`: to queen, rook, bishop and knight alike, or to none of
+    // them, since the king's safety doesn't depend on the kind. With a test for each kind, counting moves with three
+    // such pawns a side took 1.4 times as long.
     fn promotes_legally(&self, from: Square, to: Square) -> bool
         requires goes { goes self.now from to ≡ true }
         requires promotes { would_promote self.now from to ≡ true }

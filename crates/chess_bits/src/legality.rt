@@ -67,8 +67,8 @@ impl Bits<'_> {
         self.is_safe_plain(m.from, m.to)
     }
 
-    // Whether the move `m` of any piece is legal: its end square is among those of its piece, its promotion fits, and
-    // its king is safe after it.
+    // Whether the move `m` of any piece is legal: its end square is one to which its piece goes, it names a promotion
+    // exactly if a pawn promotes there, and its king is safe after it.
     #[tactic(auto, using(crate::proofs::Patterns::not_target, crate::proofs::Patterns::not_fitting, crate::proofs::Patterns::pattern_from))]
     fn is_legal_by_targets(&self, m: &Move) -> bool
         ensures { result ≡ is_legal self.now m.now }
@@ -84,8 +84,8 @@ impl Bits<'_> {
         self.is_safe_after(m)
     }
 
-    // Whether the move `m` is legal. For a queen, rook, bishop or knight the squares that it reaches decide; for a king
-    // or pawn, or if no own piece is on the start square, the general test.
+    // Whether the move `m` is legal. For a queen, rook, bishop or knight there is a shorter test; a king's or pawn's
+    // move, or one from a square without an own piece, gets the general one.
     #[inline(always)]
     pub(crate) fn is_legal_by_kind(&self, m: &Move) -> bool
         ensures { result ≡ is_legal self.now m.now }
@@ -192,7 +192,8 @@ impl Bits<'_> {
         self.safe_starts(men, to)
     }
 
-    // The squares from which pieces of this kind, of the side on move, may legally go to `to` without a promotion.
+    // The squares from which pieces of this kind, of the side on move, may legally go to `to` without a promotion: one
+    // of three ways for officers (queen, rook, bishop, knight), king and pawns.
     #[inline(always)]
     pub(crate) fn starts_of(&self, kind: Kind, to: Square) -> SquareSet
         ensures { HasLegalStarts self.now kind to result }

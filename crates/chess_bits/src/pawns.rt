@@ -39,8 +39,8 @@ fn behind(colour: Colour, squares: SquareSet) -> SquareSet
 }
 
 // The squares from which a pawn of this colour attacks a square of the set on the next file towards the a-file: for
-// White and d5 that is e4. The set is moved one file right, then one rank back; squares that got around the board's
-// edge, from the h-file to the a-file, are dropped.
+// White and d5 that is e4. The set is moved one file right, then one rank back. The a-file is left out: there only
+// squares of the h-file arrive, around the board's edge.
 #[inline(always)]
 fn attacking_left(colour: Colour, squares: SquareSet) -> SquareSet
     ensures { (k : ℕ) → k < 64 → 8 ≤ k → forward colour k < 64
@@ -63,8 +63,8 @@ fn attacking_right(colour: Colour, squares: SquareSet) -> SquareSet
 
 impl Bits<'_> {
     // The squares from which a pawn of the side on move would go straight ahead to `to`, by one square or two; none if
-    // `to` is occupied. For White and e4 these are e3, and e2 if e3 is empty. The set is right only as far as its
-    // squares hold such pawns, and the caller keeps only these.
+    // `to` is occupied. For White and e4 these are e3, and e2 if e3 is empty. It doesn't look whether a pawn is there,
+    // which the caller does.
     #[inline(always)]
     pub(crate) fn advance_starts(&self, to: Square) -> SquareSet
         ensures { (k : ℕ) → k < 64 → is_man (self.now).side Pawn (man_at (self.now).men k) ≡ true
@@ -97,9 +97,9 @@ impl Bits<'_> {
         own.intersection(starts)
     }
 
-    // The squares from which a pawn of the side on move may promote or take en passant: its last rank but one, where
-    // the enemy pawns start, and the squares from which it attacks the en passant target, which are those that an enemy
-    // pawn on the target would attack.
+    // The squares from which a pawn of the side on move may promote or take en passant: those of its last rank but one,
+    // where enemy pawns start, and those from which it attacks the en passant target (an enemy pawn on the target would
+    // attack just these).
     #[tactic(auto, using(crate::proofs::PawnsCounted::aims_back))]
     fn special_squares(&self) -> SquareSet
         ensures { (k : ℕ) → k < 64 → contains result k ≡ goes_specially self.now k }
@@ -129,8 +129,8 @@ impl Bits<'_> {
 
     // How many legal moves these pawns have. They are free (their king is safe wherever they go), and none may promote
     // or take en passant. Each has a move for each way open to it: one or two squares ahead, a capture to the left or
-    // right. The whole set is moved each way at once, in place of `pawn_targets` for each pawn. The squares `blocked`
-    // have a piece right ahead, and those behind them have one two steps ahead.
+    // right. The whole set is moved each way at once, in place of `pawn_targets` for each pawn. A square in `blocked`
+    // has a piece right ahead of it; one behind these has a piece two steps ahead.
     #[tactic(auto, using(crate::proofs::PawnsCounted::members_fit))]
     pub(crate) fn count_ordinary_pawns(&self, pawns: SquareSet) -> usize
         requires free { AreFree self.now Pawn pawns }

@@ -54,8 +54,8 @@ impl Bits<'_> {
         reached.without(self.sets.all(side))
     }
 
-    // The squares of king and rook in the castling that the move `m` is, if the king of the side on move is on its
-    // start; otherwise `None`. The caller knows that there is a right to castle to this side, with the rook on `rook`,
+    // The squares of king and rook in the castling that the move `m` is; `None` if the piece on its start is not the
+    // king of the side on move. The caller knows that there is a right to castle to this side, with the rook on `rook`,
     // and that `m` ends where such a castling does. `castle_of` would ask for the side again, and `castle_from`, which
     // gives these squares for a known side, is private in chess_base.
     fn castle_to(&self, m: &Move, castling_side: CastlingSide, rook: Square) -> Option<Castle>
@@ -133,7 +133,7 @@ impl Bits<'_> {
     }
 
     // The end squares of the piece on `from`, which is of the side on move and no pawn: those of its pseudo-legal
-    // moves, but of castling only if it is legal.
+    // moves, even if they leave the king attacked, but of castling only if it is legal.
     fn man_targets(&self, from: Square) -> SquareSet
         requires { is_of (self.now).side (man_at (self.now).men from) ≡ true }
         ensures { (k : ℕ) → k < 64 → contains result k ≡ man_goes self.now from k }
@@ -198,8 +198,8 @@ impl Bits<'_> {
         self.tables.at(Shape::Pawn(theirs), to)
     }
 
-    // The end squares of the pseudo-legal moves of the pawn on `from`, which is of the side on move, with a promotion
-    // or without.
+    // The end squares of the pseudo-legal moves of the pawn on `from`, which is of the side on move: straight ahead and
+    // by captures, with a promotion or without.
     pub(crate) fn pawn_targets(&self, from: Square) -> SquareSet
         requires { is_man (self.now).side Pawn (man_at (self.now).men from) ≡ true }
         ensures { (k : ℕ) → k < 64
