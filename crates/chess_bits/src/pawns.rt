@@ -129,8 +129,8 @@ impl Bits<'_> {
 
     // How many legal moves these pawns have. They are free (their king is safe wherever they go), and none may promote
     // or take en passant. Each has a move for each way open to it: one or two squares ahead, a capture to the left or
-    // right. The whole set is moved each way at once, in place of `pawn_targets` for each pawn. A square in `blocked`
-    // has a piece right ahead of it; one behind these has a piece two steps ahead.
+    // right. The whole set is moved each way at once, in place of `pawn_targets` for each pawn. The squares `blocked`
+    // have a piece right ahead; one rank further back that piece is two steps ahead.
     #[tactic(auto, using(crate::proofs::PawnsCounted::members_fit))]
     pub(crate) fn count_ordinary_pawns(&self, pawns: SquareSet) -> usize
         requires free { AreFree self.now Pawn pawns }

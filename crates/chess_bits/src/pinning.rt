@@ -65,9 +65,9 @@ impl Bits<'_> {
         }
     }
 
-    // The squares on which a move of another piece can end that meets an attack on the king on `king` by the enemy
-    // piece on `from`: `from` itself (a capture), those between the two, and the en passant target (a pawn that has
-    // just given check may be taken so).
+    // Where a move of another piece than the king can end to meet an attack by the enemy piece on `from` on the king on
+    // `king`: on `from` (a capture), between the two, or on the en passant target (a pawn that has just given check may
+    // be taken so).
     #[inline(always)]
     fn evasions(&self, king: Square, from: Square) -> SquareSet
         ensures { (k : ℕ) → k < 64 → ((is_between king from k || (k == from)) || is_square (self.now).target k) ≡ true
@@ -83,8 +83,7 @@ impl Bits<'_> {
 
     // If a single piece is between the king on `king` and an enemy queen, rook or bishop on `from`, which would attack
     // the king without it, takes this piece out of the free ones, and adds the squares where it may go to the evasions.
-    // The free pieces don't contain an enemy's piece; the squares added for it do no harm, since moves to them are
-    // tested.
+    // For an enemy's piece, which is not among the free ones, the added squares do no harm: moves to them are tested.
     #[inline(always)]
     fn add_pin(&self, king: Square, from: Square, pins: &mut Pins)
         requires king { is_man (self.now).side King (man_at (self.now).men king) ≡ true }
