@@ -97,18 +97,18 @@ impl Bits<'_> {
         own.intersection(starts)
     }
 
-    // The squares from which a pawn of the side on move may promote or take en passant: those of its last rank but one,
-    // where enemy pawns start, and those from which it attacks the en passant target (an enemy pawn on the target would
-    // attack just these).
+    // The squares from which a pawn of the side on move may promote or take en passant: those of its last rank but one
+    // (for White the seventh), where enemy pawns start, and those from which it attacks the en passant target (an enemy
+    // pawn on the target would attack just these).
     #[tactic(auto, using(crate::proofs::PawnsCounted::aims_back))]
     fn special_squares(&self) -> SquareSet
         ensures { (k : ℕ) → k < 64 → contains result k ≡ goes_specially self.now k }
     {
         let theirs = self.setup.side.other();
-        let before_last = SquareSet::of_rank(pawn_rank(theirs));
+        let seventh = SquareSet::of_rank(pawn_rank(theirs));
         match self.setup.target {
-            None => before_last,
-            Some(target) => self.tables.at(Shape::Pawn(theirs), target).union(before_last),
+            None => seventh,
+            Some(target) => self.tables.at(Shape::Pawn(theirs), target).union(seventh),
         }
     }
 
