@@ -95,8 +95,8 @@ impl Sets {
         ensures { (men : Men) → length men ≡ 64 → man_at men from ≡ Some man → man_at men to ≡ None
             → IsSets self.old men → IsSets self.new (slice_set (slice_set men from None) to (Some man)) }
     {
-        // The old key is taken out before the sets change, and the new one put in after: side by side, the compiler made
-        // a branch on the piece's kind of the two.
+        // The old key is taken out before the sets change, and the new one put in after: side by side, the compiler
+        // made a branch on the piece's kind of the two.
         self.men_word ^= man_key(keys, man, from);
         match man.colour {
             Colour::White => {
