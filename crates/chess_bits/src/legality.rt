@@ -166,7 +166,8 @@ impl Bits<'_> {
         single_if(self.king_goes_legally(king, to), king)
     }
 
-    // Whether `to` is on the last rank of the side on move, where its pawns promote. `would_promote` asks for a pawn too.
+    // Whether `to` is on the last rank of the side on move, where its pawns promote: for White rank 8, Black's first
+    // rank. `would_promote` asks for a pawn too.
     #[inline(always)]
     fn is_on_last_rank(&self, to: Square) -> bool
         ensures { result ≡ (rank to == first_rank (other (self.now).side)) }
