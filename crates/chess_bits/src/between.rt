@@ -25,7 +25,8 @@ pub struct BetweenTable {
         → contains (slice_index sets.items (64 * a + b)) k ≡ is_between a b k },
 }
 
-// The squares above `low` and below `high` on the lines of this kind through both; none if these are two lines.
+// The squares that are above `low` on its line of this kind (a rank, say), and below `high` on its line of this kind:
+// those between the two, or none if they are on two lines.
 #[inline(always)]
 #[tactic(auto, unfolding(crate::specs::ties::Shapes::in_shape))]
 fn inside(tables: &Tables, line: Line, low: Square, high: Square) -> SquareSet
@@ -36,7 +37,8 @@ fn inside(tables: &Tables, line: Line, low: Square, high: Square) -> SquareSet
     above.intersection(below)
 }
 
-// The squares strictly between two squares of one line, of which `low` does not have the greater number.
+// The squares strictly between two squares of one line, of which `low` does not have the greater number. Two squares
+// have at most one line in common, so at most one of the four parts has squares.
 #[inline(always)]
 #[tactic(auto, using(crate::proofs::BetweenSquares::on_some_line))]
 fn rising_between(tables: &Tables, low: Square, high: Square) -> SquareSet
@@ -50,7 +52,7 @@ fn rising_between(tables: &Tables, low: Square, high: Square) -> SquareSet
     ranks.union(files).union(diagonals.union(antidiagonals))
 }
 
-// The squares strictly between two squares of one line, by the rays from both.
+// The squares strictly between two squares of one line, in either order, computed from the rays.
 fn between_by_rays(tables: &Tables, a: Square, b: Square) -> SquareSet
     ensures { (l : LineKind) → same_line l a b ≡ true → (k : ℕ) → k < 64 → contains result k ≡ is_between a b k }
 {
@@ -61,7 +63,8 @@ fn between_by_rays(tables: &Tables, a: Square, b: Square) -> SquareSet
 }
 
 impl BetweenTable {
-    /// Computes the table from the rays, in memory that `alloc` gives.
+    /// Computes the table from the rays, in memory that `alloc` gives. The set of the squares with the numbers a and b
+    /// is put at 64 a + b.
     ///
     /// # Errors
     /// If there is no memory for it.

@@ -53,7 +53,7 @@ impl<'t> Bits<'t> {
         }
     }
 
-    // The square of this colour's king.
+    // The square of this colour's king. The position is sound, so there is exactly one.
     pub(crate) fn king(&self, colour: Colour) -> Square
         ensures alone { (k : ℕ) → k < 64 → is_man colour King (man_at self.now.men k) ≡ (k == result) }
         ensures in_range { result < 64 }
@@ -96,7 +96,8 @@ impl Board for Bits<'_> {
         &self.setup
     }
 
-    // All legal moves, each once, rising by start square, end square and promotion.
+    // All legal moves, each once, in rising order of start square and then end square (a1 first, h8 last); promotions
+    // in the order queen, rook, bishop, knight.
     fn legal_moves(&self) -> MoveList {
         let mut list = MoveList::new();
         self.add_moves(&mut list);
@@ -118,8 +119,8 @@ impl Board for Bits<'_> {
         self.is_legal_by_kind(m)
     }
 
-    // A set of squares that has at least the starts of the legal moves of this kind of piece to `to`: for a king its
-    // own square, for any other kind those from which a piece goes to `to`, whatever becomes of its king.
+    // A set that contains the start squares of all legal moves of this kind of piece, of the side on move, to `to`. It
+    // may contain more: for a king always its square, for another kind each piece that reaches `to`, even if pinned.
     fn origins(&self, kind: Kind, to: Square) -> SquareSet {
         let side = self.setup.side;
         let men = self.sets.of(side);
@@ -153,13 +154,14 @@ impl Board for Bits<'_> {
         self.is_attacked(king, side.other())
     }
 
-    // The position's Zobrist hash; that of the pieces is kept up to date by each move.
+    // The position's Zobrist hash: `men_word`, the pieces' part, which each move keeps up to date, combined with the
+    // keys of the side on move and of the castling rights.
     #[inline(always)]
     fn word(&self) -> u64 {
         hash_with(self.tables.keys(), self.sets.men_word, &self.setup)
     }
 
-    // Makes a legal move, and returns what `take_back` needs to take it back.
+    // Makes a legal move on this board, in place, and returns what `take_back` needs to take it back.
     #[inline(always)]
     fn make(&mut self, m: Move) -> Saved {
         let keys = self.tables.keys();

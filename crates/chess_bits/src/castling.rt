@@ -15,7 +15,7 @@ use chess_base::{Kind, Man, Move, Square, Variant};
 use chess_moves::{Board, SquareSet};
 
 impl Bits<'_> {
-    // The squares of a rank from one square to another, both included.
+    // The squares from a to b, two squares of one rank, both included.
     fn way(&self, a: Square, b: Square) -> SquareSet
         requires { rank a ≡ rank b }
         ensures { (k : ℕ) → k < 64 → contains result k ≡ is_on_way a b k }
@@ -24,7 +24,7 @@ impl Bits<'_> {
         ends.union(self.tables.between(a, b))
     }
 
-    // Whether the side that is not on move attacks no square of the set `way`.
+    // Whether the side that is not on move attacks none of the squares `way`.
     fn is_safe_way(&self, way: SquareSet) -> bool
         ensures { result ≡ each_square
             (λ x. not (contains way x) || not (is_attacked (self.now).men x (other (self.now).side))) }
@@ -34,8 +34,8 @@ impl Bits<'_> {
         attacked.is_empty()
     }
 
-    // Whether the squares that king and rook cross or end on in this castling are empty, but for the two on which they
-    // stand.
+    // Whether the squares that king (`walk`) and rook (`ride`) cross or end on in this castling are empty, but for the
+    // two on which they are now.
     fn is_way_empty(&self, castle: &Castle) -> bool
         requires kings { rank castle.now.king_from ≡ rank castle.now.king_to }
         requires rooks { rank castle.now.rook_from ≡ rank castle.now.rook_to }
@@ -51,8 +51,8 @@ impl Bits<'_> {
         met.is_empty()
     }
 
-    // Whether nothing prevents the castling with these squares: its way is empty, and no square of the king's part of
-    // it is attacked.
+    // Whether nothing prevents the castling with these squares: those that king and rook cross are empty, and none on
+    // the king's way, its start and end included, is attacked.
     fn castles(&self, castle: &Castle) -> bool
         requires kings { rank castle.now.king_from ≡ rank castle.now.king_to }
         requires rooks { rank castle.now.rook_from ≡ rank castle.now.rook_to }
@@ -66,7 +66,8 @@ impl Bits<'_> {
         self.is_safe_way(walk)
     }
 
-    // Whether the move `m`, which is the castling with these squares, is legal.
+    // Whether the move `m`, which is the castling with the squares `castle`, is legal. In normal chess `castles`
+    // decides; in Chess960 the king must also be safe once the rook has left its square.
     #[tactic(auto, using(crate::proofs::CastlingBySets::castle_pattern, crate::proofs::CastlingBySets::not_castling, crate::proofs::CastlingSafely::castles_safely))]
     pub(crate) fn castles_legally(&self, m: &Move, castle: &Castle) -> bool
         requires castle { castle_of self.now m.now ≡ Some castle.now }
@@ -85,8 +86,9 @@ impl Bits<'_> {
         }
     }
 
-    // Whether the king is not attacked after the move `m`, which is the castling with these squares and which nothing
-    // prevents: in Chess960 the rook, now gone, may have been between it and an attacker.
+    // Whether the king is not attacked after the move `m`, which is the castling with the squares `castle` and which
+    // nothing else prevents. In Chess960 the rook, now gone, may have been between it and an attacker: with king on c1,
+    // rook on b1 and an enemy rook on a1.
     #[tactic(auto, using(crate::proofs::CastlingBySets::castle_steps))]
     fn is_safe_castled(&self, m: &Move, castle: &Castle) -> bool
         requires castle { castle_of self.now m.now ≡ Some castle.now }

@@ -19,8 +19,8 @@ use chess_base::{Kind, Square};
 use chess_moves::{Board, SquareSet};
 
 impl Bits<'_> {
-    // Counts the legal moves from `from` to `to`, given that one is pseudo-legal: one for each promotion with which it
-    // is legal, where `None` (no promotion) counts as one of these.
+    // How many legal moves there are from `from` to `to`, given that one is pseudo-legal: four for a pawn that promotes
+    // there, otherwise one; 0 if they would leave the king attacked.
     fn count_between(&self, from: Square, to: Square) -> usize
         requires { goes self.now from to ≡ true }
         ensures { result ≡ length (moves_between self.now from to) }
@@ -28,7 +28,8 @@ impl Bits<'_> {
         self.legal_promotions(from, to).len()
     }
 
-    // How many legal moves there are from the square `from`, which all end on squares of the set `ends`.
+    // How many legal moves there are from the square `from`. They all end on squares of `ends`, and to each of these a
+    // move is pseudo-legal; each is tested.
     fn count_to(&self, from: Square, ends: SquareSet) -> usize
         requires goes { (k : ℕ) → k < 64 → contains ends k ≡ true → goes self.now from k ≡ true }
         requires all { EndsOn self.now from ends }
@@ -43,7 +44,7 @@ impl Bits<'_> {
         count
     }
 
-    // How many legal moves the king on the square `king` has: one to each square where it may go.
+    // How many legal moves the king on the square `king` has: one to each square where it may go, castling included.
     #[tactic(auto, using(crate::proofs::KingListed::king_counted))]
     fn count_king(&self, king: Square) -> usize
         requires { is_man (self.now).side King (man_at (self.now).men king) ≡ true }
@@ -61,7 +62,7 @@ impl Bits<'_> {
         requires free { IsFree self.now from }
         ensures { result ≡ length (moves_from self.now from) }
     {
-        // The prover wants these facts: the start's number is below 64, and the king is on one square alone.
+        // The prover wants these facts: the start's number is below 64, and the king is on one square only.
         let _start = from.number();
         let _king = self.king(self.setup.side);
         self.steps(kind, from).len()
@@ -85,8 +86,9 @@ impl Bits<'_> {
         count
     }
 
-    // Takes the pieces of this kind that are in the set `ordinary` out of the set `men`, and returns how many legal
-    // moves they have. Pieces in `ordinary` are free, and no pawns that may promote or take en passant.
+    // Counts the legal moves of the pieces of this kind, not the king, that are in both sets, `ordinary` and `men`; and
+    // takes these pieces out of `men`, the ones that remain to be counted. Pieces in `ordinary` are free (their king is
+    // safe wherever they go), and no pawns that may promote or take en passant.
     #[inline(always)]
     fn count_kind(&self, kind: Kind, ordinary: SquareSet, men: &mut SquareSet) -> usize
         requires kind { same_kind King kind ≡ false }
@@ -108,8 +110,8 @@ impl Bits<'_> {
         }
     }
 
-    // How many legal moves the piece on `from` has, the king or another. Each move is judged, but if the piece is not
-    // the king, only moves to the squares that `pins` leaves to it.
+    // How many legal moves the piece on `from` has, the king or another: each pseudo-legal move is tested for the
+    // king's safety, but of another piece than the king only those to squares that `pins` leaves to it.
     fn count_judged(&self, from: Square, pins: &Pins) -> usize
         requires evasions { AreEvasions self.now pins.now.free pins.now.evasions }
         requires few { length (moves_from self.now from) ≤ 896 }
@@ -121,7 +123,7 @@ impl Bits<'_> {
         self.count_to(from, self.allowed_targets(from, pins))
     }
 
-    // How many legal moves the pieces on these squares have, each judged.
+    // How many legal moves the pieces on the squares `men` have; each move is tested for the king's safety.
     fn count_each(&self, men: SquareSet, pins: &Pins) -> usize
         requires evasions { AreEvasions self.now pins.now.free pins.now.evasions }
         requires few { length (flat_map (λ a. moves_from self.now a) (members men)) ≤ 896 }
@@ -135,9 +137,9 @@ impl Bits<'_> {
         count
     }
 
-    // How many legal moves there are. The free pieces, whose king is safe wherever they go, are counted kind by kind.
-    // Then come the others one by one: the king, pawns that may promote or take en passant, and pieces that are pinned,
-    // or in check all pieces.
+    // How many legal moves there are. The free pieces, whose king is safe wherever they go, are counted kind by kind
+    // without a test of each move. Then come the others one by one: the king, pawns that may promote or take en
+    // passant, and pieces that are pinned, or in check all pieces.
     pub(crate) fn count(&self) -> usize
         ensures { result ≡ length (moves self.now) }
     {
@@ -155,16 +157,16 @@ impl Bits<'_> {
         pawns + knights + bishops + rooks + queens + others
     }
 
-    // Whether there is a legal move from the square `from`.
+    // Whether there is a legal move from the square `from`. It stops at the first end square that gives one.
     fn has_move_from(&self, from: Square) -> bool
         ensures { result ≡ nat_lt 0 (length (moves_from self.now from)) }
     {
         any(self.targets(from), |to| self.count_between(from, to) > 0)
     }
 
-    // A quick test for a legal move: true only if the king is not in check, and a knight or pawn on no rank, file or
-    // diagonal of the king has a legal move, and not a pawn's promotion or capture en passant. If it is false, there
-    // may be a legal move all the same.
+    // A quick test for a legal move: if it is true there is one, if it is false there may be one all the same. It looks
+    // only at knights and pawns that are on no rank, file or diagonal of the king, not at promotions and captures en
+    // passant, and only if the king is not in check.
     fn has_easy_move(&self) -> bool
         ensures { result ≡ true → nat_lt 0 (length (moves self.now)) ≡ true }
     {

@@ -5,7 +5,8 @@ ghost use Rattle.chess_moves.specs.PositionHash.{key};
 
 use chess_moves::{ComputedKeys, Keys};
 
-/// All 785 Zobrist keys, of which position hashes are made, by their numbers.
+/// All 785 Zobrist keys, of which position hashes are made, by their numbers: 0 to 767 for pieces on squares, 768 for
+/// Black on move, 769 to 784 for castling rights.
 #[derive(Drop)]
 pub struct KeyTable {
     keys: [u64; 785],

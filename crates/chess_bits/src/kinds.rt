@@ -53,7 +53,7 @@ impl Kinds {
         }
     }
 
-    /// Adds a piece of this kind on a square, which is empty.
+    /// Adds a piece of this kind on `square`, which is empty: to the set of its kind, and to the set of all.
     pub fn put(&mut self, kind: Kind, square: Square)
         ensures kinds { (men : Men) → (c : Side) → length men ≡ 64 → man_at men square ≡ None → IsKinds self.old.sets c men
             → IsKinds self.new.sets c (slice_set men square (Some (record { colour = c; kind = kind }))) }
@@ -67,7 +67,7 @@ impl Kinds {
         self.all = self.all.union(here);
     }
 
-    /// Removes a piece of this kind from its square.
+    /// Removes a piece of this kind from `square`: from the set of its kind, and from the set of all.
     pub fn lift(&mut self, kind: Kind, square: Square)
         ensures kinds { (men : Men) → (c : Side) → length men ≡ 64
             → man_at men square ≡ Some (record { colour = c; kind = kind }) → IsKinds self.old.sets c men
@@ -82,7 +82,8 @@ impl Kinds {
         self.all = self.all.without(here);
     }
 
-    /// Moves a piece of this kind from one square to another, which is empty.
+    /// Moves a piece of this kind from one square to another, which is empty: in the set of its kind, and in the set of
+    /// all.
     #[inline(always)]
     pub fn shift(&mut self, kind: Kind, from: Square, to: Square)
         ensures kinds { (men : Men) → (c : Side) → length men ≡ 64
@@ -111,8 +112,8 @@ impl Kinds {
         self.sets[number(kind)]
     }
 
-    /// The squares of the pieces of this kind, and of the queens: with `Rook` of all that attack along ranks and files,
-    /// with `Bishop` along diagonals.
+    /// The squares of the pieces of this kind and of the queens: with `Rook` all pieces that attack along ranks and
+    /// files, with `Bishop` all that attack along diagonals.
     #[inline(always)]
     pub fn with_queens(&self, kind: Kind) -> SquareSet
         ensures { (k : ℕ) → contains result k ≡ (contains (slice_index self.now.sets (kind_number kind)) k
@@ -122,7 +123,8 @@ impl Kinds {
     }
 
     /// The squares of the pieces in these sets, which are of this colour, that attack `square`; `occupied` are the
-    /// occupied squares of the board.
+    /// occupied squares of the board. It looks from `square` outwards: a knight attacks `square` if it is a knight's
+    /// move away, and a pawn does if a pawn of the other colour on `square` would attack it.
     #[inline(always)]
     pub fn attackers(
         &self,
@@ -169,9 +171,9 @@ impl Kinds {
         !self.attackers(tables, colour, square, occupied).is_empty()
     }
 
-    /// Whether a piece in these sets, which are of this colour, attacks `square` after a move; `occupied` are the
-    /// squares occupied then. Pieces on squares of `changed`, those that the move changed, don't count: they were
-    /// captured.
+    /// Whether a piece in these sets, which are of this colour, attacks `square` after a move of the other colour; the
+    /// sets are those before it. `occupied` are the squares occupied after it, and `changed` the squares whose content
+    /// it changes: a piece of this colour there was captured, so it doesn't count.
     #[inline(always)]
     #[tactic(auto, unfolding(chess_base::specs::Attacks::is_attacked))]
     pub fn attacks_outside(

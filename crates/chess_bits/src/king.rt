@@ -20,7 +20,7 @@ use chess_base::rules::{PROMOTIONS, Steps, is_man, steps_of};
 use chess_base::{Kind, Move, Square};
 use chess_moves::{SquareSet, would_promote};
 
-// The set of the given square alone; the empty set if none is given.
+// The set that has just the given square; the empty set for `None`.
 #[tactic(auto, using(crate::proofs::Attackers::eq_back))]
 pub(crate) fn set_of(square: Option<Square>) -> SquareSet
     ensures { (k : ℕ) → contains result k ≡ is_square square k }
@@ -31,7 +31,7 @@ pub(crate) fn set_of(square: Option<Square>) -> SquareSet
     }
 }
 
-// The squares on which pieces arrive by these steps: the mover's, and the castling rook's.
+// The squares on which pieces arrive by these steps of a move: the mover's end square, and the castling rook's.
 #[inline(always)]
 fn filled_by(steps: &Steps) -> SquareSet
     ensures { (k : ℕ) → contains result k ≡ ((steps.now.to == k) || is_square steps.now.second_to k) }
@@ -40,8 +40,8 @@ fn filled_by(steps: &Steps) -> SquareSet
     to.union(set_of(steps.second_to))
 }
 
-// The squares that pieces leave by these steps: the mover's, and that of the castling rook or of the pawn taken en
-// passant.
+// The squares that pieces leave by these steps of a move: the mover's start square, and the one of the castling rook or
+// of the pawn taken en passant.
 #[inline(always)]
 fn emptied_by(steps: &Steps) -> SquareSet
     ensures { (k : ℕ) → contains result k ≡ (is_square steps.now.second_from k || (steps.now.from == k)) }
@@ -52,7 +52,7 @@ fn emptied_by(steps: &Steps) -> SquareSet
 
 impl Bits<'_> {
     // The square of the king of the side on move after a pseudo-legal move, which makes these steps: where the mover
-    // arrives if it is the king, else where the king is now.
+    // arrives if it is the king, otherwise where the king is now.
     fn king_after(&self, steps: &Steps) -> Square
         ensures there { (m : Move) → is_pseudo_legal self.now m ≡ true → steps.now ≡ steps_of self.now m
             → is_man (self.now).side King (man_at (men_after self.now m) result) ≡ true }
@@ -67,8 +67,9 @@ impl Bits<'_> {
         }
     }
 
-    // Whether a pseudo-legal move is legal, given what it changes: no enemy piece attacks its king, which is then on
-    // `king`. `filled` are the squares on which pieces arrive, `changed` these and the ones that pieces leave.
+    // Whether a pseudo-legal move is legal: after it no enemy piece attacks `king`, the square where the king of the
+    // side on move then is. The move is given by what it changes: `filled` are the squares on which pieces arrive,
+    // `changed` these and the ones that pieces leave. An enemy piece on one of `changed` is captured.
     #[inline(always)]
     fn is_safe_at(&self, king: Square, filled: SquareSet, changed: SquareSet) -> bool
         ensures { (m : Move) → is_pseudo_legal self.now m ≡ true → king < 64
@@ -84,8 +85,9 @@ impl Bits<'_> {
         !men.attacks_outside(self.tables, by, king, occupied, changed)
     }
 
-    // Whether an ordinary move of the king, from `king` to `to`, is legal: nothing attacks `to` once the king has left
-    // its square. As calls, this and `king_ends` made counting take a fifth more instructions.
+    // Whether an ordinary move of the king (no castling), from `king` to `to`, is legal: nothing attacks `to` once the
+    // king has left its square. Left to the compiler, not inlined, this and `king_ends` made counting take a fifth more
+    // instructions.
     #[inline(always)]
     pub(crate) fn is_safe_step(&self, king: Square, to: Square) -> bool
         ensures { is_man (self.now).side King (man_at (self.now).men king) ≡ true
@@ -99,8 +101,8 @@ impl Bits<'_> {
         !self.sets.of(by).attacks(self.tables, by, to, left)
     }
 
-    // The end squares of the legal moves of the king on `king`, by a step or by castling. With the general test for
-    // each move, lists of moves in late endings took 13 % longer.
+    // The end squares of the legal moves of the king on `king`, by a step or by castling. With `is_safe_after`, the
+    // general test, for each move, lists of moves in late endings took 13 % longer.
     #[inline(always)]
     pub(crate) fn king_ends(&self, king: Square) -> SquareSet
         requires { is_man (self.now).side King (man_at (self.now).men king) ≡ true }
@@ -113,8 +115,8 @@ impl Bits<'_> {
         self.castling_ends(king).union(safe)
     }
 
-    // Whether the move `m` is neither the king's nor a pawn's to the en passant target: so only its two squares change,
-    // and the king stays, which `goes_plainly` of placing.rt doesn't ask.
+    // Whether the move `m` is neither the king's nor a pawn's to the en passant target: then it changes only its two
+    // squares, and the king stays where it is. `goes_plainly` of placing.rt lets kings' moves pass too.
     #[inline(always)]
     fn steps_plainly(&self, m: &Move) -> bool
         ensures { result ≡ (not (is_man (self.now).side King (man_at (self.now).men m.now.from))
@@ -126,8 +128,9 @@ impl Bits<'_> {
             && !(is_man(side, Kind::Pawn, man) && is_target(&self.setup, m.to))
     }
 
-    // Whether a pseudo-legal move is legal: the mover's king is not attacked after it. As a call of one that makes the
-    // steps of each move, it made the workload boards 4 % slower.
+    // Whether a pseudo-legal move is legal: the mover's king is not attacked after it. Most moves change only two
+    // squares (`is_safe_plain`). With the steps computed for each move instead, by a function that was not inlined, the
+    // workload boards was 4 % slower.
     #[inline(always)]
     pub(crate) fn is_safe_after(&self, m: &Move) -> bool
         ensures { is_pseudo_legal self.now m.now ≡ true → result ≡ is_legal self.now m.now }
@@ -138,8 +141,8 @@ impl Bits<'_> {
         self.is_safe_by(&steps_of(&self.setup, m))
     }
 
-    // Whether a pseudo-legal move, which makes these steps, is legal: the mover's king is not attacked after it. Only the
-    // king's moves, en passant and castling in Chess960 come here, so it is kept out of the common way.
+    // Whether a pseudo-legal move, which makes these steps, is legal: the mover's king is not attacked after it. Only
+    // the king's moves, en passant and castling in Chess960 come here, so it is not inlined.
     #[inline(never)]
     pub(crate) fn is_safe_by(&self, steps: &Steps) -> bool
         ensures { (m : Move) → is_pseudo_legal self.now m ≡ true → steps.now ≡ steps_of self.now m
@@ -152,7 +155,7 @@ impl Bits<'_> {
     }
 
     // Whether a pseudo-legal move from `from` to `to` is legal. It is not the king's and not en passant, so only its
-    // two squares change, and it does not matter what the piece becomes.
+    // two squares change; a promotion makes no difference to the king's safety.
     #[inline(always)]
     pub(crate) fn is_safe_plain(&self, from: Square, to: Square) -> bool
         ensures { (promotion : Option ManKind) → StepsPlainly self.now (move_of from to promotion)
@@ -164,8 +167,9 @@ impl Bits<'_> {
         self.is_safe_at(king, filled, changed)
     }
 
-    // Whether the pawn on `from` may legally promote on `to`: to all four kinds to which pawns do, or to none of them.
-    // With a test for each kind, counting moves with three such pawns a side took 1.4 times as long.
+    // Whether the pawn on `from` may legally promote on `to`: to queen, rook, bishop and knight alike, or to none of
+    // them, since the king's safety doesn't depend on the kind. With a test for each kind, counting moves with three
+    // such pawns a side took 1.4 times as long.
     fn promotes_legally(&self, from: Square, to: Square) -> bool
         requires goes { goes self.now from to ≡ true }
         requires promotes { would_promote self.now from to ≡ true }
@@ -177,8 +181,9 @@ impl Bits<'_> {
         self.is_safe_plain(from, to)
     }
 
-    // The promotions with which moves from `from` to `to` are legal: the four kinds if a pawn promotes there, otherwise
-    // `None` for the one move without. The slice is empty if the king would be attacked.
+    // The promotions with which moves from `from` to `to` are legal: queen, rook, bishop and knight if a pawn promotes
+    // there, otherwise the one entry `None`, for the move without a promotion. The slice is empty if the king would be
+    // attacked.
     #[inline(always)]
     pub(crate) fn legal_promotions(&self, from: Square, to: Square) -> &'static [Option<Kind>]
         requires { goes self.now from to ≡ true }

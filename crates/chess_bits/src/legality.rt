@@ -48,7 +48,7 @@ fn officer_of(colour: Colour, man: Option<Man>) -> Option<Kind>
 
 impl Bits<'_> {
     // Whether the move `m` is legal; the piece on its start square is a queen, rook, bishop or knight of this kind.
-    // `is_legal_by_targets` would say it too, but would ask also what only a king or a pawn does.
+    // `is_legal_by_targets` gives the same answer, but also looks at what only a king or a pawn does.
     #[inline(always)]
     #[tactic(auto, using(crate::proofs::ByKind::promotes_not, crate::proofs::ByKind::as_triple, crate::proofs::ByKind::officer_pattern, crate::proofs::ByKind::no_pattern, crate::proofs::ByKind::officer_plain))]
     fn is_officer_legal(&self, kind: Kind, m: &Move) -> bool
@@ -67,8 +67,8 @@ impl Bits<'_> {
         self.is_safe_plain(m.from, m.to)
     }
 
-    // Whether the move `m` of any piece is legal: its end square is among those of its piece, its promotion fits, and
-    // its king is safe after it.
+    // Whether the move `m` of any piece is legal: its end square is one to which its piece goes, it names a promotion
+    // exactly if a pawn promotes there, and its king is safe after it.
     #[tactic(auto, using(crate::proofs::Patterns::not_target, crate::proofs::Patterns::not_fitting, crate::proofs::Patterns::pattern_from))]
     fn is_legal_by_targets(&self, m: &Move) -> bool
         ensures { result ≡ is_legal self.now m.now }
@@ -84,8 +84,8 @@ impl Bits<'_> {
         self.is_safe_after(m)
     }
 
-    // Whether the move `m` is legal. For a queen, rook, bishop or knight the squares that it reaches decide; for a king
-    // or pawn, or if no own piece is on the start square, the general test.
+    // Whether the move `m` is legal. For a queen, rook, bishop or knight there is a shorter test; a king's or pawn's
+    // move, or one from a square without an own piece, gets the general one.
     #[inline(always)]
     pub(crate) fn is_legal_by_kind(&self, m: &Move) -> bool
         ensures { result ≡ is_legal self.now m.now }
@@ -96,9 +96,9 @@ impl Bits<'_> {
         }
     }
 
-    // Those of the squares `men` from which the piece there may legally go to `to`. The caller makes sure that each
-    // such move is pseudo-legal and no promotion. It may take en passant, which is rare, so this is out of the common
-    // way.
+    // Those of the squares `men` from which the piece there may legally go to `to`, each by the general test. The
+    // caller makes sure that each such move is pseudo-legal and no promotion. It is for pawns that may take en passant,
+    // which is rare, so it is not inlined.
     #[inline(never)]
     fn tried_starts(&self, men: SquareSet, to: Square) -> SquareSet
         requires { (k : ℕ) → k < 64 → contains men k ≡ true → is_pseudo_legal self.now (move_of k to None) ≡ true }
@@ -113,8 +113,8 @@ impl Bits<'_> {
         })
     }
 
-    // Those of the squares `men` from which the piece there may legally go to `to`. The caller makes sure that each
-    // such move is pseudo-legal, not the king's, no promotion and not en passant.
+    // Those of the squares `men` from which the piece there may legally go to `to`, each by the short test. The caller
+    // makes sure that each such move is pseudo-legal, not the king's, no promotion and not en passant.
     #[inline(always)]
     fn safe_starts(&self, men: SquareSet, to: Square) -> SquareSet
         requires { (k : ℕ) → k < 64 → contains men k ≡ true → StepsPlainly self.now (move_of k to None) }
@@ -124,7 +124,8 @@ impl Bits<'_> {
     }
 
     // The squares from which pieces of this kind (queen, rook, bishop or knight) of the side on move may legally go to
-    // `to`. They are among those that such a piece on `to` would attack.
+    // `to`. They are looked for from `to`: only a piece on a square that one of this kind on `to` would attack can go
+    // there.
     fn officer_starts(&self, kind: Kind, to: Square) -> SquareSet
         requires { (same_kind King kind || same_kind Pawn kind) ≡ false }
         ensures { HasLegalStarts self.now kind to result }
@@ -141,8 +142,8 @@ impl Bits<'_> {
         self.safe_starts(men, to)
     }
 
-    // Whether the king on `king` may legally go to `to`: by an ordinary move, or by castling. `king_ends` says it too,
-    // but tests up to eight squares, where this tests one.
+    // Whether the king on `king` may legally go to `to`: by an ordinary move, or by castling. `king_ends` would answer
+    // it too, but tests up to eight squares, where this tests one.
     #[tactic(auto, using(crate::proofs::KingSteps::steps_are, crate::proofs::ByKind::king_otherwise))]
     fn king_goes_legally(&self, king: Square, to: Square) -> bool
         requires { is_man (self.now).side King (man_at (self.now).men king) ≡ true }
@@ -157,7 +158,7 @@ impl Bits<'_> {
         self.castling_ends(king).contains(to)
     }
 
-    // The set of the king's square, of the side on move, if the king may legally go to `to`; else the empty set.
+    // As a set, the square of the king of the side on move, if it may legally go to `to`; otherwise the empty set.
     fn king_starts(&self, to: Square) -> SquareSet
         ensures { HasLegalStarts self.now King to result }
     {
@@ -165,7 +166,8 @@ impl Bits<'_> {
         single_if(self.king_goes_legally(king, to), king)
     }
 
-    // Whether `to` is on the last rank of the side on move, where its pawns promote. `would_promote` asks for a pawn too.
+    // Whether `to` is on the last rank of the side on move, where its pawns promote: for White rank 8, Black's first
+    // rank. `would_promote` asks for a pawn too.
     #[inline(always)]
     fn is_on_last_rank(&self, to: Square) -> bool
         ensures { result ≡ (rank to == first_rank (other (self.now).side)) }
@@ -173,7 +175,8 @@ impl Bits<'_> {
         to.rank() == first_rank(self.setup.side.other())
     }
 
-    // The squares from which pawns of the side on move may legally go to `to` without a promotion.
+    // The squares from which pawns of the side on move may legally go to `to` without a promotion. Where `to` is the en
+    // passant target, the pawns that take there need the general test.
     #[tactic(auto, using(crate::proofs::PawnStarts::none_on_last, crate::proofs::PawnStarts::pawn_patterns, crate::proofs::PawnStarts::pawn_starts_are))]
     fn legal_pawn_starts(&self, to: Square) -> SquareSet
         ensures { HasLegalStarts self.now Pawn to result }
@@ -190,7 +193,8 @@ impl Bits<'_> {
         self.safe_starts(men, to)
     }
 
-    // The squares from which pieces of this kind, of the side on move, may legally go to `to` without a promotion.
+    // The squares from which pieces of this kind, of the side on move, may legally go to `to` without a promotion: one
+    // of three ways for officers (queen, rook, bishop, knight), king and pawns.
     #[inline(always)]
     pub(crate) fn starts_of(&self, kind: Kind, to: Square) -> SquareSet
         ensures { HasLegalStarts self.now kind to result }

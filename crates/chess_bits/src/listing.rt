@@ -55,7 +55,8 @@ impl Bits<'_> {
         add_moves_with(from, to, self.legal_promotions(from, to), list);
     }
 
-    // Appends to `list` the legal moves from `from`, which all end on squares of the set `ends`.
+    // Appends to `list` the legal moves from `from`. They all end on squares of `ends`, and to each of these a move is
+    // pseudo-legal; each is tested.
     fn add_moves_to(&self, from: Square, ends: SquareSet, list: &mut MoveList)
         requires goes { (k : ℕ) → k < 64 → contains ends k ≡ true → goes self.now from k ≡ true }
         requires all { EndsOn self.now from ends }
@@ -69,13 +70,13 @@ impl Bits<'_> {
     }
 
     // Appends to `list` the legal moves of the piece on `from`. It is free (its king is safe wherever it goes), and no
-    // pawn that may promote or take en passant, so each of its end squares gives one move.
+    // pawn that may promote or take en passant, so each of its end squares gives one move, which needs no test.
     fn add_ordinary_moves(&self, from: Square, list: &mut MoveList)
         requires free { GoesFreely self.now from }
         requires room { array_vec_len list.old + length (moves_from self.now from) ≤ 896 }
         ensures { list.new.items ≡ list.old.items ++ moves_from self.now from }
     {
-        // The prover wants these facts: the start's number is below 64, and the king is on one square alone.
+        // The prover wants these facts: the start's number is below 64, and the king is on one square only.
         let _start = from.number();
         let _king = self.king(self.setup.side);
         add_moves_onto(from, self.targets(from), list);
@@ -90,8 +91,8 @@ impl Bits<'_> {
         add_moves_onto(king, self.king_ends(king), list);
     }
 
-    // Appends to `list` the legal moves of the piece on `from`, the king or another. Each move is judged, but if the
-    // piece is not the king, only moves to the squares that `pins` leaves to it.
+    // Appends to `list` the legal moves of the piece on `from`, the king or another: each pseudo-legal move is tested
+    // for the king's safety, but of another piece than the king only those to squares that `pins` leaves to it.
     fn add_judged_moves(&self, from: Square, pins: &Pins, list: &mut MoveList)
         requires evasions { AreEvasions self.now pins.now.free pins.now.evasions }
         requires room { array_vec_len list.old + length (moves_from self.now from) ≤ 896 }
@@ -104,8 +105,9 @@ impl Bits<'_> {
         }
     }
 
-    // Appends to `list` the legal moves of the piece on `from`. Those of a piece in the set `ordinary` are legal as they
-    // are: it is free, and no pawn that may promote or take en passant. Those of another are judged one by one.
+    // Appends to `list` the legal moves of the piece on `from`. If it is in the set `ordinary`, they need no test: it
+    // is free (its king is safe wherever it goes), and no pawn that may promote or take en passant. Those of another
+    // piece are tested one by one.
     fn add_moves_of(&self, from: Square, ordinary: SquareSet, pins: &Pins, list: &mut MoveList)
         requires ordinary { (k : ℕ) → k < 64 → contains ordinary k ≡ true → GoesFreely self.now k }
         requires evasions { AreEvasions self.now pins.now.free pins.now.evasions }

@@ -18,7 +18,7 @@ use chess_base::{Colour, Kind, Square};
 use chess_moves::{Board, SquareSet};
 
 // The squares to which one step straight ahead takes a pawn of this colour from a square of the set: for White the set
-// moved one rank up, for Black one rank down.
+// moved one rank up (all bits by 8), for Black one rank down.
 #[inline(always)]
 pub(crate) fn ahead(colour: Colour, squares: SquareSet) -> SquareSet
     ensures { IsAhead colour squares result }
@@ -29,8 +29,8 @@ pub(crate) fn ahead(colour: Colour, squares: SquareSet) -> SquareSet
     }
 }
 
-// The squares from which one step straight ahead takes a pawn of this colour to a square of the set: those to which a
-// pawn of the other colour would go.
+// The squares from which one step straight ahead takes a pawn of this colour to a square of the set: for White the set
+// moved one rank down, for Black one rank up.
 #[inline(always)]
 fn behind(colour: Colour, squares: SquareSet) -> SquareSet
     ensures { (k : ℕ) → k < 64 → 8 ≤ k → contains result k ≡ contains squares (forward colour k) }
@@ -38,7 +38,9 @@ fn behind(colour: Colour, squares: SquareSet) -> SquareSet
     ahead(colour.other(), squares)
 }
 
-// The squares from which a pawn of this colour attacks a square of the set on the next file towards the a-file.
+// The squares from which a pawn of this colour attacks a square of the set on the next file towards the a-file: for
+// White and d5 that is e4. The set is moved one file right, then one rank back. The a-file is left out: there only
+// squares of the h-file arrive, around the board's edge.
 #[inline(always)]
 fn attacking_left(colour: Colour, squares: SquareSet) -> SquareSet
     ensures { (k : ℕ) → k < 64 → 8 ≤ k → forward colour k < 64
@@ -48,7 +50,8 @@ fn attacking_left(colour: Colour, squares: SquareSet) -> SquareSet
     starts.without(SquareSet::of_file(0))
 }
 
-// The squares from which a pawn of this colour attacks a square of the set on the next file towards the h-file.
+// The squares from which a pawn of this colour attacks a square of the set on the next file towards the h-file: for
+// White and d5 that is c4. As `attacking_left`, with the set moved one file left.
 #[inline(always)]
 fn attacking_right(colour: Colour, squares: SquareSet) -> SquareSet
     ensures { (k : ℕ) → k < 64 → 8 ≤ k
@@ -59,8 +62,9 @@ fn attacking_right(colour: Colour, squares: SquareSet) -> SquareSet
 }
 
 impl Bits<'_> {
-    // The squares from which a pawn of the side on move may go straight ahead to `to`, by one square or two: as far as
-    // there are pawns on them.
+    // The squares from which a pawn of the side on move would go straight ahead to `to`, by one square or two; none if
+    // `to` is occupied. For White and e4 these are e3, and e2 if e3 is empty. It doesn't look whether a pawn is there,
+    // which the caller does.
     #[inline(always)]
     pub(crate) fn advance_starts(&self, to: Square) -> SquareSet
         ensures { (k : ℕ) → k < 64 → is_man (self.now).side Pawn (man_at (self.now).men k) ≡ true
@@ -80,9 +84,9 @@ impl Bits<'_> {
         once.union(twice.intersection(home))
     }
 
-    // The squares of the pawns of the side on move that go to `to`, straight ahead or by a capture, whatever becomes of
-    // their king. Trying each pawn of the file, and each that attacks `to`, made texts of pawns' moves 12 % slower to
-    // read.
+    // The squares of the pawns of the side on move that go to `to`, straight ahead or by a capture, even if that leaves
+    // their king attacked. Trying each pawn of the file, and each that attacks `to`, made texts of pawns' moves 12 %
+    // slower to read.
     #[inline(always)]
     pub(crate) fn pawns_to(&self, to: Square) -> SquareSet
         ensures { (k : ℕ) → k < 64 → contains result k ≡ (is_man (self.now).side Pawn (man_at (self.now).men k)
@@ -93,22 +97,23 @@ impl Bits<'_> {
         own.intersection(starts)
     }
 
-    // The squares from which a pawn of the side on move may promote or take en passant: those of the rank before its
-    // last one, and those from which it attacks the en passant target.
+    // The squares from which a pawn of the side on move may promote or take en passant: those of its last rank but one
+    // (for White the seventh), where enemy pawns start, and those from which it attacks the en passant target (an enemy
+    // pawn on the target would attack just these).
     #[tactic(auto, using(crate::proofs::PawnsCounted::aims_back))]
     fn special_squares(&self) -> SquareSet
         ensures { (k : ℕ) → k < 64 → contains result k ≡ goes_specially self.now k }
     {
         let theirs = self.setup.side.other();
-        let last = SquareSet::of_rank(pawn_rank(theirs));
+        let seventh = SquareSet::of_rank(pawn_rank(theirs));
         match self.setup.target {
-            None => last,
-            Some(target) => self.tables.at(Shape::Pawn(theirs), target).union(last),
+            None => seventh,
+            Some(target) => self.tables.at(Shape::Pawn(theirs), target).union(seventh),
         }
     }
 
-    // The free pieces `free` (their king is safe wherever they go) without the pawns that may promote or take en
-    // passant: each square to which one of these pieces goes gives it one legal move.
+    // The pieces `free`, whose king is safe wherever they go, without the pawns that may promote or take en passant:
+    // each square to which one of the remaining pieces goes gives it exactly one legal move.
     #[inline(always)]
     pub(crate) fn without_special_pawns(&self, free: SquareSet) -> SquareSet
         requires { (k : ℕ) → k < 64 → contains free k ≡ true → IsFree self.now k }
@@ -124,14 +129,15 @@ impl Bits<'_> {
 
     // How many legal moves these pawns have. They are free (their king is safe wherever they go), and none may promote
     // or take en passant. Each has a move for each way open to it: one or two squares ahead, a capture to the left or
-    // right. The whole set is moved each way at once, in place of `pawn_targets` for each pawn.
+    // right. The whole set is moved each way at once, in place of `pawn_targets` for each pawn. The squares `blocked`
+    // have a piece right ahead; one rank further back that piece is two steps ahead.
     #[tactic(auto, using(crate::proofs::PawnsCounted::members_fit))]
     pub(crate) fn count_ordinary_pawns(&self, pawns: SquareSet) -> usize
         requires free { AreFree self.now Pawn pawns }
         requires ordinary { (k : ℕ) → k < 64 → contains pawns k ≡ true → goes_specially self.now k ≡ false }
         ensures { result ≡ length (flat_map (λ a. moves_from self.now a) (members pawns)) }
     {
-        // The prover wants these facts: the position is sound, and the king is on one square alone.
+        // The prover wants these facts: the position is sound, and the king is on one square only.
         let _sound = self.setup();
         let side = self.setup.side;
         let _king = self.king(side);

@@ -15,19 +15,20 @@ use crate::table::Shape;
 use chess_base::{Kind, Square};
 use chess_moves::{Board, SquareSet};
 
-// Which pieces of the side on move may go anywhere, and where the others, but the king, may go without leaving it
+// Which pieces of the side on move may go anywhere, and where the others, but the king, may go without leaving the king
 // attacked.
 #[derive(Clone, Copy)]
 pub(crate) struct Pins {
     // Pieces whose king is safe wherever they go: it is not in check, and they are not pinned.
     pub(crate) free: SquareSet,
-    // Squares on one of which each legal move of another piece ends: that of a piece that pins or gives check, those
-    // between it and the king, and the en passant target.
+    // Each legal move of a piece that is neither free nor the king ends on one of these squares: where a piece is that
+    // pins or gives check, between it and the king, or the en passant target. Not each move there is legal.
     pub(crate) evasions: SquareSet,
 }
 
 impl Bits<'_> {
-    // The occupied squares between the king on `king` and the enemy piece on `from`, which are on one line.
+    // The squares of all pieces, of either colour, strictly between the king on `king` and an enemy queen, rook or
+    // bishop on `from`, which would attack the king if nothing were between them.
     #[inline(always)]
     fn blockers(&self, king: Square, from: Square) -> SquareSet
         requires { aims_from self.now from king ≡ true }
@@ -41,8 +42,8 @@ impl Bits<'_> {
         between.intersection(self.sets.occupied())
     }
 
-    // The square that alone is occupied between the enemy piece on `from` and the king on `king`, which are on one
-    // line; `None` if none is, or more than one.
+    // The square of the only piece, of either colour, between the king on `king` and an enemy queen, rook or bishop on
+    // `from`, which would attack the king if nothing were between them; `None` if no piece or more than one is there.
     #[inline(always)]
     fn shield(&self, king: Square, from: Square) -> Option<Square>
         requires { aims_from self.now from king ≡ true }
@@ -64,8 +65,9 @@ impl Bits<'_> {
         }
     }
 
-    // The squares on which a move of another piece ends that meets an attack from `from` on the king on `king`: by
-    // capturing the piece there, also en passant, or by coming between them.
+    // Where a move of another piece than the king can end to meet an attack by the enemy piece on `from` on the king on
+    // `king`: on `from` (a capture), between the two, or on the en passant target (a pawn that has just given check may
+    // be taken so).
     #[inline(always)]
     fn evasions(&self, king: Square, from: Square) -> SquareSet
         ensures { (k : ℕ) → k < 64 → ((is_between king from k || (k == from)) || is_square (self.now).target k) ≡ true
@@ -79,8 +81,9 @@ impl Bits<'_> {
         met.union(set_of(self.setup.target))
     }
 
-    // Takes the piece that shields the king on `king` from an enemy piece on `from`, if it alone does, out of the free
-    // pieces, and adds the squares to which it may go.
+    // If a single piece is between the king on `king` and an enemy queen, rook or bishop on `from`, which would attack
+    // the king without it, takes this piece out of the free ones, and adds the squares where it may go to the evasions.
+    // For an enemy's piece, which is not among the free ones, the added squares do no harm: moves to them are tested.
     #[inline(always)]
     fn add_pin(&self, king: Square, from: Square, pins: &mut Pins)
         requires king { is_man (self.now).side King (man_at (self.now).men king) ≡ true }
@@ -99,8 +102,8 @@ impl Bits<'_> {
         }
     }
 
-    // Enemy queens, rooks and bishops that would attack the king on `king` if nothing were between them: they pin what
-    // alone is there.
+    // The squares of the enemy queens, rooks and bishops that would attack the king on `king` if nothing were between
+    // them. If just one piece is between, it is pinned.
     #[inline(always)]
     #[tactic(auto, unfolding(crate::specs::ties::Shapes::in_shape))]
     fn pinners(&self, king: Square) -> SquareSet
@@ -113,7 +116,8 @@ impl Bits<'_> {
         on_lines.union(aslant.intersection(self.tables.at(Shape::Diagonals, king)))
     }
 
-    // The pins if the king, on `king`, is not in check.
+    // Which pieces are free, and the evasions of the others, if the king, on `king`, is not in check. At first all
+    // pieces but the king count as free; each pinner then takes out the piece that it pins.
     #[inline(always)]
     fn pins_without_check(&self, king: Square) -> Pins
         requires king { is_man (self.now).side King (man_at (self.now).men king) ≡ true }
@@ -135,8 +139,10 @@ impl Bits<'_> {
         pins
     }
 
-    // The pins of the side on move. In check no piece is free, and each but the king has to meet the first checker.
-    // With each move in check, or with a pin, judged alone, the workload boards took 19 % longer.
+    // Which pieces of the side on move are free (their king is safe wherever they go), and the evasions of the others.
+    // In check no piece is free, and each but the king has to capture the first checker or come between; these moves
+    // are still tested, so a second checker is met there. With each move in check, or with a pin, tested by itself, the
+    // workload boards took 19 % longer.
     #[inline(always)]
     pub(crate) fn pins(&self) -> Pins
         ensures free { (k : ℕ) → k < 64 → contains result.free k ≡ true → IsFree self.now k }
@@ -156,8 +162,9 @@ impl Bits<'_> {
         }
     }
 
-    // The squares of a set that has the ends of the legal moves of the piece on `from`, which is no king, given where
-    // the pieces may go. For each of them some move of the piece there is pseudo-legal.
+    // The end squares to try for the piece on `from`, which is not the king: each of its legal moves ends on one of
+    // them, and to each it has a pseudo-legal move. For a free piece (its king is safe wherever it goes) these are all
+    // its end squares, for another one only those in `pins.evasions`.
     #[inline(always)]
     pub(crate) fn allowed_targets(&self, from: Square, pins: &Pins) -> SquareSet
         requires no_king { is_man (self.now).side King (man_at (self.now).men from) ≡ false }
@@ -174,8 +181,8 @@ impl Bits<'_> {
         targets.intersection(pins.evasions)
     }
 
-    // The pieces of the side on move that can't be pinned, since they are on no rank, file or diagonal of their king;
-    // none if it is in check. No pinner needs to be looked for, as `pins` does.
+    // The pieces of the side on move, other than the king, that can't be pinned, since they are on no rank, file or
+    // diagonal of their king; none if it is in check. Unlike `pins`, it looks for no pinner.
     #[tactic(auto, unfolding(crate::specs::ties::Shapes::in_shape))]
     pub(crate) fn surely_unpinned(&self) -> SquareSet
         ensures { (k : ℕ) → k < 64 → contains result k ≡ true → IsFree self.now k }

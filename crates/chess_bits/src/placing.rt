@@ -24,8 +24,8 @@ use chess_base::rules::{
 use chess_base::{COUNTER_LIMIT, Kind, Man, Move, Rights, Saved, Setup, Square};
 use chess_moves::SquareSet;
 
-// Puts the piece `man`, or none, on the given square in place of what is there, both in the list of pieces and in the
-// sets; does nothing if no square is given. `keys` keep the pieces' hash up to date.
+// Puts `man`, a piece or nothing, on the given square in place of its content, both in the list of pieces and in the
+// sets; does nothing if `square` is `None`. `keys` are the Zobrist keys, which keep the pieces' hash up to date.
 #[inline(always)]
 fn place(
     men: &mut [Option<Man>; 64],
@@ -44,8 +44,9 @@ fn place(
     }
 }
 
-// The squares that are not empty. From h8 down to a1 each one pushes up those before it, so that no branch is needed:
-// with a test of each square, setting boards made the workload puzzles 6 % slower.
+// The squares that are not empty. It begins with h8 and ends with a1: at each square the bits found so far move up by
+// one, and bit 0 becomes whether a piece is there. So no branch is needed: with a test of each square, setting boards
+// made the workload puzzles 6 % slower.
 fn occupied_by(men: &[Option<Man>; 64]) -> SquareSet
     ensures { IsOccupied result men.now }
 {
@@ -59,7 +60,8 @@ fn occupied_by(men: &[Option<Man>; 64]) -> SquareSet
 }
 
 impl Sets {
-    /// The sets of these pieces, computed from the list of them by squares; `keys` are for their hash.
+    /// The sets of the pieces in `men`, the list of what is on each square (a1 first, h8 last), with their hash, which
+    /// is made of `keys`.
     pub fn standing(keys: &KeyTable, men: &[Option<Man>; 64]) -> Sets
         ensures { IsSets result men.now }
     {
@@ -72,8 +74,9 @@ impl Sets {
     }
 }
 
-// Changes the pieces by these steps of a move, both in the list of pieces and in the sets; `keys` keep the pieces' hash
-// up to date.
+// Changes the pieces by the steps of a move, or of taking one back, both in the list of pieces and in the sets. First
+// the mover and perhaps a second piece (the castling rook, or a pawn taken en passant) leave their squares, then
+// perhaps a second piece and the mover arrive. `keys` keep the pieces' hash up to date.
 fn take_steps(men: &mut [Option<Man>; 64], sets: &mut Sets, keys: &KeyTable, steps: &Steps)
     ensures men { men.new ≡ men_stepped men.old steps.now }
     ensures sets { IsSets sets.old men.old → IsSets sets.new men.new }
@@ -84,7 +87,8 @@ fn take_steps(men: &mut [Option<Man>; 64], sets: &mut Sets, keys: &KeyTable, ste
     place(men, sets, keys, Some(steps.to), steps.mover);
 }
 
-// Whether the square is the position's en passant target. chess_base's `is_square` says so too, but is private there.
+// Whether the square is the position's en passant target. chess_base's `is_square` is the same test, but is private
+// there.
 #[inline(always)]
 pub(crate) fn is_target(setup: &Setup, square: Square) -> bool
     ensures { result ≡ is_square (setup.now).target square }
@@ -106,7 +110,7 @@ fn has_no_right(rights: &Rights) -> bool
         && rights.black.queen_side.is_none()
 }
 
-// Whether a square's content is a king or a rook, of either colour.
+// Whether `man`, the content of a square, is a king or a rook, of either colour; false for an empty square.
 #[inline(always)]
 fn is_king_or_rook(man: Option<Man>) -> bool
     ensures { result ≡ is_king_or_rook man }
@@ -117,8 +121,8 @@ fn is_king_or_rook(man: Option<Man>) -> bool
     }
 }
 
-// Whether a move of `mover` that captures `taken`, if anything, may cost a castling right: one of them is a king or a
-// rook.
+// Whether a move of `mover` that captures `taken` (`None` if nothing) may cost a castling right: the mover or the
+// captured piece is a king or a rook.
 #[inline(always)]
 fn may_lose_right(mover: Man, taken: Option<Man>) -> bool
     ensures { result ≡ (is_king_or_rook (Some mover) || is_king_or_rook taken) }
@@ -126,8 +130,8 @@ fn may_lose_right(mover: Man, taken: Option<Man>) -> bool
     is_king_or_rook(Some(mover)) || is_king_or_rook(taken)
 }
 
-// The castling rights after the move `m` of `mover` to a square with the content `taken`: as before if neither is a
-// king or a rook, or if no right is left; else computed.
+// The castling rights after the move `m` of `mover` to a square with the content `taken`. If neither is a king or a
+// rook, or if no right is left, they are as before; only otherwise are they computed.
 #[inline(always)]
 #[tactic(auto, using(crate::proofs::Making::none_lost, crate::proofs::Making::rights_kept))]
 fn rights_left(setup: &Setup, m: &Move, mover: Man, taken: Option<Man>) -> Rights
@@ -145,8 +149,9 @@ fn rights_left(setup: &Setup, m: &Move, mover: Man, taken: Option<Man>) -> Right
     rights_after(setup, m)
 }
 
-// Whether the move `m`, of a piece of this kind, is sure to change only what is on its two squares: it is a king's
-// without castling rights, a pawn's but not to the en passant target, or another piece's.
+// Whether the move `m`, of a piece of this kind, is surely neither castling nor en passant, so that it changes only its
+// two squares. For a king that is sure only if no castling right is left, for a pawn if it doesn't go to the en passant
+// target, and for another piece always.
 #[inline(always)]
 fn goes_plainly(setup: &Setup, m: &Move, kind: Kind) -> bool
     ensures { result ≡ goes_plainly setup.now m.now kind }
@@ -158,7 +163,8 @@ fn goes_plainly(setup: &Setup, m: &Move, kind: Kind) -> bool
     }
 }
 
-// Whether the move `m`, of a piece of this kind, is no promotion and is sure to change only what is on its two squares.
+// Whether the move `m`, of a piece of this kind, is no promotion and surely neither castling nor en passant: it takes
+// the piece from its start to its end square, and changes no other square.
 #[inline(always)]
 fn shifts(setup: &Setup, m: &Move, kind: Kind) -> bool
     ensures { result ≡ shifts setup.now m.now kind }
@@ -166,8 +172,8 @@ fn shifts(setup: &Setup, m: &Move, kind: Kind) -> bool
     m.promotion.is_none() && goes_plainly(setup, m, kind)
 }
 
-// The piece that makes the move `m`, if `m` is sure to do no more than take it from one square to the other; else
-// `None`.
+// The piece that makes the move `m`, if `m` surely takes it from its start to its end square and changes no other
+// square; `None` for a promotion, en passant, or a king's move with a castling right left, which may be castling.
 #[inline(always)]
 fn shifted(setup: &Setup, m: &Move) -> Option<Man>
     ensures { result ≡ shifted setup.now m.now (man_at setup.now.men m.now.from) }
@@ -180,8 +186,8 @@ fn shifted(setup: &Setup, m: &Move) -> Option<Man>
     }
 }
 
-// The en passant target after the move `m` of the piece `man`; none unless it is a pawn's double advance. Only for a
-// pawn is it computed, since `target_after` looks at the board again.
+// The en passant target after the move `m` of the piece `man`: the square that a pawn passes by a double step; `None`
+// after any other move. Only for a pawn is it computed, since `target_after` looks at the board again.
 #[inline(always)]
 #[tactic(auto, using(crate::proofs::Making::officer_leaves_no_target))]
 fn target_left(setup: &Setup, m: &Move, man: Man) -> Option<Square>
@@ -195,8 +201,9 @@ fn target_left(setup: &Setup, m: &Move, man: Man) -> Option<Square>
     }
 }
 
-// The halfmove clock after a move of `man` to a square with the content `taken`: 0 for a pawn or a capture, else one
-// more than before. `halfmove_after`, which gives it too, would look at both squares again.
+// The halfmove clock after a move of `man` to a square with the content `taken`: 0 for a pawn or a capture, otherwise
+// one more than before, at most `COUNTER_LIMIT`. `halfmove_after`, which gives it too, would look at both squares
+// again.
 #[inline(always)]
 fn halfmove_left(setup: &Setup, man: Man, taken: Option<Man>) -> u32
     ensures { result ≡ clock_left setup.now.halfmove man.kind taken }
@@ -208,8 +215,8 @@ fn halfmove_left(setup: &Setup, man: Man, taken: Option<Man>) -> u32
     }
 }
 
-// Sets what changes in each move besides the pieces: the other side is on move, the fullmove number goes on, and
-// rights, en passant target and halfmove clock are these.
+// Changes in `setup` all that a move changes besides the pieces: the other side is on move, the fullmove number rises
+// after Black's move, and castling rights, en passant target and halfmove clock become those given.
 #[inline(always)]
 fn end_turn(setup: &mut Setup, rights: Rights, target: Option<Square>, halfmove: u32)
     ensures { setup.new ≡ record {
@@ -229,8 +236,9 @@ fn end_turn(setup: &mut Setup, rights: Rights, target: Option<Square>, halfmove:
     setup.halfmove = halfmove;
 }
 
-// Makes the legal move `m` of the piece `man`, which does no more than take it from one square to the other, in place;
-// returns what is needed to take it back. `keys` keep the pieces' hash up to date.
+// Makes the legal move `m` of the piece `man` in place, in the setup and its sets, where it is no promotion, castling
+// or en passant: it only takes the piece from one square to another, perhaps with a capture. Returns what is needed to
+// take it back. `keys` keep the pieces' hash up to date.
 #[inline(always)]
 fn shift(setup: &mut Setup, sets: &mut Sets, keys: &KeyTable, m: &Move, man: Man) -> Saved
     requires sound { IsSound setup.old }
@@ -261,8 +269,8 @@ fn shift(setup: &mut Setup, sets: &mut Sets, keys: &KeyTable, m: &Move, man: Man
 }
 
 // Makes any legal move `m` in place, and returns what is needed to take it back; `keys` keep the pieces' hash up to
-// date. `shift` looks at two squares in place of four; few moves need this one (such as castling, en passant and
-// promotions), so it is not inlined.
+// date. `shift` looks at two squares in place of four; few moves need this one (castling, en passant, promotions, and a
+// king's moves while a castling right is left), so it is not inlined.
 #[inline(never)]
 #[tactic(auto, unfolding(chess_base::specs::Moves::after), using(chess_base::proofs::shared::MenAfter::men_after_by_steps))]
 fn make_in_steps(setup: &mut Setup, sets: &mut Sets, keys: &KeyTable, m: &Move) -> Saved
@@ -282,7 +290,7 @@ fn make_in_steps(setup: &mut Setup, sets: &mut Sets, keys: &KeyTable, m: &Move) 
 }
 
 // Makes the legal move `m` in place, in the setup and its sets, and returns what is needed to take it back; `keys` keep
-// the pieces' hash up to date.
+// the pieces' hash up to date. Most moves only take a piece from one square to another (`shift`).
 #[inline(always)]
 pub(crate) fn make_move(setup: &mut Setup, sets: &mut Sets, keys: &KeyTable, m: &Move) -> Saved
     requires sound { IsSound setup.old }
@@ -297,8 +305,8 @@ pub(crate) fn make_move(setup: &mut Setup, sets: &mut Sets, keys: &KeyTable, m: 
     shift(setup, sets, keys, m, man)
 }
 
-// Takes the move `m`, which led to this setup, back in place, in the setup and its sets, by what was saved when it was
-// made; `keys` keep the pieces' hash up to date.
+// Takes back the move `m`, which led to this setup, in place, in the setup and its sets; `saved` is what was returned
+// when it was made. `keys` keep the pieces' hash up to date.
 #[tactic(auto, unfolding(chess_base::specs::Before::before), using(chess_base::proofs::shared::MenAfter::men_before_by_steps))]
 pub(crate) fn move_back(
     setup: &mut Setup,

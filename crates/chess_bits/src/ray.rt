@@ -7,8 +7,9 @@ ghost use Rattle.chess_bits.specs.ties.Rays.{is_on_ray};
 use chess_base::Square;
 use chess_base::rules::Line;
 
-// The number of the line of this kind on which a square is: two squares are on one line exactly if their numbers are
-// equal. For ranks it is the square's rank.
+// The number of the line of this kind through a square: its rank or its file (0 to 7), its diagonal or its antidiagonal
+// (0 to 14). Two squares are on one line of this kind exactly if their numbers are equal: a1 and h8 are both on
+// diagonal 7.
 fn line_number(line: Line, square: Square) -> u8
     ensures { result ≡ line_number line square }
 {
@@ -20,8 +21,8 @@ fn line_number(line: Line, square: Square) -> u8
     }
 }
 
-/// Whether square x is on the line of this kind through square a, with a greater number than a if `up`, else with a
-/// smaller one.
+/// Whether square x is on the line of this kind through square a, with a greater number than a if `up`, otherwise with
+/// a smaller one (a1 is 0, b1 is 1, h8 is 63). From d4 up the rank these are e4 to h4, and up the file d5 to d8.
 pub(crate) fn is_on_ray(line: Line, up: bool, a: Square, x: Square) -> bool
     ensures { result ≡ is_on_ray line up a x }
 {

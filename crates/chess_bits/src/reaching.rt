@@ -14,8 +14,8 @@ use crate::tables::AttackTables;
 use chess_base::{Colour, Kind, Square};
 use chess_moves::SquareSet;
 
-/// The squares on which a piece of this colour and kind on `from` could capture; `occupied` are the occupied squares of
-/// the board.
+/// The squares that a piece of this colour and kind attacks from `from`, whatever is on them (own pieces too);
+/// `occupied` are the occupied squares of the board.
 #[inline(always)]
 #[tactic(auto, using(crate::proofs::Reached::king_from, crate::proofs::Reached::queen_from, crate::proofs::Reached::rook_from, crate::proofs::Reached::bishop_from, crate::proofs::Reached::knight_from, crate::proofs::Reached::pawn_from))]
 pub fn reached_from(
@@ -40,9 +40,9 @@ pub fn reached_from(
     }
 }
 
-/// Those of the squares `men` on which a queen, rook, bishop or knight (`kind` says which) on `from` could capture;
-/// `occupied` are the occupied squares of the board. It looks at each of `men` alone, which costs less than the sweeps
-/// of `reached_from` where they are few.
+/// Those of the squares `men` that a queen, rook, bishop or knight (`kind` says which) attacks from `from`: so those
+/// from which such a piece would attack `from`. `occupied` are the occupied squares of the board. It looks at each of
+/// `men` by itself, which costs less than the sweeps of `reached_from` where they are few.
 #[inline(always)]
 #[tactic(auto, using(crate::proofs::Reached::queen_met, crate::proofs::Reached::rook_from, crate::proofs::Reached::bishop_from, crate::proofs::Reached::knight_from))]
 pub fn reached_among(

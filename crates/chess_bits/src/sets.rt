@@ -12,7 +12,8 @@ use crate::kinds::Kinds;
 use chess_base::{Colour, Man, Square};
 use chess_moves::{SquareSet, man_key};
 
-/// The pieces of both colours as sets of squares; and `men_word`, the exclusive or of the pieces' keys.
+/// The pieces of both colours as sets of squares; and `men_word`, their part of the position's hash: the exclusive or
+/// of one Zobrist key for each piece on its square.
 #[derive(Clone, Copy)]
 pub struct Sets {
     pub white: Kinds,
@@ -61,7 +62,7 @@ impl Sets {
         self.white.all.union(self.black.all)
     }
 
-    // Removes the piece `man` from its square, and its key from the hash.
+    // Removes the piece `man` from `square`: from its colour's sets, and its Zobrist key from `men_word`.
     #[inline(always)]
     fn lift(&mut self, keys: &KeyTable, square: Square, man: Man)
         ensures { (men : Men) → length men ≡ 64 → man_at men square ≡ Some man → IsSets self.old men
@@ -74,7 +75,7 @@ impl Sets {
         }
     }
 
-    // Adds the piece `man` on a square, which is empty, and its key to the hash.
+    // Adds the piece `man` on `square`, which is empty: to its colour's sets, and its Zobrist key to `men_word`.
     #[inline(always)]
     fn put(&mut self, keys: &KeyTable, square: Square, man: Man)
         ensures { (men : Men) → length men ≡ 64 → man_at men square ≡ None → IsSets self.old men
@@ -87,13 +88,15 @@ impl Sets {
         }
     }
 
-    /// Moves the piece `man` from one square to another, which is empty; `keys` keep the hash up to date.
+    /// Moves the piece `man` from one square to another, which is empty. `keys` are the Zobrist keys, with which
+    /// `men_word` is kept up to date.
     #[inline(always)]
     pub fn shift(&mut self, keys: &KeyTable, man: Man, from: Square, to: Square)
         ensures { (men : Men) → length men ≡ 64 → man_at men from ≡ Some man → man_at men to ≡ None
             → IsSets self.old men → IsSets self.new (slice_set (slice_set men from None) to (Some man)) }
     {
-        // One key before the sets change and one after: next to each other they become a branch on the piece's kind.
+        // The old key is taken out before the sets change, and the new one put in after: side by side, the compiler
+        // made a branch on the piece's kind of the two.
         self.men_word ^= man_key(keys, man, from);
         match man.colour {
             Colour::White => {
@@ -107,7 +110,8 @@ impl Sets {
         }
     }
 
-    /// Empties a square that holds `old`, a piece or nothing; `keys` keep the hash up to date.
+    /// Empties `square`, which holds `old`, a piece or nothing (`None`). `keys` are the Zobrist keys, with which
+    /// `men_word` is kept up to date.
     #[inline(always)]
     pub fn clear(&mut self, keys: &KeyTable, square: Square, old: Option<Man>)
         ensures { (men : Men) → length men ≡ 64 → man_at men square ≡ old → IsSets self.old men
@@ -118,7 +122,8 @@ impl Sets {
         }
     }
 
-    /// Puts `new`, a piece or nothing, on a square, which is empty; `keys` keep the hash up to date.
+    /// Puts `new`, a piece or nothing (`None`), on `square`, which is empty. `keys` are the Zobrist keys, with which
+    /// `men_word` is kept up to date.
     #[inline(always)]
     pub fn fill(&mut self, keys: &KeyTable, square: Square, new: Option<Man>)
         ensures { (men : Men) → length men ≡ 64 → man_at men square ≡ None → IsSets self.old men
@@ -129,7 +134,8 @@ impl Sets {
         }
     }
 
-    /// Replaces the content of a square, `old`, by `new`; each is a piece or nothing. `keys` keep the hash up to date.
+    /// Replaces the content of `square`, `old`, by `new`; each is a piece or nothing (`None`). `keys` are the Zobrist
+    /// keys, with which `men_word` is kept up to date.
     #[inline(always)]
     pub fn write(&mut self, keys: &KeyTable, square: Square, old: Option<Man>, new: Option<Man>)
         ensures { (men : Men) → length men ≡ 64 → man_at men square ≡ old → IsSets self.old men

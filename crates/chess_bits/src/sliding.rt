@@ -26,7 +26,7 @@ fn along(tables: &AttackTables, line: Line, square: Square, occupied: SquareSet)
     rising.union(falling)
 }
 
-// The squares that a rook on `square` attacks.
+// The squares that a rook on `square` attacks: each direction ends with the first occupied square, whatever is on it.
 #[tactic(auto, using(crate::proofs::Attackers::on_lines))]
 pub(crate) fn along_lines(tables: &AttackTables, square: Square, occupied: SquareSet) -> SquareSet
     ensures { (k : ℕ) → k < 64
@@ -36,7 +36,7 @@ pub(crate) fn along_lines(tables: &AttackTables, square: Square, occupied: Squar
     rank.union(along(tables, Line::File, square, occupied))
 }
 
-// The squares that a bishop on `square` attacks.
+// The squares that a bishop on `square` attacks: each direction ends with the first occupied square, whatever is on it.
 #[tactic(auto, using(crate::proofs::Attackers::on_diagonals))]
 pub(crate) fn along_diagonals(
     tables: &AttackTables,
@@ -50,7 +50,7 @@ pub(crate) fn along_diagonals(
     diagonal.union(along(tables, Line::Antidiagonal, square, occupied))
 }
 
-// Whether nothing occupied lies between two squares of one line.
+// Whether no square of `occupied` is strictly between a and b, two squares of one rank, file or diagonal.
 #[inline(always)]
 fn is_open(tables: &AttackTables, a: Square, b: Square, occupied: SquareSet) -> bool
     requires { (share_rank_or_file b a || share_diagonal b a) ≡ true }
@@ -63,7 +63,7 @@ fn is_open(tables: &AttackTables, a: Square, b: Square, occupied: SquareSet) -> 
     between.intersection(occupied).is_empty()
 }
 
-// Those of the squares `men`, all on lines of `square`, between which and `square` nothing is occupied.
+// Those of the squares `men`, all on lines of `square`, that are in sight of it: no square between is occupied.
 #[inline(always)]
 fn seen_from(
     tables: &AttackTables,
@@ -78,8 +78,8 @@ fn seen_from(
 }
 
 // The squares of the set `men` from which a rook would attack `square`: those on its rank or file with no occupied
-// square between. Each on its rank or file is looked at alone: in most positions there are few, and never more than 14.
-// With four sweeps instead the workload boards took 7 % longer.
+// square between. Each of them on its rank or file is looked at by itself: in most positions there are few, and never
+// more than 14. With four sweeps instead the workload boards took 7 % longer.
 #[tactic(auto, unfolding(crate::specs::ties::Shapes::in_shape))]
 pub(crate) fn met_on_lines(
     tables: &AttackTables,
@@ -96,7 +96,8 @@ pub(crate) fn met_on_lines(
 }
 
 // The squares of the set `men` from which a bishop would attack `square`: those on its diagonals with no occupied
-// square between. Each on its diagonals is looked at alone: in most positions there are few, and never more than 13.
+// square between. Each of them on its diagonals is looked at by itself, as in `met_on_lines`: in most positions there
+// are few, and never more than 13.
 #[tactic(auto, unfolding(crate::specs::ties::Shapes::in_shape))]
 pub(crate) fn met_on_diagonals(
     tables: &AttackTables,

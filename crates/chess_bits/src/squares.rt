@@ -7,7 +7,7 @@ ghost use Rattle.chess_moves.specs.Sets.{contains, members};
 use chess_base::Square;
 use chess_moves::SquareSet;
 
-/// The set of this square alone if it passed, else the empty set.
+/// The set that has just `square` if `passed` is true; otherwise the empty set.
 #[inline(always)]
 pub(crate) fn single_if(passed: bool, square: Square) -> SquareSet
     ensures { (k : ℕ) → contains result k ≡ (passed && (k == square)) }
@@ -19,7 +19,7 @@ pub(crate) fn single_if(passed: bool, square: Square) -> SquareSet
     }
 }
 
-/// The squares of the set that pass the test.
+/// The squares of the set for which the test is true; each is tested once, from a1 to h8.
 #[inline(always)]
 pub(crate) fn filter<F: Fn(Square) -> bool>(set: SquareSet, test: F) -> SquareSet
     requires { (k : ℕ) → k < 64 → contains set k ≡ true → F.pre test k }

@@ -46,8 +46,8 @@ fn in_shape(shape: Shape, a: Square, b: Square) -> bool
     }
 }
 
-// The squares that belong to the shape from square a: for `Knight`, those that a knight on a attacks. It goes over the
-// numbers, since `filter` would need a set of all squares.
+// The squares that belong to the shape from square a: for `Knight`, those that a knight on a attacks. It tries the
+// numbers 0 to 63, since `filter` would need a set of all squares.
 fn squares_of(shape: Shape, a: Square) -> SquareSet
     ensures { (k : ℕ) → k < 64 → contains result k ≡ in_shape shape a k }
 {
@@ -95,7 +95,8 @@ impl Table {
         Table { shape, sets }
     }
 
-    /// The squares that belong to the table's shape from `square`: for `Knight`, those that a knight there attacks.
+    /// The squares that belong to the table's shape from `square`, looked up: for `Knight`, those that a knight there
+    /// attacks.
     pub fn at(&self, square: Square) -> SquareSet
         ensures { (k : ℕ) → k < 64 → contains result k ≡ in_shape self.now square k }
     {

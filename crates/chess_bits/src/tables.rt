@@ -54,7 +54,8 @@ pub(crate) struct Tables {
 }
 
 impl Tables {
-    // The table of this shape: for each square the squares that belong to the shape from there.
+    // The table of this shape, with an entry for each square: for `Knight`, the squares that a knight there attacks;
+    // for a ray, its squares from there to the edge.
     pub(crate) fn table(&self, shape: Shape) -> &Table
         ensures { result.now ≡ shape }
     {
@@ -86,8 +87,9 @@ pub struct AttackTables {
     between: BetweenTable,
 }
 
-// The lowest of the squares if `up`, else the highest. For the empty set it is h8 if `up`, else a1: the last square in
-// that direction.
+// The first of the squares that a ray meets: the lowest if the ray goes `up`, otherwise the highest. For the empty set
+// it is the board's last square in that direction, h8 or a1, from which no ray continues. That square is always added
+// to the set: to another set it makes no difference.
 #[inline(always)]
 fn nearest(squares: SquareSet, up: bool) -> Square
     ensures in_range { result < 64 }
@@ -135,7 +137,8 @@ impl AttackTables {
         &self.tables.keys
     }
 
-    // The squares strictly between two squares of one line.
+    // The squares strictly between two squares of one rank, file or diagonal: from c1 and f4 these are d2 and e3. About
+    // two squares of no common line it promises nothing.
     #[inline(always)]
     pub(crate) fn between(&self, a: Square, b: Square) -> SquareSet
         ensures { (l : LineKind) → same_line l a b ≡ true → (k : ℕ) → k < 64 → contains result k ≡ is_between a b k }
@@ -150,9 +153,10 @@ impl AttackTables {
         self.tables.table(shape).at(square)
     }
 
-    /// The squares of the ray from `from` (not included) along that line, with rising numbers if `up`, up to and with
-    /// its first occupied square, or else to the board's edge. A ray that meets none is cut at the board's last square,
-    /// so no branch is needed.
+    /// The squares of the ray from `from` (not included) along its line of this kind, with rising numbers if `up`, up
+    /// to and with its first occupied square, or to the board's edge. It is the whole ray without the ray that
+    /// continues from the first occupied square. If there is none, `nearest` gives a corner from which no ray
+    /// continues, so no branch is needed.
     #[inline(always)]
     #[tactic(auto, unfolding(crate::specs::ties::Shapes::in_shape))]
     pub(crate) fn sweep(&self, line: Line, up: bool, from: Square, occupied: SquareSet) -> SquareSet

@@ -42,7 +42,7 @@ pub(crate) fn is_pawn(kind: Kind) -> bool
 
 impl Bits<'_> {
     // The squares that a piece of this kind on `from`, of the side on move, attacks and that hold no piece of its own
-    // colour.
+    // colour: for a knight, say, the end squares of its pseudo-legal moves.
     #[inline(always)]
     pub(crate) fn steps(&self, kind: Kind, from: Square) -> SquareSet
         ensures { (k : ℕ) → k < 64
@@ -54,10 +54,10 @@ impl Bits<'_> {
         reached.without(self.sets.all(side))
     }
 
-    // The four squares of the castling that the move `m` is, if the king of the side on move makes it; else `None`. The
-    // caller knows that the right on that side is there, with the rook on `rook`, and that `m` ends where such a
-    // castling does. `castle_of` would ask for the side again, and `castle_from`, which gives these squares for a known
-    // side, is private in chess_base.
+    // The squares of king and rook in the castling that the move `m` is; `None` if the piece on its start is not the
+    // king of the side on move. The caller knows that there is a right to castle to this side, with the rook on `rook`,
+    // and that `m` ends where such a castling does. `castle_of` would ask for the side again, and `castle_from`, which
+    // gives these squares for a known side, is private in chess_base.
     fn castle_to(&self, m: &Move, castling_side: CastlingSide, rook: Square) -> Option<Castle>
         requires right { right_of (self.now).rights (self.now).side castling_side ≡ Some rook }
         requires end { m.now.to ≡ castling_end (self.now).variant (self.now).side castling_side rook }
@@ -81,8 +81,9 @@ impl Bits<'_> {
         }
     }
 
-    // What `legal_castling_end` gives where the right to castle to this side is there, with the rook on `rook`. In most
-    // positions of a game it is not, so only the test for it is inlined.
+    // As a set, the end square of castling to this side with the king on `king`, if it is legal; otherwise the empty
+    // set. The right to castle to this side is there, with the rook on `rook`. In most positions of a game it is not,
+    // so only the test for it (`legal_castling_end`) is inlined.
     #[inline(never)]
     fn legal_castling_end_with(
         &self,
@@ -109,7 +110,8 @@ impl Bits<'_> {
         single_if(self.castles_legally(&m, &castle), to)
     }
 
-    // The end square of castling to this side with the king on `king`, if it is legal; else the empty set.
+    // As a set, the end square of castling to this side with the king on `king`, if it is legal; otherwise, such as
+    // without the right to it, the empty set.
     #[inline(always)]
     fn legal_castling_end(&self, king: Square, castling_side: CastlingSide) -> SquareSet
         ensures { (k : ℕ) → k < 64 → contains result k ≡ castles_onto self.now castling_side king k }
@@ -120,8 +122,8 @@ impl Bits<'_> {
         self.legal_castling_end_with(king, castling_side, rook)
     }
 
-    // The end squares of the legal castlings of the king on `king`: in normal chess where he arrives (g1), in Chess960
-    // the square of his rook (h1).
+    // The end squares of the legal castlings of the king on `king`, none, one or two: in normal chess where the king
+    // arrives (c1, g1), in Chess960 where its rook is (such as a1, h1).
     pub(crate) fn castling_ends(&self, king: Square) -> SquareSet
         ensures { (k : ℕ) → k < 64
             → contains result k ≡ legal_or self.now (move_of king k None) (castle_of self.now (move_of king k None)) false }
@@ -131,7 +133,7 @@ impl Bits<'_> {
     }
 
     // The end squares of the piece on `from`, which is of the side on move and no pawn: those of its pseudo-legal
-    // moves, but of castling only if it is legal.
+    // moves, even if they leave the king attacked, but of castling only if it is legal.
     fn man_targets(&self, from: Square) -> SquareSet
         requires { is_of (self.now).side (man_at (self.now).men from) ≡ true }
         ensures { (k : ℕ) → k < 64 → contains result k ≡ man_goes self.now from k }
@@ -145,7 +147,8 @@ impl Bits<'_> {
         self.steps(man.kind, from)
     }
 
-    // The squares, one or two, to which the pawn on `from` may go straight ahead.
+    // The squares to which the pawn on `from`, of the side on move, may go straight ahead: the next one if it is empty,
+    // and from the pawns' home rank also the second if both are empty.
     fn advances(&self, from: Square) -> SquareSet
         requires { is_man (self.now).side Pawn (man_at (self.now).men from) ≡ true }
         ensures { (k : ℕ) → k < 64 → contains result k ≡ pawn_advances self.now (move_of from k None) }
@@ -164,7 +167,8 @@ impl Bits<'_> {
         next.union(second)
     }
 
-    // The squares on which the pawn on `from` may capture, the en passant target included.
+    // The squares on which the pawn on `from`, of the side on move, may capture: of those that it attacks the ones that
+    // hold an enemy piece, and the en passant target.
     fn captures(&self, from: Square) -> SquareSet
         requires { is_man (self.now).side Pawn (man_at (self.now).men from) ≡ true }
         ensures { (k : ℕ) → k < 64 → contains result k ≡ pawn_captures self.now (move_of from k None) }
@@ -176,8 +180,8 @@ impl Bits<'_> {
         reached.intersection(aims)
     }
 
-    // The squares from which pawns of the side on move attack `to`, if it holds an enemy piece or is the en passant
-    // target; else none.
+    // The squares from which a pawn of the side on move would capture on `to`, whether or not it holds one; none unless
+    // `to` holds an enemy piece or is the en passant target. They are those that an enemy pawn on `to` would attack.
     #[inline(always)]
     pub(crate) fn capture_starts(&self, to: Square) -> SquareSet
         ensures { (k : ℕ) → k < 64
@@ -194,8 +198,8 @@ impl Bits<'_> {
         self.tables.at(Shape::Pawn(theirs), to)
     }
 
-    // The end squares of the pseudo-legal moves of the pawn on `from`, which is of the side on move, with a promotion
-    // or without.
+    // The end squares of the pseudo-legal moves of the pawn on `from`, which is of the side on move: straight ahead and
+    // by captures, with a promotion or without.
     pub(crate) fn pawn_targets(&self, from: Square) -> SquareSet
         requires { is_man (self.now).side Pawn (man_at (self.now).men from) ≡ true }
         ensures { (k : ℕ) → k < 64
@@ -207,8 +211,8 @@ impl Bits<'_> {
         advances.union(captures)
     }
 
-    // The end squares of the piece on `from`, if it is of the side on move (else none): those of its legal moves are
-    // among them, and each is that of a pseudo-legal move.
+    // The end squares of the moves of the piece on `from`: of all its legal moves, and perhaps of pseudo-legal ones
+    // that would leave its king attacked. None if no piece of the side on move is there.
     #[tactic(auto, using(crate::proofs::TargetsOf::none_begin, crate::proofs::TargetsOf::pawn_sound, crate::proofs::TargetsOf::pawn_complete, crate::proofs::TargetsOf::man_set_sound, crate::proofs::TargetsOf::man_set_complete))]
     pub(crate) fn targets(&self, from: Square) -> SquareSet
         ensures sound { (k : ℕ) → k < 64 → contains result k ≡ true → goes self.now from k ≡ true }
