@@ -120,9 +120,9 @@ fn unplayed_kind<B: Board>(game: &Game<B>, kind: PgnFaultKind) -> PgnFaultKind
     }
 }
 
-// The fault of the word at `offset`, which looks like a move but was not played: it denotes no move, no legal move or
-// several, or the game is over or full. The word is read a second time to find out which, so this is not inlined. The
-// fault is the one of the definition `move_step`, whatever the progress `p`.
+// The fault of the word at `offset`, which may be a move (`WordKind::Move`) but was not played: it denotes no move, no
+// legal move or several, or the game is over or full. To find out which, the word is read again, as it is only here, at
+// most once in a game. The contract holds for each `p`, since a fault says nothing of the progress.
 #[inline(never)]
 fn fault_of_move<B: Board>(game: &Game<B>, offset: usize, word: &[u8]) -> PgnFault
     requires undeclared { game.now.state.declared ≡ None }
@@ -372,10 +372,12 @@ fn begin_game<B: Board>(text: &[u8], at: usize, game: &mut Game<B>) -> (Progress
 }
 
 /// Reads the first game of a text from the offset `at` on (PGN standard of 1994; this project decides which words are
-/// accepted). `game` begins anew from the initial position or the last FEN tag's position, in the variant that the last
-/// tag `Variant` names. Its moves are played as they are read, and the outcome at its end is declared unless the board
-/// has a verdict or the outcome is `*`. Returns `None` if there is no tag, number, move or outcome up to the text's
-/// end. The next game begins at the offset that is returned.
+/// accepted). `game` begins anew, from the position of the last tag `FEN` or from the initial position, in the variant
+/// that the last tag `Variant` names. The moves are played as they are read. The outcome at the end is declared, unless
+/// it is `*` or the board has ended the game, as by mate.
+///
+/// Returns the outcome and the offset after it, where the next game begins; `None` if there is no tag, number, move or
+/// outcome up to the text's end.
 ///
 /// # Errors
 /// The first fault of the text, with its offset. `game` then holds the moves before it, and nothing is declared.
@@ -398,6 +400,7 @@ pub fn read_pgn<B: Board>(
     let (mut progress, tags_end) = begin_game(text, after_byte_order_mark(text, at), game);
     let moves_end = play_words(text, tags_end, game, &mut progress);
     let mut offset = moves_end;
+    // The token at `offset` is never a move that can be played: `play_words` has played those.
     loop {
         match next_token(text, offset) {
             Ok(Some((token, token_end))) => {
