@@ -12,7 +12,9 @@ use std::marker::Model;
 // The most bytes that the buffer holds.
 const BUFFER_LEN: usize = 4096;
 
-/// Text that is collected before it is written. In contracts it is the list of its bytes.
+/// Text that is collected before it is written, at most 4,096 bytes. In contracts it is the list of its bytes. `Adds`
+/// ends in the text that is added: what the writer took, and then what is left in the buffer, are the bytes that were
+/// in the buffer and then this text.
 #[derive(Drop)]
 pub(crate) struct TextBuffer {
     text: ArrayVec<u8, 4096>,

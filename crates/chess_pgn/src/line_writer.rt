@@ -16,6 +16,9 @@ const LINE_LEN: usize = 79;
 /// Writes lines to `writer` through the buffer `waiting`, each with `prefix` at its front. Moves, numbers and the
 /// outcome are put into lines of at most 79 bytes; `column` is how many bytes the line that is begun has so far, its
 /// prefix not counted, and 0 if no line is begun.
+///
+/// Whoever writes through it says so by a clause `added`, which ends in the text that is added to what the writer took
+/// and what waits in the buffer (`Adds`); the other clauses say what stays.
 #[derive(Drop)]
 pub(crate) struct LineWriter<'a, 'b, W> {
     writer: &'b mut W,

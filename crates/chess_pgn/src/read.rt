@@ -317,8 +317,9 @@ fn tagged_variant(text: &[u8], at: usize) -> Variant
 }
 
 // Reads the tags from the offset `at` on as those of a game of normal chess, in one pass. Returns what is known after
-// them, and the offset of the first number, move or outcome, or of the text's end. `None` if a tag names Chess960 or a
-// fault comes first: the game is then to be restarted (`begin_game`).
+// them, and the offset of the first number, move or outcome, or of the text's end; reading on from there gives the same
+// as reading from `at` (`IsReadOn`). `None` if a tag names Chess960 or a fault comes first: what the game holds then is
+// not used (`begin_game` restarts it).
 fn read_normal_tags<B: Board>(
     text: &[u8],
     at: usize,
@@ -347,6 +348,7 @@ fn read_normal_tags<B: Board>(
         }
         match apply_token(game, progress, text.len(), offset, &token) {
             Ok(Step::On(further)) => progress = further,
+            // Only an outcome ends a game, and that was left above.
             Ok(Step::Ended(_)) => return None,
             Err(_) => return None,
         }
@@ -355,9 +357,10 @@ fn read_normal_tags<B: Board>(
 }
 
 // Begins the game whose text begins at the offset `at`, and returns what is known of it and the offset from which to
-// read on. Of normal chess, as most games are, the tags are read already, and the offset is after them. For any other
-// the game is set to its variant's initial position, and the offset is `at`: the variant must be known before a FEN is
-// read, and the tag `Variant` may come after the tag `FEN`.
+// read on: that gives the same as reading from `at` (`IsReadOn`). Of a game of normal chess, as most are, the tags are
+// read here, and the offset is after them. For any other, or after a fault among the tags, the game is set to the
+// initial position of its variant, and the offset is `at`: the variant must be known before a FEN is read, and the tag
+// `Variant` may come after the tag `FEN`.
 #[tactic(auto, using(crate::proofs::GameReads::first))]
 fn begin_game<B: Board>(text: &[u8], at: usize, game: &mut Game<B>) -> (Progress, usize)
     requires { at ≤ length text.now }

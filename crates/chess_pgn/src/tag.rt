@@ -59,9 +59,9 @@ fn after_next(byte: u8, text: &[u8]) -> Option<&[u8]>
 pub fn split_string(text: &[u8]) -> Option<(&[u8], &[u8])>
     ensures { option_map (λ r. (r.0.now, r.1.now)) result ≡ string_at text.now }
 {
-    // Whether the byte at `offset` follows a backslash, which keeps it from ending the string.
+    // Whether a backslash before the byte at `offset` keeps it from ending the string.
     let mut is_kept = false;
-    // Mostly there is no backslash: then these are all of the string's bytes.
+    // The bytes before the first quote, backslash or line end are the string's. Mostly that is the closing quote.
     let mut offset = len_before_any(text, b'"', b'\\', b'\n');
     while offset < text.len() {
         let byte = text[offset];
@@ -92,6 +92,7 @@ pub(crate) fn read_tag(text: &[u8]) -> Option<(Tag<'_>, &[u8])>
     let string = after_next(b'"', rest)?;
     let (text, rest) = split_string(string)?;
     let rest = after_next(b']', rest)?;
+    // `string` is what is left of the whole text from the first byte of the tag's string on.
     let to_end = string.len();
     Some((Tag { name, text, to_end }, rest))
 }

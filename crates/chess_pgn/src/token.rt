@@ -145,6 +145,7 @@ pub(crate) fn next_token(text: &[u8], at: usize) -> Result<Option<(Token<'_>, us
     requires { at ≤ length text.now }
     ensures { IsNextToken text.now at result }
 {
+    // Here this is the text itself from `at` on, not how many bytes it has.
     let to_end = &text[at..];
     let [first, rest @ ..] = to_end else {
         return Ok(None);

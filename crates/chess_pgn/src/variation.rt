@@ -39,12 +39,14 @@ fn depth_after(depth: usize, byte: u8) -> Option<usize>
 }
 
 // Skips a variation, with all variations and comments inside it: `text` begins after its `(`, and the text after its
-// `)` is returned. A fault if the variation, or a `{` comment in it, is not closed.
+// `)` is returned. A fault if the variation, or a `{` comment in it, is not closed. In the contract `None false 1` say
+// that `text` begins in no comment, inside a line, and with one variation open.
 pub(crate) fn after_variation(text: &[u8]) -> Result<&[u8], TokenFault>
     ensures { variation_seen result ≡ variation_at None false 1 text.now }
 {
     let mut rest = text;
     let mut line_begins = false;
+    // How many variations are open inside this one.
     let mut depth = 0;
     while let [byte, others @ ..] = rest {
         let Some(tail) = after_part(line_begins, *byte, others) else {
