@@ -17,8 +17,8 @@ const LINE_LEN: usize = 79;
 /// outcome are put into lines of at most 79 bytes; `column` is how many bytes the line that is begun has so far, its
 /// prefix not counted, and 0 if no line is begun.
 ///
-/// Whoever writes through it says so by a clause `added`, which ends in the text that is added to what the writer took
-/// and what waits in the buffer (`Adds`); the other clauses say what stays.
+/// A function that writes through it has a clause `added`, which ends in the text that is added to what the writer took
+/// and what waits in the buffer (`Adds`). Its other clauses say what stays as it was.
 #[derive(Drop)]
 pub(crate) struct LineWriter<'a, 'b, W> {
     writer: &'b mut W,

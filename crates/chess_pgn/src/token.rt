@@ -160,8 +160,8 @@ pub(crate) fn next_token(text: &[u8], at: usize) -> Result<Option<(Token<'_>, us
     }
 }
 
-/// Skips white space and dots from the offset `at` on, and returns the offset after them: of `12. e4` from 2 on it is
-/// 4. [`next_token`] would return each of these bytes as a `Token::Skip`, which changes nothing (`SkipsTo`).
+/// Skips white space and dots from the offset `at` on, and returns the offset after them, which is 4 for `12. e4` from
+/// 2 on. [`next_token`] would return each of these bytes as a `Token::Skip`, which changes nothing (`SkipsTo`).
 #[inline(always)]
 pub(crate) fn after_blanks(text: &[u8], at: usize) -> usize
     requires { at ≤ length text.now }
