@@ -9,10 +9,12 @@ use arrayvec::ArrayVec;
 use byte_devices::{Output, WriteFault, put};
 use std::marker::Model;
 
-// The most bytes that wait.
+// The most bytes that the buffer holds.
 const BUFFER_LEN: usize = 4096;
 
-/// Text that is collected before it is written. In contracts it is the list of its bytes.
+/// Text that is collected before it is written, at most 4,096 bytes. In contracts it is the list of its bytes. `Adds`
+/// ends in the text that is added: what the writer took, and then what is left in the buffer, are the bytes that were
+/// in the buffer and then this text.
 #[derive(Drop)]
 pub(crate) struct TextBuffer {
     text: ArrayVec<u8, 4096>,
@@ -36,7 +38,8 @@ impl TextBuffer {
         }
     }
 
-    // Writes and empties the buffer if `len` more bytes don't fit into it; else does nothing.
+    // Makes room for `len` more bytes: if they don't fit, what is in the buffer is written and the buffer emptied. More
+    // than `BUFFER_LEN` bytes never fit, so then the buffer is empty afterwards.
     fn make_room<W: Output>(&mut self, writer: &mut W, len: usize) -> Result<(), WriteFault>
         ensures added { Adds (W.seen writer.old) (W.seen writer.new) self.old self.new result [] }
         ensures room { OnOk result (len ≤ BUFFER_LEN → length self.new + len ≤ BUFFER_LEN) }
@@ -49,8 +52,8 @@ impl TextBuffer {
         Ok(())
     }
 
-    /// Adds a text to the buffer, which is written first where the text doesn't fit; a text longer than the buffer is
-    /// written at once.
+    /// Adds a text to the buffer. If it doesn't fit, what is in the buffer is written first; a text of more than 4,096
+    /// bytes is then written too, and the buffer is left empty.
     ///
     /// # Errors
     /// If the writer fails; a beginning of the buffer and of the text was written then.
@@ -82,7 +85,7 @@ impl TextBuffer {
         Ok(())
     }
 
-    /// Writes what is in the buffer.
+    /// Writes what is in the buffer, which is not used after that.
     ///
     /// # Errors
     /// If the writer fails; a beginning of the buffer was written then.

@@ -1,11 +1,12 @@
-//! Kinds of bytes. Each byte of a text is asked, so the look-ups in tables are inlined.
+//! Kinds of bytes. Each byte of a text is tested, so the look-ups in the tables are inlined. A table has a character
+//! for each byte, in eight rows of 32: the second row begins with the space (0x20), the third with `@` (0x40).
 
 ghost use Rattle.std.specs.Prelude.{◌≡◌, ◌||◌, ◌==◌};
 ghost use Rattle.chess_pgn.specs.Tokens.{is_white_space, is_word_byte};
 ghost use Rattle.text_lines.specs.Words.{is_name_byte};
 ghost use Rattle.chess_base.specs.Letters.{byte, is_digit};
 
-// What each byte is where a token begins: `w` one of a word, `p` white space or a dot, `-` any other.
+// What each byte is where a token begins: `w` one that a word may have, `p` white space or a dot, `-` any other.
 static CLASSES: [u8; 256] = *b"\
     ---------pp--p------------------\
     pw-w-------w-wpwwwwwwwwwwww--w-w\
@@ -41,7 +42,7 @@ pub(crate) fn is_digit(byte: u8) -> bool
     byte.is_ascii_digit()
 }
 
-// Whether a byte may be in a tag's name: letters, digits and `_`, which `NAMES` marks with `n`.
+// Whether a byte may be in a tag's name: it is a letter, a digit or `_`. The table `NAMES` marks these with `n`.
 #[inline(always)]
 pub(crate) fn is_name_byte(byte: u8) -> bool
     ensures { result ≡ is_name_byte byte }
@@ -49,7 +50,8 @@ pub(crate) fn is_name_byte(byte: u8) -> bool
     NAMES[byte as usize] == b'n'
 }
 
-/// Whether a byte may be in a word: a move, a number, marks or an outcome.
+/// Whether a byte may be in a word (a move, a number, marks such as `!?`, or an outcome): it is a letter, a digit, or
+/// one of `_+#=-/!?:`. The table `CLASSES` marks these with `w`.
 #[inline(always)]
 pub fn is_word_byte(byte: u8) -> bool
     ensures { result ≡ is_word_byte byte }
@@ -57,7 +59,8 @@ pub fn is_word_byte(byte: u8) -> bool
     CLASSES[byte as usize] == b'w'
 }
 
-// Whether the byte `next` is white space or a dot, which are skipped between tokens.
+// Whether the byte `next` is white space or a dot (as in `12.`): both are skipped between tokens. The table `CLASSES`
+// marks these with `p`.
 #[inline(always)]
 pub(crate) fn is_passed(next: u8) -> bool
     ensures { result ≡ (is_white_space next || next == byte ".") }

@@ -39,8 +39,9 @@ pub fn pgn_is_read_back()
     let _sound = initial.setup();
 }
 
-/// States a law and does nothing: games of normal chess are written, and texts with no tag `Variant` before the first
-/// number, move or outcome are read, according to definitions that are only for normal chess.
+/// States a law and does nothing: that Chess960 is supported changes nothing for normal chess. Games of normal chess
+/// are written, and texts with no tag `Variant` among a game's tags are read, as definitions say that are only for
+/// normal chess.
 pub fn normal_is_kept()
     ensures { NormalIsKept }
 {}
@@ -56,17 +57,18 @@ pub fn half_moves_have_bytes()
     ensures { HalfMovesHaveBytes }
 {}
 
-/// States a law and does nothing: the tokens that are read of a text from an offset on are a split of it, from left to
-/// right, each the longest of its kind, up to the text's end or to the first offset where no token can be read. There
-/// is no other split.
+/// States a law and does nothing: from an offset on, a text has one and only one split into tokens, those that are read
+/// (`tokens_from`). A split (`IsSplit`) takes the tokens from left to right, each the longest of its kind, up to the
+/// text's end or to the first offset where no token can be read.
 pub fn a_text_has_one_split()
     ensures read { (text : List ℕ) → (at : ℕ) → IsSplit text at (tokens_from text at) }
     ensures no_other { (text : List ℕ) → (at : ℕ) → (tokens : List (ℕ × Token)) → IsSplit text at tokens
         → tokens ≡ tokens_from text at }
 {}
 
-/// States a law and does nothing: what is read of a text is exactly what the tags and then the moves of its only split
-/// say. It is also the result of one step for each token.
+/// States a law and does nothing: what is read of a text (`pgn_read`) is what the tags, and then the moves, of its
+/// split into tokens say (`IsRead`), and nothing else is. Taking the tokens one after another, with a step for each
+/// (`tokens_read`), gives the same.
 pub fn a_game_is_tags_and_moves()
     ensures read { (limit : ℕ) → (text : List ℕ) → (at : ℕ) → IsRead limit text at (pgn_read limit text at) }
     ensures no_other { (limit : ℕ) → (text : List ℕ) → (at : ℕ) → (r : GameRead) → IsRead limit text at r
@@ -75,16 +77,17 @@ pub fn a_game_is_tags_and_moves()
         ≡ tokens_read limit (length text) (tokens_from text (after_byte_order_mark text at)) }
 {}
 
-/// States a law and does nothing: a game that is read is that of its text's first tokens. Its start is what their last
-/// tag `FEN` denotes, or the initial position if there is none; each word of a move denotes a move in the position
-/// reached by then, and the next token ends the game, or can't be taken, or there is none; the offset is that token's.
+/// States a law and does nothing: a game that is read is made of the first tokens of its text. It begins from the
+/// position of their last tag `FEN`, or from the initial position if they have none, and its moves are what their words
+/// denote, each in the position after the moves before it. Reading stops at the token after them, which is an outcome
+/// or can't be taken, or at the text's end; the end or the fault that is returned is that of this token.
 pub fn games_are_of_tokens()
     ensures { GamesAreOfTokens }
 {}
 
-/// States a law and does nothing: tokens of 1 to 79 bytes that are put into lines from left to right are in lines as
-/// full as they can be: none has more than 79 bytes, and none could also have taken the first token of the next. They
-/// are in no other such lines.
+/// States a law and does nothing: tokens of 1 to 79 bytes are put into lines (`lines_of`) that are as full as they can
+/// be. A line has at most 79 bytes, and with the first token of the next line it would have more. There are no other
+/// lines of these tokens, in this order, of which that is true.
 pub fn lines_are_filled()
     ensures filled { (tokens : List (List ℕ)) → AreShort tokens → AreFilled tokens (lines_of tokens) }
     ensures no_other { (tokens texts : List (List ℕ)) → AreFilled tokens texts → texts ≡ lines_of tokens }

@@ -1,4 +1,4 @@
-//! Lines of a game's text, each after the same prefix.
+//! Lines of a game's text, each with the same prefix at its front.
 
 ghost use Rattle.chess_pgn.specs.declared.line_writer.TheConstants.{LINE_LEN};
 ghost use Rattle.std.specs.Prelude.{◌≡◌, ◌+◌, ◌≤◌, ◌<◌, [], ◌∷◌, ◌++◌, length};
@@ -13,8 +13,12 @@ use byte_devices::{Output, WriteFault};
 // The most bytes of a line of moves, its prefix and its end not counted (PGN standard of 1994, section 4.3).
 const LINE_LEN: usize = 79;
 
-/// Writes lines to `writer` through the buffer `waiting`, each after a prefix. Tokens of moves go into a line of at most
-/// 79 bytes, which has `column` bytes so far; 0: no line is begun.
+/// Writes lines to `writer` through the buffer `waiting`, each with `prefix` at its front. Moves, numbers and the
+/// outcome are put into lines of at most 79 bytes; `column` is how many bytes the line that is begun has so far, its
+/// prefix not counted, and 0 if no line is begun.
+///
+/// A function that writes through it has a clause `added`, which ends in the text that is added to what the writer took
+/// and what waits in the buffer (`Adds`). Its other clauses say what stays as it was.
 #[derive(Drop)]
 pub(crate) struct LineWriter<'a, 'b, W> {
     writer: &'b mut W,
@@ -25,7 +29,7 @@ pub(crate) struct LineWriter<'a, 'b, W> {
 }
 
 impl<'a, 'b, W: Output> LineWriter<'a, 'b, W> {
-    /// A writer of lines with this prefix to `writer`; no line is begun.
+    /// A writer of lines to `writer`, each with `prefix` at its front. No line is begun, and nothing is written yet.
     pub(crate) fn new(prefix: &'a [u8], writer: &'b mut W) -> Self
         ensures old { result.writer.now ≡ writer.old }
         ensures writer { result.writer.ghost_name ≡ writer.entry.ghost_name }
@@ -41,7 +45,7 @@ impl<'a, 'b, W: Output> LineWriter<'a, 'b, W> {
         }
     }
 
-    /// Writes a whole line, after the prefix; `line` is without its end.
+    /// Writes a whole line: the prefix, `line` and `\n`.
     ///
     /// # Errors
     /// If the writer fails; a beginning of the text was written then.
@@ -56,8 +60,9 @@ impl<'a, 'b, W: Output> LineWriter<'a, 'b, W> {
             .add_parts(self.writer, &[self.prefix, line, b"\n"])
     }
 
-    /// Adds a token of moves: after a space on the line that is begun, if that has room (the prefix doesn't count);
-    /// otherwise as the first token of a new line, after the prefix.
+    /// Adds a token such as `12.`, `Nf3` or `1-0` to the line that is begun, after a space, if the line then has at
+    /// most 79 bytes (its prefix isn't counted). If it has no room, or no line is begun, the token begins a new line,
+    /// after the prefix.
     ///
     /// # Errors
     /// If the writer fails; a beginning of the text was written then.
@@ -83,7 +88,7 @@ impl<'a, 'b, W: Output> LineWriter<'a, 'b, W> {
         }
     }
 
-    /// Ends the line that is begun, if there is one.
+    /// Writes the `\n` of the line that is begun; nothing, if no line is begun.
     ///
     /// # Errors
     /// If the writer fails; a beginning of the text was written then.
@@ -101,7 +106,7 @@ impl<'a, 'b, W: Output> LineWriter<'a, 'b, W> {
         self.waiting.add(self.writer, b"\n")
     }
 
-    /// Writes what is in the buffer. The last line must be ended before.
+    /// Writes what is still in the buffer, at the end of a game's text. It ends no line, so `end_line` comes before.
     ///
     /// # Errors
     /// If the writer fails; a beginning of the text was written then.

@@ -29,7 +29,8 @@ impl Progress {
         }
     }
 
-    // What is known after a number or move, from what was known before it (`self`).
+    // What is known once a number or move is read; `self` is what was known before it. From then on no tag belongs to
+    // this game.
     pub(crate) fn begun(self) -> Self
         ensures { result ≡ record { is_met = true; is_begun = true; termination = self.termination } }
     {
@@ -40,7 +41,8 @@ impl Progress {
         }
     }
 
-    // What is known after a tag, from what was known before it (`self`).
+    // What is known once `tag` is read; `self` is what was known before it. Of the tag's text only that of
+    // `Termination` is kept.
     pub(crate) fn after_tag(self, tag: &Tag<'_>) -> Self
         ensures { result ≡ record {
           is_met = true;
@@ -56,8 +58,8 @@ impl Progress {
     }
 }
 
-// What the last tag `Termination` read so far says, when `tag` is read: what `tag` says, if it is one, else `before`,
-// what was known before it.
+// What the last tag `Termination` says, once `tag` is read too: if `tag` is such a tag, what its text names (`None` for
+// an unknown text), and for any other tag `before`, which is what the tags before it say.
 fn termination_after(before: Option<Termination>, tag: &Tag<'_>) -> Option<Termination>
     ensures { result ≡ termination_after before tag.now.name.now tag.now.text.now }
 {

@@ -84,20 +84,21 @@ pub struct PgnFault {
 
 // What follows from one token of a game's text.
 enum Step {
-    // Reading goes on.
+    // More tokens are to be read; what is known so far.
     On(Progress),
-    // The game ended.
+    // The token was an outcome, which ends the game's text.
     Ended(PgnEnd),
 }
 
-// Whether the board has a verdict (such as mate), after which no move is played.
+// Whether the board has ended the game, as by mate: no move is played after such a verdict.
 fn is_decided<B: Board>(game: &Game<B>) -> bool
     ensures { result ≡ is_some (verdict_now game.now.state) }
 {
     game.verdict().is_some()
 }
 
-// The fault to give for a move that the game refuses: it is over, full (`TooLong`), or the move is illegal.
+// The fault to report for a move that the game refuses: the game is over (`AfterEnd`), it has as many half-moves as its
+// limit allows (`TooLong`), or the move is illegal.
 fn refusal_kind(refusal: PlayRefusal) -> PgnFaultKind
     ensures { result ≡ refusal_kind refusal }
 {
@@ -108,8 +109,8 @@ fn refusal_kind(refusal: PlayRefusal) -> PgnFaultKind
     }
 }
 
-// The fault of a word that denotes no one legal move: that the game is over or full, if it is; else `kind`, the fault
-// of the word itself.
+// The fault to report for a word that is not played. If the game is over or full, it is that (`AfterEnd` or `TooLong`),
+// whatever the word denotes; otherwise it is `kind`, the fault of the word itself, such as `AmbiguousMove`.
 fn unplayed_kind<B: Board>(game: &Game<B>, kind: PgnFaultKind) -> PgnFaultKind
     ensures { result ≡ option_map_or refusal_kind (refusal_now game.now) kind }
 {
@@ -119,8 +120,9 @@ fn unplayed_kind<B: Board>(game: &Game<B>, kind: PgnFaultKind) -> PgnFaultKind
     }
 }
 
-// The fault of the word at `offset`, which may be a move, but is none that the game plays: only here a word is read
-// again. It is apart from the loop over the tokens, since it is long and rare.
+// The fault of the word at `offset`, which may be a move (`WordKind::Move`) but was not played: it denotes no move, no
+// legal move or several, or the game is over or full. To find out which, the word is read again, as it is only here, at
+// most once in a game. The contract holds for each `p`, since a fault says nothing of the progress.
 #[inline(never)]
 fn fault_of_move<B: Board>(game: &Game<B>, offset: usize, word: &[u8]) -> PgnFault
     requires undeclared { game.now.state.declared ≡ None }
@@ -131,14 +133,15 @@ fn fault_of_move<B: Board>(game: &Game<B>, offset: usize, word: &[u8]) -> PgnFau
     let kind = match read_move(game.board(), word) {
         Reading::NotAMove => PgnFaultKind::BadToken,
         Reading::Ambiguous => unplayed_kind(game, PgnFaultKind::AmbiguousMove),
-        // A legal move is left only where the game is over or full.
+        // A legal move was not played only if the game is over or full, and then that is the fault.
         Reading::Move(_) | Reading::NoSuch => unplayed_kind(game, PgnFaultKind::IllegalMove),
     };
     PgnFault { kind, offset }
 }
 
-// Declares the outcome that ends the game's text. Nothing is declared for `*`, or where the board has a verdict: the
-// game's outcome is then the verdict's, even if the text says another (see `PgnEnd`).
+// Declares `outcome`, with which the game's text ends, as the game's result. Nothing is declared for `*`, or if the
+// board has ended the game, as by mate: then the game's outcome is the board's, even if the text says another (see
+// `PgnEnd`).
 fn end_game<B: Board>(game: &mut Game<B>, outcome: Outcome)
     requires { game.old.state.declared ≡ None }
     ensures { game.new
@@ -150,8 +153,9 @@ fn end_game<B: Board>(game: &mut Game<B>, outcome: Outcome)
     }
 }
 
-// Takes a word, which begins at `offset` and is no move that is played: an outcome such as `1-0` ends the game, and
-// what may be a move is a fault. `progress` is what is known before the word.
+// What follows from the word at `offset`, which is no move that can be played (`play_words` has played those): an
+// outcome such as `1-0` ends the game; after a number or marks reading continues; and what may be a move is a fault.
+// `progress` is what is known before the word.
 #[tactic(auto, using(crate::proofs::StepKinds::termination_has_bytes))]
 #[inline(always)]
 fn apply_word<B: Board>(
@@ -184,9 +188,9 @@ fn apply_word<B: Board>(
     }
 }
 
-// Reads a tag into the game. A FEN sets the start, in the variant that the game has already (`begin_game` looked for
-// it); of other tags only Termination is kept. `progress` is what is known before the tag. `offset`, where its string
-// begins, is needed for the fault of a wrong FEN.
+// What follows from a tag. `FEN` makes the game begin anew from its position, in the variant that the game already has
+// (`begin_game` looked for it); a FEN that denotes no position is a fault. Of other tags only `Termination` is kept.
+// `progress` is what is known before the tag; `offset` is where its string begins, for the fault.
 fn apply_tag<B: Board>(
     game: &mut Game<B>,
     progress: Progress,
@@ -212,8 +216,9 @@ fn apply_tag<B: Board>(
     Ok(Step::On(progress.after_tag(tag)))
 }
 
-// Takes a token, which begins at `offset` in a text of `len` bytes and is no move that is played (`play_words` plays
-// moves), and returns whether reading goes on or the game ended. `progress` is what is known before the token.
+// What follows from the token at `offset` of a text of `len` bytes: more is to be read, the game's text ended, or there
+// is a fault. The token is no move that can be played (`play_words` has played those). `progress` is what is known
+// before it.
 #[inline(always)]
 fn apply_token<B: Board>(
     game: &mut Game<B>,
@@ -242,9 +247,10 @@ fn apply_token<B: Board>(
     }
 }
 
-// The fault of a game's text of `len` bytes, for a token at `offset` that can't be read. `progress` is what is known
-// before it: after a number or a move, a bad tag is taken as the next game's, so this one has no result. An unclosed
-// comment inside a variation begins later than the token, so it has an offset of its own.
+// The fault to report where no token can be read at `offset` of a text of `len` bytes. `progress` is what is known
+// before it: after a number or a move, a bad tag belongs to the next game, so the fault is that this game has no
+// result. An unclosed comment has an offset of its own (`len - to_end`, of its `{`), since it may be inside a variation
+// that begins at `offset`.
 fn reported_fault(fault: TokenFault, progress: Progress, len: usize, offset: usize) -> PgnFault
     requires within { IsWithin (len - offset) (fault_seen fault) }
     requires offset { offset ≤ len }
@@ -290,7 +296,7 @@ fn variant_named(text: &[u8]) -> Variant
     }
 }
 
-// The variant that a game's tag `Variant` names; normal chess where there is no such tag.
+// The variant of a game with this tag `Variant`; normal chess for `None`, if it has no such tag.
 #[inline(always)]
 fn variant_of(tag: Option<Tag<'_>>) -> Variant
     ensures { result ≡ option_map_or (λ t. variant_named t.0) (found_seen tag.entry) Normal }
@@ -301,8 +307,8 @@ fn variant_of(tag: Option<Tag<'_>>) -> Variant
     }
 }
 
-// The variant of the game that begins at `at`: the one that its last tag `Variant` before its first number, move or
-// outcome names; normal chess, if it has no such tag.
+// The variant of the game whose text begins at the offset `at`: what its last tag `Variant` names, of those before its
+// first number, move or outcome; normal chess, if it has no such tag.
 fn tagged_variant(text: &[u8], at: usize) -> Variant
     requires { at ≤ length text.now }
     ensures { result ≡ tagged_variant (tag_section (tokens_from text.now at)) }
@@ -310,9 +316,10 @@ fn tagged_variant(text: &[u8], at: usize) -> Variant
     variant_of(last_tag(text, at, b"Variant"))
 }
 
-// Reads the tags from `at` on as those of a game of normal chess, in one pass; returns what is known then, and the
-// offset of the first number, move or outcome, or of the text's end. `None` if a tag names another variant, or a fault
-// comes first.
+// Reads the tags from the offset `at` on as those of a game of normal chess, in one pass. Returns what is known after
+// them, and the offset of the first number, move or outcome, or of the text's end; reading on from there gives the same
+// as reading from `at` (`IsReadOn`). `None` if a tag names Chess960 or a fault comes first: what the game holds then is
+// not used (`begin_game` restarts it).
 fn read_normal_tags<B: Board>(
     text: &[u8],
     at: usize,
@@ -341,6 +348,7 @@ fn read_normal_tags<B: Board>(
         }
         match apply_token(game, progress, text.len(), offset, &token) {
             Ok(Step::On(further)) => progress = further,
+            // Only an outcome ends a game, and that was left above.
             Ok(Step::Ended(_)) => return None,
             Err(_) => return None,
         }
@@ -348,8 +356,11 @@ fn read_normal_tags<B: Board>(
     }
 }
 
-// Sets the game to its start, for the text from `at` on; returns what is known so far, and the offset from which to
-// read on. The tags of normal chess, which most games have, are read at once; else only the variant is looked for.
+// Begins the game whose text begins at the offset `at`, and returns what is known of it and the offset from which to
+// read on: that gives the same as reading from `at` (`IsReadOn`). Of a game of normal chess, as most are, the tags are
+// read here, and the offset is after them. For any other, or after a fault among the tags, the game is set to the
+// initial position of its variant, and the offset is `at`: the variant must be known before a FEN is read, and the tag
+// `Variant` may come after the tag `FEN`.
 #[tactic(auto, using(crate::proofs::GameReads::first))]
 fn begin_game<B: Board>(text: &[u8], at: usize, game: &mut Game<B>) -> (Progress, usize)
     requires { at ≤ length text.now }
@@ -364,10 +375,12 @@ fn begin_game<B: Board>(text: &[u8], at: usize, game: &mut Game<B>) -> (Progress
 }
 
 /// Reads the first game of a text from the offset `at` on (PGN standard of 1994; this project decides which words are
-/// accepted). `game` begins anew from the initial position or the last FEN tag's position, in the variant that the last
-/// tag `Variant` names. Its moves are played as they are read, and the outcome at its end is declared unless the board
-/// has a verdict or the outcome is `*`. Returns `None` if there is no tag, number, move or outcome up to the text's
-/// end. The next game begins at the offset that is returned.
+/// accepted). `game` begins anew, from the position of the last tag `FEN` or from the initial position, in the variant
+/// that the last tag `Variant` names. The moves are played as they are read. The outcome at the end is declared, unless
+/// it is `*` or the board has ended the game, as by mate.
+///
+/// Returns the outcome and the offset after it, where the next game begins; `None` if there is no tag, number, move or
+/// outcome up to the text's end.
 ///
 /// # Errors
 /// The first fault of the text, with its offset. `game` then holds the moves before it, and nothing is declared.
@@ -390,6 +403,7 @@ pub fn read_pgn<B: Board>(
     let (mut progress, tags_end) = begin_game(text, after_byte_order_mark(text, at), game);
     let moves_end = play_words(text, tags_end, game, &mut progress);
     let mut offset = moves_end;
+    // The token at `offset` is never a move that can be played: `play_words` has played those.
     loop {
         match next_token(text, offset) {
             Ok(Some((token, token_end))) => {

@@ -12,8 +12,9 @@ use crate::bytes::is_name_byte;
 use crate::skips::after_gap;
 use byte_devices::len_before_any;
 
-/// A tag: of `[Event "a"]` the name `Event`, the text `a` (with its backslashes), and the number of bytes from that
-/// `a` to the text's end, by which its offset is known.
+/// A tag: of `[Event "a"]` the name `Event` and the text `a`, the bytes between the quotes as they are, with their
+/// backslashes. `to_end` is the number of bytes from the first of these (here `a`) to the end of the whole PGN text, by
+/// which the offset of `a` is known.
 #[derive(Clone, Copy)]
 pub(crate) struct Tag<'a> {
     pub name: &'a [u8],
@@ -21,7 +22,8 @@ pub(crate) struct Tag<'a> {
     pub to_end: usize,
 }
 
-/// The name at a text's front (letters, digits and `_`), maybe empty, and the text after it.
+/// Splits a text after the tag's name at its front: `Event "a"]` into `Event` and ` "a"]`. A name has letters, digits
+/// and `_`; it is empty if the text begins with another byte.
 pub fn split_name(text: &[u8]) -> (&[u8], &[u8])
     ensures name { result.0.now ≡ take_while is_name_byte text.now }
     ensures rest { result.1.now ≡ drop (prefix_len is_name_byte text.now) text.now }
@@ -33,8 +35,9 @@ pub fn split_name(text: &[u8]) -> (&[u8], &[u8])
     text.split_at(end)
 }
 
-// The text after any white space and `%` lines, and then this byte; `None` if another byte comes there. The text's own
-// first byte begins no line, so a `%` there is not skipped. A tag's `]` mostly comes at once.
+// Looks for the byte `byte` after any white space and `%` lines at the text's front (`after_gap`). Returns the text
+// after that byte, or `None` if another byte comes there: for `"`, of ` "a"]` it is `a"]`. The first test is a short
+// cut, since mostly no white space is there, as before a tag's `]`.
 fn after_next(byte: u8, text: &[u8]) -> Option<&[u8]>
     requires { is_white_space byte ≡ false }
     ensures { option_map (λ r. r.now) result ≡ after_next byte text.now }
@@ -50,13 +53,15 @@ fn after_next(byte: u8, text: &[u8]) -> Option<&[u8]>
     }
 }
 
-/// Splits a text after a string's opening quote: the string's bytes, and the text after its closing quote; `None` if
-/// the line or the text ends first. A backslash keeps the next byte from ending the string.
+/// Splits the text after a string's opening quote into the string's bytes and the text after its closing quote: `a"]`
+/// into `a` and `]`. `None` if the line or the text ends first. A quote after a backslash doesn't end the string: the
+/// bytes `a\"b` are such a string, and are returned with the backslash.
 pub fn split_string(text: &[u8]) -> Option<(&[u8], &[u8])>
     ensures { option_map (λ r. (r.0.now, r.1.now)) result ≡ string_at text.now }
 {
+    // Whether a backslash before the byte at `offset` keeps it from ending the string.
     let mut is_kept = false;
-    // Mostly there is no backslash: then these are all of the string's bytes.
+    // The bytes before the first quote, backslash or line end are the string's. Mostly that is the closing quote.
     let mut offset = len_before_any(text, b'"', b'\\', b'\n');
     while offset < text.len() {
         let byte = text[offset];
@@ -75,7 +80,8 @@ pub fn split_string(text: &[u8]) -> Option<(&[u8], &[u8])>
     None
 }
 
-// Reads a tag after its `[`, and returns it with the text after it; `None` if this is no tag.
+// Reads a tag from the text after its `[`, and returns it with the text after its `]`: of `Event "a"] 1. e4` the tag
+// with the name `Event` and the text `a`, and ` 1. e4`. `None` if this is no tag.
 pub(crate) fn read_tag(text: &[u8]) -> Option<(Tag<'_>, &[u8])>
     ensures { tag_seen result ≡ tag_by_parts text.now }
 {
@@ -86,6 +92,7 @@ pub(crate) fn read_tag(text: &[u8]) -> Option<(Tag<'_>, &[u8])>
     let string = after_next(b'"', rest)?;
     let (text, rest) = split_string(string)?;
     let rest = after_next(b']', rest)?;
+    // `string` is what is left of the whole text from the first byte of the tag's string on.
     let to_end = string.len();
     Some((Tag { name, text, to_end }, rest))
 }

@@ -11,10 +11,11 @@ use crate::tags::TagPair;
 use arrayvec::ArrayVec;
 use byte_devices::{Output, WriteFault, append};
 
-// The line of a tag, put together.
+// The line of a tag, such as `[Event "a"]`. It has at most 225 bytes: a name of 20, a text of 100 with a backslash
+// before each byte, and five more.
 type TagLine = ArrayVec<u8, 256>;
 
-// Appends a text to the line, with a backslash before each quote and backslash.
+// Appends a tag's text to the line, with a backslash before each quote and each backslash: `a"b` as `a\"b`.
 fn write_escaped(line: &mut TagLine, text: &[u8])
     requires { array_vec_len line.old + 2 * length text.now ≤ 256 }
     ensures text { line.new.items ≡ line.old.items ++ escaped text.now }
@@ -28,7 +29,8 @@ fn write_escaped(line: &mut TagLine, text: &[u8])
     }
 }
 
-// The line of a tag with this name and text, without its end, such as `[Event "a"]`.
+// The line of a tag with this name and text, such as `[Event "a"]`, without its `\n`. In the text, quotes and
+// backslashes get a backslash before them.
 fn tag_line(name: &[u8], text: &[u8]) -> TagLine
     requires name { length name.now ≤ 20 }
     requires text { length text.now ≤ 100 }
@@ -43,7 +45,8 @@ fn tag_line(name: &[u8], text: &[u8]) -> TagLine
     line
 }
 
-/// Writes each tag on a line of its own.
+/// Writes each of these tags on a line of its own, such as `[Event "a"]`, after the prefix that `lines` puts before
+/// each line.
 ///
 /// # Errors
 /// If the writer fails; a beginning of the text was written then.

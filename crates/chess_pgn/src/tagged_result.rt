@@ -11,19 +11,20 @@ use crate::token::after_byte_order_mark;
 use crate::word_kind::outcome_of;
 use chess_game::Outcome;
 
-/// The last tag `Result` of a game before its moves.
+/// The last tag `Result` of a game, such as `[Result "1-0"]`.
 #[derive(Clone, Copy, Debug, PartialEq, Eq)]
 pub struct ResultTag {
     /// The outcome that its text denotes; `None` if it denotes none.
     pub outcome: Option<Outcome>,
-    /// The offset of its string's first byte, counted from the text's first byte.
+    /// The offset of the first byte after its opening quote, counted from the text's first byte.
     pub offset: usize,
-    /// How many bytes its string has, without its quotes.
+    /// How many bytes are between its quotes.
     pub len: usize,
 }
 
-/// The last tag `Result` of the game that begins at the offset `at`; `None` if it has none before its first number,
-/// move or outcome.
+/// Finds the last tag `Result` of the game that begins at the offset `at`, such as `[Result "1-0"]`; `None` if there is
+/// no such tag before the game's first number, move or outcome. A byte order mark at offset 0 is skipped. The clause
+/// `tag` says: there is a split of the text into tokens (`IsSplit`) of which this is the last tag `Result`.
 pub fn result_tag(text: &[u8], at: usize) -> Option<ResultTag>
     requires { at ≤ length text.now }
     ensures tag { (tokens : List (ℕ × Token)) × IsSplit text.now (after_byte_order_mark text.now at) tokens

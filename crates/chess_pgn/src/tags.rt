@@ -43,7 +43,8 @@ impl Default for Tags {
     }
 }
 
-/// A tag that is to be written.
+/// A tag that is to be written: of `[Event "a"]` the name `Event` and the text `a`, in which quotes and backslashes are
+/// not yet escaped.
 #[derive(Clone, Copy)]
 pub(crate) struct TagPair<'a> {
     pub name: &'a [u8],

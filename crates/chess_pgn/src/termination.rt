@@ -44,7 +44,8 @@ impl Termination {
         }
     }
 
-    /// The value that a text of the tag names, in capital or small letters: `Time Forfeit` too.
+    /// The value that the text of a tag `Termination` names, in capital or small letters: `Time Forfeit` too. `None` if
+    /// it is none of the eight texts.
     #[tactic(auto, unfolding(crate::specs::Terminations::termination_named))]
     pub(crate) fn named(text: &[u8]) -> Option<Self>
         ensures { result ≡ termination_named text.now }
@@ -70,7 +71,8 @@ impl Termination {
         }
     }
 
-    /// The tag's value for a game with this outcome, that ended so: `Unterminated` if the outcome is `*`.
+    /// The value of the tag for a game that is written: `Unterminated` if its outcome is `*`, and otherwise what
+    /// `ended` says.
     pub(crate) fn of(ended: HowEnded, outcome: Outcome) -> Self
         ensures { result ≡ termination_of ended outcome }
     {

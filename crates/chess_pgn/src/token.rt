@@ -13,10 +13,10 @@ use crate::skips::{after_brace, line_end};
 use crate::tag::{Tag, read_tag};
 use crate::variation::after_variation;
 
-/// A token of a PGN text.
+/// A token of a PGN text that can be read.
 #[derive(Clone, Copy)]
 pub(crate) enum Token<'a> {
-    /// Nothing that counts: white space, a dot, a comment, a `%` line, a `$` glyph or a variation.
+    /// What changes nothing: a byte of white space, a dot, a comment, a `%` line, a `$` glyph or a variation.
     Skip,
     /// A tag.
     Tag(Tag<'a>),
@@ -24,20 +24,20 @@ pub(crate) enum Token<'a> {
     Word(&'a [u8]),
 }
 
-/// Why no token can be read. A field `to_end` is the number of bytes from the fault to the text's end.
+/// Why no token can be read.
 #[derive(Clone, Copy)]
 pub(crate) enum TokenFault {
     /// An opening bracket that begins no tag.
     BadTag,
-    /// A comment without its closing brace, at whose opening brace so many bytes are left.
+    /// A `{` comment without its `}`. `to_end` is the number of bytes from its `{` (counted too) to the text's end.
     UnclosedComment { to_end: usize },
-    /// A variation without its end.
+    /// A variation without its `)`.
     UnclosedVariation,
     /// A byte that begins no token.
     BadByte,
 }
 
-// The text after the digits at its front, as after the `$` of a glyph such as `$14`.
+// Skips the digits at a text's front: of `14 Nf3`, which follows the `$` of the glyph `$14`, the text ` Nf3` is left.
 fn after_digits(text: &[u8]) -> &[u8]
     ensures { result.now ≡ drop (prefix_len is_digit text.now) text.now }
 {
@@ -48,7 +48,8 @@ fn after_digits(text: &[u8]) -> &[u8]
     &text[end..]
 }
 
-// The word at a text's front (its bytes up to the first that no word may have), and the text after it.
+// Splits a text after the word at its front: `Nf3+ d5` into `Nf3+` and ` d5`. The word ends before the first byte that
+// no word may have (`is_word_byte`), and is empty if the text begins with such a byte.
 #[inline(always)]
 pub(crate) fn split_word(text: &[u8]) -> (&[u8], &[u8])
     ensures word { result.0.now ≡ take_while is_word_byte text.now }
@@ -61,8 +62,8 @@ pub(crate) fn split_word(text: &[u8]) -> (&[u8], &[u8])
     text.split_at(end)
 }
 
-// Reads a comment, from `text`, which begins after its `{`: a skipped token, and the text after its `}`, or a fault if
-// it has none. `to_end` counts the bytes from the `{` to the text's end.
+// Skips a `{` comment: returns `Token::Skip` and the text after its `}`, or a fault if it has none. `text` begins after
+// the `{`; `to_end` is the number of bytes from the `{` to the text's end, which the fault reports.
 #[inline(never)]
 fn read_comment(to_end: usize, text: &[u8]) -> Result<(Token<'_>, &[u8]), TokenFault>
     ensures { first_seen result ≡ comment_at to_end (after_brace text.now) }
@@ -73,8 +74,8 @@ fn read_comment(to_end: usize, text: &[u8]) -> Result<(Token<'_>, &[u8]), TokenF
     }
 }
 
-// Skips a variation, from the text after its `(`: a skipped token and the text after its `)`, or a fault if it isn't
-// closed.
+// Skips a variation: returns `Token::Skip` and the text after its `)`, or a fault if it, or a comment in it, isn't
+// closed. `text` begins after its `(`.
 #[inline(never)]
 fn read_variation(text: &[u8]) -> Result<(Token<'_>, &[u8]), TokenFault>
     ensures { first_seen result ≡ variation_at None false 1 text.now }
@@ -85,7 +86,8 @@ fn read_variation(text: &[u8]) -> Result<(Token<'_>, &[u8]), TokenFault>
     }
 }
 
-// Reads a tag, from the text after its `[`: the tag and the text after its `]`, or a fault if it is no tag.
+// Reads a tag such as `[Event "a"]`: returns it and the text after its `]`, or a fault if this is no tag. `text` begins
+// after the `[`.
 #[tactic(auto, using(crate::proofs::TagParts::parts_are))]
 #[inline(never)]
 fn read_bracket(text: &[u8]) -> Result<(Token<'_>, &[u8]), TokenFault>
@@ -97,8 +99,9 @@ fn read_bracket(text: &[u8]) -> Result<(Token<'_>, &[u8]), TokenFault>
     }
 }
 
-// Reads the first token of `text`, which is `first` and then `rest`, and returns it with the text after it;
-// `line_begins`: it is at the beginning of a line. The first byte is not one of a word.
+// Reads the first token of `text`, and returns it with the text after it. The token is no word, except `*`: words were
+// read before, by `next_token`. `text` is given twice, whole and as its first byte and its `rest`. `line_begins`:
+// whether `first` is the first byte of a line, where `%` begins a line that is skipped.
 #[tactic(auto, unfolding(crate::specs::Tokens::token_at))]
 #[inline(never)]
 fn read_token<'a>(
@@ -124,7 +127,7 @@ fn read_token<'a>(
     }
 }
 
-// Whether a line begins at the offset `at`: it is 0, or `\n` comes before it.
+// Whether a line begins at the offset `at`: `at` is 0, or the byte before it is `\n`.
 fn begins_line(text: &[u8], at: usize) -> bool
     requires { at ≤ length text.now }
     ensures { result ≡ begins_line text.now at }
@@ -132,7 +135,8 @@ fn begins_line(text: &[u8], at: usize) -> bool
     at == 0 || text[at - 1] == b'\n'
 }
 
-/// The first token of a text from the offset `at` on, and the offset after it; `None` at the text's end.
+/// The token that begins at the offset `at`, and the offset after it; `None` at the text's end. Of `1. e4` at 3 it is
+/// the word `e4`, with the offset 5; at 1 it is `Token::Skip` for the dot, with 2.
 ///
 /// # Errors
 /// If no token can be read at that offset.
@@ -141,6 +145,7 @@ pub(crate) fn next_token(text: &[u8], at: usize) -> Result<Option<(Token<'_>, us
     requires { at ≤ length text.now }
     ensures { IsNextToken text.now at result }
 {
+    // Here this is the text itself from `at` on, not how many bytes it has.
     let to_end = &text[at..];
     let [first, rest @ ..] = to_end else {
         return Ok(None);
@@ -155,8 +160,8 @@ pub(crate) fn next_token(text: &[u8], at: usize) -> Result<Option<(Token<'_>, us
     }
 }
 
-/// Skips white space and dots from the offset `at` on, and returns the offset after them. [`next_token`] would skip
-/// them one by one; this is faster.
+/// Skips white space and dots from the offset `at` on, and returns the offset after them, which is 4 for `12. e4` from
+/// 2 on. [`next_token`] would return each of these bytes as a `Token::Skip`, which changes nothing (`SkipsTo`).
 #[inline(always)]
 pub(crate) fn after_blanks(text: &[u8], at: usize) -> usize
     requires { at ≤ length text.now }
@@ -171,7 +176,8 @@ pub(crate) fn after_blanks(text: &[u8], at: usize) -> usize
     offset
 }
 
-/// The offset where reading begins: after the bytes EF BB BF (a byte order mark) at offset 0, else the offset itself.
+/// The offset where reading begins: 3 if `at` is 0 and the text begins with the bytes EF BB BF (a byte order mark of
+/// UTF-8), and otherwise `at`.
 pub(crate) fn after_byte_order_mark(text: &[u8], at: usize) -> usize
     requires { at ≤ length text.now }
     ensures offset { result ≡ after_byte_order_mark text.now at }

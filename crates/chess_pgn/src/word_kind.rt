@@ -1,4 +1,4 @@
-//! What a word is. `word_kind` is inlined for the reason at the head of token.rt.
+//! What a word of a game's text is. `word_kind` is inlined for the reason at the head of token.rt.
 
 ghost use Rattle.std.specs.Prelude.{◌≡◌, ◌||◌, ◌==◌, false};
 ghost use Rattle.std.specs.List.{list_all};
@@ -9,16 +9,16 @@ ghost use Rattle.chess_pgn.specs.ties.Begins.{begins_as_move};
 use crate::bytes::is_digit;
 use chess_game::Outcome;
 
-/// What a word of a game's text may be.
+/// The kinds of words of a game's text.
 #[derive(Clone, Copy, Debug, PartialEq, Eq)]
 pub(crate) enum WordKind {
-    /// The game's end, with its outcome.
+    /// An outcome, such as `1-0` or `*`: the game's text ends with it.
     End(Outcome),
-    /// The number of a move.
+    /// The number of a move: only digits, as the `12` of `12.`.
     Number,
-    /// Marks such as `!?` alone.
+    /// Only the marks `!` and `?`, such as `!?`.
     Marks,
-    /// What may be a move.
+    /// Any other word. It may be a move: whether it denotes a legal one is seen when it is read.
     Move,
 }
 
@@ -30,21 +30,22 @@ pub fn outcome_of(word: &[u8]) -> Option<Outcome>
     Outcome::try_from(word).ok()
 }
 
-// Whether all bytes of a word are digits.
+// Whether a word has no bytes but digits, as the number `12` has; true of the empty word.
 fn has_digits_alone(word: &[u8]) -> bool
     ensures { result ≡ list_all is_digit word.now }
 {
     word.iter().all(|byte| is_digit(*byte))
 }
 
-// Whether all bytes of a word are `!` or `?`.
+// Whether a word has no bytes but `!` and `?`, as `!?` has; true of the empty word.
 fn has_marks_alone(word: &[u8]) -> bool
     ensures { result ≡ list_all (λ c. c == byte "!" || c == byte "?") word.now }
 {
     word.iter().all(|byte| *byte == b'!' || *byte == b'?')
 }
 
-// Whether a word's first byte is `A` or greater: a letter or `_`. No outcome, number or mark begins so.
+// Whether a word's first byte is `A` (0x41) or greater; in a word that is a letter or `_`. Such a word may be a move
+// and nothing else, since outcomes, numbers and marks begin with `*`, a digit, `!` or `?`, which are all less than `A`.
 fn begins_as_move(word: &[u8]) -> bool
     ensures { result ≡ begins_as_move word.now }
 {
@@ -54,7 +55,8 @@ fn begins_as_move(word: &[u8]) -> bool
     }
 }
 
-// What a word is that isn't digits alone, found without the short cut for moves that begin with a letter.
+// The kind of a word that is not a number: an outcome, marks such as `!?`, or what may be a move. `word_kind` calls
+// this for words that begin with neither a letter nor `_`, but the answer is right for all words but numbers.
 #[inline(never)]
 fn other_word_kind(word: &[u8]) -> WordKind
     requires { list_all is_digit word.now ≡ false }
@@ -69,8 +71,8 @@ fn other_word_kind(word: &[u8]) -> WordKind
     }
 }
 
-/// What a word is. Most words are moves that begin with a letter, and most others are numbers, so these are tested
-/// first.
+/// The kind of a word: what may be a move, such as `Nf3+`; a number, such as `12`; an outcome, such as `1-0`; or marks,
+/// such as `!?`. Most words are moves that begin with a letter, and most others are numbers, so these are tested first.
 #[tactic(auto, using(crate::proofs::PgnWords::begins_as_move_kind, crate::proofs::PgnWords::number_kind))]
 #[inline(always)]
 pub(crate) fn word_kind(word: &[u8]) -> WordKind

@@ -18,7 +18,8 @@ use chess_game::Game;
 use chess_moves::Board;
 use chess_text::{Reading, read_move};
 
-// The offset after the closed `{` comment that begins at `at`; `None` if no comment begins there, or it isn't closed.
+// If a `{` comment begins at the offset `at`, the offset after its `}`: a game is read alike from both (`ReadsAlike`).
+// `None` if the byte at `at` is no `{`, or no `}` follows it.
 #[inline(always)]
 fn after_comment(text: &[u8], at: usize) -> Option<usize>
     requires { at ≤ length text.now }
@@ -37,8 +38,11 @@ fn after_comment(text: &[u8], at: usize) -> Option<usize>
     }
 }
 
-// Skips white space, dots and closed `{` comments from `at` on, and returns the offset after them; `next_token` would
-// skip them one by one, this is faster.
+// Skips white space, dots and closed `{` comments from the offset `at` on, and returns the offset after them, mostly
+// that of a number or move: of `. {best} e5` from 0 on it is 9. A game is read alike from both offsets (`ReadsAlike`):
+// `next_token` would return each of these bytes and comments as a `Token::Skip`. Here no tokens are made, so that
+// `play_words` stays in its loop from one word to the next. `$` glyphs, variations, `%` lines and `;` comments are left
+// to `next_token`.
 #[inline(always)]
 pub(crate) fn after_skipped(text: &[u8], at: usize) -> usize
     requires { at ≤ length text.now }
@@ -54,8 +58,12 @@ pub(crate) fn after_skipped(text: &[u8], at: usize) -> usize
     offset
 }
 
-// Plays the move that a word denotes in the current position, and returns whether one was played. If the word denotes
-// no one legal move, or the game is over or full, nothing changes.
+// Plays the move that a word such as `Nf3` denotes in the current position, and returns whether it was played. It is
+// not, and nothing changes, if the word denotes no legal move or several, or if the game is over, or has as many
+// half-moves as its limit allows.
+//
+// `left`: after false the word is no move that the game plays. `taken`: after true the game is as the definition
+// `move_step` says.
 #[inline(always)]
 fn try_move<B: Board>(game: &mut Game<B>, word: &[u8]) -> bool
     requires { game.old.state.declared ≡ None }
@@ -74,8 +82,11 @@ fn try_move<B: Board>(game: &mut Game<B>, word: &[u8]) -> bool
     true
 }
 
-// Plays the move that a word denotes, or passes over a number, and returns whether the word was one of these. At any
-// other word, and at none (no bytes), nothing changes.
+// Plays the move that a word denotes (`try_move`), or passes over a number such as `12`; returns whether the word was
+// one of these. For any other word, and for the empty one, nothing changes and it returns false.
+//
+// `left`: after false the word is no move that the game plays. `taken`: after true the game is as the definition
+// `word_step` says.
 #[tactic(auto, using(crate::proofs::LeftTokens::move_has_bytes))]
 #[inline(always)]
 fn try_word<B: Board>(game: &mut Game<B>, word: &[u8]) -> bool
@@ -93,10 +104,12 @@ fn try_word<B: Board>(game: &mut Game<B>, word: &[u8]) -> bool
     }
 }
 
-// Plays the moves from `at` on, passing over move numbers, white space, dots and closed comments, up to what is neither
-// a number nor a move that can be played; returns its offset. `progress` notes that a number or move was read. No token
-// and no step is made of these words: handed on through memory, those took a seventh of the instructions on plain
-// games.
+// Plays the moves from the offset `at` on, passing over move numbers, white space, dots and closed comments, up to what
+// is neither a number nor a move that can be played; returns its offset. Of `1. e4 {best} e5 1-0` from 0 on it plays
+// two moves and returns the offset of `1-0`. `progress` notes that a number or move was read.
+//
+// No `Token` and no `Step` is made of these words: handed on through memory, those took a seventh of the instructions
+// on plain games.
 pub(crate) fn play_words<B: Board>(
     text: &[u8],
     at: usize,

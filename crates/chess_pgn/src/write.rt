@@ -25,7 +25,7 @@ use chess_game::{Game, Outcome};
 use chess_moves::Board;
 use chess_text::{make_san, san_is_a_word};
 
-// The token of a move number, with room for 20 digits and three dots.
+// A move number with its dots, such as `12...`: room for 20 digits and three dots.
 type NumberText = ArrayVec<u8, 23>;
 
 /// Writes a game's text (PGN standard of 1994, section 3.2, the form for exchange): its tags, an empty line, its moves
@@ -51,8 +51,8 @@ pub fn write_pgn<B: Board, W: Output>(
     lines.finish()
 }
 
-// Writes a game's whole text through `lines`: tags, an empty line, moves, an empty line. The board `scratch` plays the
-// moves for their SAN.
+// Writes a game's whole text through `lines`: tags, an empty line, moves with the outcome, an empty line. The moves are
+// played on the board `scratch`, which their SAN needs.
 fn put_game<B: Board, W: Output>(
     lines: &mut LineWriter<'_, '_, W>,
     game: &Game<B>,
@@ -70,7 +70,7 @@ fn put_game<B: Board, W: Output>(
     lines.put_line(b"")
 }
 
-// Writes the lines of a game's tags, and an empty line; `outcome` is the game's.
+// Writes the lines of a game's tags, `[Event "?"]` first, and an empty line. `outcome` is the game's outcome.
 fn put_tag_lines<B: Board, W: Output>(
     lines: &mut LineWriter<'_, '_, W>,
     game: &Game<B>,
@@ -90,7 +90,8 @@ fn put_tag_lines<B: Board, W: Output>(
     lines.put_line(b"")
 }
 
-// Writes the lines of the seven tags that each game has, Event to Result; `outcome` is the text of Result.
+// Writes the lines of the seven tags that each game has, from `Event` to `Result`. The text of `Result` is that of
+// `outcome`, such as `1-0`.
 fn put_roster<W: Output>(
     lines: &mut LineWriter<'_, '_, W>,
     tags: &Tags,
@@ -135,8 +136,8 @@ fn put_roster<W: Output>(
     put_tags(lines, &roster)
 }
 
-// Writes the lines of the tags after the seven of each game: FEN and SetUp if the start needs them, Termination, and
-// Variant for Chess960.
+// Writes the lines of the tags after the seven of each game: `FEN` and `SetUp`, if the game doesn't begin from the
+// initial position of normal chess; `Termination`; and `Variant` for Chess960. `start` is the game's first position.
 fn put_further<W: Output>(
     lines: &mut LineWriter<'_, '_, W>,
     start: &Position,
@@ -152,7 +153,8 @@ fn put_further<W: Output>(
     put_last(lines, start.variant(), termination)
 }
 
-// Writes the tags that give the start: none for the initial position of normal chess.
+// Writes the tags `FEN` and `SetUp` for a game that begins from the position `start`; nothing, if that is the initial
+// position of normal chess.
 fn put_start<W: Output>(
     lines: &mut LineWriter<'_, '_, W>,
     start: &Position,
@@ -169,7 +171,7 @@ fn put_start<W: Output>(
     }
 }
 
-// Writes the tags `FEN` and `SetUp` of a start, each on its line.
+// Writes the tags `FEN`, with the FEN of the position `start`, and `SetUp`, with the text `1`, each on its line.
 fn put_fen<W: Output>(lines: &mut LineWriter<'_, '_, W>, start: &Position) -> Result<(), WriteFault>
     ensures added { Adds (W.seen lines.old.writer.now) (W.seen lines.new.writer.now) lines.old.waiting
         lines.new.waiting result (ended lines.old.prefix.now (fen_lines start.now)) }
@@ -191,7 +193,7 @@ fn put_fen<W: Output>(lines: &mut LineWriter<'_, '_, W>, start: &Position) -> Re
     put_tags(lines, &tags)
 }
 
-// Writes the tag `Termination`, and for Chess960 the tag `Variant`.
+// Writes the last tags: `Termination`, and for a game of Chess960 also `[Variant "fischerandom"]`.
 fn put_last<W: Output>(
     lines: &mut LineWriter<'_, '_, W>,
     variant: Variant,
@@ -219,8 +221,8 @@ fn put_last<W: Output>(
     }
 }
 
-// Writes the lines of the moves, and the game's outcome as their last token; the board `scratch` plays the moves for
-// their SAN.
+// Writes the lines of the moves, such as `1. e4 e5 1-0`, with the game's outcome as their last token. The moves are
+// played on the board `scratch`, which their SAN needs.
 fn put_move_text<B: Board, W: Output>(
     lines: &mut LineWriter<'_, '_, W>,
     game: &Game<B>,
@@ -239,7 +241,8 @@ fn put_move_text<B: Board, W: Output>(
     lines.end_line()
 }
 
-// Writes the numbers and the SAN of all moves of the game; the board `scratch` is set to its start and plays them.
+// Writes the numbers and the SAN of all moves of the game, such as `1. e4 e5 2. Nf3`; the last line is not ended. The
+// board `scratch` is set to the game's start, and the moves are played on it.
 fn put_moves<B: Board, W: Output>(
     lines: &mut LineWriter<'_, '_, W>,
     game: &Game<B>,
@@ -264,8 +267,8 @@ fn put_moves<B: Board, W: Output>(
     Ok(())
 }
 
-// Writes the legal move `m` of the board's position, with its number if one is due, and makes it on the board, which
-// stays where it is if writing fails; `is_first`: it is the game's first.
+// Writes the move `m`, which is legal in the board's position, after its number if one is due (`put_number`), and makes
+// it on the board. If writing fails, the board has its old position. `is_first`: whether `m` is the game's first move.
 fn put_move<B: Board, W: Output>(
     lines: &mut LineWriter<'_, '_, W>,
     board: &mut B,
@@ -286,6 +289,7 @@ fn put_move<B: Board, W: Output>(
     // The prover wants this law: the SAN of a legal move is short enough for a line.
     san_is_a_word();
     put_number(lines, board.setup(), is_first)?;
+    // The same move, for taking it back: `m` itself is given to `make_san`.
     let again = m;
     let (text, saved) = make_san(board, m);
     match lines.put_token(text.as_slice()) {
@@ -297,8 +301,8 @@ fn put_move<B: Board, W: Output>(
     }
 }
 
-// Writes the number before a move in the position `setup`: `12.` before each of White's, and `12...` if the game's
-// first move is Black's.
+// Writes the number that comes before a move in the position `setup`: `12.` before a move of White, `12...` before a
+// move of Black that is the game's first (`is_first`), and nothing before any other move of Black.
 fn put_number<W: Output>(
     lines: &mut LineWriter<'_, '_, W>,
     setup: &Setup,
@@ -320,7 +324,7 @@ fn put_number<W: Output>(
     lines.put_token(number_text(setup.fullmove, dots).as_slice())
 }
 
-// A number with dots after it, such as `12.` or `12...`.
+// A move number with these dots after it, such as `12.` or `12...`.
 fn number_text(number: u32, dots: &[u8]) -> NumberText
     requires some { 0 < length dots.now }
     requires few { length dots.now ≤ 3 }
