@@ -39,7 +39,8 @@ impl<'a> GatedReader<'a> {
     }
 }
 
-// The offset of the text's first line feed (byte 10), if there is one.
+// The offset of the text's first line feed (byte 10), if there is one. Only tests read here, so `len_before`, which is
+// for long texts, is not needed.
 fn line_end(text: &[u8]) -> Option<usize>
     ensures value { result ≡ position (λ b. b == 10) text.now }
     ensures in_range { IfSome result (λ at. at < length text.now) }

@@ -140,7 +140,8 @@ impl Board for Bits<'_> {
         self.sets.of(colour).of(kind)
     }
 
-    // The squares from which a piece of this kind, of the side on move, may legally move to `to` without a promotion.
+    // The squares from which a piece of this kind, of the side on move, may legally move to `to` without a promotion:
+    // all that `origins` may name besides is left out, for SAN.
     #[inline(always)]
     fn legal_starts(&self, kind: Kind, to: Square) -> SquareSet {
         self.starts_of(kind, to)

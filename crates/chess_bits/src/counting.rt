@@ -123,7 +123,8 @@ impl Bits<'_> {
         self.count_to(from, self.allowed_targets(from, pins))
     }
 
-    // How many legal moves the pieces on the squares `men` have; each move is tested for the king's safety.
+    // How many legal moves the pieces on the squares `men` have, piece by piece as `count_judged` counts them: these are
+    // the king and the pieces that aren't ordinary. (`few`: a list of moves holds 896, so no sum can overflow.)
     fn count_each(&self, men: SquareSet, pins: &Pins) -> usize
         requires evasions { AreEvasions self.now pins.now.free pins.now.evasions }
         requires few { length (flat_map (λ a. moves_from self.now a) (members men)) ≤ 896 }

@@ -180,8 +180,9 @@ impl Bits<'_> {
         reached.intersection(aims)
     }
 
-    // The squares from which a pawn of the side on move would capture on `to`, whether or not it holds one; none unless
-    // `to` holds an enemy piece or is the en passant target. They are those that an enemy pawn on `to` would attack.
+    // The squares from which a pawn of the side on move could capture on `to`: those that an enemy pawn on `to` would
+    // attack, if `to` holds an enemy piece or is the en passant target, and otherwise none. Whether pawns are on these
+    // squares is not asked here; `pawns_to` asks that.
     #[inline(always)]
     pub(crate) fn capture_starts(&self, to: Square) -> SquareSet
         ensures { (k : ℕ) → k < 64

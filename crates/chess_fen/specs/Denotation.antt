@@ -64,8 +64,8 @@ abbrev pub DenotesText : Variant → List ℕ → List ℕ → Setup → Type 0
 DenotesText v text c p = (a : List ℕ) × (b : List ℕ) × (d : List ℕ) × (more : List (List ℕ))
     × (fields_of text ≡ a ∷ b ∷ c ∷ d ∷ more) × DenotesFields v a b c d more p
 
--- the text denotes position p as a FEN of variant v: its fields denote p, and the third names each castling right
--- rightly
+-- the text denotes position p as a FEN of variant v: its fields denote p, and the third names no castling right wrongly
+-- (`names_well`)
 abbrev pub DenotesFenAs : Variant → List ℕ → Setup → Type 0
 DenotesFenAs v text p = (castling : List ℕ) × DenotesText v text castling p
     × IsTrue (names_well p.variant p.men castling)

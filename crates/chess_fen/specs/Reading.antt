@@ -65,7 +65,7 @@ reading_by v placement side castling target halfmove fullmove =
     denoted_by v placement side castling target halfmove fullmove
     >>= λ p. unless_fault p (first_failing (conditions_of castling p))
 
--- the sound position that a list of a FEN's fields denotes, or the fault. There are six fields, or four, and then the
+-- the sound position that a list of a FEN's fields denotes, or the fault. There must be six fields, or four, and then the
 -- counters are 0 and 1; any other number of fields is a fault
 abbrev pub reading_in : Variant → List (List ℕ) → Result Setup FenFault
 reading_in v (a ∷ b ∷ c ∷ d ∷ []) = reading_by v a b c d (codes "0") (codes "1")

@@ -101,7 +101,7 @@ static RUNS: [Run; 256] = [
     NONE, NONE, NONE, NONE, NONE, NONE, NONE, NONE, NONE, NONE, NONE, NONE, NONE, NONE, NONE, NONE,
 ];
 
-// What a byte of a rank's text stands for.
+// What a byte of a rank's text stands for. Inlined, since it is one look into the table.
 #[inline(always)]
 pub(crate) fn run_of(byte: u8) -> Run
     ensures squares { squares_of byte ≡ squares_in result }

@@ -104,8 +104,8 @@ fn read_setup(variant: Variant, text: &[u8]) -> Result<Setup, FenFault>
     }
 }
 
-// The sound position that a text denotes as a FEN of this variant; or the fault: of the first wrong field, or of the
-// first condition of soundness that fails.
+// The sound position that a text denotes as a FEN of this variant; or the fault: a wrong number of fields, the first
+// field that denotes nothing, or the first condition that fails.
 fn denoted_position(variant: Variant, text: &[u8]) -> Result<Position, FenFault>
     ensures value { result ≡ fen_reading_as variant text.now }
     ensures sound { IfOk result IsSound }

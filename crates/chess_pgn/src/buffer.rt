@@ -85,7 +85,7 @@ impl TextBuffer {
         Ok(())
     }
 
-    /// Writes what is in the buffer, which is not used after that.
+    /// Writes what is in the buffer. The buffer keeps its bytes, so it is not used after that.
     ///
     /// # Errors
     /// If the writer fails; a beginning of the buffer was written then.

@@ -217,8 +217,8 @@ fn apply_tag<B: Board>(
 }
 
 // What follows from the token at `offset` of a text of `len` bytes: more is to be read, the game's text ended, or there
-// is a fault. The token is no move that can be played (`play_words` has played those). `progress` is what is known
-// before it.
+// is a fault. After a number or a move a tag is one, since it begins the next game. The token is no move that can be
+// played (`left`): `play_words` has played those. `progress` is what is known before it.
 #[inline(always)]
 fn apply_token<B: Board>(
     game: &mut Game<B>,
@@ -281,8 +281,8 @@ fn reported_fault(fault: TokenFault, progress: Progress, len: usize, offset: usi
     }
 }
 
-// The variant that the text of a tag `Variant` names, such as `fischerandom` or `Chess960`; any other text means
-// normal chess.
+// The variant that the text of a tag `Variant` names: `fischerandom` (also spelt with two r) or `chess960`, in capitals
+// or small letters, mean Chess960, and any other text normal chess.
 fn variant_named(text: &[u8]) -> Variant
     ensures { result ≡ variant_named text.now }
 {

@@ -177,7 +177,7 @@ pub(crate) fn after_blanks(text: &[u8], at: usize) -> usize
 }
 
 /// The offset where reading begins: 3 if `at` is 0 and the text begins with the bytes EF BB BF (a byte order mark of
-/// UTF-8), and otherwise `at`.
+/// UTF-8), and otherwise `at`. pgn_pieces knows the mark too, at the front of each line.
 pub(crate) fn after_byte_order_mark(text: &[u8], at: usize) -> usize
     requires { at ≤ length text.now }
     ensures offset { result ≡ after_byte_order_mark text.now at }

@@ -55,8 +55,9 @@ fn begins_as_move(word: &[u8]) -> bool
     }
 }
 
-// The kind of a word that is not a number: an outcome, marks such as `!?`, or what may be a move. `word_kind` calls
-// this for words that begin with neither a letter nor `_`, but the answer is right for all words but numbers.
+// The kind of a word that is not a number: an outcome, marks such as `!?`, or what may be a move, such as `0-0`.
+// `word_kind` calls this for words that begin with neither a letter nor `_`, which are few, so it is not inlined; but
+// the answer is right for all words but numbers.
 #[inline(never)]
 fn other_word_kind(word: &[u8]) -> WordKind
     requires { list_all is_digit word.now ≡ false }

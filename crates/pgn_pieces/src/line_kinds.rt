@@ -55,7 +55,8 @@ pub(crate) fn kind_of(line: &[u8]) -> Kind
     }
 }
 
-// A text without the byte order mark (the bytes EF BB BF of UTF-8) at its front; without one, all of the text.
+// A text without the byte order mark (the bytes EF BB BF of UTF-8) at its front; without one, all of the text. chess_pgn
+// knows the mark too, in `after_byte_order_mark`, but this crate uses only byte_devices.
 #[inline(always)]
 fn without_mark(text: &[u8]) -> &[u8]
     ensures { result.now ≡ without_mark text.now }

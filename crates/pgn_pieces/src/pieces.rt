@@ -192,7 +192,7 @@ impl PgnPieces {
     }
 
     // If the current piece is too long (over `PIECE_LEN` bytes), lets go of its bytes in `held`: the first 40 of the
-    // piece are kept in `gone`, the others are only counted there.
+    // piece are kept in `gone`, the others are only counted there. `compact` makes room of them.
     fn let_go(&mut self)
         ensures { LetGo self.old self.new }
     {

@@ -28,14 +28,14 @@ unfoldable pub from_field : ℕ → List ℕ → List ℕ
 from_field zero fen = after_spaces fen
 from_field (suc number) fen = from_field number (from_space (after_spaces fen))
 
--- the field with this number: the bytes from its first to the next space or the FEN's end. Of a FEN with fewer fields it
--- is the empty text at the end
+-- the field with this number: its bytes, up to the next space or the FEN's end. Of a FEN with fewer fields it is the
+-- empty text at the end
 abbrev pub field_at : ℕ → List ℕ → List ℕ
 field_at number fen = take_while (λ c. not (c == space)) (from_field number fen)
 
--- the number of the field that this fault of a FEN is about, 0 for the first field. For a counter it is 5 (the fullmove
--- number) if field 4 (the halfmove clock) is a number of one to six digits, else 4. A wrong number of fields, and a fault
--- of the pieces together, such as a third king, are shown at the first field
+-- the number of the field that is shown for this fault of a FEN, 0 for the first field. For a counter it is 5 (the
+-- fullmove number) if field 4 (the halfmove clock) is a number of one to six digits, else 4. For a wrong number of
+-- fields, and for a fault of the pieces together, such as two kings of a colour, the first field is shown
 abbrev pub field_number : FenFault → List ℕ → ℕ
 field_number Fields fen = 0
 field_number Placement fen = 0
@@ -48,11 +48,11 @@ field_number Pawns fen = 0
 field_number Men fen = 0
 field_number Check fen = 0
 
--- the field that a FEN's fault is about
+-- the field that is shown for a FEN's fault
 abbrev pub wrong_field : FenFault → List ℕ → List ℕ
 wrong_field fault fen = field_at (field_number fault fen) fen
 
--- how many bytes a FEN has before the field that this fault of it is about
+-- how many bytes a FEN has before the field that is shown for its fault
 abbrev pub field_offset : FenFault → List ℕ → ℕ
 field_offset fault fen = length fen - length (from_field (field_number fault fen) fen)
 
