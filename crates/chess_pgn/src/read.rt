@@ -142,7 +142,7 @@ fn fault_of_move<B: Board>(game: &Game<B>, offset: usize, word: &[u8]) -> PgnFau
 // Declares `outcome`, with which the game's text ends, as the game's result. Nothing is declared for `*`, or if the
 // board has ended the game, as by mate: then the game's outcome is the board's, even if the text says another (see
 // `PgnEnd`).
-fn end_game<B: Board>(game: &mut Game<B>, outcome: Outcome)
+fn declare_outcome<B: Board>(game: &mut Game<B>, outcome: Outcome)
     requires { game.old.state.declared ≡ None }
     ensures { game.new
         ≡ left_at game.old
@@ -174,7 +174,7 @@ fn apply_word<B: Board>(
 {
     match word_kind(word) {
         WordKind::End(outcome) => {
-            end_game(game, outcome);
+            declare_outcome(game, outcome);
             let offset = offset + word.len();
             Ok(Step::Ended(PgnEnd {
                 outcome,
