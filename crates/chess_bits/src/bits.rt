@@ -169,7 +169,7 @@ impl Board for Bits<'_> {
         make_move(&mut self.setup, &mut self.sets, keys, &m)
     }
 
-    // Takes back the move that was made last, `m`, by what `make` returned for it.
+    // Takes back the move that was made last, `m`, with what `make` returned for it.
     fn take_back(&mut self, m: Move, saved: Saved) {
         let keys = self.tables.keys();
         move_back(&mut self.setup, &mut self.sets, keys, &m, &saved);

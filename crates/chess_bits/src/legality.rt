@@ -67,8 +67,8 @@ impl Bits<'_> {
         self.is_safe_plain(m.from, m.to)
     }
 
-    // Whether the move `m` of any piece is legal: its end square is one to which its piece goes, it names a promotion
-    // exactly if a pawn promotes there, and its king is safe after it.
+    // Whether the move `m` of any piece is legal, by the general test: its end square is one to which its piece goes, it
+    // names a promotion exactly if a pawn promotes there, and its king is safe after it.
     #[tactic(auto, using(crate::proofs::Patterns::not_target, crate::proofs::Patterns::not_fitting, crate::proofs::Patterns::pattern_from))]
     fn is_legal_by_targets(&self, m: &Move) -> bool
         ensures { result ≡ is_legal self.now m.now }

@@ -13,9 +13,10 @@
 // more instructions. A function with a reason of its own for it says so.
 //
 // Some words of the comments. A set of squares is a word of 64 bits, a1's the lowest and h8's the highest. An officer
-// is a queen, rook, bishop or knight. A piece of the side on move is free if its king is safe wherever it goes: it is
-// not the king and not pinned, and the king is not in check. It is ordinary if it is free and no pawn that may promote
-// or take en passant: then each square to which it goes gives it exactly one legal move.
+// is a queen, rook, bishop or knight. A piece of the side on move is free if its king is safe wherever it goes, except
+// perhaps by a capture en passant: it is not the king and not pinned, and the king is not in check. It is ordinary if
+// it is free and no pawn that promotes with its next step or attacks the en passant target: then each square to which
+// it goes gives it exactly one legal move.
 
 mod between;
 mod bits;

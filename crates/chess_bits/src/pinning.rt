@@ -102,18 +102,18 @@ impl Bits<'_> {
         }
     }
 
-    // The squares of the enemy queens, rooks and bishops that would attack the king on `king` if nothing were between
-    // them. If just one piece is between, it is pinned.
+    // The squares of the enemy queens, rooks and bishops on lines of the king that they attack along, whatever is
+    // between: if that is just one piece, of the king's colour, it is pinned.
     #[inline(always)]
     #[tactic(auto, unfolding(crate::specs::ties::Shapes::in_shape))]
-    fn pinners(&self, king: Square) -> SquareSet
+    fn possible_pinners(&self, king: Square) -> SquareSet
         ensures { (b : ℕ) → b < 64 → contains result b ≡ aims_from self.now b king }
     {
         let men = self.sets.of(self.setup.side.other());
         let straight = men.with_queens(Kind::Rook);
-        let aslant = men.with_queens(Kind::Bishop);
+        let diagonal = men.with_queens(Kind::Bishop);
         let on_lines = straight.intersection(self.tables.at(Shape::Lines, king));
-        on_lines.union(aslant.intersection(self.tables.at(Shape::Diagonals, king)))
+        on_lines.union(diagonal.intersection(self.tables.at(Shape::Diagonals, king)))
     }
 
     // Which pieces are free, and the evasions of the others, if the king, on `king`, is not in check. At first all
@@ -132,7 +132,7 @@ impl Bits<'_> {
             free: self.sets.all(side).without(SquareSet::single(king)),
             evasions: SquareSet::empty(),
         };
-        let mut rest = self.pinners(king);
+        let mut rest = self.possible_pinners(king);
         while let Some(from) = rest.take_first() {
             self.add_pin(king, from, &mut pins);
         }

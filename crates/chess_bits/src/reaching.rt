@@ -40,30 +40,31 @@ pub fn reached_from(
     }
 }
 
-/// Those of the squares `men` that a queen, rook, bishop or knight (`kind` says which) attacks from `from`: so those
-/// from which such a piece would attack `from`. `occupied` are the occupied squares of the board. It looks at each of
-/// `men` by itself, which costs less than the sweeps of `reached_from` where they are few.
+/// Those of the squares `men` from which a queen, rook, bishop or knight (`kind` says which) would attack `square`. A
+/// caller gives the squares of its own pieces of that kind, to find which of them can go to `square`. `occupied` are the
+/// occupied squares of the board. Those of `men` that are on lines of `square` are looked at one by one, which costs less
+/// than the sweeps of `reached_from` where they are few.
 #[inline(always)]
 #[tactic(auto, using(crate::proofs::Reached::queen_met, crate::proofs::Reached::rook_from, crate::proofs::Reached::bishop_from, crate::proofs::Reached::knight_from))]
 pub fn reached_among(
     tables: &AttackTables,
     occupied: SquareSet,
     kind: Kind,
-    from: Square,
+    square: Square,
     men: SquareSet,
 ) -> SquareSet
     requires { (same_kind King kind || same_kind Pawn kind) ≡ false }
     ensures { (board : Men) (c : Side) → IsOccupied occupied board → (k : ℕ) → k < 64
-        → contains result k ≡ (could_capture board c kind from k && contains men k) }
+        → contains result k ≡ (could_capture board c kind square k && contains men k) }
 {
     match kind {
         Kind::Queen => {
-            let straight = met_on_lines(tables, from, occupied, men);
-            straight.union(met_on_diagonals(tables, from, occupied, men))
+            let straight = met_on_lines(tables, square, occupied, men);
+            straight.union(met_on_diagonals(tables, square, occupied, men))
         }
-        Kind::Rook => met_on_lines(tables, from, occupied, men),
-        Kind::Bishop => met_on_diagonals(tables, from, occupied, men),
-        Kind::Knight => tables.at(Shape::Knight, from).intersection(men),
+        Kind::Rook => met_on_lines(tables, square, occupied, men),
+        Kind::Bishop => met_on_diagonals(tables, square, occupied, men),
+        Kind::Knight => tables.at(Shape::Knight, square).intersection(men),
         Kind::King | Kind::Pawn => unreachable!(),
     }
 }

@@ -10,7 +10,7 @@ ghost use Rattle.chess_pgn.specs.ties.Lines.{wrapped_token, next_column, line_cl
 use crate::buffer::TextBuffer;
 use byte_devices::{Output, WriteFault};
 
-// The most bytes of a line of moves, its prefix and its end not counted (PGN standard of 1994, section 4.3).
+// The most bytes of a line of moves, its prefix and its end not counted (PGN standard of 1994, section 8.2.1).
 const LINE_LEN: usize = 79;
 
 /// Writes lines to `writer` through the buffer `waiting`, each with `prefix` at its front. Moves, numbers and the

@@ -1,4 +1,4 @@
-//! What is known, beside the moves, of a game that is being read.
+//! What is known, apart from the moves, of a game that is being read.
 
 ghost use Rattle.std.specs.Prelude.{◌≡◌, true, false, None};
 ghost use Rattle.chess_pgn.specs.laws.TokenByToken.{termination_after};
@@ -6,7 +6,7 @@ ghost use Rattle.chess_pgn.specs.laws.TokenByToken.{termination_after};
 use crate::tag::Tag;
 use crate::termination::Termination;
 
-// What is known, beside the moves, of a game that is being read.
+// What is known, apart from the moves, of a game that is being read.
 #[derive(Clone, Copy)]
 pub(crate) struct Progress {
     // Whether a tag, number or move was met.

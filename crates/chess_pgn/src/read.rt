@@ -2,7 +2,7 @@
 
 ghost use Rattle.std.specs.Prelude.{◌≡◌, ℕ, ◌+◌, ◌-◌, ◌^◌, ◌≤◌, ◌<◌, false, length, None, IfOk, Err, is_some, IsNone, OnErr};
 ghost use Rattle.std.specs.Option.{IfSome, option_map_or};
-ghost use Rattle.chess_game.specs.Game.{State, with_state as left_at, with_declared, current, verdict_now, refusal_now};
+ghost use Rattle.chess_game.specs.Game.{State, with_state, with_declared, current, verdict_now, refusal_now};
 ghost use Rattle.chess_base.specs.declared.man.Variant.TheVariants.{Normal};
 ghost use Rattle.chess_text.specs.Moves.{reading};
 ghost use Rattle.chess_pgn.specs.Words.{word_kind};
@@ -145,7 +145,7 @@ fn fault_of_move<B: Board>(game: &Game<B>, offset: usize, word: &[u8]) -> PgnFau
 fn declare_outcome<B: Board>(game: &mut Game<B>, outcome: Outcome)
     requires { game.old.state.declared ≡ None }
     ensures { game.new
-        ≡ left_at game.old
+        ≡ with_state game.old
         (with_declared game.old.state (declared_after (is_some (verdict_now game.old.state)) outcome)) }
 {
     if outcome != Outcome::Unfinished && !is_decided(game) {
@@ -392,9 +392,9 @@ pub fn read_pgn<B: Board>(
 ) -> Result<Option<PgnEnd>, PgnFault>
     requires { at ≤ length text.now }
     ensures answer { result ≡ (pgn_read game.old.limit text.now at).answer }
-    ensures game { game.new ≡ left_at game.old (pgn_read game.old.limit text.now at).state }
+    ensures game { game.new ≡ with_state game.old (pgn_read game.old.limit text.now at).state }
     ensures said { (r : GameRead) → IsRead game.old.limit text.now at r
-        → (result ≡ r.answer) × (game.new ≡ left_at game.old r.state) }
+        → (result ≡ r.answer) × (game.new ≡ with_state game.old r.state) }
     ensures within { IfOk result (λ end. IfSome end (λ e. e.offset ≤ length text.now)) }
     ensures further { IfOk result (λ end. IfSome end (λ e. at < e.offset)) }
     ensures undeclared { OnErr result (IsNone game.new.state.declared) }

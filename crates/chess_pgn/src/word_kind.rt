@@ -44,8 +44,8 @@ fn has_marks_alone(word: &[u8]) -> bool
     word.iter().all(|byte| *byte == b'!' || *byte == b'?')
 }
 
-// Whether a word's first byte is `A` (0x41) or greater; in a word that is a letter or `_`. Such a word may be a move
-// and nothing else, since outcomes, numbers and marks begin with `*`, a digit, `!` or `?`, which are all less than `A`.
+// Whether a word begins with a letter or `_`: of the bytes that a word may have, these are the ones from `A` (0x41) on.
+// Such a word may be a move and nothing else, since outcomes, numbers and marks begin with `*`, a digit, `!` or `?`.
 fn begins_as_move(word: &[u8]) -> bool
     ensures { result ≡ begins_as_move word.now }
 {

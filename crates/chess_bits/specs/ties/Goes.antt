@@ -64,14 +64,13 @@ abbrev pub lifted : Men → ℕ → Men
 lifted men a = with_man men (Some a) None
 
 -- a does not hold the king of the side on move, and this king is not attacked even with the piece on a taken off: so it
--- is safe wherever that piece goes
+-- is safe wherever that piece goes, except by a capture en passant, which takes off a second piece
 pub record IsFree (p : Setup) (a : ℕ) : Type 0 where
   pub apart : (k : ℕ) → k < 64 → is_man p.side King (man_at p.men k) ≡ true → (a == k) ≡ false
   pub safe : (k : ℕ) → k < 64 → is_man p.side King (man_at p.men k) ≡ true
       → is_attacked (lifted p.men a) k (other p.side) ≡ false
 
--- each square of the set w holds a piece of this kind, of the side on move, that is free: its king is safe wherever it
--- goes
+-- each square of the set w holds a piece of this kind, of the side on move, that is free (`IsFree`)
 abbrev pub AreFree : Setup → Kind → ℕ → Type 0
 AreFree p kind w = (k : ℕ) → k < 64 → contains w k ≡ true → (is_man p.side kind (man_at p.men k) ≡ true) × IsFree p k
 

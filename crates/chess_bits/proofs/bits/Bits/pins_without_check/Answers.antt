@@ -25,12 +25,12 @@ loop-from-init c =
     let own : (a : ℕ) → a < 64 → contains c.without.result a ≡ (is_of p.side (man_at p.men a) && not (a == king)) =
     λ a low. c.without.ensures a low ∙ rw (c.all.ensures p.men c.self.invariant.1 a low, c.single.ensures.value a) refl
     in
-    let aims = rw (← c.self.view_is) at c.pinners-rest.ensures in
+    let aims = rw (← c.self.view_is) at c.possible_pinners-rest.ensures in
     rw (← c.self.view_is)
     (record {
       own = λ a low h. sym (own a low) ∙ h;
       aims = λ b low h. sym (aims b low) ∙ h;
-      closed = λ a b la lb h aimed off. absurd (both_ways (contains c.pinners-rest.result b) off (aims b lb ∙ aimed));
+      closed = λ a b la lb h aimed off. absurd (both_ways (contains c.possible_pinners-rest.result b) off (aims b lb ∙ aimed));
       evasions = λ a low no_king outside m legal at.
           absurd
           (both_ways (contains c.without.result a) outside
