@@ -127,14 +127,13 @@ moves_words limit total termination s (t ∷ ts) h =
 tags_words : (limit total : ℕ) (s : State) (tags ts : List (ℕ × Token))
     → IsEnd (read_after_tags limit total s tags ts).answer
     → Words limit s (read_after_tags limit total s tags ts).state
-tags_words limit total s tags [] h = by_tags (list_any is_tag tags) h
+tags_words limit total s tags [] h = absurd (by_tags (list_any is_tag tags) h)
   where
-    abbrev read : Bool → GameRead
-    read met = cond met (failed s (record { kind = NoResult; offset = total })) (record { state = s; answer = Ok None })
-
-    by_tags : (met : Bool) → IsEnd (read met).answer → Words limit s (read met).state
-    by_tags true h = absurd h
-    by_tags false h = absurd h
+    by_tags : (met : Bool)
+        → IsEnd (cond met (failed s (record { kind = NoResult; offset = total }))
+        (record { state = s; answer = Ok None })).answer → ⊥
+    by_tags true h = h
+    by_tags false h = h
 tags_words limit total s tags ((left, Skip) ∷ ts) h =
     moves_words limit total (last_termination tags) s ((left, Skip) ∷ ts) h
 tags_words limit total s tags ((left, Tag name string at) ∷ ts) h = absurd h
