@@ -26,8 +26,7 @@ read_so limit text at none =
     let tags : List (ℕ × Token) = tag_section tokens in
     let read : Variant → Setup → GameRead = λ v p. option_map_or (failed (from_start (last_start p (fens v tags))))
     (first_bad_fen (length text) (fens v tags))
-    (read_after_tags limit (length text) (from_start (last_start p (fens v tags))) tags
-    (drop (length tags) tokens)) in
+    (read_after_tags limit (length text) (from_start (last_start p (fens v tags))) tags (drop (length tags) tokens)) in
     ap (λ v. read v (initial_setup_of v))
     (ap (λ (tag : Option (List ℕ × ℕ)). option_map_or (λ (t : List ℕ × ℕ). variant_named t.0) tag Normal) none)
     ∙ ap (read Normal) initial_is
