@@ -19,13 +19,14 @@ use Rattle.chess_game.specs.Game.{Seen, State, from_start, played, current, verd
 use Rattle.chess_game.specs.Game.{with_state as left_at}
 use Rattle.chess_pgn.specs.declared.read.PgnEnd.{PgnEnd}
 use Rattle.chess_pgn.specs.declared.read.PgnFault.{PgnFault}
+use Rattle.chess_pgn.specs.declared.read.PgnFaultKind.TheVariants.{BadTag, NoResult}
 use Rattle.chess_game.specs.declared.results.Outcome.{Outcome}
 use Rattle.chess_text.specs.declared.reading.Reading.{Reading}
 use Rattle.chess_text.specs.declared.reading.Reading.TheVariants as reads
 use Rattle.chess_text.specs.Moves.{reading}
 use Rattle.chess_pgn.specs.declared.termination.Termination.{Termination}
 use Rattle.chess_pgn.specs.Terminations.{termination_named}
-use Rattle.chess_pgn.specs.GameRead.{GameRead, tagged_variant, pgn_read, Passes, Ends, failed, move_row, row, after_row, moves_read, is_tag, fens, last_start, first_bad_fen, read_after_tags, read_of_split}
+use Rattle.chess_pgn.specs.GameRead.{GameRead, tagged_variant, pgn_read, Passes, Ends, failed, move_row, row, after_row, moves_read, is_tag, fens, last_start, last_termination, first_bad_fen, read_after_tags, read_of_split}
 use Rattle.chess_pgn.specs.laws.TokenByToken.{SoFar, Step, On, word_step, move_step, fen_step, step, read_rest_with, game_of, termination_after, tokens_read}
 use Rattle.chess_pgn.specs.GameRead.{IsRead}
 use Rattle.chess_pgn.specs.LastTags.{may_precede_tags, is_marks, tag_section, tags_named}
@@ -115,6 +116,32 @@ moves_are limit total termination s (t ∷ ts) =
 
 -- ---- where the tags end
 
+-- what is read after the tags, where `met` says whether there was one, and `termination` is what the last tag
+-- Termination names
+abbrev after_tags_by : ℕ → ℕ → Option Termination → State → Bool → List (ℕ × Token) → GameRead
+after_tags_by limit total termination s met ((to_end, Bad_tag) ∷ rest) =
+    failed s (record { kind = BadTag; offset = total - to_end })
+after_tags_by limit total termination s false [] = record { state = s; answer = Ok None }
+after_tags_by limit total termination s met rest = moves_read limit total termination s rest
+
+after_tags_is : (limit total : ℕ) (s : State) (tags rest : List (ℕ × Token))
+    → read_after_tags limit total s tags rest
+    ≡ after_tags_by limit total (last_termination tags) s (list_any is_tag tags) rest
+after_tags_is limit total s tags [] = by_tags (list_any is_tag tags)
+  where
+    by_tags : (met : Bool)
+        → cond met (failed s (record { kind = NoResult; offset = total })) (record { state = s; answer = Ok None })
+        ≡ after_tags_by limit total (last_termination tags) s met []
+    by_tags true = refl
+    by_tags false = refl
+after_tags_is limit total s tags ((left, Skip) ∷ rest) = refl
+after_tags_is limit total s tags ((left, Tag name string at_string) ∷ rest) = refl
+after_tags_is limit total s tags ((left, Word word) ∷ rest) = refl
+after_tags_is limit total s tags ((left, Bad_tag) ∷ rest) = refl
+after_tags_is limit total s tags ((left, Unclosed_comment brace) ∷ rest) = refl
+after_tags_is limit total s tags ((left, Unclosed_variation) ∷ rest) = refl
+after_tags_is limit total s tags ((left, Bad) ∷ rest) = refl
+
 abbrev opened : Bool → Option Termination → Setup → SoFar
 opened met termination p = so_far met false termination (from_start p)
 
@@ -125,7 +152,7 @@ Stops (t ∷ ts) = may_precede_tags t.1 ≡ false
 first_token : (limit total : ℕ) (met : Bool) (termination : Option Termination) (s : State) (ts : List (ℕ × Token))
     (left : ℕ) (t : Token) → may_precede_tags t ≡ false
     → read_rest_with (step limit total (so_far met false termination s) left t) (λ g. game_of limit total g ts)
-    ≡ read_after_tags limit total termination s met ((left, t) ∷ ts)
+    ≡ after_tags_by limit total termination s met ((left, t) ∷ ts)
 first_token limit total met termination s ts left Skip h = absurd (cc)
 first_token limit total met termination s ts left (Tag name string at_string) h = absurd (cc)
 first_token limit total met termination s ts left (Word word) h =
@@ -139,7 +166,7 @@ first_token limit total met termination s ts left Bad h = refl
 
 tags_end : (limit total : ℕ) (met : Bool) (termination : Option Termination) (p : Setup) (rest : List (ℕ × Token))
     → Stops rest → game_of limit total (opened met termination p) rest
-    ≡ read_after_tags limit total termination (from_start p) met rest
+    ≡ after_tags_by limit total termination (from_start p) met rest
 tags_end limit total true termination p [] h = refl
 tags_end limit total false termination p [] h = refl
 tags_end limit total met termination p (t ∷ ts) h = first_token limit total met termination (from_start p) ts t.0 t.1 h
@@ -166,9 +193,9 @@ termination_from before tags =
 
 -- what is said of these tags and of the tokens after them, where `before` is known before them
 abbrev said : ℕ → ℕ → Option Termination → Setup → List (Result Setup FenFault × ℕ) → Bool → List (ℕ × Token) → GameRead
-said limit total termination p fs has_tags rest =
+said limit total termination p fs met rest =
     option_map_or (failed (from_start (last_start p fs))) (first_bad_fen total fs)
-    (read_after_tags limit total termination (from_start (last_start p fs)) has_tags rest)
+    (after_tags_by limit total termination (from_start (last_start p fs)) met rest)
 
 abbrev Whole : ℕ → ℕ → Variant → Bool → Option Termination → Setup → List (ℕ × Token) → List (ℕ × Token) → Type 0
 Whole limit total v met before p tags rest =
@@ -200,7 +227,7 @@ module _ (limit total : ℕ) (v : Variant) (rest : List (ℕ × Token)) (stops :
   by_fen met before p left at_string string tags (Ok q) e later =
       later q (read_variant v string q e)
       ∙ ap (λ t. option_map_or (failed (from_start t)) (first_bad_fen total (fens v tags))
-      (read_after_tags limit total (termination_from before tags) (from_start t) true rest))
+      (after_tags_by limit total (termination_from before tags) (from_start t) true rest))
       (sym (next_start p q at_string (fens v tags)))
   by_fen met before p left at_string string tags (Err f) e later = refl
 
@@ -312,7 +339,10 @@ tokens_are limit total ts =
     let p : ℕ × Token → Bool = λ (t : ℕ × Token). may_precede_tags t.1 in
     let tags : List (ℕ × Token) = tag_section ts in
     let rest : List (ℕ × Token) = drop (length tags) ts in
-    ap (λ e. said limit total e (initial_setup_of v) (fens v tags) (list_any is_tag tags) rest)
+    let s : State = from_start (last_start (initial_setup_of v) (fens v tags)) in
+    ap (λ (r : GameRead). option_map_or (failed s) (first_bad_fen total (fens v tags)) r)
+    (after_tags_is limit total s tags rest)
+    ∙ ap (λ e. said limit total e (initial_setup_of v) (fens v tags) (list_any is_tag tags) rest)
     (sym (none_before (last_or None (tags_named (codes "Termination") tags))))
     ∙ sym (all_tags limit total v rest (tags_stop ts) false None (initial_setup_of v) tags (initial_variant v)
     (run_passes p ts))

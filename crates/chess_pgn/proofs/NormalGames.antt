@@ -1,14 +1,13 @@
 -- On starts of normal chess, and in texts that name no variant, games are written and read as in normal chess.
 use Rattle.std.proofs.Common.{◌≡◌, ℕ, List, ◌++◌, length, drop, Option, None, refl, ap, ◌∙◌}
 use Rattle.std.specs.Prelude.{codes}
-use Rattle.std.specs.List.{list_any}
 use Rattle.std.specs.Option.{option_map_or}
 use Rattle.chess_base.specs.declared.man.Variant.{Variant}
 use Rattle.chess_base.specs.declared.man.Variant.TheVariants.{Normal}
 use Rattle.chess_base.specs.declared.setup.Setup.{Setup}
 use Rattle.chess_base.specs.Initial.{initial_setup, initial_setup_of}
 use Rattle.chess_game.specs.Game.{from_start}
-use Rattle.chess_pgn.specs.GameRead.{GameRead, failed, fens, first_bad_fen, last_start, last_termination, is_tag, variant_named, read_after_tags, pgn_read}
+use Rattle.chess_pgn.specs.GameRead.{GameRead, failed, fens, first_bad_fen, last_start, variant_named, read_after_tags, pgn_read}
 use Rattle.chess_pgn.specs.GameText.{start_lines_in, last_lines}
 use Rattle.chess_pgn.specs.LastTags.{tag_section, last_tag}
 use Rattle.chess_pgn.specs.laws.Normal.{normal_read, NormalIsKept}
@@ -27,8 +26,7 @@ read_so limit text at none =
     let tags : List (ℕ × Token) = tag_section tokens in
     let read : Variant → Setup → GameRead = λ v p. option_map_or (failed (from_start (last_start p (fens v tags))))
     (first_bad_fen (length text) (fens v tags))
-    (read_after_tags limit (length text) (last_termination tags) (from_start (last_start p (fens v tags)))
-    (list_any is_tag tags) (drop (length tags) tokens)) in
+    (read_after_tags limit (length text) (from_start (last_start p (fens v tags))) tags (drop (length tags) tokens)) in
     ap (λ v. read v (initial_setup_of v))
     (ap (λ (tag : Option (List ℕ × ℕ)). option_map_or (λ (t : List ℕ × ℕ). variant_named t.0) tag Normal) none)
     ∙ ap (read Normal) initial_is

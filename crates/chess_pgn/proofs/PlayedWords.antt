@@ -16,7 +16,7 @@ use Rattle.chess_text.specs.declared.reading.Reading.TheVariants as reads
 use Rattle.chess_text.specs.Moves.{reading}
 use Rattle.chess_pgn.specs.declared.read.PgnEnd.{PgnEnd}
 use Rattle.chess_pgn.specs.declared.read.PgnFault.{PgnFault}
-use Rattle.chess_pgn.specs.declared.read.PgnFaultKind.TheVariants.{AfterEnd, TooLong}
+use Rattle.chess_pgn.specs.declared.read.PgnFaultKind.TheVariants.{AfterEnd, TooLong, NoResult}
 use Rattle.chess_pgn.specs.declared.termination.Termination.{Termination}
 use Rattle.chess_pgn.specs.GameRead.{GameRead, Row, Passes, Plays, Ends, Fails, failed, move_row, row, after_row, moves_read, is_tag, fens, last_start, last_termination, first_bad_fen, tagged_variant, read_after_tags, pgn_read}
 use Rattle.chess_pgn.specs.LastTags.{tag_section}
@@ -124,20 +124,25 @@ moves_words limit total termination s (t ∷ ts) h =
         record { words = []; moves = []; are = tt; all = append-nil s.moves; start = refl }
     by_row (Fails kind) e later k = absurd k
 
-tags_words : (limit total : ℕ) (termination : Option Termination) (s : State) (met : Bool) (ts : List (ℕ × Token))
-    → IsEnd (read_after_tags limit total termination s met ts).answer
-    → Words limit s (read_after_tags limit total termination s met ts).state
-tags_words limit total termination s true [] h = absurd h
-tags_words limit total termination s false [] h = absurd h
-tags_words limit total termination s met ((left, Skip) ∷ ts) h =
-    moves_words limit total termination s ((left, Skip) ∷ ts) h
-tags_words limit total termination s met ((left, Tag name string at) ∷ ts) h = absurd h
-tags_words limit total termination s met ((left, Word word) ∷ ts) h =
-    moves_words limit total termination s ((left, Word word) ∷ ts) h
-tags_words limit total termination s met ((left, Bad_tag) ∷ ts) h = absurd h
-tags_words limit total termination s met ((left, Unclosed_comment brace) ∷ ts) h = absurd h
-tags_words limit total termination s met ((left, Unclosed_variation) ∷ ts) h = absurd h
-tags_words limit total termination s met ((left, Bad) ∷ ts) h = absurd h
+tags_words : (limit total : ℕ) (s : State) (tags ts : List (ℕ × Token))
+    → IsEnd (read_after_tags limit total s tags ts).answer
+    → Words limit s (read_after_tags limit total s tags ts).state
+tags_words limit total s tags [] h = absurd (by_tags (list_any is_tag tags) h)
+  where
+    by_tags : (met : Bool)
+        → IsEnd (cond met (failed s (record { kind = NoResult; offset = total }))
+        (record { state = s; answer = Ok None })).answer → ⊥
+    by_tags true h = h
+    by_tags false h = h
+tags_words limit total s tags ((left, Skip) ∷ ts) h =
+    moves_words limit total (last_termination tags) s ((left, Skip) ∷ ts) h
+tags_words limit total s tags ((left, Tag name string at) ∷ ts) h = absurd h
+tags_words limit total s tags ((left, Word word) ∷ ts) h =
+    moves_words limit total (last_termination tags) s ((left, Word word) ∷ ts) h
+tags_words limit total s tags ((left, Bad_tag) ∷ ts) h = absurd h
+tags_words limit total s tags ((left, Unclosed_comment brace) ∷ ts) h = absurd h
+tags_words limit total s tags ((left, Unclosed_variation) ∷ ts) h = absurd h
+tags_words limit total s tags ((left, Bad) ∷ ts) h = absurd h
 
 -- ---- the game
 
@@ -166,7 +171,7 @@ game_words limit text at end is =
     let rest : List (ℕ × Token) = drop (length tags) tokens in
     let w : Words limit (from_start p) (pgn_read limit text at).state =
     by_fault limit (from_start p) (first_bad_fen total (fens v tags))
-    (read_after_tags limit total (last_termination tags) (from_start p) (list_any is_tag tags) rest)
-    (tags_words limit total (last_termination tags) (from_start p) (list_any is_tag tags) rest)
+    (read_after_tags limit total (from_start p) tags rest)
+    (tags_words limit total (from_start p) tags rest)
     (subst IsEnd (sym is) tt) in
     (w.words, from_words limit p (pgn_read limit text at).state w)

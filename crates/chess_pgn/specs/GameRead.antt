@@ -177,15 +177,17 @@ tagged_variant tags = option_map_or (λ tag. variant_named tag.0) (last_tag (cod
 
 -- ---- the game
 
--- what is read of a game after its tags, if each of their FENs denotes a position; the last argument is the tokens from
--- the first one on that is no tag, is not skipped and is no marks. If that is a bad tag, its fault; no game, if there
--- is no such token and there was no tag (`has_tags`); else the moves. `s` is the game at its start, `termination` what
--- the tag Termination names, and the text has `total` bytes
-abbrev pub read_after_tags : ℕ → ℕ → Option Termination → State → Bool → List (ℕ × Token) → GameRead
-read_after_tags limit total termination s has_tags ((to_end, Bad_tag) ∷ rest) =
+-- what is read of a game after `tags`, the tokens before its first number, move, outcome or fault, if each of their
+-- FENs denotes a position; the last argument is the tokens from that one on. If that is a bad tag, its fault. If no
+-- token is left: no game if there is no tag either, else the fault that the game has no outcome. Else the moves. `s` is
+-- the game at its start, and the text has `total` bytes
+abbrev pub read_after_tags : ℕ → ℕ → State → List (ℕ × Token) → List (ℕ × Token) → GameRead
+read_after_tags limit total s tags ((to_end, Bad_tag) ∷ rest) =
     failed s (record { kind = BadTag; offset = total - to_end })
-read_after_tags limit total termination s false [] = record { state = s; answer = Ok None }
-read_after_tags limit total termination s has_tags rest = moves_read limit total termination s rest
+read_after_tags limit total s tags [] =
+    if list_any is_tag tags then failed s (record { kind = NoResult; offset = total })
+    else record { state = s; answer = Ok None }
+read_after_tags limit total s tags rest = moves_read limit total (last_termination tags) s rest
 
 -- what is read of the game at the front of these tokens, of at most `limit` half-moves, in a text of `total` bytes.
 -- `tags` are the tokens before its first number, move, outcome or fault; its tags, which are all among them, give the
@@ -196,7 +198,7 @@ read_of_split limit total tokens =
     let v = tagged_variant tags in
     let s = from_start (last_start (initial_setup_of v) (fens v tags)) in
     option_map_or (failed s) (first_bad_fen total (fens v tags))
-    (read_after_tags limit total (last_termination tags) s (list_any is_tag tags) (drop (length tags) tokens))
+    (read_after_tags limit total s tags (drop (length tags) tokens))
 
 -- what is read of a text from the offset `at` on: the game up to its outcome mark and where it ended, or `None` if no
 -- game is left, or the first fault. `limit` is the most half-moves of a game

@@ -22,7 +22,7 @@ skips_line line_begins c = line_begins && c == byte "%" || c == byte ";"
 
 -- ---- variations (section 8.2.5): `(`, what is inside, `)`
 
--- what is inside a variation, as parts one after another; the flag says whether its first byte is its line's first
+-- what is inside a variation, as parts one after another; `b`: its first byte is its line's first
 pub data IsInside : Bool → List ℕ → Type 0 where
   -- no parts
   nothing : {b : Bool} → IsInside b []
@@ -41,7 +41,7 @@ pub data IsInside : Bool → List ℕ → Type 0 where
 
 -- ---- tags (section 8.1.1), as `[Event "a"]`: an opening (`[Event "`), the string (`a`), and a closing (`"]`)
 
--- white space and `%` lines; the flag says whether its first byte is its line's first
+-- white space and `%` lines; `b`: its first byte is its line's first
 pub data IsGap : Bool → List ℕ → Type 0 where
   nothing : {b : Bool} → IsGap b []
   blank : {b : Bool} {c : ℕ} {more : List ℕ} → is_white_space c ≡ true → IsGap (c == new_line) more → IsGap b (c ∷ more)
@@ -93,7 +93,7 @@ pub data Kind : Type 0 where
   Asterisk : Kind
   Symbol : Kind
 
--- the text is a token of this kind; the flag says whether its first byte is its line's first
+-- the text is a token of this kind; `b`: its first byte is its line's first
 abbrev pub IsOf : Bool → Kind → List ℕ → Type 0
 -- a blank or a dot
 IsOf b Blank text = (c : ℕ) × (text ≡ c ∷ []) × ((is_white_space c || c == byte ".") ≡ true)
@@ -137,8 +137,8 @@ abbrev pub HasNoToken : Bool → List ℕ → Type 0
 HasNoToken b text = (kind : Kind) (front rest : List ℕ) → text ≡ front ++ rest → IsOf b kind front → ⊥
 
 -- the text, which begins inside a variation, has a comment that isn't closed: after whole parts comes the comment's
--- `{`, or the `(` of a variation for whose inside the same holds. The flag says whether the text's first byte is its
--- line's first, and the number how many bytes are left at that `{`
+-- `{`, or the `(` of a variation for whose inside the same holds. `b`: the text's first byte is its line's first. The
+-- number says how many bytes are left at that `{`
 pub data HasOpenComment : Bool → List ℕ → ℕ → Type 0 where
   here : {b : Bool} {parts : List ℕ} (text : List ℕ) → IsInside b parts → lacks (byte "}") text ≡ true
       → HasOpenComment b (parts ++ byte "{" ∷ text) (length (byte "{" ∷ text))

@@ -36,7 +36,7 @@ abbrev pub pieces_held : Bool → State → List ℕ → List Piece
 pieces_held ended s rest = pieces_after_part ended s.offset s.part (s.coming ++ rest)
 
 -- whether the input may still continue with the bytes `rest`, and end after them if `ended` says so. If it has ended
--- already (the first flag), only with no bytes and the end
+-- already (the first argument), only with no bytes and the end
 abbrev pub MayFollow : Bool → Bool → List ℕ → Type 0
 MayFollow false ended rest = Unit {0}
 MayFollow true ended rest = (ended ≡ true) × (rest ≡ [])

@@ -1,6 +1,5 @@
 -- The definitions that Chess960 widened, as they are for normal chess alone.
 use Rattle.std.specs.Prelude.{◌≡◌, ℕ, if◌then◌else◌, List, [], ◌∷◌, ◌++◌, length, drop, map, None, codes}
-use Rattle.std.specs.List.{list_any}
 use Rattle.std.specs.Option.{option_map_or}
 use Rattle.chess_base.specs.declared.man.Variant.TheVariants.{Normal}
 use Rattle.chess_base.specs.declared.setup.Setup.{Setup}
@@ -9,7 +8,7 @@ use Rattle.chess_fen.specs.Reading.{fen_reading}
 use Rattle.chess_fen.specs.Writing.{is_initial}
 use Rattle.chess_game.specs.Game.{from_start}
 use Rattle.chess_pgn.specs.declared.termination.Termination.{Termination}
-use Rattle.chess_pgn.specs.GameRead.{GameRead, failed, first_bad_fen, last_start, last_termination, is_tag, read_after_tags, pgn_read}
+use Rattle.chess_pgn.specs.GameRead.{GameRead, failed, first_bad_fen, last_start, read_after_tags, pgn_read}
 use Rattle.chess_pgn.specs.GameText.{fen_lines, further_lines}
 use Rattle.chess_pgn.specs.LastTags.{tag_section, tags_named, last_tag}
 use Rattle.chess_pgn.specs.Terminations.{termination_text}
@@ -30,7 +29,7 @@ normal_read limit total tokens =
     let fens = map (λ tag. (fen_reading tag.0, tag.1)) (tags_named (codes "FEN") tags) in
     let s = from_start (last_start initial_setup fens) in
     option_map_or (failed s) (first_bad_fen total fens)
-    (read_after_tags limit total (last_termination tags) s (list_any is_tag tags) (drop (length tags) tokens))
+    (read_after_tags limit total s tags (drop (length tags) tokens))
 
 -- a game of normal chess is written, and a text with no tag Variant among the game's own tags is read, as if there were
 -- no Chess960
