@@ -1,4 +1,4 @@
-//! What the pawns of a set do together: on which of their squares they may go ahead, or capture to one side.
+//! Pawns as whole sets: where they step and capture, from where they reach a square, and how many moves they have.
 
 ghost use Rattle.std.specs.Prelude.{◌≡◌, ◌+◌, ◌-◌, ◌≤◌, ◌<◌, ◌==◌, ◌&&◌, ◌||◌, not, ℕ, true, false, None, length};
 ghost use Rattle.std.specs.List.{flat_map};
@@ -17,8 +17,8 @@ use chess_base::rules::pawn_rank;
 use chess_base::{Colour, Kind, Square};
 use chess_moves::{Board, SquareSet};
 
-// The squares to which one step straight ahead takes a pawn of this colour from a square of the set: for White the set
-// moved one rank up (all bits by 8), for Black one rank down.
+// The set moved one rank, the way that pawns of this colour go: up for White (all bits by 8), down for Black. Squares
+// beyond the board's edge drop out: for White, {e4, h8} gives {e5}.
 #[inline(always)]
 pub(crate) fn ahead(colour: Colour, squares: SquareSet) -> SquareSet
     ensures { IsAhead colour squares result }
@@ -29,8 +29,9 @@ pub(crate) fn ahead(colour: Colour, squares: SquareSet) -> SquareSet
     }
 }
 
-// The squares from which one step straight ahead takes a pawn of this colour to a square of the set: for White the set
-// moved one rank down, for Black one rank up.
+// The set moved one rank against the way that pawns of this colour go. The result has the squares from which one step
+// ahead reaches a square of the set: for White, {e4} gives {e3}. About rank 1 the contract says nothing (`8 ≤ k`),
+// since no pawn is there.
 #[inline(always)]
 fn behind(colour: Colour, squares: SquareSet) -> SquareSet
     ensures { (k : ℕ) → k < 64 → 8 ≤ k → contains result k ≡ contains squares (forward colour k) }
@@ -38,9 +39,9 @@ fn behind(colour: Colour, squares: SquareSet) -> SquareSet
     ahead(colour.other(), squares)
 }
 
-// The squares from which a pawn of this colour attacks a square of the set on the next file towards the a-file: for
-// White and d5 that is e4. The set is moved one file right, then one rank back. The a-file is left out: there only
-// squares of the h-file arrive, around the board's edge.
+// The squares from which a pawn of this colour attacks a square of the set by a capture towards the a-file: a white
+// pawn attacks d5 so from e4. The set is moved one file right, then one rank back. A square of the h-file would arrive
+// on the a-file (for White h5 on a5), so the a-file is taken out.
 #[inline(always)]
 fn attacking_left(colour: Colour, squares: SquareSet) -> SquareSet
     ensures { (k : ℕ) → k < 64 → 8 ≤ k → forward colour k < 64
@@ -50,8 +51,9 @@ fn attacking_left(colour: Colour, squares: SquareSet) -> SquareSet
     starts.without(SquareSet::of_file(0))
 }
 
-// The squares from which a pawn of this colour attacks a square of the set on the next file towards the h-file: for
-// White and d5 that is c4. As `attacking_left`, with the set moved one file left.
+// The squares from which a pawn of this colour attacks a square of the set by a capture towards the h-file: a white
+// pawn attacks d5 so from c4. The set is moved one file left, then one rank back. A square of the a-file would arrive
+// on the h-file (for White a5 on h3), so the h-file is taken out.
 #[inline(always)]
 fn attacking_right(colour: Colour, squares: SquareSet) -> SquareSet
     ensures { (k : ℕ) → k < 64 → 8 ≤ k
@@ -62,9 +64,9 @@ fn attacking_right(colour: Colour, squares: SquareSet) -> SquareSet
 }
 
 impl Bits<'_> {
-    // The squares from which a pawn of the side on move would go straight ahead to `to`, by one square or two; none if
-    // `to` is occupied. For White and e4 these are e3, and e2 if e3 is empty. It doesn't look whether a pawn is there,
-    // which the caller does.
+    // The squares from which a pawn of the side on move could go straight ahead to `to`, by one step or two; none if
+    // `to` is occupied. For White and e4 these are e3, and also e2 if e3 is empty. Whether pawns are on these squares
+    // is not asked here; `pawns_to` asks that.
     #[inline(always)]
     pub(crate) fn advance_starts(&self, to: Square) -> SquareSet
         ensures { (k : ℕ) → k < 64 → is_man (self.now).side Pawn (man_at (self.now).men k) ≡ true
@@ -84,9 +86,9 @@ impl Bits<'_> {
         once.union(twice.intersection(home))
     }
 
-    // The squares of the pawns of the side on move that go to `to`, straight ahead or by a capture, even if that leaves
-    // their king attacked. Trying each pawn of the file, and each that attacks `to`, made texts of pawns' moves 12 %
-    // slower to read.
+    // The squares of the pawns of the side on move that can go to `to`, straight ahead or by a capture (en passant
+    // too), even if that leaves their king attacked. It serves to read pawns' moves in SAN, such as exd5. With a test
+    // of each pawn of the file, and of each that attacks `to`, such texts were 12 % slower to read.
     #[inline(always)]
     pub(crate) fn pawns_to(&self, to: Square) -> SquareSet
         ensures { (k : ℕ) → k < 64 → contains result k ≡ (is_man (self.now).side Pawn (man_at (self.now).men k)
@@ -97,9 +99,9 @@ impl Bits<'_> {
         own.intersection(starts)
     }
 
-    // The squares from which a pawn of the side on move may promote or take en passant: those of its last rank but one
-    // (for White the seventh), where enemy pawns start, and those from which it attacks the en passant target (an enemy
-    // pawn on the target would attack just these).
+    // The squares on which a pawn of the side on move may have a special move: a promotion or en passant. They are its
+    // last rank but one (White's seventh, where black pawns start), and the squares from which it attacks the en
+    // passant target. An enemy pawn on the target would attack just these: with the target e6, d5 and f5.
     #[tactic(auto, using(crate::proofs::PawnsCounted::aims_back))]
     fn special_squares(&self) -> SquareSet
         ensures { (k : ℕ) → k < 64 → contains result k ≡ goes_specially self.now k }
@@ -112,8 +114,9 @@ impl Bits<'_> {
         }
     }
 
-    // The pieces `free`, whose king is safe wherever they go, without the pawns that may promote or take en passant:
-    // each square to which one of the remaining pieces goes gives it exactly one legal move.
+    // Takes the pawns that may promote or take en passant out of `free`, pieces whose king is safe wherever they go.
+    // Then each square to which a remaining piece goes gives it exactly one legal move, so moves can be listed and
+    // counted without a test.
     #[inline(always)]
     pub(crate) fn without_special_pawns(&self, free: SquareSet) -> SquareSet
         requires { (k : ℕ) → k < 64 → contains free k ≡ true → IsFree self.now k }
@@ -127,10 +130,10 @@ impl Bits<'_> {
         free.without(special)
     }
 
-    // How many legal moves these pawns have. They are free (their king is safe wherever they go), and none may promote
-    // or take en passant. Each has a move for each way open to it: one or two squares ahead, a capture to the left or
-    // right. The whole set is moved each way at once, in place of `pawn_targets` for each pawn. The squares `blocked`
-    // have a piece right ahead; one rank further back that piece is two steps ahead.
+    // Counts the legal moves of these pawns of the side on move. Their king is safe wherever they go, and none may
+    // promote or take en passant, so each step, double step and capture counts once. The whole set is moved each of
+    // these ways at once, in place of `pawn_targets` for each pawn. The squares `blocked` have a piece right ahead;
+    // moved back one more rank, they are the squares with a piece two steps ahead.
     #[tactic(auto, using(crate::proofs::PawnsCounted::members_fit))]
     pub(crate) fn count_ordinary_pawns(&self, pawns: SquareSet) -> usize
         requires free { AreFree self.now Pawn pawns }

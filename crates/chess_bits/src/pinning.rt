@@ -15,20 +15,22 @@ use crate::table::Shape;
 use chess_base::{Kind, Square};
 use chess_moves::{Board, SquareSet};
 
-// Which pieces of the side on move may go anywhere, and where the others, but the king, may go without leaving the king
-// attacked.
+// The effect of pins and checks on the pieces of the side on move, but the king: which may go anywhere, and where the
+// others may go. It is found once, before the moves are listed or counted.
 #[derive(Clone, Copy)]
 pub(crate) struct Pins {
-    // Pieces whose king is safe wherever they go: it is not in check, and they are not pinned.
+    // Pieces whose king is safe wherever they go (except perhaps by en passant): it is not in check, and they are not
+    // pinned.
     pub(crate) free: SquareSet,
-    // Each legal move of a piece that is neither free nor the king ends on one of these squares: where a piece is that
-    // pins or gives check, between it and the king, or the en passant target. Not each move there is legal.
+    // Each legal move of a piece that is neither free nor the king ends on one of these squares: the square of a
+    // checker or pinner, a square between it and the king, or the en passant target. Moves to these squares may be
+    // illegal all the same, so they are tested.
     pub(crate) evasions: SquareSet,
 }
 
 impl Bits<'_> {
-    // The squares of all pieces, of either colour, strictly between the king on `king` and an enemy queen, rook or
-    // bishop on `from`, which would attack the king if nothing were between them.
+    // The occupied squares strictly between the king on `king` and a possible pinner on `from`: an enemy queen, rook or
+    // bishop that would attack the king if nothing were between them (`aims_from`). Pieces of both colours count.
     #[inline(always)]
     fn blockers(&self, king: Square, from: Square) -> SquareSet
         requires { aims_from self.now from king ≡ true }
@@ -42,8 +44,10 @@ impl Bits<'_> {
         between.intersection(self.sets.occupied())
     }
 
-    // The square of the only piece, of either colour, between the king on `king` and an enemy queen, rook or bishop on
-    // `from`, which would attack the king if nothing were between them; `None` if no piece or more than one is there.
+    // The square of the only piece, of either colour, between the king on `king` and a possible pinner on `from`;
+    // `None` if no piece or more than one is there. The pinner is an enemy queen, rook or bishop that would attack the
+    // king if nothing were between them (`aims_from`). `IsShield`: the line opens if this piece leaves, but not if any
+    // other does (`KeepsClosed`).
     #[inline(always)]
     fn shield(&self, king: Square, from: Square) -> Option<Square>
         requires { aims_from self.now from king ≡ true }
@@ -65,9 +69,9 @@ impl Bits<'_> {
         }
     }
 
-    // Where a move of another piece than the king can end to meet an attack by the enemy piece on `from` on the king on
-    // `king`: on `from` (a capture), between the two, or on the en passant target (a pawn that has just given check may
-    // be taken so).
+    // The squares to try against an attack on `king` by the enemy piece on `from`: `from` (a capture), the squares
+    // between, and the en passant target (a pawn that has just given check may be taken so). Only moves to these
+    // squares can be legal: in check for each piece but the king, otherwise for the piece that `from` pins.
     #[inline(always)]
     fn evasions(&self, king: Square, from: Square) -> SquareSet
         ensures { (k : ℕ) → k < 64 → ((is_between king from k || (k == from)) || is_square (self.now).target k) ≡ true
@@ -81,9 +85,10 @@ impl Bits<'_> {
         met.union(set_of(self.setup.target))
     }
 
-    // If a single piece is between the king on `king` and an enemy queen, rook or bishop on `from`, which would attack
-    // the king without it, takes this piece out of the free ones, and adds the squares where it may go to the evasions.
-    // For an enemy's piece, which is not among the free ones, the added squares do no harm: moves to them are tested.
+    // Adds to `pins` a pin by the enemy queen, rook or bishop on `from`, if a single piece is between it and the king
+    // on `king`, which it would otherwise attack. That piece is taken out of the free ones, and the squares where it
+    // may go are added to the evasions. If it is an enemy piece, it wasn't free, and the added squares do no harm:
+    // moves to them are tested. `KeepsClosed`: a piece that is still free doesn't open this line if it leaves.
     #[inline(always)]
     fn add_pin(&self, king: Square, from: Square, pins: &mut Pins)
         requires king { is_man (self.now).side King (man_at (self.now).men king) ≡ true }
@@ -102,8 +107,9 @@ impl Bits<'_> {
         }
     }
 
-    // The squares of the enemy queens, rooks and bishops on lines of the king that they attack along, whatever is
-    // between: if that is just one piece, of the king's colour, it is pinned.
+    // The squares of the enemy queens and rooks on the king's rank and file, and of the enemy queens and bishops on its
+    // diagonals (`aims_from`), whatever is between. If just one piece is between, and of the king's colour, it is
+    // pinned; `add_pin` looks at that.
     #[inline(always)]
     #[tactic(auto, unfolding(crate::specs::ties::Shapes::in_shape))]
     fn possible_pinners(&self, king: Square) -> SquareSet
@@ -116,8 +122,8 @@ impl Bits<'_> {
         on_lines.union(diagonal.intersection(self.tables.at(Shape::Diagonals, king)))
     }
 
-    // Which pieces are free, and the evasions of the others, if the king, on `king`, is not in check. At first all
-    // pieces but the king count as free; each pinner then takes out the piece that it pins.
+    // Finds the free pieces, and the evasions of the others, if the king (on `king`) is not in check. At first all
+    // pieces but the king count as free. Each possible pinner then takes out the piece that it pins.
     #[inline(always)]
     fn pins_without_check(&self, king: Square) -> Pins
         requires king { is_man (self.now).side King (man_at (self.now).men king) ≡ true }
@@ -139,10 +145,10 @@ impl Bits<'_> {
         pins
     }
 
-    // Which pieces of the side on move are free (their king is safe wherever they go), and the evasions of the others.
-    // In check no piece is free, and each but the king has to capture the first checker or come between; these moves
-    // are still tested, so a second checker is met there. With each move in check, or with a pin, tested by itself, the
-    // workload boards took 19 % longer.
+    // Finds which pieces of the side on move are free (their king is safe wherever they go), and the evasions of the
+    // others: the squares where their moves can end. In check no piece is free. Each but the king has to capture the
+    // first checker, come between, or take en passant; these moves are still tested, so a second checker is noticed
+    // then. With each move tested in positions with a check or a pin, the workload boards took 19 % longer.
     #[inline(always)]
     pub(crate) fn pins(&self) -> Pins
         ensures free { (k : ℕ) → k < 64 → contains result.free k ≡ true → IsFree self.now k }
@@ -162,9 +168,9 @@ impl Bits<'_> {
         }
     }
 
-    // The end squares to try for the piece on `from`, which is not the king: each of its legal moves ends on one of
-    // them, and to each it has a pseudo-legal move. For a free piece (its king is safe wherever it goes) these are all
-    // its end squares, for another one only those in `pins.evasions`.
+    // The end squares to try for the piece on `from`, which is not the king: all its end squares if it is free (its
+    // king is safe wherever it goes), otherwise only those in `pins.evasions`. Each of its legal moves ends on one of
+    // them (`EndsOn`), and to each it has a pseudo-legal move (`goes`).
     #[inline(always)]
     pub(crate) fn allowed_targets(&self, from: Square, pins: &Pins) -> SquareSet
         requires no_king { is_man (self.now).side King (man_at (self.now).men from) ≡ false }
@@ -182,7 +188,8 @@ impl Bits<'_> {
     }
 
     // The pieces of the side on move, other than the king, that can't be pinned, since they are on no rank, file or
-    // diagonal of their king; none if it is in check. Unlike `pins`, it looks for no pinner.
+    // diagonal of their king; none if it is in check. This is the quick way of `has_easy_move`: unlike `pins`, it looks
+    // for no pinner, and so leaves out all free pieces on such lines.
     #[tactic(auto, unfolding(crate::specs::ties::Shapes::in_shape))]
     pub(crate) fn surely_unpinned(&self) -> SquareSet
         ensures { (k : ℕ) → k < 64 → contains result k ≡ true → IsFree self.now k }

@@ -1,4 +1,5 @@
-//! A setup and its sets changed in place by a move, and back.
+//! Moves made and taken back in place: in a `Setup`, with its list of pieces, and in the sets of squares of these
+//! pieces.
 
 ghost use Rattle.std.specs.Prelude.{◌≡◌, ◌==◌, ◌&&◌, ◌||◌, IsTrue, Some, None, if◌then◌else◌};
 ghost use Rattle.chess_base.specs.Before.{before, saved_of};
@@ -24,8 +25,9 @@ use chess_base::rules::{
 use chess_base::{COUNTER_LIMIT, Kind, Man, Move, Rights, Saved, Setup, Square};
 use chess_moves::SquareSet;
 
-// Puts `man`, a piece or nothing, on the given square in place of its content, both in the list of pieces and in the
-// sets; does nothing if `square` is `None`. `keys` are the Zobrist keys, which keep the pieces' hash up to date.
+// Puts `man`, a piece or nothing, on `square` in place of its content, both in the list of pieces and in the sets. It
+// does nothing if `square` is `None`, as for a move without a second piece. `keys` are the Zobrist keys, with which the
+// hash in `sets` is kept up to date.
 #[inline(always)]
 fn place(
     men: &mut [Option<Man>; 64],
@@ -44,9 +46,9 @@ fn place(
     }
 }
 
-// The squares that are not empty. It begins with h8 and ends with a1: at each square the bits found so far move up by
-// one, and bit 0 becomes whether a piece is there. So no branch is needed: with a test of each square, setting boards
-// made the workload puzzles 6 % slower.
+// The squares that are not empty, found without a branch. The loop begins with h8 and ends with a1: at each square the
+// bits found so far move up by one, and bit 0 becomes whether a piece is there. With a branch for each square, boards
+// were set more slowly, and the workload puzzles took 6 % longer.
 fn occupied_by(men: &[Option<Man>; 64]) -> SquareSet
     ensures { IsOccupied result men.now }
 {
@@ -60,8 +62,8 @@ fn occupied_by(men: &[Option<Man>; 64]) -> SquareSet
 }
 
 impl Sets {
-    /// The sets of the pieces in `men`, the list of what is on each square (a1 first, h8 last), with their hash, which
-    /// is made of `keys`.
+    /// Makes the sets of the pieces in `men`, the list of what is on each square (a1 first, h8 last), and their hash
+    /// from the Zobrist keys `keys`. It is for a board that is set to a position; moves only change the sets.
     pub fn standing(keys: &KeyTable, men: &[Option<Man>; 64]) -> Sets
         ensures { IsSets result men.now }
     {
@@ -74,9 +76,10 @@ impl Sets {
     }
 }
 
-// Changes the pieces by the steps of a move, or of taking one back, both in the list of pieces and in the sets. First
-// the mover and perhaps a second piece (the castling rook, or a pawn taken en passant) leave their squares, then
-// perhaps a second piece and the mover arrive. `keys` keep the pieces' hash up to date.
+// Changes the pieces by the steps of a move, or of taking one back, both in the list of pieces and in the sets. Both
+// pieces leave before one arrives, since in Chess960 a castling king and rook may change places. The second piece is
+// the castling rook, a pawn taken en passant (it only leaves) or, when a move is taken back, the captured piece (it
+// only arrives). `keys` are the Zobrist keys, with which the hash in `sets` is kept up to date.
 fn take_steps(men: &mut [Option<Man>; 64], sets: &mut Sets, keys: &KeyTable, steps: &Steps)
     ensures men { men.new ≡ men_stepped men.old steps.now }
     ensures sets { IsSets sets.old men.old → IsSets sets.new men.new }
@@ -87,8 +90,8 @@ fn take_steps(men: &mut [Option<Man>; 64], sets: &mut Sets, keys: &KeyTable, ste
     place(men, sets, keys, Some(steps.to), steps.mover);
 }
 
-// Whether the square is the position's en passant target. chess_base's `is_square` is the same test, but is private
-// there.
+// Whether `square` is the position's en passant target; false if there is no target. chess_base's `is_square` is the
+// same test, but is private there.
 #[inline(always)]
 pub(crate) fn is_target(setup: &Setup, square: Square) -> bool
     ensures { result ≡ is_square (setup.now).target square }
@@ -99,7 +102,7 @@ pub(crate) fn is_target(setup: &Setup, square: Square) -> bool
     }
 }
 
-// Whether neither colour has a castling right.
+// Whether neither colour has a castling right. Then no move is castling, and no move can cost a right.
 #[inline(always)]
 fn has_no_right(rights: &Rights) -> bool
     ensures { result ≡ has_no_right rights.now }
@@ -110,7 +113,8 @@ fn has_no_right(rights: &Rights) -> bool
         && rights.black.queen_side.is_none()
 }
 
-// Whether `man`, the content of a square, is a king or a rook, of either colour; false for an empty square.
+// Whether `man`, the content of a square, is a king or a rook, of either colour; false for an empty square. Only moves
+// and captures of these can cost a castling right.
 #[inline(always)]
 fn is_king_or_rook(man: Option<Man>) -> bool
     ensures { result ≡ is_king_or_rook man }
@@ -121,8 +125,8 @@ fn is_king_or_rook(man: Option<Man>) -> bool
     }
 }
 
-// Whether a move of `mover` that captures `taken` (`None` if nothing) may cost a castling right: the mover or the
-// captured piece is a king or a rook.
+// Whether a move of `mover` to a square with the content `taken` (`None` if empty) may cost a castling right: one of
+// the two is a king or a rook. If it is true, the right may be kept all the same.
 #[inline(always)]
 fn may_lose_right(mover: Man, taken: Option<Man>) -> bool
     ensures { result ≡ (is_king_or_rook (Some mover) || is_king_or_rook taken) }
@@ -130,8 +134,9 @@ fn may_lose_right(mover: Man, taken: Option<Man>) -> bool
     is_king_or_rook(Some(mover)) || is_king_or_rook(taken)
 }
 
-// The castling rights after the move `m` of `mover` to a square with the content `taken`. If neither is a king or a
-// rook, or if no right is left, they are as before; only otherwise are they computed.
+// The castling rights after the move `m` of `mover` to a square with the content `taken`. Two quick tests find most
+// moves that cost no right: neither piece is a king or a rook, or no right is left. Only otherwise `rights_after`
+// computes them.
 #[inline(always)]
 #[tactic(auto, using(crate::proofs::Making::none_lost, crate::proofs::Making::rights_kept))]
 fn rights_left(setup: &Setup, m: &Move, mover: Man, taken: Option<Man>) -> Rights
@@ -150,8 +155,8 @@ fn rights_left(setup: &Setup, m: &Move, mover: Man, taken: Option<Man>) -> Right
 }
 
 // Whether the move `m`, of a piece of this kind, is surely neither castling nor en passant, so that it changes only its
-// two squares. For a king that is sure only if no castling right is left, for a pawn if it doesn't go to the en passant
-// target, and for another piece always.
+// two squares. For a king that is sure only if neither colour has a castling right left, for a pawn if it doesn't go to
+// the en passant target, and for another piece always.
 #[inline(always)]
 fn goes_plainly(setup: &Setup, m: &Move, kind: Kind) -> bool
     ensures { result ≡ goes_plainly setup.now m.now kind }
@@ -163,8 +168,9 @@ fn goes_plainly(setup: &Setup, m: &Move, kind: Kind) -> bool
     }
 }
 
-// Whether the move `m`, of a piece of this kind, is no promotion and surely neither castling nor en passant: it takes
-// the piece from its start to its end square, and changes no other square.
+// Whether the move `m`, of a piece of this kind, surely takes the piece unchanged from its start to its end square, and
+// changes no other square. It is false for promotions, castling and en passant, and for all king's moves while a
+// castling right is left.
 #[inline(always)]
 fn shifts(setup: &Setup, m: &Move, kind: Kind) -> bool
     ensures { result ≡ shifts setup.now m.now kind }
@@ -173,7 +179,8 @@ fn shifts(setup: &Setup, m: &Move, kind: Kind) -> bool
 }
 
 // The piece that makes the move `m`, if `m` surely takes it from its start to its end square and changes no other
-// square; `None` for a promotion, en passant, or a king's move with a castling right left, which may be castling.
+// square: then `make_move` makes it the fast way. `None` for a promotion, en passant, or a king's move with a castling
+// right left, which may be castling; also if the start square is empty.
 #[inline(always)]
 fn shifted(setup: &Setup, m: &Move) -> Option<Man>
     ensures { result ≡ shifted setup.now m.now (man_at setup.now.men m.now.from) }
@@ -186,8 +193,8 @@ fn shifted(setup: &Setup, m: &Move) -> Option<Man>
     }
 }
 
-// The en passant target after the move `m` of the piece `man`: the square that a pawn passes by a double step; `None`
-// after any other move. Only for a pawn is it computed, since `target_after` looks at the board again.
+// The en passant target after the move `m` of the piece `man`: the square that a pawn passes by a double step (e3 for
+// e2e4); `None` after any other move. Only for a pawn is `target_after` asked, which looks at the board again.
 #[inline(always)]
 #[tactic(auto, using(crate::proofs::Making::officer_leaves_no_target))]
 fn target_left(setup: &Setup, m: &Move, man: Man) -> Option<Square>
@@ -202,8 +209,8 @@ fn target_left(setup: &Setup, m: &Move, man: Man) -> Option<Square>
 }
 
 // The halfmove clock after a move of `man` to a square with the content `taken`: 0 for a pawn or a capture, otherwise
-// one more than before, at most `COUNTER_LIMIT`. `halfmove_after`, which gives it too, would look at both squares
-// again.
+// one more than before, at most `COUNTER_LIMIT`. `shift` knows both contents; `halfmove_after`, which gives the same
+// clock, would look at both squares again.
 #[inline(always)]
 fn halfmove_left(setup: &Setup, man: Man, taken: Option<Man>) -> u32
     ensures { result ≡ clock_left setup.now.halfmove man.kind taken }
@@ -215,8 +222,8 @@ fn halfmove_left(setup: &Setup, man: Man, taken: Option<Man>) -> u32
     }
 }
 
-// Changes in `setup` all that a move changes besides the pieces: the other side is on move, the fullmove number rises
-// after Black's move, and castling rights, en passant target and halfmove clock become those given.
+// Changes in `setup` all that a move changes besides the pieces: the other side is on move, and the fullmove number
+// rises after Black's move. Castling rights, en passant target and halfmove clock become the given ones.
 #[inline(always)]
 fn end_turn(setup: &mut Setup, rights: Rights, target: Option<Square>, halfmove: u32)
     ensures { setup.new ≡ record {
@@ -236,9 +243,9 @@ fn end_turn(setup: &mut Setup, rights: Rights, target: Option<Square>, halfmove:
     setup.halfmove = halfmove;
 }
 
-// Makes the legal move `m` of the piece `man` in place, in the setup and its sets, where it is no promotion, castling
-// or en passant: it only takes the piece from one square to another, perhaps with a capture. Returns what is needed to
-// take it back. `keys` keep the pieces' hash up to date.
+// Makes the legal move `m` of the piece `man` in place, in the setup and its sets: the fast way, for a move that only
+// takes `man` from one square to another, perhaps with a capture (`shifted`). Returns what is needed to take the move
+// back. `keys` are the Zobrist keys, with which the hash in `sets` is kept up to date.
 #[inline(always)]
 fn shift(setup: &mut Setup, sets: &mut Sets, keys: &KeyTable, m: &Move, man: Man) -> Saved
     requires sound { IsSound setup.old }
@@ -268,9 +275,10 @@ fn shift(setup: &mut Setup, sets: &mut Sets, keys: &KeyTable, m: &Move, man: Man
     saved
 }
 
-// Makes any legal move `m` in place, and returns what is needed to take it back; `keys` keep the pieces' hash up to
-// date. `shift` looks at two squares in place of four; few moves need this one (castling, en passant, promotions, and a
-// king's moves while a castling right is left), so it is not inlined.
+// Makes any legal move `m` in place, in the setup and its sets, and returns what is needed to take it back. It changes
+// up to four squares, `shift` only two. Few moves need it (castling, en passant, promotions, and a king's moves while a
+// castling right is left), so it is not inlined. `keys` are the Zobrist keys, with which the hash in `sets` is kept up
+// to date.
 #[inline(never)]
 #[tactic(auto, unfolding(chess_base::specs::Moves::after), using(chess_base::proofs::shared::MenAfter::men_after_by_steps))]
 fn make_in_steps(setup: &mut Setup, sets: &mut Sets, keys: &KeyTable, m: &Move) -> Saved
@@ -289,8 +297,9 @@ fn make_in_steps(setup: &mut Setup, sets: &mut Sets, keys: &KeyTable, m: &Move) 
     saved
 }
 
-// Makes the legal move `m` in place, in the setup and its sets, and returns what is needed to take it back; `keys` keep
-// the pieces' hash up to date. Most moves only take a piece from one square to another (`shift`).
+// Makes the legal move `m` in place, in the setup and its sets, and returns what is needed to take it back. Most moves
+// only take a piece from one square to another, and are made the fast way (`shift`). `keys` are the Zobrist keys, with
+// which the hash in `sets` is kept up to date.
 #[inline(always)]
 pub(crate) fn make_move(setup: &mut Setup, sets: &mut Sets, keys: &KeyTable, m: &Move) -> Saved
     requires sound { IsSound setup.old }
@@ -305,8 +314,9 @@ pub(crate) fn make_move(setup: &mut Setup, sets: &mut Sets, keys: &KeyTable, m: 
     shift(setup, sets, keys, m, man)
 }
 
-// Takes back the move `m`, which led to this setup, in place, in the setup and its sets; `saved` is what was returned
-// when it was made. `keys` keep the pieces' hash up to date.
+// Takes back the move `m`, which led to this setup, in place, in the setup and its sets. `saved` is the value that
+// `make_move` returned for it: the captured piece, and rights, target and counters before the move. `IsMade` says that
+// `m` and `saved` are such. `keys` are the Zobrist keys, with which the hash in `sets` is kept up to date.
 #[tactic(auto, unfolding(chess_base::specs::Before::before), using(chess_base::proofs::shared::MenAfter::men_before_by_steps))]
 pub(crate) fn move_back(
     setup: &mut Setup,

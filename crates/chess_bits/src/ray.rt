@@ -1,4 +1,4 @@
-//! The rays of the board: which squares lie on a line through a square, above it in number or below it.
+//! The rays of the board: the squares of a line through a square, above that square in number or below it.
 
 ghost use Rattle.std.specs.Prelude.{◌≡◌};
 ghost use Rattle.chess_base.specs.shared.Lines.{line_number};
@@ -21,8 +21,9 @@ fn line_number(line: Line, square: Square) -> u8
     }
 }
 
-/// Whether square x is on the line of this kind through square a, with a greater number than a if `up`, otherwise with
-/// a smaller one (a1 is 0, b1 is 1, h8 is 63). From d4 up the rank these are e4 to h4, and up the file d5 to d8.
+/// Whether square x is on the ray from square a along its line of this kind: towards greater numbers if `up`, otherwise
+/// towards smaller ones (a1 is 0, b1 is 1, h8 is 63). From d4 up the rank these are e4 to h4, and up the file d5 to d8.
+/// The tables of rays are computed from this test.
 pub(crate) fn is_on_ray(line: Line, up: bool, a: Square, x: Square) -> bool
     ensures { result ≡ is_on_ray line up a x }
 {

@@ -1,4 +1,4 @@
-//! Where pieces reach.
+//! The squares that a piece attacks, and the pieces of a set that attack a square.
 
 ghost use Rattle.std.specs.Prelude.{◌≡◌, ℕ, ◌<◌, ◌&&◌, ◌||◌, false};
 ghost use Rattle.chess_base.specs.Attacks.{could_capture};
@@ -14,8 +14,9 @@ use crate::tables::AttackTables;
 use chess_base::{Colour, Kind, Square};
 use chess_moves::SquareSet;
 
-/// The squares that a piece of this colour and kind attacks from `from`, whatever is on them (own pieces too);
-/// `occupied` are the occupied squares of the board.
+/// The squares that a piece of this colour and kind attacks from `from`, whatever is on them (own pieces too).
+/// `occupied` are the occupied squares of the board, which end a queen's, rook's or bishop's lines. The colour matters
+/// only for pawns.
 #[inline(always)]
 #[tactic(auto, using(crate::proofs::Reached::king_from, crate::proofs::Reached::queen_from, crate::proofs::Reached::rook_from, crate::proofs::Reached::bishop_from, crate::proofs::Reached::knight_from, crate::proofs::Reached::pawn_from))]
 pub fn reached_from(
@@ -40,10 +41,10 @@ pub fn reached_from(
     }
 }
 
-/// Those of the squares `men` from which a queen, rook, bishop or knight (`kind` says which) would attack `square`. A
-/// caller gives the squares of its own pieces of that kind, to find which of them can go to `square`. `occupied` are the
-/// occupied squares of the board. Those of `men` that are on lines of `square` are looked at one by one, which costs less
-/// than the sweeps of `reached_from` where they are few.
+/// The squares of the set `men` from which a piece of this kind (queen, rook, bishop or knight) would attack `square`.
+/// A caller gives the squares of its own pieces of that kind, to find which of them can go to `square`, as for the SAN
+/// move Nf3. `occupied` are the occupied squares of the board. Squares of `men` on lines of `square` are looked at one
+/// by one: where they are few, that costs less than the sweeps of `reached_from`.
 #[inline(always)]
 #[tactic(auto, using(crate::proofs::Reached::queen_met, crate::proofs::Reached::rook_from, crate::proofs::Reached::bishop_from, crate::proofs::Reached::knight_from))]
 pub fn reached_among(

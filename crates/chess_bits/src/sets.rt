@@ -1,4 +1,4 @@
-//! The pieces of both colours as sets of squares, kept along with the pieces by their squares.
+//! The pieces of both colours as sets of squares, kept along with the list of pieces by square.
 
 ghost use Rattle.std.specs.Prelude.{◌≡◌, ℕ, ◌<◌, length, slice_set, Some, None};
 ghost use Rattle.chess_base.specs.Men.{Men, man_at, is_of};
@@ -13,7 +13,8 @@ use chess_base::{Colour, Man, Square};
 use chess_moves::{SquareSet, man_key};
 
 /// The pieces of both colours as sets of squares; and `men_word`, their part of the position's hash: the exclusive or
-/// of one Zobrist key for each piece on its square.
+/// of one Zobrist key for each piece on its square. In contracts `IsSets sets men` says that these are the sets and the
+/// hash of the pieces in the list `men`; `slice_set men square x` is that list with x on the square.
 #[derive(Clone, Copy)]
 pub struct Sets {
     pub white: Kinds,
@@ -22,7 +23,7 @@ pub struct Sets {
 }
 
 impl Sets {
-    /// The sets of an empty board.
+    /// The sets of an empty board, whose hash is 0.
     #[tactic(auto, using(crate::proofs::Standing::no_sets))]
     pub fn empty() -> Sets
         ensures { (men : Men) → ((k : ℕ) → k < 64 → man_at men k ≡ None) → IsSets result men }
@@ -34,7 +35,7 @@ impl Sets {
         }
     }
 
-    /// The sets of this colour's pieces, one for each kind.
+    /// The sets of this colour's pieces: one for each kind, and one of all.
     pub fn of(&self, colour: Colour) -> &Kinds
         ensures { (men : Men) → IsSets self.now men → IsKinds result.now.sets colour men }
     {
@@ -62,7 +63,8 @@ impl Sets {
         self.white.all.union(self.black.all)
     }
 
-    // Removes the piece `man` from `square`: from its colour's sets, and its Zobrist key from `men_word`.
+    // Removes the piece `man` from `square`: from its colour's sets, and its Zobrist key (one of `keys`) from the hash
+    // `men_word`.
     #[inline(always)]
     fn lift(&mut self, keys: &KeyTable, square: Square, man: Man)
         ensures { (men : Men) → length men ≡ 64 → man_at men square ≡ Some man → IsSets self.old men
@@ -75,7 +77,8 @@ impl Sets {
         }
     }
 
-    // Adds the piece `man` on `square`, which is empty: to its colour's sets, and its Zobrist key to `men_word`.
+    // Adds the piece `man` on `square`, which is empty: to its colour's sets, and its Zobrist key (one of `keys`) to
+    // the hash `men_word`.
     #[inline(always)]
     fn put(&mut self, keys: &KeyTable, square: Square, man: Man)
         ensures { (men : Men) → length men ≡ 64 → man_at men square ≡ None → IsSets self.old men
@@ -88,15 +91,15 @@ impl Sets {
         }
     }
 
-    /// Moves the piece `man` from one square to another, which is empty. `keys` are the Zobrist keys, with which
-    /// `men_word` is kept up to date.
+    /// Moves the piece `man` from one square to another, which is empty: a captured piece has been cleared away before.
+    /// `keys` are the Zobrist keys, with which the hash `men_word` is kept up to date.
     #[inline(always)]
     pub fn shift(&mut self, keys: &KeyTable, man: Man, from: Square, to: Square)
         ensures { (men : Men) → length men ≡ 64 → man_at men from ≡ Some man → man_at men to ≡ None
             → IsSets self.old men → IsSets self.new (slice_set (slice_set men from None) to (Some man)) }
     {
-        // The old key is taken out before the sets change, and the new one put in after: side by side, the compiler
-        // made a branch on the piece's kind of the two.
+        // The old key is taken out before the sets change, and the new one is put in after that, once for each colour.
+        // With both in one place, the compiler made a branch on the piece's kind.
         self.men_word ^= man_key(keys, man, from);
         match man.colour {
             Colour::White => {
@@ -110,8 +113,8 @@ impl Sets {
         }
     }
 
-    /// Empties `square`, which holds `old`, a piece or nothing (`None`). `keys` are the Zobrist keys, with which
-    /// `men_word` is kept up to date.
+    /// Empties `square`. Its content is `old`, a piece or nothing (`None`). `keys` are the Zobrist keys, with which the
+    /// hash `men_word` is kept up to date.
     #[inline(always)]
     pub fn clear(&mut self, keys: &KeyTable, square: Square, old: Option<Man>)
         ensures { (men : Men) → length men ≡ 64 → man_at men square ≡ old → IsSets self.old men
@@ -123,7 +126,7 @@ impl Sets {
     }
 
     /// Puts `new`, a piece or nothing (`None`), on `square`, which is empty. `keys` are the Zobrist keys, with which
-    /// `men_word` is kept up to date.
+    /// the hash `men_word` is kept up to date.
     #[inline(always)]
     pub fn fill(&mut self, keys: &KeyTable, square: Square, new: Option<Man>)
         ensures { (men : Men) → length men ≡ 64 → man_at men square ≡ None → IsSets self.old men
@@ -134,8 +137,8 @@ impl Sets {
         }
     }
 
-    /// Replaces the content of `square`, `old`, by `new`; each is a piece or nothing (`None`). `keys` are the Zobrist
-    /// keys, with which `men_word` is kept up to date.
+    /// Replaces `old`, the content of `square`, by `new`; each is a piece or nothing (`None`). `keys` are the Zobrist
+    /// keys, with which the hash `men_word` is kept up to date.
     #[inline(always)]
     pub fn write(&mut self, keys: &KeyTable, square: Square, old: Option<Man>, new: Option<Man>)
         ensures { (men : Men) → length men ≡ 64 → man_at men square ≡ old → IsSets self.old men

@@ -1,4 +1,4 @@
-//! How far a rook or a bishop sees along its lines.
+//! How far a rook or a bishop sees along its lines; and which pieces of a set see a square along its lines.
 
 ghost use Rattle.std.specs.Prelude.{◌≡◌, ℕ, ◌<◌, ◌&&◌, ◌||◌, not, true, ◌==◌};
 ghost use Rattle.chess_base.specs.Squares.{share_rank_or_file, share_diagonal};
@@ -14,7 +14,7 @@ use chess_base::rules::Line;
 use chess_moves::SquareSet;
 
 // The squares that are seen from `square` along its line of this kind: in both directions up to the first occupied
-// square, that one included.
+// square, which is included.
 #[inline(always)]
 #[tactic(auto, using(crate::proofs::Attackers::both_rays))]
 fn along(tables: &AttackTables, line: Line, square: Square, occupied: SquareSet) -> SquareSet
@@ -26,7 +26,8 @@ fn along(tables: &AttackTables, line: Line, square: Square, occupied: SquareSet)
     rising.union(falling)
 }
 
-// The squares that a rook on `square` attacks: each direction ends with the first occupied square, whatever is on it.
+// The squares that a rook on `square` attacks. Each direction ends with the first occupied square, which is included
+// whatever is on it.
 #[tactic(auto, using(crate::proofs::Attackers::on_lines))]
 pub(crate) fn along_lines(tables: &AttackTables, square: Square, occupied: SquareSet) -> SquareSet
     ensures { (k : ℕ) → k < 64
@@ -36,7 +37,8 @@ pub(crate) fn along_lines(tables: &AttackTables, square: Square, occupied: Squar
     rank.union(along(tables, Line::File, square, occupied))
 }
 
-// The squares that a bishop on `square` attacks: each direction ends with the first occupied square, whatever is on it.
+// The squares that a bishop on `square` attacks. Each direction ends with the first occupied square, which is included
+// whatever is on it.
 #[tactic(auto, using(crate::proofs::Attackers::on_diagonals))]
 pub(crate) fn along_diagonals(
     tables: &AttackTables,
@@ -50,7 +52,7 @@ pub(crate) fn along_diagonals(
     diagonal.union(along(tables, Line::Antidiagonal, square, occupied))
 }
 
-// Whether no square of `occupied` is strictly between a and b, two squares of one rank, file or diagonal.
+// Whether no occupied square is strictly between a and b, two squares of one rank, file or diagonal.
 #[inline(always)]
 fn is_open(tables: &AttackTables, a: Square, b: Square, occupied: SquareSet) -> bool
     requires { (share_rank_or_file b a || share_diagonal b a) ≡ true }
@@ -63,7 +65,8 @@ fn is_open(tables: &AttackTables, a: Square, b: Square, occupied: SquareSet) -> 
     between.intersection(occupied).is_empty()
 }
 
-// Those of the squares `men`, all on lines of `square`, that are in sight of it: no square between is occupied.
+// The squares of the set `men` with no occupied square between them and `square`. The callers give only squares on
+// ranks and files of `square`, or only squares on its diagonals.
 #[inline(always)]
 fn seen_from(
     tables: &AttackTables,
@@ -77,9 +80,9 @@ fn seen_from(
     filter(men, |man| is_open(tables, square, man, occupied))
 }
 
-// The squares of the set `men` from which a rook would attack `square`: those on its rank or file with no occupied
-// square between. Each of them on its rank or file is looked at by itself: in most positions there are few, and never
-// more than 14. With four sweeps instead the workload boards took 7 % longer.
+// The squares of the set `men` from which a rook would attack `square`: the ones on its rank or file with no occupied
+// square between. Each of them is looked at by itself: in most positions there are few, and never more than 14. With
+// four sweeps from `square` instead, the workload boards took 7 % longer.
 #[tactic(auto, unfolding(crate::specs::ties::Shapes::in_shape))]
 pub(crate) fn met_on_lines(
     tables: &AttackTables,
@@ -95,9 +98,9 @@ pub(crate) fn met_on_lines(
     seen_from(tables, square, occupied, near)
 }
 
-// The squares of the set `men` from which a bishop would attack `square`: those on its diagonals with no occupied
-// square between. Each of them on its diagonals is looked at by itself, as in `met_on_lines`: in most positions there
-// are few, and never more than 13.
+// The squares of the set `men` from which a bishop would attack `square`: the ones on its diagonals with no occupied
+// square between. Each of them is looked at by itself, as in `met_on_lines`: in most positions there are few, and never
+// more than 13.
 #[tactic(auto, unfolding(crate::specs::ties::Shapes::in_shape))]
 pub(crate) fn met_on_diagonals(
     tables: &AttackTables,

@@ -7,7 +7,8 @@ ghost use Rattle.chess_moves.specs.Sets.{contains, members};
 use chess_base::Square;
 use chess_moves::SquareSet;
 
-/// The set that has just `square` if `passed` is true; otherwise the empty set.
+/// The set that has just `square` if `passed` is true; otherwise the empty set. Its union with a set adds the square to
+/// the set if a test passed.
 #[inline(always)]
 pub(crate) fn single_if(passed: bool, square: Square) -> SquareSet
     ensures { (k : ℕ) → contains result k ≡ (passed && (k == square)) }
@@ -19,7 +20,8 @@ pub(crate) fn single_if(passed: bool, square: Square) -> SquareSet
     }
 }
 
-/// The squares of the set for which the test is true; each is tested once, from a1 to h8.
+/// The squares of the set for which the test is true; each is tested once, from a1 to h8. In the contract `F.pre` says
+/// that the test may be called for square k, and `F.post` what it may answer: that is whether k is in the result.
 #[inline(always)]
 pub(crate) fn filter<F: Fn(Square) -> bool>(set: SquareSet, test: F) -> SquareSet
     requires { (k : ℕ) → k < 64 → contains set k ≡ true → F.pre test k }
@@ -35,7 +37,8 @@ pub(crate) fn filter<F: Fn(Square) -> bool>(set: SquareSet, test: F) -> SquareSe
     chosen
 }
 
-/// Whether some square of the set passes the test. No square after the first one that passes is tested.
+/// Whether some square of the set passes the test. No square after the first one that passes is tested. In the contract
+/// `q` is a definition with which all answers of the test agree: the result is whether it holds of some square.
 #[inline(always)]
 pub(crate) fn any<F: Fn(Square) -> bool>(set: SquareSet, test: F) -> bool
     requires { (k : ℕ) → k < 64 → contains set k ≡ true → F.pre test k }

@@ -1,5 +1,5 @@
-//! Tables of sets of squares, one set for each square: what a piece attacks there on an empty board, or a ray from
-//! there.
+//! Tables of sets of squares, with one set for each square: the squares that a piece there attacks on an empty board,
+//! or a ray from there.
 
 ghost use Rattle.std.specs.Prelude.{◌≡◌, ℕ, ◌<◌};
 ghost use Rattle.chess_moves.specs.Sets.{contains};
@@ -11,24 +11,24 @@ use chess_base::{Colour, Square};
 use chess_moves::SquareSet;
 use std::marker::Model;
 
-/// What a table of sets of squares is about: the squares that a piece attacks on an empty board, or the squares of a
-/// ray. The `bool` of a ray is true for the squares with greater numbers than its start, false for those with smaller
-/// ones.
+/// Which table of sets of squares is meant: the squares that a piece attacks on an empty board (rooks: `Lines`,
+/// bishops: `Diagonals`), or the squares of a ray. The `bool` of a ray is true for the squares with greater numbers
+/// than its start, false for the ones with smaller numbers.
 #[derive(Clone, Copy, PartialEq, Eq)]
 pub enum Shape {
     King,
     Knight,
     Pawn(Colour),
-    /// The other squares of its rank and file.
+    /// The other squares of a square's rank and file.
     Lines,
-    /// The other squares of its diagonals.
+    /// The other squares of a square's diagonals.
     Diagonals,
     Ray(Line, bool),
 }
 
 // Whether square b belongs to the shape from square a: for `Knight`, whether a knight on a attacks b; for `Lines`,
-// whether b is another square of a's rank or file. chess_base's `could_capture`, which has the same tests, is private
-// there, and asks for the pieces of a board.
+// whether b is another square of a's rank or file. The tables are computed from this test. chess_base's `could_capture`
+// tests kings, knights and pawns in the same way, but is private there, and asks for the pieces of a board.
 #[tactic(auto, unfolding(crate::specs::ties::Shapes::in_shape))]
 fn in_shape(shape: Shape, a: Square, b: Square) -> bool
     ensures { result ≡ in_shape shape a b }
@@ -46,8 +46,8 @@ fn in_shape(shape: Shape, a: Square, b: Square) -> bool
     }
 }
 
-// The squares that belong to the shape from square a: for `Knight`, those that a knight on a attacks. It tries the
-// numbers 0 to 63, since `filter` would need a set of all squares.
+// The squares that belong to the shape from square a: for `Knight`, the ones that a knight on a attacks. This computes
+// one entry of a table. It tries the numbers 0 to 63, since `filter` would need a set of all squares.
 fn squares_of(shape: Shape, a: Square) -> SquareSet
     ensures { (k : ℕ) → k < 64 → contains result k ≡ in_shape shape a k }
 {
@@ -61,7 +61,8 @@ fn squares_of(shape: Shape, a: Square) -> SquareSet
     set
 }
 
-/// A table that gives, for each square, the squares that belong to one shape from there. In contracts it is that shape.
+/// A table of one shape: for each square, the set of squares that belong to the shape from there. In contracts its
+/// value is that shape.
 #[derive(Drop)]
 pub struct Table {
     shape: Shape,
@@ -83,7 +84,7 @@ impl Model for Table {
 }
 
 impl Table {
-    /// Computes the table of this shape: for each square the squares that belong to the shape from there.
+    /// Computes the table of this shape: for each square, the squares that belong to the shape from there.
     pub fn new(shape: Shape) -> Self
         ensures { result ≡ shape }
     {
@@ -95,8 +96,8 @@ impl Table {
         Table { shape, sets }
     }
 
-    /// The squares that belong to the table's shape from `square`, looked up: for `Knight`, those that a knight there
-    /// attacks.
+    /// The squares that belong to the table's shape from `square`, looked up: for `Knight`, the ones that a knight
+    /// there attacks.
     pub fn at(&self, square: Square) -> SquareSet
         ensures { (k : ℕ) → k < 64 → contains result k ≡ in_shape self.now square k }
     {

@@ -1,4 +1,4 @@
-//! All tables together, and sweeps: the squares of a ray up to and with the first one of a set.
+//! All tables together; and sweeps, the squares of a ray up to its first occupied square, which is included.
 
 ghost use Rattle.std.specs.Prelude.{◌≡◌, ℕ, ◌<◌, ◌&&◌, true, false};
 ghost use Rattle.chess_moves.specs.Sets.{contains, is_beyond};
@@ -19,7 +19,8 @@ use chess_base::{Colour, Square};
 use chess_moves::SquareSet;
 use std::alloc::{AllocError, Global};
 
-// One table for each shape, and the keys of position hashes.
+// One table for each shape, and the Zobrist keys of position hashes. The ghost fields state which table has which
+// shape.
 #[derive(Drop)]
 pub(crate) struct Tables {
     king: Table,
@@ -78,9 +79,9 @@ impl Tables {
     }
 }
 
-/// What the pieces attack on an empty board, and the rays: fourteen times 64 sets of squares, and the keys of position
-/// hashes, in a box; and 4,096 sets, the squares between each two squares, in a vector. They never change, and are lent
-/// to the boards that look them up.
+/// The tables of attacks on an empty board and of rays (fourteen times 64 sets of squares) and the keys of position
+/// hashes, in a box; and the squares between each two squares (4,096 sets), in a vector. They never change, and are
+/// lent to the boards that look them up.
 #[derive(Drop)]
 pub struct AttackTables {
     tables: Box<Tables>,
@@ -88,8 +89,8 @@ pub struct AttackTables {
 }
 
 // The first of the squares that a ray meets: the lowest if the ray goes `up`, otherwise the highest. For the empty set
-// it is the board's last square in that direction, h8 or a1, from which no ray continues. That square is always added
-// to the set: to another set it makes no difference.
+// it is the board's last square in that direction, h8 or a1, from which no ray continues. That last square is always
+// added to the set, so no branch is needed: it changes the result only for the empty set.
 #[inline(always)]
 fn nearest(squares: SquareSet, up: bool) -> Square
     ensures in_range { result < 64 }
@@ -146,17 +147,18 @@ impl AttackTables {
         self.between.at(a, b)
     }
 
-    // The squares that belong to this shape from `square`, looked up: for `Knight`, those that a knight there attacks.
+    // The squares that belong to this shape from `square`, looked up: for `Knight`, the ones that a knight there
+    // attacks.
     pub(crate) fn at(&self, shape: Shape, square: Square) -> SquareSet
         ensures { (k : ℕ) → k < 64 → contains result k ≡ in_shape shape square k }
     {
         self.tables.table(shape).at(square)
     }
 
-    /// The squares of the ray from `from` (not included) along its line of this kind, with rising numbers if `up`, up
-    /// to and with its first occupied square, or to the board's edge. It is the whole ray without the ray that
-    /// continues from the first occupied square. If there is none, `nearest` gives a corner from which no ray
-    /// continues, so no branch is needed.
+    /// The squares seen from `from` in one direction: along its line of this kind, with rising numbers if `up`, up to
+    /// the first occupied square, which is included, or to the board's edge. They are the whole ray without the ray
+    /// that continues from the first occupied square. If no square is occupied, `nearest` gives a corner from which no
+    /// ray continues, so no branch is needed.
     #[inline(always)]
     #[tactic(auto, unfolding(crate::specs::ties::Shapes::in_shape))]
     pub(crate) fn sweep(&self, line: Line, up: bool, from: Square, occupied: SquareSet) -> SquareSet

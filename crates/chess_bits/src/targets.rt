@@ -1,4 +1,5 @@
-//! Where pieces go: sets of end squares, whatever becomes of the king. Castling is among them only where it is legal.
+//! The squares to which pieces go, even if their king is then attacked. Castling is among these moves only where it is
+//! legal.
 
 ghost use Rattle.std.specs.Prelude.{◌≡◌, ◌<◌, ℕ, ◌&&◌, ◌||◌, not, true, false, Some, None};
 ghost use Rattle.chess_base.specs.Attacks.{could_capture};
@@ -41,8 +42,9 @@ pub(crate) fn is_pawn(kind: Kind) -> bool
 }
 
 impl Bits<'_> {
-    // The squares that a piece of this kind on `from`, of the side on move, attacks and that hold no piece of its own
-    // colour: for a knight, say, the end squares of its pseudo-legal moves.
+    // The squares that a piece of this kind on `from`, of the side on move, attacks, without the ones that hold its own
+    // pieces. For queen, rook, bishop and knight these are the end squares of its pseudo-legal moves, for the king all
+    // but castling.
     #[inline(always)]
     pub(crate) fn steps(&self, kind: Kind, from: Square) -> SquareSet
         ensures { (k : ℕ) → k < 64
@@ -54,10 +56,11 @@ impl Bits<'_> {
         reached.without(self.sets.all(side))
     }
 
-    // The squares of king and rook in the castling that the move `m` is; `None` if the piece on its start is not the
-    // king of the side on move. The caller knows that there is a right to castle to this side, with the rook on `rook`,
-    // and that `m` ends where such a castling does. `castle_of` would ask for the side again, and `castle_from`, which
-    // gives these squares for a known side, is private in chess_base.
+    // The four squares of the castling that the move `m` is: start and end of king and rook. `None` if the piece on its
+    // start is not the king of the side on move. The caller knows the rest: the right to castle to this side is there,
+    // with the rook on `rook`, and `m` ends where such a castling does. In normal chess that gives the squares at once;
+    // `castle_of` would find the castling side again, and chess_base's `castle_from`, which gives the squares for a
+    // known side, is private there.
     fn castle_to(&self, m: &Move, castling_side: CastlingSide, rook: Square) -> Option<Castle>
         requires right { right_of (self.now).rights (self.now).side castling_side ≡ Some rook }
         requires end { m.now.to ≡ castling_end (self.now).variant (self.now).side castling_side rook }
@@ -81,9 +84,9 @@ impl Bits<'_> {
         }
     }
 
-    // As a set, the end square of castling to this side with the king on `king`, if it is legal; otherwise the empty
-    // set. The right to castle to this side is there, with the rook on `rook`. In most positions of a game it is not,
-    // so only the test for it (`legal_castling_end`) is inlined.
+    // The end square of castling to this side with the king on `king`, as a set; the empty set if that castling is not
+    // legal. The right to it is there, with the rook on `rook`. Most positions of a game have no such right, so only
+    // the test for the right (`legal_castling_end`) is inlined, and this is not.
     #[inline(never)]
     fn legal_castling_end_with(
         &self,
@@ -110,8 +113,8 @@ impl Bits<'_> {
         single_if(self.castles_legally(&m, &castle), to)
     }
 
-    // As a set, the end square of castling to this side with the king on `king`, if it is legal; otherwise, such as
-    // without the right to it, the empty set.
+    // The end square of castling to this side with the king on `king`, as a set; the empty set if that castling is not
+    // legal, such as without the right to it.
     #[inline(always)]
     fn legal_castling_end(&self, king: Square, castling_side: CastlingSide) -> SquareSet
         ensures { (k : ℕ) → k < 64 → contains result k ≡ castles_onto self.now castling_side king k }
@@ -123,7 +126,8 @@ impl Bits<'_> {
     }
 
     // The end squares of the legal castlings of the king on `king`, none, one or two: in normal chess where the king
-    // arrives (c1, g1), in Chess960 where its rook is (such as a1, h1).
+    // arrives (White's c1 and g1), in Chess960 where its rook is (such as a1 and h1). `legal_or` with `false`: the move
+    // is castling, and legal.
     pub(crate) fn castling_ends(&self, king: Square) -> SquareSet
         ensures { (k : ℕ) → k < 64
             → contains result k ≡ legal_or self.now (move_of king k None) (castle_of self.now (move_of king k None)) false }
@@ -132,8 +136,8 @@ impl Bits<'_> {
         far.union(self.legal_castling_end(king, CastlingSide::KingSide))
     }
 
-    // The end squares of the piece on `from`, which is of the side on move and no pawn: those of its pseudo-legal
-    // moves, even if they leave the king attacked, but of castling only if it is legal.
+    // The end squares of the piece on `from`, which is of the side on move and no pawn: of its pseudo-legal moves, even
+    // if they leave the king attacked, but of castling only if it is legal.
     fn man_targets(&self, from: Square) -> SquareSet
         requires { is_of (self.now).side (man_at (self.now).men from) ≡ true }
         ensures { (k : ℕ) → k < 64 → contains result k ≡ man_goes self.now from k }
@@ -167,8 +171,8 @@ impl Bits<'_> {
         next.union(second)
     }
 
-    // The squares on which the pawn on `from`, of the side on move, may capture: of those that it attacks the ones that
-    // hold an enemy piece, and the en passant target.
+    // The squares on which the pawn on `from`, of the side on move, may capture. Of the squares that it attacks, these
+    // are the ones with an enemy piece and the en passant target.
     fn captures(&self, from: Square) -> SquareSet
         requires { is_man (self.now).side Pawn (man_at (self.now).men from) ≡ true }
         ensures { (k : ℕ) → k < 64 → contains result k ≡ pawn_captures self.now (move_of from k None) }
@@ -180,9 +184,9 @@ impl Bits<'_> {
         reached.intersection(aims)
     }
 
-    // The squares from which a pawn of the side on move could capture on `to`: those that an enemy pawn on `to` would
-    // attack, if `to` holds an enemy piece or is the en passant target, and otherwise none. Whether pawns are on these
-    // squares is not asked here; `pawns_to` asks that.
+    // The squares from which a pawn of the side on move could capture on `to`; none if `to` neither holds an enemy
+    // piece nor is the en passant target. An enemy pawn on `to` would attack just these squares: for White and d5, c4
+    // and e4. Whether pawns are on them is not asked here; `pawns_to` asks that.
     #[inline(always)]
     pub(crate) fn capture_starts(&self, to: Square) -> SquareSet
         ensures { (k : ℕ) → k < 64
@@ -212,8 +216,8 @@ impl Bits<'_> {
         advances.union(captures)
     }
 
-    // The end squares of the moves of the piece on `from`: of all its legal moves, and perhaps of pseudo-legal ones
-    // that would leave its king attacked. None if no piece of the side on move is there.
+    // The end squares of the piece on `from`: of all its legal moves, and perhaps of pseudo-legal ones that would leave
+    // its king attacked. None if no piece of the side on move is there.
     #[tactic(auto, using(crate::proofs::TargetsOf::none_begin, crate::proofs::TargetsOf::pawn_sound, crate::proofs::TargetsOf::pawn_complete, crate::proofs::TargetsOf::man_set_sound, crate::proofs::TargetsOf::man_set_complete))]
     pub(crate) fn targets(&self, from: Square) -> SquareSet
         ensures sound { (k : ℕ) → k < 64 → contains result k ≡ true → goes self.now from k ≡ true }
