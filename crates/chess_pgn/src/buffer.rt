@@ -12,9 +12,11 @@ use std::marker::Model;
 // The most bytes that the buffer holds.
 const BUFFER_LEN: usize = 4096;
 
-/// Text that is collected before it is written, at most 4,096 bytes. In contracts it is the list of its bytes. `Adds`
-/// ends in the text that is added: what the writer took, and then what is left in the buffer, are the bytes that were
-/// in the buffer and then this text.
+/// Text that is collected before it is written, at most 4,096 bytes. In contracts it is the list of its bytes.
+///
+/// The last argument of `Adds` is the text that is added. The bytes that the writer took, and after them those left in
+/// the buffer, are the bytes that were in the buffer, and after them this text. If the writer failed, it took a
+/// beginning of these bytes.
 #[derive(Drop)]
 pub(crate) struct TextBuffer {
     text: ArrayVec<u8, 4096>,
@@ -38,8 +40,9 @@ impl TextBuffer {
         }
     }
 
-    // Makes room for `len` more bytes: if they don't fit, what is in the buffer is written and the buffer emptied. More
-    // than `BUFFER_LEN` bytes never fit, so then the buffer is empty afterwards.
+    // Makes room for `len` more bytes: if they don't fit, the buffer's bytes are written and the buffer is emptied.
+    // More than `BUFFER_LEN` bytes never fit, so for these the buffer is always empty afterwards (`none`). No text is
+    // added, so the text in `added` is empty.
     fn make_room<W: Output>(&mut self, writer: &mut W, len: usize) -> Result<(), WriteFault>
         ensures added { Adds (W.seen writer.old) (W.seen writer.new) self.old self.new result [] }
         ensures room { OnOk result (len ≤ BUFFER_LEN → length self.new + len ≤ BUFFER_LEN) }
@@ -52,11 +55,11 @@ impl TextBuffer {
         Ok(())
     }
 
-    /// Adds a text to the buffer. If it doesn't fit, what is in the buffer is written first; a text of more than 4,096
-    /// bytes is then written too, and the buffer is left empty.
+    /// Adds a text to the buffer. If the text doesn't fit, the buffer's bytes are written first. A text of more than
+    /// 4,096 bytes is then written too, and the buffer is left empty.
     ///
     /// # Errors
-    /// If the writer fails; a beginning of the buffer and of the text was written then.
+    /// If the writer fails; it then took a beginning of the buffer's bytes and the text after them.
     pub(crate) fn add<W: Output>(&mut self, writer: &mut W, text: &[u8]) -> Result<(), WriteFault>
         ensures { Adds (W.seen writer.old) (W.seen writer.new) self.old self.new result text.now }
     {
@@ -68,10 +71,10 @@ impl TextBuffer {
         Ok(())
     }
 
-    /// Adds texts to the buffer, one after the other.
+    /// Adds texts to the buffer, one after the other: a line's prefix, its text and its `\n`, for example.
     ///
     /// # Errors
-    /// If the writer fails; a beginning of the buffer and of the texts was written then.
+    /// If the writer fails; it then took a beginning of the buffer's bytes and the texts after them.
     pub(crate) fn add_parts<W: Output>(
         &mut self,
         writer: &mut W,
@@ -85,10 +88,11 @@ impl TextBuffer {
         Ok(())
     }
 
-    /// Writes what is in the buffer. The buffer keeps its bytes, so it is not used after that.
+    /// Writes the buffer's bytes, after the last text was added. The buffer keeps its bytes, so it must not be used
+    /// again.
     ///
     /// # Errors
-    /// If the writer fails; a beginning of the buffer was written then.
+    /// If the writer fails; it then took a beginning of the buffer's bytes.
     pub(crate) fn finish<W: Output>(&self, writer: &mut W) -> Result<(), WriteFault>
         ensures { Puts (W.seen writer.old) (W.seen writer.new) result self.now }
     {

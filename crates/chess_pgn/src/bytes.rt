@@ -6,7 +6,8 @@ ghost use Rattle.chess_pgn.specs.Tokens.{is_white_space, is_word_byte};
 ghost use Rattle.text_lines.specs.Words.{is_name_byte};
 ghost use Rattle.chess_base.specs.Letters.{byte, is_digit};
 
-// What each byte is where a token begins: `w` one that a word may have, `p` white space or a dot, `-` any other.
+// The class of each byte: `w` if a word may have it, `p` if it is white space or a dot, which are passed over between
+// tokens, and `-` for any other.
 static CLASSES: [u8; 256] = *b"\
     ---------pp--p------------------\
     pw-w-------w-wpwwwwwwwwwwww--w-w\
@@ -17,7 +18,7 @@ static CLASSES: [u8; 256] = *b"\
     --------------------------------\
     --------------------------------";
 
-// What each byte is in a tag's name: `n` one that may be there, `-` any other.
+// Which bytes a tag's name may have: `n` if it may have the byte, `-` if not.
 static NAMES: [u8; 256] = *b"\
     --------------------------------\
     ----------------nnnnnnnnnn------\

@@ -10,8 +10,8 @@ use crate::tag::Tag;
 use crate::token::{Token, after_blanks, next_token};
 use crate::word_kind::{WordKind, word_kind};
 
-/// Whether more tags of the same game may come after this token: it is skipped, a tag, or marks such as `!?`. After a
-/// number, a move or an outcome no tag belongs to this game.
+/// Whether more tags of the same game may come after this token. They may after a token that is skipped, a tag, or
+/// marks such as `!?`; after a number, a move or an outcome no tag belongs to this game.
 pub(crate) fn may_precede_tags(token: &Token<'_>) -> bool
     ensures { result ≡ may_precede_tags (token_seen token.now) }
 {
@@ -24,7 +24,8 @@ pub(crate) fn may_precede_tags(token: &Token<'_>) -> bool
     }
 }
 
-/// The token's tag, if it is a tag with this name; `None` for a tag with another name and for any other token.
+/// The token's tag, if the token is a tag with this name; `None` for a tag with another name, and for any other token.
+/// In contracts `found_seen` is the tag's text and its `to_end`.
 pub(crate) fn named_tag<'t>(name: &[u8], token: &Token<'t>) -> Option<Tag<'t>>
     ensures { found_seen result ≡ named_tag name.now (token_seen token.now) }
 {
@@ -36,6 +37,7 @@ pub(crate) fn named_tag<'t>(name: &[u8], token: &Token<'t>) -> Option<Tag<'t>>
 
 /// The last tag with this name among a game's tags; `None` if no tag has this name. The tags end before the game's
 /// first number, move or outcome, or before what can't be read. `at` is the offset at which the game's text begins.
+/// This function is called for `Result`, and for `Variant` before a game is read.
 pub(crate) fn last_tag<'t>(text: &'t [u8], at: usize, name: &[u8]) -> Option<Tag<'t>>
     requires { at ≤ length text.now }
     ensures tag { found_seen result ≡ last_tag name.now (tag_section (tokens_from text.now at)) }

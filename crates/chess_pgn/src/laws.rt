@@ -21,12 +21,13 @@ ghost use Rattle.chess_pgn.specs.Split.{IsSplit};
 use chess_base::{Position, Variant, after_is_sound};
 use chess_fen::written_is_denoted;
 
-/// States a law and does nothing: the text of a game that the limit admits is read back where it begins, whatever
-/// comes before and after it. The start, the moves and the outcome are the game's, and the offset returned is right
-/// after its outcome.
+/// States a law and does nothing: if a game is written without a prefix, and its text is read where it begins, the
+/// start, the moves, the outcome and the termination that are read are the written ones, whatever text comes before and
+/// after it. The offset returned is right after the outcome. The law is about readers that allow as many half-moves as
+/// the game has.
 ///
-/// A result that was declared is read without its comment, since the text holds none. The tags are not kept; the tag
-/// `Result` names the game's outcome.
+/// A result that was declared is read without its comment, since the text doesn't contain the comment. Tags such as
+/// `White` are not kept. The last tag `Result` of the text names the game's outcome (`result`).
 pub fn pgn_is_read_back()
     ensures read { PgnIsReadBack }
     ensures result { ResultIsWritten }
@@ -39,36 +40,37 @@ pub fn pgn_is_read_back()
     let _sound = initial.setup();
 }
 
-/// States a law and does nothing: that Chess960 is supported changes nothing for normal chess. Games of normal chess
-/// are written, and texts with no tag `Variant` among a game's tags are read, as definitions say that are only for
-/// normal chess.
+/// States a law and does nothing: the support for Chess960 changes nothing for normal chess. Definitions without
+/// Chess960 give the same for the tags that are written after the first seven of a game of normal chess, and for what
+/// is read of a text whose game has no tag `Variant`.
 pub fn normal_is_kept()
     ensures { NormalIsKept }
 {}
 
-/// States a law and does nothing: a fault's offset is in the text, and not before the offset where reading began.
+/// States a law and does nothing: a fault's offset is not before the offset where reading began, and at most the text's
+/// length. It is the length if a result is missing at the text's end.
 pub fn faults_have_offsets()
     ensures { FaultsHaveOffsets }
 {}
 
-/// States a law and does nothing: a half-move takes at least a byte of its game's text, so that a game has no more
-/// half-moves than bytes.
+/// States a law and does nothing: a game that is read has no more half-moves than its text has bytes, from the offset
+/// where reading begins to the end of its outcome.
 pub fn half_moves_have_bytes()
     ensures { HalfMovesHaveBytes }
 {}
 
-/// States a law and does nothing: from an offset on, a text has one and only one split into tokens, those that are read
-/// (`tokens_from`). A split (`IsSplit`) takes the tokens from left to right, each the longest of its kind, up to the
-/// text's end or to the first offset where no token can be read.
+/// States a law and does nothing: from each offset on, a text can be split into tokens in exactly one way, which is
+/// `tokens_from`. A split (`IsSplit`) takes the tokens from left to right, each the longest of its kind. It ends at the
+/// text's end, or with a fault at the first offset where no token can be read.
 pub fn a_text_has_one_split()
     ensures read { (text : List ℕ) → (at : ℕ) → IsSplit text at (tokens_from text at) }
     ensures no_other { (text : List ℕ) → (at : ℕ) → (tokens : List (ℕ × Token)) → IsSplit text at tokens
         → tokens ≡ tokens_from text at }
 {}
 
-/// States a law and does nothing: what is read of a text (`pgn_read`) is what the tags, and then the moves, of its
-/// split into tokens say (`IsRead`), and nothing else is. Taking the tokens one after another, with a step for each
-/// (`tokens_read`), gives the same.
+/// States a law and does nothing: three definitions of what is read of a text agree. `IsRead` takes any split of the
+/// text into tokens, first its tags and then its moves; `pgn_read` is the only result of which `IsRead` holds; and
+/// `tokens_read` takes the tokens one after another, with a step for each.
 pub fn a_game_is_tags_and_moves()
     ensures read { (limit : ℕ) → (text : List ℕ) → (at : ℕ) → IsRead limit text at (pgn_read limit text at) }
     ensures no_other { (limit : ℕ) → (text : List ℕ) → (at : ℕ) → (r : GameRead) → IsRead limit text at r
@@ -78,9 +80,9 @@ pub fn a_game_is_tags_and_moves()
 {}
 
 /// States a law and does nothing: a game that is read is made of the first tokens of its text. It begins from the
-/// position of their last tag `FEN`, or from the initial position if they have none, and its moves are what their words
-/// denote, each in the position after the moves before it. Reading stops at the token after them, which is an outcome
-/// or can't be taken, or at the text's end; the end or the fault that is returned is that of this token.
+/// position of their last tag `FEN`, or from the initial position if they have none. Its moves are those that their
+/// words denote, each in the position after the moves before it. Reading stops at the text's end or at the next token:
+/// an outcome, or one that can't be taken, such as an illegal move. The end or the fault returned is the one there.
 pub fn games_are_of_tokens()
     ensures { GamesAreOfTokens }
 {}
@@ -93,8 +95,8 @@ pub fn lines_are_filled()
     ensures no_other { (tokens texts : List (List ℕ)) → AreFilled tokens texts → texts ≡ lines_of tokens }
 {}
 
-/// States a law and does nothing: the text that is written of a playable game has its tags, an empty line, its moves in
-/// lines as full as they can be, and an empty line; and no other text has.
+/// States a law and does nothing: the text that is written of a game has its tags, an empty line, its moves in lines as
+/// full as they can be, and an empty line. No other text has this form (`IsPgn`). `IsPlayable` holds of every game.
 pub fn games_are_laid_out()
     ensures written { (prefix : List ℕ) → (t : Tags) → (limit : ℕ) → (s : State)
         → IsPlayable (record { limit = limit; state = s }) → IsPgn prefix t s (pgn prefix t s) }

@@ -17,8 +17,9 @@ const LINE_LEN: usize = 79;
 /// outcome are put into lines of at most 79 bytes; `column` is how many bytes the line that is begun has so far, its
 /// prefix not counted, and 0 if no line is begun.
 ///
-/// A function that writes through it has a clause `added`, which ends in the text that is added to what the writer took
-/// and what waits in the buffer (`Adds`). Its other clauses say what stays as it was.
+/// A function that writes through it has a clause `added`. The last argument there is the text that is written: the
+/// writer took it, or it waits in the buffer (`Adds`). Its other clauses say what stays as it was; `ghost_name` says
+/// that the writer is still the same one.
 #[derive(Drop)]
 pub(crate) struct LineWriter<'a, 'b, W> {
     writer: &'b mut W,
@@ -45,7 +46,8 @@ impl<'a, 'b, W: Output> LineWriter<'a, 'b, W> {
         }
     }
 
-    /// Writes a whole line: the prefix, `line` and `\n`.
+    /// Writes a whole line: the prefix, `line` and `\n`. This is called for tags and empty lines, where no line of
+    /// moves is begun.
     ///
     /// # Errors
     /// If the writer fails; a beginning of the text was written then.
@@ -61,8 +63,8 @@ impl<'a, 'b, W: Output> LineWriter<'a, 'b, W> {
     }
 
     /// Adds a token such as `12.`, `Nf3` or `1-0` to the line that is begun, after a space, if the line then has at
-    /// most 79 bytes (its prefix isn't counted). If it has no room, or no line is begun, the token begins a new line,
-    /// after the prefix.
+    /// most 79 bytes (its prefix isn't counted). If the line has no room for it, or no line is begun, the token begins
+    /// a new line, after the prefix.
     ///
     /// # Errors
     /// If the writer fails; a beginning of the text was written then.
@@ -88,7 +90,8 @@ impl<'a, 'b, W: Output> LineWriter<'a, 'b, W> {
         }
     }
 
-    /// Writes the `\n` of the line that is begun; nothing, if no line is begun.
+    /// Writes the `\n` that ends the line of moves, after the game's last token. If no line is begun, it writes
+    /// nothing.
     ///
     /// # Errors
     /// If the writer fails; a beginning of the text was written then.
@@ -106,7 +109,8 @@ impl<'a, 'b, W: Output> LineWriter<'a, 'b, W> {
         self.waiting.add(self.writer, b"\n")
     }
 
-    /// Writes what is still in the buffer, at the end of a game's text. It ends no line, so `end_line` comes before.
+    /// Writes what is still in the buffer, at the end of a game's text. It writes no `\n`, so `end_line` is called
+    /// before it.
     ///
     /// # Errors
     /// If the writer fails; a beginning of the text was written then.

@@ -9,11 +9,12 @@ use crate::termination::Termination;
 // What is known, apart from the moves, of a game that is being read.
 #[derive(Clone, Copy)]
 pub(crate) struct Progress {
-    // Whether a tag, number or move was met.
+    // Whether a tag, number or move was met. If one was, the text's end is the fault `NoResult`; if none was, the text
+    // has no game left.
     pub is_met: bool,
-    // Whether a number or move was read: after one no tag belongs to this game.
+    // Whether a number or move was read: no tag after it belongs to this game.
     pub is_begun: bool,
-    // What the last tag Termination said.
+    // What the last tag `Termination` said; `None` if no such tag was read, or its text is unknown.
     pub termination: Option<Termination>,
 }
 
@@ -41,8 +42,8 @@ impl Progress {
         }
     }
 
-    // What is known once `tag` is read; `self` is what was known before it. Of the tag's text only that of
-    // `Termination` is kept.
+    // What is known once `tag` is read; `self` is what was known before it. The tag's text is kept only if its name is
+    // `Termination`.
     pub(crate) fn after_tag(self, tag: &Tag<'_>) -> Self
         ensures { result ≡ record {
           is_met = true;
@@ -58,8 +59,8 @@ impl Progress {
     }
 }
 
-// What the last tag `Termination` says, once `tag` is read too: if `tag` is such a tag, what its text names (`None` for
-// an unknown text), and for any other tag `before`, which is what the tags before it say.
+// What the last tag `Termination` says, once `tag` is read. If `tag` has that name, this is what its text names, or
+// `None` for an unknown text. Any other tag leaves `before`, what the last one said before `tag`.
 fn termination_after(before: Option<Termination>, tag: &Tag<'_>) -> Option<Termination>
     ensures { result ≡ termination_after before tag.now.name.now tag.now.text.now }
 {

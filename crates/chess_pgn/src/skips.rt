@@ -8,8 +8,8 @@ ghost use Rattle.chess_pgn.specs.Tokens.{line_end, after_brace, after_gap};
 use crate::bytes::is_white_space;
 use byte_devices::len_before;
 
-// Skips the rest of a line: returns the text from its first `\n` on, of `ab\ncd` thus `\ncd`; it is empty if there is
-// no `\n`.
+// Skips the rest of a line: returns the text from its first `\n` on, for `ab\ncd` the text `\ncd`. The result is empty
+// if there is no `\n`. The `\n` is left, so that the caller sees that a line begins after it.
 pub(crate) fn line_end(text: &[u8]) -> &[u8]
     ensures rest { result.now ≡ line_end text.now }
     ensures shorter { length result.now ≤ length text.now }
@@ -17,7 +17,8 @@ pub(crate) fn line_end(text: &[u8]) -> &[u8]
     &text[len_before(text, b'\n')..]
 }
 
-// The text after its first `}`, as after a `{` comment; `None` if there is no `}`.
+// Skips the rest of a `{` comment: returns the text after its first `}`, for `best} e5` the text ` e5`. `None` if there
+// is no `}`.
 #[inline(always)]
 pub(crate) fn after_brace(text: &[u8]) -> Option<&[u8]>
     ensures rest { option_map (λ r. r.now) result ≡ after_brace text.now }
@@ -30,8 +31,8 @@ pub(crate) fn after_brace(text: &[u8]) -> Option<&[u8]>
     Some(&text[len + 1..])
 }
 
-/// Skips the white space and the `%` lines at a text's front, which may be between the parts of a tag: of ` \n%x\n"a"]`
-/// the text `"a"]` is left. The text begins inside a line, so a `%` as its first byte is not skipped.
+/// Skips the white space and the `%` lines at a text's front: of ` \n%x\n"a"]` the text `"a"]` is left. Such a gap may
+/// be between the parts of a tag. The text begins inside a line, so a `%` as its first byte is not skipped.
 pub fn after_gap(text: &[u8]) -> &[u8]
     ensures { result.now ≡ after_gap text.now }
 {

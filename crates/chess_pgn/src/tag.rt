@@ -12,9 +12,9 @@ use crate::bytes::is_name_byte;
 use crate::skips::after_gap;
 use byte_devices::len_before_any;
 
-/// A tag: of `[Event "a"]` the name `Event` and the text `a`, the bytes between the quotes as they are, with their
-/// backslashes. `to_end` is the number of bytes from the first of these (here `a`) to the end of the whole PGN text, by
-/// which the offset of `a` is known.
+/// A tag that was read: `[Event "a"]` has the name `Event` and the text `a`, the bytes between its quotes as they are,
+/// with their backslashes. `to_end` is the number of bytes from the byte after its opening quote (here `a`) to the end
+/// of the whole PGN text, so the offset of that byte is the text's length less `to_end`.
 #[derive(Clone, Copy)]
 pub(crate) struct Tag<'a> {
     pub name: &'a [u8],
@@ -35,9 +35,9 @@ pub fn split_name(text: &[u8]) -> (&[u8], &[u8])
     text.split_at(end)
 }
 
-// Looks for the byte `byte` after any white space and `%` lines at the text's front (`after_gap`). Returns the text
-// after that byte, or `None` if another byte comes there: for `"`, of ` "a"]` it is `a"]`. The first test is a short
-// cut, since mostly no white space is there, as before a tag's `]`.
+// Skips any white space and `%` lines at the text's front (`after_gap`), and then the byte `byte`. Returns the text
+// after that byte: for `"` and the text ` "a"]` the text `a"]`. `None` if another byte comes there, or the text ends.
+// The first test is a short cut, since mostly no white space is there, as before a tag's `]`.
 fn after_next(byte: u8, text: &[u8]) -> Option<&[u8]>
     requires { is_white_space byte ≡ false }
     ensures { option_map (λ r. r.now) result ≡ after_next byte text.now }
@@ -54,12 +54,12 @@ fn after_next(byte: u8, text: &[u8]) -> Option<&[u8]>
 }
 
 /// Splits the text after a string's opening quote into the string's bytes and the text after its closing quote: `a"]`
-/// into `a` and `]`. `None` if the line or the text ends first. A quote after a backslash doesn't end the string: the
-/// bytes `a\"b` are such a string, and are returned with the backslash.
+/// into `a` and `]`. `None` if the line or the text ends first. A quote after a backslash doesn't end the string: of
+/// `a\"b"]` the string is `a\"b`, with its backslash.
 pub fn split_string(text: &[u8]) -> Option<(&[u8], &[u8])>
     ensures { option_map (λ r. (r.0.now, r.1.now)) result ≡ string_at text.now }
 {
-    // Whether a backslash before the byte at `offset` keeps it from ending the string.
+    // Whether the byte at `offset` is escaped by the backslash before it, so that it doesn't end the string.
     let mut is_kept = false;
     // The bytes before the first quote, backslash or line end are the string's. Mostly that is the closing quote.
     let mut offset = len_before_any(text, b'"', b'\\', b'\n');
@@ -80,8 +80,8 @@ pub fn split_string(text: &[u8]) -> Option<(&[u8], &[u8])>
     None
 }
 
-// Reads a tag from the text after its `[`, and returns it with the text after its `]`: of `Event "a"] 1. e4` the tag
-// with the name `Event` and the text `a`, and ` 1. e4`. `None` if this is no tag.
+// Reads a tag from the text after its `[`, and returns the tag and the text after its `]`: for `Event "a"] 1. e4` the
+// tag with the name `Event` and the text `a`, and the text ` 1. e4`. `None` if this is no tag.
 pub(crate) fn read_tag(text: &[u8]) -> Option<(Tag<'_>, &[u8])>
     ensures { tag_seen result ≡ tag_by_parts text.now }
 {

@@ -12,10 +12,11 @@ use arrayvec::ArrayVec;
 use byte_devices::{Output, WriteFault, append};
 
 // The line of a tag, such as `[Event "a"]`. It has at most 225 bytes: a name of 20, a text of 100 with a backslash
-// before each byte, and five more.
+// before each byte, and two brackets, two quotes and a space.
 type TagLine = ArrayVec<u8, 256>;
 
-// Appends a tag's text to the line, with a backslash before each quote and each backslash: `a"b` as `a\"b`.
+// Appends a tag's text to the line, with a backslash before each quote and each backslash: `a"b` as `a\"b`. At worst
+// each byte becomes two, so the line must have room for these.
 fn write_escaped(line: &mut TagLine, text: &[u8])
     requires { array_vec_len line.old + 2 * length text.now ≤ 256 }
     ensures text { line.new.items ≡ line.old.items ++ escaped text.now }
@@ -45,8 +46,7 @@ fn tag_line(name: &[u8], text: &[u8]) -> TagLine
     line
 }
 
-/// Writes each of these tags on a line of its own, such as `[Event "a"]`, after the prefix that `lines` puts before
-/// each line.
+/// Writes each of these tags on a line of its own, such as `[Event "a"]`, after the prefix that each line has.
 ///
 /// # Errors
 /// If the writer fails; a beginning of the text was written then.

@@ -22,9 +22,12 @@ pub struct ResultTag {
     pub len: usize,
 }
 
-/// Finds the last tag `Result` of the game that begins at the offset `at`, such as `[Result "1-0"]`; `None` if there is
-/// no such tag before the game's first number, move or outcome. A byte order mark at offset 0 is skipped. The clause
-/// `tag` says: there is a split of the text into tokens (`IsSplit`) of which this is the last tag `Result`.
+/// Finds the last tag `Result` of the game that begins at the offset `at`, such as `[Result "1-0"]`. `None` if there is
+/// no such tag before the game's first number, move or outcome. A byte order mark at offset 0 is skipped. `read_pgn`
+/// ignores this tag; a caller that compares it with the game's end, such as `verify --strict`, calls this function.
+///
+/// The clause `tag` says: there is a split of the text into tokens (`IsSplit`), and this is the last tag `Result` in
+/// it.
 pub fn result_tag(text: &[u8], at: usize) -> Option<ResultTag>
     requires { at ≤ length text.now }
     ensures tag { (tokens : List (ℕ × Token)) × IsSplit text.now (after_byte_order_mark text.now at) tokens

@@ -4,8 +4,8 @@ ghost use Rattle.std.specs.Prelude.{◌≡◌, ◌≤◌, length};
 
 use chess_game::{HowEnded, TagText};
 
-/// The tags that each game has (the seven of the PGN standard of 1994, section 8.1.1, and `Termination`), except the
-/// result, which comes from the game.
+/// The tags of a game that is to be written: six of the seven that each game has (PGN standard of 1994, section 8.1.1),
+/// and how the game ended, for the tag `Termination`. The seventh, `Result`, comes from the game.
 #[derive(Drop)]
 pub struct Tags {
     /// The tournament or match.
@@ -20,7 +20,7 @@ pub struct Tags {
     pub white: TagText,
     /// The player with Black.
     pub black: TagText,
-    /// How the game ended. It is ignored while the game has no outcome.
+    /// How the game ended. It is ignored while the outcome is `*`: then `Termination` is `unterminated`.
     pub ended: HowEnded,
 }
 
@@ -43,8 +43,8 @@ impl Default for Tags {
     }
 }
 
-/// A tag that is to be written: of `[Event "a"]` the name `Event` and the text `a`, in which quotes and backslashes are
-/// not yet escaped.
+/// A tag that is to be written: `[Event "a"]` has the name `Event` and the text `a`, in which quotes and backslashes
+/// are not yet escaped. Its name has at most 20 bytes, and its text at most 100.
 #[derive(Clone, Copy)]
 pub(crate) struct TagPair<'a> {
     pub name: &'a [u8],

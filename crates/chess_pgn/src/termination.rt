@@ -71,8 +71,8 @@ impl Termination {
         }
     }
 
-    /// The value of the tag for a game that is written: `Unterminated` if its outcome is `*`, and otherwise what
-    /// `ended` says.
+    /// The value of the tag for a game that is written: `Unterminated` if its outcome is `*`, and otherwise the value
+    /// of the same name as `ended`.
     pub(crate) fn of(ended: HowEnded, outcome: Outcome) -> Self
         ensures { result ≡ termination_of ended outcome }
     {

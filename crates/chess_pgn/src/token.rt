@@ -1,5 +1,5 @@
-//! The tokens of a game's text. What reads the most common ones is inlined into the loops over a game's tokens, in
-//! words.rt and read.rt (the workload collections). What that gains was not measured apart.
+//! The tokens of a game's text. The functions that read the most common ones are inlined into the loops over a game's
+//! tokens, in words.rt and read.rt, for speed in the workload `collections`. The gain was not measured apart.
 
 ghost use Rattle.std.specs.Prelude.{◌≡◌, ◌≤◌, ◌∷◌, length, drop, false, [], None};
 ghost use Rattle.std.specs.List.{prefix_len, take_while};
@@ -20,14 +20,14 @@ pub(crate) enum Token<'a> {
     Skip,
     /// A tag.
     Tag(Tag<'a>),
-    /// A move, a number, marks or a termination.
+    /// A move, a number, marks such as `!?`, or an outcome such as `1-0` (`word_kind` says which).
     Word(&'a [u8]),
 }
 
 /// Why no token can be read.
 #[derive(Clone, Copy)]
 pub(crate) enum TokenFault {
-    /// An opening bracket that begins no tag.
+    /// A `[` that begins no tag.
     BadTag,
     /// A `{` comment without its `}`. `to_end` is the number of bytes from its `{` (counted too) to the text's end.
     UnclosedComment { to_end: usize },
@@ -62,8 +62,8 @@ pub(crate) fn split_word(text: &[u8]) -> (&[u8], &[u8])
     text.split_at(end)
 }
 
-// Skips a `{` comment: returns `Token::Skip` and the text after its `}`, or a fault if it has none. `text` begins after
-// the `{`; `to_end` is the number of bytes from the `{` to the text's end, which the fault reports.
+// Skips a `{` comment: returns `Token::Skip` and the text after its `}`, or a fault if there is no `}`. `text` begins
+// after the `{`; `to_end` is the number of bytes from the `{` to the text's end, which the fault reports.
 #[inline(never)]
 fn read_comment(to_end: usize, text: &[u8]) -> Result<(Token<'_>, &[u8]), TokenFault>
     ensures { first_seen result ≡ comment_at to_end (after_brace text.now) }
@@ -74,8 +74,8 @@ fn read_comment(to_end: usize, text: &[u8]) -> Result<(Token<'_>, &[u8]), TokenF
     }
 }
 
-// Skips a variation: returns `Token::Skip` and the text after its `)`, or a fault if it, or a comment in it, isn't
-// closed. `text` begins after its `(`.
+// Skips a variation: returns `Token::Skip` and the text after its `)`, or a fault if the variation, or a comment in it,
+// isn't closed. `text` begins after its `(`. The comment of `after_variation` explains `None false 1`.
 #[inline(never)]
 fn read_variation(text: &[u8]) -> Result<(Token<'_>, &[u8]), TokenFault>
     ensures { first_seen result ≡ variation_at None false 1 text.now }
@@ -86,8 +86,8 @@ fn read_variation(text: &[u8]) -> Result<(Token<'_>, &[u8]), TokenFault>
     }
 }
 
-// Reads a tag such as `[Event "a"]`: returns it and the text after its `]`, or a fault if this is no tag. `text` begins
-// after the `[`.
+// Reads a tag such as `[Event "a"]`: returns the tag and the text after its `]`, or a fault if this is no tag. `text`
+// begins after the `[`.
 #[tactic(auto, using(crate::proofs::TagParts::parts_are))]
 #[inline(never)]
 fn read_bracket(text: &[u8]) -> Result<(Token<'_>, &[u8]), TokenFault>
@@ -99,9 +99,10 @@ fn read_bracket(text: &[u8]) -> Result<(Token<'_>, &[u8]), TokenFault>
     }
 }
 
-// Reads the first token of `text`, and returns it with the text after it. The token is no word, except `*`: words were
-// read before, by `next_token`. `text` is given twice, whole and as its first byte and its `rest`. `line_begins`:
-// whether `first` is the first byte of a line, where `%` begins a line that is skipped.
+// Reads the first token of `text`, and returns the token and the text after it. `next_token` calls this only if the
+// token is no word, or the word `*`; it reads all other words itself. `text` is given twice: whole, and as its `first`
+// byte and its `rest`. `line_begins`: whether `first` is the first byte of a line, where `%` begins a line that is
+// skipped.
 #[tactic(auto, unfolding(crate::specs::Tokens::token_at))]
 #[inline(never)]
 fn read_token<'a>(
@@ -127,7 +128,8 @@ fn read_token<'a>(
     }
 }
 
-// Whether a line begins at the offset `at`: `at` is 0, or the byte before it is `\n`.
+// Whether a line begins at the offset `at`: `at` is 0, or the byte before it is `\n`. Only there a `%` begins a line
+// that is skipped.
 fn begins_line(text: &[u8], at: usize) -> bool
     requires { at ≤ length text.now }
     ensures { result ≡ begins_line text.now at }
@@ -135,8 +137,8 @@ fn begins_line(text: &[u8], at: usize) -> bool
     at == 0 || text[at - 1] == b'\n'
 }
 
-/// The token that begins at the offset `at`, and the offset after it; `None` at the text's end. Of `1. e4` at 3 it is
-/// the word `e4`, with the offset 5; at 1 it is `Token::Skip` for the dot, with 2.
+/// The token that begins at the offset `at`, and the offset after it; `None` at the text's end. In `1. e4` the token at
+/// 3 is the word `e4`, with the offset 5; the token at 1 is `Token::Skip` for the dot, with the offset 2.
 ///
 /// # Errors
 /// If no token can be read at that offset.
@@ -145,23 +147,22 @@ pub(crate) fn next_token(text: &[u8], at: usize) -> Result<Option<(Token<'_>, us
     requires { at ≤ length text.now }
     ensures { IsNextToken text.now at result }
 {
-    // Here this is the text itself from `at` on, not how many bytes it has.
-    let to_end = &text[at..];
-    let [first, rest @ ..] = to_end else {
+    let ahead = &text[at..];
+    let [first, rest @ ..] = ahead else {
         return Ok(None);
     };
     if is_word_byte(*first) {
-        let (word, tail) = split_word(to_end);
+        let (word, tail) = split_word(ahead);
         return Ok(Some((Token::Word(word), text.len() - tail.len())));
     }
-    match read_token(begins_line(text, at), *first, rest, to_end) {
+    match read_token(begins_line(text, at), *first, rest, ahead) {
         Ok((token, tail)) => Ok(Some((token, text.len() - tail.len()))),
         Err(fault) => Err(fault),
     }
 }
 
-/// Skips white space and dots from the offset `at` on, and returns the offset after them, which is 4 for `12. e4` from
-/// 2 on. [`next_token`] would return each of these bytes as a `Token::Skip`, which changes nothing (`SkipsTo`).
+/// Skips white space and dots from the offset `at` on, and returns the offset after them: in `12. e4` from 2 on it is
+/// 4. [`next_token`] would return each of these bytes as a `Token::Skip` (`SkipsTo`); here no tokens are made of them.
 #[inline(always)]
 pub(crate) fn after_blanks(text: &[u8], at: usize) -> usize
     requires { at ≤ length text.now }
@@ -177,7 +178,7 @@ pub(crate) fn after_blanks(text: &[u8], at: usize) -> usize
 }
 
 /// The offset where reading begins: 3 if `at` is 0 and the text begins with the bytes EF BB BF (a byte order mark of
-/// UTF-8), and otherwise `at`. pgn_pieces knows the mark too, at the front of each line.
+/// UTF-8), and otherwise `at`. pgn_pieces doesn't use this crate, so it skips the mark with code of its own.
 pub(crate) fn after_byte_order_mark(text: &[u8], at: usize) -> usize
     requires { at ≤ length text.now }
     ensures offset { result ≡ after_byte_order_mark text.now at }

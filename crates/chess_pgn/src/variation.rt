@@ -9,10 +9,10 @@ ghost use Rattle.chess_pgn.specs.ties.Seen.{variation_seen};
 use crate::skips::{after_brace, line_end};
 use crate::token::TokenFault;
 
-// One step through a variation: skips `byte`, or the whole `%` line or comment that begins with it, and returns the
-// text that is left. `None` if it begins a `{` comment without a `}`. `rest` is the text after `byte`; `line_begins`:
-// whether `byte` is the first of its line. The `\n` at the end of a skipped line is left, so that the next step sees
-// that a line begins after it.
+// One step through a variation: skips `byte`, or the whole `%` line or comment that begins with `byte`, and returns the
+// text that is left. `None` if `byte` begins a `{` comment without a `}`. `rest` is the text after `byte`;
+// `line_begins`: whether `byte` is the first of its line. The `\n` at the end of a skipped line is left, so that the
+// next step sees that a line begins after it.
 fn after_part(line_begins: bool, byte: u8, rest: &[u8]) -> Option<&[u8]>
     ensures rest { option_map (λ r. r.now) result ≡ after_part line_begins byte rest.now }
     ensures shorter { IfSome result (λ r. length r.now ≤ length rest.now) }
@@ -25,8 +25,8 @@ fn after_part(line_begins: bool, byte: u8, rest: &[u8]) -> Option<&[u8]>
     }
 }
 
-// Counts the variations that are open inside the outermost one: `depth` before `byte`, and the result after it. `(`
-// opens one, `)` closes one; `None` if it closes the outermost one.
+// How many variations are open inside the outermost one after `byte`, if `depth` are open before it: `(` opens one, `)`
+// closes one, and any other byte changes nothing. `None` if `byte` closes the outermost one.
 fn depth_after(depth: usize, byte: u8) -> Option<usize>
     requires { depth + 1 < 2 ^ 64 }
     ensures { result ≡ depth_after depth byte }
@@ -39,8 +39,9 @@ fn depth_after(depth: usize, byte: u8) -> Option<usize>
 }
 
 // Skips a variation, with all variations and comments inside it: `text` begins after its `(`, and the text after its
-// `)` is returned. A fault if the variation, or a `{` comment in it, is not closed. In the contract `None false 1` say
-// that `text` begins in no comment, inside a line, and with one variation open.
+// `)` is returned. The result is a fault if the variation, or a `{` comment in it, is not closed. In the contract
+// `None` means that `text` begins in no comment, `false` that it begins inside a line, and `1` that one variation is
+// open.
 pub(crate) fn after_variation(text: &[u8]) -> Result<&[u8], TokenFault>
     ensures { variation_seen result ≡ variation_at None false 1 text.now }
 {

@@ -18,11 +18,12 @@ pub(crate) enum WordKind {
     Number,
     /// Only the marks `!` and `?`, such as `!?`.
     Marks,
-    /// Any other word. It may be a move: whether it denotes a legal one is seen when it is read.
+    /// Any other word. It may be a move: whether it denotes a legal one depends on the position.
     Move,
 }
 
-/// The outcome that a word denotes: `1-0`, `0-1`, `1/2-1/2` or `*`; `None` for any other word.
+/// The outcome that is written as this word: `1-0`, `0-1`, `1/2-1/2` or `*`; `None` for any other word. The words of a
+/// game, the tag `Result` and the session's command `result` are read by this function.
 #[tactic(auto, using(crate::proofs::PgnWords::outcome_parsed))]
 pub fn outcome_of(word: &[u8]) -> Option<Outcome>
     ensures { result ≡ outcome_of word.now }
@@ -30,22 +31,23 @@ pub fn outcome_of(word: &[u8]) -> Option<Outcome>
     Outcome::try_from(word).ok()
 }
 
-// Whether a word has no bytes but digits, as the number `12` has; true of the empty word.
+// Whether all bytes of a word are digits, as in the number `12`; true of the empty word.
 fn has_digits_alone(word: &[u8]) -> bool
     ensures { result ≡ list_all is_digit word.now }
 {
     word.iter().all(|byte| is_digit(*byte))
 }
 
-// Whether a word has no bytes but `!` and `?`, as `!?` has; true of the empty word.
+// Whether all bytes of a word are `!` or `?`, as in `!?`; true of the empty word.
 fn has_marks_alone(word: &[u8]) -> bool
     ensures { result ≡ list_all (λ c. c == byte "!" || c == byte "?") word.now }
 {
     word.iter().all(|byte| *byte == b'!' || *byte == b'?')
 }
 
-// Whether a word begins with a letter or `_`: of the bytes that a word may have, these are the ones from `A` (0x41) on.
-// Such a word may be a move and nothing else, since outcomes, numbers and marks begin with `*`, a digit, `!` or `?`.
+// Whether a word begins with a letter or `_`, as `Nf3` does. Of the bytes that a word may have, these are the ones from
+// `A` (0x41) on. The kind of such a word is `Move`, since outcomes, numbers and marks begin with `*`, a digit, `!` or
+// `?`.
 fn begins_as_move(word: &[u8]) -> bool
     ensures { result ≡ begins_as_move word.now }
 {
@@ -56,8 +58,7 @@ fn begins_as_move(word: &[u8]) -> bool
 }
 
 // The kind of a word that is not a number: an outcome, marks such as `!?`, or what may be a move, such as `0-0`.
-// `word_kind` calls this for words that begin with neither a letter nor `_`, which are few, so it is not inlined; but
-// the answer is right for all words but numbers.
+// `word_kind` calls this only for words that begin with neither a letter nor `_`. These are few, so it is not inlined.
 #[inline(never)]
 fn other_word_kind(word: &[u8]) -> WordKind
     requires { list_all is_digit word.now ≡ false }
