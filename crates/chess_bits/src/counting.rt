@@ -55,7 +55,7 @@ impl Bits<'_> {
     }
 
     // How many legal moves the piece on `from` has, a queen, rook, bishop or knight (`kind` says which). It is free:
-    // its king is safe wherever it goes, so it has one legal move to each square that it reaches.
+    // its king is safe wherever it goes, so it has one to each square that it attacks and that no own piece holds.
     #[inline(always)]
     fn count_officer(&self, kind: Kind, from: Square) -> usize
         requires kind { (same_kind King kind || same_kind Pawn kind) ≡ false }
