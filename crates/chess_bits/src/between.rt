@@ -1,4 +1,4 @@
-//! The squares between two squares of one line, in a table that is made from the rays.
+//! The squares between two squares of one line (rank, file or diagonal), in a table that is made from the rays.
 
 ghost use Rattle.std.specs.Prelude.{◌≡◌, ℕ, ◌<◌, ◌≤◌, ◌+◌, ◌*◌, ◌&&◌, true, false, length, slice_index};
 ghost use Rattle.chess_base.specs.Squares.{is_between};
@@ -14,9 +14,10 @@ use chess_base::rules::Line;
 use chess_moves::SquareSet;
 use std::alloc::{AllocError, Global};
 
-/// For each two squares of one line the squares strictly between them. The set of the squares with the numbers a and b
-/// is at 64 a + b. Attacks on a square ask this for each piece on its lines: computed from the rays each time, the
-/// workload boards took 11 % longer.
+/// The squares strictly between each two squares of one line (rank, file or diagonal): for c1 and f4 these are d2 and
+/// e3. The set for the squares with the numbers a and b is at index 64 a + b. `Kinds::attackers` looks it up for each
+/// queen, rook or bishop on a line of the attacked square. When it was computed from the rays each time, the workload
+/// boards took 11 % longer.
 #[derive(Drop)]
 pub struct BetweenTable {
     sets: Vec<SquareSet>,
@@ -25,8 +26,9 @@ pub struct BetweenTable {
         → contains (slice_index sets.items (64 * a + b)) k ≡ is_between a b k },
 }
 
-// The squares that are above `low` on its line of this kind (a rank, say), and below `high` on its line of this kind:
-// those between the two, or none if they are on two lines.
+// The squares strictly between `low` and `high` (the one with the greater number), if both are on one line of this
+// kind, say on one rank; otherwise none. Each of them is on two rays: from `low` to greater numbers, and from `high` to
+// smaller ones.
 #[inline(always)]
 #[tactic(auto, unfolding(crate::specs::ties::Shapes::in_shape))]
 fn inside(tables: &Tables, line: Line, low: Square, high: Square) -> SquareSet
@@ -37,8 +39,9 @@ fn inside(tables: &Tables, line: Line, low: Square, high: Square) -> SquareSet
     above.intersection(below)
 }
 
-// The squares strictly between two squares of one line, of which `low` does not have the greater number. Two squares
-// have at most one line in common, so at most one of the four parts has squares.
+// The squares strictly between `low` and `high`, two squares of one line; the number of `low` is not the greater one.
+// The kind of the line need not be known: two squares have at most one line in common, so at most one of the four sets
+// below is not empty.
 #[inline(always)]
 #[tactic(auto, using(crate::proofs::BetweenSquares::on_some_line))]
 fn rising_between(tables: &Tables, low: Square, high: Square) -> SquareSet
@@ -52,7 +55,8 @@ fn rising_between(tables: &Tables, low: Square, high: Square) -> SquareSet
     ranks.union(files).union(diagonals.union(antidiagonals))
 }
 
-// The squares strictly between two squares of one line, in either order, computed from the rays.
+// The squares strictly between two squares of one line, in either order, computed from the rays. It makes an entry of
+// the table.
 fn between_by_rays(tables: &Tables, a: Square, b: Square) -> SquareSet
     ensures { (l : LineKind) → same_line l a b ≡ true → (k : ℕ) → k < 64 → contains result k ≡ is_between a b k }
 {
@@ -63,8 +67,8 @@ fn between_by_rays(tables: &Tables, a: Square, b: Square) -> SquareSet
 }
 
 impl BetweenTable {
-    /// Computes the table from the rays, in memory that `alloc` gives. The set of the squares with the numbers a and b
-    /// is put at 64 a + b.
+    /// Computes the table from the rays, which are in `tables`; its memory comes from `alloc`. The loop's `number` is
+    /// the index of an entry, 64 a + b.
     ///
     /// # Errors
     /// If there is no memory for it.
@@ -78,7 +82,8 @@ impl BetweenTable {
         Ok(BetweenTable { sets })
     }
 
-    /// The squares strictly between two squares of one line, looked up.
+    /// The squares strictly between two squares of one line, looked up. About two squares of no common line it promises
+    /// nothing.
     #[inline(always)]
     pub(crate) fn at(&self, a: Square, b: Square) -> SquareSet
         ensures { (l : LineKind) → same_line l a b ≡ true → (k : ℕ) → k < 64 → contains result k ≡ is_between a b k }

@@ -1,4 +1,4 @@
-//! A board with sets of squares along with its pieces.
+//! The board `Bits`, which keeps sets of squares (bitboards) along with the piece of each square.
 
 ghost use Rattle.std.specs.Prelude.{◌≡◌, ℕ, ◌<◌, ◌==◌};
 ghost use Rattle.chess_base.specs.Attacks.{is_attacked};
@@ -15,9 +15,9 @@ use chess_base::{Colour, Kind, Move, Position, Saved, Setup, Square};
 use chess_moves::{Board, MoveList, SquareSet, hash_with};
 use std::marker::Model;
 
-/// A board that keeps, along with the piece of each square, bitboards: sets of the squares of the pieces by colour and
-/// kind. The tables of attacks are lent to it, so one set of tables serves any number of boards. In contracts it is the
-/// `Setup` of its position.
+/// A board that keeps bitboards along with the piece of each square: for each colour and kind, the set of the squares
+/// with such a piece. It borrows the tables of attacks, so any number of boards can share them. In contracts it is the
+/// `Setup` of its position. This is always sound, and the sets are always those of its pieces (`invariant`).
 #[derive(Drop)]
 pub struct Bits<'t> {
     pub(crate) setup: Setup,
@@ -79,7 +79,7 @@ impl Board for Bits<'_> {
 
     ghost word_of = { position_hash };
 
-    // Sets the board to the position `to`.
+    // Sets the board to the position `to`, and makes the sets anew from its pieces.
     fn set(&mut self, to: &Position) {
         let setup = to.setup();
         self.sets = Sets::standing(self.tables.keys(), &setup.men);
@@ -119,8 +119,9 @@ impl Board for Bits<'_> {
         self.is_legal_by_kind(m)
     }
 
-    // A set that contains the start squares of all legal moves of this kind of piece, of the side on move, to `to`. It
-    // may contain more: for a king always its square, for another kind each piece that reaches `to`, even if pinned.
+    // A set with at least the start square of each legal move to `to` by a piece of this kind, of the side on move. A
+    // move's text is read by trying the moves from these squares, so there may be more: for a king always its square,
+    // for another kind each piece that reaches `to`, even if pinned.
     fn origins(&self, kind: Kind, to: Square) -> SquareSet {
         let side = self.setup.side;
         let men = self.sets.of(side);
@@ -140,8 +141,8 @@ impl Board for Bits<'_> {
         self.sets.of(colour).of(kind)
     }
 
-    // The squares from which a piece of this kind, of the side on move, may legally move to `to` without a promotion:
-    // all that `origins` may name besides is left out, for SAN.
+    // The squares from which a piece of this kind, of the side on move, may legally move to `to` without a promotion.
+    // Unlike `origins`, it names no other square. SAN needs it: for Nd2, whether one knight can go there or two.
     #[inline(always)]
     fn legal_starts(&self, kind: Kind, to: Square) -> SquareSet {
         self.starts_of(kind, to)

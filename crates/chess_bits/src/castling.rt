@@ -1,4 +1,4 @@
-//! Castling by sets.
+//! Whether castling is legal, tested with sets of squares.
 
 ghost use Rattle.std.specs.Prelude.{◌≡◌, ◌<◌, ℕ, ◌&&◌, ◌||◌, not, None, Some, IsTrue};
 ghost use Rattle.chess_base.specs.Attacks.{is_attacked};
@@ -15,7 +15,8 @@ use chess_base::{Kind, Man, Move, Square, Variant};
 use chess_moves::{Board, SquareSet};
 
 impl Bits<'_> {
-    // The squares from a to b, two squares of one rank, both included.
+    // The squares from a to b, both included; a and b are on one rank. For a castling, a is where the king (or the
+    // rook) starts, and b where it ends.
     fn way(&self, a: Square, b: Square) -> SquareSet
         requires { rank a ≡ rank b }
         ensures { (k : ℕ) → k < 64 → contains result k ≡ is_on_way a b k }
@@ -34,8 +35,8 @@ impl Bits<'_> {
         attacked.is_empty()
     }
 
-    // Whether the squares that king (`walk`) and rook (`ride`) cross or end on in this castling are empty, but for the
-    // two on which they are now.
+    // Whether all squares that king and rook cross or end on in this castling are empty, apart from the two on which
+    // they are now. `walk` is the king's way, `ride` the rook's.
     fn is_way_empty(&self, castle: &Castle) -> bool
         requires kings { rank castle.now.king_from ≡ rank castle.now.king_to }
         requires rooks { rank castle.now.rook_from ≡ rank castle.now.rook_to }
@@ -51,8 +52,8 @@ impl Bits<'_> {
         met.is_empty()
     }
 
-    // Whether nothing prevents the castling with these squares: those that king and rook cross are empty, and none on
-    // the king's way, its start and end included, is attacked.
+    // Whether nothing prevents the castling with these squares of king and rook: all squares that the two cross or end
+    // on are empty, and no square of the king's way, its start and end included, is attacked.
     fn castles(&self, castle: &Castle) -> bool
         requires kings { rank castle.now.king_from ≡ rank castle.now.king_to }
         requires rooks { rank castle.now.rook_from ≡ rank castle.now.rook_to }
@@ -66,8 +67,8 @@ impl Bits<'_> {
         self.is_safe_way(walk)
     }
 
-    // Whether the move `m`, which is the castling with the squares `castle`, is legal. In normal chess `castles`
-    // decides; in Chess960 the king must also be safe once the rook has left its square.
+    // Whether the move `m`, which is the castling with the squares `castle`, is legal. In normal chess it is if nothing
+    // prevents it (`castles`); in Chess960 the king must also be safe once the rook has left its square.
     #[tactic(auto, using(crate::proofs::CastlingBySets::castle_pattern, crate::proofs::CastlingBySets::not_castling, crate::proofs::CastlingSafely::castles_safely))]
     pub(crate) fn castles_legally(&self, m: &Move, castle: &Castle) -> bool
         requires castle { castle_of self.now m.now ≡ Some castle.now }
@@ -86,9 +87,9 @@ impl Bits<'_> {
         }
     }
 
-    // Whether the king is not attacked after the move `m`, which is the castling with the squares `castle` and which
-    // nothing else prevents. In Chess960 the rook, now gone, may have been between it and an attacker: with king on c1,
-    // rook on b1 and an enemy rook on a1.
+    // Whether the castling `m`, which nothing else prevents, leaves the king safe, and so is legal; `castle` are its
+    // squares. Only Chess960 needs this test: with king on c1, rook on b1 and an enemy rook on a1, the rook that goes
+    // to d1 no longer protects its king. `steps` are what the castling changes on the board.
     #[tactic(auto, using(crate::proofs::CastlingBySets::castle_steps))]
     fn is_safe_castled(&self, m: &Move, castle: &Castle) -> bool
         requires castle { castle_of self.now m.now ≡ Some castle.now }

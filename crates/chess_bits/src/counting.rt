@@ -19,8 +19,8 @@ use chess_base::{Kind, Square};
 use chess_moves::{Board, SquareSet};
 
 impl Bits<'_> {
-    // How many legal moves there are from `from` to `to`, given that one is pseudo-legal: four for a pawn that promotes
-    // there, otherwise one; 0 if they would leave the king attacked.
+    // How many legal moves there are from `from` to `to`: four for a pawn that promotes there, otherwise one; 0 if they
+    // would leave the king attacked. The caller knows that some move between the two is pseudo-legal (`goes`).
     fn count_between(&self, from: Square, to: Square) -> usize
         requires { goes self.now from to ≡ true }
         ensures { result ≡ length (moves_between self.now from to) }
@@ -28,8 +28,9 @@ impl Bits<'_> {
         self.legal_promotions(from, to).len()
     }
 
-    // How many legal moves there are from the square `from`. They all end on squares of `ends`, and to each of these a
-    // move is pseudo-legal; each is tested.
+    // How many legal moves there are from the square `from`, where the caller knows that all of them end on squares of
+    // `ends` (`all`), and that a move to each of these is pseudo-legal (`goes`). Each is tested. (`few`: a list of
+    // moves holds 896, so the sum can't overflow.)
     fn count_to(&self, from: Square, ends: SquareSet) -> usize
         requires goes { (k : ℕ) → k < 64 → contains ends k ≡ true → goes self.now from k ≡ true }
         requires all { EndsOn self.now from ends }
@@ -53,8 +54,8 @@ impl Bits<'_> {
         self.king_ends(king).len()
     }
 
-    // How many legal moves the piece on `from`, a queen, rook, bishop or knight of this kind, has. It is free: its king
-    // is safe wherever it goes, so each square that it reaches counts.
+    // How many legal moves the piece on `from` has, a queen, rook, bishop or knight (`kind` says which). It is free:
+    // its king is safe wherever it goes, so it has one to each square that it attacks and that no own piece holds.
     #[inline(always)]
     fn count_officer(&self, kind: Kind, from: Square) -> usize
         requires kind { (same_kind King kind || same_kind Pawn kind) ≡ false }
@@ -68,9 +69,10 @@ impl Bits<'_> {
         self.steps(kind, from).len()
     }
 
-    // How many legal moves the pieces of this kind (neither king nor pawn) on the squares `men` have. They are free:
-    // their king is safe wherever they go. The three sums of this file are loops: in a helper that takes a closure, as
-    // `any` does, the closure is not inlined for each kind, and counting took 15 % more instructions.
+    // How many legal moves the pieces on the squares `men` have. They are all of this kind (neither king nor pawn) and
+    // free: their king is safe wherever they go. The sums here, in `count_to` and in `count_each` are loops: with a
+    // helper that takes a closure, as `any` does, the closure was not inlined for each kind, and counting took 15 %
+    // more instructions.
     #[inline(always)]
     fn count_officers(&self, kind: Kind, men: SquareSet) -> usize
         requires kind { (same_kind King kind || same_kind Pawn kind) ≡ false }
@@ -86,9 +88,10 @@ impl Bits<'_> {
         count
     }
 
-    // Counts the legal moves of the pieces of this kind, not the king, that are in both sets, `ordinary` and `men`; and
-    // takes these pieces out of `men`, the ones that remain to be counted. Pieces in `ordinary` are free (their king is
-    // safe wherever they go), and no pawns that may promote or take en passant.
+    // Counts the legal moves of the pieces of this kind, not the king, that are in both sets, `ordinary` and `men`. It
+    // takes these pieces out of `men`, which then has those that remain to be counted: the result and the moves of
+    // these make up the moves of the old `men`. Pieces in `ordinary` are free (their king is safe wherever they go),
+    // and no pawns that may promote or take en passant.
     #[inline(always)]
     fn count_kind(&self, kind: Kind, ordinary: SquareSet, men: &mut SquareSet) -> usize
         requires kind { same_kind King kind ≡ false }
@@ -98,11 +101,11 @@ impl Bits<'_> {
     {
         // The prover wants this fact: the position is sound, so its legal moves fit into a list.
         let _sound = self.setup();
-        let all = *men;
+        let before = *men;
         let own = self.sets.of(self.setup.side);
         let chosen = own.of(kind).intersection(ordinary);
-        let taken = all.intersection(chosen);
-        *men = all.without(chosen);
+        let taken = before.intersection(chosen);
+        *men = before.without(chosen);
         if is_pawn(kind) {
             self.count_ordinary_pawns(taken)
         } else {
@@ -110,8 +113,9 @@ impl Bits<'_> {
         }
     }
 
-    // How many legal moves the piece on `from` has, the king or another: each pseudo-legal move is tested for the
-    // king's safety, but of another piece than the king only those to squares that `pins` leaves to it.
+    // How many legal moves the piece on `from` has, which may be the king or pinned. For the king `count_king` answers.
+    // For another piece, each pseudo-legal move to a square that `pins` leaves to it is tested; it has no other legal
+    // moves (`evasions`).
     fn count_judged(&self, from: Square, pins: &Pins) -> usize
         requires evasions { AreEvasions self.now pins.now.free pins.now.evasions }
         requires few { length (moves_from self.now from) ≤ 896 }
@@ -123,8 +127,8 @@ impl Bits<'_> {
         self.count_to(from, self.allowed_targets(from, pins))
     }
 
-    // How many legal moves the pieces on the squares `men` have, piece by piece as `count_judged` counts them: these are
-    // the king and the pieces that aren't ordinary. (`few`: a list of moves holds 896, so no sum can overflow.)
+    // How many legal moves the pieces on the squares `men` have: `count_judged` of each, added up. It is called for the
+    // king and the pieces that aren't ordinary. (`few`: a list of moves holds 896, so no sum can overflow.)
     fn count_each(&self, men: SquareSet, pins: &Pins) -> usize
         requires evasions { AreEvasions self.now pins.now.free pins.now.evasions }
         requires few { length (flat_map (λ a. moves_from self.now a) (members men)) ≤ 896 }
@@ -138,9 +142,9 @@ impl Bits<'_> {
         count
     }
 
-    // How many legal moves there are. The free pieces, whose king is safe wherever they go, are counted kind by kind
-    // without a test of each move. Then come the others one by one: the king, pawns that may promote or take en
-    // passant, and pieces that are pinned, or in check all pieces.
+    // How many legal moves there are. First come the ordinary pieces (their king is safe wherever they go, and they are
+    // no pawns that may promote or take en passant), counted kind by kind without a test of each move. Then come the
+    // others one by one: the king, the remaining pawns, and pieces that are pinned, or in check all pieces.
     pub(crate) fn count(&self) -> usize
         ensures { result ≡ length (moves self.now) }
     {
@@ -166,23 +170,23 @@ impl Bits<'_> {
     }
 
     // A quick test for a legal move: if it is true there is one, if it is false there may be one all the same. It looks
-    // only at knights and pawns that are on no rank, file or diagonal of the king, not at promotions and captures en
-    // passant, and only if the king is not in check.
+    // only at knights and pawns that are on no rank, file or diagonal of their king, leaves out pawns that may promote
+    // or take en passant, and finds nothing if the king is in check.
     fn has_easy_move(&self) -> bool
         ensures { result ≡ true → nat_lt 0 (length (moves self.now)) ≡ true }
     {
         let men = self.sets.of(self.setup.side);
-        let free = self.without_special_pawns(self.surely_unpinned());
-        let knights = men.of(Kind::Knight).intersection(free);
-        let pawns = men.of(Kind::Pawn).intersection(free);
+        let ordinary = self.without_special_pawns(self.surely_unpinned());
+        let knights = men.of(Kind::Knight).intersection(ordinary);
+        let pawns = men.of(Kind::Pawn).intersection(ordinary);
         if any(knights, |from| self.count_officer(Kind::Knight, from) > 0) {
             return true;
         }
         self.count_ordinary_pawns(pawns) > 0
     }
 
-    // Whether there is a legal move. It looks no further than the first piece that has one, and looks at the king
-    // early, since in check it mostly has one.
+    // Whether there is a legal move. The quick test comes first, then the king, since in check it mostly has a move.
+    // Then all pieces are tried one by one, up to the first that has a move.
     pub(crate) fn has_move(&self) -> bool
         ensures { result ≡ nat_lt 0 (length (moves self.now)) }
     {

@@ -5,8 +5,9 @@ ghost use Rattle.chess_moves.specs.PositionHash.{key};
 
 use chess_moves::{ComputedKeys, Keys};
 
-/// All 785 Zobrist keys, of which position hashes are made, by their numbers: 0 to 767 for pieces on squares, 768 for
-/// Black on move, 769 to 784 for castling rights.
+/// All 785 Zobrist keys, of which position hashes are made. They are looked up, since each move of a board needs some
+/// of them. Key n is at index n: 0 to 767 are for pieces on squares, 768 for Black on move, 769 to 784 for castling
+/// rights.
 #[derive(Drop)]
 pub struct KeyTable {
     keys: [u64; 785],

@@ -16,7 +16,9 @@ use crate::tables::AttackTables;
 use chess_base::{Colour, Kind, Square};
 use chess_moves::SquareSet;
 
-/// The pieces of one colour: the set of all, and for each kind one, at the kind's index (king 0 to pawn 5).
+/// The pieces of one colour as sets of squares: `all` for all of them, and in `sets` one set for each kind, at the
+/// kind's index (king 0 to pawn 5). In contracts, `IsKinds` says that `sets` are right for colour c's pieces on the
+/// board `men`, and `IsAll` that `all` is.
 #[derive(Clone, Copy)]
 pub struct Kinds {
     sets: [SquareSet; 6],
@@ -122,7 +124,7 @@ impl Kinds {
         self.of(kind).union(self.of(Kind::Queen))
     }
 
-    /// The squares of the pieces in these sets, which are of this colour, that attack `square`; `occupied` are the
+    /// The squares from which this colour's pieces, which are in these sets, attack `square`; `occupied` are the
     /// occupied squares of the board. It looks from `square` outwards: a knight attacks `square` if it is a knight's
     /// move away, and a pawn does if a pawn of the other colour on `square` would attack it.
     #[inline(always)]
@@ -155,8 +157,8 @@ impl Kinds {
             .union(pawns)
     }
 
-    /// Whether a piece in these sets, which are of this colour, attacks `square`; `occupied` are the occupied squares
-    /// of the board.
+    /// Whether one of this colour's pieces, which are in these sets, attacks `square`; `occupied` are the occupied
+    /// squares of the board.
     #[tactic(auto, unfolding(chess_base::specs::Attacks::is_attacked))]
     pub fn attacks(
         &self,
@@ -171,9 +173,10 @@ impl Kinds {
         !self.attackers(tables, colour, square, occupied).is_empty()
     }
 
-    /// Whether a piece in these sets, which are of this colour, attacks `square` after a move of the other colour; the
-    /// sets are those before it. `occupied` are the squares occupied after it, and `changed` the squares whose content
-    /// it changes: a piece of this colour there was captured, so it doesn't count.
+    /// Whether one of this colour's pieces attacks `square` after a move of the other colour; the pieces in these sets
+    /// are those before the move. `occupied` are the squares occupied after it, and `changed` the squares whose content
+    /// it changes: a piece of this colour there was captured, so it doesn't count. (`IsLater`: the pieces `later` are
+    /// those after such a move.)
     #[inline(always)]
     #[tactic(auto, unfolding(chess_base::specs::Attacks::is_attacked))]
     pub fn attacks_outside(

@@ -1,4 +1,4 @@
-//! The king's safety after a move, found from the sets after it without making the move.
+//! Whether the king is safe after a move, found from sets of squares without making the move.
 
 ghost use Rattle.std.specs.Prelude.{◌≡◌, ◌==◌, ◌&&◌, ◌||◌, not, ◌<◌, ℕ, map, true, Option, None, Some};
 ghost use Rattle.chess_base.specs.Men.{man_at, is_man};
@@ -31,7 +31,8 @@ pub(crate) fn set_of(square: Option<Square>) -> SquareSet
     }
 }
 
-// The squares on which pieces arrive by these steps of a move: the mover's end square, and the castling rook's.
+// The squares on which pieces arrive in a move that makes these steps: the mover's end square, and in castling the
+// rook's.
 #[inline(always)]
 fn filled_by(steps: &Steps) -> SquareSet
     ensures { (k : ℕ) → contains result k ≡ ((steps.now.to == k) || is_square steps.now.second_to k) }
@@ -40,8 +41,8 @@ fn filled_by(steps: &Steps) -> SquareSet
     to.union(set_of(steps.second_to))
 }
 
-// The squares that pieces leave by these steps of a move: the mover's start square, and the one of the castling rook or
-// of the pawn taken en passant.
+// The squares that pieces leave in a move that makes these steps: the mover's start square, and the one of the castling
+// rook or of the pawn taken en passant.
 #[inline(always)]
 fn emptied_by(steps: &Steps) -> SquareSet
     ensures { (k : ℕ) → contains result k ≡ (is_square steps.now.second_from k || (steps.now.from == k)) }
@@ -51,8 +52,8 @@ fn emptied_by(steps: &Steps) -> SquareSet
 }
 
 impl Bits<'_> {
-    // The square of the king of the side on move after a pseudo-legal move, which makes these steps: where the mover
-    // arrives if it is the king, otherwise where the king is now.
+    // The square where the king of the side on move is after a pseudo-legal move: where the mover arrives if it is the
+    // king, otherwise where the king is now. `steps` are what the move changes on the board.
     fn king_after(&self, steps: &Steps) -> Square
         ensures there { (m : Move) → is_pseudo_legal self.now m ≡ true → steps.now ≡ steps_of self.now m
             → is_man (self.now).side King (man_at (men_after self.now m) result) ≡ true }
@@ -85,9 +86,9 @@ impl Bits<'_> {
         !men.attacks_outside(self.tables, by, king, occupied, changed)
     }
 
-    // Whether an ordinary move of the king (no castling), from `king` to `to`, is legal: nothing attacks `to` once the
-    // king has left its square. Left to the compiler, not inlined, this and `king_ends` made counting take a fifth more
-    // instructions.
+    // Whether an ordinary move of the king (no castling), from `king` to `to`, is legal: no enemy piece attacks `to`
+    // once the king has left its square. When this and `king_ends` were not inlined, as the compiler chose, counting
+    // took a fifth more instructions.
     #[inline(always)]
     pub(crate) fn is_safe_step(&self, king: Square, to: Square) -> bool
         ensures { is_man (self.now).side King (man_at (self.now).men king) ≡ true
@@ -101,8 +102,8 @@ impl Bits<'_> {
         !self.sets.of(by).attacks(self.tables, by, to, left)
     }
 
-    // The end squares of the legal moves of the king on `king`, by a step or by castling. With `is_safe_after`, the
-    // general test, for each move, lists of moves in late endings took 13 % longer.
+    // The squares to which the king on `king` may legally go, by a step or by castling. When each move got the general
+    // test, `is_safe_after`, lists of moves in late endings took 13 % longer.
     #[inline(always)]
     pub(crate) fn king_ends(&self, king: Square) -> SquareSet
         requires { is_man (self.now).side King (man_at (self.now).men king) ≡ true }
@@ -115,8 +116,9 @@ impl Bits<'_> {
         self.castling_ends(king).union(safe)
     }
 
-    // Whether the move `m` is neither the king's nor a pawn's to the en passant target: then it changes only its two
-    // squares, and the king stays where it is. `goes_plainly` of placing.rt lets kings' moves pass too.
+    // Whether the move `m` is neither the king's nor a pawn's to the en passant target: then only what is on its two
+    // squares changes, and the king stays where it is. `goes_plainly` of placing.rt also accepts the king's moves, if
+    // there are no castling rights.
     #[inline(always)]
     fn steps_plainly(&self, m: &Move) -> bool
         ensures { result ≡ (not (is_man (self.now).side King (man_at (self.now).men m.now.from))
@@ -129,8 +131,8 @@ impl Bits<'_> {
     }
 
     // Whether a pseudo-legal move is legal: the mover's king is not attacked after it. Most moves change only two
-    // squares (`is_safe_plain`). With the steps computed for each move instead, by a function that was not inlined, the
-    // workload boards was 4 % slower.
+    // squares, and get the short test (`is_safe_plain`). When the steps of each move were computed, by a function that
+    // was not inlined, the workload boards was 4 % slower.
     #[inline(always)]
     pub(crate) fn is_safe_after(&self, m: &Move) -> bool
         ensures { is_pseudo_legal self.now m.now ≡ true → result ≡ is_legal self.now m.now }
@@ -141,8 +143,9 @@ impl Bits<'_> {
         self.is_safe_by(&steps_of(&self.setup, m))
     }
 
-    // Whether a pseudo-legal move, which makes these steps, is legal: the mover's king is not attacked after it. Only
-    // the king's moves, en passant and castling in Chess960 come here, so it is not inlined.
+    // Whether a pseudo-legal move is legal: the mover's king is not attacked after it. `steps` are what the move
+    // changes on the board. Only moves of the king, castling included, and captures en passant come here, so it is not
+    // inlined.
     #[inline(never)]
     pub(crate) fn is_safe_by(&self, steps: &Steps) -> bool
         ensures { (m : Move) → is_pseudo_legal self.now m ≡ true → steps.now ≡ steps_of self.now m
@@ -154,8 +157,9 @@ impl Bits<'_> {
         self.is_safe_at(king, filled, changed)
     }
 
-    // Whether a pseudo-legal move from `from` to `to` is legal. It is not the king's and not en passant, so only its
-    // two squares change; a promotion makes no difference to the king's safety.
+    // Whether a pseudo-legal move from `from` to `to` is legal. The caller knows that it is not the king's and not en
+    // passant (`StepsPlainly`), so only what is on its two squares changes. A promotion makes no difference to the
+    // king's safety.
     #[inline(always)]
     pub(crate) fn is_safe_plain(&self, from: Square, to: Square) -> bool
         ensures { (promotion : Option ManKind) → StepsPlainly self.now (move_of from to promotion)
@@ -181,9 +185,9 @@ impl Bits<'_> {
         self.is_safe_plain(from, to)
     }
 
-    // The promotions with which moves from `from` to `to` are legal: queen, rook, bishop and knight if a pawn promotes
+    // The promotions with which a move from `from` to `to` is legal: queen, rook, bishop and knight if a pawn promotes
     // there, otherwise the one entry `None`, for the move without a promotion. The slice is empty if the king would be
-    // attacked.
+    // attacked. The caller knows that some move between the two is pseudo-legal (`goes`).
     #[inline(always)]
     pub(crate) fn legal_promotions(&self, from: Square, to: Square) -> &'static [Option<Kind>]
         requires { goes self.now from to ≡ true }

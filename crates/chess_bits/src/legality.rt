@@ -27,7 +27,7 @@ fn is_officer(kind: Kind) -> bool
     !(is_king(kind) || is_pawn(kind))
 }
 
-// The kind of the piece `man`, a square's content, if it is a queen, rook, bishop or knight of this colour; else
+// The kind of the piece `man`, a square's content, if it is a queen, rook, bishop or knight of this colour; otherwise
 // `None`.
 #[inline(always)]
 #[tactic(auto, using(crate::proofs::ByKind::officer_told))]
@@ -67,8 +67,8 @@ impl Bits<'_> {
         self.is_safe_plain(m.from, m.to)
     }
 
-    // Whether the move `m` of any piece is legal, by the general test: its end square is one to which its piece goes, it
-    // names a promotion exactly if a pawn promotes there, and its king is safe after it.
+    // Whether the move `m` of any piece is legal, by the general test: its piece goes to its end square, it names a
+    // promotion exactly if a pawn promotes there, and its king is safe after it.
     #[tactic(auto, using(crate::proofs::Patterns::not_target, crate::proofs::Patterns::not_fitting, crate::proofs::Patterns::pattern_from))]
     fn is_legal_by_targets(&self, m: &Move) -> bool
         ensures { result ≡ is_legal self.now m.now }
@@ -96,9 +96,9 @@ impl Bits<'_> {
         }
     }
 
-    // Those of the squares `men` from which the piece there may legally go to `to`, each by the general test. The
-    // caller makes sure that each such move is pseudo-legal and no promotion. It is for pawns that may take en passant,
-    // which is rare, so it is not inlined.
+    // Those of the squares `men` from which the piece there may legally go to `to`; each move gets the general test.
+    // The caller knows that all these moves are pseudo-legal and name no promotion. It is called for pawns that may
+    // take en passant, which is rare, so it is not inlined.
     #[inline(never)]
     fn tried_starts(&self, men: SquareSet, to: Square) -> SquareSet
         requires { (k : ℕ) → k < 64 → contains men k ≡ true → is_pseudo_legal self.now (move_of k to None) ≡ true }
@@ -113,8 +113,9 @@ impl Bits<'_> {
         })
     }
 
-    // Those of the squares `men` from which the piece there may legally go to `to`, each by the short test. The caller
-    // makes sure that each such move is pseudo-legal, not the king's, no promotion and not en passant.
+    // Those of the squares `men` from which the piece there may legally go to `to`; each move gets the short test. The
+    // caller knows that all these moves are pseudo-legal and name no promotion, and that none is the king's or en
+    // passant (`StepsPlainly`).
     #[inline(always)]
     fn safe_starts(&self, men: SquareSet, to: Square) -> SquareSet
         requires { (k : ℕ) → k < 64 → contains men k ≡ true → StepsPlainly self.now (move_of k to None) }
@@ -124,8 +125,7 @@ impl Bits<'_> {
     }
 
     // The squares from which pieces of this kind (queen, rook, bishop or knight) of the side on move may legally go to
-    // `to`. They are looked for from `to`: only a piece on a square that one of this kind on `to` would attack can go
-    // there.
+    // `to`. It looks from `to` outwards: a knight can go to `to` only from squares that a knight on `to` would attack.
     fn officer_starts(&self, kind: Kind, to: Square) -> SquareSet
         requires { (same_kind King kind || same_kind Pawn kind) ≡ false }
         ensures { HasLegalStarts self.now kind to result }
@@ -158,7 +158,7 @@ impl Bits<'_> {
         self.castling_ends(king).contains(to)
     }
 
-    // As a set, the square of the king of the side on move, if it may legally go to `to`; otherwise the empty set.
+    // As a set, the king's square, if the king of the side on move may legally go to `to`; otherwise the empty set.
     fn king_starts(&self, to: Square) -> SquareSet
         ensures { HasLegalStarts self.now King to result }
     {
@@ -166,8 +166,8 @@ impl Bits<'_> {
         single_if(self.king_goes_legally(king, to), king)
     }
 
-    // Whether `to` is on the last rank of the side on move, where its pawns promote: for White rank 8, Black's first
-    // rank. `would_promote` asks for a pawn too.
+    // Whether `to` is on the last rank of the side on move, where its pawns promote: for White that is rank 8, Black's
+    // first rank. Unlike `would_promote`, it doesn't ask whether a pawn moves there.
     #[inline(always)]
     fn is_on_last_rank(&self, to: Square) -> bool
         ensures { result ≡ (rank to == first_rank (other (self.now).side)) }
@@ -175,8 +175,9 @@ impl Bits<'_> {
         to.rank() == first_rank(self.setup.side.other())
     }
 
-    // The squares from which pawns of the side on move may legally go to `to` without a promotion. Where `to` is the en
-    // passant target, the pawns that take there need the general test.
+    // The squares from which pawns of the side on move may legally go to `to` without a promotion; none if `to` is on
+    // the last rank. If `to` is the en passant target, the pawns that take there need the general test, since a third
+    // square changes.
     #[tactic(auto, using(crate::proofs::PawnStarts::none_on_last, crate::proofs::PawnStarts::pawn_patterns, crate::proofs::PawnStarts::pawn_starts_are))]
     fn legal_pawn_starts(&self, to: Square) -> SquareSet
         ensures { HasLegalStarts self.now Pawn to result }
@@ -193,8 +194,8 @@ impl Bits<'_> {
         self.safe_starts(men, to)
     }
 
-    // The squares from which pieces of this kind, of the side on move, may legally go to `to` without a promotion: one
-    // of three ways for officers (queen, rook, bishop, knight), king and pawns.
+    // The squares from which pieces of this kind, of the side on move, may legally go to `to` without a promotion.
+    // Officers (queen, rook, bishop, knight), the king and pawns each have a search of their own.
     #[inline(always)]
     pub(crate) fn starts_of(&self, kind: Kind, to: Square) -> SquareSet
         ensures { HasLegalStarts self.now kind to result }

@@ -16,7 +16,8 @@ use chess_base::rules::is_man;
 use chess_base::{Kind, Move, Square};
 use chess_moves::{MoveList, SquareSet};
 
-// Appends to `list` the moves from `from` to `to` with each of `promotions` (`None` for a move that promotes nothing).
+// Appends to `list` a move from `from` to `to` for each of `promotions` (`None`: a move without a promotion). The
+// caller knows that the list, which holds 896 moves, has room for them.
 fn add_moves_with(from: Square, to: Square, promotions: &[Option<Kind>], list: &mut MoveList)
     requires { array_vec_len list.old + length promotions.now ≤ 896 }
     ensures { list.new.items ≡ list.old.items ++ map (move_of from to) promotions.now }
@@ -30,7 +31,7 @@ fn add_moves_with(from: Square, to: Square, promotions: &[Option<Kind>], list: &
     }
 }
 
-// Appends to `list` a move without a promotion from `from` to each square of the set `ends`.
+// Appends to `list` a move without a promotion from `from` to each square of the set `ends`, from a1 to h8.
 fn add_moves_onto(from: Square, ends: SquareSet, list: &mut MoveList)
     requires { array_vec_len list.old + length (members ends) ≤ 896 }
     ensures { list.new.items ≡ list.old.items ++ map (λ b. move_of from b None) (members ends) }
@@ -46,7 +47,8 @@ fn add_moves_onto(from: Square, ends: SquareSet, list: &mut MoveList)
 }
 
 impl Bits<'_> {
-    // Appends to `list` the legal moves from `from` to `to`, with a promotion or without.
+    // Appends to `list` the legal moves from `from` to `to`, with a promotion or without. The caller knows that some
+    // move between the two is pseudo-legal (`goes`).
     fn add_moves_between(&self, from: Square, to: Square, list: &mut MoveList)
         requires goes { goes self.now from to ≡ true }
         requires room { array_vec_len list.old + length (moves_between self.now from to) ≤ 896 }
@@ -55,8 +57,8 @@ impl Bits<'_> {
         add_moves_with(from, to, self.legal_promotions(from, to), list);
     }
 
-    // Appends to `list` the legal moves from `from`. They all end on squares of `ends`, and to each of these a move is
-    // pseudo-legal; each is tested.
+    // Appends to `list` the legal moves from `from`, where the caller knows that all of them end on squares of `ends`
+    // (`all`), and that a move to each of these is pseudo-legal (`goes`). Each is tested.
     fn add_moves_to(&self, from: Square, ends: SquareSet, list: &mut MoveList)
         requires goes { (k : ℕ) → k < 64 → contains ends k ≡ true → goes self.now from k ≡ true }
         requires all { EndsOn self.now from ends }
@@ -82,7 +84,7 @@ impl Bits<'_> {
         add_moves_onto(from, self.targets(from), list);
     }
 
-    // Appends to `list` the legal moves of the king on `king`.
+    // Appends to `list` the legal moves of the king on `king`, castling included.
     fn add_king_moves(&self, king: Square, list: &mut MoveList)
         requires king { is_man (self.now).side King (man_at (self.now).men king) ≡ true }
         requires room { array_vec_len list.old + length (moves_from self.now king) ≤ 896 }
@@ -91,8 +93,9 @@ impl Bits<'_> {
         add_moves_onto(king, self.king_ends(king), list);
     }
 
-    // Appends to `list` the legal moves of the piece on `from`, the king or another: each pseudo-legal move is tested
-    // for the king's safety, but of another piece than the king only those to squares that `pins` leaves to it.
+    // Appends to `list` the legal moves of the piece on `from`, which may be the king or pinned. For the king
+    // `add_king_moves` does it. For another piece, each pseudo-legal move to a square that `pins` leaves to it is
+    // tested; it has no other legal moves (`evasions`).
     fn add_judged_moves(&self, from: Square, pins: &Pins, list: &mut MoveList)
         requires evasions { AreEvasions self.now pins.now.free pins.now.evasions }
         requires room { array_vec_len list.old + length (moves_from self.now from) ≤ 896 }
@@ -123,8 +126,8 @@ impl Bits<'_> {
         }
     }
 
-    // Appends to `list`, which is empty, all legal moves, rising by start square, end square and promotion. It fills
-    // the caller's list, since a list of its own (3,592 bytes) would be copied on its way out.
+    // Puts all legal moves into `list`, which is empty: rising by start square, end square and promotion. It fills the
+    // caller's list, since a list of its own (3,592 bytes) would be copied on its way out.
     #[inline(always)]
     pub(crate) fn add_moves(&self, list: &mut MoveList)
         requires { list.old.items ≡ [] }
