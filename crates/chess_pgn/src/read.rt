@@ -1,4 +1,9 @@
-//! Reading a game. What the loop over its tokens calls is inlined for the reason at the head of token.rt.
+//! Reads a game's tags, moves and outcome mark. The outcome mark is the token `1-0`, `0-1`, `1/2-1/2` or `*` that ends
+//! a game's text; "termination" means only the tag of this name. Functions that the loops over tokens call are inlined
+//! for the reason at the head of token.rt.
+//!
+//! Contracts here compare results with the definitions of TokenByToken, such as `word_step`. `so_far` and `step_seen`
+//! give the code's values in the form of these definitions.
 
 ghost use Rattle.std.specs.Prelude.{◌≡◌, ℕ, ◌+◌, ◌-◌, ◌^◌, ◌≤◌, ◌<◌, false, length, None, IfOk, Err, is_some, IsNone, OnErr};
 ghost use Rattle.std.specs.Option.{IfSome, option_map_or};
@@ -26,67 +31,69 @@ use chess_game::{Comment, Game, Outcome, PlayRefusal};
 use chess_moves::Board;
 use chess_text::{Reading, read_move};
 
-/// How a game's text ended.
+/// How a game's text ended, and where. It ends with its outcome mark, the token `1-0`, `0-1`, `1/2-1/2` or `*`.
 #[derive(Clone, Copy, Debug, PartialEq, Eq)]
 pub struct PgnEnd {
-    /// The outcome that the termination names. If the board has a verdict, the game has the verdict's outcome.
+    /// The outcome that the outcome mark names. The game's own outcome may differ from it: if the board has a verdict,
+    /// such as mate, the game has the verdict's outcome.
     pub outcome: Outcome,
-    /// How the game ended, as its last tag `Termination` says; `None` if it has none, or one with an unknown text. It
-    /// is not compared with the outcome.
+    /// How the game ended, as its last tag `Termination` says; `None` if it has no such tag, or if the last one has an
+    /// unknown text. It is not compared with the outcome.
     pub termination: Option<Termination>,
-    /// The offset of the byte after the termination, counted from the text's first byte.
+    /// The offset of the byte after the outcome mark, counted from the text's first byte.
     pub offset: usize,
 }
 
 /// Why a game's text can't be read.
 #[derive(Clone, Copy, Debug, PartialEq, Eq, thiserror::Error)]
 pub enum PgnFaultKind {
-    /// A bracket that begins no tag.
+    /// A `[` that begins no tag, before the game's first number or move. (After these it is `NoResult`.)
     #[error("a bracket begins no tag")]
     BadTag,
-    /// A FEN that denotes no sound position, and why; the offset is its string's first byte.
+    /// A FEN that denotes no sound position, and why; the offset is that of the FEN's first byte.
     #[error("the FEN denotes no position: {0}")]
     BadFen(FenFault),
-    /// A byte that begins no token, or a word that is no move, number or termination.
+    /// A byte that begins no token, or a word that is no number, marks or outcome mark and hasn't a move's form.
     #[error("this is no token, move, number or termination")]
     BadToken,
-    /// A move that is not legal.
+    /// A word that has a move's form, but denotes no legal move.
     #[error("the move is not legal")]
     IllegalMove,
     /// A text that several legal moves fit.
     #[error("several legal moves fit")]
     AmbiguousMove,
-    /// A move after the game's end.
+    /// A move after the board has ended the game, as by mate.
     #[error("the move comes after the end of the game")]
     AfterEnd,
-    /// A move past the game's limit.
+    /// A move in a game that already has as many half-moves as its limit allows.
     #[error("the game has too many moves")]
     TooLong,
-    /// A comment without its closing brace; the offset is its opening brace's.
+    /// A comment without its `}`; the offset is that of its `{`.
     #[error("the comment is not closed")]
     UnclosedComment,
-    /// A variation without its end; the offset is its outermost bracket's.
+    /// A variation without its `)`; the offset is that of the `(` of the outermost variation.
     #[error("the variation is not closed")]
     UnclosedVariation,
-    /// No termination before the next game's tags or the text's end.
+    /// No outcome mark before the next game's tags, which begin with a `[` after a number or move, or before the text's
+    /// end. The offset is that of this `[`, or the text's length.
     #[error("the game has no result")]
     NoResult,
 }
 
-/// A fault of a game's text, and its offset.
+/// The first fault of a game's text.
 #[derive(Clone, Copy, Debug, PartialEq, Eq, thiserror::Error)]
 #[error("{kind} at byte {offset}")]
 pub struct PgnFault {
     pub kind: PgnFaultKind,
-    /// Its offset, counted from the text's first byte.
+    /// Where the fault is, counted from the text's first byte.
     pub offset: usize,
 }
 
 // What follows from one token of a game's text.
 enum Step {
-    // More tokens are to be read; what is known so far.
+    // Reading continues; the value is what is known after the token.
     On(Progress),
-    // The token was an outcome, which ends the game's text.
+    // The token was the outcome mark, which ends the game's text.
     Ended(PgnEnd),
 }
 
@@ -97,8 +104,8 @@ fn is_decided<B: Board>(game: &Game<B>) -> bool
     game.verdict().is_some()
 }
 
-// The fault to report for a move that the game refuses: the game is over (`AfterEnd`), it has as many half-moves as its
-// limit allows (`TooLong`), or the move is illegal.
+// The fault to report for a move that the game refuses: `AfterEnd` if the game is over, `TooLong` if it has as many
+// half-moves as its limit allows, and `IllegalMove` if the move is illegal.
 fn refusal_kind(refusal: PlayRefusal) -> PgnFaultKind
     ensures { result ≡ refusal_kind refusal }
 {
@@ -109,8 +116,8 @@ fn refusal_kind(refusal: PlayRefusal) -> PgnFaultKind
     }
 }
 
-// The fault to report for a word that is not played. If the game is over or full, it is that (`AfterEnd` or `TooLong`),
-// whatever the word denotes; otherwise it is `kind`, the fault of the word itself, such as `AmbiguousMove`.
+// The fault to report for a word that has a move's form but is not played: `AfterEnd` if the game is over, `TooLong` if
+// it is not over but full, and otherwise `kind`, which is the fault of the word itself, such as `AmbiguousMove`.
 fn unplayed_kind<B: Board>(game: &Game<B>, kind: PgnFaultKind) -> PgnFaultKind
     ensures { result ≡ option_map_or refusal_kind (refusal_now game.now) kind }
 {
@@ -120,9 +127,10 @@ fn unplayed_kind<B: Board>(game: &Game<B>, kind: PgnFaultKind) -> PgnFaultKind
     }
 }
 
-// The fault of the word at `offset`, which may be a move (`WordKind::Move`) but was not played: it denotes no move, no
-// legal move or several, or the game is over or full. To find out which, the word is read again, as it is only here, at
-// most once in a game. The contract holds for each `p`, since a fault says nothing of the progress.
+// The fault of the word at `offset`, which is of the kind `WordKind::Move` but can't be played (`left`): it hasn't a
+// move's form, denotes no legal move or several, or the game is over or full. To find out which, the word is read
+// again. This happens at most once in a game, since reading ends with the fault. The contract says that the definition
+// `move_step` gives the same fault, whatever was known before the word (`p`).
 #[inline(never)]
 fn fault_of_move<B: Board>(game: &Game<B>, offset: usize, word: &[u8]) -> PgnFault
     requires undeclared { game.now.state.declared ≡ None }
@@ -133,15 +141,15 @@ fn fault_of_move<B: Board>(game: &Game<B>, offset: usize, word: &[u8]) -> PgnFau
     let kind = match read_move(game.board(), word) {
         Reading::NotAMove => PgnFaultKind::BadToken,
         Reading::Ambiguous => unplayed_kind(game, PgnFaultKind::AmbiguousMove),
-        // A legal move was not played only if the game is over or full, and then that is the fault.
+        // A legal move is left only if the game is over or full, so for it `unplayed_kind` never returns `IllegalMove`.
         Reading::Move(_) | Reading::NoSuch => unplayed_kind(game, PgnFaultKind::IllegalMove),
     };
     PgnFault { kind, offset }
 }
 
-// Declares `outcome`, with which the game's text ends, as the game's result. Nothing is declared for `*`, or if the
-// board has ended the game, as by mate: then the game's outcome is the board's, even if the text says another (see
-// `PgnEnd`).
+// Declares `outcome`, which the game's outcome mark names, as the game's result, without a comment. Nothing is declared
+// for `*`, or if the board has ended the game, as by mate: then the game has the board's outcome, even if the mark
+// names another (see `PgnEnd`).
 fn declare_outcome<B: Board>(game: &mut Game<B>, outcome: Outcome)
     requires { game.old.state.declared ≡ None }
     ensures { game.new
@@ -153,9 +161,11 @@ fn declare_outcome<B: Board>(game: &mut Game<B>, outcome: Outcome)
     }
 }
 
-// What follows from the word at `offset`, which is no move that can be played (`play_words` has played those): an
-// outcome such as `1-0` ends the game; after a number or marks reading continues; and what may be a move is a fault.
-// `progress` is what is known before the word.
+// Applies the word at `offset` to the game. An outcome mark such as `1-0` ends the game (`declare_outcome`). After a
+// number or marks reading continues. A word that may be a move is a fault, since it is no move that can be played
+// (`left`): `play_words` has played those. `progress` is what is known before the word.
+//
+// `ended`: the offset returned with an end is after the word's first byte, and at most after its last.
 #[tactic(auto, using(crate::proofs::StepKinds::termination_has_bytes))]
 #[inline(always)]
 fn apply_word<B: Board>(
@@ -188,9 +198,12 @@ fn apply_word<B: Board>(
     }
 }
 
-// What follows from a tag. `FEN` makes the game begin anew from its position, in the variant that the game already has
-// (`begin_game` looked for it); a FEN that denotes no position is a fault. Of other tags only `Termination` is kept.
-// `progress` is what is known before the tag; `offset` is where its string begins, for the fault.
+// Applies a tag to the game. The tag `FEN` makes the game begin anew from its position, read in the variant that the
+// game already has (`begin_game` has seen to that). A FEN that denotes no position is a fault. Of other tags only the
+// value of `Termination` is kept. `progress` is what is known before the tag; `offset` is where its string begins, for
+// the fault.
+//
+// `ended` says that a tag never ends the game, since no offset is more than 0 and at most 0 (`EndsIn 0 0`).
 fn apply_tag<B: Board>(
     game: &mut Game<B>,
     progress: Progress,
@@ -216,9 +229,13 @@ fn apply_tag<B: Board>(
     Ok(Step::On(progress.after_tag(tag)))
 }
 
-// What follows from the token at `offset` of a text of `len` bytes: more is to be read, the game's text ended, or there
-// is a fault. After a number or a move a tag is one, since it begins the next game. The token is no move that can be
-// played (`left`): `play_words` has played those. `progress` is what is known before it.
+// Applies the token at `offset` of a text of `len` bytes to the game. Returns what is then known, if reading continues;
+// how the game's text ended, if the token is its outcome mark; or a fault. A tag after a number or a move is a fault:
+// it begins the next game, so this game has no outcome mark. The token is no move that can be played (`left`):
+// `play_words` has played those. `progress` is what is known before the token.
+//
+// `within`: the token's word or string is in the text from `offset` on. `ended`: the offset returned with an end is
+// after `offset`, and in the text.
 #[inline(always)]
 fn apply_token<B: Board>(
     game: &mut Game<B>,
@@ -247,10 +264,10 @@ fn apply_token<B: Board>(
     }
 }
 
-// The fault to report where no token can be read at `offset` of a text of `len` bytes. `progress` is what is known
-// before it: after a number or a move, a bad tag belongs to the next game, so the fault is that this game has no
-// result. An unclosed comment has an offset of its own (`len - to_end`, of its `{`), since it may be inside a variation
-// that begins at `offset`.
+// The fault to report where `next_token` can read no token at `offset` of a text of `len` bytes. `fault` is the reason
+// that it returned, and `progress` is what was known before. A bad tag after a number or a move belongs to the next
+// game, so it is reported as `NoResult`: this game has no outcome mark. An unclosed comment is reported at its `{`,
+// which may be inside a variation that begins at `offset`; `to_end` bytes are left there.
 fn reported_fault(fault: TokenFault, progress: Progress, len: usize, offset: usize) -> PgnFault
     requires within { IsWithin (len - offset) (fault_seen fault) }
     requires offset { offset ≤ len }
@@ -281,8 +298,8 @@ fn reported_fault(fault: TokenFault, progress: Progress, len: usize, offset: usi
     }
 }
 
-// The variant that the text of a tag `Variant` names: `fischerandom` (also spelt with two r) or `chess960`, in capitals
-// or small letters, mean Chess960, and any other text normal chess.
+// The variant that the text of a tag `Variant` names: Chess960 for `fischerandom`, `fischerrandom` and `chess960`, in
+// capital or small letters, and normal chess for any other text.
 fn variant_named(text: &[u8]) -> Variant
     ensures { result ≡ variant_named text.now }
 {
@@ -296,7 +313,7 @@ fn variant_named(text: &[u8]) -> Variant
     }
 }
 
-// The variant of a game with this tag `Variant`; normal chess for `None`, if it has no such tag.
+// The variant that the tag `Variant` given as `tag` names; normal chess if it is `None`, which means no such tag.
 #[inline(always)]
 fn variant_of(tag: Option<Tag<'_>>) -> Variant
     ensures { result ≡ option_map_or (λ t. variant_named t.0) (found_seen tag.entry) Normal }
@@ -307,8 +324,8 @@ fn variant_of(tag: Option<Tag<'_>>) -> Variant
     }
 }
 
-// The variant of the game whose text begins at the offset `at`: what its last tag `Variant` names, of those before its
-// first number, move or outcome; normal chess, if it has no such tag.
+// The variant of the game whose text begins at the offset `at`, as its last tag `Variant` names it; normal chess if it
+// has no such tag. The game's tags end before its first number, move, outcome mark or fault.
 fn tagged_variant(text: &[u8], at: usize) -> Variant
     requires { at ≤ length text.now }
     ensures { result ≡ tagged_variant (tag_section (tokens_from text.now at)) }
@@ -316,10 +333,10 @@ fn tagged_variant(text: &[u8], at: usize) -> Variant
     variant_of(last_tag(text, at, b"Variant"))
 }
 
-// Reads the tags from the offset `at` on as those of a game of normal chess, in one pass. Returns what is known after
-// them, and the offset of the first number, move or outcome, or of the text's end; reading on from there gives the same
-// as reading from `at` (`IsReadOn`). `None` if a tag names Chess960 or a fault comes first: what the game holds then is
-// not used (`begin_game` restarts it).
+// Reads the tags from the offset `at` on in one pass, for a game of normal chess. Returns what is known after the tags,
+// and the offset after them: that of the first number, move or outcome mark, or of the text's end. Reading on from
+// there gives the same as reading from `at` (`IsReadOn`). Returns `None` if a tag names Chess960 or there is a fault
+// among the tags: `begin_game` then restarts the game.
 fn read_normal_tags<B: Board>(
     text: &[u8],
     at: usize,
@@ -342,13 +359,14 @@ fn read_normal_tags<B: Board>(
         if !may_precede_tags(&token) {
             return Some((progress, offset));
         }
+        // It is `Normal` also for any token that is no tag `Variant`.
         match variant_of(named_tag(b"Variant", &token)) {
             Variant::Normal => {}
             Variant::Fischerandom => return None,
         }
         match apply_token(game, progress, text.len(), offset, &token) {
             Ok(Step::On(further)) => progress = further,
-            // Only an outcome ends a game, and that was left above.
+            // Never reached: only an outcome mark ends a game, and before one the function has returned above.
             Ok(Step::Ended(_)) => return None,
             Err(_) => return None,
         }
@@ -356,11 +374,13 @@ fn read_normal_tags<B: Board>(
     }
 }
 
-// Begins the game whose text begins at the offset `at`, and returns what is known of it and the offset from which to
-// read on: that gives the same as reading from `at` (`IsReadOn`). Of a game of normal chess, as most are, the tags are
-// read here, and the offset is after them. For any other, or after a fault among the tags, the game is set to the
-// initial position of its variant, and the offset is `at`: the variant must be known before a FEN is read, and the tag
-// `Variant` may come after the tag `FEN`.
+// Begins the game whose text begins at the offset `at`. Returns what is known of it, and an offset: reading on from
+// there gives the same as reading from `at` (`IsReadOn`).
+//
+// The variant must be known before a FEN is read, and the tag `Variant` may come after the tag `FEN`. Most games are
+// of normal chess, so the tags are first read as such; the offset is then after them. If a tag names Chess960, or there
+// is a fault among the tags, the game is set to the initial position of its variant, and the offset is `at`: the caller
+// then reads the tags.
 #[tactic(auto, using(crate::proofs::GameReads::first))]
 fn begin_game<B: Board>(text: &[u8], at: usize, game: &mut Game<B>) -> (Progress, usize)
     requires { at ≤ length text.now }
@@ -374,16 +394,20 @@ fn begin_game<B: Board>(text: &[u8], at: usize, game: &mut Game<B>) -> (Progress
     (Progress::none(), at)
 }
 
-/// Reads the first game of a text from the offset `at` on (PGN standard of 1994; this project decides which words are
-/// accepted). `game` begins anew, from the position of the last tag `FEN` or from the initial position, in the variant
-/// that the last tag `Variant` names. The moves are played as they are read. The outcome at the end is declared, unless
-/// it is `*` or the board has ended the game, as by mate.
+/// Reads the first game of a text from the offset `at` on, up to its outcome mark such as `1-0` (PGN standard of 1994;
+/// this project decides which words are accepted). `game` begins anew, from the position of the last tag `FEN` or from
+/// the initial position, in the variant that the last tag `Variant` names. The moves are played as they are read. The
+/// outcome that the mark names is declared, unless it is `*` or the board has ended the game, as by mate.
 ///
-/// Returns the outcome and the offset after it, where the next game begins; `None` if there is no tag, number, move or
-/// outcome up to the text's end.
+/// Returns this outcome, what the last tag `Termination` says, and the offset after the mark, from which the next game
+/// is read. Returns `None` if there is no tag, number, move or outcome mark up to the text's end; `game` is then at the
+/// initial position.
+///
+/// `said` states the same as `answer` and `game`, by a split of the text into tokens (`IsRead`). `further`: the offset
+/// returned is after `at`, so reading game after game ends.
 ///
 /// # Errors
-/// The first fault of the text, with its offset. `game` then holds the moves before it, and nothing is declared.
+/// The first fault of the game's text, with its offset. `game` then holds the moves before it, and nothing is declared.
 #[tactic(auto, using(crate::proofs::GameReads::read_from))]
 pub fn read_pgn<B: Board>(
     text: &[u8],
@@ -403,7 +427,7 @@ pub fn read_pgn<B: Board>(
     let (mut progress, tags_end) = begin_game(text, after_byte_order_mark(text, at), game);
     let moves_end = play_words(text, tags_end, game, &mut progress);
     let mut offset = moves_end;
-    // The token at `offset` is never a move that can be played: `play_words` has played those.
+    // `offset` is always where `play_words` stopped, so the token there is no move that can be played.
     loop {
         match next_token(text, offset) {
             Ok(Some((token, token_end))) => {

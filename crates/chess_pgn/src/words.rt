@@ -1,5 +1,5 @@
-//! The words of a game's text that are numbers and moves, with the white space, dots and comments between them.
-//! All half-moves of a game are played in one loop, `play_words`, into which the others are inlined.
+//! Plays the moves of a game's text, and passes over the numbers, white space, dots and comments between them. All
+//! half-moves of a game are played in one loop, `play_words`, into which the other functions are inlined.
 
 ghost use Rattle.std.specs.Prelude.{◌≡◌, ◌≤◌, ◌<◌, true, false, length, None};
 ghost use Rattle.std.specs.Option.{IfSome};
@@ -18,8 +18,8 @@ use chess_game::Game;
 use chess_moves::Board;
 use chess_text::{Reading, read_move};
 
-// If a `{` comment begins at the offset `at`, the offset after its `}`: a game is read alike from both (`ReadsAlike`).
-// `None` if the byte at `at` is no `{`, or no `}` follows it.
+// The offset after the `{` comment that begins at the offset `at`: 3 for `{a} e5` at 0. `None` if no `{` is there, or
+// no `}` follows it. The comment changes nothing: reading on from both offsets gives the same (`ReadsAlike`).
 #[inline(always)]
 fn after_comment(text: &[u8], at: usize) -> Option<usize>
     requires { at ≤ length text.now }
@@ -38,11 +38,11 @@ fn after_comment(text: &[u8], at: usize) -> Option<usize>
     }
 }
 
-// Skips white space, dots and closed `{` comments from the offset `at` on, and returns the offset after them, mostly
-// that of a number or move: of `. {best} e5` from 0 on it is 9. A game is read alike from both offsets (`ReadsAlike`):
-// `next_token` would return each of these bytes and comments as a `Token::Skip`. Here no tokens are made, so that
-// `play_words` stays in its loop from one word to the next. `$` glyphs, variations, `%` lines and `;` comments are left
-// to `next_token`.
+// Skips white space, dots and closed `{` comments from the offset `at` on. Returns the offset after them, which is
+// mostly that of a number or move: 9 for `. {best} e5` from 0 on. Reading on from both offsets gives the same
+// (`ReadsAlike`), since `next_token` would return each of these bytes and comments as a `Token::Skip`. Here no tokens
+// are made, so that `play_words` stays in its loop from one word to the next. `$` glyphs, variations, `%` lines and `;`
+// comments are rarer, and are left to `next_token`.
 #[inline(always)]
 pub(crate) fn after_skipped(text: &[u8], at: usize) -> usize
     requires { at ≤ length text.now }
@@ -58,12 +58,12 @@ pub(crate) fn after_skipped(text: &[u8], at: usize) -> usize
     offset
 }
 
-// Plays the move that a word such as `Nf3` denotes in the current position, and returns whether it was played. It is
-// not, and nothing changes, if the word denotes no legal move or several, or if the game is over, or has as many
-// half-moves as its limit allows.
+// Plays the move that a word such as `Nf3` denotes in the current position, and returns whether it did. It doesn't, and
+// nothing changes, if the word denotes no legal move or several, or if the game is over, or has as many half-moves as
+// its limit allows.
 //
 // `left`: after false the word is no move that the game plays. `taken`: after true the game is as the definition
-// `move_step` says.
+// `move_step` says, after false as it was.
 #[inline(always)]
 fn try_move<B: Board>(game: &mut Game<B>, word: &[u8]) -> bool
     requires { game.old.state.declared ≡ None }
@@ -82,11 +82,12 @@ fn try_move<B: Board>(game: &mut Game<B>, word: &[u8]) -> bool
     true
 }
 
-// Plays the move that a word denotes (`try_move`), or passes over a number such as `12`; returns whether the word was
-// one of these. For any other word, and for the empty one, nothing changes and it returns false.
+// Plays the move that a word denotes, if it can be played (`try_move`), or passes over a number such as `12`. Returns
+// whether it did one of these. For any other word nothing changes and it returns false. It does so for the empty word
+// too, which `split_word` returns where no word begins: `word_kind` takes that for a number.
 //
 // `left`: after false the word is no move that the game plays. `taken`: after true the game is as the definition
-// `word_step` says.
+// `word_step` says, after false as it was.
 #[tactic(auto, using(crate::proofs::LeftTokens::move_has_bytes))]
 #[inline(always)]
 fn try_word<B: Board>(game: &mut Game<B>, word: &[u8]) -> bool
@@ -104,12 +105,16 @@ fn try_word<B: Board>(game: &mut Game<B>, word: &[u8]) -> bool
     }
 }
 
-// Plays the moves from the offset `at` on, passing over move numbers, white space, dots and closed comments, up to what
-// is neither a number nor a move that can be played; returns its offset. Of `1. e4 {best} e5 1-0` from 0 on it plays
-// two moves and returns the offset of `1-0`. `progress` notes that a number or move was read.
+// Plays the moves from the offset `at` on. Passes over numbers, and over the white space, dots and closed comments that
+// follow a number or move. Stops at whatever else comes, such as an outcome mark, a variation or an illegal move, and
+// returns its offset. Of `1. e4 {best} e5 1-0` from 0 on it plays two moves and returns the offset of `1-0`. `progress`
+// notes that a number or move was read.
 //
-// No `Token` and no `Step` is made of these words: handed on through memory, those took a seventh of the instructions
-// on plain games.
+// No `Token` and no `Step` is made of these words: to pass those through memory took a seventh of the instructions on
+// plain games.
+//
+// `taken`: reading on from the offset returned gives the same as reading from `at` would have given. `left`: the token
+// at that offset is no move that can be played.
 pub(crate) fn play_words<B: Board>(
     text: &[u8],
     at: usize,

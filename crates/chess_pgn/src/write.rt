@@ -1,4 +1,9 @@
-//! Writing a game (PGN standard of 1994, sections 3.2, 8 and 9.7).
+//! Writes a game's text (PGN standard of 1994, sections 3.2, 8 and 9.7). All parts are written to one `LineWriter`, the
+//! parameter `lines`, which collects them in a buffer.
+//!
+//! In contracts the clause `added` (`Adds`) ends in the text that a function adds. What waited in the buffer and then
+//! this text is what the writer took and what waits now. `ended prefix lines` is the text of these lines, each with the
+//! prefix before it and `\n` after it. The other clauses say what stays as it was.
 
 ghost use Rattle.std.specs.Prelude.{◌≡◌, ℕ, ◌≤◌, ◌<◌, List, [], ◌∷◌, ◌++◌, true, length, decimal, OnOk, OnErr, IsTrue};
 ghost use Rattle.arrayvec.specs.ArrayVec.{array_vec_len};
@@ -25,12 +30,15 @@ use chess_game::{Game, Outcome};
 use chess_moves::Board;
 use chess_text::{make_san, san_is_a_word};
 
-// A move number with its dots, such as `12...`: room for 20 digits and three dots.
+// The text of a move number with its dots, such as `12...`. It has room for 20 digits and three dots.
 type NumberText = ArrayVec<u8, 23>;
 
 /// Writes a game's text (PGN standard of 1994, section 3.2, the form for exchange): its tags, an empty line, its moves
-/// in SAN with the outcome last, and an empty line. Each line begins with `prefix` and ends with `\n`. The writer is
-/// not flushed; the board `scratch`, used for SAN, is left at some position.
+/// in SAN with the outcome last, and an empty line. Each line begins with `prefix` (`# ` in a session, or empty) and
+/// ends with `\n`. The writer is not flushed. The moves are played on the board `scratch` for their SAN; it is left at
+/// some position.
+///
+/// `laid_out` states the same as `written`, by what such a text looks like (`IsPgn`).
 ///
 /// # Errors
 /// If the writer fails; a beginning of the text was written then.
@@ -51,8 +59,10 @@ pub fn write_pgn<B: Board, W: Output>(
     lines.finish()
 }
 
-// Writes a game's whole text through `lines`: tags, an empty line, moves with the outcome, an empty line. The moves are
-// played on the board `scratch`, which their SAN needs.
+// Writes a game's whole text to `lines`: tags, an empty line, moves with the outcome, an empty line. Its end may still
+// wait in the buffer: `write_pgn` calls `finish`. The moves are played on the board `scratch` for their SAN.
+//
+// `Adds`: what waited in the buffer and then the text (`pgn`) is what the writer took and what waits now.
 fn put_game<B: Board, W: Output>(
     lines: &mut LineWriter<'_, '_, W>,
     game: &Game<B>,
@@ -70,7 +80,8 @@ fn put_game<B: Board, W: Output>(
     lines.put_line(b"")
 }
 
-// Writes the lines of a game's tags, `[Event "?"]` first, and an empty line. `outcome` is the game's outcome.
+// Writes the lines of all tags of a game, from `[Event "?"]` on, and an empty line. `outcome` is the game's outcome, by
+// which the tags `Result` and `Termination` are written.
 fn put_tag_lines<B: Board, W: Output>(
     lines: &mut LineWriter<'_, '_, W>,
     game: &Game<B>,
@@ -90,8 +101,8 @@ fn put_tag_lines<B: Board, W: Output>(
     lines.put_line(b"")
 }
 
-// Writes the lines of the seven tags that each game has, from `Event` to `Result`. The text of `Result` is that of
-// `outcome`, such as `1-0`.
+// Writes the lines of the Seven Tag Roster, the tags that each game has, from `[Event "?"]` to `[Result "1-0"]`. The
+// text of `Result` is that of `outcome`; `tags` has the other six.
 fn put_roster<W: Output>(
     lines: &mut LineWriter<'_, '_, W>,
     tags: &Tags,
@@ -136,8 +147,9 @@ fn put_roster<W: Output>(
     put_tags(lines, &roster)
 }
 
-// Writes the lines of the tags after the seven of each game: `FEN` and `SetUp`, if the game doesn't begin from the
-// initial position of normal chess; `Termination`; and `Variant` for Chess960. `start` is the game's first position.
+// Writes the lines of the tags that follow the seven of the roster: `FEN` and `SetUp`, if the game doesn't begin from
+// the initial position of normal chess; `Termination`; and `Variant`, if it is of Chess960. `start` is the position
+// from which the game begins, and its variant is the game's.
 fn put_further<W: Output>(
     lines: &mut LineWriter<'_, '_, W>,
     start: &Position,
@@ -153,8 +165,8 @@ fn put_further<W: Output>(
     put_last(lines, start.variant(), termination)
 }
 
-// Writes the tags `FEN` and `SetUp` for a game that begins from the position `start`; nothing, if that is the initial
-// position of normal chess.
+// Writes the lines of the tags `FEN` and `SetUp` for a game that begins from the position `start`; nothing, if `start`
+// is the initial position of normal chess. A game of Chess960 always has these tags.
 fn put_start<W: Output>(
     lines: &mut LineWriter<'_, '_, W>,
     start: &Position,
@@ -171,7 +183,8 @@ fn put_start<W: Output>(
     }
 }
 
-// Writes the tags `FEN`, with the FEN of the position `start`, and `SetUp`, with the text `1`, each on its line.
+// Writes the lines of two tags: `FEN` with the FEN of the position `start`, and `[SetUp "1"]`, which says that there is
+// a FEN.
 fn put_fen<W: Output>(lines: &mut LineWriter<'_, '_, W>, start: &Position) -> Result<(), WriteFault>
     ensures added { Adds (W.seen lines.old.writer.now) (W.seen lines.new.writer.now) lines.old.waiting
         lines.new.waiting result (ended lines.old.prefix.now (fen_lines start.now)) }
@@ -193,7 +206,8 @@ fn put_fen<W: Output>(lines: &mut LineWriter<'_, '_, W>, start: &Position) -> Re
     put_tags(lines, &tags)
 }
 
-// Writes the last tags: `Termination`, and for a game of Chess960 also `[Variant "fischerandom"]`.
+// Writes the lines of the last tags: `Termination`, such as `[Termination "normal"]`, and for a game of Chess960 also
+// `[Variant "fischerandom"]`.
 fn put_last<W: Output>(
     lines: &mut LineWriter<'_, '_, W>,
     variant: Variant,
@@ -221,8 +235,8 @@ fn put_last<W: Output>(
     }
 }
 
-// Writes the lines of the moves, such as `1. e4 e5 1-0`, with the game's outcome as their last token. The moves are
-// played on the board `scratch`, which their SAN needs.
+// Writes the lines of the moves, such as `1. e4 e5 1-0`. Their last token is `outcome`, the game's outcome. The moves
+// are played on the board `scratch` for their SAN. `column`: before the call no line is begun.
 fn put_move_text<B: Board, W: Output>(
     lines: &mut LineWriter<'_, '_, W>,
     game: &Game<B>,
@@ -241,8 +255,11 @@ fn put_move_text<B: Board, W: Output>(
     lines.end_line()
 }
 
-// Writes the numbers and the SAN of all moves of the game, such as `1. e4 e5 2. Nf3`; the last line is not ended. The
-// board `scratch` is set to the game's start, and the moves are played on it.
+// Writes the numbers and the SAN of all moves of the game, such as `1. e4 e5 2. Nf3`. The last line is not ended, since
+// the outcome follows. The board `scratch` is set to the game's start, and the moves are played on it for their SAN.
+//
+// `added`, `column`: the tokens of the moves (`numbered_moves`) are put into lines (`placed_all`). `playable`: the
+// game's moves are legal and no more than its limit, as in each game; the caller's proof needs it.
 fn put_moves<B: Board, W: Output>(
     lines: &mut LineWriter<'_, '_, W>,
     game: &Game<B>,
@@ -258,7 +275,7 @@ fn put_moves<B: Board, W: Output>(
     ensures writer { lines.new.writer.ghost_name ≡ lines.old.writer.ghost_name }
     ensures playable { IsPlayable game.now }
 {
-    // The prover wants this fact: each move of a game is legal in the position before it.
+    // The call is only for the prover, which needs a clause of it: each move of a game is legal where it is made.
     let _playable = game.position();
     scratch.set(&game.start());
     for ply in 0..game.ply() {
@@ -267,8 +284,9 @@ fn put_moves<B: Board, W: Output>(
     Ok(())
 }
 
-// Writes the move `m`, which is legal in the board's position, after its number if one is due (`put_number`), and makes
-// it on the board. If writing fails, the board has its old position. `is_first`: whether `m` is the game's first move.
+// Writes the SAN of the move `m`, which is legal in the board's position, and makes it on the board. A number comes
+// before it, if one is due (`put_number`): `12. Nf3` for White, mostly `Nf6` for Black. If writing fails, the board has
+// its old position. `is_first`: whether `m` is the game's first move.
 fn put_move<B: Board, W: Output>(
     lines: &mut LineWriter<'_, '_, W>,
     board: &mut B,
@@ -286,10 +304,10 @@ fn put_move<B: Board, W: Output>(
     ensures position { OnOk result (B.position board.new ≡ after (B.position board.old) m) }
     ensures kept { OnErr result (B.position board.new ≡ B.position board.old) }
 {
-    // The prover wants this law: the SAN of a legal move is short enough for a line.
+    // This law is called only for the prover: the SAN of a legal move has some bytes, and is short enough for a line.
     san_is_a_word();
     put_number(lines, board.setup(), is_first)?;
-    // The same move, for taking it back: `m` itself is given to `make_san`.
+    // `make_san` consumes `m`, so a second variable has the move, to take it back.
     let again = m;
     let (text, saved) = make_san(board, m);
     match lines.put_token(text.as_slice()) {
@@ -324,7 +342,7 @@ fn put_number<W: Output>(
     lines.put_token(number_text(setup.fullmove, dots).as_slice())
 }
 
-// A move number with these dots after it, such as `12.` or `12...`.
+// The text of a move number and then `dots`, such as `12.` or `12...`. One to three dots are given.
 fn number_text(number: u32, dots: &[u8]) -> NumberText
     requires some { 0 < length dots.now }
     requires few { length dots.now ≤ 3 }

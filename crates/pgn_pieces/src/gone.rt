@@ -1,5 +1,5 @@
-//! What is known of bytes that are no longer held: of a piece of over 16,777,216 bytes (`PIECE_LEN`) only the first 40
-//! bytes are kept, and the others are counted.
+//! Once a piece has over 16,777,216 bytes (`PIECE_LEN`), its bytes are let go, which means dropped from memory. `Gone`
+//! keeps the first 40 of them, and counts the others.
 
 ghost use Rattle.std.specs.Prelude.{◌≡◌, ◌≤◌, ◌<◌, ◌+◌, ◌^◌, ◌++◌, ◌==◌, [], length, take};
 ghost use Rattle.pgn_pieces.specs.Places.{line_ends};
@@ -10,19 +10,19 @@ use arrayvec::ArrayVec;
 use byte_devices::append;
 use std::marker::Model;
 
-/// How many of a piece's first bytes are kept, even if it is too long. `verify --explain` shows them.
+/// How many of a piece's first bytes are kept, even if the piece is too long. `verify --explain` shows them.
 pub const BEGINNING_LEN: usize = 40;
 
-/// The bytes of a piece that were let go, which means dropped from memory: the first 40 of them, and how many of the
-/// others are `\n` and how many aren't. In contracts it is a list of bytes with these counts: the first ones, then a 10
-/// for each `\n` among the others, and a 0 for each other byte.
+/// What is kept of the bytes of a piece that were let go, which means dropped from memory: the first 40 of them, and
+/// how many of the others are `\n` and how many aren't. In contracts the value of a `Gone` is a list of bytes with
+/// these counts: the first 40, then a 10 for each `\n` among the others, and then a 0 for each of the rest.
 #[derive(Drop)]
 pub(crate) struct Gone {
-    // The first of them, at most 40.
+    // The first 40 of these bytes; all, if they are fewer.
     beginning: ArrayVec<u8, BEGINNING_LEN>,
-    // How many of the others are `\n`.
+    // How many of the bytes after those are `\n`.
     line_ends: usize,
-    // How many of the others are not `\n`.
+    // How many of the bytes after those are not `\n`.
     plain: usize,
 }
 
@@ -38,7 +38,7 @@ impl Model for Gone {
 }
 
 impl Gone {
-    // The state before any byte of a piece is let go: no bytes.
+    // For a new piece, of which no byte was let go.
     pub(crate) fn none() -> Self
         ensures { result ≡ [] }
     {
@@ -57,7 +57,7 @@ impl Gone {
         self.beginning.len() + self.line_ends + self.plain
     }
 
-    // Whether no bytes were let go. If any were, the first of them are in `beginning`.
+    // Whether no bytes were let go. Only `beginning` is looked at, since it is filled first.
     pub(crate) fn is_empty(&self) -> bool
         ensures { result ≡ (length self.now == 0) }
     {
@@ -80,8 +80,9 @@ impl Gone {
         self.beginning.as_slice()
     }
 
-    // Lets go of these bytes too: those of the piece that follow the ones let go before. `beginning` is filled up to 40
-    // bytes; of the rest it is only counted how many are `\n` and how many aren't.
+    // Lets go of `bytes` too, which are the piece's bytes right after those let go before. First `beginning` is filled
+    // up to 40 bytes. In the rest the `\n` and the other bytes are only counted. The contract (`SameCounts`): it then
+    // has as many bytes, as many line ends and the same first 40 bytes as what was let go before and then `bytes`.
     pub(crate) fn add(&mut self, bytes: &[u8])
         requires { length self.old + length bytes.now < 2 ^ 64 }
         ensures { SameCounts (self.old ++ bytes.now) self.new }

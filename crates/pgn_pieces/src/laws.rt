@@ -5,16 +5,16 @@ ghost use Rattle.pgn_pieces.specs.laws.Shards.{ShardsAreCut};
 ghost use Rattle.pgn_pieces.specs.laws.HandedOut.{PiecesAreCut};
 ghost use Rattle.pgn_pieces.specs.laws.Places.{PiecesAreInPlace};
 
-/// States a law and does nothing: the pieces that are still to come before anything is read are the pieces that the
-/// text is cut into. So `PgnPieces::next`, whose contract is about the pieces still to come, returns just these, in
-/// order.
+/// States a law and does nothing: before anything is read, the pieces still to come are the pieces that the text is cut
+/// into (`pieces`). The contract of `PgnPieces::next` says that each call takes the first of the pieces still to come.
+/// So the calls together return just the pieces of the text, in order.
 pub fn pieces_are_cut()
     ensures { PiecesAreCut }
 {}
 
 /// States a law and does nothing: if a text is divided in two after a line of moves and any empty lines, and before a
 /// tag line, its pieces are those of the first part and then those of the second. So a large collection may be divided
-/// at such lines into shards, which are verified one by one.
+/// there into parts (shards), which are verified one by one.
 pub fn shards_are_cut()
     ensures { ShardsAreCut }
 {}

@@ -1,12 +1,13 @@
-//! Which kind of line a line of a collection is, by its first 256 bytes without a byte order mark, its front:
+//! The kinds of lines of a collection. The kind of a line is decided by its front, which means its first 256 bytes
+//! without a byte order mark:
 //!
 //! - a tag line begins with `[`, a name, perhaps spaces and tabs, and `"`: `[White "Carlsen"]`
 //! - an Event line is a tag line of the tag Event: `[Event "Oslo"]`
 //! - an empty line has only white space, or begins with `%` or `;`
 //! - a line of moves is any other line: `1. e4 e5`, but also `{a comment}`
 //!
-//! What `kind_of` calls is inlined, since `verify --keep-going` asks it of every line of a collection (the workload
-//! collections). What that gains was not measured apart.
+//! The functions that `kind_of` calls are inlined, since `verify --keep-going` calls it for every line of a collection
+//! (the workload collections). What that gains was not measured apart.
 
 ghost use Rattle.std.specs.Prelude.{◌≡◌, ◌≤◌, true, false, length, take, drop, codes};
 ghost use Rattle.std.specs.Str.{bytes_eq};
@@ -14,10 +15,10 @@ ghost use Rattle.std.specs.List.{prefix_len, list_all};
 ghost use Rattle.pgn_pieces.specs.Pieces.{without_mark, front_of, after_name, is_name_byte, is_blank, is_white, tag_name, begins_tag, is_empty_front, is_tag_line, is_event_line, is_moves_line};
 ghost use Rattle.pgn_pieces.specs.Places.{line_ends};
 
-// How many of a line's first bytes decide its kind; those after them are not looked at.
+// How many of a line's first bytes decide its kind; the bytes after these are not looked at.
 pub(crate) const FRONT_LEN: usize = 256;
 
-// What kind of line a line is. An Event line is a tag line too; for an empty line all three are false.
+// The kind of a line. For an Event line `is_tag` is true too. For an empty line all three are false.
 #[derive(Clone, Copy)]
 pub(crate) struct Kind {
     // Whether it is a tag line.
@@ -28,9 +29,9 @@ pub(crate) struct Kind {
     pub(crate) is_moves: bool,
 }
 
-// What kind of line this is: `[Event "Oslo"]` is a tag line and an Event line, `[White "Carlsen"]` only a tag line,
-// `1. e4 e5` a line of moves, and an empty line, or one that begins with `%` or `;`, is none of these. `line` may still
-// have its `\n`.
+// The kind of a line: `[Event "Oslo"]` is a tag line and an Event line, `[White "Carlsen"]` only a tag line, and
+// `1. e4 e5` a line of moves. A line with only white space, or that begins with `%` or `;`, is none of these. `line`
+// may have its `\n` or not, and may be only the beginning of a line that isn't all read (`Seen::see_open`).
 #[inline(always)]
 pub(crate) fn kind_of(line: &[u8]) -> Kind
     ensures tag { result.is_tag ≡ is_tag_line line.now }
@@ -55,8 +56,9 @@ pub(crate) fn kind_of(line: &[u8]) -> Kind
     }
 }
 
-// A text without the byte order mark (the bytes EF BB BF of UTF-8) at its front; without one, all of the text. chess_pgn
-// knows the mark too, in `after_byte_order_mark`, but this crate uses only byte_devices.
+// The text after the byte order mark (the bytes EF BB BF of UTF-8) at its front; all of the text, if it has none. Each
+// line's mark is left out, so that files with marks can be joined to one collection. chess_pgn has a function for the
+// mark too, `after_byte_order_mark`, but this crate uses only byte_devices.
 #[inline(always)]
 fn without_mark(text: &[u8]) -> &[u8]
     ensures { result.now ≡ without_mark text.now }
@@ -67,7 +69,7 @@ fn without_mark(text: &[u8]) -> &[u8]
     text
 }
 
-// The first 256 bytes of a line (`FRONT_LEN`), which is as many as are looked at; a shorter line as it is.
+// The first 256 bytes (`FRONT_LEN`) of a line, which decide its kind; all of a shorter line.
 #[inline(always)]
 fn first_bytes(line: &[u8]) -> &[u8]
     ensures { result.now ≡ take 256 line.now }
@@ -78,7 +80,7 @@ fn first_bytes(line: &[u8]) -> &[u8]
     line
 }
 
-// The front of a line, by which its kind is known: its first 256 bytes, without a byte order mark.
+// The front of a line, which decides its kind: its first 256 bytes, without a byte order mark.
 #[inline(always)]
 fn front_of(line: &[u8]) -> &[u8]
     ensures { result.now ≡ front_of line.now }
@@ -103,7 +105,7 @@ fn is_blank(byte: u8) -> bool
     byte == b' ' || byte == b'\t'
 }
 
-// How many letters, digits and `_` a text begins with, which may be a tag's name: 5 for `Event "Oslo"]`.
+// How many letters, digits and `_` are at a text's front, where a tag's name may be: 5 for `Event "Oslo"]`.
 #[inline(always)]
 fn name_len(text: &[u8]) -> usize
     ensures count { result ≡ prefix_len is_name_byte text.now }
@@ -112,7 +114,7 @@ fn name_len(text: &[u8]) -> usize
     text.iter().take_while(|byte| is_name_byte(**byte)).count()
 }
 
-// How many spaces and tabs a text begins with: 1 for ` "Oslo"]`.
+// How many spaces and tabs are at a text's front: 1 for ` "Oslo"]`.
 #[inline(always)]
 fn blank_len(text: &[u8]) -> usize
     ensures count { result ≡ prefix_len is_blank text.now }
@@ -129,8 +131,8 @@ fn without_first(text: &[u8]) -> &[u8]
     &text[text.len().min(1)..]
 }
 
-// The name of the tag with which a line's front begins: the letters, digits and `_` after the first byte. So it is
-// `Event` for `[Event "Oslo"]`. That the first byte is `[` is tested by the caller.
+// The name of the tag with which a line's front begins: `Event` for `[Event "Oslo"]`. It is the letters, digits and `_`
+// after the first byte. The caller has tested that the first byte is `[`.
 #[inline(always)]
 fn tag_name(front: &[u8]) -> &[u8]
     ensures { result.now ≡ tag_name front.now }
@@ -147,8 +149,8 @@ fn without_blanks(text: &[u8]) -> &[u8]
     &text[blank_len(text)..]
 }
 
-// What follows the tag's name, and any spaces and tabs after that, in a line's front: `"Oslo"]` for `[Event "Oslo"]`.
-// `name` is what `tag_name` returned for this front.
+// The part of a line's front after the tag's name, and after any spaces and tabs that follow the name: `"Oslo"]` for
+// `[Event "Oslo"]`. `name` is what `tag_name` returned for this front.
 #[inline(always)]
 fn after_name<'t>(front: &'t [u8], name: &[u8]) -> &'t [u8]
     requires { name.now ≡ tag_name front.now }
@@ -177,7 +179,7 @@ fn is_white(byte: u8) -> bool
     is_blank(byte) || byte == b'\r' || byte == b'\n'
 }
 
-// Whether all these bytes are white space; true of no bytes.
+// Whether all these bytes are white space; true if there are no bytes.
 #[inline(always)]
 fn is_all_white(bytes: &[u8]) -> bool
     ensures { result ≡ list_all is_white bytes.now }
@@ -194,8 +196,8 @@ fn is_empty_front(front: &[u8]) -> bool
     front.starts_with(b"%") || front.starts_with(b";") || is_all_white(front)
 }
 
-/// How many lines end in a text: the number of its bytes that are `\n`. What follows the last of them is not counted:
-/// `a\nb` has one line end. Each byte is looked at once.
+/// How many lines end in a text: the number of its bytes that are `\n`. A last line without `\n` is not counted, so
+/// `a\nb` has one line end. Line numbers are counted with this.
 pub fn line_ends(bytes: &[u8]) -> usize
     ensures value { result ≡ line_ends bytes.now }
     ensures within { result ≤ length bytes.now }

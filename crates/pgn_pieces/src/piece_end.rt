@@ -1,7 +1,10 @@
-//! Where a piece ends: before a tag line, if the piece has a line of moves, and before an Event line, if it has an
-//! Event line already. The next piece begins there. The kinds of lines are explained at the head of line_kinds.rt.
+//! Finds where a piece ends: before a tag line, if the piece has a line of moves, and before an Event line, if it has
+//! an Event line already. The next piece begins there. The kinds of lines are explained at the head of line_kinds.rt.
 //!
-//! A piece may be read in several parts, so the last line that was read may lack its `\n`.
+//! A piece may be read in several parts, so the last line that was read may be only the beginning of a line.
+//!
+//! In contracts `HasSeen seen piece` claims that `seen` is right for a piece with the bytes `piece`. The other claims
+//! about lines (`SeesWhole`, `Steps`, `Looks`) say of each such piece what the result means for it.
 //!
 //! The functions of the search are inlined for the reason at the head of line_kinds.rt.
 
@@ -11,30 +14,30 @@ ghost use Rattle.pgn_pieces.specs.ties.Held.{HasSeen, Steps, SeesWhole, Looks, h
 use crate::line_kinds::{FRONT_LEN, Kind, kind_of};
 use byte_devices::len_before;
 
-// What is known of the lines that a piece has so far.
+// What is known of the lines of a piece, as far as the piece was read.
 #[derive(Clone, Copy)]
 pub(crate) struct Seen {
-    // Whether a line of moves is among them.
+    // Whether the piece has a line of moves.
     pub(crate) moves: bool,
-    // Whether an Event line is among them.
+    // Whether the piece has an Event line.
     pub(crate) event: bool,
-    // Whether the `\n` of the last of them isn't read yet: then the next bytes are more of this line, whose kind is
-    // known already.
+    // Whether the piece so far ends inside a line, whose `\n` isn't read yet. Then the next bytes are more of this
+    // line, and its kind is noted already.
     pub(crate) inside: bool,
 }
 
-// What is found of the line that comes next, or of as much of it as was read.
+// Whether the line that comes next belongs to the piece, as far as the bytes read of it show.
 pub(crate) enum Step {
-    // The next piece begins with it.
+    // The next piece begins with the line.
     Begins,
-    // So few bytes of it were read that its kind isn't known yet.
+    // Too few bytes of the line were read to decide.
     Waits,
-    // It belongs to the piece. The number is how many bytes of it were read, its `\n` included.
+    // The line belongs to the piece. The number is how many bytes of it were read, its `\n` included.
     Belongs(usize),
 }
 
 impl Seen {
-    // What is known of a piece that has no bytes so far: no line was seen.
+    // For a piece that has no bytes so far: no line was seen.
     pub(crate) fn nothing() -> Self
         ensures { HasSeen result [] }
     {
@@ -54,7 +57,7 @@ impl Seen {
         kind.is_tag && (self.moves || (kind.is_event && self.event))
     }
 
-    // Notes that a line of this kind belongs to the piece. `goes_on`: its `\n` isn't read yet.
+    // Notes that a line of this kind belongs to the piece. `goes_on`: the line's `\n` isn't read yet.
     #[inline(always)]
     fn add(&mut self, kind: Kind, goes_on: bool)
         ensures moves { self.new.moves ≡ (self.old.moves || kind.is_moves) }
@@ -66,16 +69,16 @@ impl Seen {
         self.inside = goes_on;
     }
 
-    // Looks at `line`, the next bytes up to the first `\n` and with it: a whole line, or the end of a line whose
-    // beginning the piece has already (`inside`). Returns whether the next piece begins with it. If not, it belongs to
-    // this piece, and the kind of a whole line is noted.
+    // Decides whether the next piece begins with `line` (true), or `line` belongs to this piece (false). `line` is the
+    // next bytes up to their first `\n`, which it contains. It is a whole line, whose kind is noted if it belongs to
+    // the piece; or the rest of a line whose beginning the piece has already, and whose kind was noted then (`inside`).
     #[inline(always)]
     fn see_whole(&mut self, line: &[u8]) -> bool
         requires whole { (body : List ℕ) × (line.now ≡ body ++ 10 ∷ []) × (has_line_end body ≡ false) }
         ensures { SeesWhole self.old self.new line.now result }
     {
         if self.inside {
-            // The line ends here. Its kind is noted already.
+            // This is the rest of a line, with its `\n`.
             self.inside = false;
             return false;
         }
@@ -87,10 +90,11 @@ impl Seen {
         false
     }
 
-    // Looks at `line`, the next bytes, which are all that was read of a line: its `\n` isn't among them. Returns what
-    // they are: more of the piece's last line or a new line of it (`Belongs`), the beginning of the next piece
-    // (`Begins`), or too few to decide (`Waits`). A line that is no tag line so far, such as `[Eve`, may become one by
-    // more bytes until it has the 256 (`FRONT_LEN`) that decide its kind; a line that is one remains one.
+    // Decides whether the next piece begins with `line`, which is the next bytes and has no `\n`, since no more of the
+    // line was read. Returns `Begins` if so; `Belongs` if `line` is more of the piece's last line (`inside`), or a new
+    // line of the piece, whose kind is then noted; and `Waits` if `line` is too short to decide. With more bytes a line
+    // such as `[Eve` may become a tag line, until it has the 256 bytes (`FRONT_LEN`) that decide its kind. A line that
+    // is a tag line remains one.
     #[inline(always)]
     fn see_open(&mut self, line: &[u8]) -> Step
         requires plain { (0 < length line.now) × (has_line_end line.now ≡ false) }
@@ -103,7 +107,7 @@ impl Seen {
         if self.ends_at(kind) {
             return Step::Begins;
         }
-        // It may still become a tag line, which may begin the next piece.
+        // With more bytes it may become a tag line, which may begin the next piece.
         if !kind.is_tag && line.len() < FRONT_LEN {
             return Step::Waits;
         }
@@ -111,15 +115,16 @@ impl Seen {
         Step::Belongs(line.len())
     }
 
-    // Looks at the first line of `text`, the next bytes: by `see_whole` if its `\n` is among them, by `see_open` if
-    // not. Returns what is found of this line. Nothing after it is looked at.
+    // Decides whether the first line of `text` belongs to the piece, and notes its kind if it does. This is one step of
+    // the search in `find_end`, which calls it line by line. `text` is the next bytes that were read. The line is given
+    // to `see_whole` if its `\n` is in `text`, and to `see_open` if not. The lines after it are not looked at.
     #[inline(always)]
     fn step(&mut self, text: &[u8]) -> Step
         requires { 0 < length text.now }
         ensures { Steps self.old self.new text.now result }
     {
         let len = len_before(text, b'\n');
-        // No `\n` is in the text.
+        // There is no `\n` in `text`.
         if len == text.len() {
             return self.see_open(text);
         }
@@ -129,9 +134,10 @@ impl Seen {
         Step::Belongs(len + 1)
     }
 
-    // Looks for the end of the piece in `text`, the bytes that follow those seen so far, line by line. `(true, n)`: the
-    // piece ends after `n` bytes of `text`. `(false, n)`: these `n` bytes belong to it; the others, if any, are the
-    // beginning of a line, too short to decide whether it begins the next piece.
+    // Looks for the end of the piece in `text`, line by line. `text` is the bytes after those seen so far. Returns
+    // `(true, n)` if the piece ends after the first `n` bytes of `text`. Returns `(false, n)` if no end is found: the
+    // first `n` bytes belong to the piece, and the others, if any, are the beginning of a line that is too short to
+    // decide whether it begins the next piece.
     pub(crate) fn find_end(&mut self, text: &[u8]) -> (bool, usize)
         ensures { Looks self.old self.new text.now result.0 result.1 }
     {

@@ -1,4 +1,5 @@
-//! The pieces of an input, which is read in parts: only the current piece, and what was read after it, is held.
+//! Returns the pieces of an input one after another. The input is read in parts: only the current piece, and the bytes
+//! that were read after it, are held.
 
 ghost use Rattle.std.specs.Prelude.{◌≡◌, ℕ, ◌≤◌, ◌<◌, ◌+◌, ◌^◌, ◌++◌, List, [], length, nat_lt, IfOk, false, true, Ok};
 ghost use Rattle.std.specs.Option.{option_map};
@@ -15,7 +16,8 @@ use byte_devices::{Input, ReadFault};
 use std::alloc::{AllocError, Global};
 use std::marker::Model;
 
-/// The most bytes of a piece that `text` returns.
+/// The most bytes of a piece that `PgnPieces::text` returns. For a longer piece only its first 40 bytes and the number
+/// of its line ends are returned.
 pub const PIECE_LEN: usize = 16_777_216;
 
 // How many bytes a read asks for.
@@ -42,7 +44,7 @@ pub enum PieceFault {
 impl From<ReadFault> for PieceFault {
     ghost from_gives = { λ _ fault. fault ≡ ReadFailed };
 
-    // What `?` makes of a read that failed: `ReadFailed`.
+    // The fault that `?` returns for a read that failed: `ReadFailed`.
     fn from(_fault: ReadFault) -> PieceFault {
         PieceFault::ReadFailed
     }
@@ -51,7 +53,7 @@ impl From<ReadFault> for PieceFault {
 impl From<AllocError> for PieceFault {
     ghost from_gives = { λ _ fault. fault ≡ NoMemory };
 
-    // What `?` makes of memory that ran out: `NoMemory`.
+    // The fault that `?` returns if memory ran out: `NoMemory`.
     fn from(_error: AllocError) -> PieceFault {
         PieceFault::NoMemory
     }
@@ -68,13 +70,14 @@ pub struct PgnPieces {
     //     `len` bytes from `at` on   of the current piece
     //     the rest                   read after the current piece
     held: Vec<u8>,
-    // Where a read puts its bytes, `CHUNK_LEN` at most.
+    // The buffer into which a read puts its bytes, `CHUNK_LEN` at most.
     chunk: Vec<u8>,
-    // The index in `held` of the current piece's first byte, or of the first that was not let go.
+    // The index in `held` of the current piece's first byte, or of its first byte that was not let go.
     at: usize,
     // How many bytes of the current piece are in `held`.
     len: usize,
-    // What was let go of the current piece, its bytes before those in `held`: none, unless it is too long.
+    // The bytes of the current piece that were let go, which come before its bytes in `held`. There are none unless the
+    // piece is too long.
     gone: Gone,
     // The offset of the current piece's first byte in the input.
     offset: usize,
@@ -103,8 +106,8 @@ impl Model for PgnPieces {
 }
 
 impl PgnPieces {
-    /// For an input of which nothing was read yet, and which is given to each call of `next`. Before the first call
-    /// there is no piece: `text` has no bytes.
+    /// Makes ready to cut an input of which nothing was read yet. The input itself is given to each call of `next`.
+    /// Before the first of these calls there is no piece, and `text` returns no bytes.
     ///
     /// # Errors
     /// If memory runs out.
@@ -123,7 +126,8 @@ impl PgnPieces {
         })
     }
 
-    /// The offset of the current piece's first byte in the input: how many bytes come before it.
+    /// The offset of the current piece's first byte in the input: how many bytes come before it. By the clause `small`
+    /// the offset and the piece's length can be added without overflow.
     pub fn offset(&self) -> usize
         ensures value { result ≡ self.now.offset }
         ensures small { result + length self.now.part < 2 ^ 63 }
@@ -131,7 +135,7 @@ impl PgnPieces {
         self.offset
     }
 
-    /// The current piece's bytes; `None` if it is too long, which means over `PIECE_LEN` bytes (16,777,216).
+    /// The current piece's bytes; `None` if the piece is too long, which means over `PIECE_LEN` bytes (16,777,216).
     pub fn text(&self) -> Option<&[u8]>
         ensures { option_map (λ text. text.now) result ≡ (current self.now).bytes }
     {
@@ -160,7 +164,8 @@ impl PgnPieces {
         self.gone.line_ends() + line_ends(&self.held[self.at..self.at + self.len])
     }
 
-    // Makes the next piece the current one: it begins at the end of the piece before, and has no bytes so far.
+    // Makes the next piece the current one. It begins at the end of the piece before, and has no bytes so far: `next`
+    // then looks for its end.
     fn pass_piece(&mut self)
         ensures { self.new ≡ past_piece self.old }
     {
@@ -171,8 +176,8 @@ impl PgnPieces {
     }
 
     // Looks for the current piece's end in the bytes that were read after it, adds the bytes before the end to the
-    // piece, and returns whether the end was found. If not, it adds all bytes but those of a last line that is still
-    // too short to decide whether it begins the next piece. `seen` is what is known of the piece's lines so far.
+    // piece, and returns whether the end was found. If it was not, all bytes are added except a last line that is
+    // still too short to decide whether it begins the next piece. `seen` is what is known of the piece's lines so far.
     fn find_end(&mut self, seen: &mut Seen) -> bool
         ensures { FindsEnd self.old self.new seen.old seen.new result }
     {
@@ -181,8 +186,8 @@ impl PgnPieces {
         is_found
     }
 
-    // Called once the input has ended: adds all bytes that are left to the current piece, which is the last, and
-    // returns whether the piece has any byte, in `held` or let go. If it has none, there is no such piece.
+    // Adds all bytes that are left to the current piece, and returns whether it then has any bytes, in `held` or let
+    // go. It is called once the input has ended, so the piece is the last; if it has no bytes, there is no such piece.
     fn take_rest(&mut self) -> bool
         ensures state { self.new ≡ passed (length self.old.coming) self.old }
         ensures some { result ≡ nat_lt 0 (length self.new.part) }
@@ -191,8 +196,9 @@ impl PgnPieces {
         self.len > 0 || !self.gone.is_empty()
     }
 
-    // If the current piece is too long (over `PIECE_LEN` bytes), lets go of its bytes in `held`: the first 40 of the
-    // piece are kept in `gone`, the others are only counted there. `compact` makes room of them.
+    // If the current piece is too long (over `PIECE_LEN` bytes), lets go of its bytes in `held`: the first 40 bytes of
+    // the piece are kept in `gone`, the others are only counted there. `compact` then removes them from `held`.
+    // Otherwise nothing changes.
     fn let_go(&mut self)
         ensures { LetGo self.old self.new }
     {
@@ -203,8 +209,8 @@ impl PgnPieces {
         }
     }
 
-    // Removes from `held` the bytes before the current piece, which are done with, by moving the rest to its front. The
-    // piece and what was read after it don't change.
+    // Removes from `held` the bytes before `at`, which are of earlier pieces or were let go, by moving the rest to the
+    // front. The current piece and the bytes read after it stay the same.
     fn compact(&mut self)
         ensures { self.new ≡ self.old }
     {
@@ -218,7 +224,8 @@ impl PgnPieces {
     }
 
     // Reads up to 65,536 bytes (`CHUNK_LEN`) once, and adds them at the end of `held`. If the read gives no bytes, the
-    // input has ended.
+    // input has ended (`ended`). After a fault nothing has changed here. It is `InputTooLong`, without a read, once
+    // more than `MOST_READ` bytes were read.
     fn read_more<R: Input>(&mut self, input: &mut R) -> Result<(), PieceFault>
         ensures { Adds self.old self.new (R.seen input.old) (R.seen input.new) result }
     {
@@ -227,7 +234,7 @@ impl PgnPieces {
         }
         self.held.reserve(CHUNK_LEN)?;
         let count = input.read(&mut self.chunk)?;
-        // It has room for `CHUNK_LEN` more bytes, so this never runs out of memory.
+        // `held` has room for `CHUNK_LEN` more bytes, so this never runs out of memory.
         if self.held.extend_from_slice(&self.chunk[..count]).is_err() {
             unreachable!();
         }
@@ -235,12 +242,16 @@ impl PgnPieces {
         Ok(())
     }
 
-    /// Moves to the next piece, which is then the current one, and returns whether there is one. It reads until the
-    /// piece's end is among the bytes held: not at all, if it is there already.
+    /// Moves to the next piece, which is then the current one, and returns true; or returns false if no piece is left.
+    /// It reads until the piece's end is among the bytes held, or the input ends: not at all, if the end is there
+    /// already.
+    ///
+    /// In the clause `next`, `text` is all that was read before the call, and `r` the input's state before that was
+    /// read. `Next` says that this piece is the first of the pieces that were still to come.
     ///
     /// # Errors
     /// If a read fails, memory runs out, or nearly 2^63 bytes or more were read. No further piece ends in what was read
-    /// so far, so none is skipped. No clause says what later calls return.
+    /// so far, so no whole piece is skipped. No clause says what later calls return.
     pub fn next<R: Input>(&mut self, input: &mut R) -> Result<bool, PieceFault>
         ensures next { (r : InputState) (text : List ℕ) → IsStateOf self.old r (R.seen input.old) text
             → Next self.old self.new r (R.seen input.new) text result }
@@ -249,7 +260,7 @@ impl PgnPieces {
     {
         self.pass_piece();
         let mut seen = Seen::nothing();
-        // Each round looks for the piece's end in what was read, and if it isn't there, reads once more.
+        // Each round looks for the piece's end in the bytes that were read, and if it isn't there, reads once more.
         loop {
             if self.find_end(&mut seen) {
                 return Ok(true);
