@@ -59,7 +59,7 @@ pub trait Board {
     fn legal_move_count(&self) -> usize
         ensures { result ≡ length (moves (position self.now)) };
 
-    /// Whether there is a legal move. Both boards look no further than the first piece that has one,
+    /// Whether there is a legal move. Both boards look no further once they have found one,
     /// which no clause says.
     fn has_legal_move(&self) -> bool
         ensures { result ≡ nat_lt 0 (length (moves (position self.now))) };
