@@ -107,10 +107,10 @@ impl Bits<'_> {
         ensures { (k : ℕ) → k < 64 → contains result k ≡ goes_specially self.now k }
     {
         let theirs = self.setup.side.other();
-        let seventh = SquareSet::of_rank(pawn_rank(theirs));
+        let last_but_one = SquareSet::of_rank(pawn_rank(theirs));
         match self.setup.target {
-            None => seventh,
-            Some(target) => self.tables.at(Shape::Pawn(theirs), target).union(seventh),
+            None => last_but_one,
+            Some(target) => self.tables.at(Shape::Pawn(theirs), target).union(last_but_one),
         }
     }
 
