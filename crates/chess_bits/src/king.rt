@@ -31,8 +31,8 @@ pub(crate) fn set_of(square: Option<Square>) -> SquareSet
     }
 }
 
-// The squares on which pieces arrive in a move that makes these steps: the mover's end square, and in castling the
-// rook's.
+// The squares on which pieces arrive in a move that makes these steps: where the mover arrives, and in castling where
+// the rook does.
 #[inline(always)]
 fn filled_by(steps: &Steps) -> SquareSet
     ensures { (k : ℕ) → contains result k ≡ ((steps.now.to == k) || is_square steps.now.second_to k) }

@@ -17,7 +17,7 @@ use chess_base::{Kind, Move, Square};
 use chess_moves::{MoveList, SquareSet};
 
 // Appends to `list` a move from `from` to `to` for each of `promotions` (`None`: a move without a promotion). The
-// caller knows that the list, which holds 896 moves, has room for them.
+// caller knows that the list, which can hold 896 moves, has room for them.
 fn add_moves_with(from: Square, to: Square, promotions: &[Option<Kind>], list: &mut MoveList)
     requires { array_vec_len list.old + length promotions.now ≤ 896 }
     ensures { list.new.items ≡ list.old.items ++ map (move_of from to) promotions.now }

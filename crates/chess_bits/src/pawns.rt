@@ -101,7 +101,7 @@ impl Bits<'_> {
 
     // The squares on which a pawn of the side on move may have a special move: a promotion or en passant. They are its
     // last rank but one (White's seventh, where black pawns start), and the squares from which it attacks the en
-    // passant target. An enemy pawn on the target would attack just these: with the target e6, d5 and f5.
+    // passant target. An enemy pawn on the target would attack just these: for the target e6 these are d5 and f5.
     #[tactic(auto, using(crate::proofs::PawnsCounted::aims_back))]
     fn special_squares(&self) -> SquareSet
         ensures { (k : ℕ) → k < 64 → contains result k ≡ goes_specially self.now k }

@@ -155,8 +155,9 @@ fn rights_left(setup: &Setup, m: &Move, mover: Man, taken: Option<Man>) -> Right
 }
 
 // Whether the move `m`, of a piece of this kind, is surely neither castling nor en passant, so that it changes only its
-// two squares. For a king that is sure only if neither colour has a castling right left, for a pawn if it doesn't go to
-// the en passant target, and for another piece always.
+// two squares. A king's move counts as sure only if no castling right is left. (The enemy's rights don't matter for that,
+// but `has_no_right` is a single test, and `rights_left` needs it too.) A pawn's move is sure if it doesn't go to the en
+// passant target, and an officer's always.
 #[inline(always)]
 fn goes_plainly(setup: &Setup, m: &Move, kind: Kind) -> bool
     ensures { result ≡ goes_plainly setup.now m.now kind }
@@ -275,8 +276,8 @@ fn shift(setup: &mut Setup, sets: &mut Sets, keys: &KeyTable, m: &Move, man: Man
     saved
 }
 
-// Makes any legal move `m` in place, in the setup and its sets, and returns what is needed to take it back. It changes
-// up to four squares, `shift` only two. Few moves need it (castling, en passant, promotions, and a king's moves while a
+// Makes the move `m`, of any kind, in place, in the setup and its sets, and returns what is needed to take it back. It
+// changes up to four squares, `shift` only two. Few moves need it (castling, en passant, promotions, and a king's moves while a
 // castling right is left), so it is not inlined. `keys` are the Zobrist keys, with which the hash in `sets` is kept up
 // to date.
 #[inline(never)]

@@ -196,9 +196,9 @@ impl PgnPieces {
         self.len > 0 || !self.gone.is_empty()
     }
 
-    // If the current piece is too long (over `PIECE_LEN` bytes), lets go of its bytes in `held`: the first 40 bytes of
-    // the piece are kept in `gone`, the others are only counted there. `compact` then removes them from `held`.
-    // Otherwise nothing changes.
+    // If the current piece is too long (it was before, or now has over `PIECE_LEN` bytes), lets go of its bytes in
+    // `held`: the first 40 bytes of the piece are kept in `gone`, the others are only counted there. Otherwise nothing
+    // changes. `compact` then removes the bytes from `held`.
     fn let_go(&mut self)
         ensures { LetGo self.old self.new }
     {
