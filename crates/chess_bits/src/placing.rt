@@ -155,9 +155,9 @@ fn rights_left(setup: &Setup, m: &Move, mover: Man, taken: Option<Man>) -> Right
 }
 
 // Whether the move `m`, of a piece of this kind, is surely neither castling nor en passant, so that it changes only its
-// two squares. A king's move counts as sure only if no castling right is left. (The enemy's rights don't matter for that,
-// but `has_no_right` is a single test, and `rights_left` needs it too.) A pawn's move is sure if it doesn't go to the en
-// passant target, and an officer's always.
+// two squares. A king's move counts as sure only if no castling right is left. (The enemy's rights don't matter for
+// that, but `has_no_right` is a single test, and `rights_left` needs it too.) A pawn's move is sure if it doesn't go to
+// the en passant target, and an officer's always.
 #[inline(always)]
 fn goes_plainly(setup: &Setup, m: &Move, kind: Kind) -> bool
     ensures { result ≡ goes_plainly setup.now m.now kind }
@@ -277,9 +277,9 @@ fn shift(setup: &mut Setup, sets: &mut Sets, keys: &KeyTable, m: &Move, man: Man
 }
 
 // Makes the move `m`, of any kind, in place, in the setup and its sets, and returns what is needed to take it back. It
-// changes up to four squares, `shift` only two. Few moves need it (castling, en passant, promotions, and a king's moves while a
-// castling right is left), so it is not inlined. `keys` are the Zobrist keys, with which the hash in `sets` is kept up
-// to date.
+// changes up to four squares, `shift` only two. Few moves need it (castling, en passant, promotions, and a king's moves
+// while a castling right is left), so it is not inlined. `keys` are the Zobrist keys, with which the hash in `sets` is
+// kept up to date.
 #[inline(never)]
 #[tactic(auto, unfolding(chess_base::specs::Moves::after), using(chess_base::proofs::shared::MenAfter::men_after_by_steps))]
 fn make_in_steps(setup: &mut Setup, sets: &mut Sets, keys: &KeyTable, m: &Move) -> Saved

@@ -136,9 +136,9 @@ impl Bits<'_> {
         far.union(self.legal_castling_end(king, CastlingSide::KingSide))
     }
 
-    // The end squares of the pseudo-legal moves of the king or officer on `from`, which is of the side on move. (A pawn's
-    // are `pawn_targets`.) Whether the king is safe after such a move is asked later. Castling is the exception: it is
-    // here only if it is legal, since its own test covers all squares that the king crosses.
+    // The end squares of the pseudo-legal moves of the king or officer on `from`, which is of the side on move. (A
+    // pawn's are `pawn_targets`.) Whether the king is safe after such a move is asked later. Castling is the exception:
+    // it is here only if it is legal, since its own test covers all squares that the king crosses.
     fn man_targets(&self, from: Square) -> SquareSet
         requires { is_of (self.now).side (man_at (self.now).men from) ≡ true }
         ensures { (k : ℕ) → k < 64 → contains result k ≡ man_goes self.now from k }

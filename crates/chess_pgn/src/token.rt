@@ -100,9 +100,9 @@ fn read_bracket(text: &[u8]) -> Result<(Token<'_>, &[u8]), TokenFault>
 }
 
 // Reads the first token of `text`, and returns the token and the text after it, or a fault if no token begins here or
-// one isn't closed. `next_token` reads words itself, and calls this for everything else, also for `*`, the one word that
-// has no byte of a word. `text` is given twice: whole, and as its `first` byte and its `rest`. `line_begins`: whether `first` is the first byte of a line, where `%` begins a line that is
-// skipped.
+// one isn't closed. `next_token` reads words itself, and calls this for everything else, also for `*`, the one word
+// that has no byte of a word. `text` is given twice: whole, and as its `first` byte and its `rest`. `line_begins`:
+// whether `first` is the first byte of a line, where `%` begins a line that is skipped.
 #[tactic(auto, unfolding(crate::specs::Tokens::token_at))]
 #[inline(never)]
 fn read_token<'a>(
