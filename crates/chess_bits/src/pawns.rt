@@ -110,7 +110,10 @@ impl Bits<'_> {
         let last_but_one = SquareSet::of_rank(pawn_rank(theirs));
         match self.setup.target {
             None => last_but_one,
-            Some(target) => self.tables.at(Shape::Pawn(theirs), target).union(last_but_one),
+            Some(target) => self
+                .tables
+                .at(Shape::Pawn(theirs), target)
+                .union(last_but_one),
         }
     }
 

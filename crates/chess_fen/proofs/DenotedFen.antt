@@ -314,9 +314,9 @@ fault-read v text f (inl h) =
 fault-read v text f (inr (inl h)) =
     reading-steps v (fields_of text)
     ∙ ap (λ r. r >>= if_fit (third (fields_of text)))
-      (ap (denoted_in v) h.5 ∙ misread_in v h.0 h.1 h.2 h.3 h.4 f h.6 h.7)
+    (ap (denoted_in v) h.5 ∙ misread_in v h.0 h.1 h.2 h.3 h.4 f h.6 h.7)
 fault-read v text f (inr (inr h)) =
     reading-steps v (fields_of text)
     ∙ ap (λ r. r >>= if_fit (third (fields_of text))) (text-denoted v text h.1 h.0 h.2)
     ∙ ap (unless_fault h.0)
-      (ap (λ castling. first_failing (conditions_of castling h.0)) (third-is v text h.1 h.0 h.2) ∙ h.3)
+    (ap (λ castling. first_failing (conditions_of castling h.0)) (third-is v text h.1 h.0 h.2) ∙ h.3)

@@ -1,5 +1,5 @@
 -- A FEN is read as normal chess as it is defined for normal chess alone.
-use Rattle.std.proofs.Common.{◌≡◌, ℕ, Bool, true, false, List, [], ◌∷◌, ◌++◌, get_or, take, drop, Option, Some, None, Result, Ok, refl, ap, subst, if◌then◌else◌}
+use Rattle.std.proofs.Common.{◌≡◌, ℕ, Bool, true, false, List, [], ◌∷◌, ◌++◌, take, drop, Option, Some, None, Result, Ok, refl, ap, subst, if◌then◌else◌}
 use Rattle.std.specs.Prelude.{codes, max, IfOk}
 use Rattle.std.specs.Option.{ok_or}
 use Rattle.chess_base.specs.declared.fen_fault.FenFault.{FenFault}

@@ -1,6 +1,6 @@
 -- A FEN is read as it denotes. Rights that are named wrongly are refused by both: by the definition with a condition of
 -- their own, by the reader as rights whose rook is on a square that is no rook's.
-use Rattle.std.proofs.Common.{◌≡◌, ℕ, ◌⊎◌, inl, inr, Bool, true, false, cond, List, [], ◌∷◌, ◌++◌, map, get_or, take, drop, Option, Some, None, Result, Ok, Err, refl, sym, ap, ◌∙◌, arith}
+use Rattle.std.proofs.Common.{◌≡◌, ℕ, ◌⊎◌, inl, inr, Bool, true, false, cond, List, [], ◌∷◌, ◌++◌, map, take, drop, Option, Some, None, Result, Ok, Err, refl, sym, ap, ◌∙◌, arith}
 use Rattle.std.specs.Prelude.{option_and_then, find, ◌&&◌, ◌||◌, is_some, ◌==◌, max, codes, ◌-◌, IsOk, IfOk, IfErr, ◌↔◌}
 use Rattle.std.specs.List.{filter, fold}
 use Rattle.std.specs.Option.{option_map_or, ok_or, unwrap_or}

@@ -52,9 +52,9 @@ pub fn a_rank_has_one_text()
 pub fn fens_are_worked_out()
     // The third field names no right, and no right wrongly.
     ensures fields { (fields_of (codes "4k3/8/8/8/8/8/4P3/4K3 b - - 5 39")
-            ≡ codes "4k3/8/8/8/8/8/4P3/4K3" ∷ codes "b" ∷ codes "-" ∷ codes "-" ∷ codes "5" ∷ codes "39" ∷ [])
+        ≡ codes "4k3/8/8/8/8/8/4P3/4K3" ∷ codes "b" ∷ codes "-" ∷ codes "-" ∷ codes "5" ∷ codes "39" ∷ [])
         × (denoted_by Normal (codes "4k3/8/8/8/8/8/4P3/4K3") (codes "b") (codes "-") (codes "-") (codes "5")
-            (codes "39") ≡ Ok kings_and_pawn)
+        (codes "39") ≡ Ok kings_and_pawn)
         × (names_well Normal kings_and_pawn_men (codes "-") ≡ true) }
     ensures rank { IsRankText (replicate 4 None ++ (man_of White Pawn ∷ replicate 3 None)) (codes "4P3") }
     // The outermost rook on the king's side is on h1, the only one on the queen's side on b1.
