@@ -59,6 +59,11 @@ silent S (ReadFails c ∷ H) w w' u (v, o, p) = let q = silent S H v w' u p in (
 abbrev pub Wrote : List SentLine → List (List SentLine) → OutputState → OutputState → Type 0
 Wrote sent broken w w' = (o : ToOutput) × OutputTook w w' o × WasSent sent broken o
 
+-- an output that was left as it was still took these lines
+still : (w v u : OutputState) (before : List SentLine) → u ≡ v → OutputTook w v (all_of (bytes_of before))
+    → OutputTook w u (all_of (bytes_of before))
+still w v u before e f = subst (λ (x : OutputState). OutputTook w x (all_of (bytes_of before))) (sym e) f
+
 -- after these lines
 writes_all : (S : Colour) (before : List SentLine) (H : List Act) (w v w' : OutputState) → sends_end S H ≡ true
     → OutputTook w v (all_of (bytes_of before)) → WritesOf S H v w'
@@ -66,7 +71,7 @@ writes_all : (S : Colour) (before : List SentLine) (H : List Act) (w v w' : Outp
 writes_all S before [] w v w' end f e =
     subst (λ (l : List SentLine). Wrote l [] w w') (sym (append-nil before)) (
       all_of (bytes_of before),
-      subst (λ (x : OutputState). OutputTook w x (all_of (bytes_of before))) (sym e) f,
+      still w v w' before e f,
       refl,
     )
 writes_all S before (Sends b ∷ H) w v w' end f (u, o, p) =
@@ -81,7 +86,7 @@ writes_all S before (Sends b ∷ H) w v w' end f (u, o, p) =
         (more (before ++ b.lines)
         (subst (λ (bytes : List ℕ). OutputTook w u (all_of bytes)) (sym (bytes_of-append before b.lines))
         (took_more w v u (bytes_of before) (all_of (bytes_of b.lines)) f o)))
-    at false o more = more before (subst (λ (x : OutputState). OutputTook w x (all_of (bytes_of before))) (sym o) f)
+    at false o more = more before (still w v u before o f)
 writes_all S before (SendFails b ∷ H) w v w' end f (u, o, p) =
     at (same_colour b.to S) end o (λ e g. writes_all S before H w u w' e g p)
   where
@@ -95,21 +100,20 @@ writes_all S before (SendFails b ∷ H) w v w' end f (u, o, p) =
         subst (λ (l : List (List SentLine)). Wrote (before ++ lines_sent S H) (b.lines ∷ l) w w') (sym q.1)
         (subst (λ (l : List SentLine). Wrote (before ++ l) (b.lines ∷ []) w w') (sym q.0)
         (subst (λ (l : List SentLine). Wrote l (b.lines ∷ []) w w') (sym (append-nil before))
-        (subst (λ (x : OutputState). Wrote before (b.lines ∷ []) w x) (sym q.2)
-        (
+        (subst (λ (x : OutputState). Wrote before (b.lines ∷ []) w x) (sym q.2) (
           broke (bytes_of before) o.0,
           took_some_more w v u (bytes_of before) o.0 f o.2,
           (refl, o.1, refl),
         ))))
-    at false end o more = more end (subst (λ (x : OutputState). OutputTook w x (all_of (bytes_of before))) (sym o) f)
+    at false end o more = more end (still w v u before o f)
 writes_all S before (ReadsClock c n ∷ H) w v w' end f (u, o, p) =
-    writes_all S before H w u w' end (subst (λ (x : OutputState). OutputTook w x (all_of (bytes_of before))) (sym o) f) p
+    writes_all S before H w u w' end (still w v u before o f) p
 writes_all S before (Reads c t ∷ H) w v w' end f (u, o, p) =
-    writes_all S before H w u w' end (subst (λ (x : OutputState). OutputTook w x (all_of (bytes_of before))) (sym o) f) p
+    writes_all S before H w u w' end (still w v u before o f) p
 writes_all S before (ReadsEnd c ∷ H) w v w' end f (u, o, p) =
-    writes_all S before H w u w' end (subst (λ (x : OutputState). OutputTook w x (all_of (bytes_of before))) (sym o) f) p
+    writes_all S before H w u w' end (still w v u before o f) p
 writes_all S before (ReadFails c ∷ H) w v w' end f (u, o, p) =
-    writes_all S before H w u w' end (subst (λ (x : OutputState). OutputTook w x (all_of (bytes_of before))) (sym o) f) p
+    writes_all S before H w u w' end (still w v u before o f) p
 
 pub all_written : (S : Colour) (H : List Act) (w w' : OutputState) → sends_end S H ≡ true → WritesOf S H w w'
     → Wrote (lines_sent S H) (broken_blocks S H) w w'
@@ -136,7 +140,7 @@ desk_passed r H final reason begun engines held coming witness names w w' is_mat
           (all_sends_end r H final S is_match)
           (rw (p, p') (subst (λ (G : List Act). WritesOf S G (begun.engines S).output (engines S).output) acts
           (d.written S))) in
-          (read.0, written.0, read.1, written.1, read.2, written.2);
+          (read.0, written.0, read.1, written.1, (read.2, written.2));
       moments = rw (c, c') (subst (λ (G : List Act). ClockReadings begun.coming coming (moments_shown G)) acts
           d.moments);
     }

@@ -35,8 +35,8 @@ pub record SaidBy (S : Colour) (H : List Act) (i : FromInput) : Type 0 where
   pub failed : i.failed ≡ has_failed_read S H
   pub all : (i.ended || i.failed) ≡ true → engine_lines i.text ≡ lines_read S H
 
--- `o` is what an engine was sent: just the lines `sent`, written and flushed. The list is of the blocks that could not
--- be sent (`broken_blocks`; in a match at most one, so `more` is empty there): if there is one, a beginning of it,
+-- `o` is what went to an engine's input: just the lines `sent`, written and flushed. The list is of the blocks that could
+-- not be sent (`broken_blocks`; in a match at most one, so `more` is empty there): if there is one, a beginning of it,
 -- maybe nothing or all, was written after them, and then a call failed
 abbrev pub WasSent : List SentLine → List (List SentLine) → ToOutput → Type 0
 WasSent sent [] o = o ≡ all_of (bytes_of sent)
