@@ -1,6 +1,7 @@
 -- A session ends with `quit` and with no other line.
 use Rattle.std.proofs.Common.{◌≡◌, ℕ, Bool, true, false, ◌&&◌, List, [], codes, refl, sym, ap, ◌∙◌, if◌then◌else◌, length, Option, None, Some}
 use Rattle.std.specs.Prelude.{nat_le, nat_lt, not, Result, Ok, Err}
+use Rattle.std.specs.Option.{option_map_or}
 use Rattle.std.specs.Str.{bytes_eq}
 use Rattle.chess_base.specs.declared.fen_fault.FenFault.{FenFault}
 use Rattle.chess_base.specs.declared.man.Variant.{Variant as Rules}
@@ -11,9 +12,10 @@ use Rattle.chess_fen.specs.Reading.{fen_reading_as}
 use Rattle.chess_text.specs.Moves.{reading}
 use Rattle.chess_text.specs.declared.reading.Reading.{Reading}
 use Rattle.chess_text.specs.declared.reading.Reading.TheVariants as reads
-use Rattle.chess_game.specs.Ends.{claims}
+use Rattle.chess_game.specs.Ends.{claims, draw_claim, claim_comment}
 use Rattle.chess_game.specs.Game.{State, from_start, taken_back, with_declared, current, verdict_now, is_over, contradicts_verdict}
 use Rattle.chess_game.specs.declared.verdicts.Claims.{Claims}
+use Rattle.chess_game.specs.declared.verdicts.DrawClaim.{DrawClaim}
 use Rattle.chess_game.specs.declared.results.Declared.{Declared}
 use Rattle.chess_pgn.specs.declared.tags.Tags.{Tags}
 use Rattle.chess_cecp.specs.declared.command.Command.{Command}
@@ -64,11 +66,12 @@ result_on s text (Some d) =
     (becomes (with_declared s (Some d))) refl refl
 
 claimed_on : (s : State) (c : Claims) → GoesOn (claimed s c)
-claimed_on s c =
-    let fifty : Response State = draws s (codes "50-move rule") in
-    let none : Response State = refuses s (codes "Error (no claim): ") (codes "claim") in
-    by_test c.threefold (draws s (codes "Threefold repetition")) (if c.fifty_moves then fifty else none) refl
-    (by_test c.fifty_moves fifty none refl refl)
+claimed_on s c = at (draw_claim c)
+  where
+    at : (claim : Option DrawClaim) → GoesOn (option_map_or (λ claim. draws s (claim_comment claim)) claim
+        (refuses s (codes "Error (no claim): ") (codes "claim")))
+    at (Some claim) = refl
+    at None = refl
 
 normal_on : (s : State) (v : Rules) → GoesOn (normal_row s v)
 normal_on s Normal = refl

@@ -1,4 +1,5 @@
 mod Words
+mod Comments
 mod Responses
 mod LinesOn
 mod RunLemmas

@@ -1,6 +1,7 @@
 -- Rows whose text is a refusal change nothing.
 use Rattle.std.proofs.Common.{◌≡◌, ℕ, ◌==◌, ◌||◌, inl, inr, Bool, true, false, List, [], get_or, codes, refl, sym, ap, ◌∙◌, if◌then◌else◌, length, Option, None, Some}
 use Rattle.std.specs.Prelude.{nat_le, nat_lt, Result, Ok, Err}
+use Rattle.std.specs.Option.{option_map_or}
 use Rattle.std.specs.Str.{bytes_eq}
 use Rattle.chess_base.specs.declared.fen_fault.FenFault.{FenFault}
 use Rattle.chess_base.specs.declared.man.Variant.{Variant as Rules}
@@ -16,13 +17,14 @@ use Rattle.chess_text.specs.declared.reading.Reading.{Reading}
 use Rattle.chess_text.specs.declared.reading.Reading.TheVariants as reads
 use Rattle.chess_cecp.specs.Commands.{command_of}
 use Rattle.text_lines.specs.Words.{argument_of}
-use Rattle.chess_game.specs.Ends.{verdict_outcome, verdict_comment, claims}
+use Rattle.chess_game.specs.Ends.{verdict_outcome, verdict_comment, claims, draw_claim, claim_comment}
 use Rattle.chess_game.specs.Game.{State, from_start, played, taken_back, with_declared, current, verdict_now, is_over, contradicts_verdict}
 use Rattle.chess_game.specs.declared.verdicts.Verdict.{Verdict}
 use Rattle.chess_game.specs.declared.results.Declared.{Declared}
 use Rattle.chess_game.specs.declared.results.Outcome.{Outcome}
 use Rattle.chess_game.specs.declared.results.Outcome.TheVariants.{WhiteWins, BlackWins, Draw, Unfinished}
 use Rattle.chess_game.specs.declared.verdicts.Claims.{Claims}
+use Rattle.chess_game.specs.declared.verdicts.DrawClaim.{DrawClaim}
 use Rattle.chess_cecp.specs.Declaring.{read_result}
 use Rattle.chess_game.specs.Results.{result_text}
 use Rattle.chess_cecp.specs.declared.command.Command.{Command}
@@ -100,13 +102,12 @@ draws_keeps : (s : State) (comment : List ℕ) → KeepsRefused s (draws s comme
 draws_keeps s comment = accepted s (draws s comment) (result_begins Draw comment)
 
 claimed_keeps : (s : State) (c : Claims) → KeepsRefused s (claimed s c)
-claimed_keeps s c =
-    by_test c.threefold s (draws s (codes "Threefold repetition"))
-    (if c.fifty_moves then draws s (codes "50-move rule") else
-    refuses s (codes "Error (no claim): ") (codes "claim"))
-    (draws_keeps s (codes "Threefold repetition"))
-    (by_test c.fifty_moves s (draws s (codes "50-move rule")) (refuses s (codes "Error (no claim): ") (codes "claim"))
-    (draws_keeps s (codes "50-move rule")) (λ h. refl))
+claimed_keeps s c = at (draw_claim c)
+  where
+    at : (claim : Option DrawClaim) → KeepsRefused s (option_map_or (λ claim. draws s (claim_comment claim)) claim
+        (refuses s (codes "Error (no claim): ") (codes "claim")))
+    at (Some claim) = draws_keeps s (claim_comment claim)
+    at None = λ h. refl
 
 normal_keeps : (s : State) (v : Rules) → KeepsRefused s (normal_row s v)
 normal_keeps s Normal = λ h. refl

@@ -29,7 +29,7 @@ use Rattle.chess_cecp.specs.Commands.{command_of}
 use Rattle.text_lines.specs.Words.{argument_of}
 use Rattle.chess_game.specs.Results.{result_text}
 use Rattle.chess_cecp.specs.Declaring.{read_result, state_text}
-use Rattle.chess_game.specs.Ends.{verdict_outcome, verdict_comment, claims}
+use Rattle.chess_game.specs.Ends.{verdict_outcome, verdict_comment, claims, draw_claim, claim_comment}
 use Rattle.chess_game.specs.Game.{State, from_start, played, taken_back, with_declared, current, verdict_now, is_over, contradicts_verdict}
 use Rattle.chess_game.specs.declared.verdicts.Claims.{Claims}
 use Rattle.chess_game.specs.declared.verdicts.Verdict.{Verdict}
@@ -121,9 +121,8 @@ draws s comment =
 -- repetition or 50 moves, else the claim is refused
 abbrev pub claimed : State → Claims → Response State
 claimed s c =
-    if c.threefold then draws s (codes "Threefold repetition")
-    else if c.fifty_moves then draws s (codes "50-move rule")
-    else refuses s (codes "Error (no claim): ") (codes "claim")
+    option_map_or (λ claim. draws s (claim_comment claim)) (draw_claim c)
+    (refuses s (codes "Error (no claim): ") (codes "claim"))
 
 -- the answer to `claim` in the game `s`: a draw by threefold repetition or 50 moves (Laws, articles 9.2 and 9.3), if
 -- the game is not over and the draw can be claimed; else it is refused

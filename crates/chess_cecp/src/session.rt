@@ -279,6 +279,7 @@ impl<B: Board> Session<B> {
 
     // Obeys `claim`: declares a draw, if the game is not over and one can be claimed in the current position; else
     // refuses.
+    #[tactic(auto, using(crate::proofs::Comments::kept_whole))]
     fn claim(&mut self, answer: &mut Answer)
         requires { answer.old.items ≡ [] }
         ensures next { self.new ≡ after_row self.old (claim_row self.old.state) }
@@ -288,13 +289,9 @@ impl<B: Board> Session<B> {
             write_line(answer, b"Error (command not legal now): ", b"claim");
             return;
         }
-        let claims = self.game.claims();
-        if claims.threefold {
-            self.draw(b"Threefold repetition", answer);
-        } else if claims.fifty_moves {
-            self.draw(b"50-move rule", answer);
-        } else {
-            write_line(answer, b"Error (no claim): ", b"claim");
+        match self.game.claims().draw_claim() {
+            Some(claim) => self.draw(claim.comment(), answer),
+            None => write_line(answer, b"Error (no claim): ", b"claim"),
         }
     }
 

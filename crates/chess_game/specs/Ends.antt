@@ -21,6 +21,8 @@ use Rattle.chess_game.specs.declared.results.Outcome.TheVariants.{WhiteWins, Bla
 use Rattle.chess_game.specs.declared.verdicts.Verdict.{Verdict}
 use Rattle.chess_game.specs.declared.verdicts.Verdict.TheVariants.{WhiteMates, BlackMates, Stalemate, InsufficientMaterial, FivefoldRepetition, SeventyFiveMoves}
 use Rattle.chess_game.specs.declared.verdicts.Claims.{Claims}
+use Rattle.chess_game.specs.declared.verdicts.DrawClaim.{DrawClaim}
+use Rattle.chess_game.specs.declared.verdicts.DrawClaim.TheVariants.{Threefold, FiftyMoves}
 
 -- the colour of a square: a1 is black (2.1)
 abbrev pub square_colour : ℕ → Colour
@@ -81,3 +83,12 @@ claims start ms = record {
   threefold = nat_le 3 (repetition_count start ms);
   fifty_moves = nat_le 100 (position_after start ms).halfmove;
 }
+
+-- the claim by which a draw is declared, if any holds: threefold repetition, or else 50 moves
+abbrev pub draw_claim : Claims → Option DrawClaim
+draw_claim c = if c.threefold then Some Threefold else if c.fifty_moves then Some FiftyMoves else None
+
+-- the comment on a draw that was claimed for this reason, as in the result line 1/2-1/2 {50-move rule}
+abbrev pub claim_comment : DrawClaim → List ℕ
+claim_comment Threefold = codes "Threefold repetition"
+claim_comment FiftyMoves = codes "50-move rule"

@@ -28,4 +28,4 @@ pub use laws::equalities_are_derived;
 pub use result_text::ParseOutcomeError;
 pub use results::{Comment, Declared, Outcome};
 pub use tags::{HowEnded, TagText};
-pub use verdicts::{Claims, Verdict};
+pub use verdicts::{Claims, DrawClaim, Verdict};

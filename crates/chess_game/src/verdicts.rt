@@ -3,7 +3,7 @@
 ghost use Rattle.std.specs.Prelude.{◌≡◌, ◌≤◌, ◌<◌, Some, length, count_by};
 ghost use Rattle.std.specs.List.{list_any};
 ghost use Rattle.chess_base.specs.Sound.{IsSound};
-ghost use Rattle.chess_game.specs.Ends.{is_kind, has_bishop_on, has_insufficient_material, square_colour, mates, verdict_outcome, verdict_comment};
+ghost use Rattle.chess_game.specs.Ends.{is_kind, has_bishop_on, has_insufficient_material, square_colour, mates, verdict_outcome, verdict_comment, draw_claim, claim_comment};
 ghost use Rattle.chess_game.specs.ties.Material.{is_pawn_rook_or_queen, is_minor};
 
 use crate::packed::squares_of;
@@ -86,6 +86,51 @@ pub struct Claims {
     pub threefold: bool,
     /// At least 50 moves of each side without a pawn move or a capture (article 9.3).
     pub fifty_moves: bool,
+}
+
+impl Claims {
+    /// The claim by which a draw is declared, if any holds: threefold repetition comes before 50 moves.
+    pub fn draw_claim(self) -> Option<DrawClaim>
+        ensures { result ≡ draw_claim self }
+    {
+        if self.threefold {
+            Some(DrawClaim::Threefold)
+        } else if self.fifty_moves {
+            Some(DrawClaim::FiftyMoves)
+        } else {
+            None
+        }
+    }
+}
+
+/// Why a draw is claimed.
+#[derive(Clone, Copy, Debug, PartialEq, Eq)]
+pub enum DrawClaim {
+    /// The position is there for at least the third time (Laws of Chess 2023, article 9.2).
+    Threefold,
+    /// At least 50 moves of each side without a pawn move or a capture (article 9.3).
+    FiftyMoves,
+}
+
+impl DrawClaim {
+    /// The comment on a draw that was claimed for this reason, such as `50-move rule`.
+    pub fn as_str(self) -> &'static str
+        ensures value { result.now ≡ claim_comment self }
+        ensures short { length result.now ≤ 60 }
+    {
+        match self {
+            DrawClaim::Threefold => "Threefold repetition",
+            DrawClaim::FiftyMoves => "50-move rule",
+        }
+    }
+
+    /// The comment as bytes: it is in the braces of `1/2-1/2 {50-move rule}`.
+    pub fn comment(self) -> &'static [u8]
+        ensures value { result.now ≡ claim_comment self }
+        ensures short { length result.now ≤ 60 }
+    {
+        self.as_str().as_bytes()
+    }
 }
 
 // The verdict that the side of this colour has mated the other.

@@ -18,7 +18,7 @@ use Rattle.chess_match.specs.Effects.{Match, Phase, Handshake, Setup, Opening, B
 use Rattle.chess_match.specs.Lines.{Says, ping, setup_lines}
 use Rattle.chess_match.specs.Reasons.{is_unwritten}
 use Rattle.chess_match.specs.Rules.{Rules, is_fischerandom}
-use Rattle.chess_match.specs.declared.reason.DrawClaim.{DrawClaim}
+use Rattle.chess_game.specs.declared.verdicts.DrawClaim.{DrawClaim}
 use Rattle.chess_match.specs.declared.reason.MatchFault.{MatchFault}
 use Rattle.chess_match.specs.declared.reason.MatchFault.TheVariants.{Flood, NoDone, NoPing, NoSetboard, NoVariant}
 use Rattle.chess_match.specs.declared.reason.Reason.{Reason}

@@ -4,13 +4,11 @@ use Rattle.chess_base.specs.declared.man.Colour.{Colour}
 use Rattle.chess_base.specs.declared.man.Colour.TheVariants.{White, Black}
 use Rattle.chess_base.specs.ByColour.{by_colour}
 use Rattle.chess_base.specs.Men.{other, same_colour}
-use Rattle.chess_game.specs.Ends.{verdict_outcome, verdict_comment}
+use Rattle.chess_game.specs.Ends.{verdict_outcome, verdict_comment, claim_comment}
 use Rattle.chess_game.specs.declared.verdicts.Verdict.{Verdict}
 use Rattle.chess_game.specs.declared.results.Declared.{Declared}
 use Rattle.chess_game.specs.declared.results.Outcome.{Outcome}
 use Rattle.chess_game.specs.declared.results.Outcome.TheVariants.{WhiteWins, BlackWins, Draw, Unfinished}
-use Rattle.chess_match.specs.declared.reason.DrawClaim.{DrawClaim}
-use Rattle.chess_match.specs.declared.reason.DrawClaim.TheVariants.{Threefold, FiftyMoves}
 use Rattle.chess_game.specs.declared.tags.HowEnded.{HowEnded}
 use Rattle.chess_game.specs.declared.tags.HowEnded.TheVariants.{Normal, TimeForfeit, RulesInfraction}
 use Rattle.chess_match.specs.declared.reason.MatchFault.{MatchFault}
@@ -25,11 +23,6 @@ colour_name c = by_colour (codes "White") (codes "Black") c
 -- the outcome of a game that this side wins
 abbrev pub win_of : Colour → Outcome
 win_of c = by_colour WhiteWins BlackWins c
-
--- the comment on a draw that was claimed for this reason, such as `50-move rule`
-abbrev pub claim_comment : DrawClaim → List ℕ
-claim_comment Threefold = codes "Threefold repetition"
-claim_comment FiftyMoves = codes "50-move rule"
 
 -- what the comment says of an engine with this fault, after the name of its side: ` has no ping`, as in `White has no
 -- ping`

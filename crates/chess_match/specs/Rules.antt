@@ -10,17 +10,15 @@ use Rattle.chess_base.specs.declared.setup.Setup.{Setup}
 use Rattle.chess_base.specs.Men.{Men, same_colour, same_kind}
 use Rattle.chess_base.specs.Moves.{after}
 use Rattle.chess_fen.specs.Writing.{fen, is_initial}
-use Rattle.chess_game.specs.Ends.{verdict, claims}
+use Rattle.chess_game.specs.Ends.{verdict, claims, draw_claim}
 use Rattle.chess_game.specs.Line.{position_after}
-use Rattle.chess_game.specs.declared.verdicts.Claims.{Claims}
+use Rattle.chess_game.specs.declared.verdicts.DrawClaim.{DrawClaim}
 use Rattle.chess_game.specs.declared.verdicts.Verdict.{Verdict}
 use Rattle.chess_text.specs.Moves.{reading}
 use Rattle.chess_text.specs.San.{san, shown_move}
 use Rattle.chess_text.specs.declared.reading.Reading.{Reading}
 use Rattle.chess_text.specs.declared.reading.Reading.TheVariants as reads
 use Rattle.cecp_engine.specs.Levels.{LevelSeen}
-use Rattle.chess_match.specs.declared.reason.DrawClaim.{DrawClaim}
-use Rattle.chess_match.specs.declared.reason.DrawClaim.TheVariants.{Threefold, FiftyMoves}
 use Rattle.chess_base.specs.declared.man.Variant.{Variant}
 use Rattle.chess_base.specs.declared.man.Variant.TheVariants.{Normal, Fischerandom}
 
@@ -53,10 +51,6 @@ pub record Rules : Type 0 where
 abbrev pub move_read : Reading → Option Move
 move_read (reads.Move m) = Some m
 move_read _ = None
-
--- the draw that may be claimed, if either claim holds: threefold repetition, or else 50 moves
-abbrev pub claim_by : Claims → Option DrawClaim
-claim_by c = if c.threefold then Some Threefold else if c.fifty_moves then Some FiftyMoves else None
 
 -- the text of the last of these moves, which are made one after another from the position `p` on: in SAN, if `as_san`;
 -- else by squares (`e2e4`), where castling in Chess960 is `O-O` or `O-O-O`. Empty if there is no move
@@ -95,7 +89,7 @@ rules_of start level limit = record {
   limit = limit;
   reading = λ played text. move_read (reading (position_after start played) text);
   verdict = λ played. verdict start played;
-  claim = λ played. claim_by (claims start played);
+  claim = λ played. draw_claim (claims start played);
   move_text = λ as_san played. text_of_last as_san start played;
   has_bare_king = λ played c. has_bare_king c (position_after start played).men;
 }

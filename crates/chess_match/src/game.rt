@@ -9,16 +9,15 @@ ghost use Rattle.chess_base.specs.Initial.{initial_setup};
 ghost use Rattle.chess_game.specs.Game.{current, verdict_now, State};
 ghost use Rattle.chess_game.specs.Ends.{verdict, claims};
 ghost use Rattle.chess_text.specs.Moves.{reading};
-ghost use Rattle.chess_match.specs.Rules.{rules_of, has_bare_king, is_king_or_other, move_read, claim_by, fen_sent};
+ghost use Rattle.chess_match.specs.Rules.{rules_of, has_bare_king, is_king_or_other, move_read, fen_sent};
 
 use crate::block::Block;
 use crate::match_game::MatchGame;
-use crate::reason::DrawClaim;
 use crate::texts::MoveTexts;
 use byte_devices::append;
 use chess_base::{Colour, Kind, Man, Move, Position, Variant};
 use chess_fen::{FenText, is_initial, write_fen};
-use chess_game::{Claims, Game, Verdict};
+use chess_game::{DrawClaim, Game, Verdict};
 use chess_moves::Board;
 use chess_text::{
     Reading, add_check_mark, move_text, read_move, read_moves_are_legal, unmarked_san,
@@ -40,19 +39,6 @@ fn has_bare_king(colour: Colour, men: &[Option<Man>; 64]) -> bool
     ensures { result ≡ has_bare_king colour men.now }
 {
     men.iter().all(|man| is_king_or_other(colour, *man))
-}
-
-// The draw that may be claimed, if any, by which of the two claims hold; threefold repetition comes before 50 moves.
-fn claim_by(claims: Claims) -> Option<DrawClaim>
-    ensures { result ≡ claim_by claims }
-{
-    if claims.threefold {
-        Some(DrawClaim::Threefold)
-    } else if claims.fifty_moves {
-        Some(DrawClaim::FiftyMoves)
-    } else {
-        None
-    }
 }
 
 // The FEN that `setboard` sends to the engines for this start; `None` for the initial position of normal chess, in
@@ -133,7 +119,7 @@ impl<B: Board> MatchGame for Game<B> {
     // The draw that may be claimed now, if there is one.
     #[tactic(auto, unfolding(crate::specs::Rules::rules_of))]
     fn claim(&self) -> Option<DrawClaim> {
-        claim_by(self.claims())
+        self.claims().draw_claim()
     }
 
     // Whether this side has no piece but its king in the current position.

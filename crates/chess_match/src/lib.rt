@@ -32,6 +32,7 @@ mod transitions;
 mod turn;
 mod witness;
 
+pub use chess_game::DrawClaim;
 pub use laws::{
     acts_are_in_order, clocks_do_not_underflow, each_is_sent_the_others, games_are_lines,
     last_line_is_theirs, lines_are_few, match_is_the_only_one, moves_are_read, moves_are_sent_once,
@@ -40,7 +41,7 @@ pub use laws::{
 };
 pub use moments::Moments;
 pub use phase::Phase;
-pub use reason::{DrawClaim, MatchFault, Reason};
+pub use reason::{MatchFault, Reason};
 pub use run::{ENGINE_LINE_LEN, Ends, MatchEnd, Setup, run_match, run_match_at, run_match_watched};
 pub use table::MatchTable;
 pub use witness::Witness;

@@ -9,10 +9,9 @@ ghost use Rattle.chess_match.specs.ties.Texts.{AreTexts};
 ghost use Rattle.chess_game.specs.declared.game.TheConstants.{MOST_MOVES};
 
 use crate::block::Block;
-use crate::reason::DrawClaim;
 use crate::texts::MoveTexts;
 use chess_base::{Colour, Move, Variant};
-use chess_game::Verdict;
+use chess_game::{DrawClaim, Verdict};
 
 /// The game of a match, as the match sees it: without any chess.
 pub(crate) trait MatchGame {

@@ -2,10 +2,10 @@
 
 ghost use Rattle.std.specs.Prelude.{◌≡◌, ◌≤◌, ◌++◌, length};
 ghost use Rattle.chess_base.specs.ByColour.{of_colour};
-ghost use Rattle.chess_match.specs.Reasons.{win_of, outcome_by_reason, comment_of, claim_comment, colour_name, fault_comment, ended_by, first_fault};
+ghost use Rattle.chess_match.specs.Reasons.{win_of, outcome_by_reason, comment_of, colour_name, fault_comment, ended_by, first_fault};
 
 use chess_base::{ByColour, Colour};
-use chess_game::{HowEnded, Outcome, Verdict};
+use chess_game::{DrawClaim, HowEnded, Outcome, Verdict};
 
 /// What stopped a match.
 #[derive(Clone, Copy, Debug, PartialEq, Eq)]
@@ -26,15 +26,6 @@ pub enum MatchFault {
     Flood,
     /// The variant is Chess960, and its handshake says `variants` without `fischerandom`.
     NoVariant,
-}
-
-/// Why a draw is claimed.
-#[derive(Clone, Copy, Debug, PartialEq, Eq)]
-pub enum DrawClaim {
-    /// The position is there for at least the third time (Laws of Chess 2023, article 9.2).
-    Threefold,
-    /// At least 50 moves of each side without a pawn move or a capture (article 9.3).
-    FiftyMoves,
 }
 
 /// Why a match is over, with the side of which it is said.
@@ -73,19 +64,6 @@ fn win_of(colour: Colour) -> Outcome
     match colour {
         Colour::White => Outcome::WhiteWins,
         Colour::Black => Outcome::BlackWins,
-    }
-}
-
-impl DrawClaim {
-    // The comment on a draw that was claimed for this reason, such as `50-move rule`.
-    fn comment(self) -> &'static [u8]
-        ensures value { result.now ≡ claim_comment self }
-        ensures short { length result.now ≤ 60 }
-    {
-        match self {
-            DrawClaim::Threefold => b"Threefold repetition",
-            DrawClaim::FiftyMoves => b"50-move rule",
-        }
     }
 }
 

@@ -59,8 +59,8 @@ pub trait Board {
     fn legal_move_count(&self) -> usize
         ensures { result ≡ length (moves (position self.now)) };
 
-    /// Whether there is a legal move. Both boards look no further once they have found one,
-    /// which no clause says.
+    /// Whether there is a legal move. Both boards look no further than the first piece (`Bits`: or set of pawns) that
+    /// has one, which no clause says.
     fn has_legal_move(&self) -> bool
         ensures { result ≡ nat_lt 0 (length (moves (position self.now))) };
 

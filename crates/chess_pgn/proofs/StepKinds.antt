@@ -36,10 +36,10 @@ pub data StepIs (g : SoFar) (left total : ℕ) : Step → Type 0 where
       → StepIs g left total (fails g kind offset)
   finishes : (o : Outcome) (len : ℕ) → 0 < len → len ≤ left → StepIs g left total (ends g o (total - left + len))
 
--- a termination has bytes
-pub termination_has_bytes : (word : List ℕ) (o : Outcome) → End o ≡ word_kind word → 0 < length word
-termination_has_bytes [] o h = cc
-termination_has_bytes (c ∷ word) o h = search rules
+-- an outcome mark has bytes
+pub outcome_mark_has_bytes : (word : List ℕ) (o : Outcome) → End o ≡ word_kind word → 0 < length word
+outcome_mark_has_bytes [] o h = cc
+outcome_mark_has_bytes (c ∷ word) o h = search rules
 
 module _ (limit left total : ℕ) (g : SoFar) where
   full_is : (offset : ℕ) (next : Step) → total - left ≤ offset → offset ≤ total → StepIs g left total next
@@ -58,7 +58,7 @@ module _ (limit left total : ℕ) (g : SoFar) where
 
   word_is : (word : List ℕ) (kind : WordKind) → kind ≡ word_kind word → length word ≤ left
       → StepIs g left total (word_step limit g (total - left) word kind)
-  word_is word (End o) is h = finishes o (length word) (termination_has_bytes word o is) h
+  word_is word (End o) is h = finishes o (length word) (outcome_mark_has_bytes word o is) h
   word_is word Number is h = stays true true g.termination
   word_is word Marks is h = passes
   word_is word Move is h = move_is (total - left) (reading (current g.state) word) (omega arith) (omega arith)

@@ -41,8 +41,8 @@ impl TextBuffer {
     }
 
     // Makes room for `len` more bytes: if they don't fit, the buffer's bytes are written and the buffer is emptied.
-    // More than `BUFFER_LEN` bytes never fit, so for these the buffer is always empty afterwards (`none`). No text is
-    // added, so the text in `added` is empty.
+    // More than `BUFFER_LEN` bytes never fit, so for these the buffer is empty afterwards, unless the writer failed
+    // (`none`). No text is added, so the text in `added` is empty.
     fn make_room<W: Output>(&mut self, writer: &mut W, len: usize) -> Result<(), WriteFault>
         ensures added { Adds (W.seen writer.old) (W.seen writer.new) self.old self.new result [] }
         ensures room { OnOk result (len ≤ BUFFER_LEN → length self.new + len ≤ BUFFER_LEN) }

@@ -17,9 +17,10 @@ const LINE_LEN: usize = 79;
 /// outcome are put into lines of at most 79 bytes; `column` is how many bytes the line that is begun has so far, its
 /// prefix not counted, and 0 if no line is begun.
 ///
-/// A function that writes through it has a clause `added`. The last argument there is the text that is written: the
-/// writer took it, or it waits in the buffer (`Adds`). Its other clauses say what stays as it was; `ghost_name` says
-/// that the writer is still the same one.
+/// A function that adds a text has a clause `added`. The last argument there is this text: the writer took it, or it
+/// waits in the buffer (`Adds`). `finish`, which writes what waits, has a clause `put` instead. `column` says how long
+/// the line is that is begun. `prefix` and `writer` say what stays as it was: by `ghost_name` the writer is still the
+/// same one.
 #[derive(Drop)]
 pub(crate) struct LineWriter<'a, 'b, W> {
     writer: &'b mut W,

@@ -1,6 +1,6 @@
 //! Reads a game's tags, moves and outcome mark. The outcome mark is the token `1-0`, `0-1`, `1/2-1/2` or `*` that ends
-//! a game's text; "termination" means only the tag of this name. Functions that the loops over tokens call are inlined
-//! for the reason at the head of token.rt.
+//! a game's text; "termination" means only the tag of this name, but in the text of `BadToken` it means this mark.
+//! Functions that the loops over tokens call are inlined for the reason at the head of token.rt.
 //!
 //! Contracts here compare results with the definitions of TokenByToken, such as `word_step`. `so_far` and `step_seen`
 //! give the code's values in the form of these definitions.
@@ -166,7 +166,7 @@ fn declare_outcome<B: Board>(game: &mut Game<B>, outcome: Outcome)
 // (`left`): `play_words` has played those. `progress` is what is known before the word.
 //
 // `ended`: the offset returned with an end is after the word's first byte, and at most after its last.
-#[tactic(auto, using(crate::proofs::StepKinds::termination_has_bytes))]
+#[tactic(auto, using(crate::proofs::StepKinds::outcome_mark_has_bytes))]
 #[inline(always)]
 fn apply_word<B: Board>(
     game: &mut Game<B>,
@@ -335,8 +335,8 @@ fn tagged_variant(text: &[u8], at: usize) -> Variant
 
 // Reads the tags from the offset `at` on in one pass, for a game of normal chess. Returns what is known after the tags,
 // and the offset after them: that of the first number, move or outcome mark, or of the text's end. Reading on from
-// there gives the same as reading from `at` (`IsReadOn`). Returns `None` if a tag names Chess960 or there is a fault
-// among the tags: `begin_game` then restarts the game.
+// there gives the same as reading from `at` (`IsReadOn`). Returns `None` if a tag names Chess960, or there is a fault
+// among the tags or right after them: `begin_game` then restarts the game.
 fn read_normal_tags<B: Board>(
     text: &[u8],
     at: usize,
@@ -379,8 +379,8 @@ fn read_normal_tags<B: Board>(
 //
 // The variant must be known before a FEN is read, and the tag `Variant` may come after the tag `FEN`. Most games are
 // of normal chess, so the tags are first read as such; the offset is then after them. If a tag names Chess960, or there
-// is a fault among the tags, the game is set to the initial position of its variant, and the offset is `at`: the caller
-// then reads the tags.
+// is a fault among the tags or right after them, the game is set to the initial position of its variant, and the offset
+// is `at`: the caller then reads the tags.
 #[tactic(auto, using(crate::proofs::GameReads::first))]
 fn begin_game<B: Board>(text: &[u8], at: usize, game: &mut Game<B>) -> (Progress, usize)
     requires { at ≤ length text.now }

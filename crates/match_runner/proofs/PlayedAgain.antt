@@ -17,7 +17,7 @@ use Rattle.chess_match.specs.Effects.{Match, Phase, Handshake, Setup, Opening, B
 use Rattle.chess_match.specs.Acts.{awaits_line, is_over}
 use Rattle.chess_match.specs.Events.{Seat}
 use Rattle.chess_match.specs.Rules.{Rules}
-use Rattle.chess_match.specs.declared.reason.DrawClaim.{DrawClaim}
+use Rattle.chess_game.specs.declared.verdicts.DrawClaim.{DrawClaim}
 use Rattle.chess_match.specs.declared.reason.MatchFault.{MatchFault}
 use Rattle.chess_match.specs.declared.reason.MatchFault.TheVariants.{Flood, NoDone}
 use Rattle.chess_match.specs.declared.reason.Reason.{Reason}

@@ -1,5 +1,5 @@
-//! Once a piece has over 16,777,216 bytes (`PIECE_LEN`), its bytes are let go, which means dropped from memory. `Gone`
-//! keeps the first 40 of them, and counts the others.
+//! Once a piece has over 16,777,216 bytes (`PIECE_LEN`) and its end isn't read yet, its bytes are let go, which means
+//! dropped from memory. `Gone` keeps the first 40 of them, and counts the others.
 
 ghost use Rattle.std.specs.Prelude.{◌≡◌, ◌≤◌, ◌<◌, ◌+◌, ◌^◌, ◌++◌, ◌==◌, [], length, take};
 ghost use Rattle.pgn_pieces.specs.Places.{line_ends};

@@ -30,7 +30,8 @@ pub(crate) struct Seen {
 pub(crate) enum Step {
     // The next piece begins with the line.
     Begins,
-    // Too few bytes of the line were read to decide.
+    // The line is left until more of it is read, or the input ends. It is no tag line so far, and neither its `\n` nor
+    // 256 bytes of it were read.
     Waits,
     // The line belongs to the piece. The number is how many bytes of it were read, its `\n` included.
     Belongs(usize),
@@ -92,9 +93,9 @@ impl Seen {
 
     // Decides whether the next piece begins with `line`, which is the next bytes and has no `\n`, since no more of the
     // line was read. Returns `Begins` if so; `Belongs` if `line` is more of the piece's last line (`inside`), or a new
-    // line of the piece, whose kind is then noted; and `Waits` if `line` is too short to decide. With more bytes a line
-    // such as `[Eve` may become a tag line, until it has the 256 bytes (`FRONT_LEN`) that decide its kind. A line that
-    // is a tag line remains one.
+    // line of the piece, whose kind is then noted; and `Waits` if `line` is no tag line so far, and has fewer than the
+    // 256 bytes (`FRONT_LEN`) that decide its kind. With more bytes a line such as `[Eve` may become a tag line; one
+    // such as `1. e4` can't, and waits all the same. A line that is a tag line remains one.
     #[inline(always)]
     fn see_open(&mut self, line: &[u8]) -> Step
         requires plain { (0 < length line.now) × (has_line_end line.now ≡ false) }
@@ -107,7 +108,7 @@ impl Seen {
         if self.ends_at(kind) {
             return Step::Begins;
         }
-        // With more bytes it may become a tag line, which may begin the next piece.
+        // With more bytes some such lines become tag lines, which may begin the next piece. The others wait too.
         if !kind.is_tag && line.len() < FRONT_LEN {
             return Step::Waits;
         }
@@ -136,8 +137,8 @@ impl Seen {
 
     // Looks for the end of the piece in `text`, line by line. `text` is the bytes after those seen so far. Returns
     // `(true, n)` if the piece ends after the first `n` bytes of `text`. Returns `(false, n)` if no end is found: the
-    // first `n` bytes belong to the piece, and the others, if any, are the beginning of a line that is too short to
-    // decide whether it begins the next piece.
+    // first `n` bytes belong to the piece, and the others, if any, are the beginning of a line that waits for more of
+    // its bytes (`Waits`).
     pub(crate) fn find_end(&mut self, text: &[u8]) -> (bool, usize)
         ensures { Looks self.old self.new text.now result.0 result.1 }
     {

@@ -176,8 +176,8 @@ impl PgnPieces {
     }
 
     // Looks for the current piece's end in the bytes that were read after it, adds the bytes before the end to the
-    // piece, and returns whether the end was found. If it was not, all bytes are added except a last line that is
-    // still too short to decide whether it begins the next piece. `seen` is what is known of the piece's lines so far.
+    // piece, and returns whether the end was found. If it was not, all bytes are added except those of a last line that
+    // waits for more bytes (`Step::Waits`). `seen` is what is known of the piece's lines so far.
     fn find_end(&mut self, seen: &mut Seen) -> bool
         ensures { FindsEnd self.old self.new seen.old seen.new result }
     {

@@ -38,13 +38,13 @@ shown text = shown_word (first_word text)
 -- ---- the part that is wrong; `text` is the text from the fault's byte on
 
 -- how many bytes after the fault's byte the wrong part begins; `text` is the text from that byte on. The wrong part of
--- a FEN is the field that the fault is about; of anything else it begins at the fault's byte
+-- a FEN is the field that is shown for its fault; of anything else it begins at the fault's byte
 abbrev pub part_offset : FaultKind → List ℕ → ℕ
 part_offset (Pgn (BadFen fault)) text = field_offset fault (fen_text text)
 part_offset _ text = 0
 
 -- what an explanation shows of the wrong part; `text` is the text from the fault's byte on. Of a FEN it is the field
--- that the fault is about, at most 80 bytes of it; else the text's first word
+-- for its fault (`wrong_field`), and at most 80 bytes of it; else the text's first word
 abbrev pub shown_part : FaultKind → List ℕ → List ℕ
 shown_part (Pgn (BadFen fault)) text = shown_word (take 80 (wrong_field fault (fen_text text)))
 shown_part _ text = shown text

@@ -75,8 +75,8 @@ fn column_after(before: &[u8]) -> usize
     last_line_len(before) + 1
 }
 
-// How many bytes after a fault's byte the part begins that is wrong: of a FEN the field that the fault is about, else
-// the byte itself. `text` is the text from the byte on.
+// How many bytes after a fault's byte the part begins that is wrong: of a FEN the field that is shown for its fault,
+// else the byte itself. `text` is the text from the byte on.
 fn part_offset(kind: FaultKind, text: &[u8]) -> usize
     ensures value { result ≡ part_offset kind text.now }
     ensures within { result ≤ length text.now }

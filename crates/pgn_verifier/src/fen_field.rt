@@ -1,4 +1,4 @@
-//! The field of a FEN that a fault is about.
+//! The field of a FEN that is shown for its fault.
 
 ghost use Rattle.std.specs.Prelude.{◌≡◌, ◌≤◌, ◌-◌, not, take_while, drop, length, ◌==◌};
 ghost use Rattle.std.specs.List.{prefix_len};
@@ -71,8 +71,8 @@ fn field_at(number: usize, fen: &[u8]) -> &[u8]
     &field[..field_len(field)]
 }
 
-// The number of the field that a FEN's fault is about: of the counters the first that is no number, and where no field
-// alone is wrong, the first of all.
+// The number of the field that is shown for a FEN's fault: of the counters the first that is no number, and where no
+// field alone is wrong, the first of all.
 fn field_number(fault: FenFault, fen: &[u8]) -> usize
     ensures { result ≡ field_number fault fen.now }
 {
@@ -99,14 +99,14 @@ pub(crate) fn fen_text(text: &[u8]) -> &[u8]
     &text[..fen_len(text)]
 }
 
-/// The field that a FEN's fault is about.
+/// The field that is shown for a FEN's fault.
 pub(crate) fn wrong_field(fault: FenFault, fen: &[u8]) -> &[u8]
     ensures { result.now ≡ wrong_field fault fen.now }
 {
     field_at(field_number(fault, fen), fen)
 }
 
-/// How many bytes a FEN has before the field that its fault is about.
+/// How many bytes a FEN has before the field that is shown for its fault.
 pub(crate) fn field_offset(fault: FenFault, fen: &[u8]) -> usize
     ensures value { result ≡ field_offset fault fen.now }
     ensures within { result ≤ length fen.now }

@@ -3,8 +3,8 @@ use Rattle.std.specs.Prelude.{ℕ, Bool, true, false, not, ◌&&◌, List, [], �
 use Rattle.chess_base.specs.Letters.{byte, new_line}
 use Rattle.chess_pgn.specs.Tokens.{is_white_space}
 
--- the text after the white space and `%` lines at its front. The flags say whether its first byte is inside such a line
--- already (`skips`), and whether it is the first of its line (`begins`)
+-- the text after the white space and `%` lines at its front. `skips` is whether its first byte is inside such a line
+-- already, and `begins` whether this byte is the first of its line
 abbrev pub gap_left : Bool → Bool → List ℕ → List ℕ
 gap_left skips begins [] = []
 gap_left true begins (c ∷ rest) = gap_left (not (c == new_line)) true rest
