@@ -84,7 +84,7 @@ pub fn right_of(rights: Rights, colour: Colour, castling_side: CastlingSide) -> 
 }
 
 // The index of this colour's king in the list of pieces, which is the number of its square: of several kings the first;
-// none if it has no king.
+// none if it has no king. It is apart from `king_square` for the prover, which wants the search alone.
 #[tactic(auto, unfolding(crate::specs::Castling::king_square))]
 fn king_index(men: &[Option<Man>; 64], colour: Colour) -> Option<usize>
     ensures value { result ≡ king_square men.now colour }

@@ -41,7 +41,8 @@ fn number(kind: Kind) -> usize
 }
 
 impl Kinds {
-    /// The sets of a colour that has no pieces.
+    /// The sets of a colour that has no pieces: all of them empty. The contract says it for a board with no pieces at
+    /// all, from which a board is set up.
     #[tactic(auto, using(crate::proofs::Standing::no_kinds))]
     pub fn empty() -> Kinds
         ensures kinds { (c : Side) → (men : Men) → ((k : ℕ) → k < 64 → man_at men k ≡ None)

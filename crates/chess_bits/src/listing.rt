@@ -71,10 +71,11 @@ impl Bits<'_> {
         }
     }
 
-    // Appends to `list` the legal moves of the piece on `from`. It is free (its king is safe wherever it goes), and no
-    // pawn that may promote or take en passant, so each of its end squares gives one move, which needs no test.
+    // Appends to `list` the legal moves of the piece on `from`, which is ordinary: it is free (its king is safe wherever
+    // it goes), and no pawn that may promote or take en passant. So each of its end squares gives one move, which needs
+    // no test.
     fn add_ordinary_moves(&self, from: Square, list: &mut MoveList)
-        requires free { GoesFreely self.now from }
+        requires ordinary { GoesFreely self.now from }
         requires room { array_vec_len list.old + length (moves_from self.now from) ≤ 896 }
         ensures { list.new.items ≡ list.old.items ++ moves_from self.now from }
     {
