@@ -77,15 +77,6 @@ impl Kind {
     }
 }
 
-// A piece of this colour and kind.
-#[inline(always)]
-fn man(colour: Colour, kind: Kind) -> Man
-    ensures colour { result.colour ≡ colour }
-    ensures kind { result.kind ≡ kind }
-{
-    Man { colour, kind }
-}
-
 impl Man {
     /// The piece's letter in FEN (PGN standard of 1994, section 16.1.3.1): `N` for a white knight, `n` for a black one.
     ///
@@ -114,9 +105,15 @@ impl Man {
         ensures { result ≡ man_with_letter byte }
     {
         if let Some(kind) = Kind::from_letter(byte) {
-            return Some(man(Colour::White, kind));
+            return Some(Man {
+                colour: Colour::White,
+                kind,
+            });
         }
         let kind = Kind::from_small_letter(byte)?;
-        Some(man(Colour::Black, kind))
+        Some(Man {
+            colour: Colour::Black,
+            kind,
+        })
     }
 }

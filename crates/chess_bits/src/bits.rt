@@ -120,9 +120,9 @@ impl Board for Bits<'_> {
     }
 
     // A set with at least the start square of each legal move to `to` by a piece of this kind, of the side on move. It
-    // is asked for texts of castling and promotions (the others have `legal_starts`), and for the pawns that may take en
-    // passant. The moves from these squares are then tested one by one, so there may be more: for a king always its
-    // square, for another kind each piece that reaches `to`, even if pinned.
+    // is asked for texts of castling and promotions (for most others `legal_starts` is), and for the pawns that may
+    // take en passant. The moves from these squares are then tested one by one, so there may be more: for a king always
+    // its square, for another kind each piece that reaches `to`, even if pinned.
     fn origins(&self, kind: Kind, to: Square) -> SquareSet {
         let side = self.setup.side;
         let men = self.sets.of(side);

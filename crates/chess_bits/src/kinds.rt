@@ -25,7 +25,8 @@ pub struct Kinds {
     pub all: SquareSet,
 }
 
-// The index of a kind's set: king 0 to pawn 5.
+// The index of a kind's set: king 0 to pawn 5. Among the Zobrist keys, kinds have other indices (chess_moves'
+// `kind_index`).
 fn number(kind: Kind) -> usize
     ensures value { result ≡ kind_number kind }
     ensures in_range { result < 6 }

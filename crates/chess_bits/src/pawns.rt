@@ -109,9 +109,9 @@ impl Bits<'_> {
     }
 
     // The squares of the pawns of the side on move that can go to `to`, straight ahead or by a capture (en passant
-    // too), even if that leaves their king attacked. `legal_pawn_starts` and `origins` begin with them, for pawns' moves
-    // in SAN, promotions too, and for the test whether a pawn may take en passant. With a test of each pawn of the file,
-    // and of each that attacks `to`, texts such as exd5 were 12 % slower to read.
+    // too), even if that leaves their king attacked. `legal_pawn_starts` and `origins` begin with them, for the texts
+    // of pawns' moves, promotions too, and for the test whether a pawn may take en passant. With a test of each pawn of
+    // the file, and of each that attacks `to`, texts such as exd5 were 12 % slower to read.
     #[inline(always)]
     pub(crate) fn pawns_to(&self, to: Square) -> SquareSet
         ensures { (k : ℕ) → k < 64 → contains result k ≡ (is_man (self.now).side Pawn (man_at (self.now).men k)

@@ -63,8 +63,8 @@ impl Sets {
         self.white.all.union(self.black.all)
     }
 
-    // Removes the piece `man` from `square`: from its colour's sets, and its key from the hash `men_hash`. `keys` are the
-    // Zobrist keys.
+    // Removes the piece `man` from `square`: from its colour's sets, and its key from the hash `men_hash`. `keys` are
+    // the Zobrist keys.
     #[inline(always)]
     fn lift(&mut self, keys: &KeyTable, square: Square, man: Man)
         ensures { (men : Men) → length men ≡ 64 → man_at men square ≡ Some man → IsSets self.old men

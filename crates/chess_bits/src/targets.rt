@@ -58,7 +58,12 @@ impl Bits<'_> {
     // with the rook on `rook`, and the move's end square is that of this castling (the king's end square in normal
     // chess, `rook` in Chess960). In normal chess that gives the squares at once; `castle_of` would find the castling
     // side again, and chess_base's `castle_from`, which gives the squares for a known side, is private there.
-    fn castle_with_rook(&self, m: &Move, castling_side: CastlingSide, rook: Square) -> Option<Castle>
+    fn castle_with_rook(
+        &self,
+        m: &Move,
+        castling_side: CastlingSide,
+        rook: Square,
+    ) -> Option<Castle>
         requires right { right_of (self.now).rights (self.now).side castling_side ≡ Some rook }
         requires end { m.now.to ≡ castling_end (self.now).variant (self.now).side castling_side rook }
         requires none { m.now.promotion ≡ None }
@@ -145,7 +150,9 @@ impl Bits<'_> {
             return SquareSet::empty();
         };
         if is_king(man.kind) {
-            return self.castling_ends(from).union(self.targets_by_attack(Kind::King, from));
+            return self
+                .castling_ends(from)
+                .union(self.targets_by_attack(Kind::King, from));
         }
         self.targets_by_attack(man.kind, from)
     }
