@@ -1,15 +1,12 @@
 -- Where a colour has one king, the attacks on his square decide whether it is in check.
 use Rattle.std.proofs.Common.{◌≡◌, ℕ, ◌<◌, ◌≤◌, ◌-◌, None, length, true, false, ◌&&◌, sym, ap, ◌∙◌, arith}
-use Rattle.std.specs.List.{position_or_len}
-use Rattle.std.proofs.lemmas.Grind.{common_steps}
-use Rattle.std.proofs.lemmas.List.Sums.{fails_before_first}
 use Rattle.chess_base.specs.declared.man.Colour.{Colour}
-use Rattle.chess_base.specs.declared.man.Colour.TheVariants.{Black}
+use Rattle.chess_base.specs.declared.man.Colour.TheVariants.{White, Black}
 use Rattle.chess_base.specs.declared.man.Kind.TheVariants.{King}
 use Rattle.chess_base.specs.Men.{Men, man_at, is_man, other}
 use Rattle.chess_base.specs.Attacks.{is_attacked, is_in_check}
 use Rattle.chess_base.specs.Sound.{has_one_king}
-use Rattle.chess_base.specs.Castling.{king_square}
+use Rattle.chess_base.specs.ties.Lines.{square_from_side}
 use Rattle.chess_base.proofs.shared.Squares.{some_square-none, one_decides}
 use Rattle.chess_base.proofs.shared.Kings.{one_king}
 
@@ -30,14 +27,9 @@ no_check_without_king men c none =
 from_h8 : (k : ℕ) → k < 64 → 63 - (63 - k) ≡ k
 from_h8 k low = omega arith
 
--- a search from h8 back looks at each square
-pub none_from_h8 : (men : Men) → ((k : ℕ) → k < 64 → is_man Black King (man_at men (63 - k)) ≡ false)
-    → (k : ℕ) → k < 64 → is_man Black King (man_at men k) ≡ false
-none_from_h8 men h k low = rw (from_h8 k low) at (h (63 - k) (omega arith))
-
-pub king_square-none : (men : Men) (c : Colour) → length men ≡ 64 → king_square men c ≡ None → (k : ℕ) → k < 64
-    → is_man c King (man_at men k) ≡ false
-unfolding king_square
-king_square-none men c l e k low =
-    let past : length men ≤ position_or_len (λ o. is_man c King o) men = grind (arith, common_steps) in
-    fails_before_first (λ o. is_man c King o) men k None (omega (arith, past, l))
+-- a search from either side of the board looks at each square
+pub none_from_side : (men : Men) (c : Colour)
+    → ((k : ℕ) → k < 64 → is_man c King (man_at men (square_from_side c k)) ≡ false)
+    → (k : ℕ) → k < 64 → is_man c King (man_at men k) ≡ false
+none_from_side men White h k low = h k low
+none_from_side men Black h k low = rw (from_h8 k low) at (h (63 - k) (omega arith))

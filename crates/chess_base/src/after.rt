@@ -38,7 +38,7 @@ pub fn second_square_emptied(setup: &Setup, m: &Move) -> Option<Square>
     if is_en_passant(setup, m) {
         return Some(one_rank_back(setup.side, m.to));
     }
-    rook_from(&castle_of(setup, m))
+    rook_from(castle_of(setup, m))
 }
 
 /// What the move changes on the board: which pieces leave which squares, and which arrive.
@@ -47,16 +47,17 @@ pub fn steps_of(setup: &Setup, m: &Move) -> Steps
     requires { IsSound setup.now }
     ensures { result ≡ steps_of setup.now m.now }
 {
+    // The prover wants a reference here, since the value is used twice.
     let castle = &castle_of(setup, m);
     Steps {
         from: m.from,
         second_from: second_square_emptied(setup, m),
-        second_to: rook_to(castle),
+        second_to: rook_to(*castle),
         second: Some(Man {
             colour: setup.side,
             kind: Kind::Rook,
         }),
-        to: mover_to(m, castle),
+        to: mover_to(m, *castle),
         mover: arriving_man(setup.men[m.from.index()], m.promotion),
     }
 }

@@ -150,10 +150,10 @@ fn returning_square(
     colour: Colour,
     m: &Move,
     saved: &Saved,
-    castle: &Option<Castle>,
+    castle: Option<Castle>,
 ) -> Option<Square>
     requires { IsTrue (is_square saved.now.target m.now.to) → one_rank_back colour m.now.to < 64 }
-    ensures { result ≡ returning_square colour m.now saved.now castle.now }
+    ensures { result ≡ returning_square colour m.now saved.now castle }
 {
     match castle {
         None => captured_from(colour, m, saved),
@@ -163,8 +163,8 @@ fn returning_square(
 
 // The second piece that returns, apart from the mover, when a move of this colour is taken back: the castling rook, if
 // the move was castling (`castle`), otherwise the captured piece; `None` if there is no such piece.
-fn returning_man(colour: Colour, saved: &Saved, castle: &Option<Castle>) -> Option<Man>
-    ensures { result ≡ returning_man colour saved.now castle.now }
+fn returning_man(colour: Colour, saved: &Saved, castle: Option<Castle>) -> Option<Man>
+    ensures { result ≡ returning_man colour saved.now castle }
 {
     match castle {
         None => saved.captured,
@@ -187,13 +187,14 @@ pub fn steps_back(setup: &Setup, m: &Move, saved: &Saved) -> Steps
     ensures { result ≡ steps_back setup.now m.now saved.now }
 {
     let colour = setup.side.other();
+    // The prover wants a reference here, since the value is used four times.
     let castle = &castling_undone(setup, m, saved);
-    let from = mover_to(m, castle);
+    let from = mover_to(m, *castle);
     Steps {
         from,
-        second_from: rook_to(castle),
-        second_to: returning_square(colour, m, saved, castle),
-        second: returning_man(colour, saved, castle),
+        second_from: rook_to(*castle),
+        second_to: returning_square(colour, m, saved, *castle),
+        second: returning_man(colour, saved, *castle),
         to: m.from,
         mover: leaving_man(setup.men[from.index()], m.promotion),
     }

@@ -84,7 +84,7 @@ pub fn right_of(rights: Rights, colour: Colour, castling_side: CastlingSide) -> 
 }
 
 // The index of this colour's king in the list of pieces, which is the number of its square: of several kings the first;
-// none if it has no king.
+// none if it has no king. It is apart from `king_square` for the prover, which wants the search alone.
 #[tactic(auto, unfolding(crate::specs::Castling::king_square))]
 fn king_index(men: &[Option<Man>; 64], colour: Colour) -> Option<usize>
     ensures value { result ≡ king_square men.now colour }
@@ -267,8 +267,8 @@ pub fn castle_of(setup: &Setup, m: &Move) -> Option<Castle>
 
 // The square on which the moving piece ends: the move's end square, or the king's end square if the move is castling
 // (`castle`).
-pub(crate) fn mover_to(m: &Move, castle: &Option<Castle>) -> Square
-    ensures { result ≡ mover_to m.now castle.now }
+pub(crate) fn mover_to(m: &Move, castle: Option<Castle>) -> Square
+    ensures { result ≡ mover_to m.now castle }
 {
     match castle {
         None => m.to,
@@ -277,8 +277,8 @@ pub(crate) fn mover_to(m: &Move, castle: &Option<Castle>) -> Square
 }
 
 // The castling rook's square before the castling; none if there is no castling.
-pub(crate) fn rook_from(castle: &Option<Castle>) -> Option<Square>
-    ensures { result ≡ rook_from castle.now }
+pub(crate) fn rook_from(castle: Option<Castle>) -> Option<Square>
+    ensures { result ≡ rook_from castle }
 {
     match castle {
         None => None,
@@ -287,8 +287,8 @@ pub(crate) fn rook_from(castle: &Option<Castle>) -> Option<Square>
 }
 
 // The castling rook's square after the castling; none if there is no castling.
-pub(crate) fn rook_to(castle: &Option<Castle>) -> Option<Square>
-    ensures { result ≡ rook_to castle.now }
+pub(crate) fn rook_to(castle: Option<Castle>) -> Option<Square>
+    ensures { result ≡ rook_to castle }
 {
     match castle {
         None => None,
@@ -302,7 +302,7 @@ pub(crate) fn rook_to(castle: &Option<Castle>) -> Option<Square>
 pub fn mover_end(setup: &Setup, m: &Move) -> Square
     ensures { result ≡ mover_end setup.now m.now }
 {
-    mover_to(m, &castle_of(setup, m))
+    mover_to(m, castle_of(setup, m))
 }
 
 /// The square on which the castling rook ends, as `f1` for `e1g1`; none if the move is not castling.
@@ -310,7 +310,7 @@ pub fn mover_end(setup: &Setup, m: &Move) -> Square
 pub fn castling_rook_to(setup: &Setup, m: &Move) -> Option<Square>
     ensures { result ≡ castling_rook_to setup.now m.now }
 {
-    rook_to(&castle_of(setup, m))
+    rook_to(castle_of(setup, m))
 }
 
 // Whether x is a or b, or lies strictly between them.

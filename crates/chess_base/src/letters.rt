@@ -73,25 +73,8 @@ impl Kind {
     pub fn from_small_letter(byte: u8) -> Option<Self>
         ensures { result ≡ kind_with_small_letter byte }
     {
-        match byte {
-            b'p' => Some(Kind::Pawn),
-            b'n' => Some(Kind::Knight),
-            b'b' => Some(Kind::Bishop),
-            b'r' => Some(Kind::Rook),
-            b'q' => Some(Kind::Queen),
-            b'k' => Some(Kind::King),
-            _ => None,
-        }
+        Kind::from_letter(byte.checked_sub(b'a' - b'A')?)
     }
-}
-
-// A piece of this colour and kind.
-#[inline(always)]
-fn man(colour: Colour, kind: Kind) -> Man
-    ensures colour { result.colour ≡ colour }
-    ensures kind { result.kind ≡ kind }
-{
-    Man { colour, kind }
 }
 
 impl Man {
@@ -121,20 +104,16 @@ impl Man {
     pub fn from_letter(byte: u8) -> Option<Self>
         ensures { result ≡ man_with_letter byte }
     {
-        match byte {
-            b'P' => Some(man(Colour::White, Kind::Pawn)),
-            b'N' => Some(man(Colour::White, Kind::Knight)),
-            b'B' => Some(man(Colour::White, Kind::Bishop)),
-            b'R' => Some(man(Colour::White, Kind::Rook)),
-            b'Q' => Some(man(Colour::White, Kind::Queen)),
-            b'K' => Some(man(Colour::White, Kind::King)),
-            b'p' => Some(man(Colour::Black, Kind::Pawn)),
-            b'n' => Some(man(Colour::Black, Kind::Knight)),
-            b'b' => Some(man(Colour::Black, Kind::Bishop)),
-            b'r' => Some(man(Colour::Black, Kind::Rook)),
-            b'q' => Some(man(Colour::Black, Kind::Queen)),
-            b'k' => Some(man(Colour::Black, Kind::King)),
-            _ => None,
+        if let Some(kind) = Kind::from_letter(byte) {
+            return Some(Man {
+                colour: Colour::White,
+                kind,
+            });
         }
+        let kind = Kind::from_small_letter(byte)?;
+        Some(Man {
+            colour: Colour::Black,
+            kind,
+        })
     }
 }

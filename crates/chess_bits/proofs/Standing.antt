@@ -38,13 +38,13 @@ no_kinds e c men empty none = record {
 
 pub no_sets : (s : Sets) (men : Men) → ((k : ℕ) → k < 64 → man_at men k ≡ None) → IsKinds s.white.sets White men
     → IsKinds s.black.sets Black men
-    → ((k : ℕ) → contains s.white.all k ≡ false) → ((k : ℕ) → contains s.black.all k ≡ false) → s.men_word ≡ 0 → IsSets s men
+    → ((k : ℕ) → contains s.white.all k ≡ false) → ((k : ℕ) → contains s.black.all k ≡ false) → s.men_hash ≡ 0 → IsSets s men
 no_sets s men none white black all_white all_black word = record {
   of_white = white;
   of_black = black;
   all_white = λ k low. all_white k ∙ sym (is_of-none White (man_at men k) (ap (λ o. is_none o) (none k low)));
   all_black = λ k low. all_black k ∙ sym (is_of-none Black (man_at men k) (ap (λ o. is_none o) (none k low)));
-  men_word = word ∙ ap (λ ns. xor_of ns) (sym (no_men_keys men none));
+  men_hash = word ∙ ap (λ ns. xor_of ns) (sym (no_men_keys men none));
 }
 
 -- ---- all

@@ -16,8 +16,8 @@ use std::alloc::{AllocError, Global};
 
 /// The squares strictly between each two squares of one line (rank, file or diagonal): for c1 and f4 these are d2 and
 /// e3. The set for the squares with the numbers a and b is at index 64 a + b. `Kinds::attackers` looks it up for each
-/// queen, rook or bishop on a line of the attacked square. When it was computed from the rays each time, the workload
-/// boards took 11 % longer.
+/// queen, rook or bishop that would attack the square in question on an empty board. When it was computed from the rays
+/// each time, the workload boards took 11 % longer.
 #[derive(Drop)]
 pub struct BetweenTable {
     sets: Vec<SquareSet>,

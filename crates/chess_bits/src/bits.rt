@@ -119,9 +119,10 @@ impl Board for Bits<'_> {
         self.is_legal_by_kind(m)
     }
 
-    // A set with at least the start square of each legal move to `to` by a piece of this kind, of the side on move. A
-    // move's text is read by trying the moves from these squares, so there may be more: for a king always its square,
-    // for another kind each piece that reaches `to`, even if pinned.
+    // A set with at least the start square of each legal move to `to` by a piece of this kind, of the side on move. It
+    // is asked for texts of castling and promotions (for most others `legal_starts` is), and for the pawns that may
+    // take en passant. The moves from these squares are then tested one by one, so there may be more: for a king always
+    // its square, for another kind each piece that reaches `to`, even if pinned.
     fn origins(&self, kind: Kind, to: Square) -> SquareSet {
         let side = self.setup.side;
         let men = self.sets.of(side);
@@ -156,11 +157,11 @@ impl Board for Bits<'_> {
         self.is_attacked(king, side.other())
     }
 
-    // The position's Zobrist hash: `men_word`, the pieces' part, which each move keeps up to date, combined with the
+    // The position's Zobrist hash: `men_hash`, the pieces' part, which each move keeps up to date, combined with the
     // keys of the side on move and of the castling rights.
     #[inline(always)]
     fn word(&self) -> u64 {
-        hash_with(self.tables.keys(), self.sets.men_word, &self.setup)
+        hash_with(self.tables.keys(), self.sets.men_hash, &self.setup)
     }
 
     // Makes a legal move on this board, in place, and returns what `take_back` needs to take it back.

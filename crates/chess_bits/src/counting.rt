@@ -66,7 +66,7 @@ impl Bits<'_> {
         // The prover wants these facts: the start's number is below 64, and the king is on one square only.
         let _start = from.number();
         let _king = self.king(self.setup.side);
-        self.steps(kind, from).len()
+        self.targets_by_attack(kind, from).len()
     }
 
     // How many legal moves the pieces on the squares `men` have. They are all of this kind (neither king nor pawn) and
@@ -143,8 +143,9 @@ impl Bits<'_> {
     }
 
     // How many legal moves there are. First come the ordinary pieces (their king is safe wherever they go, and they are
-    // no pawns that may promote or take en passant), counted kind by kind without a test of each move. Then come the
-    // others one by one: the king, the remaining pawns, and pieces that are pinned, or in check all pieces.
+    // no pawns that may promote or take en passant), counted kind by kind without a test of each move. Each call of
+    // `count_kind` takes the pieces that it counts out of `men`, so the others are left there. They come one by one:
+    // the king, the remaining pawns, and pieces that are pinned, or in check all pieces.
     pub(crate) fn count(&self) -> usize
         ensures { result ≡ length (moves self.now) }
     {

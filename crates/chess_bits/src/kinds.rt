@@ -25,7 +25,8 @@ pub struct Kinds {
     pub all: SquareSet,
 }
 
-// The index of a kind's set: king 0 to pawn 5.
+// The index of a kind's set: king 0 to pawn 5. Among the Zobrist keys, kinds have other indices (chess_moves'
+// `kind_index`).
 fn number(kind: Kind) -> usize
     ensures value { result ≡ kind_number kind }
     ensures in_range { result < 6 }
@@ -41,7 +42,8 @@ fn number(kind: Kind) -> usize
 }
 
 impl Kinds {
-    /// The sets of a colour that has no pieces.
+    /// The sets of a colour that has no pieces: all of them empty. The contract says it for a board with no pieces at
+    /// all, from which a board is set up.
     #[tactic(auto, using(crate::proofs::Standing::no_kinds))]
     pub fn empty() -> Kinds
         ensures kinds { (c : Side) → (men : Men) → ((k : ℕ) → k < 64 → man_at men k ≡ None)

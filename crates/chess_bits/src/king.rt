@@ -111,7 +111,7 @@ impl Bits<'_> {
     {
         // The prover wants this fact: the number of the king's square is below 64.
         let _start = king.number();
-        let steps = self.steps(Kind::King, king);
+        let steps = self.targets_by_attack(Kind::King, king);
         let safe = filter(steps, |to| self.is_safe_step(king, to));
         self.castling_ends(king).union(safe)
     }

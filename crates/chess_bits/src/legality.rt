@@ -61,7 +61,7 @@ impl Bits<'_> {
         if m.promotion.is_some() {
             return false;
         }
-        if !self.steps(kind, m.from).contains(m.to) {
+        if !self.targets_by_attack(kind, m.from).contains(m.to) {
             return false;
         }
         self.is_safe_plain(m.from, m.to)
@@ -152,7 +152,7 @@ impl Bits<'_> {
         // The prover wants these facts: the numbers of both squares are below 64.
         let _start = king.number();
         let _end = to.number();
-        if self.steps(Kind::King, king).contains(to) {
+        if self.targets_by_attack(Kind::King, king).contains(to) {
             return self.is_safe_step(king, to);
         }
         self.castling_ends(king).contains(to)

@@ -17,7 +17,8 @@ use chess_base::{Kind, Move, Square};
 use chess_moves::{MoveList, SquareSet};
 
 // Appends to `list` a move from `from` to `to` for each of `promotions` (`None`: a move without a promotion). The
-// caller knows that the list, which can hold 896 moves, has room for them.
+// caller knows that all are legal (chess_moves' function of this name tests each), and that the list, which can hold
+// 896 moves, has room for them.
 fn add_moves_with(from: Square, to: Square, promotions: &[Option<Kind>], list: &mut MoveList)
     requires { array_vec_len list.old + length promotions.now ≤ 896 }
     ensures { list.new.items ≡ list.old.items ++ map (move_of from to) promotions.now }
@@ -71,10 +72,11 @@ impl Bits<'_> {
         }
     }
 
-    // Appends to `list` the legal moves of the piece on `from`. It is free (its king is safe wherever it goes), and no
-    // pawn that may promote or take en passant, so each of its end squares gives one move, which needs no test.
+    // Appends to `list` the legal moves of the piece on `from`, which is ordinary: it is free (its king is safe
+    // wherever it goes), and no pawn that may promote or take en passant. So each of its end squares gives one move,
+    // which needs no test.
     fn add_ordinary_moves(&self, from: Square, list: &mut MoveList)
-        requires free { GoesFreely self.now from }
+        requires ordinary { GoesFreely self.now from }
         requires room { array_vec_len list.old + length (moves_from self.now from) ≤ 896 }
         ensures { list.new.items ≡ list.old.items ++ moves_from self.now from }
     {

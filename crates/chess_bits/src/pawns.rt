@@ -2,16 +2,19 @@
 
 ghost use Rattle.std.specs.Prelude.{◌≡◌, ◌+◌, ◌-◌, ◌≤◌, ◌<◌, ◌==◌, ◌&&◌, ◌||◌, not, ℕ, true, false, None, length};
 ghost use Rattle.std.specs.List.{flat_map};
-ghost use Rattle.chess_base.specs.Men.{forward, is_man, man_at};
+ghost use Rattle.chess_base.specs.Men.{forward, is_man, is_of, man_at, other};
 ghost use Rattle.chess_base.specs.MoveList.{move_of};
 ghost use Rattle.chess_base.specs.Moves.{pawn_advances, pawn_captures};
-ghost use Rattle.chess_base.specs.Squares.{file};
+ghost use Rattle.chess_base.specs.Squares.{file, is_square};
 ghost use Rattle.chess_base.specs.declared.man.Kind.TheVariants.{Pawn};
+ghost use Rattle.chess_bits.specs.declared.table.Shape.TheVariants.{Pawn as PawnAttack};
 ghost use Rattle.chess_bits.specs.ties.Goes.{AreFree, GoesFreely, IsAhead, IsFree, goes_specially};
+ghost use Rattle.chess_bits.specs.ties.Shapes.{in_shape};
 ghost use Rattle.chess_moves.specs.shared.MovesBySquares.{moves_from};
 ghost use Rattle.chess_moves.specs.Sets.{contains, members};
 
 use crate::bits::Bits;
+use crate::king::set_of;
 use crate::table::Shape;
 use chess_base::rules::pawn_rank;
 use chess_base::{Colour, Kind, Square};
@@ -68,7 +71,7 @@ impl Bits<'_> {
     // `to` is occupied. For White and e4 these are e3, and also e2 if e3 is empty. Whether pawns are on these squares
     // is not asked here; `pawns_to` asks that.
     #[inline(always)]
-    pub(crate) fn advance_starts(&self, to: Square) -> SquareSet
+    fn advance_starts(&self, to: Square) -> SquareSet
         ensures { (k : ℕ) → k < 64 → is_man (self.now).side Pawn (man_at (self.now).men k) ≡ true
             → contains result k ≡ pawn_advances self.now (move_of k to None) }
     {
@@ -86,9 +89,29 @@ impl Bits<'_> {
         once.union(twice.intersection(home))
     }
 
+    // The squares from which a pawn of the side on move could capture on `to`; none if `to` neither holds an enemy
+    // piece nor is the en passant target. An enemy pawn on `to` would attack just these squares: for White and d5, c4
+    // and e4. Whether pawns are on them is not asked here; `pawns_to` asks that.
+    #[inline(always)]
+    fn capture_starts(&self, to: Square) -> SquareSet
+        ensures { (k : ℕ) → k < 64
+            → contains result k ≡ ((is_of (other (self.now).side) (man_at (self.now).men to)
+            || is_square (self.now).target to) && in_shape (PawnAttack (other (self.now).side)) to k) }
+    {
+        // The prover wants this fact: the number of the end is below 64.
+        let _end = to.number();
+        let theirs = self.setup.side.other();
+        let aims = self.sets.all(theirs).union(set_of(self.setup.target));
+        if !aims.contains(to) {
+            return SquareSet::empty();
+        }
+        self.tables.at(Shape::Pawn(theirs), to)
+    }
+
     // The squares of the pawns of the side on move that can go to `to`, straight ahead or by a capture (en passant
-    // too), even if that leaves their king attacked. It serves to read pawns' moves in SAN, such as exd5. With a test
-    // of each pawn of the file, and of each that attacks `to`, such texts were 12 % slower to read.
+    // too), even if that leaves their king attacked. `legal_pawn_starts` and `origins` begin with them, for the texts
+    // of pawns' moves, promotions too, and for the test whether a pawn may take en passant. With a test of each pawn of
+    // the file, and of each that attacks `to`, texts such as exd5 were 12 % slower to read.
     #[inline(always)]
     pub(crate) fn pawns_to(&self, to: Square) -> SquareSet
         ensures { (k : ℕ) → k < 64 → contains result k ≡ (is_man (self.now).side Pawn (man_at (self.now).men k)

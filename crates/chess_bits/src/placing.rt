@@ -76,10 +76,11 @@ impl Sets {
     }
 }
 
-// Changes the pieces by the steps of a move, or of taking one back, both in the list of pieces and in the sets. Both
-// pieces leave before one arrives, since in Chess960 a castling king and rook may change places. The second piece is
-// the castling rook, a pawn taken en passant (it only leaves) or, when a move is taken back, the captured piece (it
-// only arrives). `keys` are the Zobrist keys, with which the hash in `sets` is kept up to date.
+// Changes the pieces by the steps of a move, or of taking one back, both in the list of pieces and in the sets.
+// (chess_base's `take_steps` changes a list alone.) Both pieces leave before one arrives, since in Chess960 a castling
+// king and rook may change places. The second piece is the castling rook, a pawn taken en passant (it only leaves) or,
+// when a move is taken back, the captured piece (it only arrives). `keys` are the Zobrist keys, with which the hash in
+// `sets` is kept up to date.
 fn take_steps(men: &mut [Option<Man>; 64], sets: &mut Sets, keys: &KeyTable, steps: &Steps)
     ensures men { men.new ≡ men_stepped men.old steps.now }
     ensures sets { IsSets sets.old men.old → IsSets sets.new men.new }

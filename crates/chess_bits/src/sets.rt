@@ -12,14 +12,14 @@ use crate::kinds::Kinds;
 use chess_base::{Colour, Man, Square};
 use chess_moves::{SquareSet, man_key};
 
-/// The pieces of both colours as sets of squares; and `men_word`, their part of the position's hash: the exclusive or
+/// The pieces of both colours as sets of squares; and `men_hash`, their part of the position's hash: the exclusive or
 /// of one Zobrist key for each piece on its square. In contracts `IsSets sets men` says that these are the sets and the
 /// hash of the pieces in the list `men`; `slice_set men square x` is that list with x on the square.
 #[derive(Clone, Copy)]
 pub struct Sets {
     pub white: Kinds,
     pub black: Kinds,
-    pub men_word: u64,
+    pub men_hash: u64,
 }
 
 impl Sets {
@@ -31,7 +31,7 @@ impl Sets {
         Sets {
             white: Kinds::empty(),
             black: Kinds::empty(),
-            men_word: 0,
+            men_hash: 0,
         }
     }
 
@@ -63,14 +63,14 @@ impl Sets {
         self.white.all.union(self.black.all)
     }
 
-    // Removes the piece `man` from `square`: from its colour's sets, and its key from the hash `men_word`. `keys` are the
-    // Zobrist keys.
+    // Removes the piece `man` from `square`: from its colour's sets, and its key from the hash `men_hash`. `keys` are
+    // the Zobrist keys.
     #[inline(always)]
     fn lift(&mut self, keys: &KeyTable, square: Square, man: Man)
         ensures { (men : Men) → length men ≡ 64 → man_at men square ≡ Some man → IsSets self.old men
             → IsSets self.new (slice_set men square None) }
     {
-        self.men_word ^= man_key(keys, man, square);
+        self.men_hash ^= man_key(keys, man, square);
         match man.colour {
             Colour::White => self.white.lift(man.kind, square),
             Colour::Black => self.black.lift(man.kind, square),
@@ -78,13 +78,13 @@ impl Sets {
     }
 
     // Adds the piece `man` on `square`, which is empty: to its colour's sets, and its Zobrist key (one of `keys`) to
-    // the hash `men_word`.
+    // the hash `men_hash`.
     #[inline(always)]
     fn put(&mut self, keys: &KeyTable, square: Square, man: Man)
         ensures { (men : Men) → length men ≡ 64 → man_at men square ≡ None → IsSets self.old men
             → IsSets self.new (slice_set men square (Some man)) }
     {
-        self.men_word ^= man_key(keys, man, square);
+        self.men_hash ^= man_key(keys, man, square);
         match man.colour {
             Colour::White => self.white.put(man.kind, square),
             Colour::Black => self.black.put(man.kind, square),
@@ -92,7 +92,7 @@ impl Sets {
     }
 
     /// Moves the piece `man` from one square to another, which is empty: a captured piece has been cleared away before.
-    /// `keys` are the Zobrist keys, with which the hash `men_word` is kept up to date.
+    /// `keys` are the Zobrist keys, with which the hash `men_hash` is kept up to date.
     #[inline(always)]
     pub fn shift(&mut self, keys: &KeyTable, man: Man, from: Square, to: Square)
         ensures { (men : Men) → length men ≡ 64 → man_at men from ≡ Some man → man_at men to ≡ None
@@ -100,21 +100,21 @@ impl Sets {
     {
         // The old key is taken out before the sets change, and the new one is put in after that, once for each colour.
         // With both in one place, the compiler made a branch on the piece's kind.
-        self.men_word ^= man_key(keys, man, from);
+        self.men_hash ^= man_key(keys, man, from);
         match man.colour {
             Colour::White => {
                 self.white.shift(man.kind, from, to);
-                self.men_word ^= man_key(keys, man, to);
+                self.men_hash ^= man_key(keys, man, to);
             }
             Colour::Black => {
                 self.black.shift(man.kind, from, to);
-                self.men_word ^= man_key(keys, man, to);
+                self.men_hash ^= man_key(keys, man, to);
             }
         }
     }
 
     /// Empties `square`. Its content is `old`, a piece or nothing (`None`). `keys` are the Zobrist keys, with which the
-    /// hash `men_word` is kept up to date.
+    /// hash `men_hash` is kept up to date.
     #[inline(always)]
     pub fn clear(&mut self, keys: &KeyTable, square: Square, old: Option<Man>)
         ensures { (men : Men) → length men ≡ 64 → man_at men square ≡ old → IsSets self.old men
@@ -126,7 +126,7 @@ impl Sets {
     }
 
     /// Puts `new`, a piece or nothing (`None`), on `square`, which is empty. `keys` are the Zobrist keys, with which
-    /// the hash `men_word` is kept up to date.
+    /// the hash `men_hash` is kept up to date.
     #[inline(always)]
     pub fn fill(&mut self, keys: &KeyTable, square: Square, new: Option<Man>)
         ensures { (men : Men) → length men ≡ 64 → man_at men square ≡ None → IsSets self.old men
@@ -138,7 +138,7 @@ impl Sets {
     }
 
     /// Replaces `old`, the content of `square`, by `new`; each is a piece or nothing (`None`). `keys` are the Zobrist
-    /// keys, with which the hash `men_word` is kept up to date.
+    /// keys, with which the hash `men_hash` is kept up to date.
     #[inline(always)]
     pub fn write(&mut self, keys: &KeyTable, square: Square, old: Option<Man>, new: Option<Man>)
         ensures { (men : Men) → length men ≡ 64 → man_at men square ≡ old → IsSets self.old men

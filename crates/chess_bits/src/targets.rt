@@ -3,15 +3,12 @@
 
 ghost use Rattle.std.specs.Prelude.{◌≡◌, ◌<◌, ℕ, ◌&&◌, ◌||◌, not, true, false, Some, None};
 ghost use Rattle.chess_base.specs.Attacks.{could_capture};
-ghost use Rattle.chess_base.specs.Squares.{is_square};
-ghost use Rattle.chess_base.specs.Men.{man_at, other, is_of, is_man, same_kind};
+ghost use Rattle.chess_base.specs.Men.{man_at, is_of, is_man, same_kind};
 ghost use Rattle.chess_base.specs.MoveList.{move_of};
 ghost use Rattle.chess_base.specs.Moves.{is_legal, pawn_advances, pawn_captures};
 ghost use Rattle.chess_base.specs.declared.man.Kind.TheVariants.{King, Pawn};
 ghost use Rattle.chess_base.specs.Castling.{right_of, castled_rook_file, castle_of};
 ghost use Rattle.chess_bits.specs.ties.Goes.{goes, castling_end, castles_onto, legal_or, man_goes};
-ghost use Rattle.chess_bits.specs.declared.table.Shape.TheVariants.{Pawn as PawnAttack};
-ghost use Rattle.chess_bits.specs.ties.Shapes.{in_shape};
 ghost use Rattle.chess_moves.specs.Sets.{contains};
 
 use crate::bits::Bits;
@@ -46,7 +43,7 @@ impl Bits<'_> {
     // pieces. For queen, rook, bishop and knight these are the end squares of its pseudo-legal moves, for the king all
     // but castling.
     #[inline(always)]
-    pub(crate) fn steps(&self, kind: Kind, from: Square) -> SquareSet
+    pub(crate) fn targets_by_attack(&self, kind: Kind, from: Square) -> SquareSet
         ensures { (k : ℕ) → k < 64
             → contains result k ≡ (could_capture (self.now).men (self.now).side kind from k
             && not (is_of (self.now).side (man_at (self.now).men k))) }
@@ -58,10 +55,15 @@ impl Bits<'_> {
 
     // The four squares of the castling that the move `m` is: start and end of king and rook. `None` if the piece on its
     // start is not the king of the side on move. The caller knows the rest: the right to castle to this side is there,
-    // with the rook on `rook`, and `m` ends where such a castling does. In normal chess that gives the squares at once;
-    // `castle_of` would find the castling side again, and chess_base's `castle_from`, which gives the squares for a
-    // known side, is private there.
-    fn castle_to(&self, m: &Move, castling_side: CastlingSide, rook: Square) -> Option<Castle>
+    // with the rook on `rook`, and the move's end square is that of this castling (the king's end square in normal
+    // chess, `rook` in Chess960). In normal chess that gives the squares at once; `castle_of` would find the castling
+    // side again, and chess_base's `castle_from`, which gives the squares for a known side, is private there.
+    fn castle_with_rook(
+        &self,
+        m: &Move,
+        castling_side: CastlingSide,
+        rook: Square,
+    ) -> Option<Castle>
         requires right { right_of (self.now).rights (self.now).side castling_side ≡ Some rook }
         requires end { m.now.to ≡ castling_end (self.now).variant (self.now).side castling_side rook }
         requires none { m.now.promotion ≡ None }
@@ -84,11 +86,12 @@ impl Bits<'_> {
         }
     }
 
-    // The end square of castling to this side with the king on `king`, as a set; the empty set if that castling is not
-    // legal. The right to it is there, with the rook on `rook`. Most positions of a game have no such right, so only
-    // the test for the right (`legal_castling_end`) is inlined, and this is not.
+    // The end square of the move that castles to this side with the king on `king`, as a set; the empty set if that
+    // move is not legal. The right to it is there, with the rook on `rook`. In normal chess this is the square where
+    // the king arrives, in Chess960 `rook`. Most positions of a game have no such right, so only the test for the right
+    // (`legal_castling_end`) is inlined, and this is not.
     #[inline(never)]
-    fn legal_castling_end_with(
+    fn legal_castling_end_with_rook(
         &self,
         king: Square,
         castling_side: CastlingSide,
@@ -107,14 +110,14 @@ impl Bits<'_> {
             to,
             promotion: None,
         };
-        let Some(castle) = self.castle_to(&m, castling_side, rook) else {
+        let Some(castle) = self.castle_with_rook(&m, castling_side, rook) else {
             return SquareSet::empty();
         };
         single_if(self.castles_legally(&m, &castle), to)
     }
 
-    // The end square of castling to this side with the king on `king`, as a set; the empty set if that castling is not
-    // legal, such as without the right to it.
+    // The end square of the move that castles to this side with the king on `king`, as a set; the empty set if that
+    // move is not legal, such as without the right to it.
     #[inline(always)]
     fn legal_castling_end(&self, king: Square, castling_side: CastlingSide) -> SquareSet
         ensures { (k : ℕ) → k < 64 → contains result k ≡ castles_onto self.now castling_side king k }
@@ -122,7 +125,7 @@ impl Bits<'_> {
         let Some(rook) = right_of(self.setup.rights, self.setup.side, castling_side) else {
             return SquareSet::empty();
         };
-        self.legal_castling_end_with(king, castling_side, rook)
+        self.legal_castling_end_with_rook(king, castling_side, rook)
     }
 
     // The end squares of the legal castlings of the king on `king`, none, one or two: in normal chess where the king
@@ -147,9 +150,11 @@ impl Bits<'_> {
             return SquareSet::empty();
         };
         if is_king(man.kind) {
-            return self.castling_ends(from).union(self.steps(Kind::King, from));
+            return self
+                .castling_ends(from)
+                .union(self.targets_by_attack(Kind::King, from));
         }
-        self.steps(man.kind, from)
+        self.targets_by_attack(man.kind, from)
     }
 
     // The squares to which the pawn on `from`, of the side on move, may go straight ahead: the next one if it is empty,
@@ -183,25 +188,6 @@ impl Bits<'_> {
         let taken = self.sets.all(side.other());
         let aims = taken.union(set_of(self.setup.target));
         reached.intersection(aims)
-    }
-
-    // The squares from which a pawn of the side on move could capture on `to`; none if `to` neither holds an enemy
-    // piece nor is the en passant target. An enemy pawn on `to` would attack just these squares: for White and d5, c4
-    // and e4. Whether pawns are on them is not asked here; `pawns_to` asks that.
-    #[inline(always)]
-    pub(crate) fn capture_starts(&self, to: Square) -> SquareSet
-        ensures { (k : ℕ) → k < 64
-            → contains result k ≡ ((is_of (other (self.now).side) (man_at (self.now).men to)
-            || is_square (self.now).target to) && in_shape (PawnAttack (other (self.now).side)) to k) }
-    {
-        // The prover wants this fact: the number of the end is below 64.
-        let _end = to.number();
-        let theirs = self.setup.side.other();
-        let aims = self.sets.all(theirs).union(set_of(self.setup.target));
-        if !aims.contains(to) {
-            return SquareSet::empty();
-        }
-        self.tables.at(Shape::Pawn(theirs), to)
     }
 
     // The end squares of the pseudo-legal moves of the pawn on `from`, which is of the side on move: straight ahead and

@@ -89,12 +89,12 @@ fn square_hash(square: Square, man: Option<Man>) -> u64
 fn men_hash(men: &[Option<Man>; 64]) -> u64
     ensures { result ≡ xor_of (men_keys men.now) }
 {
-    let mut word = 0;
+    let mut hash = 0;
     for number in 0..64 {
         let square = Square::new(number);
-        word ^= square_hash(square, men[square.index()]);
+        hash ^= square_hash(square, men[square.index()]);
     }
-    word
+    hash
 }
 
 // The part of the Zobrist hash of the side on move: 0 for White, a key for Black.

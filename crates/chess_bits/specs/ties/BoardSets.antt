@@ -6,11 +6,11 @@ use Rattle.chess_bits.specs.declared.sets.Sets.{Sets}
 use Rattle.chess_bits.specs.ties.KindSets.{IsAll, IsKinds}
 use Rattle.chess_moves.specs.PositionHash.{men_keys, xor_of}
 
--- the sets s are those of these pieces: of each colour by kind and together; and `men_word` is the exclusive or of
+-- the sets s are those of these pieces: of each colour by kind and together; and `men_hash` is the exclusive or of
 -- their keys
 pub record IsSets (s : Sets) (men : Men) : Type 0 where
   pub of_white : IsKinds s.white.sets White men
   pub of_black : IsKinds s.black.sets Black men
   pub all_white : IsAll s.white.all White men
   pub all_black : IsAll s.black.all Black men
-  pub men_word : s.men_word ≡ xor_of (men_keys men)
+  pub men_hash : s.men_hash ≡ xor_of (men_keys men)

@@ -64,7 +64,7 @@ abbrev pub lifted : Men → ℕ → Men
 lifted men a = with_man men (Some a) None
 
 -- a does not hold the king of the side on move, and this king is not attacked even with the piece on a taken off: so it
--- is safe wherever that piece goes, except by a capture en passant, which takes off a second piece
+-- is safe wherever that piece goes, except perhaps by a capture en passant, which takes off a second piece
 pub record IsFree (p : Setup) (a : ℕ) : Type 0 where
   pub apart : (k : ℕ) → k < 64 → is_man p.side King (man_at p.men k) ≡ true → (a == k) ≡ false
   pub safe : (k : ℕ) → k < 64 → is_man p.side King (man_at p.men k) ≡ true

@@ -40,11 +40,11 @@ rights_apart r =
     xor_append (a ++ b ++ c) d
     ∙ ap (λ x. bit_xor x (xor_of d)) (xor_append (a ++ b) c ∙ ap (λ x. bit_xor x (xor_of c)) (xor_append a b))
 
-pub word_apart : (men : Men) (side : Colour) (rights : Rights)
+pub hash_apart : (men : Men) (side : Colour) (rights : Rights)
     → position_hash men side rights
     ≡ bit_xor (bit_xor (xor_of (men_keys men)) (xor_of (side_keys side))) (xor_of (rights_keys rights))
 unfolding position_hash
-word_apart men side rights =
+hash_apart men side rights =
     let a = men_keys men in
     let b = side_keys side in
     let c = rights_keys rights in
@@ -53,16 +53,16 @@ word_apart men side rights =
 -- ---- square by square
 
 -- one turn of a loop over the squares, and its end
-pub xor_turn : (g : ℕ → List ℕ) (word k : ℕ) → word ≡ xor_of (flat_map g (numbers k))
-    → bit_xor word (xor_of (g k)) ≡ xor_of (flat_map g (numbers (k + 1)))
-xor_turn g word k e =
+pub xor_turn : (g : ℕ → List ℕ) (hash k : ℕ) → hash ≡ xor_of (flat_map g (numbers k))
+    → bit_xor hash (xor_of (g k)) ≡ xor_of (flat_map g (numbers (k + 1)))
+xor_turn g hash k e =
     ap (λ x. bit_xor x (xor_of (g k))) e ∙ sym (xor_append (flat_map g (numbers k)) (g k))
     ∙ ap (λ ns. xor_of ns) (sym (gathered-more g k)) ∙ ap (λ v. xor_of (flat_map g (numbers v))) (sym (add-one k))
 
-pub xor_end : (men : Men) (word k : ℕ) → word ≡ xor_of (flat_map (keys_on men) (numbers k)) → k ≡ 64
-    → word ≡ xor_of (men_keys men)
+pub xor_end : (men : Men) (hash k : ℕ) → hash ≡ xor_of (flat_map (keys_on men) (numbers k)) → k ≡ 64
+    → hash ≡ xor_of (men_keys men)
 unfolding men_keys squares
-xor_end men word k e all = e ∙ ap (λ v. xor_of (flat_map (keys_on men) (numbers v))) all
+xor_end men hash k e all = e ∙ ap (λ v. xor_of (flat_map (keys_on men) (numbers v))) all
 
 same_lists : (f g : ℕ → List ℕ) (n a : ℕ) → ((k : ℕ) → a ≤ k → k < a + n → g k ≡ f k)
     → flat_map g (range_with_len a n) ≡ flat_map f (range_with_len a n)
@@ -130,18 +130,18 @@ men_changed men s d o all low e =
     (omega arith))
 
 -- a piece comes to an empty square, or leaves its own: the hash changes by its key
-pub word_put : (men : Men) (s : ℕ) (x : Man) (word change : ℕ) → length men ≡ 64 → s < 64 → man_at men s ≡ None
-    → word ≡ xor_of (men_keys men) → change ≡ man_key x s
-    → bit_xor word change ≡ xor_of (men_keys (set men s (Some x)))
-word_put men s x word change all low bare e f =
+pub hash_put : (men : Men) (s : ℕ) (x : Man) (hash change : ℕ) → length men ≡ 64 → s < 64 → man_at men s ≡ None
+    → hash ≡ xor_of (men_keys men) → change ≡ man_key x s
+    → bit_xor hash change ≡ xor_of (men_keys (set men s (Some x)))
+hash_put men s x hash change all low bare e f =
     ap (λ w. bit_xor w change) e ∙ ap (λ w. bit_xor (xor_of (men_keys men)) w) f
     ∙ sym (men_changed men s (man_key x s) (Some x) all low
     (ap (λ v. bit_xor (xor_of (square_keys s v)) (man_key x s)) (sym bare)))
 
-pub word_lifted : (men : Men) (s : ℕ) (x : Man) (word change : ℕ) → length men ≡ 64 → s < 64 → man_at men s ≡ Some x
-    → word ≡ xor_of (men_keys men) → change ≡ man_key x s
-    → bit_xor word change ≡ xor_of (men_keys (set men s None))
-word_lifted men s x word change all low there e f =
+pub hash_lifted : (men : Men) (s : ℕ) (x : Man) (hash change : ℕ) → length men ≡ 64 → s < 64 → man_at men s ≡ Some x
+    → hash ≡ xor_of (men_keys men) → change ≡ man_key x s
+    → bit_xor hash change ≡ xor_of (men_keys (set men s None))
+hash_lifted men s x hash change all low there e f =
     ap (λ w. bit_xor w change) e ∙ ap (λ w. bit_xor (xor_of (men_keys men)) w) f
     ∙ sym (men_changed men s (man_key x s) None all low
     (sym (xor_self (man_key x s)) ∙ ap (λ v. bit_xor (xor_of (square_keys s v)) (man_key x s)) (sym there)))

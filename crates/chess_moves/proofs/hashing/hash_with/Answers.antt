@@ -1,9 +1,9 @@
--- The hash of all keys is that of the pieces', the side's and the rights', joined (word_apart of PositionHash).
+-- The hash of all keys is that of the pieces', the side's and the rights', joined (hash_apart of PositionHash).
 use Rattle.std.proofs.Common.{sym}
-use Rattle.chess_moves.proofs.shared.PositionHash.{word_apart}
+use Rattle.chess_moves.proofs.shared.PositionHash.{hash_apart}
 use Rattle.chess_moves.proofs.hashing.hash_with.Goals as goal
 
 pub returns : goal.returns
 returns g c =
     let p = c.args.setup.now in
-    rw (c.requires, c.side_hash.ensures, c.rights_hash.ensures) (sym (word_apart p.men p.side p.rights))
+    rw (c.requires, c.side_hash.ensures, c.rights_hash.ensures) (sym (hash_apart p.men p.side p.rights))

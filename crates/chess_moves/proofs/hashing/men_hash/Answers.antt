@@ -8,10 +8,10 @@ use Rattle.chess_moves.proofs.hashing.men_hash.Goals as goal
 pub loop-number-preserved : goal.loop-number-preserved
 loop-number-preserved c =
     let men = c.args.men.now in
-    let here : c.square_hash-word.result ≡ xor_of (keys_on men c.loop-number.number) = c.square_hash-word.ensures
+    let here : c.square_hash-hash.result ≡ xor_of (keys_on men c.loop-number.number) = c.square_hash-hash.ensures
     ∙ ap (λ (i : ℕ). xor_of (square_keys c.new-square.result (man_at men i))) c.index.ensures.value
     ∙ ap (λ (s : ℕ). xor_of (keys_on men s)) c.new-square.ensures in
-    rw here (xor_turn (keys_on men) c.loop-number.word c.loop-number.number c.loop-number.invariant)
+    rw here (xor_turn (keys_on men) c.loop-number.hash c.loop-number.number c.loop-number.invariant)
 
 pub returns : goal.returns
-returns c = xor_end c.args.men.now c.loop-number.word c.loop-number.number c.loop-number.invariant (omega arith)
+returns c = xor_end c.args.men.now c.loop-number.hash c.loop-number.number c.loop-number.invariant (omega arith)

@@ -5,4 +5,4 @@ use Rattle.chess_moves.proofs.Gathered.{numbers}
 use Rattle.chess_moves.proofs.hashing.men_hash.Given as goal
 
 abbrev pub invariant-loop-number : goal.invariant-loop-number
-invariant-loop-number l = l.word ≡ xor_of (flat_map (keys_on l.men) (numbers l.number))
+invariant-loop-number l = l.hash ≡ xor_of (flat_map (keys_on l.men) (numbers l.number))

@@ -15,8 +15,8 @@ add_moves_onto-requires c =
     let low : c.args.from < 64 = subst (λ n. n < 64) c.number-start.ensures.value c.number-start.ensures.in_range in
     let sound : IsSound p = rw (← c.self.view_is) c.self.invariant.0 in
     let alone = rw c.self.view_is at c.king-king.ensures.alone in
-    let listed = free_listed p c.args.from c.king-king.result c.targets.result sound c.requires.free.free
-    (ordinary_from p c.args.from sound low c.requires.free.ordinary) low c.king-king.ensures.in_range alone
+    let listed = free_listed p c.args.from c.king-king.result c.targets.result sound c.requires.ordinary.free
+    (ordinary_from p c.args.from sound low c.requires.ordinary.ordinary) low c.king-king.ensures.in_range alone
     c.targets.ensures.sound c.targets.ensures.complete in
     omega (arith, ap length listed ∙ length-map (members c.targets.result) (λ b. move_of c.args.from b None), c.requires.room)
 
@@ -28,6 +28,6 @@ returns c =
     let alone = rw c.self.view_is at c.king-king.ensures.alone in
     c.add_moves_onto.ensures
     ∙ ap (λ (ms : List Move). c.args.list.now.items ++ ms)
-    (sym (free_listed p c.args.from c.king-king.result c.targets.result sound c.requires.free.free
-    (ordinary_from p c.args.from sound low c.requires.free.ordinary) low c.king-king.ensures.in_range alone
+    (sym (free_listed p c.args.from c.king-king.result c.targets.result sound c.requires.ordinary.free
+    (ordinary_from p c.args.from sound low c.requires.ordinary.ordinary) low c.king-king.ensures.in_range alone
     c.targets.ensures.sound c.targets.ensures.complete))

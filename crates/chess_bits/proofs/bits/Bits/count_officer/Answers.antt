@@ -12,5 +12,5 @@ returns c =
     let sound : IsSound p = rw (← c.self.view_is) c.self.invariant.0 in
     let alone = rw c.self.view_is at c.king-king.ensures.alone in
     c.len.ensures
-    ∙ officer_counted p c.args.from c.king-king.result c.steps.result c.args.kind sound c.requires.free
-    c.requires.officer c.requires.kind low c.king-king.ensures.in_range alone c.steps.ensures
+    ∙ officer_counted p c.args.from c.king-king.result c.targets_by_attack.result c.args.kind sound c.requires.free
+    c.requires.officer c.requires.kind low c.king-king.ensures.in_range alone c.targets_by_attack.ensures

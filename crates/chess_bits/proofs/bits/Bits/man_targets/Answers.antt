@@ -16,15 +16,15 @@ returns-then-is_king c = λ k low.
     let at : man_at c.args.self.now.men c.args.from ≡ Some c.in-Some.man = search rules in
     let king : same_kind King c.in-Some.man.kind ≡ true = sym c.is_king.ensures ∙ c.if-is_king.true in
     let sound : IsSound c.args.self.now = rw (← c.self.view_is) c.self.invariant.0 in
-    let step = c.steps.ensures k low
+    let step = c.targets_by_attack.ensures k low
     ∙ steps_are p a k (king_told p.side c.in-Some.man (man_at p.men a) at c.requires king) in
-    c.union.ensures k ∙ ap (λ t. t || contains c.steps.result k) (c.castling_ends.ensures k low)
-    ∙ king_goes p a k c.in-Some.man (contains c.steps.result k) sound at c.requires king step
+    c.union.ensures k ∙ ap (λ t. t || contains c.targets_by_attack.result k) (c.castling_ends.ensures k low)
+    ∙ king_goes p a k c.in-Some.man (contains c.targets_by_attack.result k) sound at c.requires king step
 
 pub returns : goal.returns
 returns c = λ k low.
     let at : man_at c.args.self.now.men c.args.from ≡ Some c.in-Some.man = search rules in
-    c.steps-2.ensures k low ∙ officer_is c.args.self.now c.args.from k c.in-Some.man at c.requires
+    c.targets_by_attack-2.ensures k low ∙ officer_is c.args.self.now c.args.from k c.in-Some.man at c.requires
     (sym c.is_king.ensures ∙ c.if-is_king.false)
 
 pub returns-in_default : goal.returns-in_default

@@ -2,7 +2,7 @@
 use Rattle.std.proofs.Common.{◌∙◌, None, refl}
 use Rattle.chess_base.specs.declared.man.Colour.TheVariants.{White, Black}
 use Rattle.chess_bits.proofs.BoardSets.{kinds_kept, all_kept, none_of, theirs_at, as_own}
-use Rattle.chess_moves.proofs.shared.PositionHash.{word_lifted}
+use Rattle.chess_moves.proofs.shared.PositionHash.{hash_lifted}
 use Rattle.chess_bits.proofs.sets.Sets.lift.Goals as goal
 
 pub returns-in-White : goal.returns-in-White
@@ -14,7 +14,7 @@ returns-in-White c = λ men all at h.
       of_black = kinds_kept _ men Black c.args.square None all low (theirs_at White c.args.man _ at white) (none_of Black None refl) h.of_black;
       all_white = c.lift.ensures.all men White all h.all_white;
       all_black = all_kept _ men Black c.args.square None all low (theirs_at White c.args.man _ at white) (none_of Black None refl) h.all_black;
-      men_word = word_lifted men c.args.square c.args.man _ _ all low at h.men_word c.man_key.ensures;
+      men_hash = hash_lifted men c.args.square c.args.man _ _ all low at h.men_hash c.man_key.ensures;
     }
 
 pub returns-in-Black : goal.returns-in-Black
@@ -26,5 +26,5 @@ returns-in-Black c = λ men all at h.
       of_black = c.lift-in-Black.ensures.kinds men Black all (at ∙ as_own Black c.args.man black) h.of_black;
       all_white = all_kept _ men White c.args.square None all low (theirs_at Black c.args.man _ at black) (none_of White None refl) h.all_white;
       all_black = c.lift-in-Black.ensures.all men Black all h.all_black;
-      men_word = word_lifted men c.args.square c.args.man _ _ all low at h.men_word c.man_key.ensures;
+      men_hash = hash_lifted men c.args.square c.args.man _ _ all low at h.men_hash c.man_key.ensures;
     }

@@ -3,7 +3,7 @@ use Rattle.std.proofs.Common.{slice_set, Some, sym, subst}
 use Rattle.chess_base.specs.declared.man.Colour.TheVariants.{White, Black}
 use Rattle.chess_bits.specs.ties.KindSets.{IsKinds}
 use Rattle.chess_bits.proofs.BoardSets.{kinds_kept, all_kept, none_of, theirs_of, own_of, as_own}
-use Rattle.chess_moves.proofs.shared.PositionHash.{word_put}
+use Rattle.chess_moves.proofs.shared.PositionHash.{hash_put}
 use Rattle.chess_bits.proofs.sets.Sets.put.Goals as goal
 
 pub returns-in-White : goal.returns-in-White
@@ -16,7 +16,7 @@ returns-in-White c = λ men all at h.
       of_black = kinds_kept _ men Black c.args.square (Some c.args.man) all low (none_of Black _ at) (theirs_of White c.args.man white) h.of_black;
       all_white = c.put.ensures.all men White (Some c.args.man) all (own_of White c.args.man white) h.all_white;
       all_black = all_kept _ men Black c.args.square (Some c.args.man) all low (none_of Black _ at) (theirs_of White c.args.man white) h.all_black;
-      men_word = word_put men c.args.square c.args.man _ _ all low at h.men_word c.man_key.ensures;
+      men_hash = hash_put men c.args.square c.args.man _ _ all low at h.men_hash c.man_key.ensures;
     }
 
 pub returns-in-Black : goal.returns-in-Black
@@ -29,5 +29,5 @@ returns-in-Black c = λ men all at h.
           (sym (as_own Black c.args.man black)) (c.put-in-Black.ensures.kinds men Black all at h.of_black);
       all_white = all_kept _ men White c.args.square (Some c.args.man) all low (none_of White _ at) (theirs_of Black c.args.man black) h.all_white;
       all_black = c.put-in-Black.ensures.all men Black (Some c.args.man) all (own_of Black c.args.man black) h.all_black;
-      men_word = word_put men c.args.square c.args.man _ _ all low at h.men_word c.man_key.ensures;
+      men_hash = hash_put men c.args.square c.args.man _ _ all low at h.men_hash c.man_key.ensures;
     }

@@ -5,7 +5,7 @@ use Rattle.chess_base.specs.declared.man.Colour.TheVariants.{White, Black}
 use Rattle.chess_base.specs.Men.{man_at}
 use Rattle.chess_bits.specs.ties.KindSets.{IsKinds}
 use Rattle.chess_bits.proofs.BoardSets.{kinds_kept, all_kept, none_of, theirs_at, theirs_of, own_of, as_own, still_empty}
-use Rattle.chess_moves.proofs.shared.PositionHash.{word_put, word_lifted}
+use Rattle.chess_moves.proofs.shared.PositionHash.{hash_put, hash_lifted}
 use Rattle.chess_bits.proofs.sets.Sets.shift.Goals as goal
 
 pub returns-in-White : goal.returns-in-White
@@ -25,8 +25,8 @@ returns-in-White c = λ men all at bare h.
       all_white = c.shift.ensures.all men White (Some x) all (own_of White x white) h.all_white;
       all_black = all_kept _ rest Black c.args.to (Some x) whole high (none_of Black _ free) (theirs_of White x white)
           (all_kept _ men Black c.args.from None all low (theirs_at White x _ at white) (none_of Black None refl) h.all_black);
-      men_word = word_put rest c.args.to x _ _ whole high free
-          (word_lifted men c.args.from x _ _ all low at h.men_word c.man_key.ensures) c.man_key-in-White.ensures;
+      men_hash = hash_put rest c.args.to x _ _ whole high free
+          (hash_lifted men c.args.from x _ _ all low at h.men_hash c.man_key.ensures) c.man_key-in-White.ensures;
     }
 
 pub returns-in-Black : goal.returns-in-Black
@@ -47,6 +47,6 @@ returns-in-Black c = λ men all at bare h.
       all_black = c.shift-in-Black.ensures.all men Black (Some x) all (own_of Black x black) h.all_black;
       all_white = all_kept _ rest White c.args.to (Some x) whole high (none_of White _ free) (theirs_of Black x black)
           (all_kept _ men White c.args.from None all low (theirs_at Black x _ at black) (none_of White None refl) h.all_white);
-      men_word = word_put rest c.args.to x _ _ whole high free
-          (word_lifted men c.args.from x _ _ all low at h.men_word c.man_key.ensures) c.man_key-in-Black.ensures;
+      men_hash = hash_put rest c.args.to x _ _ whole high free
+          (hash_lifted men c.args.from x _ _ all low at h.men_hash c.man_key.ensures) c.man_key-in-Black.ensures;
     }

@@ -6,7 +6,7 @@ use Rattle.chess_base.specs.declared.man.Kind.TheVariants.{King}
 use Rattle.chess_base.specs.Castling.{home_square, castled_rook_file}
 use Rattle.chess_base.specs.Men.{man_at, is_man}
 use Rattle.chess_bits.proofs.CastlingAtHome.{castle_told}
-use Rattle.chess_bits.proofs.bits.Bits.castle_to.Goals as goal
+use Rattle.chess_bits.proofs.bits.Bits.castle_with_rook.Goals as goal
 
 pub returns-then-not-is_man : goal.returns-then-not-is_man
 returns-then-not-is_man c =
