@@ -7,7 +7,7 @@ use Rattle.std.proofs.lemmas.Grind.{common_steps}
 use Rattle.byte_devices.specs.Devices.{InputState, OutputState, Sent, BreaksOff, saturating_increment}
 use Rattle.byte_devices.specs.Transfers.{FromInput, InputGave, OutputTook, Ran, all_of, saturating_increment_if}
 use Rattle.byte_devices.proofs.shared.Devices.{consumes_more, consumes_none}
-use Rattle.byte_devices.proofs.shared.Transfers.{came, broke, took_nothing, took_more, took_some_more}
+use Rattle.byte_devices.proofs.shared.Transfers.{came, broke, took_nothing, took_all, took_more, took_some_more}
 use Rattle.text_lines.specs.Lines.{LineSeen, Held, nothing_held, stream_lines, lines_held, whole}
 use Rattle.text_lines.specs.Next.{before_piece, Waits, GotLine, GotLast, NextLine}
 use Rattle.text_lines.proofs.shared.Lines.{nothing_left}
@@ -178,7 +178,8 @@ go_on {S} {respond} E {r} {r'} {r''} {w} {w'} {w''} {s} {s'} {s''} {held} {held'
       record {
         bytes = consumes_more r.known_bytes r'.known_bytes r''.known_bytes given more f.bytes bytes;
         took = subst (λ (v : Response S). OutputTook w w'' (all_of v.text)) all
-            (took_more w w' w'' (responses respond s done).text (respond s' line).text f.took took);
+            (took_more w w' w'' (responses respond s done).text (all_of (respond s' line).text) f.took
+            (took_all w' w'' (respond s' line).text took));
         state = next ∙ ap (λ (v : Response S). v.state) all;
         goes_on = ap (λ (v : Response S). v.ends) (sym all) ∙ on;
         lines = λ reported rest. ap (stream_lines COMMAND_LEN reported) (append_assoc given more rest)
@@ -243,7 +244,8 @@ by_line {respond} {r} {r''} {w} {w'} {w''} {s} {s'} {s''} {done} line f (all, re
   came r'' all reported false,
   all_of ((responses respond s done).text ++ (respond s' line).text),
   gave at,
-  took_more w w' w'' (responses respond s done).text (respond s' line).text f.took took,
+  took_more w w' w'' (responses respond s done).text (all_of (respond s' line).text) f.took
+      (took_all w' w'' (respond s' line).text took),
   (
     refl,
     answers_all respond s s'' _ true (came r'' all reported false)
@@ -297,7 +299,8 @@ by_last {respond} E {r} {r'} {r''} {w} {w'} {w''} {s} {s'} {s''} {held} held' {g
       came r'' (given ++ more) true false,
       all_of ((responses respond s done).text ++ (respond s' line).text),
       gave at,
-      took_more w w' w'' (responses respond s done).text (respond s' line).text f.took took,
+      took_more w w' w'' (responses respond s done).text (all_of (respond s' line).text) f.took
+          (took_all w' w'' (respond s' line).text took),
       (
         (refl, refl),
         answers_all respond s s'' _ false (came r'' (given ++ more) true false)

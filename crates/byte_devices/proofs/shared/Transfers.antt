@@ -1,8 +1,8 @@
 -- For laws of whole runs: what passed at the devices, put together from what the calls did.
-use Rattle.std.proofs.Common.{◌≡◌, ℕ, ◌+◌, ◌-◌, ◌^◌, min, Bool, true, List, [], ◌++◌, length, take, zero, suc, refl, sym, ap, subst, ◌∙◌, arith, append-nil}
+use Rattle.std.proofs.Common.{◌≡◌, ℕ, ◌+◌, ◌-◌, ◌^◌, min, Bool, true, List, [], ◌++◌, length, take, zero, suc, refl, sym, ap, subst, ◌∙◌, arith, append_assoc, append-nil}
 use Rattle.std.specs.Io.KnownBytes.{Appends}
 use Rattle.byte_devices.specs.Devices.{InputState, OutputState, Took, TookThenFailed, Sent, saturating_increment, saturating_add}
-use Rattle.byte_devices.specs.Transfers.{FromInput, ToOutput, OutputTook, all_of, all_unflushed, nothing}
+use Rattle.byte_devices.specs.Transfers.{FromInput, ToOutput, OutputTook, all_of, all_unflushed, nothing, saturating_increment_if}
 use Rattle.byte_devices.proofs.shared.Devices.{add_some, appends_more, appends_none}
 
 -- ---- counts of bytes
@@ -72,14 +72,14 @@ took_some w w' start h = record {
   failures = h.failures;
 }
 
--- a text was sent after one that was flushed
-pub took_more : (w w' w'' : OutputState) (x y : List ℕ) → OutputTook w w' (all_of x) → Sent w' w'' y
-    → OutputTook w w'' (all_of (x ++ y))
-took_more w w' w'' x y h k = record {
-  bytes = all_bytes w w'' (x ++ y)
-      (appends_more w.known_bytes w'.known_bytes w''.known_bytes x y (flushed_bytes w w' x h) k.bytes);
-  unflushed = λ none. k.flushed ∙ sym none_left;
-  failures = k.failures ∙ h.failures;
+-- more went to an output after a text that was flushed
+pub took_more : (a b c : OutputState) (x : List ℕ) (o : ToOutput) → OutputTook a b (all_of x) → OutputTook b c o
+    → OutputTook a c (record o { flushed = x ++ o.flushed })
+took_more a b c x o h k = record {
+  bytes = subst (Appends a.known_bytes c.known_bytes) (sym (append_assoc x o.flushed o.left))
+      (appends_more a.known_bytes b.known_bytes c.known_bytes x (o.flushed ++ o.left) (flushed_bytes a b x h) k.bytes);
+  unflushed = λ none. k.unflushed (h.unflushed none ∙ none_left);
+  failures = k.failures ∙ ap (saturating_increment_if o.failed) h.failures;
 }
 
 -- a beginning of a text was written after one that was flushed, and then a call failed
