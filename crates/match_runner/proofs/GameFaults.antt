@@ -75,7 +75,7 @@ no_failures notes setup end w w' (H, reason, given, (final, passed, reported, le
 
 pub only_last_games_have_failed_writes : OnlyLastGamesHaveFailedWrites
 only_last_games_have_failed_writes plan [] h = tt
-only_last_games_have_failed_writes plan (g ∷ games) (of, none, rest) = (
+only_last_games_have_failed_writes plan (g ∷ games) ((of, none), rest) = (
   no_failures g.notes (setup_of plan) g.end g.before g.after of.1 none,
   only_last_games_have_failed_writes plan games rest,
 )

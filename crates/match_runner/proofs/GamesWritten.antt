@@ -10,24 +10,23 @@ use Rattle.chess_base.specs.Men.{other, same_colour}
 use Rattle.chess_base.specs.declared.man.Colour.{Colour}
 use Rattle.chess_base.specs.declared.man.Colour.TheVariants.{White, Black}
 use Rattle.byte_devices.specs.Devices.{OutputState, Begins, BreaksOff, Sent}
-use Rattle.byte_devices.proofs.shared.Devices.{appends_more}
+use Rattle.byte_devices.specs.Transfers.{ToOutput, OutputTook, all_of}
+use Rattle.byte_devices.proofs.shared.Transfers.{broke, took_all, took_more, took_nothing, took_some_more}
 use Rattle.chess_game.specs.Game.{Seen}
 use Rattle.chess_game.specs.Results.{same_outcome}
 use Rattle.chess_game.specs.declared.results.Outcome.{Outcome}
 use Rattle.chess_game.specs.declared.results.Outcome.TheVariants.{Draw, Unfinished}
 use Rattle.chess_match.specs.Reasons.{comment_of, win_of}
-use Rattle.chess_match.specs.Run.{Flushed}
 use Rattle.chess_match.specs.Notes.{Note}
 use Rattle.chess_match.specs.Played.{World, PlayedNoting}
 use Rattle.chess_match.specs.declared.run.Setup.{Setup}
 use Rattle.chess_match.specs.declared.reason.MatchFault.{MatchFault}
 use Rattle.chess_match.specs.declared.reason.Reason.TheVariants.{Faulted}
 use Rattle.chess_match.specs.declared.run.MatchEnd.{MatchEnd}
-use Rattle.chess_match.proofs.shared.Flushes.{flushed_none, failed_after}
 use Rattle.chess_pgn.specs.GameText.{pgn}
 use Rattle.chess_pgn.specs.declared.tags.Tags.{Tags}
-use Rattle.match_runner.specs.Games.{EndsGames, GameRecord, IsOfPlan, IsStartFault, LogsGame, LogsGames, RanGames, SoundGames, count_of, engine_command, first_side, game_logs, game_text, game_texts, match_text, score_line, score_of, tags_of}
-use Rattle.match_runner.specs.GamesTable.{Finishes, GamesPassing, GamesStep, Plays, StartFails, Starts, StepsPass, RanGamesAt, WriteFails, Writes, game_steps, games_steps, unstarted_steps, unwritten_steps}
+use Rattle.match_runner.specs.Games.{EndsGames, GameRecord, IsOfPlan, IsStartFault, LogsGame, LogsGames, Outputs, PlaysGames, SoundGames, count_of, engine_command, first_side, game_logs, game_text, game_texts, match_text, score_line, score_of, tags_of}
+use Rattle.match_runner.specs.GamesTable.{Finishes, GamesPassing, GamesStep, Plays, StartFails, Starts, StepsPass, PlaysGamesAt, WriteFails, Writes, game_steps, games_steps, unstarted_steps, unwritten_steps}
 use Rattle.match_runner.specs.ties.Playing.{FailsToStart, HasPlayed, PlayedGame, logged_side, no_score, plus, score_after}
 use Rattle.match_runner.specs.Log.{LogSeen, Logged, log_text}
 use Rattle.match_runner.proofs.Logged.{logged_more, logs_none}
@@ -38,12 +37,13 @@ use Rattle.match_runner.specs.declared.score.Score.{Score}
 
 -- ---- the output
 
-pub flushed_more : (w w' w'' : OutputState) (x y : List ℕ) → Flushed w w' x → Sent w' w'' y → Flushed w w'' (x ++ y)
-flushed_more w w' w'' x y h k = record {
-  bytes = appends_more w.known_bytes w'.known_bytes w''.known_bytes x y h.bytes k.bytes;
-  failures = k.failures ∙ h.failures;
-  unflushed = λ none. k.flushed;
-}
+sent_more : (w w' w'' : OutputState) (x y : List ℕ) → OutputTook w w' (all_of x) → Sent w' w'' y
+    → OutputTook w w'' (all_of (x ++ y))
+sent_more w w' w'' x y h k = took_more w w' w'' x (all_of y) h (took_all w' w'' y k)
+
+-- the outputs of a match
+abbrev pub outputs : OutputState → LogSeen → Outputs
+outputs w l = record { output = w; log = l }
 
 -- ---- one game
 
@@ -207,7 +207,7 @@ logs_if true l l' l'' games g h k =
 
 log_none : (asked : Bool) (l : LogSeen) → LogsGames asked l l []
 log_none false l = refl
-log_none true l = logs_none l.broken l.output
+log_none true l = logs_none l
 
 -- ---- texts of games
 
@@ -267,8 +267,8 @@ score_more games g few =
 
 sound_more : (plan : GamesPlan) (games : List GameRecord) (g : GameRecord) → SoundGames plan games → IsOfPlan plan g
     → g.end.fault ≡ None → SoundGames plan (games ++ g ∷ [])
-sound_more plan [] g h of none = (of, none, tt)
-sound_more plan (x ∷ games) g h of none = (h.0, h.1, sound_more plan games g h.2 of none)
+sound_more plan [] g h of none = ((of, none), tt)
+sound_more plan (x ∷ games) g h of none = (h.0, sound_more plan games g h.1 of none)
 
 -- ---- so far
 
@@ -280,7 +280,7 @@ pub record SoFar (plan : GamesPlan) (p p' : GamesPassing) (w w' : OutputState) (
     pub numbered : number ≡ 1 + length games
     pub few : length games ≤ plan.games
     pub counted : score ≡ score_of games
-    pub written : Flushed w w' (game_texts plan games)
+    pub written : OutputTook w w' (all_of (game_texts plan games))
     pub logged : LogsGames plan.log l l' games
     pub passed : StepsPass p p' (games_steps plan games)
 
@@ -291,7 +291,7 @@ start plan p w l = record {
   numbered = omega arith;
   few = omega arith;
   counted = refl;
-  written = flushed_none w;
+  written = took_nothing w;
   logged = log_none plan.log l;
   passed = steps_none p;
 }
@@ -305,9 +305,9 @@ module _ (plan : GamesPlan) (p p' p'' : GamesPassing) (w w' w'' : OutputState) (
       (subst (λ n. LogsGame (logged_side plan n) l' l'' g.notes) s.numbered log)
 
   written_more : (g : GameRecord) → Sent w' w'' (game_text plan number g)
-      → Flushed w w'' (game_texts plan (games ++ g ∷ []))
+      → OutputTook w w'' (all_of (game_texts plan (games ++ g ∷ [])))
   written_more g sent =
-      rw (texts_more plan games g) (flushed_more w w' w'' (game_texts plan games)
+      rw (texts_more plan games g) (sent_more w w' w'' (game_texts plan games)
       (game_text plan (1 + length games) g) s.written
       (subst (λ n. Sent w' w'' (game_text plan n g)) s.numbered sent))
 
@@ -370,43 +370,59 @@ module _ (plan : GamesPlan) (p p' p'' : GamesPassing) (w w' w'' : OutputState) (
       steps_more p p' p'' (games_steps plan games) (last (length games + 1)) s.passed
       (subst (λ n. StepsPass p' p'' (last n)) m steps)
 
+  -- a game that was not written
+  not_written : (next : GameRecord) → number ≤ plan.games → IsOfPlan plan next
+      → BreaksOff w' w'' (game_text plan number next) → LogsGame (logged_side plan number) l' l'' next.notes
+      → StepsPass p' p'' (unwritten_steps plan number next)
+      → PlaysGamesAt plan (Err WriteFailed) p p'' (outputs w l) (outputs w'' l'')
+  not_written next le of (begun, begins, failing) log steps =
+      let n = s.numbered in
+      let m : number ≡ length games + 1 = omega (arith, n) in (
+        games,
+        Some next,
+        (
+          broke (game_texts plan games) begun,
+          (
+            s.games_sound,
+            omega (arith, n, le),
+            of,
+            (refl, subst (λ k. Begins begun (game_text plan k next)) m begins, refl),
+          ),
+          took_some_more w w' w'' (game_texts plan games) begun s.written failing,
+          logged_on next log,
+        ),
+        passed_last (λ n. unwritten_steps plan n next) steps,
+      )
+
   -- an engine that could not be started
   not_started : (fault : GamesFault) → number ≤ plan.games → IsStartFault plan.white.now plan.black.now fault
       → w'' ≡ w' → l'' ≡ l' → StepsPass p' p'' (unstarted_steps plan number)
-      → (games : List GameRecord) × SoundGames plan games × (length games < plan.games)
-      × IsStartFault plan.white.now plan.black.now fault × Flushed w w'' (game_texts plan games)
-      × LogsGames plan.log l l'' games
+      → (games : List GameRecord) × (o : ToOutput)
+      × (SoundGames plan games × (length games < plan.games)
+      × IsStartFault plan.white.now plan.black.now fault × (o ≡ all_of (game_texts plan games)))
+      × OutputTook w w'' o × LogsGames plan.log l l'' (games ++ [])
       × StepsPass p p'' (games_steps plan games ++ unstarted_steps plan (length games + 1))
   not_started fault le is same log steps =
       let n = s.numbered in (
         games,
-        s.games_sound,
-        omega (arith, n, le),
-        is,
-        subst (λ v. Flushed w v (game_texts plan games)) (sym same) s.written,
-        subst (λ v. LogsGames plan.log l v games) (sym log) s.logged,
+        all_of (game_texts plan games),
+        (s.games_sound, omega (arith, n, le), is, refl),
+        subst (λ v. OutputTook w v (all_of (game_texts plan games))) (sym same) s.written,
+        subst (LogsGames plan.log l l'') (sym (append-nil games))
+            (subst (λ v. LogsGames plan.log l v games) (sym log) s.logged),
         passed_last (λ n. unstarted_steps plan n) steps,
       )
 
-  pub broke : (fault : GamesFault) → number ≤ plan.games → PlayedGame plan number p' p'' w' w'' l' l'' (Err fault)
+  pub broke_off : (fault : GamesFault) → number ≤ plan.games → PlayedGame plan number p' p'' w' w'' l' l'' (Err fault)
       → HasPlayed plan p p'' w w'' l l'' (Err fault)
-  broke WriteFailed le (next, of, (begun, begins, failed), log, steps) =
-      let n = s.numbered in
-      let m : number ≡ length games + 1 = omega (arith, n) in (
-        games,
-        next,
-        begun,
-        s.games_sound,
-        omega (arith, n, le),
-        of,
-        subst (λ k. Begins begun (game_text plan k next)) m begins,
-        failed_after w w' w'' (game_texts plan games) begun s.written failed,
-        logged_on next log,
-        passed_last (λ n. unwritten_steps plan n next) steps,
-      )
-  broke NoMemory le (is, same, log, steps) = not_started NoMemory le is same log steps
-  broke (CanNotStart command) le (is, same, log, steps) = not_started (CanNotStart command) le is same log steps
-  broke (Game k text) le (is, same, log, steps) = absurd is
+  broke_off WriteFailed le (next, of, breaks, log, steps) = not_written next le of breaks log steps
+  broke_off NoMemory le (is, same, log, steps) =
+      let (games, o, writes, took, logs, passes) = not_started NoMemory le is same log steps in
+      (games, None, (o, writes, took, logs), passes)
+  broke_off (CanNotStart command) le (is, same, log, steps) =
+      let (games, o, writes, took, logs, passes) = not_started (CanNotStart command) le is same log steps in
+      (games, None, (o, writes, took, logs), passes)
+  broke_off (Game k text) le (is, same, log, steps) = absurd is
 
 pub all_played : (plan : GamesPlan) (p p' : GamesPassing) (w w' : OutputState) (l l' : LogSeen) (number : ℕ)
     (score : Score) (games : List GameRecord) → SoFar plan p p' w w' l l' number score games → plan.games < number
@@ -418,57 +434,68 @@ all_played plan p p' w w' l l' number score games s past =
 
 -- ---- the end of a match
 
--- what a match that broke off did
-pub broken_off : (plan : GamesPlan) (p p' : GamesPassing) (w w' : OutputState) (l l' : LogSeen) (fault : GamesFault)
-    → HasPlayed plan p p' w w' l l' (Err fault) → RanGamesAt plan p p' w w' l l' (Err fault)
-broken_off plan p p' w w' l l' WriteFailed h = inl h
-broken_off plan p p' w w' l l' NoMemory h = h
-broken_off plan p p' w w' l l' (CanNotStart command) h = h
-broken_off plan p p' w w' l l' (Game number text) (games, sound, few, is, written, log, steps) = absurd is
-
 module _ (plan : GamesPlan) (p p' : GamesPassing) (w w' w'' : OutputState) (l l' : LogSeen) (played : GamesPlayed)
     (h : HasPlayed plan p p' w w' l l' (Ok played)) where
-  score_sent : Sent w' w'' (score_line played.score) → Flushed w w'' (match_text plan h.0)
+  score_sent : Sent w' w'' (score_line played.score) → OutputTook w w'' (all_of (match_text plan h.0))
   score_sent sent =
-      flushed_more w w' w'' (game_texts plan h.0) (score_line (score_of h.0)) h.3
+      sent_more w w' w'' (game_texts plan h.0) (score_line (score_of h.0)) h.3
       (subst (λ v. Sent w' w'' (score_line v)) h.2 sent)
 
+  -- no game is unwritten
+  logs_all : LogsGames plan.log l l' (h.0 ++ [])
+  logs_all = subst (LogsGames plan.log l l') (sym (append-nil h.0)) h.4
+
+  -- no step comes after those of the games
+  steps_all : StepsPass p p' (games_steps plan h.0 ++ [])
+  steps_all = subst (StepsPass p p') (sym (append-nil (games_steps plan h.0))) h.5
+
   pub all_written : Sent w' w'' (score_line played.score) → played.fault ≡ None
-      → RanGamesAt plan p p' w w'' l l' (Ok (tt {0}))
-  all_written sent none = (h.0, subst (EndsGames plan h.0) none h.1, score_sent sent, h.4, h.5)
+      → PlaysGamesAt plan (Ok (tt {0})) p p' (outputs w l) (outputs w'' l')
+  all_written sent none = (
+    h.0,
+    None,
+    (all_of (match_text plan h.0), (subst (EndsGames plan h.0) none h.1, refl), score_sent sent, logs_all),
+    steps_all,
+  )
 
   pub fault_written : (number : ℕ) (side : Colour) (fault : MatchFault) (text : Bor (List ℕ))
       → text.now ≡ comment_of (Faulted side fault)
       → Sent w' w'' (score_line played.score) → played.fault ≡ Some (number, side, fault)
-      → RanGamesAt plan p p' w w'' l l' (Err (Game number text))
-  fault_written number side fault text written sent is =
-      (h.0, side, fault, subst (EndsGames plan h.0) is h.1, written, score_sent sent, h.4, h.5)
-
-  pub score_broken : BreaksOff w' w'' (score_line played.score) → RanGamesAt plan p p' w w'' l l' (Err WriteFailed)
-  score_broken (begun, begins, failed) = inr (
+      → PlaysGamesAt plan (Err (Game number text)) p p' (outputs w l) (outputs w'' l')
+  fault_written number side fault text written sent is = (
     h.0,
-    played.fault,
-    begun,
-    h.1,
-    subst (λ v. Begins begun (score_line v)) h.2 begins,
-    failed_after w w' w'' (game_texts plan h.0) begun h.3 failed,
-    h.4,
-    h.5,
+    None,
+    (
+      all_of (match_text plan h.0),
+      (side, fault, subst (EndsGames plan h.0) is h.1, written, refl),
+      score_sent sent,
+      logs_all,
+    ),
+    steps_all,
+  )
+
+  pub score_broken : BreaksOff w' w'' (score_line played.score)
+      → PlaysGamesAt plan (Err WriteFailed) p p' (outputs w l) (outputs w'' l')
+  score_broken (begun, begins, failing) = (
+    h.0,
+    None,
+    (
+      broke (game_texts plan h.0) begun,
+      (played.fault, h.1, (refl, subst (λ v. Begins begun (score_line v)) h.2 begins, refl)),
+      took_some_more w w' w'' (game_texts plan h.0) begun h.3 failing,
+      logs_all,
+    ),
+    steps_all,
   )
 
 -- ---- without the steps
 
 -- a match at a table is a match: the steps are dropped
-pub ran_games : (plan : GamesPlan) (p p' : GamesPassing) (w w' : OutputState) (l l' : LogSeen)
-    (result : Result (Unit {0}) GamesFault) → RanGamesAt plan p p' w w' l l' result → RanGames plan w w' l l' result
-ran_games plan p p' w w' l l' (Ok v) (games, ends, written, log, steps) = (games, ends, written, log)
-ran_games plan p p' w w' l l' (Err (Game number text)) (games, side, fault, ends, is, written, log, steps) =
-    (games, side, fault, ends, is, written, log)
-ran_games plan p p' w w' l l' (Err WriteFailed) (inl (games, next, begun, sound, few, of, begins, failed, log, steps)) =
-    inl (games, next, begun, sound, few, of, begins, failed, log)
-ran_games plan p p' w w' l l' (Err WriteFailed) (inr (games, last, begun, ends, begins, failed, log, steps)) =
-    inr (games, last, begun, ends, begins, failed, log)
-ran_games plan p p' w w' l l' (Err NoMemory) (games, sound, few, is, written, log, steps) =
-    inr (games, sound, few, is, written, log)
-ran_games plan p p' w w' l l' (Err (CanNotStart command)) (games, sound, few, is, written, log, steps) =
-    (games, sound, few, is, written, log)
+pub plays_games : (plan : GamesPlan) (result : Result (Unit {0}) GamesFault) (p p' : GamesPassing) (d d' : Outputs)
+    → PlaysGamesAt plan result p p' d d' → PlaysGames plan result d d'
+plays_games plan result p p' d d' (games, unwritten, these, steps) = inl (games, unwritten, these)
+
+-- memory ran out before
+pub none_played : (plan : GamesPlan) (result : Result (Unit {0}) GamesFault) (d : Outputs) → result ≡ Err NoMemory
+    → PlaysGames plan result d d
+none_played plan result d is = inr (is, refl)

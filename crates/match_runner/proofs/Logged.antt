@@ -7,17 +7,15 @@ use Rattle.std.specs.Result.{is_err}
 use Rattle.std.proofs.lemmas.Bool.Decides.{nat_tests}
 use Rattle.std.proofs.lemmas.List.{drop_min, drop_more}
 use Rattle.std.proofs.lemmas.List.Concat.{flat_map-append}
-use Rattle.std.specs.Io.KnownBytes.{Appends}
 use Rattle.chess_base.specs.Letters.{byte, new_line}
 use Rattle.chess_base.specs.declared.man.Colour.{Colour}
 use Rattle.chess_base.specs.declared.man.Colour.TheVariants.{White, Black}
 use Rattle.chess_base.specs.Men.{same_colour}
-use Rattle.byte_devices.specs.Devices.{OutputState, Sent, Sends, saturating_increment}
-use Rattle.byte_devices.proofs.shared.Devices.{appends_more}
+use Rattle.byte_devices.specs.Devices.{OutputState, Sends}
+use Rattle.byte_devices.specs.Transfers.{OutputTook, all_of}
+use Rattle.byte_devices.proofs.shared.Transfers.{broke, took_all, took_more, took_nothing, took_some}
 use Rattle.chess_match.specs.Notes.{Note, Gives, WasNoted}
-use Rattle.chess_match.specs.Run.{Flushed, FlushedThenFailed}
-use Rattle.chess_match.proofs.shared.Flushes.{flushed_none, flushed_more, failed_after}
-use Rattle.match_runner.specs.Log.{Entry, LogSeen, Logged, Logs, LogsNote, entries_from, entries_text, lines_in, log_line, log_seen, log_text, moment_after, note_entries}
+use Rattle.match_runner.specs.Log.{Entry, LogSeen, Logged, LogsNote, entries_from, entries_text, lines_in, log_line, log_seen, log_text, moment_after, note_entries}
 use Rattle.match_runner.specs.ties.Logging.{Adds, IsLog, LogsPending, first_of_text, log_of_text, moment_from, noted_by, text_of_log}
 use Rattle.match_runner.specs.declared.log.Log.{Log}
 use Rattle.match_runner.specs.declared.log.Pending.{Pending}
@@ -25,54 +23,49 @@ use Rattle.match_runner.specs.declared.log.Pending.{Pending}
 -- ---- the output
 
 -- nothing was logged
-pub logs_none : (b : Bool) (o : OutputState) → Logs b b o o []
-logs_none false o = flushed_none o
-logs_none true o = (refl, refl)
+pends_none : (b : Bool) (o : OutputState) → LogsPending b b o o [] []
+pends_none false o = ([], took_nothing o, refl)
+pends_none true o = (refl, refl)
 
-flushed_sent : (o o' : OutputState) (text : List ℕ) → Sent o o' text → Flushed o o' text
-flushed_sent o o' text s = record { bytes = s.bytes; failures = s.failures; unflushed = λ e. s.flushed }
+-- nothing is pending
+all_logged : (b b' : Bool) (o o' : OutputState) (text : List ℕ) → LogsPending b b' o o' [] text
+    → Logged (log_seen o b) (log_seen o' b') text
+all_logged false false o o' text (written, took, is) =
+    (λ e. absurd (cc), λ e. (all_of written, took, ap all_of (sym (append-nil written) ∙ is)))
+all_logged false true o o' text h = (λ e. absurd (cc), λ e. h)
+all_logged true b' o o' text (still, same) =
+    (λ e. ap (log_seen o') still ∙ ap (λ v. log_seen v true) same, λ e. absurd (cc))
+
+pends_nothing : (b b' : Bool) (o o' : OutputState) (text : List ℕ) → Logged (log_seen o b) (log_seen o' b') text
+    → LogsPending b b' o o' [] text
+pends_nothing false false o o' text h =
+    let (t, took, is) = h.1 refl in (text, subst (OutputTook o o') is took, append-nil text)
+pends_nothing false true o o' text h = h.1 refl
+pends_nothing true b' o o' text h =
+    (ap (λ (l : LogSeen). l.broken) (h.0 refl), ap (λ (l : LogSeen). l.output) (h.0 refl))
+
+pub logs_none : (l : LogSeen) → Logged l l []
+logs_none l = all_logged l.broken l.broken l.output l.output [] (pends_none l.broken l.output)
 
 -- a text was sent, or a beginning of it was
 pub logs_sent : {A E : Type 0} (o o' : OutputState) (r : Result A E) (failed : Bool) (text : List ℕ)
-    → Sends o o' r text → failed ≡ is_err r → Logs false failed o o' text
-logs_sent o o' (Ok v) failed text s is =
-    subst (λ (b : Bool). Logs false b o o' text) (sym is) (flushed_sent o o' text s)
-logs_sent o o' (Err e) failed text (start, begins, took) is =
-    subst (λ (b : Bool). Logs false b o o' text) (sym is)
-    ([], start, begins, failed_after o o o' [] start (flushed_none o) took)
-
--- nothing is pending
-pends_nothing : (b b' : Bool) (o o' : OutputState) (text : List ℕ) → Logs b b' o o' text
-    → LogsPending b b' o o' [] text
-pends_nothing false false o o' text h = (text, h, append-nil text)
-pends_nothing false true o o' text h = h
-pends_nothing true b' o o' text h = h
-
-all_logged : (b b' : Bool) (o o' : OutputState) (text : List ℕ) → LogsPending b b' o o' [] text → Logs b b' o o' text
-all_logged false false o o' text (written, flushed, is) =
-    subst (λ (t : List ℕ). Flushed o o' t) (sym (append-nil written) ∙ is) flushed
-all_logged false true o o' text h = h
-all_logged true b' o o' text h = h
-
-failed_more : (a b c : OutputState) (x y start : List ℕ) → Flushed a b x → FlushedThenFailed b c y start
-    → FlushedThenFailed a c (x ++ y) start
-failed_more a b c x y start h k = record {
-  bytes = subst (λ (t : List ℕ). Appends a.known_bytes c.known_bytes t) (sym (append_assoc x y start))
-      (appends_more a.known_bytes b.known_bytes c.known_bytes x (y ++ start) h.bytes k.bytes);
-  failures = k.failures ∙ ap saturating_increment h.failures;
-  unflushed = λ e. k.unflushed (h.unflushed e);
-}
+    → Sends o o' r text → failed ≡ is_err r → Logged (log_seen o false) (log_seen o' failed) text
+logs_sent o o' (Ok v) failed text sent is =
+    subst (λ (b : Bool). Logged (log_seen o false) (log_seen o' b) text) (sym is)
+    (λ e. absurd (cc), λ e. (all_of text, took_all o o' text sent, refl))
+logs_sent o o' (Err e) failed text (start, begins, failing) is =
+    subst (λ (b : Bool). Logged (log_seen o false) (log_seen o' b) text) (sym is)
+    (λ e. absurd (cc), λ e. (broke [] start, took_some o o' start failing, (begins, refl)))
 
 -- bytes more are pending
 logs_pending : (b b' : Bool) (o o' : OutputState) (pending text more : List ℕ) → LogsPending b b' o o' pending text
     → LogsPending b b' o o' (pending ++ more) (text ++ more)
-logs_pending false false o o' pending text more (written, flushed, is) =
-    (written, flushed, sym (append_assoc written pending more) ∙ ap (λ (l : List ℕ). l ++ more) is)
-logs_pending false true o o' pending text more (written, start, (rest, is), failed) = (
-  written,
-  start,
-  (rest ++ more, sym (append_assoc (written ++ start) rest more) ∙ ap (λ (l : List ℕ). l ++ more) is),
-  failed,
+logs_pending false false o o' pending text more (written, took, is) =
+    (written, took, sym (append_assoc written pending more) ∙ ap (λ (l : List ℕ). l ++ more) is)
+logs_pending false true o o' pending text more (t, took, ((rest, is), failed)) = (
+  t,
+  took,
+  ((rest ++ more, sym (append_assoc (t.flushed ++ t.left) rest more) ∙ ap (λ (l : List ℕ). l ++ more) is), failed),
 )
 logs_pending true b' o o' pending text more h = h
 
@@ -81,18 +74,20 @@ logs_flushed : (b b' b'' : Bool) (o o' o'' : OutputState) (pending text : List �
     → LogsPending b' b'' o' o'' [] pending → LogsPending b b'' o o'' [] text
 logs_flushed false false false o o' o'' pending text (x, h, is) (y, k, all) = (
   x ++ y,
-  flushed_more o o' o'' x y h k,
+  took_more o o' o'' x (all_of y) h k,
   append_assoc x y [] ∙ ap (λ (l : List ℕ). x ++ l) all ∙ is,
 )
-logs_flushed false false true o o' o'' pending text (x, h, is) (y, start, (rest, all), k) = (
-  x ++ y,
-  start,
+logs_flushed false false true o o' o'' pending text (x, h, is) (t, k, ((rest, all), failed)) = (
+  record t { flushed = x ++ t.flushed },
+  took_more o o' o'' x t h k,
   (
-    rest,
-    ap (λ (l : List ℕ). l ++ rest) (append_assoc x y start) ∙ append_assoc x (y ++ start) rest
-        ∙ ap (λ (l : List ℕ). x ++ l) all ∙ is,
+    (
+      rest,
+      ap (λ (l : List ℕ). l ++ rest) (append_assoc x t.flushed t.left)
+          ∙ append_assoc x (t.flushed ++ t.left) rest ∙ ap (λ (l : List ℕ). x ++ l) all ∙ is,
+    ),
+    failed,
   ),
-  failed_more o o' o'' x y start h k,
 )
 logs_flushed false true b'' o o' o'' pending text h (broken, same) =
     subst (λ (b : Bool). LogsPending false b o o'' [] text) (sym broken)
@@ -105,7 +100,9 @@ pub logged_more : (l l' l'' : LogSeen) (x y : List ℕ) → Logged l l' x → Lo
 logged_more l l' l'' x y h k =
     all_logged l.broken l''.broken l.output l''.output (x ++ y)
     (logs_flushed l.broken l'.broken l''.broken l.output l'.output l''.output y (x ++ y)
-    (logs_pending l.broken l'.broken l.output l'.output [] x y (pends_nothing _ _ _ _ _ h)) (pends_nothing _ _ _ _ _ k))
+    (logs_pending l.broken l'.broken l.output l'.output [] x y
+    (pends_nothing l.broken l'.broken l.output l'.output x h))
+    (pends_nothing l'.broken l''.broken l'.output l''.output y k))
 
 -- ---- pending bytes
 
@@ -136,8 +133,8 @@ adds_pending o p p' b same more = record {
 }
 
 -- the pending bytes were logged
-pub adds_flushed : (o o' : OutputState) (p p' : Pending) → Logs p.broken p'.broken o o' p.bytes.items
-    → p'.bytes.items ≡ [] → Adds o o' p p' []
+pub adds_flushed : (o o' : OutputState) (p p' : Pending)
+    → Logged (log_seen o p.broken) (log_seen o' p'.broken) p.bytes.items → p'.bytes.items ≡ [] → Adds o o' p p' []
 adds_flushed o o' p p' k none = record {
   after = λ from text h.
       subst (λ (l : List ℕ). LogsPending from.broken p'.broken from.output o' l (text ++ [])) (sym none)
@@ -148,13 +145,14 @@ adds_flushed o o' p p' k none = record {
 
 -- what was added to an empty line, until nothing waits, was logged
 pub line_logged : (b : Bool) (o o' : OutputState) (p p' : Pending) (text : List ℕ) → p.broken ≡ b
-    → p.bytes.items ≡ [] → p'.bytes.items ≡ [] → Adds o o' p p' text → Logs b p'.broken o o' text
+    → p.bytes.items ≡ [] → p'.bytes.items ≡ [] → Adds o o' p p' text
+    → Logged (log_seen o b) (log_seen o' p'.broken) text
 line_logged b o o' p p' text same none ended a =
     all_logged b p'.broken o o' text
     (subst (λ (l : List ℕ). LogsPending b p'.broken o o' l text) ended
     (a.after (record { output = o; broken = b }) []
     (subst (λ (l : List ℕ). LogsPending b p.broken o o l []) (sym none)
-    (subst (λ (c : Bool). LogsPending b c o o [] []) (sym same) (pends_nothing b b o o [] (logs_none b o))))))
+    (subst (λ (c : Bool). LogsPending b c o o [] []) (sym same) (pends_none b o)))))
 
 -- ---- bytes and lines, one after the other
 
@@ -256,7 +254,7 @@ pub log_begun : (first side : Colour) (l l' : LogSeen) (moment : ℕ) → side �
     → IsLog first l side l' moment []
 log_begun first side l l' moment sided same begun = record {
   sided = sided;
-  written = subst (λ (v : LogSeen). Logged l v []) (sym same) (logs_none l.broken l.output);
+  written = subst (λ (v : LogSeen). Logged l v []) (sym same) (logs_none l);
   reached = begun;
 }
 

@@ -1,6 +1,7 @@
 -- The games of a match: who plays which colour, how each is reported, and the score.
 use Rattle.std.specs.Prelude.{◌≡◌, ◌⊎◌, ⊤, ℕ, ◌+◌, ◌<◌, ◌≤◌, ◌%◌, ◌==◌, Bool, true, false, if◌then◌else◌, List, [], ◌∷◌, ◌++◌, length, count_by, flat_map, codes, decimal, Option, None, Some, Result, Ok, Err}
-use Rattle.std.specs.List.{enumerate_from}
+use Rattle.std.specs.Option.{option_to_list}
+use Rattle.std.specs.List.{AllByRecursion, enumerate_from}
 use Rattle.chess_base.specs.Letters.{new_line}
 use Rattle.match_runner.specs.declared.plan.GamesPlan.{GamesPlan}
 use Rattle.chess_game.specs.declared.results.Outcome.{Outcome}
@@ -9,11 +10,11 @@ use Rattle.chess_game.specs.Results.{same_outcome, cut_tag}
 use Rattle.chess_base.specs.Men.{other, same_colour}
 use Rattle.chess_base.specs.declared.man.Colour.{Colour}
 use Rattle.chess_base.specs.declared.man.Colour.TheVariants.{White, Black}
-use Rattle.byte_devices.specs.Devices.{OutputState, Begins}
+use Rattle.byte_devices.specs.Devices.{OutputState}
+use Rattle.byte_devices.specs.Transfers.{ToOutput, OutputTook, all_of, BreaksOffIn}
 use Rattle.chess_match.specs.Reasons.{comment_of, win_of}
 use Rattle.chess_match.specs.Notes.{Note}
 use Rattle.chess_match.specs.Played.{World, PlayedNoting}
-use Rattle.chess_match.specs.Run.{Flushed, FlushedThenFailed}
 use Rattle.chess_match.specs.declared.reason.MatchFault.{MatchFault}
 use Rattle.chess_match.specs.declared.reason.Reason.TheVariants.{Faulted}
 use Rattle.chess_match.specs.declared.run.MatchEnd.{MatchEnd}
@@ -93,8 +94,7 @@ LogsGame (Some first) l l' notes = Logged l l' (log_text first notes)
 
 -- each of these games was played by the plan, and ended without a fault of an engine
 abbrev pub SoundGames : GamesPlan → List GameRecord → Type 0
-SoundGames plan [] = Unit {0}
-SoundGames plan (played ∷ rest) = IsOfPlan plan played × (played.end.fault ≡ None) × SoundGames plan rest
+SoundGames plan games = AllByRecursion (λ played. IsOfPlan plan played × (played.end.fault ≡ None)) games
 
 -- the PGN of these games one after another; they are numbered from 1
 abbrev pub game_texts : GamesPlan → List GameRecord → List ℕ
@@ -138,42 +138,47 @@ EndsGames plan games (Some (number, side, fault)) =
     (before : List GameRecord) × (last : GameRecord) × (games ≡ before ++ last ∷ []) × SoundGames plan before
     × IsOfPlan plan last × (last.end.fault ≡ Some (side, fault)) × (number ≡ length games) × (number ≤ plan.games)
 
--- the match broke off with this fault: all games before were written, and the next one could not be started, or only a
--- beginning of its PGN was written. `w` and `l` are output and log before, `w'` and `l'` after
-abbrev pub GamesBrokeOff : GamesPlan → OutputState → OutputState → LogSeen → LogSeen → GamesFault → Type 0
-GamesBrokeOff plan w w' l l' WriteFailed =
-    (games : List GameRecord) × (next : GameRecord) × (start : List ℕ)
-    × SoundGames plan games × (length games < plan.games) × IsOfPlan plan next
-    × Begins start (game_text plan (length games + 1) next) × FlushedThenFailed w w' (game_texts plan games) start
-    × LogsGames plan.log l l' (games ++ next ∷ [])
-GamesBrokeOff plan w w' l l' fault =
-    (games : List GameRecord) × SoundGames plan games × (length games < plan.games)
-    × IsStartFault plan.white.now plan.black.now fault × Flushed w w' (game_texts plan games)
-    × LogsGames plan.log l l' games
+-- ---- what a match writes
 
 -- all that a match writes to the output: the PGN of each of these games, and then the line of the score
 abbrev pub match_text : GamesPlan → List GameRecord → List ℕ
 match_text plan games = game_texts plan games ++ score_line (score_of games)
 
--- the PGN of all games was written, but of the line of the score only a beginning. `w` and `l` are output and log
--- before, `w'` and `l'` after
-abbrev pub BrokeOffAtScore : GamesPlan → OutputState → OutputState → LogSeen → LogSeen → Type 0
-BrokeOffAtScore plan w w' l l' =
-    (games : List GameRecord) × (last : Option (ℕ × Colour × MatchFault)) × (start : List ℕ)
-    × EndsGames plan games last × Begins start (score_line (score_of games))
-    × FlushedThenFailed w w' (game_texts plan games) start × LogsGames plan.log l l' games
-
--- what playing a match does, by its result. `Ok`: all games were written and logged, and then the score was written.
--- `Game`: the same, up to and with the game of this number, in which an engine had the fault that `text` names. Else
--- the match broke off, at a game or (`WriteFailed`) at the score; or memory ran out (`NoMemory`), and nothing was
--- written or logged. `w` and `l` are output and log before, `w'` and `l'` after
-abbrev pub RanGames : GamesPlan → OutputState → OutputState → LogSeen → LogSeen → Result (Unit {0}) GamesFault → Type 0
-RanGames plan w w' l l' (Ok _) = (games : List GameRecord) × EndsGames plan games None
-    × Flushed w w' (match_text plan games) × LogsGames plan.log l l' games
-RanGames plan w w' l l' (Err (Game number text)) =
-    (games : List GameRecord) × (side : Colour) × (fault : MatchFault)
+-- what playing a match writes to the output (`o`), by its result. `games` are the games whose PGN was written whole, and
+-- `unwritten` is one more whose PGN was not, if there is one. `Ok`: these are all games, and then the score was written.
+-- `Game`: the same, but the last one has this number, and in it an engine had the fault that `text` names.
+-- `WriteFailed`: a write or flush failed in the PGN of a game, or in the score after the last one. `CanNotStart` and
+-- `NoMemory`: the engines of the next game could not be started
+abbrev pub WritesGames : GamesPlan → Result (Unit {0}) GamesFault → List GameRecord → Option GameRecord → ToOutput
+    → Type 0
+WritesGames plan (Ok _) games None o = EndsGames plan games None × (o ≡ all_of (match_text plan games))
+WritesGames plan (Err (Game number text)) games None o = (side : Colour) × (fault : MatchFault)
     × EndsGames plan games (Some (number, side, fault)) × (text.now ≡ comment_of (Faulted side fault))
-    × Flushed w w' (match_text plan games) × LogsGames plan.log l l' games
-RanGames plan w w' l l' (Err WriteFailed) = GamesBrokeOff plan w w' l l' WriteFailed ⊎ BrokeOffAtScore plan w w' l l'
-RanGames plan w w' l l' (Err NoMemory) = ((w' ≡ w) × (l' ≡ l)) ⊎ GamesBrokeOff plan w w' l l' NoMemory
-RanGames plan w w' l l' (Err (CanNotStart command)) = GamesBrokeOff plan w w' l l' (CanNotStart command)
+    × (o ≡ all_of (match_text plan games))
+WritesGames plan (Err WriteFailed) games (Some next) o = SoundGames plan games × (length games < plan.games)
+    × IsOfPlan plan next × BreaksOffIn (game_texts plan games) (game_text plan (length games + 1) next) o
+WritesGames plan (Err WriteFailed) games None o = (last : Option (ℕ × Colour × MatchFault)) × EndsGames plan games last
+    × BreaksOffIn (game_texts plan games) (score_line (score_of games)) o
+WritesGames plan (Err fault) games None o = SoundGames plan games × (length games < plan.games)
+    × IsStartFault plan.white.now plan.black.now fault × (o ≡ all_of (game_texts plan games))
+WritesGames plan _ games (Some next) o = ⊥
+
+-- where a match writes, as contracts see it: its output, which has the games and the score, and its log
+pub record Outputs : Type 0 where
+  pub output : OutputState
+  pub log : LogSeen
+
+-- just these games were played from `d` to `d'`, with this result: `games` were written, `unwritten` was not, if there is
+-- one, and the log, if the plan asks for it, has both
+abbrev pub PlaysThese : GamesPlan → Result (Unit {0}) GamesFault → List GameRecord → Option GameRecord → Outputs
+    → Outputs → Type 0
+PlaysThese plan result games unwritten d d' =
+    (o : ToOutput) × WritesGames plan result games unwritten o × OutputTook d.output d'.output o
+    × LogsGames plan.log d.log d'.log (games ++ option_to_list unwritten)
+
+-- what playing a match does, by its result: some games were played, written and logged; or memory ran out before the
+-- first one, and nothing was written or logged
+abbrev pub PlaysGames : GamesPlan → Result (Unit {0}) GamesFault → Outputs → Outputs → Type 0
+PlaysGames plan result d d' =
+    ((games : List GameRecord) × (unwritten : Option GameRecord) × PlaysThese plan result games unwritten d d')
+    ⊎ ((result ≡ Err NoMemory) × (d' ≡ d))

@@ -1,18 +1,11 @@
 -- What passes at the table of a match's games, step by step.
-use Rattle.std.specs.Prelude.{◌≡◌, ◌⊎◌, ℕ, ◌+◌, ◌<◌, Bool, if◌then◌else◌, List, [], ◌∷◌, ◌++◌, length, flat_map, Option, None, Some, Result, Ok, Err}
+use Rattle.std.specs.Prelude.{ℕ, ◌+◌, Bool, if◌then◌else◌, List, [], ◌∷◌, ◌++◌, length, flat_map, Option, None, Some, Result, Err}
 use Rattle.std.specs.List.{enumerate_from}
-use Rattle.chess_base.specs.declared.man.Colour.{Colour}
 use Rattle.chess_base.specs.declared.man.Colour.TheVariants.{White, Black}
-use Rattle.byte_devices.specs.Devices.{OutputState, Begins}
-use Rattle.chess_match.specs.Reasons.{comment_of}
-use Rattle.chess_match.specs.Run.{Flushed, FlushedThenFailed}
-use Rattle.chess_match.specs.declared.reason.MatchFault.{MatchFault}
-use Rattle.chess_match.specs.declared.reason.Reason.TheVariants.{Faulted}
 use Rattle.match_runner.specs.declared.fault.GamesFault.{GamesFault}
-use Rattle.match_runner.specs.declared.fault.GamesFault.TheVariants.{WriteFailed, Game}
+use Rattle.match_runner.specs.declared.fault.GamesFault.TheVariants.{NoMemory, CanNotStart}
 use Rattle.match_runner.specs.declared.plan.GamesPlan.{GamesPlan}
-use Rattle.match_runner.specs.Games.{GameRecord, IsOfPlan, IsStartFault, LogsGames, SoundGames, EndsGames, engine_command, game_text, game_texts, match_text, score_line, score_of}
-use Rattle.match_runner.specs.Log.{LogSeen}
+use Rattle.match_runner.specs.Games.{GameRecord, Outputs, PlaysThese, engine_command, game_text}
 
 -- one step of playing a match's games: one call at their table (the trait `GamesTable`), which is what starts the
 -- engines, plays the games, writes them, and waits for the engines
@@ -77,46 +70,19 @@ games_steps plan games = flat_map (λ g. game_steps plan g.0 g.1) (enumerate_fro
 
 -- ---- a match at a table
 
--- the match broke off with this fault (`GamesBrokeOff`), and the steps that passed at the table are those of the games
--- before, and then of the next one, whose PGN could not be written (`WriteFailed`) or whose engines could not be
--- started (any other fault). `p` is what may have passed at the table before, `w` and `l` are output and log; `p'`,
--- `w'` and `l'` after
-abbrev pub GamesBrokeOffAt : GamesPlan → GamesPassing → GamesPassing → OutputState → OutputState → LogSeen → LogSeen
-    → GamesFault → Type 0
-GamesBrokeOffAt plan p p' w w' l l' WriteFailed =
-    (games : List GameRecord) × (next : GameRecord) × (start : List ℕ)
-    × SoundGames plan games × (length games < plan.games) × IsOfPlan plan next
-    × Begins start (game_text plan (length games + 1) next) × FlushedThenFailed w w' (game_texts plan games) start
-    × LogsGames plan.log l l' (games ++ next ∷ [])
-    × StepsPass p p' (games_steps plan games ++ unwritten_steps plan (length games + 1) next)
-GamesBrokeOffAt plan p p' w w' l l' fault =
-    (games : List GameRecord) × SoundGames plan games × (length games < plan.games)
-    × IsStartFault plan.white.now plan.black.now fault × Flushed w w' (game_texts plan games)
-    × LogsGames plan.log l l' games
-    × StepsPass p p' (games_steps plan games ++ unstarted_steps plan (length games + 1))
+-- the steps after those of the games that were written, by a match's result; the next game would have this number. The
+-- steps of the game whose PGN could not be written (`unwritten`), if there is one; or the start of engines that failed;
+-- else none. Writing the score is no step at the table
+abbrev pub last_steps : GamesPlan → ℕ → Result (Unit {0}) GamesFault → Option GameRecord → List GamesStep
+last_steps plan number result (Some unwritten) = unwritten_steps plan number unwritten
+last_steps plan number (Err NoMemory) None = unstarted_steps plan number
+last_steps plan number (Err (CanNotStart _)) None = unstarted_steps plan number
+last_steps plan number _ None = []
 
--- the PGN of all games was written, but of the line of the score only a beginning (`BrokeOffAtScore`), and the steps
--- are those of all games: writing the score is no step at the table. `p` is what may have passed there before, `w` and
--- `l` are output and log; `p'`, `w'` and `l'` after
-abbrev pub BrokeOffAtScoreAt : GamesPlan → GamesPassing → GamesPassing → OutputState → OutputState → LogSeen → LogSeen
+-- what playing a match at a table does, by its result: some games were played, written and logged, as in `PlaysGames`,
+-- and just the steps of these games passed at the table. `p` is what may have passed there before, `p'` after
+abbrev pub PlaysGamesAt : GamesPlan → Result (Unit {0}) GamesFault → GamesPassing → GamesPassing → Outputs → Outputs
     → Type 0
-BrokeOffAtScoreAt plan p p' w w' l l' =
-    (games : List GameRecord) × (last : Option (ℕ × Colour × MatchFault)) × (start : List ℕ)
-    × EndsGames plan games last × Begins start (score_line (score_of games))
-    × FlushedThenFailed w w' (game_texts plan games) start × LogsGames plan.log l l' games
-    × StepsPass p p' (games_steps plan games)
-
--- what playing a match at a table does, by its result: what `RanGames` says, and the games that were written, logged
--- and counted are just those whose steps passed at the table. `p` is what may have passed there before, `w` and `l` are
--- output and log; `p'`, `w'` and `l'` after
-abbrev pub RanGamesAt : GamesPlan → GamesPassing → GamesPassing → OutputState → OutputState → LogSeen → LogSeen
-    → Result (Unit {0}) GamesFault → Type 0
-RanGamesAt plan p p' w w' l l' (Ok _) = (games : List GameRecord) × EndsGames plan games None
-    × Flushed w w' (match_text plan games) × LogsGames plan.log l l' games × StepsPass p p' (games_steps plan games)
-RanGamesAt plan p p' w w' l l' (Err (Game number text)) =
-    (games : List GameRecord) × (side : Colour) × (fault : MatchFault)
-    × EndsGames plan games (Some (number, side, fault)) × (text.now ≡ comment_of (Faulted side fault))
-    × Flushed w w' (match_text plan games) × LogsGames plan.log l l' games × StepsPass p p' (games_steps plan games)
-RanGamesAt plan p p' w w' l l' (Err WriteFailed) =
-    GamesBrokeOffAt plan p p' w w' l l' WriteFailed ⊎ BrokeOffAtScoreAt plan p p' w w' l l'
-RanGamesAt plan p p' w w' l l' (Err fault) = GamesBrokeOffAt plan p p' w w' l l' fault
+PlaysGamesAt plan result p p' d d' =
+    (games : List GameRecord) × (unwritten : Option GameRecord) × PlaysThese plan result games unwritten d d'
+    × StepsPass p p' (games_steps plan games ++ last_steps plan (length games + 1) result unwritten)

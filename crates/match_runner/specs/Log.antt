@@ -5,10 +5,10 @@ use Rattle.chess_base.specs.Letters.{byte, new_line}
 use Rattle.chess_base.specs.declared.man.Colour.{Colour}
 use Rattle.chess_base.specs.Men.{same_colour}
 use Rattle.byte_devices.specs.Devices.{OutputState, Begins}
+use Rattle.byte_devices.specs.Transfers.{ToOutput, OutputTook, all_of}
 use Rattle.chess_game.specs.Results.{shown_byte}
 use Rattle.chess_match.specs.Events.{Line, Opened, OutputEnds, FailsToRead, FailsToWrite}
 use Rattle.chess_match.specs.Notes.{Note, Happened, Gives}
-use Rattle.chess_match.specs.Run.{Flushed, FlushedThenFailed}
 use Rattle.match_runner.specs.declared.log.Log.{Log}
 
 -- ---- one line
@@ -91,19 +91,16 @@ pub record LogSeen : Type 0 where
 abbrev pub log_seen : OutputState → Bool → LogSeen
 log_seen o broken = record { output = o; broken = broken }
 
--- what logging `text` did; the flags say whether the log was broken before and is now. All of it was written and
--- flushed; or a call failed, and a beginning was written; or, if the log was broken before, nothing was. `o` and `o'`
--- are the output before and after
-abbrev pub Logs : Bool → Bool → OutputState → OutputState → List ℕ → Type 0
-Logs false false o o' text = Flushed o o' text
-Logs false true o o' text =
-    (written : List ℕ) × (start : List ℕ) × Begins (written ++ start) text × FlushedThenFailed o o' written start
-Logs true broken o o' text = (broken ≡ true) × (o' ≡ o)
+-- what logging a text writes to the output (`o`), by whether the log is then broken: all of it, flushed; or a beginning
+-- of it, some of which may be flushed, and then a write or flush failed
+abbrev pub LogsText : Bool → List ℕ → ToOutput → Type 0
+LogsText false text o = o ≡ all_of text
+LogsText true text o = Begins (o.flushed ++ o.left) text × (o.failed ≡ true)
 
--- from the log's state `l` to `l'` all of this text was written and flushed; or a call failed, and a beginning of it
--- was written; or one had failed before, and nothing was
+-- from its state `l` to `l'` a log was given this text to write; one that is broken stays as it is
 abbrev pub Logged : LogSeen → LogSeen → List ℕ → Type 0
-Logged l l' text = Logs l.broken l'.broken l.output l'.output text
+Logged l l' text = (l.broken ≡ true → l' ≡ l)
+    × (l.broken ≡ false → (o : ToOutput) × OutputTook l.output l'.output o × LogsText l'.broken text o)
 
 -- a log was given this note, which took it from `l` to `l'`: the note's lines were written and flushed, or a call
 -- failed, as in `Logged`. `seen` gives what contracts see of its output

@@ -9,7 +9,7 @@ ghost use Rattle.chess_match.specs.Events as events;
 ghost use Rattle.chess_match.specs.Notes.{Gives, Happened};
 ghost use Rattle.chess_match.specs.Played.{PlayedNoting};
 ghost use Rattle.chess_match.specs.Run.{engines_of, text_read};
-ghost use Rattle.match_runner.specs.Log.{Logged, Logs, LogsNote};
+ghost use Rattle.match_runner.specs.Log.{Logged, LogsNote};
 ghost use Rattle.match_runner.specs.Log.{engine_text, head, lines_in, log_line, log_seen, log_text};
 ghost use Rattle.match_runner.specs.ties.Logging.{Adds, IsLog, noted_by};
 
@@ -43,7 +43,7 @@ fn shown_byte(byte: u8) -> u8
 // Writes and flushes a text, unless a call on the log failed before (`broken`). Returns whether one has failed, before
 // or now.
 fn send_unless_broken<E: Output>(output: &mut E, text: &[u8], broken: bool) -> bool
-    ensures { Logs broken result (E.seen output.old) (E.seen output.new) text.now }
+    ensures { Logged (log_seen (E.seen output.old) broken) (log_seen (E.seen output.new) result) text.now }
 {
     if broken {
         return true;

@@ -12,7 +12,7 @@ KeepsFailureCounts played = (S : Colour)
     → (played.after.engines S).output.failure_count ≡ (played.before.engines S).output.failure_count
 
 -- in every match: each game without a fault of an engine leaves these counts as they were. All games of a match but the
--- last are such games, whether it was played to its end (`EndsGames`) or broke off (`GamesBrokeOff`)
+-- last are such games, whether it was played to its end or broke off (`WritesGames`)
 abbrev pub OnlyLastGamesHaveFailedWrites : Type 0
 OnlyLastGamesHaveFailedWrites = (plan : GamesPlan) (games : List GameRecord) → SoundGames plan games
     → AllByRecursion KeepsFailureCounts games

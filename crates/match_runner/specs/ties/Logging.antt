@@ -3,18 +3,19 @@ use Rattle.std.specs.Prelude.{◌≡◌, ℕ, ◌==◌, Bool, true, false, if◌
 use Rattle.chess_base.specs.declared.man.Colour.{Colour}
 use Rattle.chess_base.specs.declared.man.Colour.TheVariants.{White, Black}
 use Rattle.chess_base.specs.Men.{same_colour}
-use Rattle.byte_devices.specs.Devices.{OutputState, Begins}
+use Rattle.byte_devices.specs.Devices.{OutputState}
+use Rattle.byte_devices.specs.Transfers.{ToOutput, OutputTook, all_of}
 use Rattle.chess_match.specs.Notes.{Note}
-use Rattle.chess_match.specs.Run.{Flushed, FlushedThenFailed}
 use Rattle.match_runner.specs.declared.log.Log.{Log}
 use Rattle.match_runner.specs.declared.log.Pending.{Pending}
-use Rattle.match_runner.specs.Log.{log_seen, log_text, moment_after, LogSeen, Logged}
+use Rattle.match_runner.specs.Log.{log_seen, log_text, moment_after, LogSeen, Logged, LogsText}
 
--- what logging `text` did, as `Logs` has it, but that the bytes `pending` at its end still wait to be written
+-- what logging `text` did, as `Logged` has it, but that the bytes `pending` at its end still wait to be written. The
+-- flags say whether the log was broken before and is now; `o` and `o'` are the output before and after
 abbrev pub LogsPending : Bool → Bool → OutputState → OutputState → List ℕ → List ℕ → Type 0
-LogsPending false false o o' pending text = (written : List ℕ) × Flushed o o' written × (written ++ pending ≡ text)
-LogsPending false true o o' pending text =
-    (written : List ℕ) × (start : List ℕ) × Begins (written ++ start) text × FlushedThenFailed o o' written start
+LogsPending false false o o' pending text =
+    (written : List ℕ) × OutputTook o o' (all_of written) × (written ++ pending ≡ text)
+LogsPending false true o o' pending text = (t : ToOutput) × OutputTook o o' t × LogsText true text t
 LogsPending true broken o o' pending text = (broken ≡ true) × (o' ≡ o)
 
 -- logging `more` took the output and the bytes that wait to be written from `o` and `p` to `o'` and `p'`: whatever text

@@ -4,11 +4,11 @@ use Rattle.match_runner.specs.declared.plan.GamesPlan.{GamesPlan}
 use Rattle.chess_base.specs.Men.{other}
 use Rattle.chess_base.specs.declared.man.Colour.{Colour}
 use Rattle.byte_devices.specs.Devices.{OutputState, BreaksOff, Sent}
+use Rattle.byte_devices.specs.Transfers.{OutputTook, all_of}
 use Rattle.chess_game.specs.Results.{same_outcome}
 use Rattle.chess_game.specs.declared.results.Outcome.{Outcome}
 use Rattle.chess_game.specs.declared.results.Outcome.TheVariants.{Draw, Unfinished}
 use Rattle.chess_match.specs.Reasons.{win_of}
-use Rattle.chess_match.specs.Run.{Flushed}
 use Rattle.chess_match.specs.declared.run.MatchEnd.{MatchEnd}
 use Rattle.match_runner.specs.Log.{LogSeen}
 use Rattle.match_runner.specs.declared.fault.GamesFault.{GamesFault}
@@ -16,7 +16,7 @@ use Rattle.match_runner.specs.declared.fault.GamesFault.TheVariants.{WriteFailed
 use Rattle.match_runner.specs.declared.games.GamesPlayed.{GamesPlayed}
 use Rattle.match_runner.specs.declared.score.Score.{Score}
 use Rattle.match_runner.specs.Games.{first_side, GameRecord, IsOfPlan, game_text, IsStartFault, LogsGame, game_texts, LogsGames, score_of, EndsGames}
-use Rattle.match_runner.specs.GamesTable.{GamesPassing, StepsPass, game_steps, unwritten_steps, unstarted_steps, games_steps, GamesBrokeOffAt}
+use Rattle.match_runner.specs.GamesTable.{GamesPassing, StepsPass, game_steps, unwritten_steps, unstarted_steps, games_steps, PlaysGamesAt}
 
 -- ---- the score, as it is counted
 
@@ -73,5 +73,7 @@ abbrev pub HasPlayed : GamesPlan → GamesPassing → GamesPassing → OutputSta
     → Result GamesPlayed GamesFault → Type 0
 HasPlayed plan p p' w w' l l' (Ok played) =
     (games : List GameRecord) × EndsGames plan games played.fault × (played.score ≡ score_of games)
-    × Flushed w w' (game_texts plan games) × LogsGames plan.log l l' games × StepsPass p p' (games_steps plan games)
-HasPlayed plan p p' w w' l l' (Err fault) = GamesBrokeOffAt plan p p' w w' l l' fault
+    × OutputTook w w' (all_of (game_texts plan games)) × LogsGames plan.log l l' games
+    × StepsPass p p' (games_steps plan games)
+HasPlayed plan p p' w w' l l' (Err fault) = PlaysGamesAt plan (Err fault) p p'
+    (record { output = w; log = l }) (record { output = w'; log = l' })

@@ -6,7 +6,7 @@ use Rattle.match_runner.specs.Games.{first_side}
 use Rattle.match_runner.specs.ties.Playing.{HasPlayed, score_after}
 use Rattle.match_runner.specs.Log.{log_seen}
 use Rattle.match_runner.specs.declared.score.Score.{Score}
-use Rattle.match_runner.proofs.GamesWritten.{SoFar, start, one_more, with_fault, broke, all_played}
+use Rattle.match_runner.proofs.GamesWritten.{SoFar, start, one_more, with_fault, broke_off, all_played}
 use Rattle.std.proofs.lemmas.Result.{err_from_is_err_and}
 use Rattle.match_runner.proofs.games.play_each.Goals as goal
 
@@ -35,7 +35,7 @@ returns-in_err-end g c =
     let le : c.loop-number.number + 1 ≤ c.args.plan.now.games =
     (let t = c.loop-number-test.true in let e = c.game_count.ensures.value in omega (arith, t, e)) in
     let e = err_from_is_err_and c.from_residual.result c.from_residual.ensures.1 in
-    rw (e.1, e.2) (broke c.args.plan.now p p' p'' w w' w'' l l' l'' (c.loop-number.number + 1) c.loop-number.score
+    rw (e.1, e.2) (broke_off c.args.plan.now p p' p'' w w' w'' l l' l'' (c.loop-number.number + 1) c.loop-number.score
     c.loop-number.invariant.1 c.loop-number.invariant.2 c.in_err-end.field-0.0 le c.in_err-end.ensures.played)
 
 pub returns-in-Some : goal.returns-in-Some

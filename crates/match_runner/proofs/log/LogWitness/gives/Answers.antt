@@ -1,12 +1,21 @@
--- A line more was logged.
-use Rattle.std.proofs.Common.{◌≡◌, ℕ, List, ◌++◌, ◌∙◌, length, subst, sym, true}
+-- At first nothing was logged; then a line more, and again.
+use Rattle.std.proofs.Common.{◌≡◌, ℕ, List, [], ◌++◌, ◌∙◌, length, refl, subst, sym, true}
 use Rattle.std.specs.Prelude.{◌==◌}
 use Rattle.chess_base.specs.Letters.{byte}
 use Rattle.chess_base.specs.Men.{same_colour}
 use Rattle.chess_base.specs.declared.man.Colour.{Colour}
 use Rattle.match_runner.specs.Log.{Logged, log_line, log_seen}
-use Rattle.match_runner.proofs.Logged.{given_all, given_more, logged_more}
+use Rattle.match_runner.proofs.Logged.{given_all, given_more, logged_more, logs_none}
 use Rattle.match_runner.proofs.log.LogWitness.gives.Goals as goal
+
+pub loop-rest-init : goal.loop-rest-init
+loop-rest-init g c = (
+  [],
+  logs_none (log_seen (g.E.Output.seen c.args.self.now.output) c.args.self.now.broken),
+  refl,
+  refl,
+  refl,
+)
 
 pub loop-rest-preserved : goal.loop-rest-preserved
 loop-rest-preserved g c =

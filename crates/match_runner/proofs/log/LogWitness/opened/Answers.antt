@@ -4,4 +4,4 @@ use Rattle.match_runner.proofs.Logged.{logs_none}
 use Rattle.match_runner.proofs.log.LogWitness.opened.Goals as goal
 
 pub returns : goal.returns
-returns g c = record { logs = (logs_none _ _, refl, refl) }
+returns g c = record { logs = (logs_none _, refl, refl) }
