@@ -281,7 +281,7 @@ fn check_explained(rt: &impl Abort, host: &HostRuntime, rows: &[(&'static [u8], 
     }
 }
 
-// The field that the fault is about is shown.
+// The field that is shown, and its offset.
 #[test]
 fn fens_are_explained(rt: HostRuntime) {
     check_explained(&rt, &rt, &FENS);
