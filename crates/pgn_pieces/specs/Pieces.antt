@@ -144,7 +144,7 @@ pub record HasRead (ended : Bool) (r r' : InputState) (text : List ℕ) : Type 0
   pub at_end : ended ≡ true → IsAtEnd r'.known_bytes
 
 -- between two states of the input, `r` and then `r'`, this text was read, and then one read failed
-pub record BrokeOff (r r' : InputState) (text : List ℕ) : Type 0 where
+pub record GaveThenFailed (r r' : InputState) (text : List ℕ) : Type 0 where
   pub bytes : Consumes r.known_bytes r'.known_bytes text
   pub failures : r'.failure_count ≡ saturating_increment r.failure_count
   pub ends : r'.end_count ≡ r.end_count
@@ -152,6 +152,6 @@ pub record BrokeOff (r r' : InputState) (text : List ℕ) : Type 0 where
 -- why nothing was read after this text, between the input's states `r` and `r'`: a read failed, memory ran out, or
 -- the text has nearly 2^63 bytes or more
 abbrev pub IsCause : InputState → InputState → List ℕ → PieceFault → Type 0
-IsCause r r' text ReadFailed = BrokeOff r r' text
+IsCause r r' text ReadFailed = GaveThenFailed r r' text
 IsCause r r' text NoMemory = HasRead false r r' text
 IsCause r r' text InputTooLong = HasRead false r r' text × (2 ^ 63 ≤ length text + 2 ^ 16)

@@ -3,7 +3,7 @@ use Rattle.std.specs.Prelude.{◌≡◌, ⊤, ℕ, ◌+◌, min, Bool, true, fal
 use Rattle.match_runner.specs.declared.plan.GamesPlan.{GamesPlan}
 use Rattle.chess_base.specs.Men.{other}
 use Rattle.chess_base.specs.declared.man.Colour.{Colour}
-use Rattle.byte_devices.specs.Devices.{OutputState, BreaksOff, Sent}
+use Rattle.byte_devices.specs.Devices.{OutputState, TookSomeThenFailed, Sent}
 use Rattle.byte_devices.specs.Transfers.{OutputTook, all_of}
 use Rattle.chess_game.specs.Results.{same_outcome}
 use Rattle.chess_game.specs.declared.results.Outcome.{Outcome}
@@ -60,7 +60,7 @@ PlayedGame plan number p p' w w' l l' (Ok end) =
     (played : GameRecord) × (played.end ≡ end) × IsOfPlan plan played × Sent w w' (game_text plan number played)
     × LogsGame (logged_side plan number) l l' played.notes × StepsPass p p' (game_steps plan number played)
 PlayedGame plan number p p' w w' l l' (Err WriteFailed) =
-    (played : GameRecord) × IsOfPlan plan played × BreaksOff w w' (game_text plan number played)
+    (played : GameRecord) × IsOfPlan plan played × TookSomeThenFailed w w' (game_text plan number played)
     × LogsGame (logged_side plan number) l l' played.notes × StepsPass p p' (unwritten_steps plan number played)
 PlayedGame plan number p p' w w' l l' (Err fault) =
     IsStartFault plan.white.now plan.black.now fault × (w' ≡ w) × (l' ≡ l)

@@ -4,7 +4,7 @@ use Rattle.std.proofs.lemmas.Bool.Decides.{nat_tests}
 use Rattle.byte_devices.specs.Devices.{InputState, GavePiece, FailedToRead, saturating_increment}
 use Rattle.byte_devices.proofs.shared.Devices.{consumes_more, consumes_none, consumes_kept}
 use Rattle.std.specs.Io.KnownBytes.{Consumes}
-use Rattle.pgn_pieces.specs.Pieces.{BrokeOff, HasRead}
+use Rattle.pgn_pieces.specs.Pieces.{GaveThenFailed, HasRead}
 
 pub nothing_read : (r : InputState) → HasRead false r r []
 nothing_read r =
@@ -24,7 +24,7 @@ read_on b r r' r'' text more h front gave = record {
   at_end = λ e. gave.at_end (is_none more (h ∙ e));
 }
 
-pub broke_off : (r r' r'' : InputState) (text : List ℕ) → HasRead false r r' text → FailedToRead r' r'' → BrokeOff r r'' text
+pub broke_off : (r r' r'' : InputState) (text : List ℕ) → HasRead false r r' text → FailedToRead r' r'' → GaveThenFailed r r'' text
 broke_off r r' r'' text front failed = record {
   bytes = subst (Consumes r.known_bytes r''.known_bytes) (append-nil text)
       (consumes_more r.known_bytes r'.known_bytes r''.known_bytes text [] front.bytes
