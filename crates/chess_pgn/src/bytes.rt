@@ -1,5 +1,6 @@
-//! Kinds of bytes. Each byte of a text is tested, so the look-ups in the tables are inlined. A table has a character
-//! for each byte, in eight rows of 32: the second row begins with the space (0x20), the third with `@` (0x40).
+//! Kinds of bytes, and a text split by one. Each byte of a text is tested, so the look-ups in the tables are inlined. A
+//! table has a character for each byte, in eight rows of 32: the second row begins with the space (0x20), the third
+//! with `@` (0x40).
 
 ghost use Rattle.std.specs.Prelude.{◌≡◌, ℕ, Bool, ◌<◌, ◌||◌, ◌==◌, drop, take_while};
 ghost use Rattle.std.specs.List.{prefix_len};
