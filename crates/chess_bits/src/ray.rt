@@ -9,7 +9,8 @@ use chess_base::rules::Line;
 
 // The number of the line of this kind through a square: its rank or its file (0 to 7), its diagonal or its antidiagonal
 // (0 to 14). Two squares are on one line of this kind exactly if their numbers are equal: a1 and h8 are both on
-// diagonal 7.
+// diagonal 7. chess_base's `shared_line`, private there, answers another question: of which kind the line through two
+// squares is.
 fn line_number(line: Line, square: Square) -> u8
     ensures { result ≡ line_number line square }
 {

@@ -5,7 +5,7 @@ ghost use Rattle.std.specs.List.{list_all};
 ghost use Rattle.chess_fen.specs.Texts.{occurs, times, may_name_right, are_right_letters, first_letter, names_file};
 ghost use Rattle.chess_fen.specs.RightNames.{side_letter, right_letter, right_named, is_left_of, is_towards};
 ghost use Rattle.chess_fen.specs.ties.Loops.{edge_file};
-ghost use Rattle.chess_fen.specs.ties.Reader.{names_once, outer_rook, named_square, one_or_nowhere, right_after_letters, right_by_letters};
+ghost use Rattle.chess_fen.specs.ties.Reader.{names_once, nowhere, outer_rook, named_square, one_or_nowhere, right_after_letters, right_by_letters};
 ghost use Rattle.chess_base.specs.Castling.{home_square, rook_file, rights_by};
 ghost use Rattle.chess_base.specs.declared.man.CastlingSide.TheVariants.{KingSide, QueenSide};
 ghost use Rattle.chess_base.specs.declared.man.Variant.TheVariants.{Normal, Fischerandom};
@@ -135,8 +135,16 @@ fn edge_file(castling_side: CastlingSide, left: u8) -> u8
     }
 }
 
+// A square off the first ranks (a4), given as the rook's square of a right that is named wrongly. No right can have its
+// rook there, so the text is refused.
+fn nowhere() -> Square
+    ensures { result ≡ nowhere }
+{
+    Square::new(24)
+}
+
 // The square of the colour's rook on its first rank that is nearest to the edge on that side, even if it is not on that
-// side of the king. If there is no rook, it is square 24 (a4), where no right can have its rook.
+// side of the king; `nowhere` if there is no rook.
 fn outer_rook(men: &[Option<Man>; 64], colour: Colour, castling_side: CastlingSide) -> Square
     ensures { result ≡ outer_rook men.now colour castling_side }
 {
@@ -146,7 +154,7 @@ fn outer_rook(men: &[Option<Man>; 64], colour: Colour, castling_side: CastlingSi
             return square;
         }
     }
-    Square::new(24)
+    nowhere()
 }
 
 // For squares on one rank, whether s is nearer to the a-file than the king; false if there is no king.
@@ -196,15 +204,14 @@ fn named_square(
 }
 
 // Chess960: a castling right's rook square from two letters, each of which gives a square if it names the right: the
-// one given, `None` if none is. If both are given, it is square 24 (a4), where no right can have its rook, so that the
-// text is refused.
+// one given, `None` if none is, `nowhere` if both are.
 fn one_or_nowhere(first: Option<Square>, second: Option<Square>) -> Option<Square>
     ensures { result ≡ one_or_nowhere first second }
 {
     match (first, second) {
         (None, second) => second,
         (first, None) => first,
-        (Some(_), Some(_)) => Some(Square::new(24)),
+        (Some(_), Some(_)) => Some(nowhere()),
     }
 }
 

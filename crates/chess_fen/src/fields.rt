@@ -13,7 +13,8 @@ fn first_other(text: &[u8]) -> Option<usize>
     text.iter().position(|byte| *byte != b' ')
 }
 
-// The offset of a text's first space, if there is one.
+// The offset of a text's first space, if there is one. It and `first_other` are not one function that takes the test,
+// so that each contract can name its test.
 fn first_space(text: &[u8]) -> Option<usize>
     ensures { result ≡ position (λ b. b == space) text.now }
 {
@@ -30,7 +31,7 @@ pub(crate) fn skip_spaces(text: &[u8]) -> &[u8]
 }
 
 // Splits a text before its first space: what is before it, and what begins with it. Without a space the second part is
-// empty.
+// empty. `skip_spaces` cuts before the first byte that is no space, and leaves out what is before it.
 #[tactic(auto, using(crate::proofs::CutFields::place_or_len, crate::proofs::CutFields::place_le))]
 fn split_before_space(text: &[u8]) -> (&[u8], &[u8])
     ensures front { result.0.now ≡ before_first (λ b. b == space) text.now }

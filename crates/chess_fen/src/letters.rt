@@ -36,7 +36,8 @@ macro_rules! piece {
     };
 }
 
-// A byte that stands for no squares: for more of them than a rank has.
+// A byte that stands for no squares: for more of them than a rank has. So it is found by the test for the rank's end
+// (`read_rank`), where an `Option` would need a test of its own.
 const NONE: Run = gap!(9);
 
 const GAP1: Run = gap!(1);

@@ -450,8 +450,10 @@ impl<B: Board> Game<B> {
         verdict_on(&self.board, self.played_moves.as_slice())
     }
 
-    /// The same as `verdict`, but faster, for a caller that has a legal move of the present position, `m`: so the game
-    /// is neither mate nor stalemate. `m` is not played; only the contract names it, and a parameter can't be ghost.
+    /// The same as `verdict`, but without its search for a legal move, for a caller that has one, `m`: so the game is
+    /// neither mate nor stalemate. `m` is not played; only the contract names it, and a parameter can't be ghost.
+    // Verdicts on demand, found this way where a move is at hand, were one of four changes that together took `verify`
+    // from 477 to 317 million instructions on 1.6 MB of games.
     #[inline(always)]
     pub fn verdict_of_moving(&self, m: &Move) -> Option<Verdict>
         requires { IsTrue (is_legal (current self.now.state) m.now) }
@@ -511,8 +513,8 @@ impl<B: Board> Game<B> {
         self.refusal_by(self.is_over())
     }
 
-    /// The same as `refusal`, but faster, for a caller that has a legal move of the present position, `m`: so the game
-    /// is neither mate nor stalemate. `m` is not played; only the contract names it, and a parameter can't be ghost.
+    /// The same as `refusal`, but without its search for a legal move, for a caller that has one, `m` (see
+    /// `verdict_of_moving`). `m` is not played; only the contract names it, and a parameter can't be ghost.
     #[inline(always)]
     pub fn refusal_of_moving(&self, m: &Move) -> Option<PlayRefusal>
         requires { IsTrue (is_legal (current self.now.state) m.now) }

@@ -67,7 +67,8 @@ fn is_legal_start(setup: &Setup, kind: Kind, from: Square, to: Square) -> bool
 }
 
 // The squares from which a piece of this kind, of the side on move, may legally move to `to` without a promotion: for a
-// knight and f3 in the initial position only g1. It asks this of each of the 64 squares.
+// knight and f3 in the initial position only g1. It asks this of each of the 64 squares, in a loop as in `men_of`:
+// one function for both, which takes the test, would need more proof than the two.
 fn legal_starts(setup: &Setup, kind: Kind, to: Square) -> SquareSet
     requires { IsSound setup.now }
     ensures { HasLegalStarts setup.now kind to result }

@@ -1,7 +1,9 @@
-//! Kinds of bytes. Each byte of a text is tested, so the look-ups in the tables are inlined. A table has a character
-//! for each byte, in eight rows of 32: the second row begins with the space (0x20), the third with `@` (0x40).
+//! Kinds of bytes, and a text split by one. Each byte of a text is tested, so the look-ups in the tables are inlined. A
+//! table has a character for each byte, in eight rows of 32: the second row begins with the space (0x20), the third
+//! with `@` (0x40).
 
-ghost use Rattle.std.specs.Prelude.{◌≡◌, ◌||◌, ◌==◌};
+ghost use Rattle.std.specs.Prelude.{◌≡◌, ℕ, Bool, ◌<◌, ◌||◌, ◌==◌, drop, take_while};
+ghost use Rattle.std.specs.List.{prefix_len};
 ghost use Rattle.chess_pgn.specs.Tokens.{is_white_space, is_word_byte};
 ghost use Rattle.text_lines.specs.Words.{is_name_byte};
 ghost use Rattle.chess_base.specs.Letters.{byte, is_digit};
@@ -67,4 +69,21 @@ pub(crate) fn is_passed(next: u8) -> bool
     ensures { result ≡ (is_white_space next || next == byte ".") }
 {
     CLASSES[next as usize] == b'p'
+}
+
+/// Splits a text after the bytes at its front that pass the test: before the first byte that doesn't, or at its end. In
+/// the contract `p` is a definition with which all answers of the test agree.
+#[inline(always)]
+pub(crate) fn split_while<F: Fn(u8) -> bool>(text: &[u8], test: F) -> (&[u8], &[u8])
+    requires { F.IsAlwaysCallable test }
+    ensures front { (p : ℕ → Bool) → ((byte : ℕ) → byte < 256 → (r : Bool) → F.post test byte r → r ≡ p byte)
+        → result.0.now ≡ take_while p text.now }
+    ensures rest { (p : ℕ → Bool) → ((byte : ℕ) → byte < 256 → (r : Bool) → F.post test byte r → r ≡ p byte)
+        → result.1.now ≡ drop (prefix_len p text.now) text.now }
+{
+    let mut end = 0;
+    while end < text.len() && test(text[end]) {
+        end += 1;
+    }
+    text.split_at(end)
 }

@@ -336,7 +336,8 @@ fn tagged_variant(text: &[u8], at: usize) -> Variant
 // Reads the tags from the offset `at` on in one pass, for a game of normal chess. Returns what is known after the tags,
 // and the offset after them: that of the first number, move or outcome mark, or of the text's end. Reading on from
 // there gives the same as reading from `at` (`IsReadOn`). Returns `None` if a tag names Chess960, or there is a fault
-// among the tags or right after them: `begin_game` then restarts the game.
+// among the tags or right after them: `begin_game` then restarts the game. The loop is not that of `read_pgn`: it stops
+// before the first number or move, and leaves tags with a fault to be read anew, where that one reports the fault.
 fn read_normal_tags<B: Board>(
     text: &[u8],
     at: usize,

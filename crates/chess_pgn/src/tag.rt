@@ -8,7 +8,7 @@ ghost use Rattle.chess_pgn.specs.Tokens.{is_white_space, after_next, string_at};
 ghost use Rattle.chess_pgn.specs.ties.TagParts.{tag_by_parts};
 ghost use Rattle.chess_pgn.specs.ties.Seen.{tag_seen};
 
-use crate::bytes::is_name_byte;
+use crate::bytes::{is_name_byte, split_while};
 use crate::skips::after_gap;
 use byte_devices::len_before_any;
 
@@ -28,11 +28,7 @@ pub fn split_name(text: &[u8]) -> (&[u8], &[u8])
     ensures name { result.0.now ≡ take_while is_name_byte text.now }
     ensures rest { result.1.now ≡ drop (prefix_len is_name_byte text.now) text.now }
 {
-    let mut end = 0;
-    while end < text.len() && is_name_byte(text[end]) {
-        end += 1;
-    }
-    text.split_at(end)
+    split_while(text, |byte| is_name_byte(byte))
 }
 
 // Skips any white space and `%` lines at the text's front (`after_gap`), and then the byte `byte`. Returns the text

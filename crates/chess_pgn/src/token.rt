@@ -9,7 +9,7 @@ ghost use Rattle.chess_pgn.specs.Tokens.{is_word_byte, token_at, comment_at, aft
 ghost use Rattle.chess_base.specs.Letters.{is_digit};
 ghost use Rattle.chess_pgn.specs.ties.Seen.{first_seen, IsNextToken, SkipsTo};
 
-use crate::bytes::{is_digit, is_passed, is_word_byte};
+use crate::bytes::{is_digit, is_passed, is_word_byte, split_while};
 use crate::skips::{after_brace, line_end};
 use crate::tag::{Tag, read_tag};
 use crate::variation::after_variation;
@@ -42,11 +42,7 @@ pub(crate) enum TokenFault {
 fn after_digits(text: &[u8]) -> &[u8]
     ensures { result.now ≡ drop (prefix_len is_digit text.now) text.now }
 {
-    let mut end = 0;
-    while end < text.len() && is_digit(text[end]) {
-        end += 1;
-    }
-    &text[end..]
+    split_while(text, |byte| is_digit(byte)).1
 }
 
 // Splits a text after the word at its front: `Nf3+ d5` into `Nf3+` and ` d5`. The word ends before the first byte that
@@ -56,11 +52,7 @@ pub(crate) fn split_word(text: &[u8]) -> (&[u8], &[u8])
     ensures word { result.0.now ≡ take_while is_word_byte text.now }
     ensures rest { result.1.now ≡ drop (prefix_len is_word_byte text.now) text.now }
 {
-    let mut end = 0;
-    while end < text.len() && is_word_byte(text[end]) {
-        end += 1;
-    }
-    text.split_at(end)
+    split_while(text, |byte| is_word_byte(byte))
 }
 
 // Skips a `{` comment: returns `Token::Skip` and the text after its `}`, or a fault if there is no `}`. `text` begins
@@ -164,6 +156,7 @@ pub(crate) fn next_token(text: &[u8], at: usize) -> Result<Option<(Token<'_>, us
 
 /// Skips white space and dots from the offset `at` on, and returns the offset after them: in `12. e4` from 2 on it is
 /// 4. [`next_token`] would return each of these bytes as a `Token::Skip` (`SkipsTo`); here no tokens are made of them.
+/// It doesn't call `split_while`, since it goes on from an offset, and its contract speaks of tokens.
 #[inline(always)]
 pub(crate) fn after_blanks(text: &[u8], at: usize) -> usize
     requires { at ≤ length text.now }

@@ -20,7 +20,8 @@ pub struct Described {
     pub castles: Option<CastlingSide>,
 }
 
-// Whether the move captures an enemy piece, en passant too.
+// Whether the move captures an enemy piece, en passant too. chess_base's `captured_square`, private there, also says
+// where that piece is, and is only for sound positions.
 #[tactic(auto, unfolding(crate::specs::Moves::captures), using(chess_base::proofs::shared::Captures::captures_is))]
 pub(crate) fn captures(setup: &Setup, m: &Move) -> bool
     ensures { result ≡ captures setup.now m.now }

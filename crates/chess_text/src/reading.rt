@@ -43,8 +43,8 @@ pub fn has_move_shape(text: &[u8]) -> bool
 }
 
 // The end square of the move by which `side` castles to this side: in normal chess the king's end square, in Chess960
-// the square of the rook of the right (`right`; if there is none, no such move is legal). chess_base exports no function
-// for it: its `names_castling` is a test of a whole move.
+// the square of the rook of the right (`right`; if there is none, no such move is legal). chess_base exports no
+// function for it: its `names_castling` is a test of a whole move.
 fn castling_end(
     variant: Variant,
     side: Colour,
@@ -191,7 +191,8 @@ fn one_kind(parts: &Parts) -> Option<Kind>
 }
 
 // Whether the parts, which have the letter of this kind, denote `m`, a legal move of such a piece to their end square:
-// it starts on the file and rank that they name, is a capture if they have `x`, and is not castling.
+// it starts on the file and rank that they name, is a capture if they have `x`, and is not castling. `is_by_letter`
+// tests a move that was described in full; here the kind and the end square are known to agree.
 #[inline(always)]
 fn is_denoted_by_letter(parts: &Parts, setup: &Setup, kind: Kind, m: &Move) -> bool
     ensures { result ≡ is_denoted_by_letter parts.now setup.now kind m.now }
@@ -204,6 +205,7 @@ fn is_denoted_by_letter(parts: &Parts, setup: &Setup, kind: Kind, m: &Move) -> b
 
 // Whether the parts, which have no letter, denote `m`, a pawn's legal move to their end square without a promotion:
 // straight ahead if they name no file (`e4`), else from that file, and a capture if they have `x` (`exd5`).
+// `is_straight` and `is_by_file` test a move that was described in full.
 #[inline(always)]
 fn is_denoted_by_pawn(parts: &Parts, setup: &Setup, m: &Move) -> bool
     ensures { result ≡ is_denoted_by_pawn parts.now setup.now m.now }
@@ -286,7 +288,8 @@ fn denoted_among(setup: &Setup, parts: &Parts, kind: Kind, starts: SquareSet) ->
 // What a text of these parts, in which only pieces of this kind can be meant, and no promotion, is read as in the
 // board's position: one legal move, several (`Ambiguous`) or none (`NoSuch`). `denoted_from_origins` would read the
 // same, but describes each move in full, and asks of each apart whether it is legal: `legal_starts` answers that at
-// once.
+// once. That, verdicts on demand, legality by kinds of pieces and classes of bytes together took `verify` from 477 to
+// 317 million instructions on 1.6 MB of games.
 #[inline(always)]
 fn denoted_by_kind<B: Board>(board: &B, parts: &Parts, kind: Kind) -> Reading
     requires { one_kind parts.now ≡ Some kind }
