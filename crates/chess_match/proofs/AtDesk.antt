@@ -3,6 +3,7 @@ use native.Mathlib.Omega.{arith}
 use Rattle.std.proofs.Common.{◌≡◌, ℕ, Bool, true, false, List, [], ◌∷◌, ◌++◌, refl, ap, sym, ◌∙◌, subst, append_assoc, append-nil, Option, None, Some, Result, Ok, Err}
 use Rattle.std.specs.Prelude.{if◌then◌else◌}
 use Rattle.byte_devices.specs.Devices.{InputState, OutputState}
+use Rattle.byte_devices.specs.Transfers.{Devices}
 use Rattle.chess_base.specs.declared.man.Colour.{Colour}
 use Rattle.chess_base.specs.Men.{other}
 use Rattle.text_lines.specs.Lines.{Held, LineSeen, nothing_held}
@@ -14,7 +15,7 @@ use Rattle.chess_base.specs.Options.{list_if}
 use Rattle.chess_match.specs.Lines.{SentLine, bytes_of}
 use Rattle.chess_match.specs.Notes.{Note, Noted, Happened, Gives, WasNoted}
 use Rattle.chess_match.specs.Reasons.{is_unwritten}
-use Rattle.chess_match.specs.Run.{ClockReadings, Ports, text_read}
+use Rattle.chess_match.specs.Run.{ClockReadings, text_read}
 use Rattle.chess_match.specs.Table.{Does, Notes, Passes, Step, reading_of, sending, watched}
 use Rattle.chess_match.specs.declared.reason.Reason.{Reason}
 use Rattle.chess_match.specs.declared.run.TheConstants.{ENGINE_LINE_LEN}
@@ -58,11 +59,11 @@ writes-append S [] G w w' w'' e q = subst (λ (x : OutputState). WritesOf S G x 
 writes-append S (a ∷ H) G w w' w'' (v, o, p) q = (v, o, writes-append S H G v w' w'' p q)
 
 -- from one state of a desk to another these steps passed
-pub record Moves (ports ports' : Ports) (held held' : Colour → Held) (coming coming' : ℕ → Option ℕ)
+pub record Moves (engines engines' : Colour → Devices) (held held' : Colour → Held) (coming coming' : ℕ → Option ℕ)
     (witness witness' : Noted) (names names' : List ℕ) (J : List Step) : Type 0 where
   pub named : names' ≡ names
-  pub read : (S : Colour) → ReadsOf S (acts_in J) (ports.reader S) (ports'.reader S) (held S) (held' S)
-  pub written : (S : Colour) → WritesOf S (acts_in J) (ports.writer S) (ports'.writer S)
+  pub read : (S : Colour) → ReadsOf S (acts_in J) (engines S).input (engines' S).input (held S) (held' S)
+  pub written : (S : Colour) → WritesOf S (acts_in J) (engines S).output (engines' S).output
   pub moments : ClockReadings coming coming' (moments_shown (acts_in J))
   pub noted : WasNoted witness witness' (notes_in J)
 
@@ -73,20 +74,20 @@ since_more a b (Some (text, notes)) M N all e p h =
     subst (λ (ns : List Note). b text ns)
     (append_assoc notes M N ∙ ap (λ (l : List Note). notes ++ l) (sym e)) (p.extends text (notes ++ M) h)
 
-pub moved : (ports ports' : Ports) (held held' : Colour → Held) (coming coming' : ℕ → Option ℕ)
+pub moved : (engines engines' : Colour → Devices) (held held' : Colour → Held) (coming coming' : ℕ → Option ℕ)
     (witness witness' : Noted) (names names' : List ℕ) (J : List Step)
-    → Moves ports ports' held held' coming coming' witness witness' names names' J
-    → Passes (λ begun K. Did begun ports held coming witness names K)
-    (λ begun K. Did begun ports' held' coming' witness' names' K) J
-moved ports ports' held held' coming coming' witness witness' names names' J m = record {
+    → Moves engines engines' held held' coming coming' witness witness' names names' J
+    → Passes (λ begun K. Did begun engines held coming witness names K)
+    (λ begun K. Did begun engines' held' coming' witness' names' K) J
+moved engines engines' held held' coming coming' witness witness' names names' J m = record {
   extends = λ begun K d. record {
     named = m.named ∙ d.named;
     read = λ S. subst (λ (H : List Act).
-        ReadsOf S H (begun.ports.reader S) (ports'.reader S) nothing_held (held' S)) (sym (acts_in-append K J))
-        (reads-append S (acts_in K) (acts_in J) _ (ports.reader S) _ _ (held S) _ (d.read S) (m.read S));
-    written = λ S. subst (λ (H : List Act). WritesOf S H (begun.ports.writer S) (ports'.writer S))
+        ReadsOf S H (begun.engines S).input (engines' S).input nothing_held (held' S)) (sym (acts_in-append K J))
+        (reads-append S (acts_in K) (acts_in J) _ (engines S).input _ _ (held S) _ (d.read S) (m.read S));
+    written = λ S. subst (λ (H : List Act). WritesOf S H (begun.engines S).output (engines' S).output)
         (sym (acts_in-append K J))
-        (writes-append S (acts_in K) (acts_in J) _ (ports.writer S) _ (d.written S) (m.written S));
+        (writes-append S (acts_in K) (acts_in J) _ (engines S).output _ (d.written S) (m.written S));
     moments = subst (λ (H : List Act). ClockReadings begun.coming coming' (moments_shown H)) (sym (acts_in-append K J))
         (subst (λ (ms : List ℕ). ClockReadings begun.coming coming' ms)
         (sym (moments_shown-append (acts_in K) (acts_in J)))
@@ -103,12 +104,12 @@ same_noted : (a : Noted) → WasNoted a a []
 same_noted a = record { extends = λ before notes h. subst (λ (l : List Note). a before l) (sym (append-nil notes)) h }
 
 -- a note was given
-pub note_moves : (ports : Ports) (held : Colour → Held) (coming : ℕ → Option ℕ) (witness witness' : Noted)
+pub note_moves : (engines : Colour → Devices) (held : Colour → Held) (coming : ℕ → Option ℕ) (witness witness' : Noted)
     (names : List ℕ) (n : Note) → WasNoted witness witness' (n ∷ [])
-    → Passes (λ begun K. Did begun ports held coming witness names K)
-    (λ begun K. Did begun ports held coming witness' names K) (Notes n ∷ [])
-note_moves ports held coming witness witness' names n h =
-    moved ports ports held held coming coming witness witness' names names (Notes n ∷ []) (record {
+    → Passes (λ begun K. Did begun engines held coming witness names K)
+    (λ begun K. Did begun engines held coming witness' names K) (Notes n ∷ [])
+note_moves engines held coming witness witness' names n h =
+    moved engines engines held held coming coming witness witness' names names (Notes n ∷ []) (record {
       named = refl;
       read = λ S. (refl, refl);
       written = λ S. refl;
@@ -117,15 +118,15 @@ note_moves ports held coming witness witness' names n h =
     })
 
 -- the clock was read
-pub clock_moves : (ports : Ports) (held : Colour → Held) (coming coming' : ℕ → Option ℕ) (witness : Noted)
+pub clock_moves : (engines : Colour → Devices) (held : Colour → Held) (coming coming' : ℕ → Option ℕ) (witness : Noted)
     (names : List ℕ) (c : Colour) (n : ℕ) → ClockReadings coming coming' (n ∷ [])
-    → Passes (λ begun K. Did begun ports held coming witness names K)
-    (λ begun K. Did begun ports held coming' witness names K) (Does (ReadsClock c n) ∷ [])
-clock_moves ports held coming coming' witness names c n h =
-    moved ports ports held held coming coming' witness witness names names (Does (ReadsClock c n) ∷ []) (record {
+    → Passes (λ begun K. Did begun engines held coming witness names K)
+    (λ begun K. Did begun engines held coming' witness names K) (Does (ReadsClock c n) ∷ [])
+clock_moves engines held coming coming' witness names c n h =
+    moved engines engines held held coming coming' witness witness names names (Does (ReadsClock c n) ∷ []) (record {
       named = refl;
-      read = λ S. (ports.reader S, held S, (refl, refl), (refl, refl));
-      written = λ S. (ports.writer S, refl, refl);
+      read = λ S. ((engines S).input, held S, (refl, refl), (refl, refl));
+      written = λ S. ((engines S).output, refl, refl);
       moments = h;
       noted = same_noted witness;
     })
@@ -154,28 +155,30 @@ no_moment true b coming = asked_none coming
 no_moment false b coming = asked_none coming
 
 -- a block was sent, or a write of it failed
-pub send_moves : (ports ports' : Ports) (held : Colour → Held) (coming : ℕ → Option ℕ) (witness : Noted)
+pub send_moves : (engines engines' : Colour → Devices) (held : Colour → Held) (coming : ℕ → Option ℕ) (witness : Noted)
     (names : List ℕ) (S : Colour) (failed : Bool) (lines : List SentLine)
-    → SendsIf failed (ports.writer S) (ports'.writer S) (bytes_of lines)
-    → ports'.writer (other S) ≡ ports.writer (other S) → ((X : Colour) → ports'.reader X ≡ ports.reader X)
-    → Passes (λ begun K. Did begun ports held coming witness names K)
-    (λ begun K. Did begun ports' held coming witness names K)
+    → SendsIf failed (engines S).output (engines' S).output (bytes_of lines)
+    → (engines' S).input ≡ (engines S).input → engines' (other S) ≡ engines (other S)
+    → Passes (λ begun K. Did begun engines held coming witness names K)
+    (λ begun K. Did begun engines' held coming witness names K)
     (Does (sending failed (record { to = S; lines = lines })) ∷ [])
-send_moves ports ports' held coming witness names S failed lines h others same =
-    moved ports ports' held held coming coming witness witness names names
+send_moves engines engines' held coming witness names S failed lines h same others =
+    moved engines engines' held held coming coming witness witness names names
     (Does (sending failed (record { to = S; lines = lines })) ∷ []) (record {
       named = refl;
       read = λ X. (
-        ports'.reader X,
+        (engines' X).input,
         held X,
-        reads_nothing S X failed lines (ports.reader X) (ports'.reader X) (held X) (same X),
+        reads_nothing S X failed lines (engines X).input (engines' X).input (held X)
+            (either (λ Y. (engines' Y).input ≡ (engines Y).input) S same (ap (λ d. d.input) others) X),
         (refl, refl),
       );
-      written = either (λ X. WritesOf X (sending failed (record { to = S; lines = lines }) ∷ []) (ports.writer X)
-          (ports'.writer X)) S
-          (ports'.writer S, writes_own S failed lines (ports.writer S) (ports'.writer S) h, refl) (
-            ports'.writer (other S),
-            writes_other S failed lines (ports.writer (other S)) (ports'.writer (other S)) others,
+      written = either (λ X. WritesOf X (sending failed (record { to = S; lines = lines }) ∷ []) (engines X).output
+          (engines' X).output) S
+          ((engines' S).output, writes_own S failed lines (engines S).output (engines' S).output h, refl) (
+            (engines' (other S)).output,
+            writes_other S failed lines (engines (other S)).output (engines' (other S)).output
+                (ap (λ d. d.output) others),
             refl,
           );
       moments = no_moment failed (record { to = S; lines = lines }) coming;
@@ -203,30 +206,30 @@ read_moments S (Ok (Some line)) = at line.ended
     at false = refl
 
 -- a line was read, or an end or a failure came
-pub read_moves : {E : Type 0} (ports ports' : Ports) (held held' : Colour → Held) (coming : ℕ → Option ℕ)
+pub read_moves : {E : Type 0} (engines engines' : Colour → Devices) (held held' : Colour → Held) (coming : ℕ → Option ℕ)
     (witness : Noted) (names : List ℕ) (S : Colour) (result : Result (Option LineSeen) E)
-    → NextLine ENGINE_LINE_LEN (ports.reader S) (ports'.reader S) (held S) (held' S) result
-    → ports'.reader (other S) ≡ ports.reader (other S) → held' (other S) ≡ held (other S)
-    → ((X : Colour) → ports'.writer X ≡ ports.writer X)
-    → Passes (λ begun K. Did begun ports held coming witness names K)
-    (λ begun K. Did begun ports' held' coming witness names K) (Does (reading_of S result) ∷ [])
-read_moves ports ports' held held' coming witness names S result next same kept writers =
-    moved ports ports' held held' coming coming witness witness names names (Does (reading_of S result) ∷ [])
+    → NextLine ENGINE_LINE_LEN (engines S).input (engines' S).input (held S) (held' S) result
+    → (engines' S).output ≡ (engines S).output → engines' (other S) ≡ engines (other S)
+    → held' (other S) ≡ held (other S)
+    → Passes (λ begun K. Did begun engines held coming witness names K)
+    (λ begun K. Did begun engines' held' coming witness names K) (Does (reading_of S result) ∷ [])
+read_moves engines engines' held held' coming witness names S result next same others kept =
+    moved engines engines' held held' coming coming witness witness names names (Does (reading_of S result) ∷ [])
     (record {
       named = refl;
       read = λ X. (
-        ports'.reader X,
+        (engines' X).input,
         held' X,
-        either (λ Y. OutputAt Y (reading_of S result) (ports.reader Y) (ports'.reader Y) (held Y) (held' Y)) S
-            (own_read S (ports.reader S) (ports'.reader S) (held S) (held' S) result next)
-            (other_read S (ports.reader (other S)) (ports'.reader (other S)) (held (other S)) (held' (other S)) result
-            same kept) X,
+        either (λ Y. OutputAt Y (reading_of S result) (engines Y).input (engines' Y).input (held Y) (held' Y)) S
+            (own_read S (engines S).input (engines' S).input (held S) (held' S) result next)
+            (other_read S (engines (other S)).input (engines' (other S)).input (held (other S)) (held' (other S)) result
+            (ap (λ d. d.input) others) kept) X,
         (refl, refl),
       );
       written = λ X. (
-        ports.writer X,
-        read_writes S X result (ports.writer X),
-        writers X,
+        (engines X).output,
+        read_writes S X result (engines X).output,
+        either (λ Y. (engines' Y).output ≡ (engines Y).output) S same (ap (λ d. d.output) others) X,
       );
       moments = subst (λ (ms : List ℕ). ClockReadings coming coming ms) (sym (read_moments S result))
           (asked_none coming);

@@ -3,6 +3,8 @@ use Rattle.std.proofs.Common.{◌≡◌, ℕ, Bool, true, false, List, [], ◌�
 use Rattle.std.specs.Bool.{MatchBool}
 use Rattle.std.specs.Prelude.{if◌then◌else◌}
 use Rattle.byte_devices.specs.Devices.{OutputState, BreaksOff}
+use Rattle.byte_devices.specs.Transfers.{ToOutput, Devices, OutputTook, all_of}
+use Rattle.byte_devices.proofs.shared.Transfers.{broke, took_more, took_nothing, took_some_more}
 use Rattle.chess_base.specs.declared.man.Colour.{Colour}
 use Rattle.chess_base.specs.Men.{same_colour}
 use Rattle.chess_game.specs.Game as game
@@ -13,9 +15,9 @@ use Rattle.chess_match.specs.Effects as effects
 use Rattle.chess_base.specs.Options.{list_if}
 use Rattle.chess_match.specs.Lines.{SentLine, bytes_of}
 use Rattle.chess_match.specs.Notes.{Note, Noted, WasNoted}
-use Rattle.chess_match.specs.Played.{Passed, PlayedAt, PlayedNoting, World, WrittenAs}
+use Rattle.chess_match.specs.Played.{Passed, PlayedAt, PlayedNoting, WasSent, World}
 use Rattle.chess_match.specs.Rules.{Rules, rules_of}
-use Rattle.chess_match.specs.Run.{ClockReadings, Flushed, Ports}
+use Rattle.chess_match.specs.Run.{ClockReadings}
 use Rattle.chess_match.specs.Table.{Beginning, Passes, Step, watched}
 use Rattle.chess_match.specs.declared.reason.Reason.{Reason}
 use Rattle.chess_match.specs.declared.run.MatchEnd.{MatchEnd}
@@ -26,7 +28,6 @@ use Rattle.chess_match.proofs.ClockAsked.{asked_none}
 use Rattle.chess_match.proofs.MatchCases.{all_reads_end, all_sends_end, sends_end, unsent_in}
 use Rattle.chess_match.proofs.OutputByActs.{all_read}
 use Rattle.chess_match.proofs.Sends.{bytes_of-append}
-use Rattle.chess_match.proofs.shared.Flushes.{failed_after, flushed_more, flushed_none}
 
 -- ---- what was written
 
@@ -36,7 +37,7 @@ silent S [] w w' u e = (refl, refl, e)
 silent S (Sends b ∷ H) w w' u (v, o, p) = at (same_colour b.to S) u o (λ h. silent S H v w' h p)
   where
     at : (x : Bool) → (if x then false else unsent_in S H) ≡ true
-        → MatchBool x (Flushed w v (bytes_of b.lines)) (v ≡ w)
+        → MatchBool x (OutputTook w v (all_of (bytes_of b.lines))) (v ≡ w)
         → (unsent_in S H ≡ true → (lines_sent S H ≡ []) × (broken_blocks S H ≡ []) × (w' ≡ v))
         → (list_if x b.lines ++ lines_sent S H ≡ []) × (broken_blocks S H ≡ []) × (w' ≡ w)
     at true u o more = absurd cc
@@ -54,82 +55,102 @@ silent S (Reads c t ∷ H) w w' u (v, o, p) = let q = silent S H v w' u p in (q.
 silent S (ReadsEnd c ∷ H) w w' u (v, o, p) = let q = silent S H v w' u p in (q.0, q.1, q.2 ∙ o)
 silent S (ReadFails c ∷ H) w w' u (v, o, p) = let q = silent S H v w' u p in (q.0, q.1, q.2 ∙ o)
 
+-- these lines were sent to an output, and these blocks could not be sent
+abbrev pub Wrote : List SentLine → List (List SentLine) → OutputState → OutputState → Type 0
+Wrote sent broken w w' = (o : ToOutput) × OutputTook w w' o × WasSent sent broken o
+
+-- an output that was left as it was still took these lines
+still : (w v u : OutputState) (before : List SentLine) → u ≡ v → OutputTook w v (all_of (bytes_of before))
+    → OutputTook w u (all_of (bytes_of before))
+still w v u before e f = subst (λ (x : OutputState). OutputTook w x (all_of (bytes_of before))) (sym e) f
+
 -- after these lines
 writes_all : (S : Colour) (before : List SentLine) (H : List Act) (w v w' : OutputState) → sends_end S H ≡ true
-    → Flushed w v (bytes_of before) → WritesOf S H v w'
-    → WrittenAs (before ++ lines_sent S H) (broken_blocks S H) w w'
+    → OutputTook w v (all_of (bytes_of before)) → WritesOf S H v w'
+    → Wrote (before ++ lines_sent S H) (broken_blocks S H) w w'
 writes_all S before [] w v w' end f e =
-    subst (λ (l : List SentLine). Flushed w w' (bytes_of l)) (sym (append-nil before))
-    (subst (λ (x : OutputState). Flushed w x (bytes_of before)) (sym e) f)
+    subst (λ (l : List SentLine). Wrote l [] w w') (sym (append-nil before)) (
+      all_of (bytes_of before),
+      still w v w' before e f,
+      refl,
+    )
 writes_all S before (Sends b ∷ H) w v w' end f (u, o, p) =
     at (same_colour b.to S) o (λ front g. writes_all S front H w u w' end g p)
   where
-    at : (x : Bool) → MatchBool x (Flushed v u (bytes_of b.lines)) (u ≡ v)
-        → ((front : List SentLine) → Flushed w u (bytes_of front)
-        → WrittenAs (front ++ lines_sent S H) (broken_blocks S H) w w')
-        → WrittenAs (before ++ (list_if x b.lines ++ lines_sent S H)) (broken_blocks S H) w w'
-    at true o more = subst (λ (l : List SentLine). WrittenAs l (broken_blocks S H) w w')
+    at : (x : Bool) → MatchBool x (OutputTook v u (all_of (bytes_of b.lines))) (u ≡ v)
+        → ((front : List SentLine) → OutputTook w u (all_of (bytes_of front))
+        → Wrote (front ++ lines_sent S H) (broken_blocks S H) w w')
+        → Wrote (before ++ (list_if x b.lines ++ lines_sent S H)) (broken_blocks S H) w w'
+    at true o more = subst (λ (l : List SentLine). Wrote l (broken_blocks S H) w w')
         (append_assoc before b.lines (lines_sent S H))
         (more (before ++ b.lines)
-        (subst (λ (bytes : List ℕ). Flushed w u bytes) (sym (bytes_of-append before b.lines))
-        (flushed_more w v u (bytes_of before) (bytes_of b.lines) f o)))
-    at false o more = more before (subst (λ (x : OutputState). Flushed w x (bytes_of before)) (sym o) f)
+        (subst (λ (bytes : List ℕ). OutputTook w u (all_of bytes)) (sym (bytes_of-append before b.lines))
+        (took_more w v u (bytes_of before) (all_of (bytes_of b.lines)) f o)))
+    at false o more = more before (still w v u before o f)
 writes_all S before (SendFails b ∷ H) w v w' end f (u, o, p) =
     at (same_colour b.to S) end o (λ e g. writes_all S before H w u w' e g p)
   where
     at : (x : Bool) → (if x then unsent_in S H else sends_end S H) ≡ true
         → MatchBool x (BreaksOff v u (bytes_of b.lines)) (u ≡ v)
-        → (sends_end S H ≡ true → Flushed w u (bytes_of before)
-        → WrittenAs (before ++ lines_sent S H) (broken_blocks S H) w w')
-        → WrittenAs (before ++ lines_sent S H) (list_if x (b.lines ∷ []) ++ broken_blocks S H) w w'
+        → (sends_end S H ≡ true → OutputTook w u (all_of (bytes_of before))
+        → Wrote (before ++ lines_sent S H) (broken_blocks S H) w w')
+        → Wrote (before ++ lines_sent S H) (list_if x (b.lines ∷ []) ++ broken_blocks S H) w w'
     at true end o more =
         let q = silent S H u w' end p in
-        subst (λ (l : List (List SentLine)). WrittenAs (before ++ lines_sent S H) (b.lines ∷ l) w w') (sym q.1)
-        (subst (λ (l : List SentLine). WrittenAs (before ++ l) (b.lines ∷ []) w w') (sym q.0)
-        (subst (λ (l : List SentLine). WrittenAs l (b.lines ∷ []) w w') (sym (append-nil before))
-        (subst (λ (x : OutputState). WrittenAs before (b.lines ∷ []) w x) (sym q.2)
-        (o.0, o.1, failed_after w v u (bytes_of before) o.0 f o.2))))
-    at false end o more = more end (subst (λ (x : OutputState). Flushed w x (bytes_of before)) (sym o) f)
+        subst (λ (l : List (List SentLine)). Wrote (before ++ lines_sent S H) (b.lines ∷ l) w w') (sym q.1)
+        (subst (λ (l : List SentLine). Wrote (before ++ l) (b.lines ∷ []) w w') (sym q.0)
+        (subst (λ (l : List SentLine). Wrote l (b.lines ∷ []) w w') (sym (append-nil before))
+        (subst (λ (x : OutputState). Wrote before (b.lines ∷ []) w x) (sym q.2) (
+          broke (bytes_of before) o.0,
+          took_some_more w v u (bytes_of before) o.0 f o.2,
+          (refl, o.1, refl),
+        ))))
+    at false end o more = more end (still w v u before o f)
 writes_all S before (ReadsClock c n ∷ H) w v w' end f (u, o, p) =
-    writes_all S before H w u w' end (subst (λ (x : OutputState). Flushed w x (bytes_of before)) (sym o) f) p
+    writes_all S before H w u w' end (still w v u before o f) p
 writes_all S before (Reads c t ∷ H) w v w' end f (u, o, p) =
-    writes_all S before H w u w' end (subst (λ (x : OutputState). Flushed w x (bytes_of before)) (sym o) f) p
+    writes_all S before H w u w' end (still w v u before o f) p
 writes_all S before (ReadsEnd c ∷ H) w v w' end f (u, o, p) =
-    writes_all S before H w u w' end (subst (λ (x : OutputState). Flushed w x (bytes_of before)) (sym o) f) p
+    writes_all S before H w u w' end (still w v u before o f) p
 writes_all S before (ReadFails c ∷ H) w v w' end f (u, o, p) =
-    writes_all S before H w u w' end (subst (λ (x : OutputState). Flushed w x (bytes_of before)) (sym o) f) p
+    writes_all S before H w u w' end (still w v u before o f) p
 
 pub all_written : (S : Colour) (H : List Act) (w w' : OutputState) → sends_end S H ≡ true → WritesOf S H w w'
-    → WrittenAs (lines_sent S H) (broken_blocks S H) w w'
+    → Wrote (lines_sent S H) (broken_blocks S H) w w'
 unfolding bytes_of
-all_written S H w w' end p = writes_all S [] H w w w' end (flushed_none w) p
+all_written S H w w' end p = writes_all S [] H w w w' end (took_nothing w) p
 
 -- ---- the match
 
 pub desk_passed : (r : Rules) (H : List Act) (final : effects.Match) (reason : Reason) (begun : Beginning)
-    (ports : Ports) (held : Colour → Held) (coming : ℕ → Option ℕ) (witness : Noted) (names : List ℕ) (w w' : World)
-    → IsMatch r H final → Did begun ports held coming witness names (watched reason H)
-    → w.ports ≡ begun.ports → w.coming ≡ begun.coming → w'.ports ≡ ports → w'.coming ≡ coming
+    (engines : Colour → Devices) (held : Colour → Held) (coming : ℕ → Option ℕ) (witness : Noted) (names : List ℕ)
+    (w w' : World)
+    → IsMatch r H final → Did begun engines held coming witness names (watched reason H)
+    → w.engines ≡ begun.engines → w.coming ≡ begun.coming → w'.engines ≡ engines → w'.coming ≡ coming
     → Passed r H final w w'
-desk_passed r H final reason begun ports held coming witness names w w' is_match d p c p' c' =
+desk_passed r H final reason begun engines held coming witness names w w' is_match d p c p' c' =
     let acts : acts_in (watched reason H) ≡ H = acts_watched reason H in
     record {
       is_match = is_match;
-      read = λ S. all_read S H (w.ports.reader S) (w'.ports.reader S) (held S) (all_reads_end r H final is_match)
+      engines = λ S.
+          let read = all_read S H (w.engines S).input (w'.engines S).input (held S) (all_reads_end r H final is_match)
           (rw (p, p') (subst (λ (G : List Act).
-          ReadsOf S G (begun.ports.reader S) (ports.reader S) nothing_held (held S)) acts (d.read S)));
-      written = λ S. all_written S H (w.ports.writer S) (w'.ports.writer S) (all_sends_end r H final S is_match)
-          (rw (p, p') (subst (λ (G : List Act). WritesOf S G (begun.ports.writer S) (ports.writer S)) acts
-          (d.written S)));
+          ReadsOf S G (begun.engines S).input (engines S).input nothing_held (held S)) acts (d.read S))) in
+          let written = all_written S H (w.engines S).output (w'.engines S).output
+          (all_sends_end r H final S is_match)
+          (rw (p, p') (subst (λ (G : List Act). WritesOf S G (begun.engines S).output (engines S).output) acts
+          (d.written S))) in
+          (read.0, written.0, read.1, written.1, (read.2, written.2));
       moments = rw (c, c') (subst (λ (G : List Act). ClockReadings begun.coming coming (moments_shown G)) acts
           d.moments);
     }
 
 -- nothing passed yet
-started : (ports : Ports) (held : Colour → Held) (coming : ℕ → Option ℕ) (witness : Noted) (names : List ℕ)
+started : (engines : Colour → Devices) (held : Colour → Held) (coming : ℕ → Option ℕ) (witness : Noted) (names : List ℕ)
     (first : Option (List ℕ × List Note)) → ((S : Colour) → held S ≡ nothing_held) → NotedSince witness first []
-    → Did (record { ports = ports; coming = coming; noted = first; names = names }) ports held coming witness names []
-started ports held coming witness names first none noted = record {
+    → Did (record { engines = engines; coming = coming; noted = first; names = names }) engines held coming witness
+    names []
+started engines held coming witness names first none noted = record {
   named = refl;
   read = λ S. (refl, none S);
   written = λ S. refl;
@@ -138,49 +159,50 @@ started ports held coming witness names first none noted = record {
 }
 
 -- the desk holds the same references
-pub names_kept : (ports ports' : Ports) (held held' : Colour → Held) (coming coming' : ℕ → Option ℕ)
+pub names_kept : (engines engines' : Colour → Devices) (held held' : Colour → Held) (coming coming' : ℕ → Option ℕ)
     (witness witness' : Noted) (names names' : List ℕ) (K : List Step)
-    → Passes (λ begun K. Did begun ports held coming witness names K)
-    (λ begun K. Did begun ports' held' coming' witness' names' K) K
+    → Passes (λ begun K. Did begun engines held coming witness names K)
+    (λ begun K. Did begun engines' held' coming' witness' names' K) K
     → ((S : Colour) → held S ≡ nothing_held) → names' ≡ names
-names_kept ports ports' held held' coming coming' witness witness' names names' K p none =
-    (p.extends (record { ports = ports; coming = coming; noted = None; names = names }) []
-    (started ports held coming witness names None none tt)).named
+names_kept engines engines' held held' coming coming' witness witness' names names' K p none =
+    (p.extends (record { engines = engines; coming = coming; noted = None; names = names }) []
+    (started engines held coming witness names None none tt)).named
 
 -- what was played at a desk, its devices show; the clock and the witness are those that the desk holds
-pub desk_ran : (setup : Setup) (end : MatchEnd) (ports ports' : Ports) (held held' : Colour → Held)
+pub desk_ran : (setup : Setup) (end : MatchEnd) (engines engines' : Colour → Devices) (held held' : Colour → Held)
     (coming coming' coming'' : ℕ → Option ℕ) (witness witness' witness'' : Noted) (names names' : List ℕ)
     (g g' : game.Seen)
-    → PlayedAt setup end (λ begun K. Did begun ports held coming witness names K)
-    (λ begun K. Did begun ports' held' coming' witness' names' K) g g'
+    → PlayedAt setup end (λ begun K. Did begun engines held coming witness names K)
+    (λ begun K. Did begun engines' held' coming' witness' names' K) g g'
     → ((S : Colour) → held S ≡ nothing_held) → (names' ≡ names → coming'' ≡ coming')
     → (names' ≡ names → witness'' ≡ witness')
     → PlayedNoting (λ notes. WasNoted witness witness'' notes) setup end
-    (record { ports = ports; coming = coming; game = g }) (record { ports = ports'; coming = coming''; game = g' })
-desk_ran setup end ports ports' held held' coming coming' coming'' witness witness' witness'' names names' g g'
+    (record { engines = engines; coming = coming; game = g })
+    (record { engines = engines'; coming = coming''; game = g' })
+desk_ran setup end engines engines' held held' coming coming' coming'' witness witness' witness'' names names' g g'
     (H, reason, final, is_match, passes, reported, left) none clock watcher =
     let r : Rules = rules_of setup.start setup.level g.limit in
     let K : List Step = watched reason H in
     let named : names' ≡ names =
-    names_kept ports ports' held held' coming coming' witness witness' names names' K passes none in
-    let begun : Beginning = record { ports = ports; coming = coming; noted = None; names = names } in
-    let d : Did begun ports' held' coming' witness' names' K =
-    passes.extends begun [] (started ports held coming witness names None none tt) in (
+    names_kept engines engines' held held' coming coming' witness witness' names names' K passes none in
+    let begun : Beginning = record { engines = engines; coming = coming; noted = None; names = names } in
+    let d : Did begun engines' held' coming' witness' names' K =
+    passes.extends begun [] (started engines held coming witness names None none tt) in (
       H,
       reason,
       record {
         extends = λ text notes h. subst (λ (x : Noted). x text (notes ++ notes_given reason H)) (sym (watcher named))
             (subst (λ (ns : List Note). witness' text (notes ++ ns)) (notes_watched reason H)
             (passes.extends
-            (record { ports = ports; coming = coming; noted = Some (text, notes); names = names }) []
-            (started ports held coming witness names (Some (text, notes)) none
+            (record { engines = engines; coming = coming; noted = Some (text, notes); names = names }) []
+            (started engines held coming witness names (Some (text, notes)) none
             (subst (λ (ns : List Note). witness text ns) (sym (append-nil notes)) h))).noted);
       },
       (
         final,
-        desk_passed r H final reason begun ports' held' coming' witness' names'
-            (record { ports = ports; coming = coming; game = g })
-            (record { ports = ports'; coming = coming''; game = g' }) is_match d refl refl refl (clock named),
+        desk_passed r H final reason begun engines' held' coming' witness' names'
+            (record { engines = engines; coming = coming; game = g })
+            (record { engines = engines'; coming = coming''; game = g' }) is_match d refl refl refl (clock named),
         reported,
         left,
       ),

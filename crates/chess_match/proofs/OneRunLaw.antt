@@ -1,17 +1,18 @@
 -- There is only one match of a run whose devices show all.
-use Rattle.std.proofs.Common.{◌≡◌, ℕ, ◌<◌, ◌^◌, ◌-◌, Bool, true, false, List, [], ◌∷◌, length, refl, sym, subst, ◌∙◌, Option, None, Some, arith}
+use mathlib.Core.Bool.{or-true}
+use Rattle.std.proofs.Common.{◌≡◌, ℕ, ◌<◌, ◌^◌, ◌-◌, ◌||◌, Bool, true, false, List, [], ◌∷◌, length, refl, ap, sym, ◌∙◌, Option, None, Some, arith}
 use Rattle.std.specs.Prelude.{is_some, nat_lt, slice_get}
 use Rattle.std.specs.Option.{IfSome}
 use Rattle.std.specs.Io.KnownBytes.{Consumes}
 use Rattle.std.proofs.lemmas.List.{append_cancel_right}
 use Rattle.chess_base.specs.declared.man.Colour.{Colour}
-use Rattle.byte_devices.specs.Devices.{InputState, OutputState, saturating_increment}
-use Rattle.byte_devices.specs.Transfers.{saturating_increment_if}
+use Rattle.byte_devices.specs.Devices.{OutputState, saturating_increment}
+use Rattle.byte_devices.specs.Transfers.{FromInput, ToOutput, OutputTook, saturating_increment_if}
 use Rattle.chess_match.specs.Acts.{Act, Sends, SendFails, Reads, ReadsEnd, ReadFails, ReadsClock}
 use Rattle.chess_match.specs.ByDevice.{broken_blocks, has_ended, has_failed_read, lines_sent, moments_shown}
 use Rattle.chess_match.specs.Effects.{Match}
 use Rattle.chess_match.specs.Lines.{SentLine}
-use Rattle.chess_match.specs.Played.{Passed, ReadAs, World, WrittenAs}
+use Rattle.chess_match.specs.Played.{Passed, SaidBy, WasSent, World}
 use Rattle.chess_match.specs.Rules.{Rules}
 use Rattle.chess_match.specs.Run.{engine_lines}
 use Rattle.chess_match.specs.laws.Laws.{Streams}
@@ -40,11 +41,12 @@ one_rise n m true false small x y = rises n small (sym y ∙ x)
 one_rise n m false true small x y = rises n small (sym x ∙ y)
 
 -- no write failed
-none_broken : (old new : OutputState) (sent : List SentLine) (broken : List (List SentLine))
-    → old.failure_count < 2 ^ 64 - 1 → new.failure_count ≡ old.failure_count → WrittenAs sent broken old new
-    → nat_lt 0 (length broken) ≡ false
-none_broken old new sent [] small same w = refl
-none_broken old new sent (b ∷ more) small same w = rises old.failure_count small (sym same ∙ w.2.failures)
+none_broken : (old new : OutputState) (sent : List SentLine) (broken : List (List SentLine)) (o : ToOutput)
+    → old.failure_count < 2 ^ 64 - 1 → new.failure_count ≡ old.failure_count → OutputTook old new o
+    → WasSent sent broken o → nat_lt 0 (length broken) ≡ false
+none_broken old new sent [] o small same took was = refl
+none_broken old new sent (b ∷ more) o small same took was = rises old.failure_count small
+    (sym same ∙ took.failures ∙ ap (λ (x : Bool). saturating_increment_if x old.failure_count) was.2)
 
 -- an engine whose end was reported had no read that failed
 no_failure : (S : Colour) (H : List Act) → reads_end H ≡ true → has_ended S H ≡ true → has_failed_read S H ≡ false
@@ -73,31 +75,48 @@ given_by H given coming = record {
   moments = λ n. moment_or (coming n);
 }
 
-are_of : (r : Rules) (H K : List Act) (final : Match) (w w' : World) (given : Colour → List ℕ)
-    → Passed r K final w w' → ShowsAll w w'
-    → ((S : Colour) → ReadAs S K (w.ports.reader S) (w'.ports.reader S) (given S))
-    → ((S : Colour) → has_failed_read S H ≡ has_failed_read S K) → AreOf (given_by H given w.coming) K
-are_of r H K final w w' given p t outputs same = record {
-  lines = λ S. (outputs S).lines;
-  ends = λ S h. (((outputs S).at_end h).0, same S ∙ no_failure S K (all_reads_end r K final p.is_match) h);
-  failures = λ S h. ((outputs S).at_failure h, same S ∙ h);
+are_of : (r : Rules) (H K : List Act) (final : Match) (w w' : World) (given : Colour → FromInput)
+    → Passed r K final w w' → ShowsAll w w' → ((S : Colour) → SaidBy S K (given S))
+    → ((S : Colour) → has_failed_read S H ≡ has_failed_read S K) → AreOf (given_by H (λ S. (given S).text) w.coming) K
+are_of r H K final w w' given p t said same = record {
+  lines = λ S. (said S).lines;
+  ends = λ S h. (
+    (said S).all (ap (λ (x : Bool). x || (given S).failed) ((said S).ended ∙ h)),
+    same S ∙ no_failure S K (all_reads_end r K final p.is_match) h,
+  );
+  failures = λ S h. (
+    (said S).all (ap (λ (x : Bool). (given S).ended || x) ((said S).failed ∙ h) ∙ or-true (given S).ended),
+    same S ∙ h,
+  );
   moments = λ n h. shown_moment (w.coming n) (slice_get (moments_shown K) n) (t.moments n) (p.moments.known n h);
-  sent = λ S. none_broken (w.ports.writer S) (w'.ports.writer S) (lines_sent S K) (broken_blocks S K) (t.writes S)
-      (t.quiet S) (p.written S);
+  sent = λ S. let (i, o, gave, took, (said, was)) = p.engines S in
+      none_broken (w.engines S).output (w'.engines S).output (lines_sent S K) (broken_blocks S K) o (t.writes S)
+      (t.quiet S) took was;
 }
 
-read_alike : (S : Colour) (H K : List Act) (old new : InputState) (a b : List ℕ) → is_some old.known_bytes ≡ true
-    → ReadAs S H old new a → ReadAs S K old new b → ReadAs S K old new a
-read_alike S H K old new a b known h k =
-    subst (λ (given : List ℕ). ReadAs S K old new given)
-    (sym (one_given old.known_bytes new.known_bytes a b known h.bytes k.bytes)) k
+-- the same, but with these bytes
+abbrev with_text : FromInput → List ℕ → FromInput
+with_text i text = record i { text = text }
+
+said_alike : (S : Colour) (K : List Act) (i : FromInput) (text : List ℕ) → text ≡ i.text → SaidBy S K i
+    → SaidBy S K (with_text i text)
+said_alike S K i text e h = record {
+  lines = (h.lines.0, ap engine_lines e ∙ h.lines.1);
+  ended = h.ended;
+  failed = h.failed;
+  all = λ over. ap engine_lines e ∙ h.all over;
+}
 
 pub only_one_of_a_run : OnlyOneMatchOfARun
 only_one_of_a_run r H K final final' w w' p q t =
-    only_one_match r (given_by H (λ S. (p.read S).0) w.coming) H K final final' p.is_match q.is_match
-    (are_of r H H final w w' (λ S. (p.read S).0) p t (λ S. (p.read S).1) (λ S. refl))
-    (are_of r H K final' w w' (λ S. (p.read S).0) q t
-    (λ S. read_alike S H K (w.ports.reader S) (w'.ports.reader S) (p.read S).0 (q.read S).0 (t.bytes S)
-    (p.read S).1 (q.read S).1)
-    (λ S. one_rise (w.ports.reader S).failure_count (w'.ports.reader S).failure_count (has_failed_read S H)
-    (has_failed_read S K) (t.reads S) (p.read S).1.failures (q.read S).1.failures))
+    let same : (S : Colour) → (p.engines S).0.text ≡ (q.engines S).0.text =
+    λ S. one_given (w.engines S).input.known_bytes (w'.engines S).input.known_bytes (p.engines S).0.text
+    (q.engines S).0.text (t.bytes S) (p.engines S).2.bytes (q.engines S).2.bytes in
+    only_one_match r (given_by H (λ S. (p.engines S).0.text) w.coming) H K final final' p.is_match q.is_match
+    (are_of r H H final w w' (λ S. (p.engines S).0) p t (λ S. (p.engines S).4.0) (λ S. refl))
+    (are_of r H K final' w w' (λ S. with_text (q.engines S).0 (p.engines S).0.text) q t
+    (λ S. said_alike S K (q.engines S).0 (p.engines S).0.text (same S) (q.engines S).4.0)
+    (λ S. sym (p.engines S).4.0.failed
+    ∙ one_rise (w.engines S).input.failure_count (w'.engines S).input.failure_count (p.engines S).0.failed
+    (q.engines S).0.failed (t.reads S) (p.engines S).2.failures (q.engines S).2.failures
+    ∙ (q.engines S).4.0.failed))

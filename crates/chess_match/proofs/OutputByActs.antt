@@ -8,11 +8,12 @@ use Rattle.chess_base.specs.Men.{same_colour}
 use Rattle.byte_devices.specs.Devices.{InputState, saturating_increment}
 use Rattle.text_lines.specs.Lines.{LineSeen, Held, nothing_held, stream_lines, lines_held}
 use Rattle.text_lines.specs.Next.{GotLine, GotLast, GotNone, GotFault}
-use Rattle.byte_devices.specs.Transfers.{saturating_increment_if}
+use Rattle.byte_devices.specs.Transfers.{FromInput, InputGave, saturating_increment_if}
+use Rattle.byte_devices.proofs.shared.Transfers.{came}
 use Rattle.chess_match.specs.Acts.{Act, Sends, SendFails, Reads, ReadsEnd, ReadFails, ReadsClock}
 use Rattle.chess_match.specs.ByDevice.{has_ended, has_failed_read, lines_read}
 use Rattle.chess_base.specs.Options.{list_if}
-use Rattle.chess_match.specs.Played.{ReadAs}
+use Rattle.chess_match.specs.Played.{SaidBy}
 use Rattle.chess_match.specs.Run.{text_read, engine_lines}
 use Rattle.chess_match.specs.declared.run.TheConstants.{ENGINE_LINE_LEN}
 use Rattle.chess_match.specs.ties.AtDesk.{ReadsOf}
@@ -32,8 +33,8 @@ record ReadTo (texts : List (Option (List ℕ))) (ended failed : Bool) (old new 
     lines : (rest : List (Option (List ℕ))) × (engine_lines given ≡ texts ++ rest)
     ends : new.end_count ≡ saturating_increment_if ended old.end_count
     failures : new.failure_count ≡ saturating_increment_if failed old.failure_count
-    at_end : ended ≡ true → (engine_lines given ≡ texts) × IsAtEnd new.known_bytes
-    at_failure : failed ≡ true → engine_lines given ≡ texts
+    at_end : ended ≡ true → IsAtEnd new.known_bytes
+    all : (ended || failed) ≡ true → engine_lines given ≡ texts
 
 -- while an engine is read, its lines so far are the first of all
 still_read : (r r' : InputState) (h : Held) (given : List ℕ) (texts : List (Option (List ℕ)))
@@ -50,7 +51,7 @@ still_read r r' h given texts s = record {
   ends = s.ends;
   failures = s.failures;
   at_end = λ e. absurd cc;
-  at_failure = λ e. absurd cc;
+  all = λ e. absurd cc;
 }
 
 all_lines : (r r' : InputState) (given : List ℕ) (texts : List (Option (List ℕ))) → OutputEnded r r' given texts
@@ -65,8 +66,8 @@ read_to_end r r' given texts (s, ends, failures, at_end) = record {
   lines = ([], all_lines r r' given texts s ∙ sym (append-nil texts));
   ends = ends;
   failures = failures;
-  at_end = λ h. (all_lines r r' given texts s, at_end);
-  at_failure = λ h. absurd cc;
+  at_end = λ h. at_end;
+  all = λ h. all_lines r r' given texts s;
 }
 
 read_to_fault : (r r' : InputState) (given : List ℕ) (texts : List (Option (List ℕ)))
@@ -78,7 +79,7 @@ read_to_fault r r' given texts (s, ends, failures) = record {
   ends = ends;
   failures = failures;
   at_end = λ h. absurd cc;
-  at_failure = λ h. all_lines r r' given texts s;
+  all = λ h. all_lines r r' given texts s;
 }
 
 -- an act that is none of this output leaves it
@@ -164,16 +165,10 @@ reads_all S texts (ReadFails c ∷ H) r v r' h h' given end s (v', k, o, p) =
     at false o = (given, still_read r v' k given texts (still r v v' h k given texts o s))
 
 pub all_read : (S : Colour) (H : List Act) (r r' : InputState) (h' : Held) → reads_end H ≡ true
-    → ReadsOf S H r r' nothing_held h' → (given : List ℕ) × ReadAs S H r r' given
+    → ReadsOf S H r r' nothing_held h' → (i : FromInput) × InputGave r r' i × SaidBy S H i
 all_read S H r r' h' end p =
     let (given, q) = reads_all S [] H r r r' nothing_held h' [] end (output_start r) p in (
-      given,
-      record {
-        bytes = q.bytes;
-        lines = q.lines;
-        ends = q.ends;
-        failures = q.failures;
-        at_end = q.at_end;
-        at_failure = q.at_failure;
-      },
+      came r' given (has_ended S H) (has_failed_read S H),
+      record { bytes = q.bytes; early = refl; at_end = q.at_end; ends = q.ends; failures = q.failures },
+      record { lines = q.lines; ended = refl; failed = refl; all = q.all },
     )

@@ -2,10 +2,11 @@
 use Rattle.std.proofs.Common.{ℕ, List, Result, Ok, Err}
 use Rattle.std.specs.Result.{is_err}
 use Rattle.byte_devices.specs.Devices.{OutputState, Sends}
+use Rattle.byte_devices.proofs.shared.Transfers.{took_all}
 use Rattle.chess_match.specs.ties.Reported.{SendsIf}
 
 -- a text was written and flushed
 pub sent_now : {A E : Type 0} (a b : OutputState) (result : Result A E) (x : List ℕ) → Sends a b result x
     → SendsIf (is_err result) a b x
-sent_now a b (Ok v) x h = record { bytes = h.bytes; failures = h.failures; unflushed = λ e. h.flushed }
+sent_now a b (Ok v) x h = took_all a b x h
 sent_now a b (Err e) x h = h

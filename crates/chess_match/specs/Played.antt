@@ -1,9 +1,7 @@
 -- What a match that was played did: at its devices, in its game, and in what is reported of it.
-use Rattle.std.specs.Prelude.{◌≡◌, ℕ, true, List, [], ◌∷◌, ◌++◌, codes, Option}
-use Rattle.std.specs.Io.KnownBytes.{Consumes, IsAtEnd}
-use Rattle.byte_devices.specs.Devices.{InputState, OutputState, Begins}
+use Rattle.std.specs.Prelude.{◌≡◌, ◌||◌, ℕ, true, List, [], ◌∷◌, ◌++◌, codes, Option}
 use Rattle.chess_base.specs.declared.man.Colour.{Colour}
-use Rattle.byte_devices.specs.Transfers.{saturating_increment_if}
+use Rattle.byte_devices.specs.Transfers.{FromInput, ToOutput, Devices, Ran, all_of, BreaksOffIn}
 use Rattle.chess_game.specs.Game as game
 use Rattle.chess_game.specs.Results.{cut_tag}
 use Rattle.cecp_engine.specs.Items.{last_value}
@@ -14,7 +12,7 @@ use Rattle.chess_match.specs.Notes.{Note}
 use Rattle.chess_match.specs.Reasons.{reported, first_fault, declared_at}
 use Rattle.chess_base.specs.ByColour.{by_colour}
 use Rattle.chess_match.specs.Rules.{Rules, rules_of}
-use Rattle.chess_match.specs.Run.{Ports, engine_lines, Flushed, FlushedThenFailed, ClockReadings}
+use Rattle.chess_match.specs.Run.{engine_lines, ClockReadings}
 use Rattle.chess_match.specs.Lines.{SentLine, bytes_of}
 use Rattle.chess_match.specs.Table.{Passing, Passes, watched}
 use Rattle.chess_match.specs.declared.reason.Reason.{Reason}
@@ -23,39 +21,34 @@ use Rattle.chess_match.specs.declared.run.Setup.{Setup}
 
 -- all that a match reads, writes and changes, as contracts see it
 pub record World : Type 0 where
-  -- both engines' outputs and inputs
-  pub ports : Ports
+  -- each engine's devices: its output, which is read, and its input, which is written
+  pub engines : Colour → Devices
   -- the moment that each reading of the clock will give, where 0 is the next reading; `None` if it is not known
   pub coming : ℕ → Option ℕ
   pub game : game.Seen
 
--- from the state `old` of its output to `new` the engine of the side `S` gave the bytes `given`. The lines that the
--- acts `H` read from it are the first lines of these bytes; all of them, if the output ended or a read failed. What
--- follows the last `\n` is no line
-pub record ReadAs (S : Colour) (H : List Act) (old new : InputState) (given : List ℕ) : Type 0 where
-  pub bytes : Consumes old.known_bytes new.known_bytes given
-  pub lines : (rest : List (Option (List ℕ))) × (engine_lines given ≡ lines_read S H ++ rest)
-  pub ends : new.end_count ≡ saturating_increment_if (has_ended S H) old.end_count
-  pub failures : new.failure_count ≡ saturating_increment_if (has_failed_read S H) old.failure_count
-  pub at_end : has_ended S H ≡ true → (engine_lines given ≡ lines_read S H) × IsAtEnd new.known_bytes
-  pub at_failure : has_failed_read S H ≡ true → engine_lines given ≡ lines_read S H
+-- `i` is what the engine of the side `S` gave in the acts `H`: the lines that were read from it are the first lines of
+-- its bytes; all of them, if its output ended or a read failed. What follows the last `\n` is no line
+pub record SaidBy (S : Colour) (H : List Act) (i : FromInput) : Type 0 where
+  pub lines : (rest : List (Option (List ℕ))) × (engine_lines i.text ≡ lines_read S H ++ rest)
+  pub ended : i.ended ≡ has_ended S H
+  pub failed : i.failed ≡ has_failed_read S H
+  pub all : (i.ended || i.failed) ≡ true → engine_lines i.text ≡ lines_read S H
 
--- from the state `old` of an engine's input to `new` just the lines `sent` were written and flushed. The list is of the
--- blocks that could not be sent (`broken_blocks`; in a match at most one, so `more` is empty there): if there is one, a
--- beginning of it, maybe nothing or all, was written after them, and then a call failed
-abbrev pub WrittenAs : List SentLine → List (List SentLine) → OutputState → OutputState → Type 0
-WrittenAs sent [] old new = Flushed old new (bytes_of sent)
-WrittenAs sent (block ∷ more) old new =
-    (start : List ℕ) × Begins start (bytes_of block) × FlushedThenFailed old new (bytes_of sent) start
+-- `o` is what went to an engine's input: just the lines `sent`, written and flushed. The list is of the blocks that could
+-- not be sent (`broken_blocks`; in a match at most one, so `more` is empty there): if there is one, a beginning of it,
+-- maybe nothing or all, was written after them, and then a call failed
+abbrev pub WasSent : List SentLine → List (List SentLine) → ToOutput → Type 0
+WasSent sent [] o = o ≡ all_of (bytes_of sent)
+WasSent sent (block ∷ more) o = BreaksOffIn (bytes_of sent) (bytes_of block) o
 
 -- the acts `H` are a match by the rules `r`, which ended as `final`; and from the world `w` to `w'` each engine's
 -- output, each engine's input and the clock did just what these acts say of it. Each device is looked at by itself:
 -- the order of acts at different devices is not claimed
 pub record Passed (r : Rules) (H : List Act) (final : Match) (w w' : World) : Type 0 where
   pub is_match : IsMatch r H final
-  pub read : (S : Colour) → (given : List ℕ) × ReadAs S H (w.ports.reader S) (w'.ports.reader S) given
-  pub written : (S : Colour)
-      → WrittenAs (lines_sent S H) (broken_blocks S H) (w.ports.writer S) (w'.ports.writer S)
+  pub engines : (S : Colour) → Ran (λ i o. SaidBy S H i × WasSent (lines_sent S H) (broken_blocks S H) o)
+      (w.engines S) (w'.engines S)
   pub moments : ClockReadings w.coming w'.coming (moments_shown H)
 
 -- `end` is what is reported of a match of these acts, which ended as `final` for this reason: the outcome, comment and

@@ -1,5 +1,6 @@
 -- What passes at the table of a match, in order: acts at its devices, and notes that its witness is given.
 use Rattle.std.specs.Prelude.{ℕ, Bool, true, false, if◌then◌else◌, List, [], ◌∷◌, ◌++◌, Option, None, Some, Result, Ok, Err}
+use Rattle.byte_devices.specs.Transfers.{Devices}
 use Rattle.chess_base.specs.declared.man.Colour.{Colour}
 use Rattle.text_lines.specs.Lines.{LineSeen}
 use Rattle.chess_match.specs.Acts.{Act, Block, Sends, SendFails, Reads, ReadsEnd, ReadFails, ReadsClock}
@@ -8,7 +9,7 @@ use Rattle.chess_base.specs.Options.{list_if}
 use Rattle.chess_match.specs.Lines.{bytes_of}
 use Rattle.chess_match.specs.Notes.{Note, Happened, Gives}
 use Rattle.chess_match.specs.Reasons.{is_unwritten}
-use Rattle.chess_match.specs.Run.{Ports, text_read}
+use Rattle.chess_match.specs.Run.{text_read}
 use Rattle.chess_match.specs.declared.reason.Reason.{Reason}
 
 -- one step at a table
@@ -54,9 +55,9 @@ is_line _ = false
 
 -- ---- what passed
 
--- what a table was at first, as far as contracts see it: both engines' devices, and which moments the clock was to show
+-- what a table was at first, as far as contracts see it: each engine's devices, and which moments the clock was to show
 pub record Beginning : Type 0 where
-  pub ports : Ports
+  pub engines : Colour → Devices
   pub coming : ℕ → Option ℕ
   -- a text that the witness held at first, and the notes that it may have been given since; `None` says nothing of it
   pub noted : Option (List ℕ × List Note)

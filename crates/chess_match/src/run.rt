@@ -17,7 +17,7 @@ ghost use Rattle.chess_match.specs.Notes.{WasNoted};
 ghost use Rattle.chess_match.specs.Played.{Played, PlayedNoting, PlayedAt};
 ghost use Rattle.chess_match.specs.Reasons.{declared_at};
 ghost use Rattle.chess_match.specs.Rules.{Rules};
-ghost use Rattle.chess_match.specs.Run.{ports_of, text_read};
+ghost use Rattle.chess_match.specs.Run.{engines_of, text_read};
 ghost use Rattle.chess_match.specs.Table.{Passes};
 ghost use Rattle.chess_match.specs.declared.block.TheConstants.{ANSWERS_LEN};
 ghost use Rattle.chess_match.specs.declared.reason.Reason.{Reason};
@@ -103,12 +103,12 @@ pub fn run_match<R: Input, W: Output, M: Moments, B: Board>(
 ) -> MatchEnd
     ensures ran { Played setup.now result
         (record {
-          ports = ports_of R.seen W.seen white.old black.old;
+          engines = engines_of R.seen W.seen white.old black.old;
           coming = M.coming moments.old;
           game = game.old;
         })
         (record {
-          ports = ports_of R.seen W.seen white.new black.new;
+          engines = engines_of R.seen W.seen white.new black.new;
           coming = M.coming moments.new;
           game = game.new;
         }) }
@@ -135,12 +135,12 @@ pub fn run_match_watched<R: Input, W: Output, M: Moments, B: Board, L: Witness>(
 ) -> MatchEnd
     ensures ran { PlayedNoting (λ notes. WasNoted (L.noted witness.old) (L.noted witness.new) notes) setup.now result
         (record {
-          ports = ports_of R.seen W.seen white.old black.old;
+          engines = engines_of R.seen W.seen white.old black.old;
           coming = M.coming moments.old;
           game = game.old;
         })
         (record {
-          ports = ports_of R.seen W.seen white.new black.new;
+          engines = engines_of R.seen W.seen white.new black.new;
           coming = M.coming moments.new;
           game = game.new;
         }) }

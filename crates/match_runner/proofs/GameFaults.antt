@@ -1,14 +1,15 @@
 -- Which games of a match have a fault.
-use Rattle.std.proofs.Common.{◌≡◌, ◌∙◌, ◌<◌, ℕ, Bool, true, false, List, [], ◌∷◌, length, Option, Some, None, refl, sym, arith}
+use Rattle.std.proofs.Common.{◌≡◌, ◌∙◌, ◌<◌, ℕ, Bool, true, false, List, [], ◌∷◌, length, Option, Some, None, refl, ap, sym, arith}
 use Rattle.std.specs.Prelude.{if◌then◌else◌, nat_lt}
 use Rattle.std.proofs.lemmas.Bool.Decides.{nat_tests}
 use Rattle.byte_devices.specs.Devices.{OutputState}
+use Rattle.byte_devices.specs.Transfers.{ToOutput, OutputTook, saturating_increment_if}
 use Rattle.chess_base.specs.declared.man.Colour.{Colour}
 use Rattle.chess_base.specs.declared.man.Colour.TheVariants.{White, Black}
 use Rattle.chess_match.specs.ByDevice.{broken_blocks, is_broken, lines_sent}
 use Rattle.chess_match.specs.Lines.{SentLine}
 use Rattle.chess_match.specs.Notes.{Note}
-use Rattle.chess_match.specs.Played.{PlayedNoting, World, WrittenAs}
+use Rattle.chess_match.specs.Played.{PlayedNoting, WasSent, World}
 use Rattle.chess_match.specs.Reasons.{first_fault}
 use Rattle.chess_match.specs.declared.reason.MatchFault.{MatchFault}
 use Rattle.chess_match.specs.declared.reason.MatchFault.TheVariants.{Write}
@@ -54,17 +55,21 @@ none_failed (Faulted c f) failed e = absurd cc
 none_above : (n : ℕ) → 0 < n → nat_lt 0 n ≡ false → ⊥
 none_above n h e = grind (arith, nat_tests)
 
-all_written : (sent : List SentLine) (broken : List (List SentLine)) (w w' : OutputState)
-    → nat_lt 0 (length broken) ≡ false → WrittenAs sent broken w w' → w'.failure_count ≡ w.failure_count
-all_written sent [] w w' none h = h.failures
-all_written sent (block ∷ more) w w' none h = absurd (none_above (length (block ∷ more)) (omega arith) none)
+all_written : (sent : List SentLine) (broken : List (List SentLine)) (w w' : OutputState) (o : ToOutput)
+    → nat_lt 0 (length broken) ≡ false → OutputTook w w' o → WasSent sent broken o
+    → w'.failure_count ≡ w.failure_count
+all_written sent [] w w' o none took was =
+    took.failures ∙ ap (λ (p : ToOutput). saturating_increment_if p.failed w.failure_count) was
+all_written sent (block ∷ more) w w' o none took was =
+    absurd (none_above (length (block ∷ more)) (omega arith) none)
 
 no_failures : (notes : List Note) (setup : Setup) (end : MatchEnd) (w w' : World)
     → PlayedNoting (λ given. given ≡ notes) setup end w w' → end.fault ≡ None
-    → (S : Colour) → (w'.ports.writer S).failure_count ≡ (w.ports.writer S).failure_count
+    → (S : Colour) → (w'.engines S).output.failure_count ≡ (w.engines S).output.failure_count
 no_failures notes setup end w w' (H, reason, given, (final, passed, reported, left)) none S =
-    all_written (lines_sent S H) (broken_blocks S H) (w.ports.writer S) (w'.ports.writer S)
-    (by_sides (is_broken H) (none_failed reason (is_broken H) (sym reported.fault ∙ none)) S) (passed.written S)
+    let (i, o, gave, took, (said, was)) = passed.engines S in
+    all_written (lines_sent S H) (broken_blocks S H) (w.engines S).output (w'.engines S).output o
+    (by_sides (is_broken H) (none_failed reason (is_broken H) (sym reported.fault ∙ none)) S) took was
 
 -- ---- games without a fault
 

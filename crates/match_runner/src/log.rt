@@ -8,7 +8,7 @@ ghost use Rattle.chess_game.specs.Results.{shown_byte};
 ghost use Rattle.chess_match.specs.Events as events;
 ghost use Rattle.chess_match.specs.Notes.{Gives, Happened};
 ghost use Rattle.chess_match.specs.Played.{PlayedNoting};
-ghost use Rattle.chess_match.specs.Run.{ports_of, text_read};
+ghost use Rattle.chess_match.specs.Run.{engines_of, text_read};
 ghost use Rattle.match_runner.specs.Log.{Logged, LogsNote};
 ghost use Rattle.match_runner.specs.Log.{engine_text, head, lines_in, log_line, log_seen, log_text};
 ghost use Rattle.match_runner.specs.ties.Logging.{Adds, IsLog, noted_by};
@@ -319,12 +319,12 @@ pub fn run_match_logged<R: Input, W: Output, M: Moments, B: Board, E: Output>(
     ensures ran { PlayedNoting (λ notes. Logged (log_seen (E.seen log.old.output) log.old.broken)
         (log_seen (E.seen log.new.output) log.new.broken) (log_text first notes)) setup.now result
         (record {
-          ports = ports_of R.seen W.seen ends.old.white ends.old.black;
+          engines = engines_of R.seen W.seen ends.old.white ends.old.black;
           coming = M.coming moments.old;
           game = game.old;
         })
         (record {
-          ports = ports_of R.seen W.seen ends.new.white ends.new.black;
+          engines = engines_of R.seen W.seen ends.new.white ends.new.black;
           coming = M.coming moments.new;
           game = game.new;
         }) }

@@ -3,7 +3,7 @@
 ghost use Rattle.std.specs.Prelude.{[]};
 ghost use Rattle.byte_devices.specs.Devices.{Sends};
 ghost use Rattle.chess_match.specs.Played.{PlayedNoting};
-ghost use Rattle.chess_match.specs.Run.{ports_of};
+ghost use Rattle.chess_match.specs.Run.{engines_of};
 ghost use Rattle.chess_pgn.specs.GameText.{pgn};
 ghost use Rattle.match_runner.specs.Games.{LogsGame};
 ghost use Rattle.match_runner.specs.Log.{log_seen};
@@ -45,12 +45,12 @@ fn relay<'t, R: Input, D: Output, M: Moments, E: Output>(
     ensures ran { PlayedNoting (λ notes. LogsGame first (log_seen (E.seen log.old.output) log.old.broken)
         (log_seen (E.seen log.new.output) log.new.broken) notes) setup.now result
         (record {
-          ports = ports_of R.seen D.seen ends.old.white ends.old.black;
+          engines = engines_of R.seen D.seen ends.old.white ends.old.black;
           coming = M.coming moments.old;
           game = game.old;
         })
         (record {
-          ports = ports_of R.seen D.seen ends.new.white ends.new.black;
+          engines = engines_of R.seen D.seen ends.new.white ends.new.black;
           coming = M.coming moments.new;
           game = game.new;
         }) }
@@ -76,7 +76,7 @@ fn send_game<'t, W: Output>(
 
 impl<P: Processes + Clock> GamesTable for ProcessTable<'_, P> {
     ghost use Rattle.std.specs.Prelude.{None};
-    ghost use Rattle.chess_match.specs.Run.{ports_of};
+    ghost use Rattle.chess_match.specs.Run.{engines_of};
 
     type Engines = Engines<P::Started>;
 
@@ -88,7 +88,7 @@ impl<P: Processes + Clock> GamesTable for ProcessTable<'_, P> {
     // What the clock will show isn't known.
     ghost coming = { λ t n. None };
 
-    ghost ports = { λ e. ports_of ⟦<Counted<<P::Started as OpenProcess>::Stdout> as Input>⟧.seen
+    ghost devices = { λ e. engines_of ⟦<Counted<<P::Started as OpenProcess>::Stdout> as Input>⟧.seen
         ⟦<Counted<<P::Started as OpenProcess>::Stdin> as Output>⟧.seen e.ends.white e.ends.black };
 
     // Starts both programs; if Black's can't be started, White's is ended.

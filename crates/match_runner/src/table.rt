@@ -21,8 +21,9 @@ use chess_pgn::Tags;
 /// one step of the match, and contracts see in which order the steps come.
 pub trait GamesTable {
     ghost use Rattle.std.specs.Prelude.{List, Option, ℕ};
+    ghost use Rattle.byte_devices.specs.Transfers.{Devices};
+    ghost use Rattle.chess_base.specs.declared.man.Colour.{Colour};
     ghost use Rattle.chess_game.specs.Game.{Seen};
-    ghost use Rattle.chess_match.specs.Run.{Ports};
     ghost use Rattle.match_runner.specs.GamesTable.{GamesStep};
 
     /// Two running engines. Code that is generic in the table can't drop such a value: it must be given to `finish`.
@@ -37,8 +38,8 @@ pub trait GamesTable {
     /// For each number from 0 on, which moment the clock will show then, as far as that is known.
     ghost coming: { Self → ℕ → Option ℕ };
 
-    /// The pipes of two engines.
-    ghost ports: { Self.Engines → Ports };
+    /// The pipes of each of two engines.
+    ghost devices: { Self.Engines → Colour → Devices };
 
     /// Starts two engines by their commands, White's and Black's; or none, if one of them can't be started.
     fn start<'a>(&mut self, white: &'a str, black: &'a str) -> Result<Self::Engines, GamesFault<'a>>
@@ -60,12 +61,12 @@ pub trait GamesTable {
             × LogsGame first (log_seen (E.seen log.old.output) log.old.broken)
             (log_seen (E.seen log.new.output) log.new.broken) notes
             × PlayedNoting (λ given. given ≡ notes) setup.now result
-            (record { ports = ports engines.old; coming = coming self.old; game = game self.old })
-            (record { ports = ports engines.new; coming = coming self.new; game = game self.new })
+            (record { engines = devices engines.old; coming = coming self.old; game = game self.old })
+            (record { engines = devices engines.new; coming = coming self.new; game = game self.new })
             × StepsPass (passed self.old) (passed self.new)
             (Plays (record {
-              before = record { ports = ports engines.old; coming = coming self.old; game = game self.old };
-              after = record { ports = ports engines.new; coming = coming self.new; game = game self.new };
+              before = record { engines = devices engines.old; coming = coming self.old; game = game self.old };
+              after = record { engines = devices engines.new; coming = coming self.new; game = game self.new };
               end = result;
               notes = notes;
             }) ∷ []) };

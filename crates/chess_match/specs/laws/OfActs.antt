@@ -104,11 +104,11 @@ OnlyOneMatch = (r : Rules) (s : Streams) (H K : List Act) (final final' : Match)
 -- everything is known about the devices of a run, `w` before and `w'` after it: which bytes each engine sends, that no
 -- count of failed calls is full, so that a failure shows, and which times the clock will give; and no write failed
 pub record ShowsAll (w w' : World) : Type 0 where
-  pub bytes : (S : Colour) → is_some (w.ports.reader S).known_bytes ≡ true
-  pub reads : (S : Colour) → (w.ports.reader S).failure_count < 2 ^ 64 - 1
-  pub writes : (S : Colour) → (w.ports.writer S).failure_count < 2 ^ 64 - 1
+  pub bytes : (S : Colour) → is_some (w.engines S).input.known_bytes ≡ true
+  pub reads : (S : Colour) → (w.engines S).input.failure_count < 2 ^ 64 - 1
+  pub writes : (S : Colour) → (w.engines S).output.failure_count < 2 ^ 64 - 1
   pub moments : (n : ℕ) → is_some (w.coming n) ≡ true
-  pub quiet : (S : Colour) → (w'.ports.writer S).failure_count ≡ (w.ports.writer S).failure_count
+  pub quiet : (S : Colour) → (w'.engines S).output.failure_count ≡ (w.engines S).output.failure_count
 
 -- two matches by the same rules that were played from the world `w` to `w'` are the same, act by act, if everything is
 -- known about the devices and no write failed

@@ -2,6 +2,7 @@
 use Rattle.std.specs.Prelude.{◌≡◌, ℕ, ◌+◌, List, [], ◌∷◌, ◌++◌, Option, None, Some}
 use Rattle.std.specs.Bool.{MatchBool}
 use Rattle.byte_devices.specs.Devices.{InputState, OutputState, BreaksOff}
+use Rattle.byte_devices.specs.Transfers.{Devices, OutputTook, all_of}
 use Rattle.chess_base.specs.declared.man.Colour.{Colour}
 use Rattle.chess_base.specs.ByColour.{by_colour, of_colour}
 use Rattle.chess_base.specs.Men.{same_colour}
@@ -11,7 +12,7 @@ use Rattle.chess_match.specs.Acts.{Act, Sends, SendFails}
 use Rattle.chess_match.specs.ByDevice.{moments_shown}
 use Rattle.chess_match.specs.Lines.{bytes_of}
 use Rattle.chess_match.specs.Notes.{Note, Noted}
-use Rattle.chess_match.specs.Run.{Ports, Flushed, ClockReadings}
+use Rattle.chess_match.specs.Run.{ClockReadings}
 use Rattle.chess_match.specs.Table.{Step, Does, Notes, Beginning, Passing, Passes}
 use Rattle.chess_match.specs.declared.desk.Desk.{Desk}
 use Rattle.chess_match.specs.ties.EngineOutput.{OutputAt}
@@ -38,7 +39,7 @@ ReadsOf S (a ∷ H) r r' h h' =
 -- this act took the input of the engine of the side `S` from `w` to `w'`
 abbrev pub WritesAt : Colour → Act → OutputState → OutputState → Type 0
 WritesAt S (Sends block) w w' =
-    MatchBool (same_colour block.to S) (Flushed w w' (bytes_of block.lines)) (w' ≡ w)
+    MatchBool (same_colour block.to S) (OutputTook w w' (all_of (bytes_of block.lines))) (w' ≡ w)
 WritesAt S (SendFails block) w w' =
     MatchBool (same_colour block.to S) (BreaksOff w w' (bytes_of block.lines)) (w' ≡ w)
 WritesAt S _ w w' = w' ≡ w
@@ -55,12 +56,12 @@ NotedSince witness (Some first) more = witness first.0 (first.1 ++ more)
 
 -- since the desk was as in `begun` just these steps passed: the devices did the acts, and the witness was given the
 -- notes. The rest says how the desk is now
-pub record Did (begun : Beginning) (ports : Ports) (held : Colour → Held) (coming : ℕ → Option ℕ) (witness : Noted)
-    (names : List ℕ) (steps : List Step) : Type 0 where
+pub record Did (begun : Beginning) (engines : Colour → Devices) (held : Colour → Held) (coming : ℕ → Option ℕ)
+    (witness : Noted) (names : List ℕ) (steps : List Step) : Type 0 where
   pub named : names ≡ begun.names
   pub read : (S : Colour)
-      → ReadsOf S (acts_in steps) (begun.ports.reader S) (ports.reader S) nothing_held (held S)
-  pub written : (S : Colour) → WritesOf S (acts_in steps) (begun.ports.writer S) (ports.writer S)
+      → ReadsOf S (acts_in steps) (begun.engines S).input (engines S).input nothing_held (held S)
+  pub written : (S : Colour) → WritesOf S (acts_in steps) (begun.engines S).output (engines S).output
   pub moments : ClockReadings begun.coming coming (moments_shown (acts_in steps))
   pub noted : NotedSince witness begun.noted (notes_in steps)
 
@@ -68,10 +69,10 @@ pub record Did (begun : Beginning) (ports : Ports) (held : Colour → Held) (com
 -- and `noted`
 abbrev pub passed_at : {R W M L : Type 0} → (R → InputState) → (W → OutputState) → (M → ℕ → Option ℕ) → (L → Noted)
     → Desk R W M L → Passing
-passed_at input output shown noted d = λ begun steps. Did begun (record {
-  reader = by_colour (input d.white_reader.now) (input d.black_reader.now);
-  writer = by_colour (output d.white_writer.now) (output d.black_writer.now);
-}) (of_colour d.lines) (shown d.moments.now) (noted d.witness.now)
+passed_at input output shown noted d = λ begun steps. Did begun (by_colour
+    (record { input = input d.white_reader.now; output = output d.white_writer.now })
+    (record { input = input d.black_reader.now; output = output d.black_writer.now }))
+    (of_colour d.lines) (shown d.moments.now) (noted d.witness.now)
     (d.white_reader.ghost_name ∷ d.white_writer.ghost_name ∷ d.black_reader.ghost_name ∷ d.black_writer.ghost_name
     ∷ d.moments.ghost_name ∷ d.witness.ghost_name ∷ []) steps
 

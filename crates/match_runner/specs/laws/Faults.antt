@@ -9,7 +9,7 @@ use Rattle.match_runner.specs.Games.{GameRecord, SoundGames}
 -- to the game
 abbrev pub KeepsFailureCounts : GameRecord → Type 0
 KeepsFailureCounts played = (S : Colour)
-    → (played.after.ports.writer S).failure_count ≡ (played.before.ports.writer S).failure_count
+    → (played.after.engines S).output.failure_count ≡ (played.before.engines S).output.failure_count
 
 -- in every match: each game without a fault of an engine leaves these counts as they were. All games of a match but the
 -- last are such games, whether it was played to its end or broke off (`WritesGames`)

@@ -28,12 +28,12 @@ pub returns-in-Ok-clause-played : goal.returns-in-Ok-clause-played
 returns-in-Ok-clause-played g c =
     let r = c.play-end.ensures.played in
     let before : World = record {
-      ports = g.T.GamesTable.ports c.in_ok-engines.engines;
+      engines = g.T.GamesTable.devices c.in_ok-engines.engines;
       coming = g.T.GamesTable.coming c.start.new.self;
       game = g.T.GamesTable.game c.start.new.self;
     } in
     let after : World = record {
-      ports = g.T.GamesTable.ports c.play-end.new.engines;
+      engines = g.T.GamesTable.devices c.play-end.new.engines;
       coming = g.T.GamesTable.coming c.play-end.new.self;
       game = g.T.GamesTable.game c.play-end.new.self;
     } in
@@ -55,12 +55,12 @@ pub returns-in-Err-clause-played : goal.returns-in-Err-clause-played
 returns-in-Err-clause-played g c =
     let r = c.play-end.ensures.played in
     let before : World = record {
-      ports = g.T.GamesTable.ports c.in_ok-engines.engines;
+      engines = g.T.GamesTable.devices c.in_ok-engines.engines;
       coming = g.T.GamesTable.coming c.start.new.self;
       game = g.T.GamesTable.game c.start.new.self;
     } in
     let after : World = record {
-      ports = g.T.GamesTable.ports c.play-end.new.engines;
+      engines = g.T.GamesTable.devices c.play-end.new.engines;
       coming = g.T.GamesTable.coming c.play-end.new.self;
       game = g.T.GamesTable.game c.play-end.new.self;
     } in

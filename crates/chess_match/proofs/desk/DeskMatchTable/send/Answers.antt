@@ -9,9 +9,9 @@ use Rattle.chess_match.proofs.desk.DeskMatchTable.send.Goals as goal
 pub returns-in-White-clause-passes : goal.returns-in-White-clause-passes
 returns-in-White-clause-passes g c lines e =
     rw c.in-White.is (send_moves _ _ _ _ _ _ White (is_err c.send.result) lines
-    (rw e (sent_now _ _ c.send.result _ c.send.ensures)) refl (λ X. refl))
+    (rw e (sent_now _ _ c.send.result _ c.send.ensures)) refl refl)
 
 pub returns-in-Black-clause-passes : goal.returns-in-Black-clause-passes
 returns-in-Black-clause-passes g c lines e =
     rw c.in-Black.is (send_moves _ _ _ _ _ _ Black (is_err c.send-in-Black.result) lines
-    (rw e (sent_now _ _ c.send-in-Black.result _ c.send-in-Black.ensures)) refl (λ X. refl))
+    (rw e (sent_now _ _ c.send-in-Black.result _ c.send-in-Black.ensures)) refl refl)
