@@ -1,5 +1,5 @@
 -- What the program does with its arguments and its devices.
-use Rattle.std.specs.Prelude.{◌≡◌, ◌≢◌, ◌⊎◌, ℕ, Bool, true, false, if◌then◌else◌, List, Result, Ok, Err, is_ok}
+use Rattle.std.specs.Prelude.{◌≡◌, ◌≢◌, ◌⊎◌, ℕ, Bool, true, false, if◌then◌else◌, List, [], Result, Ok, Err, is_ok}
 use Rattle.clap.specs.Words.{Text, kind_of}
 use Rattle.clap.specs.declared.error.kind.ErrorKind.TheVariants.{DisplayHelp, DisplayVersion}
 use Rattle.arbiter_cli.specs.Plans.{IsReading}
@@ -7,8 +7,8 @@ use Rattle.arbiter_cli.specs.declared.plan.Plan.{Plan}
 use Rattle.arbiter_cli.specs.declared.plan.Plan.TheVariants.{Session, Verify, Stub, Match}
 use Rattle.arbiter_cli.specs.declared.fault.WordsFault.{WordsFault}
 use Rattle.arbiter_cli.specs.declared.fault.WordsFault.TheVariants as faults
-use Rattle.byte_devices.specs.Devices.{OutputState, Sends}
-use Rattle.byte_devices.specs.Transfers.{FromInput, ToOutput, Devices, Ran}
+use Rattle.byte_devices.specs.Devices.{OutputState}
+use Rattle.byte_devices.specs.Transfers.{FromInput, ToOutput, Devices, OutputTook, Ran, all_of, BreaksOffIn}
 use Rattle.byte_devices.specs.declared.traits.WriteFault.{WriteFault}
 use Rattle.chess_cecp.specs.declared.run.End.{End}
 use Rattle.chess_cecp.specs.declared.run.Fault.{Fault}
@@ -26,7 +26,7 @@ use Rattle.pgn_verifier.specs.declared.tally.Verified.{Verified}
 use Rattle.pgn_verifier.specs.declared.tally.Verified.TheVariants.{EachGame}
 use Rattle.pgn_verifier.specs.Collection.{VerifiesCollection}
 use Rattle.pgn_verifier.specs.Verify.{Verifies}
-use Rattle.match_runner.specs.Games.{RanGames}
+use Rattle.match_runner.specs.Games.{Outputs, PlaysGames}
 use Rattle.match_runner.specs.declared.fault.GamesFault.{GamesFault}
 use Rattle.match_runner.specs.declared.plan.GamesPlan.{GamesPlan}
 use Rattle.match_runner.specs.Log.{LogSeen}
@@ -81,11 +81,18 @@ abbrev pub VerifiesInput : VerifyPlan → Devices → Devices → ℕ → Type 0
 VerifiesInput plan d d' status = (result : Result Verified VerifyFault)
     × Ran (VerifiesAs plan.keep_going (options_of plan) result) d d' × (status ≡ verify_status result)
 
--- a text of help was written and flushed, or a beginning of it if that failed; or memory ran out for it, and nothing
--- was written. `w` and `w'` are the output before and after; `status` is the exit status
+-- what writing a text of help writes to the output (`o`), by its result: all of it, flushed; or a beginning of it, and
+-- then a write or flush failed
+abbrev pub WritesHelpText : Result (Unit {0}) WriteFault → List ℕ → ToOutput → Type 0
+WritesHelpText (Ok _) text o = o ≡ all_of text
+WritesHelpText (Err _) text o = BreaksOffIn [] text o
+
+-- a text of help was written; or memory ran out for it, and nothing was. `w` and `w'` are the output before and after;
+-- `status` is the exit status
 abbrev pub WritesHelp : OutputState → OutputState → ℕ → Type 0
 WritesHelp w w' status =
-    ((result : Result (Unit {0}) WriteFault) × (text : List ℕ) × Sends w w' result text × (status ≡ status_of result))
+    ((result : Result (Unit {0}) WriteFault) × (text : List ℕ) × (o : ToOutput) × WritesHelpText result text o
+    × OutputTook w w' o × (status ≡ status_of result))
     ⊎ ((w' ≡ w) × (status ≡ 1))
 
 -- what is done with arguments for which there is no plan, by the fault that says why. Help or the version is written
@@ -111,12 +118,15 @@ games_plan plan = record {
 }
 
 -- the games of the plan's match were played, written and logged, and the exit status `status` is 1 if anything failed,
--- else 0. What the error output has is said only for status 0. `w` and `l` are output and log before, `w'` and `l'`
--- after
-abbrev pub PlaysMatch : MatchPlan → OutputState → OutputState → LogSeen → LogSeen → ℕ → Type 0
-PlaysMatch plan w w' l l' status =
-    (result : Result (Unit {0}) GamesFault) × (logged : LogSeen) × RanGames (games_plan plan) w w' l logged result
-    × (status ≡ status_of result) × (status ≡ 0 → l' ≡ logged)
+-- else 0. What the error output has is said only for status 0: just the log (`logged`)
+abbrev pub PlaysMatch : MatchPlan → Outputs → Outputs → ℕ → Type 0
+PlaysMatch plan d d' status = (result : Result (Unit {0}) GamesFault) × (logged : LogSeen)
+    × PlaysGames (games_plan plan) result d (record d' { log = logged }) × (status ≡ status_of result)
+    × (status ≡ 0 → d'.log ≡ logged)
+
+-- where a match writes: the output, and the error output, which has its log
+abbrev pub outputs_of : World → Outputs
+outputs_of d = record { output = d.devices.output; log = d.log }
 
 -- the program did what its arguments ask for (the plan), or reported why they ask for nothing (the fault), and `status`
 -- is its exit status
@@ -124,8 +134,8 @@ abbrev pub Does : Result Plan WordsFault → World → World → ℕ → Type 0
 Does (Ok Session) d d' status = RunsSession d.devices d'.devices status
 Does (Ok (Verify plan)) d d' status = VerifiesInput plan d.devices d'.devices status
 Does (Ok (Stub arguments)) d d' status = Serves stub_response (waiting arguments.items) d.devices d'.devices status
-Does (Ok (Match plan)) d d' status = (d'.devices.input ≡ d.devices.input)
-    × PlaysMatch plan d.devices.output d'.devices.output d.log d'.log status
+Does (Ok (Match plan)) d d' status =
+    (d'.devices.input ≡ d.devices.input) × PlaysMatch plan (outputs_of d) (outputs_of d') status
 Does (Err fault) d d' status = (d'.devices.input ≡ d.devices.input)
     × ReportsArguments fault d.devices.output d'.devices.output status
 

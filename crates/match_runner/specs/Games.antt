@@ -144,11 +144,11 @@ EndsGames plan games (Some (number, side, fault)) =
 abbrev pub match_text : GamesPlan → List GameRecord → List ℕ
 match_text plan games = game_texts plan games ++ score_line (score_of games)
 
--- what playing a match writes to the output (`o`), by its result. `games` are the games whose PGN was written whole, and
--- `unwritten` is one more whose PGN was not, if there is one. `Ok`: these are all games, and then the score was written.
--- `Game`: the same, but the last one has this number, and in it an engine had the fault that `text` names.
--- `WriteFailed`: a write or flush failed in the PGN of a game, or in the score after the last one. `CanNotStart` and
--- `NoMemory`: the engines of the next game could not be started
+-- what playing a match writes to the output (`o`), by its result. `games` are the games whose PGN was written and
+-- flushed, and `unwritten` is one more whose PGN was not, if there is one. `Ok`: these are all games, and then the
+-- score was written. `Game`: the same, but the last game has this number, and in it an engine had the fault that `text`
+-- names. `WriteFailed`: a write or flush failed in the PGN of a game, or after the last game in the score.
+-- `CanNotStart` and `NoMemory`: the engines of the next game could not be started
 abbrev pub WritesGames : GamesPlan → Result (Unit {0}) GamesFault → List GameRecord → Option GameRecord → ToOutput
     → Type 0
 WritesGames plan (Ok _) games None o = EndsGames plan games None × (o ≡ all_of (match_text plan games))
@@ -168,8 +168,8 @@ pub record Outputs : Type 0 where
   pub output : OutputState
   pub log : LogSeen
 
--- just these games were played from `d` to `d'`, with this result: `games` were written, `unwritten` was not, if there is
--- one, and the log, if the plan asks for it, has both
+-- from `d` to `d'` just these games were played, with this result: `games` were written, `unwritten` was not, if there
+-- is one, and all of them were logged, if the plan asks for that
 abbrev pub PlaysThese : GamesPlan → Result (Unit {0}) GamesFault → List GameRecord → Option GameRecord → Outputs
     → Outputs → Type 0
 PlaysThese plan result games unwritten d d' =

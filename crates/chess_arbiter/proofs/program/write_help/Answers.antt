@@ -1,5 +1,7 @@
 -- Without memory nothing was written; else the text was sent, all of it or a beginning.
-use Rattle.std.proofs.Common.{Ok, Err, inl, inr, refl}
+use Rattle.std.proofs.Common.{[], Ok, Err, inl, inr, refl}
+use Rattle.byte_devices.specs.Transfers.{all_of}
+use Rattle.byte_devices.proofs.shared.Transfers.{broke, took_all, took_some}
 use Rattle.chess_arbiter.proofs.Serving.{failed_status}
 use Rattle.chess_arbiter.proofs.program.write_help.Goals as goal
 
@@ -8,12 +10,16 @@ returns-in_err-text g c = inr (refl, failed_status c.from_residual.result c.from
 
 pub returns-in_err-send : goal.returns-in_err-send
 returns-in_err-send g c =
+    let (start, begins, failing) = c.in_err-send.ensures in
     inl (
       Err c.in_err-send.field-0.0,
       _,
-      c.in_err-send.ensures,
+      broke [] start,
+      (refl, begins, refl),
+      took_some _ _ start failing,
       failed_status c.from_residual-in_err-send.result c.from_residual-in_err-send.ensures.0,
     )
 
 pub returns : goal.returns
-returns g c = inl (Ok c.in_ok-send.field-0, _, c.in_ok-send.ensures, refl)
+returns g c =
+    inl (Ok c.in_ok-send.field-0, _, all_of _, refl, took_all _ _ _ c.in_ok-send.ensures, refl)
