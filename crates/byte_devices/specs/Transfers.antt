@@ -49,7 +49,7 @@ pub record OutputTook (w w' : OutputState) (o : ToOutput) : Type 0 where
   pub failures : w'.failure_count ≡ saturating_increment_if o.failed w.failure_count
 
 -- between the states `d` and `d'` of its devices a run read and wrote what the claim `P` says of the two: the form of
--- each contract of a run
+-- each contract of a run that reads and writes
 abbrev pub Ran : (FromInput → ToOutput → Type 0) → Devices → Devices → Type 0
 Ran P d d' = (i : FromInput) × (o : ToOutput) × InputGave d.input d'.input i × OutputTook d.output d'.output o × P i o
 

@@ -81,18 +81,12 @@ abbrev pub VerifiesInput : VerifyPlan → Devices → Devices → ℕ → Type 0
 VerifiesInput plan d d' status = (result : Result Verified VerifyFault)
     × Ran (VerifiesAs plan.keep_going (options_of plan) result) d d' × (status ≡ verify_status result)
 
--- what writing a text of help writes to the output (`o`), by its result: all of it, flushed; or a beginning of it, and
--- then a write or flush failed
-abbrev pub WritesHelpText : Result (Unit {0}) WriteFault → List ℕ → ToOutput → Type 0
-WritesHelpText (Ok _) text o = o ≡ all_of text
-WritesHelpText (Err _) text o = BreaksOffIn [] text o
-
--- a text of help was written; or memory ran out for it, and nothing was. `w` and `w'` are the output before and after;
--- `status` is the exit status
+-- a text of help was written and flushed, or a beginning of it before a write or flush failed; or memory ran out for
+-- it, and nothing was written. `w` and `w'` are the output before and after; `status` is the exit status
 abbrev pub WritesHelp : OutputState → OutputState → ℕ → Type 0
 WritesHelp w w' status =
-    ((result : Result (Unit {0}) WriteFault) × (text : List ℕ) × (o : ToOutput) × WritesHelpText result text o
-    × OutputTook w w' o × (status ≡ status_of result))
+    ((text : List ℕ) × (o : ToOutput) × OutputTook w w' o
+    × (((o ≡ all_of text) × (status ≡ 0)) ⊎ (BreaksOffIn [] text o × (status ≡ 1))))
     ⊎ ((w' ≡ w) × (status ≡ 1))
 
 -- what is done with arguments for which there is no plan, by the fault that says why. Help or the version is written
@@ -117,8 +111,9 @@ games_plan plan = record {
   log = plan.log;
 }
 
--- the games of the plan's match were played, written and logged, and the exit status `status` is 1 if anything failed,
--- else 0. What the error output has is said only for status 0: just the log (`logged`)
+-- the games of the plan's match were played, written and logged, and the exit status `status` is 0 if all games
+-- were played without a fault and written, else 1. What the error output has is said only for status 0: just the log
+-- (`logged`)
 abbrev pub PlaysMatch : MatchPlan → Outputs → Outputs → ℕ → Type 0
 PlaysMatch plan d d' status = (result : Result (Unit {0}) GamesFault) × (logged : LogSeen)
     × PlaysGames (games_plan plan) result d (record d' { log = logged }) × (status ≡ status_of result)

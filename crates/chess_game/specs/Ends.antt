@@ -88,7 +88,7 @@ claims start ms = record {
 abbrev pub draw_claim : Claims → Option DrawClaim
 draw_claim c = if c.threefold then Some Threefold else if c.fifty_moves then Some FiftyMoves else None
 
--- the comment on a draw that was claimed for this reason, as in the result line 1/2-1/2 {50-move rule}
+-- the comment on a draw that was claimed for this reason, as in the result line `1/2-1/2 {50-move rule}`
 abbrev pub claim_comment : DrawClaim → List ℕ
 claim_comment Threefold = codes "Threefold repetition"
 claim_comment FiftyMoves = codes "50-move rule"

@@ -113,23 +113,15 @@ pub enum DrawClaim {
 }
 
 impl DrawClaim {
-    /// The comment on a draw that was claimed for this reason, such as `50-move rule`.
-    pub fn as_str(self) -> &'static str
-        ensures value { result.now ≡ claim_comment self }
-        ensures short { length result.now ≤ 60 }
-    {
-        match self {
-            DrawClaim::Threefold => "Threefold repetition",
-            DrawClaim::FiftyMoves => "50-move rule",
-        }
-    }
-
-    /// The comment as bytes: it is in the braces of `1/2-1/2 {50-move rule}`.
+    /// The comment on a draw that was claimed for this reason: it is in the braces of `1/2-1/2 {50-move rule}`.
     pub fn comment(self) -> &'static [u8]
         ensures value { result.now ≡ claim_comment self }
         ensures short { length result.now ≤ 60 }
     {
-        self.as_str().as_bytes()
+        match self {
+            DrawClaim::Threefold => b"Threefold repetition",
+            DrawClaim::FiftyMoves => b"50-move rule",
+        }
     }
 }
 

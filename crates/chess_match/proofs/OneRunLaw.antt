@@ -89,7 +89,7 @@ are_of r H K final w w' given p t said same = record {
     same S ∙ h,
   );
   moments = λ n h. shown_moment (w.coming n) (slice_get (moments_shown K) n) (t.moments n) (p.moments.known n h);
-  sent = λ S. let (i, o, gave, took, (said, was)) = p.engines S in
+  sent = λ S. let (i, o, gave, took, (said, was)) = p.passed S in
       none_broken (w.engines S).output (w'.engines S).output (lines_sent S K) (broken_blocks S K) o (t.writes S)
       (t.quiet S) took was;
 }
@@ -109,14 +109,14 @@ said_alike S K i text e h = record {
 
 pub only_one_of_a_run : OnlyOneMatchOfARun
 only_one_of_a_run r H K final final' w w' p q t =
-    let same : (S : Colour) → (p.engines S).0.text ≡ (q.engines S).0.text =
-    λ S. one_given (w.engines S).input.known_bytes (w'.engines S).input.known_bytes (p.engines S).0.text
-    (q.engines S).0.text (t.bytes S) (p.engines S).2.bytes (q.engines S).2.bytes in
-    only_one_match r (given_by H (λ S. (p.engines S).0.text) w.coming) H K final final' p.is_match q.is_match
-    (are_of r H H final w w' (λ S. (p.engines S).0) p t (λ S. (p.engines S).4.0) (λ S. refl))
-    (are_of r H K final' w w' (λ S. with_text (q.engines S).0 (p.engines S).0.text) q t
-    (λ S. said_alike S K (q.engines S).0 (p.engines S).0.text (same S) (q.engines S).4.0)
-    (λ S. sym (p.engines S).4.0.failed
-    ∙ one_rise (w.engines S).input.failure_count (w'.engines S).input.failure_count (p.engines S).0.failed
-    (q.engines S).0.failed (t.reads S) (p.engines S).2.failures (q.engines S).2.failures
-    ∙ (q.engines S).4.0.failed))
+    let same : (S : Colour) → (p.passed S).0.text ≡ (q.passed S).0.text =
+    λ S. one_given (w.engines S).input.known_bytes (w'.engines S).input.known_bytes (p.passed S).0.text
+    (q.passed S).0.text (t.bytes S) (p.passed S).2.bytes (q.passed S).2.bytes in
+    only_one_match r (given_by H (λ S. (p.passed S).0.text) w.coming) H K final final' p.is_match q.is_match
+    (are_of r H H final w w' (λ S. (p.passed S).0) p t (λ S. (p.passed S).4.0) (λ S. refl))
+    (are_of r H K final' w w' (λ S. with_text (q.passed S).0 (p.passed S).0.text) q t
+    (λ S. said_alike S K (q.passed S).0 (p.passed S).0.text (same S) (q.passed S).4.0)
+    (λ S. sym (p.passed S).4.0.failed
+    ∙ one_rise (w.engines S).input.failure_count (w'.engines S).input.failure_count (p.passed S).0.failed
+    (q.passed S).0.failed (t.reads S) (p.passed S).2.failures (q.passed S).2.failures
+    ∙ (q.passed S).4.0.failed))

@@ -21,7 +21,8 @@ use Rattle.chess_match.specs.declared.run.Setup.{Setup}
 
 -- all that a match reads, writes and changes, as contracts see it
 pub record World : Type 0 where
-  -- each engine's devices: its output, which is read, and its input, which is written
+  -- each engine's devices, named as the arbiter sees them: `input` is the engine's output, which is read, and `output`
+  -- is its input, which is written
   pub engines : Colour → Devices
   -- the moment that each reading of the clock will give, where 0 is the next reading; `None` if it is not known
   pub coming : ℕ → Option ℕ
@@ -35,9 +36,9 @@ pub record SaidBy (S : Colour) (H : List Act) (i : FromInput) : Type 0 where
   pub failed : i.failed ≡ has_failed_read S H
   pub all : (i.ended || i.failed) ≡ true → engine_lines i.text ≡ lines_read S H
 
--- `o` is what went to an engine's input: just the lines `sent`, written and flushed. The list is of the blocks that could
--- not be sent (`broken_blocks`; in a match at most one, so `more` is empty there): if there is one, a beginning of it,
--- maybe nothing or all, was written after them, and then a call failed
+-- `o` is what went to an engine's input: just the lines `sent`, written and flushed. The list is of the blocks that
+-- could not be sent (`broken_blocks`; in a match at most one, so `more` is empty there): if there is one, a beginning of
+-- it, maybe nothing or all, was written after them, and then a call failed
 abbrev pub WasSent : List SentLine → List (List SentLine) → ToOutput → Type 0
 WasSent sent [] o = o ≡ all_of (bytes_of sent)
 WasSent sent (block ∷ more) o = BreaksOffIn (bytes_of sent) (bytes_of block) o
@@ -47,7 +48,7 @@ WasSent sent (block ∷ more) o = BreaksOffIn (bytes_of sent) (bytes_of block) o
 -- the order of acts at different devices is not claimed
 pub record Passed (r : Rules) (H : List Act) (final : Match) (w w' : World) : Type 0 where
   pub is_match : IsMatch r H final
-  pub engines : (S : Colour) → Ran (λ i o. SaidBy S H i × WasSent (lines_sent S H) (broken_blocks S H) o)
+  pub passed : (S : Colour) → Ran (λ i o. SaidBy S H i × WasSent (lines_sent S H) (broken_blocks S H) o)
       (w.engines S) (w'.engines S)
   pub moments : ClockReadings w.coming w'.coming (moments_shown H)
 

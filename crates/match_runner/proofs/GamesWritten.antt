@@ -9,7 +9,7 @@ use Rattle.match_runner.specs.declared.plan.GamesPlan.{GamesPlan}
 use Rattle.chess_base.specs.Men.{other, same_colour}
 use Rattle.chess_base.specs.declared.man.Colour.{Colour}
 use Rattle.chess_base.specs.declared.man.Colour.TheVariants.{White, Black}
-use Rattle.byte_devices.specs.Devices.{OutputState, Begins, TookSomeThenFailed, Sent}
+use Rattle.byte_devices.specs.Devices.{OutputState, Begins, TookPartThenFailed, Sent}
 use Rattle.byte_devices.specs.Transfers.{ToOutput, OutputTook, all_of}
 use Rattle.byte_devices.proofs.shared.Transfers.{broke, took_all, took_more, took_nothing, took_some_more}
 use Rattle.chess_game.specs.Game.{Seen}
@@ -142,13 +142,13 @@ module _ (plan : GamesPlan) (number : ℕ) (p p1 p2 p3 p4 : GamesPassing) (w w' 
     all_steps Writes writes,
   )
 
-  pub was_not_written : IsOfPlan plan played → TookSomeThenFailed w w' (pgn [] tags played.after.game.state)
+  pub was_not_written : IsOfPlan plan played → TookPartThenFailed w w' (pgn [] tags played.after.game.state)
       → StepsPass p2 p3 (WriteFails (pgn [] tags played.after.game.state) ∷ [])
       → PlayedGame plan number p p4 w w' l l' (Err WriteFailed)
   was_not_written of breaks fails = (
     played,
     of,
-    subst (λ (t : List ℕ). TookSomeThenFailed w w' t) tagged_text breaks,
+    subst (λ (t : List ℕ). TookPartThenFailed w w' t) tagged_text breaks,
     logs,
     all_steps WriteFails fails,
   )
@@ -372,14 +372,14 @@ module _ (plan : GamesPlan) (p p' p'' : GamesPassing) (w w' w'' : OutputState) (
 
   -- a game that was not written
   not_written : (next : GameRecord) → number ≤ plan.games → IsOfPlan plan next
-      → TookSomeThenFailed w' w'' (game_text plan number next) → LogsGame (logged_side plan number) l' l'' next.notes
+      → TookPartThenFailed w' w'' (game_text plan number next) → LogsGame (logged_side plan number) l' l'' next.notes
       → StepsPass p' p'' (unwritten_steps plan number next)
-      → PlaysGamesAt plan (Err WriteFailed) p p'' (outputs w l) (outputs w'' l'')
+      → HasPlayed plan p p'' w w'' l l'' (Err WriteFailed)
   not_written next le of (begun, begins, failing) log steps =
       let n = s.numbered in
       let m : number ≡ length games + 1 = omega (arith, n) in (
         games,
-        Some next,
+        next,
         (
           broke (game_texts plan games) begun,
           (
@@ -418,10 +418,10 @@ module _ (plan : GamesPlan) (p p' p'' : GamesPassing) (w w' w'' : OutputState) (
   broke_off WriteFailed le (next, of, breaks, log, steps) = not_written next le of breaks log steps
   broke_off NoMemory le (is, same, log, steps) =
       let (games, o, writes, took, logs, passes) = not_started NoMemory le is same log steps in
-      (games, None, (o, writes, took, logs), passes)
+      (games, is, (o, writes, took, logs), passes)
   broke_off (CanNotStart command) le (is, same, log, steps) =
       let (games, o, writes, took, logs, passes) = not_started (CanNotStart command) le is same log steps in
-      (games, None, (o, writes, took, logs), passes)
+      (games, is, (o, writes, took, logs), passes)
   broke_off (Game k text) le (is, same, log, steps) = absurd is
 
 pub all_played : (plan : GamesPlan) (p p' : GamesPassing) (w w' : OutputState) (l l' : LogSeen) (number : ℕ)
@@ -433,6 +433,14 @@ all_played plan p p' w w' l l' number score games s past =
     (games, (s.games_sound, omega (arith, n, few, past)), s.counted, s.written, s.logged, s.passed)
 
 -- ---- the end of a match
+
+-- what broke off, at the table
+pub broke_at_table : (plan : GamesPlan) (p p' : GamesPassing) (w w' : OutputState) (l l' : LogSeen) (fault : GamesFault)
+    → HasPlayed plan p p' w w' l l' (Err fault) → PlaysGamesAt plan (Err fault) p p' (outputs w l) (outputs w' l')
+broke_at_table plan p p' w w' l l' WriteFailed (games, unwritten, these, steps) = (games, Some unwritten, these, steps)
+broke_at_table plan p p' w w' l l' NoMemory (games, is, these, steps) = (games, None, these, steps)
+broke_at_table plan p p' w w' l l' (CanNotStart command) (games, is, these, steps) = (games, None, these, steps)
+broke_at_table plan p p' w w' l l' (Game number text) (games, is, these, steps) = absurd is
 
 module _ (plan : GamesPlan) (p p' : GamesPassing) (w w' w'' : OutputState) (l l' : LogSeen) (played : GamesPlayed)
     (h : HasPlayed plan p p' w w' l l' (Ok played)) where
@@ -474,7 +482,7 @@ module _ (plan : GamesPlan) (p p' : GamesPassing) (w w' w'' : OutputState) (l l'
     steps_all,
   )
 
-  pub score_broken : TookSomeThenFailed w' w'' (score_line played.score)
+  pub score_broken : TookPartThenFailed w' w'' (score_line played.score)
       → PlaysGamesAt plan (Err WriteFailed) p p' (outputs w l) (outputs w'' l')
   score_broken (begun, begins, failing) = (
     h.0,

@@ -155,13 +155,14 @@ WritesGames plan (Ok _) games None o = EndsGames plan games None × (o ≡ all_o
 WritesGames plan (Err (Game number text)) games None o = (side : Colour) × (fault : MatchFault)
     × EndsGames plan games (Some (number, side, fault)) × (text.now ≡ comment_of (Faulted side fault))
     × (o ≡ all_of (match_text plan games))
-WritesGames plan (Err WriteFailed) games (Some next) o = SoundGames plan games × (length games < plan.games)
-    × IsOfPlan plan next × BreaksOffIn (game_texts plan games) (game_text plan (length games + 1) next) o
+WritesGames plan (Err WriteFailed) games (Some unwritten) o =
+    SoundGames plan games × (length games < plan.games) × IsOfPlan plan unwritten
+    × BreaksOffIn (game_texts plan games) (game_text plan (length games + 1) unwritten) o
 WritesGames plan (Err WriteFailed) games None o = (last : Option (ℕ × Colour × MatchFault)) × EndsGames plan games last
     × BreaksOffIn (game_texts plan games) (score_line (score_of games)) o
 WritesGames plan (Err fault) games None o = SoundGames plan games × (length games < plan.games)
     × IsStartFault plan.white.now plan.black.now fault × (o ≡ all_of (game_texts plan games))
-WritesGames plan _ games (Some next) o = ⊥
+WritesGames plan _ games (Some unwritten) o = ⊥
 
 -- where a match writes, as contracts see it: its output, which has the games and the score, and its log
 pub record Outputs : Type 0 where
@@ -169,15 +170,15 @@ pub record Outputs : Type 0 where
   pub log : LogSeen
 
 -- from `d` to `d'` just these games were played, with this result: `games` were written, `unwritten` was not, if there
--- is one, and all of them were logged, if the plan asks for that
+-- is one, and the log was given all of them, if the plan asks for one
 abbrev pub PlaysThese : GamesPlan → Result (Unit {0}) GamesFault → List GameRecord → Option GameRecord → Outputs
     → Outputs → Type 0
 PlaysThese plan result games unwritten d d' =
     (o : ToOutput) × WritesGames plan result games unwritten o × OutputTook d.output d'.output o
     × LogsGames plan.log d.log d'.log (games ++ option_to_list unwritten)
 
--- what playing a match does, by its result: some games were played, written and logged; or memory ran out before the
--- first one, and nothing was written or logged
+-- what playing a match does, by its result: games were played, maybe none, as `PlaysThese` says; or memory ran out
+-- before the first one, and nothing was written or logged
 abbrev pub PlaysGames : GamesPlan → Result (Unit {0}) GamesFault → Outputs → Outputs → Type 0
 PlaysGames plan result d d' =
     ((games : List GameRecord) × (unwritten : Option GameRecord) × PlaysThese plan result games unwritten d d')

@@ -79,8 +79,9 @@ last_steps plan number (Err NoMemory) None = unstarted_steps plan number
 last_steps plan number (Err (CanNotStart _)) None = unstarted_steps plan number
 last_steps plan number _ None = []
 
--- what playing a match at a table does, by its result: some games were played, written and logged, as in `PlaysGames`,
--- and just the steps of these games passed at the table. `p` is what may have passed there before, `p'` after
+-- what playing a match at a table does, by its result: games were played, maybe none, as in `PlaysGames`, and just the
+-- steps of these games passed at the table, and the failed start of the next one, if there was one. `p` is what may have
+-- passed there before, `p'` after
 abbrev pub PlaysGamesAt : GamesPlan → Result (Unit {0}) GamesFault → GamesPassing → GamesPassing → Outputs → Outputs
     → Type 0
 PlaysGamesAt plan result p p' d d' =

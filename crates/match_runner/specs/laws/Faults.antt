@@ -5,8 +5,8 @@ use Rattle.chess_base.specs.declared.man.Colour.{Colour}
 use Rattle.match_runner.specs.declared.plan.GamesPlan.{GamesPlan}
 use Rattle.match_runner.specs.Games.{GameRecord, SoundGames}
 
--- after this game the count of failed writes and flushes of each engine's input is as before it; the end lines belong
--- to the game
+-- after this game the count of failed writes and flushes of each engine's input (`output`, as the arbiter sees it) is
+-- as before it; the end lines belong to the game
 abbrev pub KeepsFailureCounts : GameRecord → Type 0
 KeepsFailureCounts played = (S : Colour)
     → (played.after.engines S).output.failure_count ≡ (played.before.engines S).output.failure_count

@@ -1,9 +1,9 @@
 -- What code does for one game of a match, and for all of them.
-use Rattle.std.specs.Prelude.{◌≡◌, ⊤, ℕ, ◌+◌, min, Bool, true, false, if◌then◌else◌, List, Option, None, Some, Result, Ok, Err}
+use Rattle.std.specs.Prelude.{◌≡◌, ⊤, ℕ, ◌+◌, min, Bool, true, false, if◌then◌else◌, List, ◌++◌, length, Option, None, Some, Result, Ok, Err}
 use Rattle.match_runner.specs.declared.plan.GamesPlan.{GamesPlan}
 use Rattle.chess_base.specs.Men.{other}
 use Rattle.chess_base.specs.declared.man.Colour.{Colour}
-use Rattle.byte_devices.specs.Devices.{OutputState, TookSomeThenFailed, Sent}
+use Rattle.byte_devices.specs.Devices.{OutputState, TookPartThenFailed, Sent}
 use Rattle.byte_devices.specs.Transfers.{OutputTook, all_of}
 use Rattle.chess_game.specs.Results.{same_outcome}
 use Rattle.chess_game.specs.declared.results.Outcome.{Outcome}
@@ -15,8 +15,8 @@ use Rattle.match_runner.specs.declared.fault.GamesFault.{GamesFault}
 use Rattle.match_runner.specs.declared.fault.GamesFault.TheVariants.{WriteFailed, NoMemory, CanNotStart}
 use Rattle.match_runner.specs.declared.games.GamesPlayed.{GamesPlayed}
 use Rattle.match_runner.specs.declared.score.Score.{Score}
-use Rattle.match_runner.specs.Games.{first_side, GameRecord, IsOfPlan, game_text, IsStartFault, LogsGame, game_texts, LogsGames, score_of, EndsGames}
-use Rattle.match_runner.specs.GamesTable.{GamesPassing, StepsPass, game_steps, unwritten_steps, unstarted_steps, games_steps, PlaysGamesAt}
+use Rattle.match_runner.specs.Games.{first_side, GameRecord, IsOfPlan, game_text, IsStartFault, LogsGame, game_texts, LogsGames, score_of, EndsGames, PlaysThese}
+use Rattle.match_runner.specs.GamesTable.{GamesPassing, StepsPass, game_steps, unwritten_steps, unstarted_steps, games_steps}
 
 -- ---- the score, as it is counted
 
@@ -60,14 +60,14 @@ PlayedGame plan number p p' w w' l l' (Ok end) =
     (played : GameRecord) × (played.end ≡ end) × IsOfPlan plan played × Sent w w' (game_text plan number played)
     × LogsGame (logged_side plan number) l l' played.notes × StepsPass p p' (game_steps plan number played)
 PlayedGame plan number p p' w w' l l' (Err WriteFailed) =
-    (played : GameRecord) × IsOfPlan plan played × TookSomeThenFailed w w' (game_text plan number played)
+    (played : GameRecord) × IsOfPlan plan played × TookPartThenFailed w w' (game_text plan number played)
     × LogsGame (logged_side plan number) l l' played.notes × StepsPass p p' (unwritten_steps plan number played)
 PlayedGame plan number p p' w w' l l' (Err fault) =
     IsStartFault plan.white.now plan.black.now fault × (w' ≡ w) × (l' ≡ l)
     × StepsPass p p' (unstarted_steps plan number)
 
 -- what playing the games of a match does, by its result: each was written and logged, and the score counts them, up to
--- and with one that has a fault; or the match broke off. `p` is what may have passed at the table before, `w` and `l`
+-- and with one that has a fault; or the match broke off in a game or at its start. `p` is what may have passed at the table before, `w` and `l`
 -- are output and log; `p'`, `w'` and `l'` after
 abbrev pub HasPlayed : GamesPlan → GamesPassing → GamesPassing → OutputState → OutputState → LogSeen → LogSeen
     → Result GamesPlayed GamesFault → Type 0
@@ -75,5 +75,11 @@ HasPlayed plan p p' w w' l l' (Ok played) =
     (games : List GameRecord) × EndsGames plan games played.fault × (played.score ≡ score_of games)
     × OutputTook w w' (all_of (game_texts plan games)) × LogsGames plan.log l l' games
     × StepsPass p p' (games_steps plan games)
-HasPlayed plan p p' w w' l l' (Err fault) = PlaysGamesAt plan (Err fault) p p'
+HasPlayed plan p p' w w' l l' (Err WriteFailed) = (games : List GameRecord) × (unwritten : GameRecord)
+    × PlaysThese plan (Err WriteFailed) games (Some unwritten)
     (record { output = w; log = l }) (record { output = w'; log = l' })
+    × StepsPass p p' (games_steps plan games ++ unwritten_steps plan (length games + 1) unwritten)
+HasPlayed plan p p' w w' l l' (Err fault) =
+    (games : List GameRecord) × IsStartFault plan.white.now plan.black.now fault
+    × PlaysThese plan (Err fault) games None (record { output = w; log = l }) (record { output = w'; log = l' })
+    × StepsPass p p' (games_steps plan games ++ unstarted_steps plan (length games + 1))

@@ -1,5 +1,5 @@
 -- Without memory nothing was written; else the text was sent, all of it or a beginning.
-use Rattle.std.proofs.Common.{[], Ok, Err, inl, inr, refl}
+use Rattle.std.proofs.Common.{[], inl, inr, refl}
 use Rattle.byte_devices.specs.Transfers.{all_of}
 use Rattle.byte_devices.proofs.shared.Transfers.{broke, took_all, took_some}
 use Rattle.chess_arbiter.proofs.Serving.{failed_status}
@@ -12,14 +12,11 @@ pub returns-in_err-send : goal.returns-in_err-send
 returns-in_err-send g c =
     let (start, begins, failing) = c.in_err-send.ensures in
     inl (
-      Err c.in_err-send.field-0.0,
       _,
       broke [] start,
-      (refl, begins, refl),
       took_some _ _ start failing,
-      failed_status c.from_residual-in_err-send.result c.from_residual-in_err-send.ensures.0,
+      inr ((refl, begins, refl), failed_status c.from_residual-in_err-send.result c.from_residual-in_err-send.ensures.0),
     )
 
 pub returns : goal.returns
-returns g c =
-    inl (Ok c.in_ok-send.field-0, _, all_of _, refl, took_all _ _ _ c.in_ok-send.ensures, refl)
+returns g c = inl (_, all_of _, took_all _ _ _ c.in_ok-send.ensures, inl (refl, refl))

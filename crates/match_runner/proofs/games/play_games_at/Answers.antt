@@ -2,14 +2,14 @@
 -- fault_written), or a beginning of it where the score could not be written (GamesWritten.score_broken). Or the match
 -- broke off in a game. Writing the score is no step at the table.
 use Rattle.std.proofs.Common.{◌≡◌, None, Some, rules}
-use Rattle.match_runner.proofs.GamesWritten.{all_written, fault_written, score_broken}
+use Rattle.match_runner.proofs.GamesWritten.{all_written, broke_at_table, fault_written, score_broken}
 use Rattle.std.proofs.lemmas.Result.{err_from_is_err_and}
 use Rattle.match_runner.proofs.games.play_games_at.Goals as goal
 
 pub returns-in_err-played : goal.returns-in_err-played
 returns-in_err-played g c =
     let e = err_from_is_err_and c.from_residual.result c.from_residual.ensures.1 in
-    rw (e.1, e.2) (record { plays = c.in_err-played.ensures })
+    rw (e.1, e.2) (record { plays = broke_at_table c.args.plan.now _ _ _ _ _ _ _ c.in_err-played.ensures })
 
 pub returns-in_err-write_score : goal.returns-in_err-write_score
 returns-in_err-write_score g c =
