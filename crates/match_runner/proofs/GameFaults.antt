@@ -66,8 +66,8 @@ all_written sent (block ∷ more) w w' o none took was =
 no_failures : (notes : List Note) (setup : Setup) (end : MatchEnd) (w w' : World)
     → PlayedNoting (λ given. given ≡ notes) setup end w w' → end.fault ≡ None
     → (S : Colour) → (w'.engines S).output.failure_count ≡ (w.engines S).output.failure_count
-no_failures notes setup end w w' (H, reason, given, (final, passed, reported, left)) none S =
-    let (i, o, gave, took, (said, was)) = passed.engines S in
+no_failures notes setup end w w' (H, reason, given, (final, run, reported, left)) none S =
+    let (i, o, gave, took, (said, was)) = run.passed S in
     all_written (lines_sent S H) (broken_blocks S H) (w.engines S).output (w'.engines S).output o
     (by_sides (is_broken H) (none_failed reason (is_broken H) (sym reported.fault ∙ none)) S) took was
 
