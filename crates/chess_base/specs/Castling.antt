@@ -1,6 +1,6 @@
 -- Castling (Laws of Chess 2023, article 3.8.2): with which rook, between which squares, and when. In Chess960 (Laws of
--- Chess 2023, Guidelines II) king and rooks begin anywhere on the first rank, the king between the rooks; where both
--- end stays the same.
+-- Chess 2023, Guidelines II) king and rooks begin anywhere on the first rank, the king between the rooks; they end on
+-- the same squares as in normal chess.
 use Rattle.std.specs.Prelude.{ℕ, ◌+◌, ◌*◌, ◌==◌, nat_lt, Bool, true, false, not, ◌&&◌, ◌||◌, Option, Some, None, is_none, position, if◌then◌else◌, option_and_then}
 use Rattle.std.specs.Option.{option_map, option_map_or}
 use Rattle.chess_base.specs.declared.castling.Castle.{Castle}
@@ -90,8 +90,9 @@ right_is_sound p c w = option_map_or (are_placed_for_castling p.variant p.men c 
 
 -- ---- which moves are castling
 
--- the squares of move m are those of colour c's castling on side w with the rook on square `rook`: in normal chess the
--- king's start and end square (e1g1), in Chess960 the king's and the rook's square, on one rank (e1h1)
+-- the squares of move m are those of colour c's castling on side w with the rook on square `rook`. In normal chess they
+-- are the king's start and end square (e1g1), wherever the rook is. In Chess960 m ends on the rook's square and starts
+-- on its rank (e1h1); that a king starts there is not asked here
 abbrev pub names_castling_with : Variant → Colour → Move → CastlingSide → ℕ → Bool
 names_castling_with Normal c m w rook = (m.from == home_square c king_home_file)
     && (m.to == home_square c (castled_king_file w))

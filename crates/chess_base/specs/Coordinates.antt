@@ -13,15 +13,17 @@ optional f (Some x) = f x
 abbrev pub small_letter_text : Kind → List ℕ
 small_letter_text k = (white_letter k + 32) ∷ []
 
--- a move as text: its start square, its end square, and the small letter of what the pawn becomes: e2e4, e7e8q
+-- a move as text: its start square, its end square, and the small letter of its promotion, if it names one: e2e4, e7e8q
 abbrev pub coordinate : Move → List ℕ
 coordinate m = square_text m.from ++ (square_text m.to ++ optional small_letter_text m.promotion)
 
--- the text is parsed as r: the square with that name, or an error if no square has it
+-- the text is parsed as r: a square with that name, or an error if none of the 64 squares has it. Not said here: that
+-- the square is below 64, and which error it is
 abbrev pub ParsesSquare : {E : Type 0} → List ℕ → Result ℕ E → Type 0
 ParsesSquare text r = MatchResult r (λ s. text ≡ square_text s) (λ _. (s : ℕ) → s < 64 → text ≢ square_text s)
 
--- the text is parsed as r: the move with that coordinate text, or an error if no move has it
+-- the text is parsed as r: a move with that coordinate text, legal or not, or an error if no move between two of the 64
+-- squares, with any promotion or none, has it. Not said here: that the move's squares are below 64, and which error
 abbrev pub ParsesMove : {E : Type 0} → List ℕ → Result Move E → Type 0
 ParsesMove text r =
     MatchResult r (λ m. text ≡ coordinate m) (λ _. (m : Move) → m.from < 64 → m.to < 64 → text ≢ coordinate m)

@@ -13,7 +13,7 @@ abbrev first_of : List ℕ → ℕ
 first_of [] = 0
 first_of (c ∷ cs) = c
 
--- the code of a text of one letter: `byte "A"` is 65
+-- the code of a text of one character: `byte "A"` is 65
 abbrev pub byte : Text → ℕ
 byte text = first_of (codes text)
 

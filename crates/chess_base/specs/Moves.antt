@@ -17,8 +17,8 @@ use Rattle.chess_base.specs.Men.{Men, man_at, is_of, is_man, same_colour, same_k
 use Rattle.chess_base.specs.Attacks.{attacks, is_in_check}
 use Rattle.chess_base.specs.Castling.{right_of, rights_by, castle_of, castling_rook_to, castles, mover_end}
 
--- a pawn's move names a promotion to a queen, rook, bishop or knight if it ends on its last rank (`last`), and
--- otherwise none (3.7.3.3)
+-- what a pawn's move names as its promotion fits: a queen, rook, bishop or knight if the move ends on the pawn's last
+-- rank (`last` is true), and nothing if it does not (3.7.3.3)
 abbrev pub promotion_fits : Bool → Option Kind → Bool
 promotion_fits last None = not last
 promotion_fits last (Some King) = false
@@ -37,7 +37,8 @@ is_double_advance p m =
 unfoldable pub is_en_passant : Setup → Move → Bool
 is_en_passant p m = is_man p.side Pawn (man_at p.men m.from) && attacks p.men m.from m.to && is_square p.target m.to
 
--- for a move of a pawn: it goes straight ahead, one square or by a double advance, over empty squares (3.7.1, 3.7.2)
+-- for a move of a pawn: it goes straight ahead, one square or by a double advance; the square where it ends, and one
+-- that it crosses, is empty (3.7.1, 3.7.2)
 unfoldable pub pawn_advances : Setup → Move → Bool
 pawn_advances p m =
     is_none (man_at p.men m.to)
@@ -52,7 +53,8 @@ unfoldable pub pawn_moves : Setup → Move → Bool
 pawn_moves p m =
     promotion_fits (rank m.to == first_rank (other p.side)) m.promotion && (pawn_advances p m || pawn_captures p m)
 
--- a piece other than a pawn goes to a square that it attacks and no piece of its own colour holds (3.1)
+-- for a move of a piece other than a pawn, but for castling: it goes to a square that the piece attacks and no piece of
+-- the side on move holds (3.1), and names no promotion
 unfoldable pub man_moves : Setup → Move → Bool
 man_moves p m = is_none m.promotion && attacks p.men m.from m.to && not (is_of p.side (man_at p.men m.to))
 
@@ -64,13 +66,13 @@ moves_as p m (Some x) =
     same_colour p.side x.colour
     && (if same_kind Pawn x.kind then pawn_moves p m else option_map_or (castles p m) (castle_of p m) (man_moves p m))
 
--- the move is pseudo-legal: a piece of the side on move can make it (3.1 to 3.8), but may leave its own king in check.
--- Castling out of check, or across an attacked square, is not even pseudo-legal
+-- the move is pseudo-legal: its squares are on the board, and a piece of the side on move can make it (3.1 to 3.8), but
+-- may leave its own king in check. Castling out of check, or across an attacked square, is not even pseudo-legal
 unfoldable pub is_pseudo_legal : Setup → Move → Bool
 is_pseudo_legal p m = nat_lt m.from 64 && nat_lt m.to 64 && moves_as p m (man_at p.men m.from)
 
 -- the piece that arrives on the end square: the one that left the start square, or after a promotion one of the new
--- kind
+-- kind in its colour; none if the start square was empty
 abbrev pub arriving_man : Option Man → Option Kind → Option Man
 arriving_man None k = None
 arriving_man (Some x) None = Some x
@@ -167,7 +169,8 @@ second_square_emptied p m =
     if is_en_passant p m then Some (one_rank_back p.side m.to) else option_map (λ k. k.rook_from) (castle_of p m)
 
 -- what the move changes on the board: the mover leaves `from` and arrives on `to`; in castling the rook does so from
--- `second_from` to `second_to`, and a pawn taken en passant leaves `second_from`
+-- `second_from` to `second_to`, and a pawn taken en passant leaves `second_from`. `second` means nothing where there is
+-- no `second_to`
 abbrev pub steps_of : Setup → Move → Steps
 steps_of p m = record {
   from = m.from;

@@ -10,23 +10,26 @@ use Rattle.chess_cecp.specs.declared.run.Fault.{Fault}
 use Rattle.chess_cecp.specs.declared.run.Fault.TheVariants.{Read, Write}
 use Rattle.chess_cecp.specs.declared.session.TheConstants.{COMMAND_LEN}
 
--- the lines that were read; one without `\n` at the end counts if the input's end was reported
+-- the lines that were read; what follows the last `\n` is a line too if the input's end was reported and it isn't
+-- empty. A line of more than `COMMAND_LEN` bytes is too long
 abbrev pub lines_read : FromInput → List LineSeen
 lines_read i = stream_lines COMMAND_LEN i.ended i.text
 
--- the lines that were complete before the last read
+-- the lines that were complete (ended by `\n`) before the last read that did not fail
 abbrev pub early_lines : FromInput → List LineSeen
 early_lines i = whole COMMAND_LEN i.early
 
--- the server `respond` answered all lines that were read, up to one with which it ends, if there is one (`ends`): the
--- answers were written and flushed. `s` and `s'` are its states before and after
+-- the server `respond` answered all lines that were read, up to one with which it ends (`ends`: there is one). The
+-- answers, and nothing else, were written and flushed. `s` and `s'` are the server's states before and after
 abbrev pub AnswersAll : {S : Type 0} → Server S → S → S → Bool → FromInput → ToOutput → Type 0
 AnswersAll respond s s' ends i o =
     let due = responses respond s (lines_read i) in (o ≡ all_of due.text) × (s' ≡ due.state) × (due.ends ≡ ends)
 
--- the server `respond` answered the lines `before` one line, which were written and flushed; of the answer to that line
--- only a beginning was written when a write or flush failed, and the change that the line made is kept. All lines that
--- were complete before the last read are among those `before`. `s` and `s'` are its states before and after
+-- the server `respond` answered the lines `before`, and broke off in the answer to `line`. The answers to `before` were
+-- written and flushed, and the server ends with none of these lines. Of the answer to `line` a beginning was written
+-- and not flushed, as a write or a flush failed; yet the server's state is the one after `line`. The lines of `after`
+-- were not answered. All lines that were complete before the last read that did not fail are in `before`. `s` and `s'`
+-- are the server's states before and after
 abbrev pub AnswersSome : {S : Type 0} → Server S → S → S → FromInput → ToOutput → Type 0
 AnswersSome respond s s' i o =
     (before : List LineSeen) × (line : LineSeen) × (after : List LineSeen) × (lines_read i ≡ before ++ line ∷ after)
@@ -34,14 +37,16 @@ AnswersSome respond s s' i o =
     × (let due = responses respond s before in let last = respond due.state line in
     (due.ends ≡ false) × BreaksOffIn due.text last.text o × (s' ≡ last.state))
 
--- what the server `respond` reads and writes, by its result. `Quit`: it answered all lines up to one that ends it, and
--- read no more, as no line that was complete before the last read ends it. `InputEnded`: it answered all lines of the
--- input. `Read`: a read failed, and it answered all lines that were complete. `Write`: a write or flush failed in an
--- answer. As any read may fail, each answer is flushed before more is read. `s` and `s'` are its states before and
--- after
+-- what the server `respond` reads (`i`) and writes (`o`), by the result of the run. `s` and `s'` are the server's
+-- states before and after
 abbrev pub Served : {S : Type 0} → Server S → S → S → Result End Fault → FromInput → ToOutput → Type 0
+-- it answered all lines up to one with which it ends, and no read failed. It ends with none of the lines that were
+-- complete before the last read: so the last read completed that one
 Served respond s s' (Ok Quit) i o =
     IsUnbroken i × AnswersAll respond s s' true i o × ((responses respond s (early_lines i)).ends ≡ false)
+-- the input ended; it answered all lines, and ends with none of them
 Served respond s s' (Ok InputEnded) i o = IsWhole i × AnswersAll respond s s' false i o
+-- a read failed; it answered all lines that were complete, and ends with none of them
 Served respond s s' (Err Read) i o = IsCutOff i × AnswersAll respond s s' false i o
+-- a write or a flush failed in the answer to a line; no read failed
 Served respond s s' (Err Write) i o = IsUnbroken i × AnswersSome respond s s' i o

@@ -8,17 +8,17 @@ pub record Response (S : Type 0) : Type 0 where
   pub state : S
   pub ends : Bool
 
--- how a server that can be in the states `S` responds to a line
+-- a server: how it responds to a line, from the state that it is in. `S` is the type of its states
 abbrev pub Server : Type 0 → Type 0
 Server S = S → LineSeen → Response S
 
--- the responses to one line and to the next as one: both texts, and the state after the second; if the server ends with
--- the first, the second is left out
+-- the responses to one line (`first`) and to the one after it (`next`) as one: both texts, the state after the second,
+-- and whether the server ends with the second. If it ends with the first, this is the first alone
 abbrev pub and_then : {S : Type 0} → Response S → Response S → Response S
 and_then first next = if first.ends then first else record next { text = first.text ++ next.text }
 
--- the responses to these lines one after another, from the state `s` on, as one: all their texts, and the state after
--- them; up to and with the line with which the server ends
+-- the responses of the server `respond` to these lines, one after another from the state `s` on, as one: all their
+-- texts, the state after them, and whether the server ends with one of them. Lines after that one get no response
 abbrev pub responses : {S : Type 0} → Server S → S → List LineSeen → Response S
 responses respond s [] = record { text = []; state = s; ends = false }
 responses respond s (line ∷ rest) = and_then (respond s line) (responses respond (respond s line).state rest)
