@@ -1,4 +1,5 @@
--- What the acts of a match did at each device, and what a witness is given of them.
+-- What the acts of a match did at each device, and what a witness is given of them. `H` stands for a list of acts, in
+-- the order in which they were done.
 use Rattle.std.specs.Prelude.{ℕ, Bool, false, ◌||◌, nat_lt, List, [], ◌∷◌, ◌++◌, length, Option}
 use Rattle.chess_base.specs.declared.man.Colour.{Colour}
 use Rattle.chess_base.specs.Men.{same_colour}
@@ -12,7 +13,7 @@ use Rattle.chess_match.specs.declared.reason.Reason.{Reason}
 
 -- ---- what was read
 
--- the lines that were read from the engine of the side `S` (`None`: one that was too long)
+-- the lines that were read from the engine of the side `S`, in order (`None`: one that was too long)
 abbrev pub lines_read : Colour → List Act → List (Option (List ℕ))
 lines_read S [] = []
 lines_read S (Reads side text ∷ H) = list_if (same_colour side S) (text ∷ []) ++ lines_read S H
@@ -30,7 +31,7 @@ has_failed_read S [] = false
 has_failed_read S (ReadFails side ∷ H) = same_colour side S || has_failed_read S H
 has_failed_read S (_ ∷ H) = has_failed_read S H
 
--- the moments that the clock showed
+-- the moments that the clock showed, in order
 abbrev pub moments_shown : List Act → List ℕ
 moments_shown [] = []
 moments_shown (ReadsClock side moment ∷ H) = moment ∷ moments_shown H
@@ -38,7 +39,8 @@ moments_shown (_ ∷ H) = moments_shown H
 
 -- ---- what was written
 
--- the lines of the blocks that the side `S` was sent, one after another
+-- the lines of the blocks that the side `S` was sent, one after another; without those of a block that could not be
+-- sent
 abbrev pub lines_sent : Colour → List Act → List SentLine
 lines_sent S [] = []
 lines_sent S (Sends block ∷ H) = list_if (same_colour block.to S) block.lines ++ lines_sent S H
@@ -56,17 +58,23 @@ is_broken H S = nat_lt 0 (length (broken_blocks S H))
 
 -- ---- what was noted
 
--- the notes of these acts, of a match that ended for this reason: each event, and the bytes of each block, in order. A
--- block that could not be sent is noted whole, and then the failure, if that ended the match; a failure after the end
--- is not noted. Nor is a line without a reading of the clock after it (the last case), which no match has
+-- what a witness is given of these acts, in order, if the match ended for this reason: a note of each event, and one of
+-- the bytes of each block
 abbrev pub notes_given : Reason → List Act → List Note
 notes_given reason [] = []
+-- a block that was sent
 notes_given reason (Sends block ∷ H) = Gives block.to (bytes_of block.lines) ∷ notes_given reason H
+-- a block that could not be sent: all its bytes; then the failure, if the match ended by it. A failure after the end is
+-- not noted
 notes_given reason (SendFails block ∷ H) =
     Gives block.to (bytes_of block.lines)
     ∷ (list_if (is_unwritten reason block.to) (Happened (FailsToWrite block.to) ∷ []) ++ notes_given reason H)
+-- a line, with the moment that the clock showed right after it
 notes_given reason (Reads S text ∷ ReadsClock side moment ∷ H) = Happened (Line S text moment) ∷ notes_given reason H
+-- any other reading of the clock: the lines that open a turn of `S` were sent
 notes_given reason (ReadsClock S moment ∷ H) = Happened (Opened S moment) ∷ notes_given reason H
+-- an output ended, or a read failed
 notes_given reason (ReadsEnd S ∷ H) = Happened (OutputEnds S) ∷ notes_given reason H
 notes_given reason (ReadFails S ∷ H) = Happened (FailsToRead S) ∷ notes_given reason H
+-- a line without a reading of the clock right after it is not noted; the acts of a match have no such line
 notes_given reason (Reads S text ∷ H) = notes_given reason H

@@ -65,13 +65,14 @@ clock r m S = time_left r.level (length (m.seat S).used) (sum (m.seat S).used)
 abbrev pub ping_number : Match → Colour → ℕ
 ping_number m S = length (m.seat S).used + 1
 
--- whether the side `S` was ever sent a move, by whether the other side has made one: there is a used time for each
--- move. Both are the same where this is asked: when a line of `S` is awaited, all moves of the other side were sent
+-- whether the side `S` was ever sent a move. What is tested is whether the other side has made one: there is a used
+-- time for each of its moves. This is the same where it is asked, since all its moves were sent when a line of `S` is
+-- awaited
 abbrev pub was_sent_move : Match → Colour → Bool
 was_sent_move m S = nat_lt 0 (length (m.seat (other S)).used)
 
--- what is missing, if an engine that sent these items can't play the match: `ping=1`; `setboard=1`, if a start is sent;
--- `fischerandom` among its variants, for Chess960
+-- what an engine that sent these items lacks for the match, the first of: `ping=1`; `setboard=1`, if a start is sent;
+-- for Chess960, `fischerandom` in its `variants` (without such an item it doesn't lack it). `None` if it lacks nothing
 abbrev pub missing : Rules → List Item → Option MatchFault
 missing r items =
     if not (takes (codes "ping") items) then Some NoPing
@@ -90,17 +91,18 @@ is_owed _ S = false
 abbrev pub handshake_lines : List SentLine
 handshake_lines = Says (codes "xboard") ∷ Says (codes "protover 2") ∷ []
 
--- the last move, in the form that the engine of the side `S` asked for: `usermove e2e4`, `e2e4`, `usermove e4` or `e4`
+-- the line that sends the last move, in the form that the engine of the side `S` asked for by `usermove=1` and `san=1`:
+-- `usermove e2e4`, `e2e4`, `usermove e4` or `e4`
 abbrev pub move_line : Rules → Match → Colour → SentLine
 move_line r m S =
     MoveSent (takes (codes "usermove") (m.seat S).items) (r.move_text (takes (codes "san") (m.seat S).items) m.played)
 
--- the line of the last move, if there is one
+-- the line that sends the side `S` the last move, as a list of one; empty if no move was made
 abbrev pub last_move : Rules → Match → Colour → List SentLine
 last_move r m S = list_if (nat_lt 0 (length m.played)) (move_line r m S ∷ [])
 
 -- `time T` and `otim U`, the clocks of the side `S` and of the other in centiseconds, rounded down; none where its
--- engine has `time=0`
+-- engine turned these off, as by `time=0`
 abbrev pub clocks : Rules → Match → Colour → List SentLine
 clocks r m S =
     list_if (takes (codes "time") (m.seat S).items) (Time (clock r m S / 10) ∷ Otim (clock r m (other S) / 10) ∷ [])
@@ -112,8 +114,8 @@ opening r m S =
     if nat_lt 0 (length (m.seat S).used) then clocks r m S ++ last_move r m S
     else last_move r m S ++ (clocks r m S ++ Says (codes "go") ∷ [])
 
--- the lines that end the match for the side `S`: the last move, if it was not yet sent that, `result 1-0 {Black
--- resigns}`, and `quit`
+-- the lines that end the match for the side `S`, if it ends in the state `m` for this reason: the last move, if `S` was
+-- not yet sent it; the result with its comment, such as `result 1-0 {Black resigns}`; and `quit`
 abbrev pub farewell : Rules → Match → Reason → Colour → List SentLine
 farewell r m reason S =
     list_if (is_owed m.phase S) (move_line r m S ∷ [])
@@ -163,7 +165,7 @@ unless_decided r m otherwise = option_map_or (λ verdict. ends r (Decided verdic
 -- ---- a line in a turn
 
 -- `offer draw` of the side `S`: agreed if the other's offer is open, ignored if its own is; else its offer is open from
--- now on, and the other is sent `draw`, unless its engine has `draw=0`
+-- now on, and the other is sent `draw`, unless its engine turned that off, as by `draw=0`
 abbrev pub offer_row : Rules → Colour → Match → Effect
 offer_row r S m =
     if (m.seat (other S)).offers then ends r Agreed m
@@ -171,39 +173,44 @@ offer_row r S m =
     else sends_to (other S) (list_if (takes (codes "draw") (m.seat (other S)).items) (Says (codes "draw") ∷ []))
     (with_seat S (λ s. record s { offers = true }) m)
 
--- what a line of the side `S` does, if its kind does the same before the side's move and after it. `resign` loses.
--- `1-0` or `0-1` resigns if the other side is its winner, and is a false claim, which loses, if `S` is. `1/2-1/2`
--- claims a draw, and where none may be claimed it is an offer, as `offer draw` is (see `offer_row`). `Illegal move`
--- loses, but is ignored from a side that was never sent a move. A line of any other kind is ignored
+-- what a line of the side `S` does in its turn, if its kind does the same before the side's move and after it
 abbrev pub turn_row : Rules → Colour → LineKind → Match → Effect
+-- `resign`: `S` loses
 turn_row r S Resigns m = ends r (over_by.Resigns S) m
+-- `offer draw`: see `offer_row`
 turn_row r S OffersDraw m = offer_row r S m
+-- `1/2-1/2`: a draw, if one may be claimed; else an offer of a draw
 turn_row r S ClaimsDraw m = option_map_or (λ claim. ends r (Claimed claim) m) (r.claim m.played) (offer_row r S m)
+-- `1-0` or `0-1`: `S` loses, by a false claim if it names itself the winner, else by resigning
 turn_row r S (ClaimsWin winner) m = ends r (if same_colour winner S then ClaimsFalsely S else over_by.Resigns S) m
+-- `Illegal move`: `S` loses, but if it was never sent a move, the line is ignored
 turn_row r S Rejects m = if was_sent_move m S then ends r (RejectsLegalMove S) m else ignores r S m
+-- any other line is ignored
 turn_row r S _ m = ignores r S m
 
--- the match `m` after this move of the side `S`, which took `used` milliseconds: its clock is charged, and the other's
--- offer lapses
+-- the match `m` after this move of the side `S`, which took `used` milliseconds: they are added to its used times, the
+-- other side's offer lapses, and the `pong` of `S` is awaited
 abbrev pub moved : Colour → Move → ℕ → Match → Match
 moved S move used m =
     with_seat (other S) (λ s. record s { offers = false }) (with_seat S (λ s. record s { used = s.used ++ used ∷ [] })
     (record m { phase = AfterMove S; played = m.played ++ move ∷ [] }))
 
--- what `move M` of the side `S` does, `used` milliseconds after its turn began; the option is the one legal move that
--- M denotes. Without one the side loses. Else the move is made; then the board's verdict ends the match, if there is
--- one, or else the side is sent the next `ping`
+-- what a line `move M` of the side `S` does, `used` milliseconds after its turn began. The option is the one legal move
+-- that M denotes
 abbrev pub move_row : Rules → Colour → ℕ → Option Move → Match → Effect
+-- M denotes no legal move, or several: `S` loses
 move_row r S used None m = ends r (MovesIllegally S) m
+-- the move is made. The board's verdict then ends the match, if there is one; else `S` is sent the next `ping`
 move_row r S used (Some move) m =
     let m' = moved S move used m in unless_decided r m' (sends_to S (ping (ping_number m' S) ∷ []) m')
 
--- a line of the side `S`, of which a move is awaited and whose flag has not fallen; its turn began `used` milliseconds
--- before. A move ends the match if there are already as many half-moves as the limit allows; for a line that is no
--- move see `turn_row`
+-- what a line of this kind of the side `S` does, if its move is awaited and its flag has not fallen; its turn began
+-- `used` milliseconds before
 abbrev pub before_move : Rules → Colour → ℕ → LineKind → Match → Effect
+-- `move M`: if there are already as many half-moves as the limit allows, the match ends, whatever M is
 before_move r S used (Moves text) m =
     if nat_le r.limit (length m.played) then ends r GameTooLong m else move_row r S used (r.reading m.played text) m
+-- any line that is no move: see `turn_row`
 before_move r S used kind m = turn_row r S kind m
 
 -- the flag of the side `S` has fallen: it loses, but draws against a bare king (Laws of Chess 2023, article 6.9, of
@@ -211,23 +218,28 @@ before_move r S used kind m = turn_row r S kind m
 abbrev pub flag_row : Rules → Colour → Match → Effect
 flag_row r S m = ends r (if r.has_bare_king m.played (other S) then ForfeitsToBareKing else Forfeits S) m
 
--- a line of the side `S`, which has moved and is to answer the `ping`: that answer gives the other side its turn
+-- what a line of this kind of the side `S` does, if `S` has moved and is to answer the `ping`
 abbrev pub after_move : Rules → Colour → LineKind → Match → Effect
+-- another move: `S` loses
 after_move r S (Moves text) m = ends r (MovesOutOfTurn S) m
+-- `pong N`: with the number of the latest `ping` it gives the other side its turn, with any other it is ignored
 after_move r S (Answers n) m = if n == ping_number m S then begins_turn r (other S) m else ignores r S m
+-- any other line: see `turn_row`
 after_move r S kind m = turn_row r S kind m
 
 -- ---- a line before the game
 
--- what follows once both handshakes are done; the options are what White's engine lacks and what Black's engine lacks.
--- If one lacks something, the match ends, and White is judged first; else White's setup begins. The count of lines,
--- which was that of the handshake, is 0 again in each case
+-- what follows once both handshakes are done. The options are what White's engine lacks, and what Black's lacks. In
+-- each case the count of lines, which was that of the handshake, is 0 again
 abbrev pub judged : Rules → Option MatchFault → Option MatchFault → Match → Effect
+-- White's engine lacks something: the match ends, whatever Black's lacks
 judged r (Some fault) _ m = ends r (Faulted White fault) (record m { count = 0 })
+-- only Black's engine does: the match ends
 judged r None (Some fault) m = ends r (Faulted Black fault) (record m { count = 0 })
+-- neither does: White's setup begins
 judged r None None m = sends_to White (setup_lines r) (enter (Setup White) m)
 
--- the handshake of the side `S` is done: Black's comes after White's, and then both engines are judged
+-- what follows when the handshake of this side is done: after White's comes Black's, and then both engines are judged
 abbrev pub handshake_done : Rules → Colour → Match → Effect
 handshake_done r White m = sends_to Black handshake_lines (enter (Handshake Black) m)
 handshake_done r Black m = judged r (missing r (m.seat White).items) (missing r (m.seat Black).items) m
@@ -246,7 +258,8 @@ handshake_row r S items m =
     else if nat_le 1000 (m.count + 1) then ends r (Faulted S NoDone) m'
     else sends_nothing (record m' { count = m.count + 1 }))
 
--- the side `S` is set up: White comes first, then Black; then the game begins, unless the start has a verdict
+-- what follows when this side is set up: after White's setup comes Black's. Then the first turn begins, unless the
+-- board has a verdict at the start: that ends the match
 abbrev pub setup_done : Rules → Colour → Match → Effect
 setup_done r White m = sends_to Black (setup_lines r) (enter (Setup Black) m)
 setup_done r Black m = unless_decided r m (begins_turn r r.first m)
@@ -263,21 +276,26 @@ abbrev pub items_said : LineKind → List Item
 items_said (Features text) = items_of text
 items_said _ = []
 
--- a line of this kind that came at `moment`, by what the match waits for. Before a move, the time used is the moment of
--- the line minus the moment at which the turn began, or 0 if that is negative; the flag is judged first
+-- what a line of this kind that came at `moment` does, by what the match waits for
 abbrev pub line_row : Rules → Phase → LineKind → ℕ → Match → Effect
 line_row r (Handshake S) kind moment m = handshake_row r S (items_said kind) m
 line_row r (Setup S) kind moment m = setup_row r S kind m
+-- before a move: the time used is `moment - opened`, or 0 if that is negative. If it is more than `S` has left, the
+-- flag has fallen, whatever the line says
 line_row r (BeforeMove S opened) kind moment m =
     if nat_lt (clock r m S) (moment - opened) then flag_row r S m else before_move r S (moment - opened) kind m
 line_row r (AfterMove S) kind moment m = after_move r S kind m
+-- in the other phases no line is awaited; one would change nothing
 line_row r _ kind moment m = sends_nothing m
 
--- what an event does to the match `m`. Lines are read only of the side that `m` waits for (`awaits_line` in Acts), so
--- `line_row` takes a line's side from the phase
+-- what an event does to the match `m`
 abbrev pub effect : Rules → Match → Event → Effect
+-- a line. `line_row` takes its side from the phase: only lines of the side that `m` waits for are read (`awaits_line`
+-- in Acts)
 effect r m (Line S text moment) = line_row r m.phase (line_kind text) moment m
+-- the lines that open a turn were sent: from this moment on its time runs
 effect r m (Opened S moment) = sends_nothing (record m { phase = BeforeMove S moment })
+-- a device ended or failed: the match ends by this fault
 effect r m (OutputEnds S) = ends r (Faulted S Ended) m
 effect r m (FailsToRead S) = ends r (Faulted S Read) m
 effect r m (FailsToWrite S) = ends r (Faulted S Write) m

@@ -14,16 +14,17 @@ pub data SentLine : Type 0 where
   Says : (text : List ℕ) → SentLine
   -- a move; `prefixed`: with `usermove` before it
   MoveSent : (prefixed : Bool) → (text : List ℕ) → SentLine
-  -- `time N`: what the engine that gets the line has left
+  -- `time N`: the centiseconds that the engine which gets the line has left
   Time : (centiseconds : ℕ) → SentLine
-  -- `otim N`: what its opponent has left
+  -- `otim N`: the centiseconds that its opponent has left
   Otim : (centiseconds : ℕ) → SentLine
 
--- the answer to an item of a `feature` line: `accepted ping`, or `rejected` and the name if it is not known
+-- the answer to an item of a `feature` line with this name: `accepted ping`, or `rejected` and the name if it is not
+-- known. The item's value doesn't matter
 abbrev pub answer_text : List ℕ → List ℕ
 answer_text name = (if is_known name then codes "accepted " else codes "rejected ") ++ name
 
--- the text of a line without `\n`: `usermove e2e4`, `time 30000`
+-- the text of a line without `\n`, such as `usermove e2e4` or `time 30000`
 abbrev pub text_of : SentLine → List ℕ
 text_of (Says text) = text
 text_of (MoveSent prefixed text) = list_if prefixed (codes "usermove ") ++ text
@@ -39,7 +40,7 @@ bytes_of (l ∷ ls) = text_of l ++ new_line ∷ bytes_of ls
 abbrev pub answers_to : List Item → List SentLine
 answers_to items = map (λ i. Says (answer_text i.name)) items
 
--- the line `setboard FEN` for the start's FEN, as a list of one; empty if none is sent (`None`)
+-- the line `setboard FEN` with this FEN of the start, as a list of one; empty for `None`, where none is sent
 abbrev pub start_lines : Option (List ℕ) → List SentLine
 start_lines start = option_map_or (λ fen. Says (codes "setboard " ++ fen) ∷ []) start []
 

@@ -11,7 +11,7 @@ pub data Note : Type 0 where
   Gives : (side : Colour) → (text : List ℕ) → Note
 
 -- what contracts see of a witness, such as the log: a relation between a text that it held at first and the notes that
--- it may have been given since
+-- it may have been given since. Which relation it is, each kind of witness says for itself
 abbrev pub Noted : Type 1
 Noted = List ℕ → List Note → Type 0
 

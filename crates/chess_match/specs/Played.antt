@@ -1,4 +1,5 @@
--- What a match that was played did: at its devices, in its game, and in what is reported of it.
+-- What a match that was played did: at its devices, in its game, and in what is reported of it. `H` stands for the list
+-- of its acts, in the order in which they were done.
 use Rattle.std.specs.Prelude.{◌≡◌, ◌||◌, ℕ, true, List, [], ◌∷◌, ◌++◌, codes, Option}
 use Rattle.chess_base.specs.declared.man.Colour.{Colour}
 use Rattle.byte_devices.specs.Transfers.{FromInput, ToOutput, Devices, Ran, all_of, BreaksOffIn}
@@ -26,44 +27,54 @@ pub record World : Type 0 where
   pub engines : Colour → Devices
   -- the moment that each reading of the clock will give, where 0 is the next reading; `None` if it is not known
   pub coming : ℕ → Option ℕ
+  -- the game that is played: its limit of half-moves and its state
   pub game : game.Seen
 
--- `i` is what the engine of the side `S` gave in the acts `H`: the lines that were read from it are the first lines of
--- its bytes; all of them, if its output ended or a read failed. What follows the last `\n` is no line
+-- `i` is what came from the engine of the side `S` in the acts `H`. Its bytes may hold lines that were not read any
+-- more, unless its output ended or a read failed (`all`). What follows the last `\n` is no line. Of `i.early` nothing
+-- is said
 pub record SaidBy (S : Colour) (H : List Act) (i : FromInput) : Type 0 where
+  -- the lines that were read are the first lines of these bytes
   pub lines : (rest : List (Option (List ℕ))) × (engine_lines i.text ≡ lines_read S H ++ rest)
   pub ended : i.ended ≡ has_ended S H
   pub failed : i.failed ≡ has_failed_read S H
+  -- after an end or a failure: they are all lines of these bytes
   pub all : (i.ended || i.failed) ≡ true → engine_lines i.text ≡ lines_read S H
 
--- `o` is what went to an engine's input: just the lines `sent`, written and flushed. The list is of the blocks that
--- could not be sent (`broken_blocks`; in a match at most one, so `more` is empty there): if there is one, a beginning of
--- it, maybe nothing or all, was written after them, and then a call failed
+-- `o` is what went to an engine's input, if it was sent the lines `sent`, and could not be sent the blocks in the
+-- second list (`broken_blocks`, each as its lines; in a match there is at most one, so `more` is empty there)
 abbrev pub WasSent : List SentLine → List (List SentLine) → ToOutput → Type 0
+-- just the lines `sent`, all written and flushed
 WasSent sent [] o = o ≡ all_of (bytes_of sent)
+-- the lines `sent`, written and flushed; then a beginning of this block, maybe nothing or all of it; then a call failed
 WasSent sent (block ∷ more) o = BreaksOffIn (bytes_of sent) (bytes_of block) o
 
--- the acts `H` are a match by the rules `r`, which ended as `final`; and from the world `w` to `w'` each engine's
--- output, each engine's input and the clock did just what these acts say of it. Each device is looked at by itself:
--- the order of acts at different devices is not claimed
+-- the acts `H` are a match by the rules `r`, and `final` is its state at the end. From the world `w` to `w'` each
+-- engine's output, each engine's input and the clock did just what these acts say of it. Each device is looked at by
+-- itself: the order of acts at different devices is not claimed. Nor is anything said of the game
 pub record Passed (r : Rules) (H : List Act) (final : Match) (w w' : World) : Type 0 where
   pub is_match : IsMatch r H final
+  -- for each side: there are an `i` that came from its engine and an `o` that went to it, as the acts say
   pub passed : (S : Colour) → Ran (λ i o. SaidBy S H i × WasSent (lines_sent S H) (broken_blocks S H) o)
       (w.engines S) (w'.engines S)
   pub moments : ClockReadings w.coming w'.coming (moments_shown H)
 
--- `end` is what is reported of a match of these acts, which ended as `final` for this reason: the outcome, comment and
--- Termination value of that reason, each engine's last `myname` as a PGN tag keeps it (its first 60 bytes; empty if
--- there was none), and the first fault
+-- `end` is what is reported of a match of these acts, which ended for this reason; `final` is its state at the end
 pub record ReportedAs (H : List Act) (final : Match) (reason : Reason) (end : MatchEnd) : Type 0 where
   pub ended : final.phase ≡ Over reason
+  -- the outcome, the comment and the value of the tag Termination are those of the reason
   pub report : reported reason ≡ (end.outcome, end.comment, end.ended)
+  -- the name of each engine is its last `myname`, as a PGN tag keeps it: its first 60 bytes, with `?` in place of what
+  -- is no printable ASCII; empty if it gave none
   pub name : (S : Colour) → by_colour end.white_name end.black_name S
       ≡ cut_tag (last_value (codes "myname") (final.seat S).items)
+  -- the first fault, and whose it is; `None` if there was none
   pub fault : end.fault ≡ first_fault reason (is_broken H)
 
--- a match of these acts was played as `setup` says, from the world `w` to `w'`; it ended for this reason, was reported
--- as `end`, and left its moves in the game, with the result declared where the board has no verdict
+-- a match of the acts `H` was played from the world `w` to `w'`, from the start and with the time control of `setup`,
+-- for at most as many half-moves as the game's limit. It ended for this reason, and was reported as `end`. The game
+-- then has this start and the moves of the match, and the result is declared in it, unless the board has a verdict; its
+-- limit stays. What was in the game before is gone
 abbrev pub PlayedBy : List Act → Reason → Setup → MatchEnd → World → World → Type 0
 PlayedBy H reason setup end w w' =
     let r = rules_of setup.start setup.level w.game.limit in
@@ -74,20 +85,20 @@ PlayedBy H reason setup end w w' =
       declared = declared_at (r.verdict final.played) reason;
     }))
 
--- a match was played as `setup` says, from the world `w` to `w'`, and reported as `end`: there are acts and a reason
--- by which `PlayedBy` holds, so the devices, the report and the game agree with one and the same match
+-- a match was played as `setup` says, from the world `w` to `w'`, and reported as `end`: there are acts and a reason by
+-- which `PlayedBy` holds, so the devices, the report and the game agree with one and the same match
 abbrev pub Played : Setup → MatchEnd → World → World → Type 0
 Played setup end w w' = (H : List Act) × (reason : Reason) × PlayedBy H reason setup end w w'
 
--- a match was played from the world `w` to `w'` as `setup` says, and reported as `end` (as in `Played`), and `noted` is
--- true of the notes of its acts: for example, that the log was given just these notes
+-- as `Played`, and the claim `noted` holds of the notes of the same acts: for example, that the log was given just
+-- these notes
 abbrev pub PlayedNoting : (List Note → Type 0) → Setup → MatchEnd → World → World → Type 0
 PlayedNoting noted setup end w w' =
     (H : List Act) × (reason : Reason) × noted (notes_given reason H) × PlayedBy H reason setup end w w'
 
--- a match was played at a table as `setup` says, and reported as `end`: the steps that passed from its state `old` to
--- `new` are the acts of a match, each with its note, and the match left its moves in the game, `g` before and
--- `g'` after
+-- a match was played at a table as `setup` says, and reported as `end`. The steps that passed at the table, from its
+-- state `old` to `new`, are the acts of a match, in order, each with its note. The game is `g` before and `g'` after,
+-- with this start, the moves of the match, and the result as in `PlayedBy`
 abbrev pub PlayedAt : Setup → MatchEnd → Passing → Passing → game.Seen → game.Seen → Type 0
 PlayedAt setup end old new g g' =
     let r = rules_of setup.start setup.level g.limit in

@@ -1,4 +1,4 @@
--- How an end is reported: its outcome, its comment, its fault, and how it came.
+-- How the end of a match is reported: its outcome, its comment, its fault, and how it came.
 use Rattle.std.specs.Prelude.{ℕ, Bool, false, if◌then◌else◌, List, ◌++◌, codes, Option, None, Some}
 use Rattle.chess_base.specs.declared.man.Colour.{Colour}
 use Rattle.chess_base.specs.declared.man.Colour.TheVariants.{White, Black}
@@ -36,8 +36,9 @@ fault_comment NoSetboard = codes " has no setboard"
 fault_comment Flood = codes " sent too many lines"
 fault_comment NoVariant = codes " has no fischerandom"
 
--- how a match that ended for this reason is reported: its outcome (`*` if an engine failed or the game is too long),
--- its comment, as in `result 1-0 {Black resigns}`, and the value for the tag Termination
+-- how a match that ended for this reason is reported: its outcome, its comment, as in `result 1-0 {Black resigns}`, and
+-- the value for the tag Termination. The side that a reason names loses, except by `Faulted`: then, and if the game is
+-- too long, the outcome is `*`. `Claimed c` names no side: there `c` is the claim
 abbrev pub reported : Reason → Outcome × List ℕ × HowEnded
 reported (Decided v) = (verdict_outcome v, verdict_comment v, Normal)
 reported (Claimed c) = (Draw, claim_comment c, Normal)
@@ -66,7 +67,8 @@ abbrev pub ended_by : Reason → HowEnded
 ended_by reason = (reported reason).2
 
 -- the first fault of a match that ended for this reason, and whose it is: the one that ended it, if one did; else a
--- write of the last lines that failed (`failed` says to which side), White's before Black's
+-- failed write to a side of which `failed` is true, White before Black (in a match, a write of the last lines). `None`
+-- if there was no fault
 abbrev pub first_fault : Reason → (Colour → Bool) → Option (Colour × MatchFault)
 first_fault (Faulted c f) failed = Some (c, f)
 first_fault _ failed = if failed White then Some (White, Write) else if failed Black then Some (Black, Write) else None

@@ -23,7 +23,8 @@ use Rattle.chess_base.specs.declared.man.Variant.{Variant}
 use Rattle.chess_base.specs.declared.man.Variant.TheVariants.{Normal, Fischerandom}
 
 -- what a match needs to know of its game: what is fixed when it begins, and functions of the moves played so far. The
--- other definitions of a match learn only from these what moves mean; `rules_of`, below, gives those of chess
+-- other definitions of a match learn only from these what moves mean. The comments say what each is in chess, for which
+-- `rules_of`, below, gives them; the type allows any values
 pub record Rules : Type 0 where
   pub variant : Variant
   -- the FEN that `setboard` sends; `None` for the initial position of normal chess

@@ -1,4 +1,5 @@
--- What passes at the table of a match, in order: acts at its devices, and notes that its witness is given.
+-- What passes at the table of a match, in order: acts at its devices, and notes that its witness is given. A table has
+-- both engines, the clock and a witness, such as the log; each call of it is one step.
 use Rattle.std.specs.Prelude.{ℕ, Bool, true, false, if◌then◌else◌, List, [], ◌∷◌, ◌++◌, Option, None, Some, Result, Ok, Err}
 use Rattle.byte_devices.specs.Transfers.{Devices}
 use Rattle.chess_base.specs.declared.man.Colour.{Colour}
@@ -19,52 +20,65 @@ pub data Step : Type 0 where
   -- the witness was given a note
   Notes : (note : Note) → Step
 
--- the acts of a match that ended for this reason, each with its note. The bytes of a block are noted before they are
--- written; a line is noted when the clock was read after it, and any other event when it happened, before anything else
+-- the steps of a match that ended for this reason: its acts, in order, each with its note (the notes are those of
+-- `notes_given`)
 abbrev pub watched : Reason → List Act → List Step
 watched reason [] = []
+-- the bytes of a block are noted before it is sent
 watched reason (Sends block ∷ H) = Notes (Gives block.to (bytes_of block.lines)) ∷ Does (Sends block) ∷ watched reason H
+-- so are those of a block that could not be sent; the failure is noted after it, if the match ended by it
 watched reason (SendFails block ∷ H) =
     Notes (Gives block.to (bytes_of block.lines)) ∷ Does (SendFails block)
     ∷ (list_if (is_unwritten reason block.to) (Notes (Happened (FailsToWrite block.to)) ∷ []) ++ watched reason H)
+-- a line is noted once the clock is read after it
 watched reason (Reads S text ∷ ReadsClock side moment ∷ H) =
     Does (Reads S text) ∷ Does (ReadsClock side moment) ∷ Notes (Happened (Line S text moment)) ∷ watched reason H
+-- any other reading of the clock comes when a turn was opened, and this is noted after it
 watched reason (ReadsClock S moment ∷ H) =
     Does (ReadsClock S moment) ∷ Notes (Happened (Opened S moment)) ∷ watched reason H
+-- an end of an output and a failed read are noted after they happened
 watched reason (ReadsEnd S ∷ H) = Does (ReadsEnd S) ∷ Notes (Happened (OutputEnds S)) ∷ watched reason H
 watched reason (ReadFails S ∷ H) = Does (ReadFails S) ∷ Notes (Happened (FailsToRead S)) ∷ watched reason H
+-- a line without a reading of the clock right after it has no note; the acts of a match have no such line
 watched reason (Reads S text ∷ H) = Does (Reads S text) ∷ watched reason H
 
 -- ---- one call
 
--- the act of sending a block, which failed or not
+-- the act of sending a block, by whether it failed
 abbrev pub sending : Bool → Block → Act
 sending failed block = if failed then SendFails block else Sends block
 
--- the act of reading from the engine of the side `S`, by the line that came, if one did. What comes after the last `\n`
--- counts as the end of the output
+-- the act of reading from the engine of the side `S`, by the result of the read
 abbrev pub reading_of : {E : Type 0} → Colour → Result (Option LineSeen) E → Act
+-- a line, if `\n` ended it; what comes after the last `\n` counts as the end of the output
 reading_of S (Ok (Some line)) = if line.ended then Reads S (text_read line) else ReadsEnd S
+-- no line: the output has ended
 reading_of S (Ok None) = ReadsEnd S
 reading_of S (Err e) = ReadFails S
 
--- whether a line was read
+-- whether this act is that a line was read
 abbrev pub is_line : Act → Bool
 is_line (Reads S text) = true
 is_line _ = false
 
 -- ---- what passed
 
--- what a table was at first, as far as contracts see it: each engine's devices, and which moments the clock was to show
+-- what a table was at first, as far as contracts see it
 pub record Beginning : Type 0 where
+  -- each engine's devices: `input` is the engine's output, which is read, and `output` is its input, which is written
   pub engines : Colour → Devices
+  -- the moment that each reading of the clock was to give, where 0 is the first reading since; `None` if it is not
+  -- known
   pub coming : ℕ → Option ℕ
-  -- a text that the witness held at first, and the notes that it may have been given since; `None` says nothing of it
+  -- a text that the witness once held, and the notes that it may have been given from then until this beginning. With
+  -- `None` nothing is said of the witness
   pub noted : Option (List ℕ × List Note)
-  -- the names of the references to all these
+  -- numbers that tell references apart in contracts: those of the references by which the table has its devices and its
+  -- witness
   pub names : List ℕ
 
--- what contracts see of a table: a relation between what it was at first and the steps that may have passed since
+-- what contracts see of a table: a relation between what it was at first and the steps that may have passed since.
+-- Which relation it is, each kind of table says for itself
 abbrev pub Passing : Type 1
 Passing = Beginning → List Step → Type 0
 
