@@ -23,7 +23,7 @@ use Rattle.cecp_engine.specs.Levels.{LevelSeen, level_of}
 
 -- ---- what arguments say
 
--- the value that an option was given, by its name; that of a flag is `true` where it was given
+-- the value that an option was given, by its name, or `None`; the value of a flag that was given is `true`
 abbrev pub Values : Type 0
 Values = Text → Option Text
 
@@ -37,7 +37,8 @@ pub record Said : Type 0 where
 abbrev pub text_or : Text → Values → Text → Text
 text_or name value default = unwrap_or (value name) default
 
--- the value of `--games`; 1 if it was not given
+-- the number that the value of `--games` denotes, where a `+` may come first; 1 if it was not given. That the value is
+-- a number is not checked here
 abbrev pub games_in : Values → ℕ
 games_in value = option_map_or (λ t. digits_value 10 (without_leading_plus t)) (value (codes "games")) 1
 
@@ -65,7 +66,8 @@ verify_plan_of value = record {
 abbrev pub date_asked : Values → Text
 date_asked value = text_or (codes "date") value (codes "????.??.??")
 
--- the position that a match starts in: what the FEN of `--fen` denotes, or else the initial one of the variant
+-- the position that a match starts in: what the value of `--fen` denotes as a FEN of the variant, or its fault; without
+-- `--fen` the initial position of the variant
 abbrev pub start_asked : Values → Result Setup FenFault
 start_asked value = let v = variant_in value in
     option_map_or (fen_reading_as v) (value (codes "fen")) (Ok (initial_setup_of v))
@@ -74,14 +76,15 @@ start_asked value = let v = variant_in value in
 abbrev pub is_date : Text → Bool
 is_date text = nat_le (length text) 60 && list_all (λ b. nat_le 32 b && nat_le b 126) text
 
--- the time control of a match and its start; or else the fault of the first of level, FEN and date that is invalid
+-- the time control of a match (that of `40 5 0` if `--level` was not given) and its start; or the fault of the first of
+-- level, FEN and date that is invalid
 abbrev pub level_and_start : Values → Result (LevelSeen × Setup) WordsFault
 level_and_start value = do
   level ← ok_or (level_of (text_or (codes "level") value (codes "40 5 0"))) BadLevel
   start ← result_map_both (λ setup. setup) BadFen (start_asked value)
   if is_date (date_asked value) then Ok (level, start) else Err BadDate
 
--- the plan of a match is what its options say, each as given or by default
+-- the plan of a match is what its options say, each as given or by default; `--white` and `--black` have no default
 pub record IsMatchPlan (value : Values) (plan : MatchPlan) : Type 0 where
   pub white : value (codes "white") ≡ Some plan.white.now
   pub black : value (codes "black") ≡ Some plan.black.now
@@ -98,12 +101,15 @@ IsPlanOf said (Verify v) = (said.command ≡ codes "verify") × (v ≡ verify_pl
 IsPlanOf said (Stub arguments) = (said.command ≡ codes "stub") × (map (λ w. w.now) arguments.items ≡ said.replies)
 IsPlanOf said (Match plan) = (said.command ≡ codes "match") × IsMatchPlan said.value plan
 
--- arguments that are taken and say this are read as their plan, or as a fault of level, FEN or date, which only a match
--- has; out of memory may be reported for any
+-- the result of reading arguments that `clap`, their parser, accepts is right; `said` is what the arguments say
 abbrev pub IsReadAs : Said → Result Plan WordsFault → Type 0
+-- they are read as their plan
 IsReadAs said (Ok plan) = IsPlanOf said plan
+-- no fault of `clap` is returned
 IsReadAs said (Err (Words e)) = ⊥
+-- out of memory may be reported for any arguments
 IsReadAs said (Err NoMemory) = ⊤
+-- the level, FEN or date of a match is invalid: the fault of the first that is
 IsReadAs said (Err f) = (said.command ≡ codes "match") × (level_and_start said.value ≡ Err f)
 
 -- ---- by the grammar
@@ -117,12 +123,14 @@ abbrev pub said_by : Text × List Row → Said
 said_by p =
     record { command = p.0; value = matched p.1; replies = unwrap_or (all_of (codes "words") p.1) [] }
 
--- the result of reading these arguments is right. If `clap` finds no fault in them, they are read as what they say;
--- else one of the faults that it may find is returned. Out of memory may be reported for any arguments. `names` are
--- those that `--variant` takes
+-- the result of reading these arguments is right. `names` are the names that `--variant` takes
 abbrev pub IsReadBy : Lent → List Text → Result Plan WordsFault → Type 0
+-- an error of `clap`, whose kind is one that `clap` may report for these arguments; asking for help or for the version
+-- counts as one, too
 IsReadBy names arguments (Err (Words e)) = IsAmong (kind_of e) (faults_in names arguments)
+-- out of memory may be reported for any arguments
 IsReadBy names arguments (Err NoMemory) = ⊤
+-- a plan, or an invalid level, FEN or date: `clap` finds no fault in the arguments, and they are read as what they say
 IsReadBy names arguments r = (faults_in names arguments ≡ []) × IsReadAs (said_by (asked names arguments)) r
 
 -- the result of reading these arguments is right by the grammar of the command line. `names` is the list `normal`,

@@ -49,13 +49,13 @@ pub record World : Type 0 where
   pub log : LogSeen
 
 -- the server `respond`, which began in the state `s`, answered the lines of the input on the output, up to the input's
--- end, to a line that ends it, or to a fault; `status` is then the exit status
+-- end, to a line that ends it, or to a read, write or flush that failed. `status` is 1 if one failed, else 0
 abbrev pub Serves : {S : Type 0} → Server S → S → Devices → Devices → ℕ → Type 0
 Serves {S} respond s d d' status =
     (result : Result End Fault) × (s' : S) × Ran (Served respond s s' result) d d' × (status ≡ status_of result)
 
--- a session of at most 20,000 half-moves ran on input and output, with this exit status; or memory ran out for it, and
--- nothing was read or written
+-- a session of at most 20,000 half-moves (`MOST_MOVES`) ran on input and output, with this exit status; or memory ran
+-- out for it, nothing was read or written, and the status is 1
 abbrev pub RunsSession : Devices → Devices → ℕ → Type 0
 RunsSession d d' status =
     Serves session_response (opened_session default_tags MOST_MOVES) d d' status ⊎ ((d' ≡ d) × (status ≡ 1))
@@ -81,25 +81,29 @@ abbrev pub VerifiesInput : VerifyPlan → Devices → Devices → ℕ → Type 0
 VerifiesInput plan d d' status = (result : Result Verified VerifyFault)
     × Ran (VerifiesAs plan.keep_going (options_of plan) result) d d' × (status ≡ verify_status result)
 
--- a text of help was written and flushed, or a beginning of it before a write or flush failed; or memory ran out for
--- it, and nothing was written. `w` and `w'` are the output before and after; `status` is the exit status
+-- some text, which is not said here, was written and flushed, and the exit status is 0; or a write or flush failed
+-- after a beginning of it, and the status is 1; or the output stays as it is, as when memory ran out, and the status is
+-- 1. `w` and `w'` are the output before and after
 abbrev pub WritesHelp : OutputState → OutputState → ℕ → Type 0
 WritesHelp w w' status =
     ((text : List ℕ) × (o : ToOutput) × OutputTook w w' o
     × (((o ≡ all_of text) × (status ≡ 0)) ⊎ (BreaksOffIn [] text o × (status ≡ 1))))
     ⊎ ((w' ≡ w) × (status ≡ 1))
 
--- what is done with arguments for which there is no plan, by the fault that says why. Help or the version is written
--- to the output (`w` before, `w'` after). For any other fault the output stays as it is, and `status`, the exit
--- status, is 2, or 1 if memory ran out. What is written to the error output is not said here
+-- what is done with arguments for which there is no plan, by the fault that says why. `w` and `w'` are the output
+-- before and after; `status` is the exit status. What is written to the error output is not said here
 abbrev pub ReportsArguments : WordsFault → OutputState → OutputState → ℕ → Type 0
+-- a fault of `clap`, the parser of arguments, which counts asking for help or for the version as faults, too: these are
+-- answered on the output (`WritesHelp`); for any other kind of fault the output stays as it is, and the status is 2
 ReportsArguments (faults.Words e) w w' status =
     ((kind_of e ≢ DisplayHelp) → (kind_of e ≢ DisplayVersion) → (w' ≡ w) × (status ≡ 2))
     × ((kind_of e ≡ DisplayHelp) ⊎ (kind_of e ≡ DisplayVersion) → WritesHelp w w' status)
+-- memory ran out: the output stays as it is, and the status is 1
 ReportsArguments faults.NoMemory w w' status = (w' ≡ w) × (status ≡ 1)
+-- an invalid level, FEN or date of a match: the output stays as it is, and the status is 2
 ReportsArguments fault w w' status = (w' ≡ w) × (status ≡ 2)
 
--- what the games of a match are played by, as the plan of the arguments has it
+-- how the games of a match are played: the plan of the arguments, field by field, as match_runner takes it
 abbrev pub games_plan : MatchPlan → GamesPlan
 games_plan plan = record {
   white = plan.white;
@@ -111,9 +115,9 @@ games_plan plan = record {
   log = plan.log;
 }
 
--- the games of the plan's match were played, written and logged, and the exit status `status` is 0 if all games
--- were played without a fault and written, else 1. What the error output has is said only for status 0: just the log
--- (`logged`)
+-- the games of the plan's match were played, written and logged as `PlaysGames` says, and the exit status `status` is 0
+-- if all games were played without a fault and written, else 1. `logged` is the error output after the games, to which
+-- the log goes. With status 0 it stays so; with status 1 what follows there is not said here
 abbrev pub PlaysMatch : MatchPlan → Outputs → Outputs → ℕ → Type 0
 PlaysMatch plan d d' status = (result : Result (Unit {0}) GamesFault) × (logged : LogSeen)
     × PlaysGames (games_plan plan) result d (record d' { log = logged }) × (status ≡ status_of result)
@@ -124,7 +128,8 @@ abbrev pub outputs_of : World → Outputs
 outputs_of d = record { output = d.devices.output; log = d.log }
 
 -- the program did what its arguments ask for (the plan), or reported why they ask for nothing (the fault), and `status`
--- is its exit status
+-- is its exit status. `d` and `d'` are its world before and after. What happens to the error output is said only for a
+-- match
 abbrev pub Does : Result Plan WordsFault → World → World → ℕ → Type 0
 Does (Ok Session) d d' status = RunsSession d.devices d'.devices status
 Does (Ok (Verify plan)) d d' status = VerifiesInput plan d.devices d'.devices status

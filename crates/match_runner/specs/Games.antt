@@ -37,7 +37,8 @@ first_side number = if number % 2 == 1 then White else Black
 abbrev pub engine_command : GamesPlan → ℕ → Colour → List ℕ
 engine_command plan number side = if same_colour side (first_side number) then plan.white.now else plan.black.now
 
--- an engine's name in the tags: the one that it gave itself by `myname` (`name`), or its command if that is empty
+-- an engine's name in the tags: `name`, which the engine gave itself by `myname`, or its command if `name` is empty; of
+-- either what a tag keeps, at most 60 bytes (`cut_tag`)
 abbrev pub player_name : List ℕ → List ℕ → List ℕ
 player_name name command = cut_tag (if length name == 0 then command else name)
 
@@ -55,44 +56,47 @@ tags_of plan number end = record {
 
 -- ---- one game
 
--- a game that was played: the engines' pipes, the clock and the moves before it and after it, how it ended, and the
--- notes of what happened in it, of which the log is made
+-- a game that was played
 pub record GameRecord : Type 0 where
+  -- the engines' pipes, the coming readings of the clock, and the game with its moves: before it was played, and after
   pub before : World
   pub after : World
+  -- how it ended
   pub end : MatchEnd
+  -- what happened and what the engines were sent, in order; the log is made from these
   pub notes : List Note
 
 -- what each game of `plan` begins from: its start and its time control
 abbrev pub setup_of : GamesPlan → Setup
 setup_of plan = record { start = plan.start; level = plan.level }
 
--- the game `played` was played from the start of `plan`, with its time control and with at most 20,000 half-moves: its
--- states before and after, its end and its notes are of one and the same game (`PlayedNoting`). Which engines played it
--- is not said here
+-- the game `played` was played from the start of `plan`, with its time control and with at most 20,000 half-moves
+-- (`MOST_MOVES`). The parts of `played` are of one and the same game (`PlayedNoting`). Which engines played it is not
+-- said here
 abbrev pub IsOfPlan : GamesPlan → GameRecord → Type 0
 IsOfPlan plan played = (played.before.game.limit ≡ MOST_MOVES)
     × PlayedNoting (λ notes. notes ≡ played.notes) (setup_of plan) played.end played.before played.after
 
--- the PGN of the game `played`, which has this number
+-- the PGN of the game `played`, which has this number: its tags and its moves
 abbrev pub game_text : GamesPlan → ℕ → GameRecord → List ℕ
 game_text plan number played = pgn [] (tags_of plan number played.end) played.after.game.state
 
--- the fault says that an engine with one of these two commands could not be started, or that there was no memory
+-- the fault is one of starting the engines with the commands `one` and `other`: it says that an engine with one of
+-- these commands could not be started, or that there was no memory
 abbrev pub IsStartFault : List ℕ → List ℕ → GamesFault → Type 0
 IsStartFault one other (CanNotStart command) = (command.now ≡ one) ⊎ (command.now ≡ other)
 IsStartFault one other NoMemory = ⊤
 IsStartFault one other _ = ⊥
 
 -- from the log's state `l` to `l'` a game with these notes was logged, in which the engine of `--white` had the side
--- `first`; or, if no side is given (`None`), nothing was logged
+-- `first`; or, if no side is given (`None`), nothing was logged. A write of the log may fail (`Logged`)
 abbrev pub LogsGame : Option Colour → LogSeen → LogSeen → List Note → Type 0
 LogsGame None l l' notes = l' ≡ l
 LogsGame (Some first) l l' notes = Logged l l' (log_text first notes)
 
 -- ---- the games
 
--- each of these games was played by the plan, and ended without a fault of an engine
+-- each of these games was played by the plan (`IsOfPlan`), and ended without a fault of an engine
 abbrev pub SoundGames : GamesPlan → List GameRecord → Type 0
 SoundGames plan games = AllByRecursion (λ played. IsOfPlan plan played × (played.end.fault ≡ None)) games
 
@@ -130,10 +134,12 @@ score_line s =
     codes "score first " ++ decimal s.first ++ codes " second " ++ decimal s.second
     ++ codes " drawn " ++ decimal s.drawn ++ codes " unfinished " ++ decimal s.unfinished ++ new_line ∷ []
 
--- these are all games of a match: as many as planned, none with a fault (`None`); or the last one has this number and
--- this fault of the engine of this side, and those before it have none
+-- these are all games of a match: after a game with an engine's fault no other is played. The last argument is that
+-- fault with its game's number and the engine's side, or `None`
 abbrev pub EndsGames : GamesPlan → List GameRecord → Option (ℕ × Colour × MatchFault) → Type 0
+-- no engine had a fault: there are as many games as planned
 EndsGames plan games None = SoundGames plan games × (length games ≡ plan.games)
+-- the last game has this number and this fault, and the games before it have none
 EndsGames plan games (Some (number, side, fault)) =
     (before : List GameRecord) × (last : GameRecord) × (games ≡ before ++ last ∷ []) × SoundGames plan before
     × IsOfPlan plan last × (last.end.fault ≡ Some (side, fault)) × (number ≡ length games) × (number ≤ plan.games)
@@ -145,23 +151,28 @@ abbrev pub match_text : GamesPlan → List GameRecord → List ℕ
 match_text plan games = game_texts plan games ++ score_line (score_of games)
 
 -- what playing a match writes to the output (`o`), by its result. `games` are the games whose PGN was written and
--- flushed, and `unwritten` is one more whose PGN was not, if there is one. `Ok`: these are all games, and then the
--- score was written. `Game`: the same, but the last game has this number, and in it an engine had the fault that `text`
--- names. `WriteFailed`: a write or flush failed in the PGN of a game, or after the last game in the score.
--- `CanNotStart` and `NoMemory`: the engines of the next game could not be started
+-- flushed. `unwritten` is the game after them if it was played and its PGN could not be written, and otherwise `None`
 abbrev pub WritesGames : GamesPlan → Result (Unit {0}) GamesFault → List GameRecord → Option GameRecord → ToOutput
     → Type 0
+-- all planned games were played without a fault, and their PGN and the score were written and flushed
 WritesGames plan (Ok _) games None o = EndsGames plan games None × (o ≡ all_of (match_text plan games))
+-- in the game with this number, the last one, an engine had the fault that `text` names; the PGN of all games and the
+-- score were written and flushed
 WritesGames plan (Err (Game number text)) games None o = (side : Colour) × (fault : MatchFault)
     × EndsGames plan games (Some (number, side, fault)) × (text.now ≡ comment_of (Faulted side fault))
     × (o ≡ all_of (match_text plan games))
+-- a write or flush failed in the PGN of the game after `games`: a beginning of it, maybe nothing or all, was written
 WritesGames plan (Err WriteFailed) games (Some unwritten) o =
     SoundGames plan games × (length games < plan.games) × IsOfPlan plan unwritten
     × BreaksOffIn (game_texts plan games) (game_text plan (length games + 1) unwritten) o
+-- all games were played and their PGN was written; then a write or flush failed in the score. An engine may have had a
+-- fault in the last game
 WritesGames plan (Err WriteFailed) games None o = (last : Option (ℕ × Colour × MatchFault)) × EndsGames plan games last
     × BreaksOffIn (game_texts plan games) (score_line (score_of games)) o
+-- `CanNotStart` or `NoMemory`: the engines of the next game could not be started, and no score was written
 WritesGames plan (Err fault) games None o = SoundGames plan games × (length games < plan.games)
     × IsStartFault plan.white.now plan.black.now fault × (o ≡ all_of (game_texts plan games))
+-- with any other result no game is left unwritten
 WritesGames plan _ games (Some unwritten) o = ⊥
 
 -- where a match writes, as contracts see it: its output, which has the games and the score, and its log
@@ -169,8 +180,8 @@ pub record Outputs : Type 0 where
   pub output : OutputState
   pub log : LogSeen
 
--- from `d` to `d'` just these games were played, with this result: `games` were written, `unwritten` was not, if there
--- is one, and the log was given all of them, if the plan asks for one
+-- from `d` to `d'` just these games were played, with this result: `games` were written, and `unwritten` was played
+-- after them but could not be written (`None`: no such game). If the plan asks for a log, it was given all of them
 abbrev pub PlaysThese : GamesPlan → Result (Unit {0}) GamesFault → List GameRecord → Option GameRecord → Outputs
     → Outputs → Type 0
 PlaysThese plan result games unwritten d d' =

@@ -7,8 +7,8 @@ use Rattle.match_runner.specs.declared.fault.GamesFault.TheVariants.{NoMemory, C
 use Rattle.match_runner.specs.declared.plan.GamesPlan.{GamesPlan}
 use Rattle.match_runner.specs.Games.{GameRecord, Outputs, PlaysThese, engine_command, game_text}
 
--- one step of playing a match's games: one call at their table (the trait `GamesTable`), which is what starts the
--- engines, plays the games, writes them, and waits for the engines
+-- one step of playing a match's games: one call of a method of the trait `GamesTable`. A table starts the engines,
+-- plays and writes the games, and waits for the engines
 pub data GamesStep : Type 0 where
   -- the engines with these commands, White's and Black's, were started
   Starts : (white : List ℕ) → (black : List ℕ) → GamesStep
@@ -25,7 +25,7 @@ pub data GamesStep : Type 0 where
 
 -- ---- one call
 
--- the step of starting the engines with these commands, which failed or not
+-- the step of starting the engines with these commands, White's and Black's, which failed or not
 abbrev pub starting : Bool → List ℕ → List ℕ → GamesStep
 starting failed white black = if failed then StartFails white black else Starts white black
 
@@ -35,7 +35,8 @@ writing failed text = if failed then WriteFails text else Writes text
 
 -- ---- what passed
 
--- what contracts see of a table: which steps may have passed there so far
+-- what contracts see of a table: the claim, for each list of steps, that just these may have passed there so far, in
+-- this order
 abbrev pub GamesPassing : Type 1
 GamesPassing = List GamesStep → Type 0
 
@@ -53,7 +54,8 @@ game_steps plan number played =
     Starts (engine_command plan number White) (engine_command plan number Black) ∷ Plays played
     ∷ Writes (game_text plan number played) ∷ Finishes ∷ []
 
--- the steps of the game `played`, which has this number, if its PGN can't be written: its engines are waited for too
+-- the steps of the game `played`, which has this number, if its PGN can't be written: `WriteFails` takes the place of
+-- `Writes`, and its engines are waited for too
 abbrev pub unwritten_steps : GamesPlan → ℕ → GameRecord → List GamesStep
 unwritten_steps plan number played =
     Starts (engine_command plan number White) (engine_command plan number Black) ∷ Plays played
@@ -70,18 +72,20 @@ games_steps plan games = flat_map (λ g. game_steps plan g.0 g.1) (enumerate_fro
 
 -- ---- a match at a table
 
--- the steps after those of the games that were written, by a match's result; the next game would have this number. The
--- steps of the game whose PGN could not be written (`unwritten`), if there is one; or the start of engines that failed;
--- else none. Writing the score is no step at the table
+-- the steps after the steps of all games that were written, by a match's result. `number` is the number of the next
+-- game. Writing the score is no step at the table
 abbrev pub last_steps : GamesPlan → ℕ → Result (Unit {0}) GamesFault → Option GameRecord → List GamesStep
+-- the next game was played, but its PGN could not be written
 last_steps plan number result (Some unwritten) = unwritten_steps plan number unwritten
+-- the engines of the next game could not be started
 last_steps plan number (Err NoMemory) None = unstarted_steps plan number
 last_steps plan number (Err (CanNotStart _)) None = unstarted_steps plan number
+-- any other result: no next game was begun
 last_steps plan number _ None = []
 
--- what playing a match at a table does, by its result: games were played, maybe none, as in `PlaysGames`, and just the
--- steps of these games passed at the table, and the failed start of the next one, if there was one. `p` is what may have
--- passed there before, `p'` after
+-- what playing a match at a table does, by its result: games were played, maybe none, as `PlaysThese` says, and just
+-- the steps of these games passed at the table, and after them those of `last_steps`. `p` is what may have passed there
+-- before, and `p'` after; `d` and `d'` are the output and the log before and after
 abbrev pub PlaysGamesAt : GamesPlan → Result (Unit {0}) GamesFault → GamesPassing → GamesPassing → Outputs → Outputs
     → Type 0
 PlaysGamesAt plan result p p' d d' =

@@ -13,11 +13,13 @@ use Rattle.match_runner.specs.declared.log.Log.{Log}
 
 -- ---- one line
 
--- a line of a log: its milliseconds, its mark (`<` for what an engine sends, `>` for what it is sent, `!` for all
--- else), whether its engine is that of `--white`, and its text
+-- a line of a log
 pub record Entry : Type 0 where
+  -- a time of the clock in milliseconds
   pub moment : ℕ
+  -- `<` for a line that an engine sent, `>` for a line that it was sent, `!` for an end, a failure or a line too long
   pub mark : ℕ
+  -- whether its engine is that of `--white`
   pub is_first : Bool
   pub text : List ℕ
 
@@ -25,12 +27,12 @@ pub record Entry : Type 0 where
 abbrev pub engine_text : Bool → List ℕ
 engine_text is_first = if is_first then codes "first : " else codes "second: "
 
--- what a line of the log begins with, such as `312 <first : `: its milliseconds, its mark, and which engine
+-- what a line of the log begins with, such as `312 <first : `: its moment, its mark, and which engine
 abbrev pub head : ℕ → ℕ → Bool → List ℕ
 head moment mark is_first = decimal moment ++ ((32 ∷ mark ∷ []) ++ engine_text is_first)
 
--- a line as it is written, such as `312 <first : move e2e4` and `\n`, from its milliseconds, its mark, whether its
--- engine is that of `--white`, and its text, with `?` for what can't be shown
+-- a line as it is written, such as `312 <first : move e2e4` and `\n`, from its moment, its mark, whether its engine is
+-- that of `--white`, and its text, with `?` for each byte that is no printable ASCII
 abbrev pub log_line : ℕ → ℕ → Bool → List ℕ → List ℕ
 log_line moment mark is_first text = head moment mark is_first ++ (map shown_byte text ++ new_line ∷ [])
 
@@ -45,37 +47,43 @@ abbrev pub lines_in : List ℕ → List (List ℕ)
 lines_in [] = []
 lines_in (b ∷ bs) = if b == new_line then [] ∷ lines_in bs else onto_first b (lines_in bs)
 
--- the log's lines for a note, if the last event before it was at `moment`; `first` is the side of the engine of
--- `--white`. What opens a turn was logged as it was sent
+-- the log's lines for a note. `first` is the side of the engine of `--white`. `moment` is the moment of the last event
+-- before the note that has one: a note without a moment of its own is logged with it
 abbrev pub note_entries : Colour → ℕ → Note → List Entry
+-- an engine sent this line
 note_entries first moment (Happened (Line c (Some text) now)) =
     record { moment = now; mark = byte "<"; is_first = same_colour c first; text = text } ∷ []
+-- an engine sent a line that was too long: its text is not logged
 note_entries first moment (Happened (Line c None now)) =
     record { moment = now; mark = byte "!"; is_first = same_colour c first; text = codes "line too long" } ∷ []
+-- the lines that open a turn were sent: they have their own note (`Gives`), so nothing more is logged
 note_entries first moment (Happened (Opened c now)) = []
+-- an engine ended its output, or reading from it or writing to it failed
 note_entries first moment (Happened (OutputEnds c)) =
     record { moment = moment; mark = byte "!"; is_first = same_colour c first; text = codes "output ended" } ∷ []
 note_entries first moment (Happened (FailsToRead c)) =
     record { moment = moment; mark = byte "!"; is_first = same_colour c first; text = codes "read failed" } ∷ []
 note_entries first moment (Happened (FailsToWrite c)) =
     record { moment = moment; mark = byte "!"; is_first = same_colour c first; text = codes "write failed" } ∷ []
+-- an engine is sent lines: one line of the log for each
 note_entries first moment (Gives c bytes) =
     map (λ text. record { moment = moment; mark = byte ">"; is_first = same_colour c first; text = text })
     (lines_in bytes)
 
--- the moment of the last event after a note, if it was at `moment` before
+-- the moment of the last event that has one, after a note; `moment` is this moment before the note
 abbrev pub moment_after : ℕ → Note → ℕ
 moment_after moment (Happened (Line c text now)) = now
 moment_after moment (Happened (Opened c now)) = now
 moment_after moment _ = moment
 
--- the log's lines for these notes, if the last event before them was at `moment`
+-- the log's lines for these notes, one note after another; for the first of them, `first` and `moment` are as in
+-- `note_entries`
 abbrev pub entries_from : Colour → ℕ → List Note → List Entry
 entries_from first moment [] = []
 entries_from first moment (n ∷ notes) = note_entries first moment n ++ entries_from first (moment_after moment n) notes
 
--- the whole log of a game with these notes, in which the engine of `--white` has the side `first`; the time before the
--- first event is 0
+-- the whole log of a game with these notes, in which the engine of `--white` has the side `first`. What is logged
+-- before the first event has the moment 0
 abbrev pub log_text : Colour → List Note → List ℕ
 log_text first notes = entries_text (entries_from first 0 notes)
 
@@ -97,13 +105,14 @@ abbrev pub LogsText : Bool → List ℕ → ToOutput → Type 0
 LogsText false text o = o ≡ all_of text
 LogsText true text o = Begins (o.flushed ++ o.left) text × (o.failed ≡ true)
 
--- from its state `l` to `l'` a log was given this text to write; one that is broken stays as it is
+-- from its state `l` to `l'` a log was given this text to write. A log that is broken stays as it is; any other writes
+-- and flushes it all, or breaks while it does so (`LogsText`)
 abbrev pub Logged : LogSeen → LogSeen → List ℕ → Type 0
 Logged l l' text = (l.broken ≡ true → l' ≡ l)
     × (l.broken ≡ false → (o : ToOutput) × OutputTook l.output l'.output o × LogsText l'.broken text o)
 
--- a log was given this note, which took it from `l` to `l'`: the note's lines were written and flushed, or a call
--- failed, as in `Logged`. `seen` gives what contracts see of its output
+-- a log was given this note, which took it from `l` to `l'`: the note's lines were given to it to write (`Logged`), its
+-- `moment` is the one after the note, and its `first` stays. `seen` gives what contracts see of its output
 abbrev pub LogsNote : {E : Type 0} → (E → OutputState) → Log E → Log E → Note → Type 0
 LogsNote seen l l' note =
     Logged (log_seen (seen l.output) l.broken) (log_seen (seen l'.output) l'.broken)

@@ -11,7 +11,7 @@ use Rattle.pgn_verifier.specs.declared.tally.Verified.{Verified}
 use Rattle.pgn_verifier.specs.Reports.{Report, AreReportsIn, report_lines, counts_line, counts_of, verified}
 
 -- these are the reports on the games of a collection of which this text was read: on all its pieces, one after another,
--- if the text is all of it (`ended`), else on all but the last. `strict`: results are compared
+-- if the text is all of it (`ended`), else on all but the last, which may be incomplete. `strict`: results are compared
 abbrev pub AreCollectionReports : Bool → Bool → List ℕ → List Report → Type 0
 AreCollectionReports strict ended text reports = (by_piece : List (List Report))
     × AllZip (AreReportsIn strict) (pieces ended text) by_piece × (reports ≡ flat_map (λ part. part) by_piece)
@@ -22,26 +22,29 @@ abbrev pub collection_text : VerifyOptions → Bool → List ℕ → List Report
 collection_text options ended text reports =
     report_lines options text 1 reports ++ (if ended then counts_line (counts_of reports) else [])
 
--- reading stopped before the input's end, and the lines of the pieces whose end was read were written, but not flushed
+-- reading stopped before the input's end was reported, and the lines of the pieces whose end was read (all but the
+-- last) were written, but not flushed
 abbrev pub WritesPart : VerifyOptions → FromInput → ToOutput → Type 0
 WritesPart options i o = (i.ended ≡ false)
     × ((reports : List Report) × AreCollectionReports options.strict false i.text reports
     × (o ≡ all_unflushed (collection_text options false i.text reports)))
 
--- what verifying a collection reads and writes, by its result. `Ok`: the whole input was read, the reports on it
--- (`collection_text`) were written and flushed, and `verdict` says whether there was a fault. `WriteFailed`: no read
--- failed, and a write or the flush failed after a beginning of the reports on what was read. In the other cases reading
--- stopped before the input's end, and the lines of the pieces whose end was read were written, but not flushed: a read
--- failed, memory ran out, or the input has nearly 2^63 bytes or more. `options` say whether results are compared,
--- whether only faults have a line, and whether faults are explained
+-- what verifying a collection reads (`i`) and writes (`o`), by its result. `options` say whether results are compared
+-- (`strict`), whether only faults have a line (`quiet`), and whether faults are explained (`explain`)
 abbrev pub VerifiesCollection : VerifyOptions → Result Verified VerifyFault → FromInput → ToOutput → Type 0
+-- the whole input was read; the lines of its reports and the line of counts were written and flushed; `verdict` says
+-- whether there was a fault
 VerifiesCollection options (Ok verdict) i o = IsWhole i
     × ((reports : List Report) × AreCollectionReports options.strict true i.text reports
     × (o ≡ all_of (collection_text options true i.text reports)) × (verdict ≡ verified (counts_of reports)))
+-- no read failed, and a write or the flush failed after a beginning of what is written of the bytes that were read
 VerifiesCollection options (Err WriteFailed) i o = IsUnbroken i
     × ((reports : List Report) × AreCollectionReports options.strict i.ended i.text reports
     × BreaksOffIn [] (collection_text options i.ended i.text reports) o)
+-- a read failed, and what was written is as `WritesPart` says
 VerifiesCollection options (Err ReadFailed) i o = IsCutOff i × WritesPart options i o
+-- memory ran out; the same was written
 VerifiesCollection options (Err NoMemory) i o = IsUnbroken i × WritesPart options i o
+-- nearly 2^63 bytes or more were read; the same was written
 VerifiesCollection options (Err InputTooLong) i o =
     IsUnbroken i × (2 ^ 63 ≤ length i.text + 2 ^ 16) × WritesPart options i o

@@ -60,11 +60,13 @@ after_remarks arguments = drop (prefix_len is_remark arguments) arguments
 abbrev pub played_text : List ℕ → List ℕ
 played_text argument = (if bytes_eq argument (codes "resign") then [] else codes "move ") ++ (argument ++ new_line ∷ [])
 
--- the turn of a stub (an engine that plays the arguments that it is given), with these arguments left: it plays the
--- first one, and sends what the `offer` and `claim` after it stand for; `end` makes it end in the middle of a line;
--- with none left it resigns
+-- the turn of a stub (an engine that plays the arguments that it is given), with these arguments left; it plays a side
+-- from then on
 abbrev pub turn : Arguments → Response StubState
+-- none is left: it resigns
 turn [] = stub_says (playing []) (codes "resign" ++ new_line ∷ [])
+-- `end` makes it end in the middle of a line, after `mov`; any other first argument is played, and what each `offer`
+-- and `claim` right after it stands for is sent, too
 turn (argument ∷ arguments) =
     if bytes_eq argument.now (codes "end") then record (stub_says (playing arguments) (codes "mov")) { ends = true }
     else stub_says (playing (after_remarks arguments)) (played_text argument.now ++ remarks arguments)
@@ -80,7 +82,9 @@ abbrev pub after_opponent_move : StubState → Response StubState
 after_opponent_move s = if s.plays then turn s.arguments else stub_says s []
 
 -- what a stub (an engine that plays the arguments that it is given) in the state `s` does at a command; `text` is the
--- whole line. `usermove` alone counts as a move too, and all commands without a row here are ignored
+-- whole line. A move of the opponent is not looked at, and `usermove` without one (`Unknown`) counts as one, too. Of
+-- the commands that an arbiter ignores (`Silent`), the stub obeys `force`. All commands without a row here are ignored,
+-- even a move without `usermove`
 abbrev pub stub_row : StubState → List ℕ → Command → Response StubState
 stub_row s text (Protover n) = stub_says s features
 stub_row s text (Ping n) = stub_says s (codes "pong " ++ (decimal n ++ new_line ∷ []))
