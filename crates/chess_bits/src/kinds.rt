@@ -177,8 +177,8 @@ impl Kinds {
 
     /// Whether one of this colour's pieces attacks `square` after a move of the other colour; the pieces in these sets
     /// are those before the move. `occupied` are the squares occupied after it, and `changed` the squares whose content
-    /// it changes: a piece of this colour there was captured, so it doesn't count. (`IsLater`: the pieces `later` are
-    /// those after such a move.)
+    /// it changes: a piece of this colour there was captured, so it doesn't count. So a king's safety is judged without
+    /// making the move. (`IsLater`: the pieces `later` are those after such a move.)
     #[inline(always)]
     #[tactic(auto, unfolding(chess_base::specs::Attacks::is_attacked))]
     pub fn attacks_outside(

@@ -157,8 +157,8 @@ fn rights_left(setup: &Setup, m: &Move, mover: Man, taken: Option<Man>) -> Right
 
 // Whether the move `m`, of a piece of this kind, is surely neither castling nor en passant, so that it changes only its
 // two squares. A king's move counts as sure only if no castling right is left. (The enemy's rights don't matter for
-// that, but `has_no_right` is a single test, and `rights_left` needs it too.) A pawn's move is sure if it doesn't go to
-// the en passant target, and an officer's always.
+// that, but `has_no_right` asks for all four at once, and `rights_left` needs it too.) A pawn's move is sure if it
+// doesn't go to the en passant target, and an officer's always.
 #[inline(always)]
 fn goes_plainly(setup: &Setup, m: &Move, kind: Kind) -> bool
     ensures { result ≡ goes_plainly setup.now m.now kind }

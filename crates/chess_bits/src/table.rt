@@ -47,8 +47,8 @@ fn in_shape(shape: Shape, a: Square, b: Square) -> bool
 }
 
 // The squares that belong to the shape from square a: for `Knight`, the ones that a knight on a attacks. This computes
-// one entry of a table. It tries the numbers 0 to 63, since `filter` would need a set of all squares. The two loops
-// of this form in chess_moves are private there.
+// one entry of a table. It tries the numbers 0 to 63, since `filter` would need a set of all squares, which `SquareSet`
+// doesn't offer. The two loops of this form in chess_moves are private there.
 fn squares_of(shape: Shape, a: Square) -> SquareSet
     ensures { (k : ℕ) → k < 64 → contains result k ≡ in_shape shape a k }
 {

@@ -56,7 +56,7 @@ pub(crate) struct Tables {
 
 impl Tables {
     // The table of this shape, with an entry for each square: for `Knight`, the squares that a knight there attacks;
-    // for a ray, its squares from there to the edge.
+    // for a ray, its squares from there to the edge, the start left out.
     pub(crate) fn table(&self, shape: Shape) -> &Table
         ensures { result.now ≡ shape }
     {

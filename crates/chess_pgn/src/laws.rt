@@ -88,8 +88,8 @@ pub fn games_are_of_tokens()
 {}
 
 /// States a law and does nothing: tokens of 1 to 79 bytes are put into lines (`lines_of`) that are as full as they can
-/// be. A line has at most 79 bytes, and with the first token of the next line it would have more. There are no other
-/// lines of these tokens, in this order, of which that is true.
+/// be. A line has at most 79 bytes, and with a space and the first token of the next line it would have more. There are
+/// no other lines of these tokens, in this order, of which that is true.
 pub fn lines_are_filled()
     ensures filled { (tokens : List (List ℕ)) → AreShort tokens → AreFilled tokens (lines_of tokens) }
     ensures no_other { (tokens texts : List (List ℕ)) → AreFilled tokens texts → texts ≡ lines_of tokens }

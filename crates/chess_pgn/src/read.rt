@@ -161,9 +161,10 @@ fn declare_outcome<B: Board>(game: &mut Game<B>, outcome: Outcome)
     }
 }
 
-// Applies the word at `offset` to the game. An outcome mark such as `1-0` ends the game (`declare_outcome`). After a
-// number or marks reading continues. A word that may be a move is a fault, since it is no move that can be played
-// (`left`): `play_words` has played those. `progress` is what is known before the word.
+// Applies the word at `offset` to the game. An outcome mark such as `1-0` ends the game (`declare_outcome`). After marks
+// reading continues, and would after a number, but `play_words` has passed over those. A word that may be a move is a
+// fault, since it is no move that can be played (`left`): `play_words` has played those. `progress` is what is known
+// before the word.
 //
 // `ended`: the offset returned with an end is after the word's first byte, and at most after its last.
 #[tactic(auto, using(crate::proofs::StepKinds::outcome_mark_has_bytes))]
@@ -232,7 +233,7 @@ fn apply_tag<B: Board>(
 // Applies the token at `offset` of a text of `len` bytes to the game. Returns what is then known, if reading continues;
 // how the game's text ended, if the token is its outcome mark; or a fault. A tag after a number or a move is a fault:
 // it begins the next game, so this game has no outcome mark. The token is no move that can be played (`left`):
-// `play_words` has played those. `progress` is what is known before the token.
+// `play_words` has played those, and `read_normal_tags` gives none. `progress` is what is known before the token.
 //
 // `within`: the token's word or string is in the text from `offset` on. `ended`: the offset returned with an end is
 // after `offset`, and in the text.

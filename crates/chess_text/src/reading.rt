@@ -360,7 +360,8 @@ fn read_coordinates<B: Board>(board: &B, text: &[u8]) -> Option<Move>
     if board.is_legal(&m) { Some(m) } else { None }
 }
 
-// Reads a text of any shape as a move of the board's position. Most texts are of a usual shape, so not inlined.
+// Reads a text of any shape as a move of the board's position. In PGN most texts are of a usual shape, so this is not
+// inlined.
 #[inline(never)]
 fn read_any_move<B: Board>(board: &B, text: &[u8]) -> Reading
     ensures { result ≡ reading (B.position board.now) text.now }
