@@ -4,7 +4,7 @@ use Rattle.std.proofs.Math.Seq.{take-append-add}
 use Rattle.std.specs.Io.KnownBytes.{Consumes, IsAtEnd}
 use Rattle.std.specs.Bool.{MatchBool}
 use Rattle.std.proofs.lemmas.Grind.{common_steps}
-use Rattle.byte_devices.specs.Devices.{InputState, OutputState, Sent, TookPartThenFailed, saturating_increment}
+use Rattle.byte_devices.specs.Devices.{InputState, OutputState, Sent, CutShort, saturating_increment}
 use Rattle.byte_devices.specs.Transfers.{FromInput, InputGave, OutputTook, Ran, all_of, saturating_increment_if}
 use Rattle.byte_devices.proofs.shared.Devices.{consumes_more, consumes_none}
 use Rattle.byte_devices.proofs.shared.Transfers.{came, broke, took_nothing, took_all, took_more, took_some_more}
@@ -258,7 +258,7 @@ by_line {respond} {r} {r''} {w} {w'} {w''} {s} {s'} {s''} {done} line f (all, re
 pub by_write : {S : Type 0} {respond : Server S} {r r' r'' : InputState} {w w' w'' : OutputState} {s s' s'' : S}
     {held : Held} {given : List ℕ} {done : List LineSeen} (line : LineSeen)
     → SoFar respond r r' w w' s s' held given done → IsReached r r'' done line
-    → TookPartThenFailed w' w'' (respond s' line).text → s'' ≡ (respond s' line).state
+    → CutShort w' w'' (respond s' line).text → s'' ≡ (respond s' line).state
     → Ran (Served respond s s'' (Err Write)) (record { input = r; output = w }) (record { input = r''; output = w'' })
 by_write {respond} {r''} {w} {w'} {w''} {s} {done} line f (all, reported, after, at) (start, (rest, is), broke_off)
     next = (

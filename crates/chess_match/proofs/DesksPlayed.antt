@@ -2,7 +2,7 @@
 use Rattle.std.proofs.Common.{◌≡◌, ℕ, Bool, true, false, List, [], ◌∷◌, ◌++◌, refl, sym, ◌∙◌, subst, append_assoc, append-nil, Option, None, Some}
 use Rattle.std.specs.Bool.{MatchBool}
 use Rattle.std.specs.Prelude.{if◌then◌else◌}
-use Rattle.byte_devices.specs.Devices.{OutputState, TookPartThenFailed}
+use Rattle.byte_devices.specs.Devices.{OutputState, CutShort}
 use Rattle.byte_devices.specs.Transfers.{ToOutput, Devices, OutputTook, all_of}
 use Rattle.byte_devices.proofs.shared.Transfers.{broke, took_more, took_nothing, took_some_more}
 use Rattle.chess_base.specs.declared.man.Colour.{Colour}
@@ -45,7 +45,7 @@ silent S (Sends b ∷ H) w w' u (v, o, p) = at (same_colour b.to S) u o (λ h. s
 silent S (SendFails b ∷ H) w w' u (v, o, p) = at (same_colour b.to S) u o (λ h. silent S H v w' h p)
   where
     at : (x : Bool) → (if x then false else unsent_in S H) ≡ true
-        → MatchBool x (TookPartThenFailed w v (bytes_of b.lines)) (v ≡ w)
+        → MatchBool x (CutShort w v (bytes_of b.lines)) (v ≡ w)
         → (unsent_in S H ≡ true → (lines_sent S H ≡ []) × (broken_blocks S H ≡ []) × (w' ≡ v))
         → (lines_sent S H ≡ []) × (list_if x (b.lines ∷ []) ++ broken_blocks S H ≡ []) × (w' ≡ w)
     at true u o more = absurd cc
@@ -91,7 +91,7 @@ writes_all S before (SendFails b ∷ H) w v w' end f (u, o, p) =
     at (same_colour b.to S) end o (λ e g. writes_all S before H w u w' e g p)
   where
     at : (x : Bool) → (if x then unsent_in S H else sends_end S H) ≡ true
-        → MatchBool x (TookPartThenFailed v u (bytes_of b.lines)) (u ≡ v)
+        → MatchBool x (CutShort v u (bytes_of b.lines)) (u ≡ v)
         → (sends_end S H ≡ true → OutputTook w u (all_of (bytes_of before))
         → Wrote (before ++ lines_sent S H) (broken_blocks S H) w w')
         → Wrote (before ++ lines_sent S H) (list_if x (b.lines ∷ []) ++ broken_blocks S H) w w'

@@ -3,7 +3,7 @@ use Rattle.std.proofs.Common.{◌≡◌, ℕ, ◌+◌, ◌<◌, List, [], ◌++�
 use Rattle.std.specs.List.{flat_map}
 use Rattle.std.proofs.lemmas.List.{take-append-drop}
 use Rattle.std.proofs.lemmas.List.Concat.{flat_map-append}
-use Rattle.byte_devices.specs.Devices.{OutputState, TookPartThenFailed, Puts}
+use Rattle.byte_devices.specs.Devices.{OutputState, CutShort, Puts}
 use Rattle.byte_devices.proofs.shared.Devices.{took_more, breaks_more, breaks_longer, flat_more}
 use Rattle.chess_pgn.specs.ties.Waiting.{TookSome, Adds}
 
@@ -20,18 +20,18 @@ added_more a b c w x y t u h k = record {
 }
 
 -- a text, and one that broke off
-pub added_break : (a b c : OutputState) (w x t u : List ℕ) → TookSome a b w x t → TookPartThenFailed b c (x ++ u)
-    → TookPartThenFailed a c (w ++ (t ++ u))
+pub added_break : (a b c : OutputState) (w x t u : List ℕ) → TookSome a b w x t → CutShort b c (x ++ u)
+    → CutShort a c (w ++ (t ++ u))
 added_break a b c w x t u h k =
     let all : w ++ (t ++ u) ≡ h.out ++ (x ++ u) =
     sym (append_assoc w t u) ∙ ap (λ v. v ++ u) h.is ∙ append_assoc h.out x u in
     rw all (breaks_more a b c h.out (x ++ u) h.took k)
 
 -- where a text broke off, so did each longer one
-pub break_longer : (a b : OutputState) (w t u : List ℕ) → TookPartThenFailed a b (w ++ t) → TookPartThenFailed a b (w ++ (t ++ u))
+pub break_longer : (a b : OutputState) (w t u : List ℕ) → CutShort a b (w ++ t) → CutShort a b (w ++ (t ++ u))
 break_longer a b w t u h = rw (← append_assoc w t u) (breaks_longer a b (w ++ t) u h)
 
-pub adds_exit : {A E : Type 0} (a b : OutputState) (r : Result A E) (w x t : List ℕ) → TookPartThenFailed a b (w ++ t) → IsErr r
+pub adds_exit : {A E : Type 0} (a b : OutputState) (r : Result A E) (w x t : List ℕ) → CutShort a b (w ++ t) → IsErr r
     → Adds a b w x r t
 adds_exit a b (Ok v) w x t h k = cc
 adds_exit a b (Err e) w x t h k = h
@@ -74,8 +74,8 @@ parts_more a b c w x y f xs i d h s t = rw (flat_more f xs i d h)
 
 -- one of them broke off
 pub parts_break : {X : Type 0} (a b c : OutputState) (w x : List ℕ) (f : X → List ℕ) (xs : List X) (i : ℕ) (d : X)
-    → i < length xs → TookSome a b w x (flat_map f (take i xs)) → TookPartThenFailed b c (x ++ f (get_or xs i d))
-    → TookPartThenFailed a c (w ++ flat_map f xs)
+    → i < length xs → TookSome a b w x (flat_map f (take i xs)) → CutShort b c (x ++ f (get_or xs i d))
+    → CutShort a c (w ++ flat_map f xs)
 parts_break a b c w x f xs i d h s t =
     let e : flat_map f xs ≡ flat_map f (take (i + 1) xs) ++ flat_map f (drop (i + 1) xs) =
     ap (flat_map f) (sym (take-append-drop (i + 1) xs)) ∙ flat_map-append f (take (i + 1) xs) (drop (i + 1) xs) in

@@ -7,7 +7,7 @@ use Rattle.std.proofs.lemmas.Bool.Decides.{nat_tests}
 use Rattle.chess_base.specs.declared.man.Move.{Move}
 use Rattle.chess_base.specs.declared.man.Variant.{Variant}
 use Rattle.chess_base.specs.declared.setup.Setup.{Setup}
-use Rattle.byte_devices.specs.Devices.{OutputState, TookPartThenFailed, Puts}
+use Rattle.byte_devices.specs.Devices.{OutputState, CutShort, Puts}
 use Rattle.chess_base.specs.Moves.{is_legal, after}
 use Rattle.chess_game.specs.Game.{Seen, State, outcome_now, IsPlayable}
 use Rattle.chess_game.specs.Results.{outcome_text}
@@ -34,13 +34,13 @@ pub record HasParts (t u v text : List ℕ) : Type 0 where
   pub is : text ≡ t ++ (u ++ v)
 
 -- the first could not be put
-pub first_broke : (a b : OutputState) (w t u v text : List ℕ) → HasParts t u v text → TookPartThenFailed a b (w ++ t)
-    → TookPartThenFailed a b (w ++ text)
+pub first_broke : (a b : OutputState) (w t u v text : List ℕ) → HasParts t u v text → CutShort a b (w ++ t)
+    → CutShort a b (w ++ text)
 first_broke a b w t u v text parts h = rw parts.is (break_longer a b w t (u ++ v) h)
 
 -- the second could not be put
 pub second_broke : (a b c : OutputState) (w x t u v text : List ℕ) → HasParts t u v text → TookSome a b w x t
-    → TookPartThenFailed b c (x ++ u) → TookPartThenFailed a c (w ++ text)
+    → CutShort b c (x ++ u) → CutShort a c (w ++ text)
 second_broke a b c w x t u v text parts h k =
     rw parts.is (added_break a b c w x t (u ++ v) h (break_longer b c x u v k))
 
@@ -63,10 +63,10 @@ further_is prefix before start v t is b =
     ∙ ap (λ u. ended prefix (start_lines_in start.variant start) ++ ended before (last_lines u t)) (sym is)
 
 pub start_broke : (a b : OutputState) (w prefix : List ℕ) (start : Setup) (t : Termination)
-    → TookPartThenFailed a b (w ++ ended prefix (start_lines_in start.variant start))
-    → TookPartThenFailed a b (w ++ ended prefix (further_lines start t))
+    → CutShort a b (w ++ ended prefix (start_lines_in start.variant start))
+    → CutShort a b (w ++ ended prefix (further_lines start t))
 start_broke a b w prefix start t h =
-    subst (λ v. TookPartThenFailed a b (w ++ v)) (sym (further_is prefix prefix start start.variant t refl refl))
+    subst (λ v. CutShort a b (w ++ v)) (sym (further_is prefix prefix start start.variant t refl refl))
     (break_longer a b w (ended prefix (start_lines_in start.variant start)) (ended prefix (last_lines start.variant t))
     h)
 
@@ -189,31 +189,31 @@ one_placed prefix before text token column col p c t =
 
 -- the number could not be put
 pub number_broke : (a b : OutputState) (w prefix : List ℕ) (column : ℕ) (f : Bool) (p q : Setup) (m : Move) → q ≡ p
-    → TookPartThenFailed a b (w ++ placed_all prefix column (number_if_due q.side f q.fullmove))
-    → TookPartThenFailed a b (w ++ placed_all prefix column (numbered_move f p m))
+    → CutShort a b (w ++ placed_all prefix column (number_if_due q.side f q.fullmove))
+    → CutShort a b (w ++ placed_all prefix column (numbered_move f p m))
 number_broke a b w prefix column f p q m same h =
     let number : List (List ℕ) = number_if_due p.side f p.fullmove in
-    subst (λ text. TookPartThenFailed a b (w ++ text)) (sym (placed_all-append prefix column number (san p m ∷ [])))
+    subst (λ text. CutShort a b (w ++ text)) (sym (placed_all-append prefix column number (san p m ∷ [])))
     (break_longer a b w (placed_all prefix column number)
     (placed_all prefix (column_after_all column number) (san p m ∷ []))
-    (subst (λ (s : Setup). TookPartThenFailed a b (w ++ placed_all prefix column (number_if_due s.side f s.fullmove))) same h))
+    (subst (λ (s : Setup). CutShort a b (w ++ placed_all prefix column (number_if_due s.side f s.fullmove))) same h))
 
 -- the move could not be put
 pub move_broke : (a b c : OutputState) (w x prefix before text : List ℕ) (column col : ℕ) (f : Bool) (p q : Setup)
     (m : Move) → q ≡ p → before ≡ prefix → col ≡ column_after_all column (number_if_due q.side f q.fullmove)
     → text ≡ san p m
     → TookSome a b w x (placed_all prefix column (number_if_due q.side f q.fullmove))
-    → TookPartThenFailed b c (x ++ wrapped_token before col text)
-    → TookPartThenFailed a c (w ++ placed_all prefix column (numbered_move f p m))
+    → CutShort b c (x ++ wrapped_token before col text)
+    → CutShort a c (w ++ placed_all prefix column (numbered_move f p m))
 move_broke a b c w x prefix before text column col f p q m same pre is said h k =
     let number : List (List ℕ) = number_if_due p.side f p.fullmove in
     let here : col ≡ column_after_all column number =
     is ∙ ap (λ (s : Setup). column_after_all column (number_if_due s.side f s.fullmove)) same in
-    subst (λ v. TookPartThenFailed a c (w ++ v)) (sym (placed_all-append prefix column number (san p m ∷ [])))
+    subst (λ v. CutShort a c (w ++ v)) (sym (placed_all-append prefix column number (san p m ∷ [])))
     (added_break a b c w x (placed_all prefix column number)
     (placed_all prefix (column_after_all column number) (san p m ∷ []))
     (subst (λ (s : Setup). TookSome a b w x (placed_all prefix column (number_if_due s.side f s.fullmove))) same h)
-    (subst (λ v. TookPartThenFailed b c (x ++ v)) (one_placed prefix before text (san p m) (column_after_all column number) col
+    (subst (λ v. CutShort b c (x ++ v)) (one_placed prefix before text (san p m) (column_after_all column number) col
     pre here said) k))
 
 -- both were put
@@ -328,12 +328,12 @@ moves_put a b c w x y prefix before column col p q ms i f m n h k =
 pub moves_broke : (a b c : OutputState) (w x prefix before : List ℕ) (column col : ℕ) (p q : Setup) (ms : List Move)
     (i : ℕ) (f : Bool) (m : Move) → IsNext prefix column p ms i before col f q m
     → TookSome a b w x (placed_all prefix column (numbered_moves true p (take i ms)))
-    → TookPartThenFailed b c (x ++ placed_all before col (numbered_move f q m))
-    → TookPartThenFailed a c (w ++ placed_all prefix column (numbered_moves true p ms))
+    → CutShort b c (x ++ placed_all before col (numbered_move f q m))
+    → CutShort a c (w ++ placed_all prefix column (numbered_moves true p ms))
 moves_broke a b c w x prefix before column col p q ms i f m n h k = by_rest (moves_split true p ms (suc i))
   where
     by_rest : (rest : List (List ℕ)) × (numbered_moves true p ms ≡ numbered_moves true p (take (suc i) ms) ++ rest)
-        → TookPartThenFailed a c (w ++ placed_all prefix column (numbered_moves true p ms))
+        → CutShort a c (w ++ placed_all prefix column (numbered_moves true p ms))
     by_rest (rest, is) =
         let so_far : List ℕ = placed_all prefix column (numbered_moves true p (take i ms)) in
         let text : List ℕ = placed_all prefix column (numbered_moves true p (take (suc i) ms)) in
@@ -342,9 +342,9 @@ moves_broke a b c w x prefix before column col p q ms i f m n h k = by_rest (mov
         let whole : placed_all prefix column (numbered_moves true p ms) ≡ text ++ tail =
         ap (placed_all prefix column) is ∙ placed_all-append prefix column (numbered_moves true p (take (suc i) ms))
         rest in
-        subst (λ v. TookPartThenFailed a c (w ++ v)) (sym whole)
+        subst (λ v. CutShort a c (w ++ v)) (sym whole)
         (break_longer a c w text tail
-        (subst (λ v. TookPartThenFailed a c (w ++ v)) (sym (next_text prefix before column col p q ms i f m n))
+        (subst (λ v. CutShort a c (w ++ v)) (sym (next_text prefix before column col p q ms i f m n))
         (added_break a b c w x so_far (placed_all before col (numbered_move f q m)) h k)))
 
 pub columns_more : (prefix before : List ℕ) (column col new : ℕ) (p q : Setup) (ms : List Move) (i : ℕ) (f : Bool)

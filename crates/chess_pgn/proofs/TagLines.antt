@@ -1,7 +1,7 @@
 -- Lines of tags, one after the other.
 use Rattle.std.proofs.Common.{◌≡◌, ℕ, ◌+◌, ◌<◌, List, [], ◌∷◌, ◌++◌, length, get_or, take, refl, sym, ap, subst, ◌∙◌}
 use Rattle.std.specs.List.{flat_map}
-use Rattle.byte_devices.specs.Devices.{OutputState, TookPartThenFailed}
+use Rattle.byte_devices.specs.Devices.{OutputState, CutShort}
 use Rattle.chess_pgn.specs.ties.Waiting.{TookSome}
 use Rattle.chess_pgn.specs.Written.{tag_line, ended}
 use Rattle.chess_pgn.specs.ties.Lines.{tag_lines_of}
@@ -35,10 +35,10 @@ tags_more a b c w x y prefix before line tags i t h p l is so_far next =
 
 pub tags_break : (a b c : OutputState) (w x prefix before line : List ℕ) (tags : List TagPair) (i : ℕ) (t : TagPair)
     → i < length tags → before ≡ prefix → line ≡ tag_line t.name.now t.text.now → t ≡ get_or tags i t
-    → TookSome a b w x (ended prefix (tag_lines_of (take i tags))) → TookPartThenFailed b c (x ++ (before ++ line ++ 10 ∷ []))
-    → TookPartThenFailed a c (w ++ ended prefix (tag_lines_of tags))
+    → TookSome a b w x (ended prefix (tag_lines_of (take i tags))) → CutShort b c (x ++ (before ++ line ++ 10 ∷ []))
+    → CutShort a c (w ++ ended prefix (tag_lines_of tags))
 tags_break a b c w x prefix before line tags i t h p l is so_far broke =
-    subst (λ text. TookPartThenFailed a c (w ++ text)) (ended_tags prefix tags)
+    subst (λ text. CutShort a c (w ++ text)) (ended_tags prefix tags)
     (parts_break a b c w x (ended_tag prefix) tags i t h
     (subst (TookSome a b w x) (sym (ended_tags prefix (take i tags))) so_far)
-    (subst (λ text. TookPartThenFailed b c (x ++ text)) (line_is prefix before line tags i t p l is) broke))
+    (subst (λ text. CutShort b c (x ++ text)) (line_is prefix before line tags i t p l is) broke))

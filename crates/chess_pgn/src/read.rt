@@ -161,9 +161,9 @@ fn declare_outcome<B: Board>(game: &mut Game<B>, outcome: Outcome)
     }
 }
 
-// Applies the word at `offset` to the game. An outcome mark such as `1-0` ends the game (`declare_outcome`). After marks
-// reading continues, and would after a number, but `play_words` has passed over those. A word that may be a move is a
-// fault, since it is no move that can be played (`left`): `play_words` has played those. `progress` is what is known
+// Applies the word at `offset` to the game. An outcome mark such as `1-0` ends the game (`declare_outcome`). Reading
+// continues after marks, and would after a number, but `play_words` has passed over those. A word that may be a move is
+// a fault, since it is no move that can be played (`left`): `play_words` has played those. `progress` is what is known
 // before the word.
 //
 // `ended`: the offset returned with an end is after the word's first byte, and at most after its last.

@@ -9,7 +9,7 @@ use Rattle.match_runner.specs.declared.plan.GamesPlan.{GamesPlan}
 use Rattle.chess_base.specs.Men.{other, same_colour}
 use Rattle.chess_base.specs.declared.man.Colour.{Colour}
 use Rattle.chess_base.specs.declared.man.Colour.TheVariants.{White, Black}
-use Rattle.byte_devices.specs.Devices.{OutputState, Begins, TookPartThenFailed, Sent}
+use Rattle.byte_devices.specs.Devices.{OutputState, Begins, CutShort, Sent}
 use Rattle.byte_devices.specs.Transfers.{ToOutput, OutputTook, all_of}
 use Rattle.byte_devices.proofs.shared.Transfers.{broke, took_all, took_more, took_nothing, took_some_more}
 use Rattle.chess_game.specs.Game.{Seen}
@@ -142,13 +142,13 @@ module _ (plan : GamesPlan) (number : ℕ) (p p1 p2 p3 p4 : GamesPassing) (w w' 
     all_steps Writes writes,
   )
 
-  pub was_not_written : IsOfPlan plan played → TookPartThenFailed w w' (pgn [] tags played.after.game.state)
+  pub was_not_written : IsOfPlan plan played → CutShort w w' (pgn [] tags played.after.game.state)
       → StepsPass p2 p3 (WriteFails (pgn [] tags played.after.game.state) ∷ [])
       → PlayedGame plan number p p4 w w' l l' (Err WriteFailed)
   was_not_written of breaks fails = (
     played,
     of,
-    subst (λ (t : List ℕ). TookPartThenFailed w w' t) tagged_text breaks,
+    subst (λ (t : List ℕ). CutShort w w' t) tagged_text breaks,
     logs,
     all_steps WriteFails fails,
   )
@@ -372,7 +372,7 @@ module _ (plan : GamesPlan) (p p' p'' : GamesPassing) (w w' w'' : OutputState) (
 
   -- a game that was not written
   not_written : (next : GameRecord) → number ≤ plan.games → IsOfPlan plan next
-      → TookPartThenFailed w' w'' (game_text plan number next) → LogsGame (logged_side plan number) l' l'' next.notes
+      → CutShort w' w'' (game_text plan number next) → LogsGame (logged_side plan number) l' l'' next.notes
       → StepsPass p' p'' (unwritten_steps plan number next)
       → HasPlayed plan p p'' w w'' l l'' (Err WriteFailed)
   not_written next le of (begun, begins, failing) log steps =
@@ -482,7 +482,7 @@ module _ (plan : GamesPlan) (p p' : GamesPassing) (w w' w'' : OutputState) (l l'
     steps_all,
   )
 
-  pub score_broken : TookPartThenFailed w' w'' (score_line played.score)
+  pub score_broken : CutShort w' w'' (score_line played.score)
       → PlaysGamesAt plan (Err WriteFailed) p p' (outputs w l) (outputs w'' l')
   score_broken (begun, begins, failing) = (
     h.0,

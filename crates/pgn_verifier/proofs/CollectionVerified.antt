@@ -5,7 +5,7 @@ use Rattle.std.specs.List.{sum_by}
 use Rattle.std.proofs.lemmas.List.Concat.{flat_map-append}
 use Rattle.std.proofs.lemmas.List.Sums.{sum_by_push}
 use Rattle.byte_devices.specs.declared.traits.WriteFault.{WriteFault}
-use Rattle.byte_devices.specs.Devices.{InputState, OutputState, Took, TookPartThenFailed}
+use Rattle.byte_devices.specs.Devices.{InputState, OutputState, Took, CutShort}
 use Rattle.byte_devices.specs.Transfers.{Ran}
 use Rattle.byte_devices.proofs.shared.Devices.{breaks_longer}
 use Rattle.pgn_pieces.specs.Pieces.{Piece, pieces}
@@ -180,7 +180,7 @@ module _ (options : VerifyOptions) (r r' r'' : InputState) (w w' : OutputState) 
       collection_broke_off options r r'' w w'' s'.ended text next.1.read
       (breaks_longer w w'' (collection_lines options s'.ended text)
       (if s'.ended then counts_line (counts_of (collection_reports options.strict s'.ended text)) else [])
-      (subst (TookPartThenFailed w w'') (sym (lines_after options text 1
+      (subst (CutShort w w'') (sym (lines_after options text 1
       (reports_of options.strict so.done ++ reports_in options.strict (current s')) (reports_of options.strict later))
       ∙ ap (report_lines options text 1) (sym all)) lines))
 

@@ -1,7 +1,7 @@
 -- What was written is flushed, or a write or the flush failed.
 use Rattle.std.proofs.Common.{◌≡◌, ℕ, Bool, true, false, List, [], ◌++◌, Ok, Err, refl, ap, subst, ◌∙◌, append-nil}
 use Rattle.std.proofs.Math.Seq.{take-length}
-use Rattle.byte_devices.specs.Devices.{InputState, OutputState, Took, Sent, TookPartThenFailed, TookThenFailed}
+use Rattle.byte_devices.specs.Devices.{InputState, OutputState, Took, Sent, CutShort, TookThenFailed}
 use Rattle.byte_devices.specs.Transfers.{Ran}
 use Rattle.byte_devices.proofs.shared.Devices.{appends_more, took_none, breaks_more, failed_more}
 use Rattle.pgn_pieces.specs.Pieces.{pieces}
@@ -21,7 +21,7 @@ use Rattle.pgn_verifier.proofs.Verifying.{collection_verified, collection_broke_
 abbrev pub none : Tally
 none = record { games = 0; half_moves = 0; faults = 0 }
 
-pub not_flushed : (a b c : OutputState) (text : List ℕ) → Took a b text → TookThenFailed b c [] → TookPartThenFailed a c text
+pub not_flushed : (a b c : OutputState) (text : List ℕ) → Took a b text → TookThenFailed b c [] → CutShort a c text
 not_flushed a b c text took failed =
     (text ++ [], ([], append-nil (text ++ []) ∙ append-nil text), failed_more a b c text [] took failed)
 
@@ -60,14 +60,14 @@ finished options r r' w w' w'' t v (text, read, took, is) sent h =
     (subst (λ (u : Tally). Sent w' w'' (counts_line u)) is sent)) (h ∙ ap verified is)
 
 pub not_finished : (options : VerifyOptions) (r r' : InputState) (w w' w'' : OutputState) (t : Tally)
-    → WritesCollection options r r' w w' (Ok t) → TookPartThenFailed w' w'' (counts_line t)
+    → WritesCollection options r r' w w' (Ok t) → CutShort w' w'' (counts_line t)
     → Ran (VerifiesCollection options (Err WriteFailed)) (record { input = r; output = w })
     (record { input = r'; output = w'' })
 not_finished options r r' w w' w'' t (text, read, took, is) broke =
     let counts = counts_line (counts_of (collection_reports options.strict true text)) in
     collection_broke_off options r r' w w'' true text read
     (breaks_more w w' w'' (collection_lines options true text) counts took
-    (subst (λ (u : Tally). TookPartThenFailed w' w'' (counts_line u)) is broke))
+    (subst (λ (u : Tally). CutShort w' w'' (counts_line u)) is broke))
 
 nothing_written : (options : VerifyOptions) (w : OutputState) → Took w w (collection_lines options false [])
 unfolding pieces

@@ -2,7 +2,7 @@
 use Rattle.std.proofs.Common.{◌≡◌, ℕ, ◌+◌, cond, not, List, [], ◌∷◌, ◌++◌, length, Result, Ok, Err, refl, sym, ap, subst, ◌∙◌, append_assoc, append-nil, arith}
 use Rattle.std.specs.List.{count_by, sum_by}
 use Rattle.std.proofs.lemmas.List.Sums.{sum_by-cons}
-use Rattle.byte_devices.specs.Devices.{OutputState, Took, TookPartThenFailed}
+use Rattle.byte_devices.specs.Devices.{OutputState, Took, CutShort}
 use Rattle.byte_devices.proofs.shared.Devices.{took_none, took_more, breaks_more, breaks_longer}
 use Rattle.pgn_verifier.specs.declared.options.VerifyOptions.{VerifyOptions}
 use Rattle.pgn_verifier.specs.declared.tally.Tally.{Tally}
@@ -108,9 +108,9 @@ module _ (options : VerifyOptions) (input : List ℕ) (t u : Tally) (w w' w'' : 
       (took_more w w' w'' (report_lines options input (next_number t) xs)
       (report_lines options input (next_number u) ys) took h)
 
-  pub broke_after : (ys : List Report) → TookPartThenFailed w' w'' (report_lines options input (next_number u) ys)
-      → TookPartThenFailed w w'' (report_lines options input (next_number t) (xs ++ ys))
-  broke_after ys h = subst (TookPartThenFailed w w'') (sym (lines_are ys))
+  pub broke_after : (ys : List Report) → CutShort w' w'' (report_lines options input (next_number u) ys)
+      → CutShort w w'' (report_lines options input (next_number t) (xs ++ ys))
+  broke_after ys h = subst (CutShort w w'') (sym (lines_are ys))
       (breaks_more w w' w'' (report_lines options input (next_number t) xs)
       (report_lines options input (next_number u) ys) took h)
 
@@ -127,7 +127,7 @@ one_line options input number r = sym (append-nil (written_line options input nu
 
 pub first_broke : (options : VerifyOptions) (input : List ℕ) (number : ℕ) (w w' : OutputState) (r : Report)
     (rest : List Report)
-    → TookPartThenFailed w w' (written_line options input number r)
-    → TookPartThenFailed w w' (report_lines options input number (r ∷ rest))
+    → CutShort w w' (written_line options input number r)
+    → CutShort w w' (report_lines options input number (r ∷ rest))
 first_broke options input number w w' r rest h =
     breaks_longer w w' (written_line options input number r) (report_lines options input (number + 1) rest) h

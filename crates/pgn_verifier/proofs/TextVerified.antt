@@ -1,7 +1,7 @@
 -- The games of a text, one after another.
 use Rattle.std.proofs.Common.{◌≡◌, ℕ, zero, suc, ◌+◌, ◌≤◌, ◌<◌, Bool, List, [], ◌∷◌, ◌++◌, length, drop, Option, Some, None, Result, Ok, Err, refl, sym, ap, subst, ◌∙◌, append_assoc, append-nil, arith}
 use Rattle.std.specs.Prelude.{if◌then◌else◌}
-use Rattle.byte_devices.specs.Devices.{OutputState, Took, TookPartThenFailed}
+use Rattle.byte_devices.specs.Devices.{OutputState, Took, CutShort}
 use Rattle.chess_game.specs.Game.{State}
 use Rattle.chess_pgn.specs.declared.read.PgnEnd.{PgnEnd}
 use Rattle.pgn_verifier.specs.declared.game_fault.GameFault.{GameFault}
@@ -109,12 +109,12 @@ module _ (options : VerifyOptions) (start : ℕ) (text : List ℕ) (before : Tal
 
   pub game_broke : {E : Type 0} (e : E) (input : List ℕ) (end : PgnEnd) (g : State)
       → judged_at options.strict text at ≡ Ok (Some end) → g ≡ (read_at text at).state
-      → TookPartThenFailed w' w'' (if options.quiet then [] else game_line (next_number tally) (length g.moves) end.outcome
+      → CutShort w' w'' (if options.quiet then [] else game_line (next_number tally) (length g.moves) end.outcome
       end.termination) → Writes options input before w w'' (Err e) (reports_on options.strict start text)
   game_broke e input end g h k broke =
       let r = Game (length g.moves) end.outcome end.termination in
       let rest = reports_from options.strict start s.n text end.offset in
-      subst (λ xs. TookPartThenFailed w w'' (report_lines options input (next_number before) xs))
+      subst (λ xs. CutShort w w'' (report_lines options input (next_number before) xs))
       (sym (due (Ok (Some end)) g h k))
       (broke_after options input before tally w w' w'' done (s.took input) s.is (r ∷ rest)
       (first_broke options input (next_number tally) w' w'' r rest broke))
@@ -148,9 +148,9 @@ module _ (options : VerifyOptions) (start : ℕ) (text : List ℕ) (before : Tal
 
   pub fault_broke : {E : Type 0} (e : E) (input : List ℕ) (fault : GameFault) (g : State)
       → judged_at options.strict text at ≡ Err fault → g ≡ (read_at text at).state
-      → TookPartThenFailed w' w'' (written_line options input (next_number tally) (report fault g))
+      → CutShort w' w'' (written_line options input (next_number tally) (report fault g))
       → Writes options input before w w'' (Err e) (reports_on options.strict start text)
   fault_broke e input fault g h k broke =
-      subst (λ xs. TookPartThenFailed w w'' (report_lines options input (next_number before) xs)) (sym (due (Err fault) g h k))
+      subst (λ xs. CutShort w w'' (report_lines options input (next_number before) xs)) (sym (due (Err fault) g h k))
       (broke_after options input before tally w w' w'' done (s.took input) s.is (report fault g ∷ [])
       (first_broke options input (next_number tally) w' w'' (report fault g) [] broke))

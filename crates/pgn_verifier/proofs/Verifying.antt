@@ -1,7 +1,7 @@
 -- What verifying reads and writes, from what its parts did to the devices.
 use Rattle.std.proofs.Common.{◌≡◌, ℕ, Bool, true, false, List, [], Result, Ok, Err, IsErr, refl, sym, subst, append-nil}
 use Rattle.std.specs.Prelude.{IfErr}
-use Rattle.byte_devices.specs.Devices.{InputState, OutputState, Took, Sent, TookPartThenFailed}
+use Rattle.byte_devices.specs.Devices.{InputState, OutputState, Took, Sent, CutShort}
 use Rattle.byte_devices.specs.Transfers.{InputGave, Ran, all_of, all_unflushed, nothing}
 use Rattle.byte_devices.proofs.shared.Transfers.{came, broke, took_nothing, took_all, took_unflushed, took_some}
 use Rattle.pgn_pieces.specs.Pieces.{HasRead, GaveThenFailed, IsCause}
@@ -70,7 +70,7 @@ text_verified E options r r' w w' text verdict (read, few) (is, sent) = (
 )
 
 pub text_broke_off : (options : VerifyOptions) (r r' : InputState) (w w' : OutputState) (text : List ℕ)
-    → IsAll r r' text → TookPartThenFailed w w' (text_lines options text)
+    → IsAll r r' text → CutShort w w' (text_lines options text)
     → Ran (Verifies options (Err WriteFailed)) (record { input = r; output = w }) (record { input = r'; output = w' })
 text_broke_off options r r' w w' text (read, few) (start, begins, failed) = (
   came r' text true false,
@@ -99,7 +99,7 @@ collection_verified options r r' w w' text verdict read sent is = (
 )
 
 pub collection_broke_off : (options : VerifyOptions) (r r' : InputState) (w w' : OutputState) (ended : Bool)
-    (text : List ℕ) → HasRead ended r r' text → TookPartThenFailed w w' (collection_written options ended text)
+    (text : List ℕ) → HasRead ended r r' text → CutShort w w' (collection_written options ended text)
     → Ran (VerifiesCollection options (Err WriteFailed)) (record { input = r; output = w })
     (record { input = r'; output = w' })
 collection_broke_off options r r' w w' ended text read (start, begins, failed) = (

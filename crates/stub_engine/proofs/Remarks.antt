@@ -1,7 +1,7 @@
 -- What a stub says after its move, remark by remark.
 use Rattle.std.proofs.Common.{◌≡◌, ◌∙◌, ◌<◌, ◌≤◌, ◌+◌, ℕ, suc, Bor, Bool, true, false, List, [], ◌∷◌, ◌++◌, length, drop, get_or, is_some, option_map, Option, Some, None, unwrap_or, Result, IsErr, if◌then◌else◌, refl, sym, ap, append_assoc, append-nil, subst, arith}
 use Rattle.std.proofs.lemmas.List.{drop_more, at_drop_all}
-use Rattle.byte_devices.specs.Devices.{OutputState, Took, TookPartThenFailed, Puts}
+use Rattle.byte_devices.specs.Devices.{OutputState, Took, CutShort, Puts}
 use Rattle.byte_devices.proofs.shared.Devices.{took_none, took_more, breaks_more, breaks_longer, puts_exit}
 use Rattle.std.specs.Prelude.{codes, cond, flat_map, take}
 use Rattle.std.specs.List.{prefix_len}
@@ -88,11 +88,11 @@ module _ (arguments : Arguments) (at : ℕ) (d : Bor (List ℕ)) (text : List �
   }
 
   pub broken : {E : Type 0} (from : ℕ) (w w' w'' : OutputState) (before : List ℕ) (r : Result (Unit {0}) E)
-      → SoFar arguments from at w w' before → TookPartThenFailed w' w'' text → IsErr r
+      → SoFar arguments from at w w' before → CutShort w' w'' text → IsErr r
       → Puts w w'' r (remarks (drop from arguments))
   broken from w w' w'' before r s h failed =
       puts_exit w w'' r (remarks (drop from arguments))
-      (subst (TookPartThenFailed w w'') (ap (λ v. before ++ v) (sym said_here) ∙ s.rest)
+      (subst (CutShort w w'') (ap (λ v. before ++ v) (sym said_here) ∙ s.rest)
       (breaks_more w w' w'' before (text ++ remarks (drop (at + 1) arguments)) s.took
       (breaks_longer w' w'' text (remarks (drop (at + 1) arguments)) h)))
       failed

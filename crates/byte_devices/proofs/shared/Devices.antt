@@ -7,7 +7,7 @@ use Rattle.std.specs.List.{flat_map}
 use Rattle.std.proofs.Common.{get_or, add-one, ◌∷◌}
 use Rattle.std.proofs.lemmas.List.{take-append-drop, length-append}
 use Rattle.std.proofs.lemmas.Grind.{common_steps}
-use Rattle.byte_devices.specs.Devices.{OutputState, Took, TookThenFailed, Sent, TookPartThenFailed, Puts, Sends, FlushStep, saturating_increment, saturating_add}
+use Rattle.byte_devices.specs.Devices.{OutputState, Took, TookThenFailed, Sent, CutShort, Puts, Sends, FlushStep, saturating_increment, saturating_add}
 
 pub appends_more : (a b c : Option (List ℕ)) (x y : List ℕ) → Appends a b x → Appends b c y → Appends a c (x ++ y)
 appends_more None b c x y h k = tt
@@ -72,12 +72,12 @@ failed_more a b c x y h k = record {
   unflushed = unflushed_more a.unflushed b.unflushed c.unflushed x y h.unflushed k.unflushed;
 }
 
-pub breaks_more : (a b c : OutputState) (x y : List ℕ) → Took a b x → TookPartThenFailed b c y → TookPartThenFailed a c (x ++ y)
+pub breaks_more : (a b c : OutputState) (x y : List ℕ) → Took a b x → CutShort b c y → CutShort a c (x ++ y)
 breaks_more a b c x y h (start, (rest, is), k) =
     (x ++ start, (rest, append_assoc x start rest ∙ ap (λ v. x ++ v) is), failed_more a b c x start h k)
 
 -- a text of which a beginning was written is itself a beginning of a longer one
-pub breaks_longer : (a b : OutputState) (x y : List ℕ) → TookPartThenFailed a b x → TookPartThenFailed a b (x ++ y)
+pub breaks_longer : (a b : OutputState) (x y : List ℕ) → CutShort a b x → CutShort a b (x ++ y)
 breaks_longer a b x y (start, (rest, is), k) =
     (start, (rest ++ y, sym (append_assoc start rest y) ∙ ap (λ v. v ++ y) is), k)
 
@@ -88,7 +88,7 @@ puts_more a b c (Ok v) x y h k = took_more a b c x y h k
 puts_more a b c (Err e) x y h k = breaks_more a b c x y h k
 
 -- at the exit of a `?`
-pub puts_exit : {A E : Type 0} (a b : OutputState) (r : Result A E) (x : List ℕ) → TookPartThenFailed a b x → IsErr r
+pub puts_exit : {A E : Type 0} (a b : OutputState) (r : Result A E) (x : List ℕ) → CutShort a b x → IsErr r
     → Puts a b r x
 puts_exit a b (Ok v) x h k = cc
 puts_exit a b (Err e) x h k = h
@@ -105,7 +105,7 @@ wrote_more a b c at n text h k =
 
 -- a write fails
 pub wrote_part : (a b c : OutputState) (at : ℕ) (text : List ℕ) → Took a b (take at text) → TookThenFailed b c []
-    → TookPartThenFailed a c text
+    → CutShort a c text
 wrote_part a b c at text h k = (
   take at text ++ [],
   (drop at text, rw (append-nil, take-append-drop) refl),
@@ -127,7 +127,7 @@ flush_on a b c (Ok v) x h k = sent_on a b c x h k
 flush_on a b c (Err e) x h k = (x ++ [], ([], append_assoc x [] [] ∙ append-nil x), failed_more a b c x [] h k)
 
 -- at the exit of a `?`
-pub sends_exit : {A E : Type 0} (a b : OutputState) (r : Result A E) (x : List ℕ) → TookPartThenFailed a b x → IsErr r
+pub sends_exit : {A E : Type 0} (a b : OutputState) (r : Result A E) (x : List ℕ) → CutShort a b x → IsErr r
     → Sends a b r x
 sends_exit a b (Ok v) x h k = cc
 sends_exit a b (Err e) x h k = h
@@ -149,7 +149,7 @@ parts_more a b c f xs i d h s t =
 
 -- one of them broke off
 pub parts_break : {X : Type 0} (a b c : OutputState) (f : X → List ℕ) (xs : List X) (i : ℕ) (d : X) → i < length xs
-    → Took a b (flat_map f (take i xs)) → TookPartThenFailed b c (f (get_or xs i d)) → TookPartThenFailed a c (flat_map f xs)
+    → Took a b (flat_map f (take i xs)) → CutShort b c (f (get_or xs i d)) → CutShort a c (flat_map f xs)
 parts_break a b c f xs i d h s t =
     let e : flat_map f xs ≡ flat_map f (take (i + 1) xs) ++ flat_map f (drop (i + 1) xs) =
     ap (flat_map f) (sym (take-append-drop (i + 1) xs)) ∙ flat_map-append f (take (i + 1) xs) (drop (i + 1) xs) in

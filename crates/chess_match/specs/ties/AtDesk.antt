@@ -1,7 +1,7 @@
 -- What passed at a desk, as each of its devices, seen apart, shows.
 use Rattle.std.specs.Prelude.{◌≡◌, ℕ, ◌+◌, List, [], ◌∷◌, ◌++◌, Option, None, Some}
 use Rattle.std.specs.Bool.{MatchBool}
-use Rattle.byte_devices.specs.Devices.{InputState, OutputState, TookPartThenFailed}
+use Rattle.byte_devices.specs.Devices.{InputState, OutputState, CutShort}
 use Rattle.byte_devices.specs.Transfers.{Devices, OutputTook, all_of}
 use Rattle.chess_base.specs.declared.man.Colour.{Colour}
 use Rattle.chess_base.specs.ByColour.{by_colour, of_colour}
@@ -41,7 +41,7 @@ abbrev pub WritesAt : Colour → Act → OutputState → OutputState → Type 0
 WritesAt S (Sends block) w w' =
     MatchBool (same_colour block.to S) (OutputTook w w' (all_of (bytes_of block.lines))) (w' ≡ w)
 WritesAt S (SendFails block) w w' =
-    MatchBool (same_colour block.to S) (TookPartThenFailed w w' (bytes_of block.lines)) (w' ≡ w)
+    MatchBool (same_colour block.to S) (CutShort w w' (bytes_of block.lines)) (w' ≡ w)
 WritesAt S _ w w' = w' ≡ w
 
 -- these acts took it from `w` to `w'`

@@ -1,6 +1,6 @@
 -- Text that waits before it is written.
 use Rattle.std.specs.Prelude.{◌≡◌, ℕ, List, ◌++◌, Result, Ok, Err}
-use Rattle.byte_devices.specs.Devices.{OutputState, Took, TookPartThenFailed}
+use Rattle.byte_devices.specs.Devices.{OutputState, Took, CutShort}
 
 -- a text was added to a buffer that held `waiting` and now holds `left`: the writer, which went from `old` to `new`,
 -- took `out`, the bytes before those left
@@ -13,4 +13,4 @@ pub record TookSome (old new : OutputState) (waiting left text : List ℕ) : Typ
 -- `new`, took what came before; or, after `Err`, the writer failed, and took a beginning of what waited and of the text
 abbrev pub Adds : {A E : Type 0} → OutputState → OutputState → List ℕ → List ℕ → Result A E → List ℕ → Type 0
 Adds old new waiting left (Ok _) text = TookSome old new waiting left text
-Adds old new waiting left (Err e) text = TookPartThenFailed old new (waiting ++ text)
+Adds old new waiting left (Err e) text = CutShort old new (waiting ++ text)

@@ -3,7 +3,7 @@ use Rattle.std.specs.Prelude.{◌≡◌, ⊤, ℕ, ◌+◌, min, Bool, true, fal
 use Rattle.match_runner.specs.declared.plan.GamesPlan.{GamesPlan}
 use Rattle.chess_base.specs.Men.{other}
 use Rattle.chess_base.specs.declared.man.Colour.{Colour}
-use Rattle.byte_devices.specs.Devices.{OutputState, TookPartThenFailed, Sent}
+use Rattle.byte_devices.specs.Devices.{OutputState, CutShort, Sent}
 use Rattle.byte_devices.specs.Transfers.{OutputTook, all_of}
 use Rattle.chess_game.specs.Results.{same_outcome}
 use Rattle.chess_game.specs.declared.results.Outcome.{Outcome}
@@ -60,15 +60,15 @@ PlayedGame plan number p p' w w' l l' (Ok end) =
     (played : GameRecord) × (played.end ≡ end) × IsOfPlan plan played × Sent w w' (game_text plan number played)
     × LogsGame (logged_side plan number) l l' played.notes × StepsPass p p' (game_steps plan number played)
 PlayedGame plan number p p' w w' l l' (Err WriteFailed) =
-    (played : GameRecord) × IsOfPlan plan played × TookPartThenFailed w w' (game_text plan number played)
+    (played : GameRecord) × IsOfPlan plan played × CutShort w w' (game_text plan number played)
     × LogsGame (logged_side plan number) l l' played.notes × StepsPass p p' (unwritten_steps plan number played)
 PlayedGame plan number p p' w w' l l' (Err fault) =
     IsStartFault plan.white.now plan.black.now fault × (w' ≡ w) × (l' ≡ l)
     × StepsPass p p' (unstarted_steps plan number)
 
 -- what playing the games of a match does, by its result: each was written and logged, and the score counts them, up to
--- and with one that has a fault; or the match broke off in a game or at its start. `p` is what may have passed at the table before, `w` and `l`
--- are output and log; `p'`, `w'` and `l'` after
+-- and with one that has a fault; or the match broke off in a game or at its start. `p` is what may have passed at the
+-- table before, `w` and `l` are output and log; `p'`, `w'` and `l'` after
 abbrev pub HasPlayed : GamesPlan → GamesPassing → GamesPassing → OutputState → OutputState → LogSeen → LogSeen
     → Result GamesPlayed GamesFault → Type 0
 HasPlayed plan p p' w w' l l' (Ok played) =

@@ -24,7 +24,8 @@ read_on b r r' r'' text more h front gave = record {
   at_end = λ e. gave.at_end (is_none more (h ∙ e));
 }
 
-pub broke_off : (r r' r'' : InputState) (text : List ℕ) → HasRead false r r' text → FailedToRead r' r'' → GaveThenFailed r r'' text
+pub broke_off : (r r' r'' : InputState) (text : List ℕ) → HasRead false r r' text → FailedToRead r' r''
+    → GaveThenFailed r r'' text
 broke_off r r' r'' text front failed = record {
   bytes = subst (Consumes r.known_bytes r''.known_bytes) (append-nil text)
       (consumes_more r.known_bytes r'.known_bytes r''.known_bytes text [] front.bytes

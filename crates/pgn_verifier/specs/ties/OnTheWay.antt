@@ -2,7 +2,7 @@
 -- written.
 use Rattle.std.specs.Prelude.{◌≡◌, ◌<◌, ℕ, true, false, List, length, take, drop, Some, Result, Ok, Err, ◌≤◌, ◌+◌, Bool}
 use Rattle.std.specs.List.{flat_map, fold}
-use Rattle.byte_devices.specs.Devices.{InputState, OutputState, Took, Sent, TookPartThenFailed}
+use Rattle.byte_devices.specs.Devices.{InputState, OutputState, Took, Sent, CutShort}
 use Rattle.byte_devices.specs.Transfers.{Ran}
 use Rattle.pgn_pieces.specs.Pieces.{Piece, HasRead, GaveThenFailed}
 use Rattle.pgn_pieces.specs.Places.{line_of, column_of}
@@ -40,7 +40,7 @@ text_lines options text = report_lines options text 1 (reports_on options.strict
 abbrev pub WritesText : {E : Type 0} → VerifyOptions → List ℕ → OutputState → OutputState → Result Verified E → Type 0
 WritesText options text w w' (Ok verdict) =
     (verdict ≡ verified (counts_of (reports_on options.strict 0 text))) × Sent w w' (text_lines options text)
-WritesText options text w w' (Err e) = TookPartThenFailed w w' (text_lines options text)
+WritesText options text w w' (Err e) = CutShort w w' (text_lines options text)
 
 -- the lines that report the games of a collection of which this text was read, numbered from 1. `ended`: the text is
 -- all of it; if not, its last piece isn't reported
@@ -91,7 +91,7 @@ abbrev pub Writes : {E : Type 0} → VerifyOptions → List ℕ → Tally → Ou
 Writes options input before w w' (Ok after) reports =
     Took w w' (report_lines options input (next_number before) reports) × (after ≡ counted before reports)
 Writes options input before w w' (Err e) reports =
-    TookPartThenFailed w w' (report_lines options input (next_number before) reports)
+    CutShort w w' (report_lines options input (next_number before) reports)
 
 -- the text is in the input where it begins: at the beginning of a line, whose number is known
 pub record StandsAt (start : TextStart) (input text : List ℕ) : Type 0 where

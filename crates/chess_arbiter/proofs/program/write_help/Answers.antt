@@ -15,7 +15,10 @@ returns-in_err-send g c =
       _,
       broke [] start,
       took_some _ _ start failing,
-      inr ((refl, begins, refl), failed_status c.from_residual-in_err-send.result c.from_residual-in_err-send.ensures.0),
+      inr (
+        (refl, begins, refl),
+        failed_status c.from_residual-in_err-send.result c.from_residual-in_err-send.ensures.0,
+      ),
     )
 
 pub returns : goal.returns

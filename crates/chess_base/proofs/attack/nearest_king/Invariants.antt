@@ -5,4 +5,5 @@ use Rattle.chess_base.specs.ties.Lines.{square_from_side}
 use Rattle.chess_base.proofs.attack.nearest_king.Given as goal
 
 abbrev pub invariant-loop-number : goal.invariant-loop-number
-invariant-loop-number l = (k : ℕ) → k < l.number → is_man l.colour King (man_at l.men (square_from_side l.colour k)) ≡ false
+invariant-loop-number l = (k : ℕ) → k < l.number
+    → is_man l.colour King (man_at l.men (square_from_side l.colour k)) ≡ false

@@ -1,6 +1,6 @@
 -- The lines of the text's reports were written, from the first byte on (Finished.whole_lines), and then flushed.
 use Rattle.std.proofs.Common.{subst}
-use Rattle.byte_devices.specs.Devices.{Took, TookPartThenFailed}
+use Rattle.byte_devices.specs.Devices.{Took, CutShort}
 use Rattle.byte_devices.proofs.shared.Devices.{sent_on}
 use Rattle.pgn_verifier.specs.ties.OnTheWay.{text_lines}
 use Rattle.pgn_verifier.proofs.Finished.{whole_there, whole_lines, whole_counted, not_flushed}
@@ -10,7 +10,7 @@ use Rattle.pgn_verifier.proofs.buffered.finish.Goals as goal
 pub returns-in_err-tally : goal.returns-in_err-tally
 returns-in_err-tally g c =
     let p = err_from_is_err_and c.from_residual.result c.from_residual.ensures.1 in
-    rw p.1 (subst (TookPartThenFailed (g.W.Output.seen c.args.output.now) (g.W.Output.seen c.verify_text.new.output))
+    rw p.1 (subst (CutShort (g.W.Output.seen c.args.output.now) (g.W.Output.seen c.verify_text.new.output))
     (whole_lines c.args.options c.none.result c.args.text.now c.none.ensures)
     (c.in_err-tally.ensures.written c.args.text.now (whole_there c.args.options.explain c.args.text.now)))
 

@@ -2,7 +2,7 @@
 use Rattle.std.proofs.Common.{rules, Ok}
 use Rattle.std.specs.Prelude.{IfErr}
 use Rattle.std.proofs.lemmas.Result.{err_from_is_err_and}
-use Rattle.byte_devices.specs.Devices.{TookPartThenFailed}
+use Rattle.byte_devices.specs.Devices.{CutShort}
 use Rattle.byte_devices.specs.declared.traits.WriteFault.{WriteFault}
 use Rattle.pgn_verifier.specs.ties.OnTheWay.{IsNotAll, WritesText, text_lines}
 use Rattle.pgn_verifier.proofs.Verifying.{not_all_exit, no_memory, text_verified, text_broke_off}
@@ -32,7 +32,7 @@ pub returns-in_err-verified : goal.returns-in_err-verified
 returns-in_err-verified g c =
     let w = g.W.Output.seen c.args.output.now in
     let w' = g.W.Output.seen c.finish.new.output in
-    let written : TookPartThenFailed w w' (text_lines c.args.options c.in_ok-text.text.items) = search rules in
+    let written : CutShort w w' (text_lines c.args.options c.in_ok-text.text.items) = search rules in
     let p = err_from_is_err_and c.from_residual-in_err-verified.result c.from_residual-in_err-verified.ensures.1 in
     rw (p.1, p.2) (text_broke_off c.args.options (g.R.Input.seen c.args.input.now) (g.R.Input.seen c.read_all.new.input)
     w w' c.in_ok-text.text.items c.in_ok-text.ensures.all written)

@@ -2,7 +2,7 @@
 -- each end it by one lemma.
 use Rattle.std.proofs.Common.{◌≡◌, ◌+◌, ◌∙◌, ◌++◌, ◌∷◌, [], Ok, length, drop, sym, ap, subst}
 use Rattle.std.specs.Prelude.{if◌then◌else◌}
-use Rattle.byte_devices.specs.Devices.{Took, TookPartThenFailed}
+use Rattle.byte_devices.specs.Devices.{Took, CutShort}
 use Rattle.byte_devices.specs.declared.traits.WriteFault.{WriteFault}
 use Rattle.pgn_verifier.specs.declared.tally.Tally.{Tally}
 use Rattle.pgn_verifier.specs.Explanations.{explained, explanation_line}
@@ -39,10 +39,10 @@ returns-in_err-write_game-in-Ok-Some-clause-written g c input stands =
     c.loop-end.at c.loop-end.tally c.loop-end.invariant.1.0 c.loop-end.invariant.1.1
     c.in_err-write_game-in-Ok-Some.field-0.0 input end s
     judged c.in-Ok-Some.ensures.game
-    (subst (λ n. TookPartThenFailed w' w'' (if c.args.options.quiet then [] else game_line n (length s.moves) end.outcome
+    (subst (λ n. CutShort w' w'' (if c.args.options.quiet then [] else game_line n (length s.moves) end.outcome
     end.termination))
     c.next_number-number.ensures
-    (subst (λ k. TookPartThenFailed w' w'' (if c.args.options.quiet then [] else
+    (subst (λ k. CutShort w' w'' (if c.args.options.quiet then [] else
     game_line c.next_number-number.result k end.outcome end.termination)) c.ply-plies.ensures
     c.in_err-write_game-in-Ok-Some.ensures)))
 
@@ -121,4 +121,4 @@ returns-in_err-put-in-Err-clause-written g c input stands =
     let p = err_from_is_err_and c.from_residual-in_err-put-in-Err.result c.from_residual-in_err-put-in-Err.ensures.1 in
     rw p.1 (fault_broke c.args.options start text c.args.before w w' w'' c.loop-end.at c.loop-end.tally
     c.loop-end.invariant.1.0 c.loop-end.invariant.1.1 c.in_err-put-in-Err.field-0.0 input fault s (sym c.in-Err.ensures.judged)
-    c.in-Err.ensures.game (subst (TookPartThenFailed w' w'') lines c.in_err-put-in-Err.ensures))
+    c.in-Err.ensures.game (subst (CutShort w' w'') lines c.in_err-put-in-Err.ensures))

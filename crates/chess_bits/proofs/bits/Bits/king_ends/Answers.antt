@@ -15,7 +15,8 @@ returns c = λ k low.
     let start : a < 64 = subst (λ n. n < 64) c.number-start.ensures.value c.number-start.ensures.in_range in
     let step : contains c.targets_by_attack-steps.result k ≡ man_moves p (move_of a k None) =
     c.targets_by_attack-steps.ensures k low ∙ steps_are p a k c.requires in
-    let safe : contains c.filter-safe.result k ≡ (contains c.targets_by_attack-steps.result k && is_legal p (move_of a k None)) =
+    let safe : contains c.filter-safe.result k
+    ≡ (contains c.targets_by_attack-steps.result k && is_legal p (move_of a k None)) =
     elim (cases_Bool (contains c.targets_by_attack-steps.result k)) [
       | inl on ↦
           let king = c.requires in
@@ -25,5 +26,6 @@ returns c = λ k low.
       | inr off ↦ rw off (c.filter-safe.ensures.outside k low off)
     ] in
     c.union.ensures k ∙ ap (λ t. contains c.castling_ends.result k || t) safe
-    ∙ steps_or_castles p a k (contains c.castling_ends.result k) (contains c.targets_by_attack-steps.result k) c.requires start low
+    ∙ steps_or_castles p a k (contains c.castling_ends.result k) (contains c.targets_by_attack-steps.result k)
+    c.requires start low
     (c.castling_ends.ensures k low) step
