@@ -49,7 +49,7 @@ pub record InputGave (r r' : InputState) (i : FromInput) : Type 0 where
 pub record OutputTook (w w' : OutputState) (o : ToOutput) : Type 0 where
   -- where bytes are known: `o.flushed` and `o.left` were added to those that it had taken
   pub bytes : Appends w.known_bytes w'.known_bytes (o.flushed ++ o.left)
-  -- if no byte was unflushed before, just those of `o.left` are now (a count that stops at 2 ^ 64 - 1)
+  -- if no byte was unflushed before, as many are now as `o.left` has (the count stops at 2 ^ 64 - 1)
   pub unflushed : w.unflushed ≡ 0 → w'.unflushed ≡ min (length o.left) (2 ^ 64 - 1)
   -- one failure more was counted if a write or a flush failed
   pub failures : w'.failure_count ≡ saturating_increment_if o.failed w.failure_count

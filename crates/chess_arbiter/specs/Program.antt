@@ -139,7 +139,8 @@ Does (Ok (Match plan)) d d' status =
 Does (Err fault) d d' status = (d'.devices.input ≡ d.devices.input)
     × ReportsArguments fault d.devices.output d'.devices.output status
 
--- the program ran with these arguments: it read them, and did what they ask for. `d` is its world before, `d'` after;
--- `status` is its exit status
+-- the program ran with these arguments: some right reading of them (`IsReading`) is a plan, and the program did what it
+-- asks for, or is a fault, and the program reported it (`Does`). `d` is its world before, `d'` after; `status` is its
+-- exit status
 abbrev pub RanProgram : List Text → World → World → ℕ → Type 0
 RanProgram arguments d d' status = (read : Result Plan WordsFault) × IsReading arguments read × Does read d d' status

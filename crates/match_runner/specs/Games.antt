@@ -32,13 +32,13 @@ use Rattle.chess_game.specs.declared.game.TheConstants.{MOST_MOVES}
 abbrev pub first_side : ℕ → Colour
 first_side number = if number % 2 == 1 then White else Black
 
--- the command of the engine that has this side in the game of this number; `plan.white` is the command of the first
--- engine, that of `--white`, which has White in odd games and Black in even ones
+-- the command of the engine that has this side in the game of this number. `plan.white` is the command of the first
+-- engine (that of `--white`: White in odd games, Black in even ones), `plan.black` that of the second
 abbrev pub engine_command : GamesPlan → ℕ → Colour → List ℕ
 engine_command plan number side = if same_colour side (first_side number) then plan.white.now else plan.black.now
 
--- an engine's name in the tags: `name`, which the engine gave itself by `myname`, or its command if `name` is empty; of
--- either what a tag keeps, at most 60 bytes (`cut_tag`)
+-- an engine's name in the tags: `name`, which the engine gave itself by `myname`, or its command if `name` is empty;
+-- cut to its first 60 bytes, with `?` for each that is no printable ASCII (`cut_tag`)
 abbrev pub player_name : List ℕ → List ℕ → List ℕ
 player_name name command = cut_tag (if length name == 0 then command else name)
 
