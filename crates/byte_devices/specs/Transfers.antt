@@ -1,5 +1,6 @@
--- What a run reads from an input and writes to an output, however its calls cut it: the values of which each contract
--- of a run speaks, and how these values follow from the devices' states before and after the run.
+-- What a run reads from an input and writes to an output, no matter into how many calls this is cut. The contract of a
+-- run speaks of two values, a `FromInput` and a `ToOutput`; here is how the devices' states before and after the run
+-- agree with them.
 use Rattle.std.specs.Prelude.{◌≡◌, ℕ, ◌-◌, ◌^◌, min, Bool, true, false, if◌then◌else◌, List, [], ◌++◌, length, take}
 use Rattle.std.specs.Io.KnownBytes.{Appends, Consumes, IsAtEnd}
 use Rattle.byte_devices.specs.Devices.{InputState, OutputState, saturating_increment, Begins}
@@ -8,7 +9,7 @@ use Rattle.byte_devices.specs.Devices.{InputState, OutputState, saturating_incre
 pub record FromInput : Type 0 where
   -- all bytes that were read
   pub text : List ℕ
-  -- those of them that came before the last read that did not fail; if that read reported the end, these are all
+  -- those of them that came before the last successful read; all of them if that read reported the end
   pub early : List ℕ
   -- whether the end of the input was reported after these bytes
   pub ended : Bool
@@ -37,7 +38,7 @@ saturating_increment_if rises n = if rises then saturating_increment n else n
 pub record InputGave (r r' : InputState) (i : FromInput) : Type 0 where
   -- where bytes are known: those still to come were `i.text` and then those that are still to come now
   pub bytes : Consumes r.known_bytes r'.known_bytes i.text
-  -- `i.early` is `i.text` without what the last read gave that did not fail: these are the last `r'.last_len` bytes
+  -- `i.early` is `i.text` without its last `r'.last_len` bytes, which the last successful read gave
   pub early : i.early ≡ take (length i.text - r'.last_len) i.text
   -- if the end was reported, no known byte is left
   pub at_end : i.ended ≡ true → IsAtEnd r'.known_bytes

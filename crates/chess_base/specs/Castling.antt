@@ -60,7 +60,7 @@ rights_by f = record {
   black = record { king_side = f Black KingSide; queen_side = f Black QueenSide };
 }
 
--- the square of colour c's king, the first from a1 on; none if it has no king
+-- the square of colour c's king; the first from a1 on if it has several, none if it has no king
 unfoldable pub king_square : Men → Colour → Option ℕ
 king_square men c = position (λ o. is_man c King o) men
 
@@ -113,7 +113,7 @@ castling p m =
 
 -- ---- the squares of a castling
 
--- the four squares of colour c's castling on side w, from those of king and rook before it
+-- the four squares of colour c's castling on side w; `king` and `rook` are the squares where the two start
 abbrev pub castle_from : Colour → CastlingSide → ℕ → ℕ → Castle
 castle_from c w king rook = record {
   king_from = king;
@@ -153,8 +153,8 @@ unfoldable pub castling_way_is_safe : Men → Colour → Castle → Bool
 castling_way_is_safe men c k = each_square
     (λ x. not (is_on_way k.king_from k.king_to x) || not (is_attacked men x (other c)))
 
--- nothing prevents castling k, which move m is: the squares that king and rook cross or end on are empty but for these
--- two, the king's are not attacked, and m names no promotion
+-- nothing prevents castling k, which move m is: no piece but this king and rook is on the squares that they cross or
+-- end on, no square that the king starts on, crosses or ends on is attacked, and m names no promotion
 unfoldable pub castles : Setup → Move → Castle → Bool
 castles p m k = is_none m.promotion && castling_way_is_empty p.men k && castling_way_is_safe p.men p.side k
 

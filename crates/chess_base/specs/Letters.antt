@@ -45,8 +45,8 @@ is_digit c = nat_le (byte "0") c && nat_le c (byte "9")
 
 -- ---- pieces and squares
 
--- the capital letter of a kind of piece, as in SAN, and in FEN for White's (PGN standard of 1994, sections 8.2.3.2 and
--- 16.1.3.1): N for a knight
+-- the capital letter of a kind of piece, N for a knight: SAN has it for both colours, FEN for White's pieces only (PGN
+-- standard of 1994, sections 8.2.3.2 and 16.1.3.1)
 abbrev pub white_letter : Kind → ℕ
 white_letter Pawn = byte "P"
 white_letter Knight = byte "N"
@@ -111,7 +111,7 @@ is_file_letter c = nat_le (byte "a") c && nat_le c (byte "h")
 abbrev pub is_rank_digit : ℕ → Bool
 is_rank_digit c = nat_le (byte "1") c && nat_le c (byte "8")
 
--- the square whose name is the bytes f and r, if there is one: for the bytes of e4 square 28
+-- the square whose name is the bytes f and r, if there is one: the bytes of "e" and "4" give square 28
 abbrev pub square_with_letters : ℕ → ℕ → Option ℕ
 square_with_letters f r =
     if is_file_letter f && is_rank_digit r then Some (8 * (r - byte "1") + (f - byte "a")) else None

@@ -53,8 +53,8 @@ unfoldable pub pawn_moves : Setup → Move → Bool
 pawn_moves p m =
     promotion_fits (rank m.to == first_rank (other p.side)) m.promotion && (pawn_advances p m || pawn_captures p m)
 
--- for a move of a piece other than a pawn, but for castling: it goes to a square that the piece attacks and no piece of
--- the side on move holds (3.1), and names no promotion
+-- for a move of a piece other than a pawn, and not for castling: it goes to a square that the piece attacks and that
+-- holds no piece of the side on move (3.1), and it names no promotion
 unfoldable pub man_moves : Setup → Move → Bool
 man_moves p m = is_none m.promotion && attacks p.men m.from m.to && not (is_of p.side (man_at p.men m.to))
 
@@ -83,8 +83,8 @@ arriving_man (Some x) (Some k) = Some (record { colour = x.colour; kind = k })
 abbrev pub one_rank_back : Colour → ℕ → ℕ
 one_rank_back c s = forward (other c) s
 
--- the square of the piece that move m captures: its end square, or e5 for White's en passant capture on e6; none if it
--- captures nothing
+-- the square of the piece that move m captures: m's end square, or by en passant the square one step back from it (e5
+-- if White captures on e6); none if m captures nothing
 unfoldable pub captured_square : Setup → Move → Option ℕ
 captured_square p m =
     if is_en_passant p m then Some (one_rank_back p.side m.to)
@@ -159,8 +159,8 @@ after p m = record {
 unfoldable pub is_legal : Setup → Move → Bool
 is_legal p m = is_pseudo_legal p m && not (is_in_check (after p m).men p.side)
 
--- ---- the pieces after a move in steps, as boards change them. That this is `men_after` is a law: no claim on games
--- rests on what follows
+-- ---- the pieces after a move in steps, as boards change them. A law says that the steps come to `men_after`; no claim
+-- about games rests on what follows
 
 -- the second square that move m empties, apart from its start square: that of the pawn taken en passant, or of the
 -- castling rook; none for any other move
@@ -169,8 +169,8 @@ second_square_emptied p m =
     if is_en_passant p m then Some (one_rank_back p.side m.to) else option_map (λ k. k.rook_from) (castle_of p m)
 
 -- what the move changes on the board: the mover leaves `from` and arrives on `to`; in castling the rook does so from
--- `second_from` to `second_to`, and a pawn taken en passant leaves `second_from`. `second` means nothing where there is
--- no `second_to`
+-- `second_from` to `second_to`, and a pawn taken en passant leaves `second_from`. `mover` is the piece that arrives on
+-- `to`, `second` the rook that arrives on `second_to`; where there is no `second_to`, `second` means nothing
 abbrev pub steps_of : Setup → Move → Steps
 steps_of p m = record {
   from = m.from;

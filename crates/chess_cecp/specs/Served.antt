@@ -10,12 +10,12 @@ use Rattle.chess_cecp.specs.declared.run.Fault.{Fault}
 use Rattle.chess_cecp.specs.declared.run.Fault.TheVariants.{Read, Write}
 use Rattle.chess_cecp.specs.declared.session.TheConstants.{COMMAND_LEN}
 
--- the lines that were read; what follows the last `\n` is a line too if the input's end was reported and it isn't
--- empty. A line of more than `COMMAND_LEN` bytes is too long
+-- the lines that were read. The bytes after the last `\n`, if there are any, are a line too if the input's end was
+-- reported. A line of more than `COMMAND_LEN` bytes is too long
 abbrev pub lines_read : FromInput → List LineSeen
 lines_read i = stream_lines COMMAND_LEN i.ended i.text
 
--- the lines that were complete (ended by `\n`) before the last read that did not fail
+-- the lines that were complete (ended by `\n`) before the last successful read
 abbrev pub early_lines : FromInput → List LineSeen
 early_lines i = whole COMMAND_LEN i.early
 
@@ -28,8 +28,8 @@ AnswersAll respond s s' ends i o =
 -- the server `respond` answered the lines `before`, and broke off in the answer to `line`. The answers to `before` were
 -- written and flushed, and the server ends with none of these lines. Of the answer to `line` a beginning was written
 -- and not flushed, as a write or a flush failed; yet the server's state is the one after `line`. The lines of `after`
--- were not answered. All lines that were complete before the last read that did not fail are in `before`. `s` and `s'`
--- are the server's states before and after
+-- were not answered. All lines that were complete before the last successful read are in `before`. `s` and `s'` are the
+-- server's states before and after
 abbrev pub AnswersSome : {S : Type 0} → Server S → S → S → FromInput → ToOutput → Type 0
 AnswersSome respond s s' i o =
     (before : List LineSeen) × (line : LineSeen) × (after : List LineSeen) × (lines_read i ≡ before ++ line ∷ after)
@@ -40,8 +40,8 @@ AnswersSome respond s s' i o =
 -- what the server `respond` reads (`i`) and writes (`o`), by the result of the run. `s` and `s'` are the server's
 -- states before and after
 abbrev pub Served : {S : Type 0} → Server S → S → S → Result End Fault → FromInput → ToOutput → Type 0
--- it answered all lines up to one with which it ends, and no read failed. It ends with none of the lines that were
--- complete before the last read: so the last read completed that one
+-- no read failed, and it answered all lines up to one with which it ends. It ends with none of the lines that were
+-- complete before the last read: it did not read on once the line that ends it was complete
 Served respond s s' (Ok Quit) i o =
     IsUnbroken i × AnswersAll respond s s' true i o × ((responses respond s (early_lines i)).ends ≡ false)
 -- the input ended; it answered all lines, and ends with none of them

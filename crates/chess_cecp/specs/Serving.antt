@@ -1,4 +1,4 @@
--- What answers lines, one after the other: a server, as a session is one.
+-- A server: what answers lines, one after the other. A session is a server.
 use Rattle.std.specs.Prelude.{ℕ, Bool, false, if◌then◌else◌, List, [], ◌∷◌, ◌++◌}
 use Rattle.text_lines.specs.Lines.{LineSeen}
 
