@@ -64,8 +64,8 @@ blocks_after S done = blocks_from (if is_over done.after.phase then White else S
 
 -- what follows when a block for the side `S` could not be sent in the match `m`; `due` are the blocks that were to come
 -- after it. The result is the match then, and the blocks that are due then. If `m` was over before, it stays as it is,
--- and `due` is still sent. Else it ends by this failure, and in place of `due` only the other side's lines of that end
--- are sent
+-- and `due` is still sent. Else it ends by this failure, and nothing of `due` is sent: what is due then is only the
+-- block that tells the other side of the end
 abbrev pub after_failed_send : Rules → Match → List Block → Colour → Match × List Block
 after_failed_send r m due S =
     let done = effect r m (FailsToWrite S) in

@@ -66,13 +66,14 @@ abbrev pub ping_number : Match → Colour → ℕ
 ping_number m S = length (m.seat S).used + 1
 
 -- whether the side `S` was ever sent a move. What is tested is whether the other side has made one: there is a used
--- time for each of its moves. This is the same where it is asked, since all its moves were sent when a line of `S` is
--- awaited
+-- time for each of its moves. This is asked only in a turn of `S`, and then all moves of the other side were sent, so
+-- that both are the same
 abbrev pub was_sent_move : Match → Colour → Bool
 was_sent_move m S = nat_lt 0 (length (m.seat (other S)).used)
 
 -- what an engine that sent these items lacks for the match, the first of: `ping=1`; `setboard=1`, if a start is sent;
--- for Chess960, `fischerandom` in its `variants` (without such an item it doesn't lack it). `None` if it lacks nothing
+-- for Chess960, `fischerandom` in its last item `variants` (an engine that sent no such item is taken to play it).
+-- `None` if it lacks nothing
 abbrev pub missing : Rules → List Item → Option MatchFault
 missing r items =
     if not (takes (codes "ping") items) then Some NoPing
@@ -80,7 +81,7 @@ missing r items =
     else if is_fischerandom r.variant && not (plays_fischerandom items) then Some NoVariant
     else None
 
--- whether the last move was played and not yet sent to the side `S`
+-- whether in this phase the side `S` was not yet sent the last move: the other side made it, and has yet to send `pong`
 abbrev pub is_owed : Phase → Colour → Bool
 is_owed (AfterMove side) S = same_colour (other side) S
 is_owed _ S = false
@@ -101,8 +102,8 @@ move_line r m S =
 abbrev pub last_move : Rules → Match → Colour → List SentLine
 last_move r m S = list_if (nat_lt 0 (length m.played)) (move_line r m S ∷ [])
 
--- `time T` and `otim U`, the clocks of the side `S` and of the other in centiseconds, rounded down; none where its
--- engine turned these off, as by `time=0`
+-- the lines that tell the side `S` the clocks: `time T`, its own, and `otim U`, the other's, in centiseconds, rounded
+-- down; no lines if its engine turned these off, as by `time=0`
 abbrev pub clocks : Rules → Match → Colour → List SentLine
 clocks r m S =
     list_if (takes (codes "time") (m.seat S).items) (Time (clock r m S / 10) ∷ Otim (clock r m (other S) / 10) ∷ [])
@@ -139,8 +140,8 @@ enter phase m = record m { phase = phase; count = 0 }
 abbrev pub with_seat : Colour → (Seat → Seat) → Match → Match
 with_seat S change m = record m { seat = λ side. if same_colour side S then change (m.seat side) else m.seat side }
 
--- the match `m` ends for this reason. Each side is sent its `farewell`, by the phase that `m` was in until then, but a
--- side gets nothing if the reason is that a write to it failed
+-- the match `m` ends for this reason. Each side is sent its `farewell`, with the last move if it was owed that in the
+-- phase until then; but a side gets nothing if the reason is that a write to it failed
 abbrev pub ends : Rules → Reason → Match → Effect
 ends r reason m = record {
   after = record m { phase = Over reason };
@@ -173,7 +174,8 @@ offer_row r S m =
     else sends_to (other S) (list_if (takes (codes "draw") (m.seat (other S)).items) (Says (codes "draw") ∷ []))
     (with_seat S (λ s. record s { offers = true }) m)
 
--- what a line of the side `S` does in its turn, if its kind does the same before the side's move and after it
+-- what a line of the side `S` does in its turn, if `before_move` and `after_move` say nothing else of its kind: the
+-- same while its move is awaited and while its `pong` is
 abbrev pub turn_row : Rules → Colour → LineKind → Match → Effect
 -- `resign`: `S` loses
 turn_row r S Resigns m = ends r (over_by.Resigns S) m
@@ -213,8 +215,8 @@ before_move r S used (Moves text) m =
 -- any line that is no move: see `turn_row`
 before_move r S used kind m = turn_row r S kind m
 
--- the flag of the side `S` has fallen: it loses, but draws against a bare king (Laws of Chess 2023, article 6.9, of
--- whose draws only this one is judged)
+-- the flag of the side `S` has fallen: it loses, but if the other side has only its king, the game is drawn. Article
+-- 6.9 of the Laws of Chess 2023 has further draws on time; they are not judged here
 abbrev pub flag_row : Rules → Colour → Match → Effect
 flag_row r S m = ends r (if r.has_bare_king m.played (other S) then ForfeitsToBareKing else Forfeits S) m
 

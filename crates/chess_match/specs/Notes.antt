@@ -15,7 +15,8 @@ pub data Note : Type 0 where
 abbrev pub Noted : Type 1
 Noted = List ℕ → List Note → Type 0
 
--- from its state `old` to `new` a witness was given the notes `more`, in order: whatever notes it may have been given
--- up to `old`, up to `new` it may have been given those and then `more`
+-- from its state `old` to `new` a witness was given the notes `more`, in order: if in the state `old` it may have held
+-- the text `before` at first and been given `notes` since, then in the state `new` it may have been given `notes` and
+-- then `more`
 pub record WasNoted (old new : Noted) (more : List Note) : Type 0 where
   pub extends : (before : List ℕ) (notes : List Note) → old before notes → new before (notes ++ more)

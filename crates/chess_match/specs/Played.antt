@@ -30,15 +30,15 @@ pub record World : Type 0 where
   -- the game that is played: its limit of half-moves and its state
   pub game : game.Seen
 
--- `i` is what came from the engine of the side `S` in the acts `H`. Its bytes may hold lines that were not read any
--- more, unless its output ended or a read failed (`all`). What follows the last `\n` is no line. Of `i.early` nothing
--- is said
+-- `i` is what came from the engine of the side `S` in the acts `H`. Its bytes, `i.text`, may hold more lines than the
+-- match read, but not if the output ended or a read failed (`all`). What follows the last `\n` is no line. Of `i.early`
+-- (the bytes that came before the last read) nothing is said
 pub record SaidBy (S : Colour) (H : List Act) (i : FromInput) : Type 0 where
   -- the lines that were read are the first lines of these bytes
   pub lines : (rest : List (Option (List ℕ))) × (engine_lines i.text ≡ lines_read S H ++ rest)
   pub ended : i.ended ≡ has_ended S H
   pub failed : i.failed ≡ has_failed_read S H
-  -- after an end or a failure: they are all lines of these bytes
+  -- after an end or a failure: the lines that were read are all lines of these bytes
   pub all : (i.ended || i.failed) ≡ true → engine_lines i.text ≡ lines_read S H
 
 -- `o` is what went to an engine's input, if it was sent the lines `sent`, and could not be sent the blocks in the
@@ -62,13 +62,14 @@ pub record Passed (r : Rules) (H : List Act) (final : Match) (w w' : World) : Ty
 -- `end` is what is reported of a match of these acts, which ended for this reason; `final` is its state at the end
 pub record ReportedAs (H : List Act) (final : Match) (reason : Reason) (end : MatchEnd) : Type 0 where
   pub ended : final.phase ≡ Over reason
-  -- the outcome, the comment and the value of the tag Termination are those of the reason
+  -- the outcome, the comment and the value of the tag Termination (`end.ended`) are those of the reason
   pub report : reported reason ≡ (end.outcome, end.comment, end.ended)
-  -- the name of each engine is its last `myname`, as a PGN tag keeps it: its first 60 bytes, with `?` in place of what
-  -- is no printable ASCII; empty if it gave none
+  -- the name of each engine is the value of its last `myname`, as a PGN tag keeps it: its first 60 bytes, with `?` in
+  -- place of what is no printable ASCII; empty if it gave none
   pub name : (S : Colour) → by_colour end.white_name end.black_name S
       ≡ cut_tag (last_value (codes "myname") (final.seat S).items)
-  -- the first fault, and whose it is; `None` if there was none
+  -- the first fault, and whose it is: the one that ended the match, or a failed write after its end; `None` if there
+  -- was none
   pub fault : end.fault ≡ first_fault reason (is_broken H)
 
 -- a match of the acts `H` was played from the world `w` to `w'`, from the start and with the time control of `setup`,
@@ -96,9 +97,9 @@ abbrev pub PlayedNoting : (List Note → Type 0) → Setup → MatchEnd → Worl
 PlayedNoting noted setup end w w' =
     (H : List Act) × (reason : Reason) × noted (notes_given reason H) × PlayedBy H reason setup end w w'
 
--- a match was played at a table as `setup` says, and reported as `end`. The steps that passed at the table, from its
--- state `old` to `new`, are the acts of a match, in order, each with its note. The game is `g` before and `g'` after,
--- with this start, the moves of the match, and the result as in `PlayedBy`
+-- a match was played at a table as `setup` says, and reported as `end`. From the state `old` of the table to `new`
+-- there passed just the acts of this match, in order, each with its note (`watched`). The game was `g` before. It is
+-- `g'` after: it has this start, the moves of the match, and the result as in `PlayedBy`
 abbrev pub PlayedAt : Setup → MatchEnd → Passing → Passing → game.Seen → game.Seen → Type 0
 PlayedAt setup end old new g g' =
     let r = rules_of setup.start setup.level g.limit in
