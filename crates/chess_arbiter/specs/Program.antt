@@ -48,14 +48,15 @@ pub record World : Type 0 where
   pub devices : Devices
   pub log : LogSeen
 
--- the server `respond`, which began in the state `s`, answered the lines of the input on the output, up to the input's
--- end, to a line that ends it, or to a read, write or flush that failed. `status` is 1 if one failed, else 0
+-- the server `respond`, which began in the state `s`, answered the lines of the input on the output. It stopped at the
+-- input's end, or after a line that ends the server, and `status` is 0; or a read, write or flush failed, and `status`
+-- is 1
 abbrev pub Serves : {S : Type 0} → Server S → S → Devices → Devices → ℕ → Type 0
 Serves {S} respond s d d' status =
     (result : Result End Fault) × (s' : S) × Ran (Served respond s s' result) d d' × (status ≡ status_of result)
 
--- a session of at most 20,000 half-moves (`MOST_MOVES`) ran on input and output, with this exit status; or memory ran
--- out for it, nothing was read or written, and the status is 1
+-- a session of at most 20,000 half-moves (`MOST_MOVES`) ran on input and output, with this exit status; or nothing was
+-- read or written, as when memory ran out, and the status is 1
 abbrev pub RunsSession : Devices → Devices → ℕ → Type 0
 RunsSession d d' status =
     Serves session_response (opened_session default_tags MOST_MOVES) d d' status ⊎ ((d' ≡ d) × (status ≡ 1))
@@ -133,14 +134,14 @@ outputs_of d = record { output = d.devices.output; log = d.log }
 abbrev pub Does : Result Plan WordsFault → World → World → ℕ → Type 0
 Does (Ok Session) d d' status = RunsSession d.devices d'.devices status
 Does (Ok (Verify plan)) d d' status = VerifiesInput plan d.devices d'.devices status
+-- a stub engine, which plays the arguments that it is given, ran on input and output
 Does (Ok (Stub arguments)) d d' status = Serves stub_response (waiting arguments.items) d.devices d'.devices status
 Does (Ok (Match plan)) d d' status =
     (d'.devices.input ≡ d.devices.input) × PlaysMatch plan (outputs_of d) (outputs_of d') status
 Does (Err fault) d d' status = (d'.devices.input ≡ d.devices.input)
     × ReportsArguments fault d.devices.output d'.devices.output status
 
--- the program ran with these arguments: some right reading of them (`IsReading`) is a plan, and the program did what it
--- asks for, or is a fault, and the program reported it (`Does`). `d` is its world before, `d'` after; `status` is its
--- exit status
+-- the program ran with these arguments: there is a right reading of them (`IsReading`), a plan or a fault, for which
+-- the program did what `Does` says. `d` is its world before, `d'` after; `status` is its exit status
 abbrev pub RanProgram : List Text → World → World → ℕ → Type 0
 RanProgram arguments d d' status = (read : Result Plan WordsFault) × IsReading arguments read × Does read d d' status

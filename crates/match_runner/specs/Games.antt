@@ -58,8 +58,9 @@ tags_of plan number end = record {
 
 -- a game that was played
 pub record GameRecord : Type 0 where
-  -- the engines' pipes, the coming readings of the clock, and the game with its moves: before it was played, and after
+  -- before it was played: the engines' pipes, the coming readings of the clock, and the game with its moves
   pub before : World
+  -- the same after it was played
   pub after : World
   -- how it ended
   pub end : MatchEnd
@@ -96,7 +97,7 @@ LogsGame (Some first) l l' notes = Logged l l' (log_text first notes)
 
 -- ---- the games
 
--- each of these games was played by the plan (`IsOfPlan`), and ended without a fault of an engine
+-- each of these games was played as the plan says (`IsOfPlan`), and no engine had a fault in it
 abbrev pub SoundGames : GamesPlan → List GameRecord → Type 0
 SoundGames plan games = AllByRecursion (λ played. IsOfPlan plan played × (played.end.fault ≡ None)) games
 
@@ -134,12 +135,12 @@ score_line s =
     codes "score first " ++ decimal s.first ++ codes " second " ++ decimal s.second
     ++ codes " drawn " ++ decimal s.drawn ++ codes " unfinished " ++ decimal s.unfinished ++ new_line ∷ []
 
--- these are all games of a match: after a game with an engine's fault no other is played. The last argument is that
--- fault with its game's number and the engine's side, or `None`
+-- these are all the games of a match: as many as planned, or those up to the first game in which an engine had a fault.
+-- The last argument is that fault (the game's number, the engine's side, the fault), or `None`
 abbrev pub EndsGames : GamesPlan → List GameRecord → Option (ℕ × Colour × MatchFault) → Type 0
 -- no engine had a fault: there are as many games as planned
 EndsGames plan games None = SoundGames plan games × (length games ≡ plan.games)
--- the last game has this number and this fault, and the games before it have none
+-- in the last game, which has this number, the engine of `side` had this fault; the games before it have no fault
 EndsGames plan games (Some (number, side, fault)) =
     (before : List GameRecord) × (last : GameRecord) × (games ≡ before ++ last ∷ []) × SoundGames plan before
     × IsOfPlan plan last × (last.end.fault ≡ Some (side, fault)) × (number ≡ length games) × (number ≤ plan.games)
@@ -161,7 +162,8 @@ WritesGames plan (Ok _) games None o = EndsGames plan games None × (o ≡ all_o
 WritesGames plan (Err (Game number text)) games None o = (side : Colour) × (fault : MatchFault)
     × EndsGames plan games (Some (number, side, fault)) × (text.now ≡ comment_of (Faulted side fault))
     × (o ≡ all_of (match_text plan games))
--- a write or flush failed in the PGN of the game after `games`: a beginning of it, maybe nothing or all, was written
+-- a write or flush failed in the PGN of the game after `games`: a beginning of it, maybe nothing or all, was written.
+-- An engine may have had a fault in that game
 WritesGames plan (Err WriteFailed) games (Some unwritten) o =
     SoundGames plan games × (length games < plan.games) × IsOfPlan plan unwritten
     × BreaksOffIn (game_texts plan games) (game_text plan (length games + 1) unwritten) o

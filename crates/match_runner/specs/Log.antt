@@ -1,4 +1,5 @@
--- What a log of a match holds: a line for each line that an engine sends or is sent, as XBoard's debug file has them.
+-- What a log of a match holds: a line for each line that an engine sends or is sent, as XBoard's debug file has them,
+-- and one for each end of an engine's output, each failure to read or write, and each line that is too long.
 use Rattle.std.specs.Prelude.{◌≡◌, ℕ, ◌==◌, Bool, true, false, if◌then◌else◌, List, [], ◌∷◌, ◌++◌, flat_map, map, codes, decimal, Some, None}
 use Rattle.std.specs.List.{onto_first}
 use Rattle.chess_base.specs.Letters.{byte, new_line}
@@ -15,11 +16,11 @@ use Rattle.match_runner.specs.declared.log.Log.{Log}
 
 -- a line of a log
 pub record Entry : Type 0 where
-  -- a time of the clock in milliseconds
+  -- a reading of the clock in milliseconds; `note_entries` says which
   pub moment : ℕ
-  -- `<` for a line that an engine sent, `>` for a line that it was sent, `!` for an end, a failure or a line too long
+  -- `<`: an engine sent the line; `>`: it was sent the line; `!`: its output ended, a failure, or a line too long
   pub mark : ℕ
-  -- whether its engine is that of `--white`
+  -- whether the engine is that of `--white`
   pub is_first : Bool
   pub text : List ℕ
 
@@ -31,8 +32,8 @@ engine_text is_first = if is_first then codes "first : " else codes "second: "
 abbrev pub head : ℕ → ℕ → Bool → List ℕ
 head moment mark is_first = decimal moment ++ ((32 ∷ mark ∷ []) ++ engine_text is_first)
 
--- a line as it is written, such as `312 <first : move e2e4` and `\n`, from its moment, its mark, whether its engine is
--- that of `--white`, and its text, with `?` for each byte that is no printable ASCII
+-- a line of the log as it is written, such as `312 <first : move e2e4`, with `\n` at its end. The arguments are the
+-- fields of an `Entry`. In the text, `?` stands for each byte that is no printable ASCII
 abbrev pub log_line : ℕ → ℕ → Bool → List ℕ → List ℕ
 log_line moment mark is_first text = head moment mark is_first ++ (map shown_byte text ++ new_line ∷ [])
 
@@ -47,8 +48,8 @@ abbrev pub lines_in : List ℕ → List (List ℕ)
 lines_in [] = []
 lines_in (b ∷ bs) = if b == new_line then [] ∷ lines_in bs else onto_first b (lines_in bs)
 
--- the log's lines for a note. `first` is the side of the engine of `--white`. `moment` is the moment of the last event
--- before the note that has one: a note without a moment of its own is logged with it
+-- the log's lines for a note. `first` is the side of the engine of `--white`. Only the events `Line` and `Opened` have
+-- a moment; `moment` is that of the last of these before the note, and any other note is logged with it
 abbrev pub note_entries : Colour → ℕ → Note → List Entry
 -- an engine sent this line
 note_entries first moment (Happened (Line c (Some text) now)) =
@@ -70,20 +71,20 @@ note_entries first moment (Gives c bytes) =
     map (λ text. record { moment = moment; mark = byte ">"; is_first = same_colour c first; text = text })
     (lines_in bytes)
 
--- the moment of the last event that has one, after a note; `moment` is this moment before the note
+-- the moment that the notes after this one are logged with: its own if it has one, else `moment`, as it was before
 abbrev pub moment_after : ℕ → Note → ℕ
 moment_after moment (Happened (Line c text now)) = now
 moment_after moment (Happened (Opened c now)) = now
 moment_after moment _ = moment
 
--- the log's lines for these notes, one note after another; for the first of them, `first` and `moment` are as in
--- `note_entries`
+-- the log's lines for these notes, one note after another. `first` is the side of the engine of `--white`, and `moment`
+-- is as in `note_entries` for the first note
 abbrev pub entries_from : Colour → ℕ → List Note → List Entry
 entries_from first moment [] = []
 entries_from first moment (n ∷ notes) = note_entries first moment n ++ entries_from first (moment_after moment n) notes
 
 -- the whole log of a game with these notes, in which the engine of `--white` has the side `first`. What is logged
--- before the first event has the moment 0
+-- before the first event that has a moment has the moment 0
 abbrev pub log_text : Colour → List Note → List ℕ
 log_text first notes = entries_text (entries_from first 0 notes)
 
@@ -95,7 +96,7 @@ pub record LogSeen : Type 0 where
   pub output : OutputState
   pub broken : Bool
 
--- the same of a log with this output, of which a call failed or not (`broken`)
+-- what contracts see of a log whose output is in the state `o`, and which is broken or not
 abbrev pub log_seen : OutputState → Bool → LogSeen
 log_seen o broken = record { output = o; broken = broken }
 

@@ -8,11 +8,11 @@ use Rattle.pgn_verifier.specs.declared.options.VerifyOptions.{VerifyOptions}
 use Rattle.pgn_verifier.specs.declared.tally.Verified.{Verified}
 use Rattle.pgn_verifier.specs.Reports.{Report, AreReports, report_lines, counts_of, verified}
 
--- what verifying a text reads (`i`) and writes (`o`), by its result. `options` say whether results are compared
--- (`strict`), whether only faults have a line (`quiet`), and whether faults are explained (`explain`). `PIECE_LEN` is
--- 16,777,216
+-- what verifying a text reads (`i`) and writes (`o`), by its result. `options` say whether a contradiction about
+-- a game's result is a fault (`strict`), whether only faults have a line (`quiet`), and whether faults are explained
+-- (`explain`). `PIECE_LEN` is 16,777,216
 abbrev pub Verifies : VerifyOptions → Result Verified VerifyFault → FromInput → ToOutput → Type 0
--- the whole input was read, of at most `PIECE_LEN` bytes; the lines of its games up to and with the first fault,
+-- the whole input was read, and has at most `PIECE_LEN` bytes; the lines of its games up to and with the first fault,
 -- numbered from 1, were written and flushed; `verdict` says whether there was a fault
 Verifies options (Ok verdict) i o = IsWhole i × (length i.text ≤ PIECE_LEN)
     × ((reports : List Report) × AreReports options.strict 0 i.text 0 reports
