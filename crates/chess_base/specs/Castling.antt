@@ -122,15 +122,11 @@ castle_from c w king rook = record {
   rook_to = home_square c (castled_rook_file w);
 }
 
--- the four squares of colour c's castling on the given side, by the rights r: the king starts on move m's start square,
--- the rook on the square of its right; none if no side is given or there is no right
-abbrev pub castle_by : Colour → Rights → Move → Option CastlingSide → Option Castle
-castle_by c r m side = option_and_then (λ w. option_map (castle_from c w m.from) (right_of r c w)) side
-
--- the four squares of the castling that move m is; none if it is not castling. Whether anything prevents it is not
--- asked here
+-- the four squares of the castling that move m is: the king starts on m's start square, the rook on the square of the
+-- right that this castling uses; none if m is not castling. Whether anything prevents it is not asked here
 unfoldable pub castle_of : Setup → Move → Option Castle
-castle_of p m = castle_by p.side p.rights m (castling p m)
+castle_of p m =
+    option_and_then (λ w. option_map (castle_from p.side w m.from) (right_of p.rights p.side w)) (castling p m)
 
 -- ---- when castling may be played (3.8.2.2)
 

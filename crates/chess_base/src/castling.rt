@@ -1,9 +1,9 @@
 //! Castling: with which rook, between which squares, and when.
 
 ghost use Rattle.std.specs.Prelude.{◌≡◌, ◌<◌, IfSome, Option};
-ghost use Rattle.chess_base.specs.Castling.{home_square, king_home_file, rook_file, castled_king_file, castled_rook_file, right_of, king_square, is_to_side, is_beside, are_placed_for_castling, right_is_sound, is_castling_to, castling, castle_from, castle_by, castle_of, mover_end, castling_rook_to, is_on_way, castling_crosses, castling_way_is_empty, castling_way_is_safe, castles};
+ghost use Rattle.chess_base.specs.Castling.{home_square, king_home_file, rook_file, castled_king_file, castled_rook_file, right_of, king_square, is_to_side, is_beside, are_placed_for_castling, right_is_sound, is_castling_to, castling, castle_from, castle_of, mover_end, castling_rook_to, is_on_way, castling_crosses, castling_way_is_empty, castling_way_is_safe, castles};
 ghost use Rattle.chess_base.specs.shared.Splits.{names_castling, rook_from, rook_to};
-ghost use Rattle.chess_base.specs.Before.{mover_to};
+ghost use Rattle.chess_base.specs.Before.{mover_to, castle_by};
 
 use crate::attack::{is_attacked, is_between, is_man};
 use crate::legality::first_rank;

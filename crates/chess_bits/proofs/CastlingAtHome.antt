@@ -10,7 +10,8 @@ use Rattle.chess_base.specs.declared.man.Kind.{Kind}
 use Rattle.chess_base.specs.declared.man.Kind.TheVariants.{King, Rook}
 use Rattle.chess_base.specs.declared.man.Variant.TheVariants.{Normal}
 use Rattle.chess_base.specs.declared.setup.Setup.{Setup}
-use Rattle.chess_base.specs.Castling.{home_square, king_home_file, rook_file, castled_king_file, castled_rook_file, right_of, are_placed_for_castling, right_is_sound, is_castling_to, castling, castle_from, castle_by, castle_of}
+use Rattle.chess_base.specs.Castling.{home_square, king_home_file, rook_file, castled_king_file, castled_rook_file, right_of, are_placed_for_castling, right_is_sound, is_castling_to, castling, castle_from, castle_of}
+use Rattle.chess_base.specs.Before.{castle_by}
 use Rattle.chess_base.specs.shared.Splits.{names_castling, castle_with}
 use Rattle.chess_base.specs.Men.{man_at, is_man}
 use Rattle.chess_base.specs.MoveList.{move_of}

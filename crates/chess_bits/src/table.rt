@@ -6,6 +6,7 @@ ghost use Rattle.chess_moves.specs.Sets.{contains};
 ghost use Rattle.chess_bits.specs.ties.Shapes.{in_shape};
 
 use crate::ray::is_on_ray;
+use crate::squares::filter;
 use chess_base::rules::Line;
 use chess_base::{Colour, Square};
 use chess_moves::SquareSet;
@@ -47,19 +48,11 @@ fn in_shape(shape: Shape, a: Square, b: Square) -> bool
 }
 
 // The squares that belong to the shape from square a: for `Knight`, the ones that a knight on a attacks. This computes
-// one entry of a table. It tries the numbers 0 to 63, since `filter` would need a set of all squares, which `SquareSet`
-// doesn't offer. The two loops of this form in chess_moves are private there.
+// one entry of a table.
 fn squares_of(shape: Shape, a: Square) -> SquareSet
     ensures { (k : ℕ) → k < 64 → contains result k ≡ in_shape shape a k }
 {
-    let mut set = SquareSet::empty();
-    for number in 0..64 {
-        let b = Square::new(number);
-        if in_shape(shape, a, b) {
-            set = set.union(SquareSet::single(b));
-        }
-    }
-    set
+    filter(SquareSet::full(), |b| in_shape(shape, a, b))
 }
 
 /// A table of one shape: for each square, the set of squares that belong to the shape from there. In contracts its

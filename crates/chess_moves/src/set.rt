@@ -45,6 +45,14 @@ impl SquareSet {
         SquareSet { word: 0 }
     }
 
+    /// The set of all 64 squares.
+    #[tactic(auto, using(crate::proofs::SetBits::has_all))]
+    pub const fn full() -> Self
+        ensures { (k : ℕ) → k < 64 → contains result k ≡ true }
+    {
+        SquareSet { word: u64::MAX }
+    }
+
     /// The set that has this square alone.
     #[tactic(auto, using(crate::proofs::SetBits::has_single))]
     pub fn single(square: Square) -> Self

@@ -9,9 +9,9 @@ use Rattle.chess_base.specs.declared.man.CastlingSide.TheVariants.{KingSide, Que
 use Rattle.chess_base.specs.declared.man.Move.{Move}
 use Rattle.chess_base.specs.Men.{man_at, is_man, Men}
 use Rattle.chess_base.specs.declared.setup.Setup.{Setup}
-use Rattle.chess_base.specs.Castling.{home_square, right_of, castling, is_castling_to, castled_king_file, castle_from, castle_by, castle_of, mover_end, are_placed_for_castling, right_is_sound}
+use Rattle.chess_base.specs.Castling.{home_square, right_of, castling, is_castling_to, castled_king_file, castle_from, castle_of, mover_end, are_placed_for_castling, right_is_sound}
 use Rattle.chess_base.specs.shared.Splits.{names_castling, castle_with, right_is_sound_at}
-use Rattle.chess_base.specs.Before.{mover_to}
+use Rattle.chess_base.specs.Before.{mover_to, castle_by}
 use Rattle.chess_base.specs.declared.man.Colour.TheVariants.{White, Black}
 use Rattle.chess_base.specs.declared.man.Variant.TheVariants.{Normal, Fischerandom}
 use Rattle.chess_base.specs.Sound.{IsSound}

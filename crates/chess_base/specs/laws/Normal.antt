@@ -15,7 +15,8 @@ use Rattle.chess_base.specs.declared.setup.Setup.{Setup}
 use Rattle.chess_base.specs.Squares.{from_below}
 use Rattle.chess_base.specs.Men.{Men, man_at, is_man, same_colour, same_kind, other}
 use Rattle.chess_base.specs.Attacks.{is_in_check}
-use Rattle.chess_base.specs.Castling.{right_of, rook_file, king_home_file, home_square, right_is_sound, castled_king_file, castle_by, castles}
+use Rattle.chess_base.specs.Castling.{right_of, rook_file, king_home_file, home_square, right_is_sound, castled_king_file, castles}
+use Rattle.chess_base.specs.Before.{castle_by}
 use Rattle.chess_base.specs.Moves.{pawn_moves, man_moves, after_castling, after_moving, rights_after, target_after, halfmove_after, fullmove_after, is_legal, after}
 
 -- a castling right of colour c on side w, given as its rook's square, has its king and rook on their initial squares;
