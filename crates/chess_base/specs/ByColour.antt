@@ -3,7 +3,7 @@ use Rattle.chess_base.specs.declared.by_colour.ByColour.{ByColour}
 use Rattle.chess_base.specs.declared.man.Colour.{Colour}
 use Rattle.chess_base.specs.declared.man.Colour.TheVariants.{White, Black}
 
--- of two values, White's and Black's, the one of the colour that the last argument names
+-- the value of the given colour: the first argument is White's value, the second Black's
 abbrev pub by_colour : {A : Type 0} → A → A → Colour → A
 by_colour white black White = white
 by_colour white black Black = black

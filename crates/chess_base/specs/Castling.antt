@@ -28,83 +28,86 @@ home_square c f = 8 * first_rank c + f
 abbrev pub king_home_file : ℕ
 king_home_file = 4
 
--- normal chess: the files on which the rooks begin, the h-file and the a-file (2.3)
+-- normal chess: the file on which the rook for castling on this side begins, h (7) or a (0) (2.3)
 abbrev pub rook_file : CastlingSide → ℕ
 rook_file KingSide = 7
 rook_file QueenSide = 0
 
--- the file to which castling on this side takes the king: g (6) or c (2) (3.8.2)
+-- the file to which castling on this side takes the king, in both variants: g (6) or c (2) (3.8.2)
 abbrev pub castled_king_file : CastlingSide → ℕ
 castled_king_file KingSide = 6
 castled_king_file QueenSide = 2
 
--- the file to which castling on this side takes the rook: f (5) or d (3) (3.8.2)
+-- the file to which castling on this side takes the rook, in both variants: f (5) or d (3) (3.8.2)
 abbrev pub castled_rook_file : CastlingSide → ℕ
 castled_rook_file KingSide = 5
 castled_rook_file QueenSide = 3
 
 -- ---- rights (3.8.2.1)
 
--- colour c's castling right on that side, as the rights r have it: the square of the rook with which it may castle
--- there, or none
+-- in the rights r, colour c's castling right on the given side: the square of the rook with which c may castle there;
+-- none if c has no right on that side
 abbrev pub right_of : Rights → Colour → CastlingSide → Option ℕ
 right_of r White KingSide = r.white.king_side
 right_of r White QueenSide = r.white.queen_side
 right_of r Black KingSide = r.black.king_side
 right_of r Black QueenSide = r.black.queen_side
 
--- the castling rights of both colours and sides, each as f gives it: the square of the rook, or none
+-- the four castling rights, where colour c's right on side w is `f c w`: the square of the rook, or none
 abbrev pub rights_by : (Colour → CastlingSide → Option ℕ) → Rights
 rights_by f = record {
   white = record { king_side = f White KingSide; queen_side = f White QueenSide };
   black = record { king_side = f Black KingSide; queen_side = f Black QueenSide };
 }
 
--- the square of colour c's king; the first from a1 on if it has several, none if it has no king
+-- the square of colour c's king: the first in the order a1, b1 to h8 if c has several, none if c has no king
 unfoldable pub king_square : Men → Colour → Option ℕ
 king_square men c = position (λ o. is_man c King o) men
 
--- for squares of one rank: square s lies on that side of the king's square, towards file h (king side) or towards file
--- a (queen side)
+-- of two squares of one rank, s lies on the given side of `king`, the king's square: towards file h (king side) or
+-- towards file a (queen side). For squares of different ranks the result means nothing
 abbrev pub is_to_side : CastlingSide → ℕ → ℕ → Bool
 is_to_side KingSide king s = nat_lt king s
 is_to_side QueenSide king s = nat_lt s king
 
--- the king's square and square s are on colour c's first rank, and s lies on side w of the king; false if there is no
--- king
+-- the king's square and square s are on colour c's first rank, and s lies on side w of the king, at any distance; false
+-- if there is no king
 abbrev pub is_beside : Colour → CastlingSide → Option ℕ → ℕ → Bool
 is_beside c w None s = false
 is_beside c w (Some king) s = (rank king == first_rank c) && (rank s == first_rank c) && is_to_side w king s
 
--- colour c's king, and a rook of c on square s, are where castling on side w begins: in normal chess both on their
--- initial squares, in Chess960 both on the first rank, the rook on that side of the king
+-- colour c's king, and a rook of c on square s, are where castling on side w begins. Normal chess: both on their
+-- initial squares, as e1 and h1. Chess960: both on c's first rank, the rook on side w of the king, at any distance
 abbrev pub are_placed_for_castling : Variant → Men → Colour → CastlingSide → ℕ → Bool
 are_placed_for_castling Normal men c w s =
     (s == home_square c (rook_file w)) && is_man c King (man_at men (home_square c king_home_file))
     && is_man c Rook (man_at men s)
 are_placed_for_castling Fischerandom men c w s = is_beside c w (king_square men c) s && is_man c Rook (man_at men s)
 
--- colour c's castling right on side w, if it is there, has its king and its rook where castling begins
+-- colour c has no castling right on side w; or c's king, and a rook of c on the square of that right, are where
+-- castling on side w begins
 unfoldable pub right_is_sound : Setup → Colour → CastlingSide → Bool
 right_is_sound p c w = option_map_or (are_placed_for_castling p.variant p.men c w) (right_of p.rights c w) true
 
 -- ---- which moves are castling
 
--- the squares of move m are those of colour c's castling on side w with the rook on square `rook`. In normal chess they
--- are the king's start and end square (e1g1), wherever the rook is. In Chess960 m ends on the rook's square and starts
--- on its rank (e1h1); that a king starts there is not asked here
+-- move m has the squares that name colour c's castling on side w with the rook on square `rook`. Normal chess: from the
+-- king's initial square to its square after castling (e1g1); `rook` plays no part. Chess960: from any square of the
+-- rook's rank to the rook's square (e1h1); c and w play no part. That c's king is on m's start square is not asked here
 abbrev pub names_castling_with : Variant → Colour → Move → CastlingSide → ℕ → Bool
 names_castling_with Normal c m w rook = (m.from == home_square c king_home_file)
     && (m.to == home_square c (castled_king_file w))
 names_castling_with Fischerandom c m w rook = (rank m.from == rank rook) && (m.to == rook)
 
--- move m is castling to side w: the side on move has that right, its king makes the move, and the squares are those of
--- castling with the right's rook. Whether anything prevents it is not asked here
+-- move m is written as castling to side w: a king of the colour on move is on m's start square, that colour has the
+-- right to castle to w, and m's squares are those that name this castling in the variant (`names_castling_with`): e1g1,
+-- or in Chess960 e1h1. Neither m's promotion nor whether m is legal is asked here
 unfoldable pub is_castling_to : Setup → Move → CastlingSide → Bool
 is_castling_to p m w = is_man p.side King (man_at p.men m.from)
     && option_map_or (names_castling_with p.variant p.side m w) (right_of p.rights p.side w) false
 
--- the side to which move m castles; none if it is not castling
+-- the side to which move m is written as castling, legal or not; none if m is not castling. If both rights have one
+-- rook (in Chess960, and in no sound position), it is king side
 unfoldable pub castling : Setup → Move → Option CastlingSide
 castling p m =
     if is_castling_to p m KingSide then Some KingSide
@@ -122,8 +125,8 @@ castle_from c w king rook = record {
   rook_to = home_square c (castled_rook_file w);
 }
 
--- the four squares of the castling that move m is: the king starts on m's start square, the rook on the square of the
--- right that this castling uses; none if m is not castling. Whether anything prevents it is not asked here
+-- the four squares of castling, if move m is written as castling, legal or not: the king starts on m's start square, the
+-- rook on the square of the right that is used; none if m is not castling
 unfoldable pub castle_of : Setup → Move → Option Castle
 castle_of p m =
     option_and_then (λ w. option_map (castle_from p.side w m.from) (right_of p.rights p.side w)) (castling p m)
@@ -134,23 +137,27 @@ castle_of p m =
 abbrev pub is_on_way : ℕ → ℕ → ℕ → Bool
 is_on_way a b x = (x == a) || (x == b) || is_between a b x
 
--- by castling k, king or rook crosses square x or ends there, and neither of the two starts there: so x has to be empty
+-- for castling k, square x has to be empty: the king or the rook crosses it or ends on it, and neither of the two
+-- starts on it
 unfoldable pub castling_crosses : Castle → ℕ → Bool
 castling_crosses k x =
     (is_on_way k.king_from k.king_to x || is_on_way k.rook_from k.rook_to x) && not (x == k.king_from)
     && not (x == k.rook_from)
 
--- each square that king or rook crosses or ends on, but for the two where they start, is empty (3.8.2.2.2)
+-- for castling k, each square that king or rook crosses or ends on, other than the two where they start, is empty
+-- (3.8.2.2.2)
 unfoldable pub castling_way_is_empty : Men → Castle → Bool
 castling_way_is_empty men k = each_square (λ x. not (castling_crosses k x) || is_none (man_at men x))
 
--- no square that the king of colour c starts on, crosses or ends on is attacked (3.8.2.2.1)
+-- for castling k of colour c, no square that the king starts on, crosses or ends on is attacked by the other colour;
+-- `men` are the pieces before castling (3.8.2.2.1)
 unfoldable pub castling_way_is_safe : Men → Colour → Castle → Bool
 castling_way_is_safe men c k = each_square
     (λ x. not (is_on_way k.king_from k.king_to x) || not (is_attacked men x (other c)))
 
--- nothing prevents castling k, which move m is: no piece but this king and rook is on the squares that they cross or
--- end on, no square that the king starts on, crosses or ends on is attacked, and m names no promotion
+-- castling k, which move m is, is pseudo-legal: m names no promotion, no piece but this king and rook is on the squares
+-- that they cross or end on, and no square that the king starts on, crosses or ends on is attacked. Whether the king is
+-- in check after castling is not asked: in Chess960 its rook may uncover an attack
 unfoldable pub castles : Setup → Move → Castle → Bool
 castles p m k = is_none m.promotion && castling_way_is_empty p.men k && castling_way_is_safe p.men p.side k
 
