@@ -125,8 +125,8 @@ castle_from c w king rook = record {
   rook_to = home_square c (castled_rook_file w);
 }
 
--- the four squares of castling, if move m is written as castling, legal or not: the king starts on m's start square, the
--- rook on the square of the right that is used; none if m is not castling
+-- the four squares of castling, if move m is written as castling, legal or not: the king starts on m's start square,
+-- the rook on the square of the right that is used; none if m is not castling
 unfoldable pub castle_of : Setup → Move → Option Castle
 castle_of p m =
     option_and_then (λ w. option_map (castle_from p.side w m.from) (right_of p.rights p.side w)) (castling p m)
