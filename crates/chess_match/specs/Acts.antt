@@ -9,24 +9,26 @@ use Rattle.chess_match.specs.Rules.{Rules}
 use Rattle.chess_match.specs.Lines.{SentLine}
 use Rattle.chess_match.specs.Effects.{Match, Phase, Handshake, Setup, Opening, BeforeMove, AfterMove, Over, Effect, effect, beginning}
 
--- a block: all lines that one side is sent at one event, or at the beginning of the match
+-- a block: all lines that the engine of the side `to` is sent as the effect of one event, or at the beginning of the
+-- match
 pub record Block : Type 0 where
   pub to : Colour
   pub lines : List SentLine
 
--- one act of the arbiter at its devices, which are both engines and the clock
+-- one act of the arbiter: at an engine's input or output, or at the clock
 pub data Act : Type 0 where
   -- a block was written and flushed
   Sends : (block : Block) → Act
-  -- a write or a flush failed while this block was sent; a beginning of it may have been written
+  -- a write or a flush failed while this block was sent; a beginning of it, or all of it, may have been written
   SendFails : (block : Block) → Act
   -- a line of that side's engine was read (`None`: it was too long)
   Reads : (side : Colour) → (text : Option (List ℕ)) → Act
-  -- that side's engine ended its output
+  -- the end of the output of that side's engine was read; what follows its last `\n` is no line
   ReadsEnd : (side : Colour) → Act
   -- a read from that side's engine failed
   ReadFails : (side : Colour) → Act
-  -- the clock was read, after a line or an opening of that side, and showed this moment
+  -- the clock was read and showed `moment`, in milliseconds: right after a line of that side was read, or after the
+  -- lines that open its turn were sent
   ReadsClock : (side : Colour) → (moment : ℕ) → Act
 
 -- ---- what is due
@@ -36,15 +38,15 @@ abbrev pub block_of : Colour → List SentLine → List Block
 block_of S [] = []
 block_of S (l ∷ ls) = record { to = S; lines = l ∷ ls } ∷ []
 
--- the blocks of the lines that each side is to be sent (`lines`): the block for the side `first`, then the other's. A
--- side that is sent no lines has no block
+-- the blocks by which each side `S` is sent the lines `lines S`: first the one for the side `first`, then the other
+-- side's. There is no block for a side without lines
 abbrev pub blocks_from : Colour → (Colour → List SentLine) → List Block
 blocks_from first lines = block_of first (lines first) ++ block_of (other first) (lines (other first))
 
 -- ---- what may come next
 
--- whether a line of the side `S` is awaited. What the other side sends meanwhile is not read yet. While a turn is
--- opened (`Opening`) and after the end (`Over`), no line is awaited
+-- whether a line of the side `S` is awaited in this phase: always of the side that the phase names, but of neither side
+-- while a turn is opened (`Opening`) and after the end (`Over`). What the other side sends meanwhile is not read yet
 abbrev pub awaits_line : Phase → Colour → Bool
 awaits_line (Handshake side) S = same_colour side S
 awaits_line (Setup side) S = same_colour side S
@@ -57,48 +59,56 @@ abbrev pub is_over : Phase → Bool
 is_over (Over reason) = true
 is_over _ = false
 
--- the blocks that are due after a line of the side `S` had the effect `done`: the one for `S`, then the other side's;
--- but if the match is then over, White's comes first
+-- the blocks that are due after a line of the side `S` had the effect `done`: first the one for `S`, then the other
+-- side's; but if the match is over after the line, first White's, then Black's
 abbrev pub blocks_after : Colour → Effect → List Block
 blocks_after S done = blocks_from (if is_over done.after.phase then White else S) done.to
 
--- what follows when a block for the side `S` could not be sent in the match `m`; `due` are the blocks that were to come
--- after it. The result is the match then, and the blocks that are due then. If `m` was over before, it stays as it is,
--- and `due` is still sent. Else it ends by this failure, and nothing of `due` is sent: what is due then is only the
--- block that tells the other side of the end
+-- what follows when a block for the side `S` could not be sent: the state of the match then, and the blocks that are
+-- then due. Before the failure the state was `m`, and `due` were the blocks after the one that failed. If the match was
+-- already over, its state stays, and `due` is still sent. Otherwise the failure ends the match: nothing of `due` is
+-- sent, and the only block due is the one that reports the end to the other side (its `farewell`)
 abbrev pub after_failed_send : Rules → Match → List Block → Colour → Match × List Block
 after_failed_send r m due S =
     let done = effect r m (FailsToWrite S) in
     if is_over m.phase then (m, due) else (done.after, blocks_from White done.to)
 
--- these acts are the rest of a match by the rules `r`: before them its state is `m`, and the blocks `due` are still to
--- be sent; at the end its state is `final`. First all that is due is sent, block by block. Only then is anything read
+-- these acts, in order, are the rest of a match by the rules `r`: before them its state is `m`, and the blocks `due`
+-- are still to be sent; after them it is over, in the state `final`. Each of the first six equations is about the first
+-- act, or the first two: it says when they may come, and from which state and with which blocks due the acts `H` after
+-- them are then the rest of the match. While a block is due, nothing is read
 abbrev pub IsMatchFrom : Rules → Match → List Block → List Act → Match → Type 0
--- the first block due is sent
+-- a block is due: the first one due is sent. The state stays, and the other blocks are still due
 IsMatchFrom r m (block ∷ due) (Sends sent ∷ H) final = (block ≡ sent) × IsMatchFrom r m due H final
--- sending it fails; `after_failed_send` says what then follows
+-- a block is due, and sending the first one due fails: `after_failed_send` gives the new state (`next.0`) and the
+-- blocks that are then due (`next.1`)
 IsMatchFrom r m (block ∷ due) (SendFails sent ∷ H) final =
     let next = after_failed_send r m due sent.to in (block ≡ sent) × IsMatchFrom r next.0 next.1 H final
--- an awaited line is read, and then the clock: both acts name the same side
+-- no block is due, and a line of the side `S` is awaited: it is read, and right after it the clock, as an act of the
+-- same side. Both acts are one event, `Line`; its effect gives the new state and the blocks that are then due
 IsMatchFrom r m [] (Reads S text ∷ ReadsClock side moment ∷ H) final =
     let done = effect r m (Line S text moment) in
     (side ≡ S) × (awaits_line m.phase S ≡ true) × IsMatchFrom r done.after (blocks_after S done) H final
--- the lines that open a turn of `S` were sent: the clock is read
+-- no block is due, and the lines that open the turn of `S` were sent: the clock is read, which is the event `Opened`.
+-- It begins the turn, and no block is due after it
 IsMatchFrom r m [] (ReadsClock S moment ∷ H) final =
     (m.phase ≡ Opening S) × IsMatchFrom r (effect r m (Opened S moment)).after [] H final
--- in place of an awaited line the output ends, and so does the match
+-- no block is due, and a line of the side `S` is awaited: in its place comes the end of the output. This ends the
+-- match, and the blocks that report the end are due, White's before Black's
 IsMatchFrom r m [] (ReadsEnd S ∷ H) final =
     let done = effect r m (OutputEnds S) in
     (awaits_line m.phase S ≡ true) × IsMatchFrom r done.after (blocks_from White done.to) H final
--- in place of an awaited line the read fails, which ends the match
+-- no block is due, and a line of the side `S` is awaited: reading it fails. This ends the match, and the blocks that
+-- report the end are due, White's before Black's
 IsMatchFrom r m [] (ReadFails S ∷ H) final =
     let done = effect r m (FailsToRead S) in
     (awaits_line m.phase S ≡ true) × IsMatchFrom r done.after (blocks_from White done.to) H final
--- no act is left: nothing is due, and the match is over
+-- no act is left: no block is due, the match is over, and `final` is its state
 IsMatchFrom r m [] [] final = (is_over m.phase ≡ true) × (final ≡ m)
--- no other list of acts is the rest of a match
+-- any other list of acts is not the rest of a match
 IsMatchFrom r m due H final = ⊥
 
--- these acts are a whole match by the rules `r`, from its beginning on; `final` is its state at the end
+-- these acts, in order, are a whole match by the rules `r`, from the state and the blocks due at its beginning
+-- (`beginning`); `final` is its state at the end
 abbrev pub IsMatch : Rules → List Act → Match → Type 0
 IsMatch r H final = IsMatchFrom r beginning.after (blocks_from White beginning.to) H final

@@ -19,7 +19,7 @@ lines_read S [] = []
 lines_read S (Reads side text ∷ H) = list_if (same_colour side S) (text ∷ []) ++ lines_read S H
 lines_read S (_ ∷ H) = lines_read S H
 
--- whether the engine of the side `S` ended its output
+-- whether the output of the engine of the side `S` was read up to its end
 abbrev pub has_ended : Colour → List Act → Bool
 has_ended S [] = false
 has_ended S (ReadsEnd side ∷ H) = same_colour side S || has_ended S H
@@ -31,7 +31,7 @@ has_failed_read S [] = false
 has_failed_read S (ReadFails side ∷ H) = same_colour side S || has_failed_read S H
 has_failed_read S (_ ∷ H) = has_failed_read S H
 
--- the moments that the clock showed, in order
+-- the moments that the clock showed, in milliseconds and in order, whichever side it was read for
 abbrev pub moments_shown : List Act → List ℕ
 moments_shown [] = []
 moments_shown (ReadsClock side moment ∷ H) = moment ∷ moments_shown H
@@ -58,14 +58,13 @@ is_broken H S = nat_lt 0 (length (broken_blocks S H))
 
 -- ---- what was noted
 
--- what a witness is given of these acts, in order, if the match ended for this reason: a note of each event, and one of
--- the bytes of each block
+-- the notes that a witness, such as the log, is given of these acts, in order, if they are a match that ended for this
+-- reason: the bytes of each block, and each event, except a failed write after the end
 abbrev pub notes_given : Reason → List Act → List Note
 notes_given reason [] = []
--- a block that was sent
+-- a block that was sent: its bytes
 notes_given reason (Sends block ∷ H) = Gives block.to (bytes_of block.lines) ∷ notes_given reason H
--- a block that could not be sent: all its bytes; then the failure, if the match ended by it. A failure after the end is
--- not noted
+-- a block that could not be sent: all its bytes; then the failure, but only if the match ended by it (`is_unwritten`)
 notes_given reason (SendFails block ∷ H) =
     Gives block.to (bytes_of block.lines)
     ∷ (list_if (is_unwritten reason block.to) (Happened (FailsToWrite block.to) ∷ []) ++ notes_given reason H)

@@ -3,11 +3,12 @@ use Rattle.std.specs.Prelude.{ℕ, Bool, List, Option}
 use Rattle.chess_base.specs.declared.man.Colour.{Colour}
 use Rattle.cecp_engine.specs.Items.{Item}
 
--- what happens in a match, which is one game between two engines. `moment` is what the clock showed, in milliseconds
+-- an event of a match, which is one game between two engines. `moment` is what the clock, read right after the event,
+-- showed: milliseconds, counted from any beginning
 pub data Event : Type 0 where
-  -- that side's engine sent a line (`None`: it was too long); the clock was read after it
+  -- a line of that side's engine was read: this text, or `None` if the line was too long
   Line : (side : Colour) → (text : Option (List ℕ)) → (moment : ℕ) → Event
-  -- the lines that open that side's turn were sent; the clock was read after them
+  -- all lines that open that side's turn were sent; the time of the turn runs from `moment` on
   Opened : (side : Colour) → (moment : ℕ) → Event
   -- that side's engine ended its output
   OutputEnds : (side : Colour) → Event
@@ -18,9 +19,9 @@ pub data Event : Type 0 where
 
 -- what is known of the engine of one side
 pub record Seat : Type 0 where
-  -- the items that were read in its handshake
+  -- the items of the `feature` lines that were read in its handshake, such as `ping=1`, in order
   pub items : List Item
-  -- the milliseconds that each of its moves used
+  -- the milliseconds that each of its moves took, in order
   pub used : List ℕ
   -- whether its offer of a draw is open: made, and not lapsed by a move of the other side
   pub offers : Bool

@@ -12,15 +12,15 @@ use Rattle.chess_base.specs.declared.man.Variant.{Variant}
 pub data SentLine : Type 0 where
   -- this text as it is
   Says : (text : List ℕ) → SentLine
-  -- a move; `prefixed`: with `usermove` before it
+  -- a move, given as its text, such as `e2e4` or, in SAN, `Nf3`; `prefixed`: with `usermove ` before it
   MoveSent : (prefixed : Bool) → (text : List ℕ) → SentLine
   -- `time N`: the centiseconds that the engine which gets the line has left
   Time : (centiseconds : ℕ) → SentLine
   -- `otim N`: the centiseconds that its opponent has left
   Otim : (centiseconds : ℕ) → SentLine
 
--- the answer to an item of a `feature` line with this name: `accepted ping`, or `rejected` and the name if it is not
--- known. The item's value doesn't matter
+-- the answer to an item of this name in a `feature` line, whatever the item's value: `accepted` and the name, such as
+-- `accepted ping`, for the names that the arbiter knows (`is_known`); `rejected` and the name for any other
 abbrev pub answer_text : List ℕ → List ℕ
 answer_text name = (if is_known name then codes "accepted " else codes "rejected ") ++ name
 
@@ -40,7 +40,8 @@ bytes_of (l ∷ ls) = text_of l ++ new_line ∷ bytes_of ls
 abbrev pub answers_to : List Item → List SentLine
 answers_to items = map (λ i. Says (answer_text i.name)) items
 
--- the line `setboard FEN` with this FEN of the start, as a list of one; empty for `None`, where none is sent
+-- the line `setboard FEN` with this FEN of the start position, as a list of one; empty for `None`: the start position
+-- is then the one that `new` sets up
 abbrev pub start_lines : Option (List ℕ) → List SentLine
 start_lines start = option_map_or (λ fen. Says (codes "setboard " ++ fen) ∷ []) start []
 
@@ -52,8 +53,9 @@ variant_command v = list_if (is_fischerandom v) (Says (codes "variant fischerand
 abbrev pub ping : ℕ → SentLine
 ping n = Says (codes "ping " ++ decimal n)
 
--- the lines that set an engine up for the game: `new`, `variant fischerandom` if it is Chess960, `level 40 5 0`,
--- `nopost`, `easy`, `force`, `setboard FEN` unless the start is the one that `new` sets up, `ping 1`
+-- the lines that set an engine up for a game by the rules `r`, in this order: `new`, `variant fischerandom` if the game
+-- is of Chess960, `level` with the time control, as in `level 40 5 0`, `nopost`, `easy`, `force`, `setboard FEN` except
+-- for the initial position of normal chess, `ping 1`
 unfoldable pub setup_lines : Rules → List SentLine
 setup_lines r =
     Says (codes "new") ∷ (variant_command r.variant ++ (Says (codes "level " ++ level_text r.level)

@@ -3,11 +3,11 @@ use Rattle.std.specs.Prelude.{ℕ, List, ◌++◌}
 use Rattle.chess_base.specs.declared.man.Colour.{Colour}
 use Rattle.chess_match.specs.Events.{Event}
 
--- what a witness (such as the log) is given: an event, or a block for an engine
+-- one note that a witness of a match, such as the log, is given
 pub data Note : Type 0 where
-  -- an event
+  -- this event happened
   Happened : (event : Event) → Note
-  -- the bytes of a block for that side's engine, whole, even if sending it then fails
+  -- the arbiter sends that side's engine these bytes: those of a whole block (`Block`), even if sending it then fails
   Gives : (side : Colour) → (text : List ℕ) → Note
 
 -- what contracts see of a witness, such as the log: a relation between a text that it held at first and the notes that

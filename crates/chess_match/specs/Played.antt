@@ -20,62 +20,68 @@ use Rattle.chess_match.specs.declared.reason.Reason.{Reason}
 use Rattle.chess_match.specs.declared.run.MatchEnd.{MatchEnd}
 use Rattle.chess_match.specs.declared.run.Setup.{Setup}
 
--- all that a match reads, writes and changes, as contracts see it
+-- the devices and the game of a match, as contracts see them at one time; a witness, such as the log, is not among them
 pub record World : Type 0 where
   -- each engine's devices, named as the arbiter sees them: `input` is the engine's output, which is read, and `output`
   -- is its input, which is written
   pub engines : Colour → Devices
-  -- the moment that each reading of the clock will give, where 0 is the next reading; `None` if it is not known
+  -- the moment, in milliseconds, that each reading of the clock will give, where 0 is the next reading; `None` if it is
+  -- not known
   pub coming : ℕ → Option ℕ
-  -- the game that is played: its limit of half-moves and its state
+  -- the game in which the match is played: how many half-moves it may have, and its state, which the match replaces
   pub game : game.Seen
 
--- `i` is what came from the engine of the side `S` in the acts `H`. Its bytes, `i.text`, may hold more lines than the
--- match read, but not if the output ended or a read failed (`all`). What follows the last `\n` is no line. Of `i.early`
--- (the bytes that came before the last read) nothing is said
+-- `i` is what came from the engine of the side `S` in the acts `H`. Its bytes, `i.text`, may contain more lines than
+-- were read in these acts, but not if the end of the output was read or a read failed (`all`). What follows the last
+-- `\n` is no line. Nothing is said of `i.early`
 pub record SaidBy (S : Colour) (H : List Act) (i : FromInput) : Type 0 where
-  -- the lines that were read are the first lines of these bytes
+  -- the lines that were read are the first lines of these bytes; `rest` are the others
   pub lines : (rest : List (Option (List ℕ))) × (engine_lines i.text ≡ lines_read S H ++ rest)
+  -- whether the end of the output was read, and whether a read failed, is as in the acts
   pub ended : i.ended ≡ has_ended S H
   pub failed : i.failed ≡ has_failed_read S H
   -- after an end or a failure: the lines that were read are all lines of these bytes
   pub all : (i.ended || i.failed) ≡ true → engine_lines i.text ≡ lines_read S H
 
--- `o` is what went to an engine's input, if it was sent the lines `sent`, and could not be sent the blocks in the
--- second list (`broken_blocks`, each as its lines; in a match there is at most one, so `more` is empty there)
+-- `o` is what went to an engine's input, if the lines in the first list were sent to it, and then the blocks in the
+-- second list, each as its lines, could not be sent. In a match the second list has at most one block
+-- (`broken_blocks`); of further ones (`more`) nothing is said
 abbrev pub WasSent : List SentLine → List (List SentLine) → ToOutput → Type 0
--- just the lines `sent`, all written and flushed
+-- no block failed: all lines `sent`, written and flushed, and nothing more; no call failed
 WasSent sent [] o = o ≡ all_of (bytes_of sent)
--- the lines `sent`, written and flushed; then a beginning of this block, maybe nothing or all of it; then a call failed
+-- a block failed: the lines `sent`, written and flushed; then a beginning of the block, not flushed, maybe nothing or
+-- all of it; then a write or a flush failed
 WasSent sent (block ∷ more) o = BreaksOffIn (bytes_of sent) (bytes_of block) o
 
 -- the acts `H` are a match by the rules `r`, and `final` is its state at the end. From the world `w` to `w'` each
--- engine's output, each engine's input and the clock did just what these acts say of it. Each device is looked at by
--- itself: the order of acts at different devices is not claimed. Nor is anything said of the game
+-- engine's output, each engine's input and the clock did what these acts say of it. Each device is looked at by itself:
+-- nothing is said of the order of acts at different devices, nor of the games of `w` and `w'`
 pub record Passed (r : Rules) (H : List Act) (final : Match) (w w' : World) : Type 0 where
   pub is_match : IsMatch r H final
-  -- for each side: there are an `i` that came from its engine and an `o` that went to it, as the acts say
+  -- for each side: an `i` came from its engine and an `o` went to it that agree with the acts
   pub passed : (S : Colour) → Ran (λ i o. SaidBy S H i × WasSent (lines_sent S H) (broken_blocks S H) o)
       (w.engines S) (w'.engines S)
+  -- the clock was read as often as the acts say, and showed the moments that they name
   pub moments : ClockReadings w.coming w'.coming (moments_shown H)
 
--- `end` is what is reported of a match of these acts, which ended for this reason; `final` is its state at the end
+-- `end` is the report of a match of the acts `H`, which ended for this reason; `final` is its state at the end
 pub record ReportedAs (H : List Act) (final : Match) (reason : Reason) (end : MatchEnd) : Type 0 where
+  -- the reason is that of the last state
   pub ended : final.phase ≡ Over reason
   -- the outcome, the comment and the value of the tag Termination (`end.ended`) are those of the reason
   pub report : reported reason ≡ (end.outcome, end.comment, end.ended)
-  -- the name of each engine is the value of its last `myname`, as a PGN tag keeps it: its first 60 bytes, with `?` in
-  -- place of what is no printable ASCII; empty if it gave none
+  -- the name of each engine is the value of the last `myname` in its handshake, as a PGN tag keeps it: its first 60
+  -- bytes, with `?` in place of what is no printable ASCII; empty if it sent none
   pub name : (S : Colour) → by_colour end.white_name end.black_name S
       ≡ cut_tag (last_value (codes "myname") (final.seat S).items)
-  -- the first fault, and whose it is: the one that ended the match, or a failed write after its end; `None` if there
-  -- was none
+  -- the first fault, and whose it is: the one that ended the match; if none did, a failed write after the end (White's,
+  -- if writing to both sides failed); `None` if there was none
   pub fault : end.fault ≡ first_fault reason (is_broken H)
 
--- a match of the acts `H` was played from the world `w` to `w'`, from the start and with the time control of `setup`,
--- for at most as many half-moves as the game's limit. It ended for this reason, and was reported as `end`. The game
--- then has this start and the moves of the match, and the result is declared in it, unless the board has a verdict; its
--- limit stays. What was in the game before is gone
+-- a match of the acts `H` was played from the world `w` to `w'`, from the start position and with the time control of
+-- `setup`, for at most as many half-moves as the game's limit. It ended for this reason, and was reported as `end`. In
+-- `w'` the game has the start of `setup`, the moves of the match and the same limit; the reason's result is declared in
+-- it, but none if the board has a verdict, such as mate. What was in the game before is gone
 abbrev pub PlayedBy : List Act → Reason → Setup → MatchEnd → World → World → Type 0
 PlayedBy H reason setup end w w' =
     let r = rules_of setup.start setup.level w.game.limit in
@@ -91,8 +97,9 @@ PlayedBy H reason setup end w w' =
 abbrev pub Played : Setup → MatchEnd → World → World → Type 0
 Played setup end w w' = (H : List Act) × (reason : Reason) × PlayedBy H reason setup end w w'
 
--- as `Played`, and the claim `noted` holds of the notes of the same acts: for example, that the log was given just
--- these notes
+-- a match was played as `setup` says, from the world `w` to `w'`, and reported as `end`: `PlayedBy` holds for some acts
+-- and reason, and the claim `noted` for the notes that a witness is given of these acts (`notes_given`). The claim may
+-- be, for example, that the log was given exactly these notes
 abbrev pub PlayedNoting : (List Note → Type 0) → Setup → MatchEnd → World → World → Type 0
 PlayedNoting noted setup end w w' =
     (H : List Act) × (reason : Reason) × noted (notes_given reason H) × PlayedBy H reason setup end w w'
