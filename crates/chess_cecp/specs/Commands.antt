@@ -9,8 +9,9 @@ use Rattle.chess_cecp.specs.declared.command.Command.{Command}
 use Rattle.chess_cecp.specs.declared.command.Command.TheVariants.{New, SetBoard, UserMove, BareMove, Undo, Remove, Declare, Claim, Ping, Protover, Variant, Go, ShowFen, ShowMoves, ShowState, ShowPgn, Quit, Silent, BadNumber, Unknown}
 use Rattle.text_lines.specs.Words.{word_of, argument_of, command_number}
 
--- commands to an engine that plays, which an arbiter accepts and ignores: of the protocol, of how the engine is to play
--- (`?`: it is to move at once), of its opponent, who may offer a draw, of the clocks and of the depth of search
+-- the names of commands to an engine that plays, which an arbiter accepts without an effect or an answer: of the
+-- protocol and of how the engine plays (from `xboard` to `?`, which is "move now"), of the engine's opponent (from
+-- `computer` to `draw`), and of clocks and limits of search (from `level` to `otim`)
 abbrev pub ignored_commands : List (List ℕ)
 ignored_commands =
     codes "xboard" ∷ codes "accepted" ∷ codes "rejected" ∷ codes "force" ∷ codes "random" ∷ codes "hard" ∷ codes "easy"
@@ -21,8 +22,9 @@ ignored_commands =
 unfoldable pub is_ignored : List ℕ → Bool
 is_ignored word = list_any (bytes_eq word) ignored_commands
 
--- all commands that are not ignored, by their names; `argument` is what follows the name: `usermove` needs a move,
--- `ping` and `protover` need a number
+-- the commands that are not ignored: each name, with the command of a line that has the name as its first word and
+-- `argument` after it. `usermove` with nothing after it is `Unknown`; `ping` and `protover` without a number of 1 to 9
+-- digits are `BadNumber`
 abbrev pub commands : List ℕ → List (List ℕ × Command)
 commands argument =
     (codes "new", New) ∷ (codes "setboard", SetBoard)
@@ -33,15 +35,16 @@ commands argument =
     ∷ (codes "variant", Variant) ∷ (codes "go", Go) ∷ (codes "showfen", ShowFen) ∷ (codes "showmoves", ShowMoves)
     ∷ (codes "showstate", ShowState) ∷ (codes "showpgn", ShowPgn) ∷ (codes "quit", Quit) ∷ []
 
--- the command that a line's first word names, by its argument: `Silent` for one that is ignored and for an empty line;
--- `None` if the word is no command's name, as in a bare `e2e4`
+-- the command of a line that has this first word and, after it, this argument. It is `Silent`, which an arbiter
+-- ignores, if the word is the name of an ignored command or is empty, as in an empty line. It is `None` if the word is
+-- no command's name, as `e2e4`
 unfoldable pub named_command : List ℕ → List ℕ → Option Command
 named_command word argument =
     if bytes_eq word [] || is_ignored word then Some Silent
     else option_map (λ c. c.1) (find (λ c. bytes_eq word c.0) (commands argument))
 
--- what a line with this text commands: what its first word names; if that is no command's name, a move if the text has
--- the shape of one, else nothing that is known
+-- the command of a line with this text: the one that its first word names; if that word is no command's name, a move
+-- (`BareMove`) if the whole text has the shape of one, such as `e2e4`, else `Unknown`
 unfoldable pub command_of : List ℕ → Command
 command_of text =
     unwrap_or (named_command (word_of text) (argument_of text)) (if shape text then BareMove else Unknown)

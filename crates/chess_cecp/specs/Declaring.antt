@@ -13,8 +13,8 @@ use Rattle.chess_pgn.specs.Words.{outcome_of}
 use Rattle.text_lines.specs.Words.{word_of, argument_of}
 use Rattle.chess_base.specs.Options.{◌>>=◌}
 
--- the comment after the outcome of `result`: of `{White resigns}` the text within the braces, and of an empty text
--- the empty comment; `None` for any other text
+-- the comment in `text`, which is what follows the outcome in a line such as `result 1-0 {White resigns}`: all between
+-- a `{` at its start and a `}` at its end, other braces too; empty if `text` is empty; `None` for any other text
 unfoldable pub result_comment : List ℕ → Option (List ℕ)
 result_comment text =
     if length text == 0 then Some []
@@ -22,8 +22,9 @@ result_comment text =
     && (slice_index_or text (length text - 1) 0 == byte "}") then Some (take (length text - 2) (drop 1 text))
     else None
 
--- the result that the argument of the command `result` declares: an outcome, and after it nothing or a comment in
--- braces, which is cut to what the game can hold; `None` for any other text
+-- the result that `argument`, what follows the word `result` in a line, declares: an outcome (`1-0`, `0-1`, `1/2-1/2`
+-- or `*`), and after it nothing or a comment in braces; `None` for any other text. The comment is cut to 60 bytes, and
+-- each byte of it that a comment may not have (a brace, or a byte that is not printable ASCII) becomes `?`
 unfoldable pub read_result : List ℕ → Option Declared
 read_result argument = do
   outcome ← outcome_of (word_of argument)
@@ -34,7 +35,7 @@ read_result argument = do
 abbrev pub verdict_text : Option Verdict → List ℕ
 verdict_text verdict = option_map_or (λ v. result_text (verdict_outcome v) (verdict_comment v)) verdict (codes "none")
 
--- the result that was declared as `showstate` writes it, such as `1-0 {White mates}`; `none` without one
+-- the result that was declared as `showstate` writes it, such as `1-0 {Black resigns}`; `none` without one
 abbrev pub declared_text : Option Declared → List ℕ
 declared_text declared = option_map_or (λ d. result_text d.outcome d.comment) declared (codes "none")
 
@@ -44,8 +45,9 @@ claims_text c =
     if c.threefold then (if c.fifty_moves then codes "threefold+50" else codes "threefold")
     else (if c.fifty_moves then codes "50" else codes "none")
 
--- what `showstate` writes after `# state ply `: number of half-moves, how often the position occurred (`rep`),
--- halfmove clock, claims, verdict and declared result, as in `0 rep 1 clock 0 claims none verdict none declared none`
+-- what `showstate` writes after `# state ply `: the number of half-moves, how often the current position has occurred
+-- (`rep`, 1 at the first time), the halfmove clock, the draws that can be claimed, the verdict and the declared result,
+-- as in `0 rep 1 clock 0 claims none verdict none declared none`
 unfoldable pub state_text : State → List ℕ
 state_text s =
     decimal (length s.moves)

@@ -6,7 +6,7 @@ use Rattle.chess_game.specs.Game as game
 use Rattle.chess_game.specs.Game.{State, from_start}
 use Rattle.chess_pgn.specs.declared.tags.Tags.{Tags}
 
--- what contracts see of a session: the tags that its games are written with, the most half-moves of a game, and the
+-- a session as contracts see it: the tags that `showpgn` writes, the most half-moves that its game may have, and the
 -- state of its game
 pub record SessionSeen : Type 0 where
   pub tags : Tags

@@ -11,25 +11,27 @@ use Rattle.chess_cecp.specs.declared.run.Fault.TheVariants.{Read, Write}
 use Rattle.chess_cecp.specs.declared.session.TheConstants.{COMMAND_LEN}
 
 -- the lines that were read. The bytes after the last `\n`, if there are any, are a line too if the input's end was
--- reported. A line of more than `COMMAND_LEN` bytes is too long
+-- reported. A line of more than `COMMAND_LEN` (1,024) bytes is too long
 abbrev pub lines_read : FromInput → List LineSeen
 lines_read i = stream_lines COMMAND_LEN i.ended i.text
 
--- the lines that were complete (ended by `\n`) before the last successful read
+-- the lines that were complete (ended by `\n`) before the last successful read; if that read reported the input's end,
+-- all lines that `\n` ended
 abbrev pub early_lines : FromInput → List LineSeen
 early_lines i = whole COMMAND_LEN i.early
 
--- the server `respond` answered all lines that were read, up to one with which it ends (`ends`: there is one). The
--- answers, and nothing else, were written and flushed. `s` and `s'` are the server's states before and after
+-- the server `respond` answered the lines that were read: all of them if it ends with none (`ends` is false), else
+-- those up to and including the first with which it ends. The answers, and nothing else, were written and flushed, and
+-- no write or flush failed. `s` and `s'` are the server's states before and after
 abbrev pub AnswersAll : {S : Type 0} → Server S → S → S → Bool → FromInput → ToOutput → Type 0
 AnswersAll respond s s' ends i o =
     let due = responses respond s (lines_read i) in (o ≡ all_of due.text) × (s' ≡ due.state) × (due.ends ≡ ends)
 
--- the server `respond` answered the lines `before`, and broke off in the answer to `line`. The answers to `before` were
--- written and flushed, and the server ends with none of these lines. Of the answer to `line` a beginning was written
--- and not flushed, as a write or a flush failed; yet the server's state is the one after `line`. The lines of `after`
--- were not answered. All lines that were complete before the last successful read are in `before`. `s` and `s'` are the
--- server's states before and after
+-- the lines that were read are `before`, `line` and `after`, and a write or a flush failed in the answer to `line`. The
+-- server `respond` ends with none of `before`, and the answers to these were written and flushed. Of the answer to
+-- `line` a beginning was written and not flushed; it may be empty or the whole answer. The lines `after` were not
+-- answered. `before` has at least as many lines as `early_lines`, which are the first of those read. `s` is the
+-- server's state at the start; `s'`, at the end, is the one after `line`
 abbrev pub AnswersSome : {S : Type 0} → Server S → S → S → FromInput → ToOutput → Type 0
 AnswersSome respond s s' i o =
     (before : List LineSeen) × (line : LineSeen) × (after : List LineSeen) × (lines_read i ≡ before ++ line ∷ after)
@@ -40,13 +42,13 @@ AnswersSome respond s s' i o =
 -- what the server `respond` reads (`i`) and writes (`o`), by the result of the run. `s` and `s'` are the server's
 -- states before and after
 abbrev pub Served : {S : Type 0} → Server S → S → S → Result End Fault → FromInput → ToOutput → Type 0
--- no read failed, and it answered all lines up to one with which it ends. It ends with none of the lines that were
--- complete before the last read: it did not read on once the line that ends it was complete
+-- no read failed, and the server answered all lines up to one with which it ends. It ends with none of the lines that
+-- were complete before the last read: once the line that ends it was complete, it read no more
 Served respond s s' (Ok Quit) i o =
     IsUnbroken i × AnswersAll respond s s' true i o × ((responses respond s (early_lines i)).ends ≡ false)
--- the input ended; it answered all lines, and ends with none of them
+-- the input's end was reported, and no read failed; the server answered all lines, and ends with none of them
 Served respond s s' (Ok InputEnded) i o = IsWhole i × AnswersAll respond s s' false i o
--- a read failed; it answered all lines that were complete, and ends with none of them
+-- a read failed, and the input's end was not reported; the server answered all complete lines and ends with none
 Served respond s s' (Err Read) i o = IsCutOff i × AnswersAll respond s s' false i o
--- a write or a flush failed in the answer to a line; no read failed
+-- a write or a flush failed in the answer to a line (`AnswersSome`); no read failed
 Served respond s s' (Err Write) i o = IsUnbroken i × AnswersSome respond s s' i o

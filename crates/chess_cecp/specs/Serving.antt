@@ -2,7 +2,8 @@
 use Rattle.std.specs.Prelude.{ℕ, Bool, false, if◌then◌else◌, List, [], ◌∷◌, ◌++◌}
 use Rattle.text_lines.specs.Lines.{LineSeen}
 
--- what a server does with a line: the text that it writes, its state after that, and whether it ends
+-- what a server does with a line: the text that it writes, its state after that, and whether it ends, so that it
+-- responds to no later line
 pub record Response (S : Type 0) : Type 0 where
   pub text : List ℕ
   pub state : S
@@ -12,13 +13,15 @@ pub record Response (S : Type 0) : Type 0 where
 abbrev pub Server : Type 0 → Type 0
 Server S = S → LineSeen → Response S
 
--- the responses to one line (`first`) and to the one after it (`next`) as one: both texts, the state after the second,
--- and whether the server ends with the second. If it ends with the first, this is the first alone
+-- two responses as one: `first` to a line, and `next` to the line after it. Both texts are written, in this order; the
+-- state is the one after `next`, and the server ends if it ends with `next`. But if the server ends with `first`, the
+-- later line gets no response, and this is `first` alone
 abbrev pub and_then : {S : Type 0} → Response S → Response S → Response S
 and_then first next = if first.ends then first else record next { text = first.text ++ next.text }
 
 -- the responses of the server `respond` to these lines, one after another from the state `s` on, as one: all their
--- texts, the state after them, and whether the server ends with one of them. Lines after that one get no response
+-- texts, the last state, and whether the server ends with one of the lines. Lines after the one that ends it get no
+-- response. For no lines the text is empty and the state is `s`
 abbrev pub responses : {S : Type 0} → Server S → S → List LineSeen → Response S
 responses respond s [] = record { text = []; state = s; ends = false }
 responses respond s (line ∷ rest) = and_then (respond s line) (responses respond (respond s line).state rest)

@@ -1,4 +1,5 @@
--- What a session answers: the table of commands, a row for each kind. From one line to the next only the game changes.
+-- What a session answers: the table of commands, a row for each kind of command. From one line to the next only the
+-- game changes.
 use Rattle.std.specs.Prelude.{◌⊎◌, ℕ, nat_le, nat_lt, if◌then◌else◌, true, false, List, [], ◌∷◌, ◌++◌, length, codes, decimal, Option, None, Some, Result, Ok, Err}
 use Rattle.chess_base.specs.Letters.{new_line, space}
 use Rattle.std.specs.Str.{bytes_eq}
@@ -58,56 +59,64 @@ becomes s = says s []
 unfoldable pub result_line : Outcome → List ℕ → List ℕ
 result_line o comment = joined_line (result_text o comment) []
 
--- the line of the board's verdict, such as `1-0 {White mates}`; empty if there is no verdict
+-- the line of the board's verdict, such as `1-0 {White mates}`, with `\n` at its end; the empty text if there is no
+-- verdict
 abbrev pub verdict_line : Option Verdict → List ℕ
 verdict_line verdict = option_map_or (λ v. result_line (verdict_outcome v) (verdict_comment v)) verdict []
 
--- the game becomes `s`, and the answer is the board's verdict on it, if there is one
+-- the game becomes `s`, and the answer is the line of the board's verdict on it; nothing is answered if there is none
 abbrev pub becomes_judged : State → Response State
 becomes_judged s = says s (verdict_line (verdict_now s))
 
--- the line that lists these moves of the position `p`, with their number first: `# moves 20 b1a3 b1c3 ..`
+-- the line that lists these moves of the position `p`, in this order, after their number: `# moves 20 b1a3 b1c3 ..`,
+-- with `\n` at its end. Castling is written by the king's squares, such as `e1g1`, in normal chess, and as `O-O` or
+-- `O-O-O` in Chess960
 unfoldable pub moves_line : Setup → List Move → List ℕ
 moves_line p ms = joined_line (codes "# moves ") (decimal (length ms) ++ flat_map (λ m. space ∷ shown_move p m) ms)
 
--- the answer to `setboard`, by how its FEN was read: the game starts anew from that position, and the answer is the
--- board's verdict on it, if there is one; or the FEN's fault is, as `tellusererror Illegal position (kings)`
+-- the answer to `setboard` in the game `s`, by how its FEN was read
 abbrev pub setboard_row : State → Result Setup FenFault → Response State
+-- the game starts anew from the position `start`, and the board's verdict on it is answered, if there is one
 setboard_row s (Ok start) = becomes_judged (from_start start)
+-- the FEN is refused by its fault, as `tellusererror Illegal position (kings)`, and the game does not change
 setboard_row s (Err fault) = refuses s (codes "tellusererror Illegal position (") (fen_fault_name fault ++ codes ")")
 
--- the line that answers `protover 2`: the features that an arbiter has
+-- the line, without `\n`, that answers `protover 2` and each later version: the CECP features with the arbiter's values
 unfoldable pub feature_text : List ℕ
 feature_text =
     codes "feature ping=1 setboard=1 playother=0 san=0 usermove=1 time=1 draw=1 sigint=0 sigterm=0 reuse=1 analyze=0 colors=0 debug=1 myname=\"CECP arbiter\" variants=\"normal,fischerandom\" done=1"
 
--- the answer to a move's text in the game `s`, by what it denotes in the current position: the move is played, or the
--- text refused
+-- the answer to a move's text in the game `s`, by what the text denotes in the current position. The one legal move
+-- that it denotes is played, and the board's verdict after that is answered, if there is one. A text that denotes
+-- several legal moves, or none (with the shape of a move or without), is refused
 abbrev pub reading_row : State → List ℕ → Reading → Response State
 reading_row s text (reads.Move m) = becomes_judged (played s m)
 reading_row s text reads.Ambiguous = refuses s (codes "Error (ambiguous move): ") text
 reading_row s text reads.NoSuch = refuses s (codes "Illegal move: ") text
 reading_row s text reads.NotAMove = refuses s (codes "Illegal move: ") text
 
--- the answer to a move's text in the game `s`, as `usermove e4` gives it: refused if the game is over or has `limit`
--- half-moves, else played or refused by what it denotes
+-- the answer to a move's text in the game `s`, such as `e4` in `usermove e4`: refused if the game is over, by a verdict
+-- or by a declared result, or has `limit` half-moves or more; else by what the text denotes (`reading_row`)
 abbrev pub move_row : ℕ → State → List ℕ → Response State
 move_row limit s text =
     if is_over s then refuses s (codes "Illegal move (game over): ") text
     else if nat_le limit (length s.moves) then refuses s (codes "Error (game too long): ") text
     else reading_row s text (reading (current s) text)
 
--- the answer to `undo` or `remove` in the game `s`: the last `n` half-moves are taken back; refused, by the command's
--- `name`, if there are fewer
+-- the answer to `undo` (`n` is 1) or `remove` (`n` is 2) in the game `s`: the last `n` half-moves are taken back, a
+-- declared result is cleared, and nothing is answered. If the game has fewer half-moves, the command is refused, and
+-- `name` is its name in the answer
 abbrev pub back_row : ℕ → List ℕ → State → Response State
 back_row n name s =
     if nat_le n (length s.moves) then becomes (taken_back s n)
     else refuses s (codes "Error (command not legal now): ") name
 
--- the answer to `result` (`text` is the whole line) in the game `s`, by what its argument declares: the result is
--- declared; refused if the argument declares none, or the board has a verdict with another outcome
+-- the answer to `result` in the game `s`, by the result that its argument declares; `text` is the whole line
 abbrev pub result_row : State → List ℕ → Option Declared → Response State
+-- the argument declares no result: the line is refused
 result_row s text None = refuses s (codes "Error (bad result): ") text
+-- `d` is declared, in place of any earlier result, and nothing is answered; but the line is refused if the board has a
+-- verdict with another outcome
 result_row s text (Some d) =
     if contradicts_verdict (verdict_now s) d.outcome then refuses s (codes "Error (the board says otherwise): ") text
     else becomes (with_declared s (Some d))
@@ -117,35 +126,37 @@ abbrev pub draws : State → List ℕ → Response State
 draws s comment =
     says (with_declared s (Some (record { outcome = Draw; comment = comment }))) (result_line Draw comment)
 
--- the answer to a claim of a draw in the game `s`: the draw is declared if `c` says that it can be claimed by threefold
--- repetition or 50 moves, else the claim is refused
+-- the answer to a claim of a draw in the game `s`, where `c` are the draws that can be claimed: a draw by threefold
+-- repetition is declared if `c` has it, else one by the 50-move rule if `c` has that, else the claim is refused
 abbrev pub claimed : State → Claims → Response State
 claimed s c =
     option_map_or (λ claim. draws s (claim_comment claim)) (draw_claim c)
     (refuses s (codes "Error (no claim): ") (codes "claim"))
 
--- the answer to `claim` in the game `s`: a draw by threefold repetition or 50 moves (Laws, articles 9.2 and 9.3), if
--- the game is not over and the draw can be claimed; else it is refused
+-- the answer to `claim` in the game `s`: if the game is not over and a draw can be claimed by threefold repetition or
+-- 50 moves (Laws, articles 9.2 and 9.3), the draw is declared; else the claim is refused
 abbrev pub claim_row : State → Response State
 claim_row s = if is_over s then refuses s (codes "Error (command not legal now): ") (codes "claim") else claimed s
     (claims s.start s.moves)
 
--- the answer to `variant normal` in the game `s`, by its variant: a game of normal chess goes on, one of Chess960
--- starts anew as one of normal chess
+-- the answer to `variant normal` in the game `s`, by the variant of that game: a game of normal chess goes on; in place
+-- of a game of Chess960 a new game of normal chess starts. Nothing is answered
 abbrev pub normal_row : State → Rules → Response State
 normal_row s Normal = says s []
 normal_row s Fischerandom = becomes (from_start initial_setup)
 
--- the answer to `variant` in the game `s`, by its argument (`text` is the whole line): `fischerandom` starts anew in
--- Chess960, `normal` goes over to normal chess, and any other name is refused
+-- the answer to `variant` in the game `s`, by its argument (`text` is the whole line): `fischerandom` starts a new game
+-- of Chess960 at the initial position of normal chess; `normal` starts one of normal chess if `s` is of Chess960, and
+-- else does nothing. Neither has an answer. Any other argument is refused
 abbrev pub variant_row : State → List ℕ → List ℕ → Response State
 variant_row s text argument =
     if bytes_eq argument (codes "fischerandom") then becomes (from_start (initial_setup_of Fischerandom))
     else if bytes_eq argument (codes "normal") then normal_row s s.start.variant
     else refuses s (codes "Error (unsupported variant): ") text
 
--- the table of commands: what a session does with a line in the game `s`. `text` is the whole line, `argument` what
--- follows its first word; `limit` is the most half-moves of a game, and `tags` are those that `showpgn` writes
+-- the table of commands: what a session does in the game `s` with a line that has this command. `text` is the whole
+-- line, `argument` what follows its first word; `limit` is the most half-moves of a game, and `tags` are those that
+-- `showpgn` writes
 abbrev pub row : Tags → ℕ → State → List ℕ → List ℕ → Command → Response State
 row tags limit s text argument New = becomes (from_start initial_setup)
 row tags limit s text argument SetBoard = setboard_row s (fen_reading_as s.start.variant argument)
@@ -168,15 +179,15 @@ row tags limit s text argument Silent = says s []
 row tags limit s text argument BadNumber = refuses s (codes "Error (bad number): ") text
 row tags limit s text argument Unknown = refuses s (codes "Error (unknown command): ") text
 
--- what a session does with a line: what the table of commands says; a line that is too long is refused with its first
--- bytes
+-- how a session (`seen`) responds to a line, with only its game as the state: a line that is too long is refused, and
+-- the answer shows its first bytes; for any other line it is as the table of commands says
 abbrev pub row_on : SessionSeen → LineSeen → Response State
 row_on seen line =
     if line.too_long then refuses seen.state (codes "Error (line too long): ") line.text
     else row seen.tags seen.limit seen.state line.text (argument_of line.text) (command_of line.text)
 
--- how a session (`seen`) responds to a line: as the table of commands says; only its game may change, its tags and its
--- limit stay
+-- how a session (`seen`) responds to a line: the text, the game after that, and whether the session ends are those of
+-- `row_on`; its tags and its limit do not change
 unfoldable pub session_response : SessionSeen → LineSeen → Response SessionSeen
 session_response seen line =
     let r = row_on seen line in

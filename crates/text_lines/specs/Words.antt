@@ -5,24 +5,26 @@ use Rattle.std.specs.Str.Parse.{digits_value}
 use Rattle.chess_base.specs.Letters.{byte, is_digit, is_letter}
 use Rattle.text_lines.specs.Lines.{is_blank, without_front_blanks}
 
--- the first word of a text: its bytes up to the first space or tab
+-- the first word of a text: its bytes up to the first space or tab, all of them if it has neither. It is empty if the
+-- text is empty or begins with a space or a tab
 abbrev pub word_of : List ℕ → List ℕ
 word_of [] = []
 word_of (c ∷ cs) = if is_blank c then [] else c ∷ word_of cs
 
--- the text after the first word and the spaces and tabs that follow it: of `usermove e4` it is `e4`
+-- what follows the first word of a text (`word_of`) and the spaces and tabs after that word: of `usermove e4` it is
+-- `e4`, of `quit` the empty text
 unfoldable pub argument_of : List ℕ → List ℕ
 argument_of text = without_front_blanks (drop (length (word_of text)) text)
 
--- whether a byte may be in a name, as of a tag or of a feature: letters, digits and `_`
+-- whether a byte may be in a name, as of a PGN tag or of a CECP feature: a letter (A to Z, a to z), a digit or `_`
 abbrev pub is_name_byte : ℕ → Bool
 is_name_byte c = is_letter c || (is_digit c || c == byte "_")
 
--- the number that a text of 1 to `most` digits denotes; none for any other text
+-- the number that a text of 1 to `most` decimal digits denotes, leading zeros or not; `None` for any other text
 abbrev pub short_number : ℕ → List ℕ → Option ℕ
 short_number most text = if nat_lt 0 (length text) && nat_le (length text) most
     && list_all is_digit text then Some (digits_value 10 text) else None
 
--- the number that a text of 1 to 9 digits denotes, as in `ping 7`; `None` for any other text
+-- the number that a text of 1 to 9 decimal digits denotes, such as the `7` of `ping 7`; `None` for any other text
 unfoldable pub command_number : List ℕ → Option ℕ
 command_number text = short_number 9 text
