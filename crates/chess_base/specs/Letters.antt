@@ -13,7 +13,7 @@ abbrev first_of : List ℕ → ℕ
 first_of [] = 0
 first_of (c ∷ cs) = c
 
--- the code of a text of one character: `byte "A"` is 65
+-- the code of a text's first character, 0 for the empty text; it is used for one ASCII character: `byte "A"` is 65
 abbrev pub byte : Text → ℕ
 byte text = first_of (codes text)
 
@@ -45,8 +45,8 @@ is_digit c = nat_le (byte "0") c && nat_le c (byte "9")
 
 -- ---- pieces and squares
 
--- the capital letter of a kind of piece, N for a knight: SAN has it for both colours, FEN for White's pieces only (PGN
--- standard of 1994, sections 8.2.3.2 and 16.1.3.1)
+-- the byte of the capital letter of a kind of piece, N for a knight. SAN uses it for both colours, but none for a
+-- pawn's move; FEN uses it for White's pieces only (PGN standard of 1994, sections 8.2.3.2 and 16.1.3.1)
 abbrev pub white_letter : Kind → ℕ
 white_letter Pawn = byte "P"
 white_letter Knight = byte "N"

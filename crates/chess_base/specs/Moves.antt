@@ -17,38 +17,40 @@ use Rattle.chess_base.specs.Men.{Men, man_at, is_of, is_man, same_colour, same_k
 use Rattle.chess_base.specs.Attacks.{attacks, is_in_check}
 use Rattle.chess_base.specs.Castling.{right_of, rights_by, castle_of, castling_rook_to, castles, mover_end}
 
--- what a pawn's move names as its promotion fits: a queen, rook, bishop or knight if the move ends on the pawn's last
--- rank (`last` is true), and nothing if it does not (3.7.3.3)
+-- the promotion that a pawn's move names is allowed: a queen, rook, bishop or knight if the move ends on the pawn's
+-- last rank (`last` is true), and none (`None`) if it ends elsewhere (3.7.3.3)
 abbrev pub promotion_fits : Bool → Option Kind → Bool
 promotion_fits last None = not last
 promotion_fits last (Some King) = false
 promotion_fits last (Some Pawn) = false
 promotion_fits last (Some _) = last
 
--- a pawn of the side on move goes two squares straight ahead from its home rank, as e2e4 (3.7.2); whether these squares
--- are empty is not asked here
+-- a pawn of the side on move goes two squares straight ahead from its home rank, as e2e4 (3.7.2); whether the square
+-- that it crosses and the end square are empty is not asked here
 unfoldable pub is_double_advance : Setup → Move → Bool
 is_double_advance p m =
     is_man p.side Pawn (man_at p.men m.from)
     && (rank m.from == pawn_rank p.side)
     && (m.to == forward p.side (forward p.side m.from))
 
--- a pawn of the side on move goes diagonally to the en passant target (3.7.3.1)
+-- a pawn of the side on move goes one square diagonally ahead, to the en passant target (3.7.3.1): e5d6 after d7d5
 unfoldable pub is_en_passant : Setup → Move → Bool
 is_en_passant p m = is_man p.side Pawn (man_at p.men m.from) && attacks p.men m.from m.to && is_square p.target m.to
 
--- for a move of a pawn: it goes straight ahead, one square or by a double advance; the square where it ends, and one
--- that it crosses, is empty (3.7.1, 3.7.2)
+-- for a move of a pawn of the side on move: it goes straight ahead to an empty square, either one square, or two from
+-- its home rank across an empty square (3.7.1, 3.7.2)
 unfoldable pub pawn_advances : Setup → Move → Bool
 pawn_advances p m =
     is_none (man_at p.men m.to)
     && ((m.to == forward p.side m.from) || (is_double_advance p m && is_none (man_at p.men (forward p.side m.from))))
 
--- for a move of a pawn: it goes diagonally to an enemy piece, or to the en passant target (3.7.3)
+-- for a move of a pawn of the side on move: it goes one square diagonally ahead, to an enemy piece or to the en passant
+-- target (3.7.3)
 unfoldable pub pawn_captures : Setup → Move → Bool
 pawn_captures p m = attacks p.men m.from m.to && (is_of (other p.side) (man_at p.men m.to) || is_square p.target m.to)
 
--- for a move of a pawn: it advances or captures, with a promotion exactly where it reaches its last rank (3.7)
+-- for a move of a pawn of the side on move: it advances or captures, and names a promotion (to queen, rook, bishop or
+-- knight) if and only if it ends on the pawn's last rank (3.7)
 unfoldable pub pawn_moves : Setup → Move → Bool
 pawn_moves p m =
     promotion_fits (rank m.to == first_rank (other p.side)) m.promotion && (pawn_advances p m || pawn_captures p m)
@@ -58,21 +60,23 @@ pawn_moves p m =
 unfoldable pub man_moves : Setup → Move → Bool
 man_moves p m = is_none m.promotion && attacks p.men m.from m.to && not (is_of p.side (man_at p.men m.to))
 
--- the given piece, if it is one of the side on move, can make move m: a pawn as pawns do; any other piece by castling,
--- if m is castling, or else as it moves. False if no piece is given
+-- the content of m's start square (the last argument) is a piece of the side on move that can make move m: a pawn by
+-- `pawn_moves`, another piece by `castles` if m is castling, else by `man_moves`. False for an enemy piece and for an
+-- empty square (`None`)
 abbrev pub moves_as : Setup → Move → Option Man → Bool
 moves_as p m None = false
 moves_as p m (Some x) =
     same_colour p.side x.colour
     && (if same_kind Pawn x.kind then pawn_moves p m else option_map_or (castles p m) (castle_of p m) (man_moves p m))
 
--- the move is pseudo-legal: its squares are on the board, and a piece of the side on move can make it (3.1 to 3.8), but
--- may leave its own king in check. Castling out of check, or across an attacked square, is not even pseudo-legal
+-- move m is pseudo-legal: its squares are on the board, and a piece of the side on move can make it (3.1 to 3.8),
+-- whether or not this leaves the mover's king in check. Castling out of check, or across or onto an attacked square, is
+-- not pseudo-legal
 unfoldable pub is_pseudo_legal : Setup → Move → Bool
 is_pseudo_legal p m = nat_lt m.from 64 && nat_lt m.to 64 && moves_as p m (man_at p.men m.from)
 
--- the piece that arrives on the end square: the one that left the start square, or after a promotion one of the new
--- kind in its colour; none if the start square was empty
+-- the piece that arrives on a move's end square, from the content of its start square and from its promotion: the piece
+-- that left, or with a promotion one of the new kind in its colour; none if the start square was empty
 abbrev pub arriving_man : Option Man → Option Kind → Option Man
 arriving_man None k = None
 arriving_man (Some x) None = Some x
@@ -91,9 +95,9 @@ captured_square p m =
     else if is_of (other p.side) (man_at p.men m.to) then Some m.to
     else None
 
--- what is on square s after castling k, which move m is: the king and the rook on their new squares, nothing on their
--- old ones, and elsewhere what was there. In Chess960 a new square may be an old one. A legal castling names no
--- promotion, so what arrives on k.king_to is the king
+-- what is on square s after castling k, which move m is: the king on `king_to`, the rook on `rook_to`, nothing on the
+-- squares where they started unless one of them ends there (as may be in Chess960), and elsewhere what was there. A
+-- legal castling names no promotion, so what arrives on `king_to` is the king
 abbrev pub after_castling : Setup → Move → Castle → ℕ → Option Man
 after_castling p m k s =
     if s == k.king_to then arriving_man (man_at p.men m.from) m.promotion
@@ -101,31 +105,32 @@ after_castling p m k s =
     else if (s == k.king_from) || (s == k.rook_from) then None
     else man_at p.men s
 
--- what is on square s after any other move m: the piece that moved, promoted if m says so, on its end square, nothing
--- on its start square and on that of a captured piece, and elsewhere what was there
+-- what is on square s after move m, if m is not castling: on the end square the piece that moved, promoted if m names a
+-- promotion; nothing on the start square and on that of a pawn captured en passant; elsewhere what was there
 abbrev pub after_moving : Setup → Move → ℕ → Option Man
 after_moving p m s =
     if s == m.to then arriving_man (man_at p.men m.from) m.promotion
     else if (s == m.from) || is_square (captured_square p m) s then None
     else man_at p.men s
 
--- the pieces on the board after the move m of position p, on all squares at once
+-- the pieces on all 64 squares after move m of position p: by `after_castling` if m is castling, else by `after_moving`
 unfoldable pub men_after : Setup → Move → Men
 men_after p m = from_below 64 (λ s. option_map_or (λ k. after_castling p m k s) (castle_of p m) (after_moving p m s))
 
--- what a move leaves of a castling right of colour c, given as the rook's square: it is lost when c's king moves, or
--- when a move starts or ends on the rook's square (3.8.2.1)
+-- colour c's castling right on one side after move m, from the right before: the rook's square, or none if there is no
+-- right. It is lost if c's king makes the move, or if m starts or ends on the rook's square (3.8.2.1)
 abbrev pub right_after : Setup → Move → Colour → Option ℕ → Option ℕ
 right_after p m c None = None
-right_after p m c (Some s) =
-    if is_man c King (man_at p.men m.from) || (m.from == s) || (m.to == s) then None else Some s
+right_after p m c (Some rook) =
+    if is_man c King (man_at p.men m.from) || (m.from == rook) || (m.to == rook) then None else Some rook
 
 -- the four castling rights after move m: each as before, unless its king moves, or m starts or ends on its rook's
 -- square
 unfoldable pub rights_after : Setup → Move → Rights
 rights_after p m = rights_by (λ c w. right_after p m c (right_of p.rights c w))
 
--- the en passant target after a move: the square that a double advance crosses (e3 after e2e4); none after other moves
+-- the en passant target after a move: the square that a double advance crosses (e3 after e2e4), even if no enemy pawn
+-- can capture there; none after other moves
 unfoldable pub target_after : Setup → Move → Option ℕ
 target_after p m = if is_double_advance p m then Some (forward p.side m.from) else None
 
@@ -133,17 +138,18 @@ target_after p m = if is_double_advance p m then Some (forward p.side m.from) el
 unfoldable pub resets_clock : Setup → Move → Bool
 resets_clock p m = is_man p.side Pawn (man_at p.men m.from) || is_some (captured_square p m)
 
--- the halfmove clock after a move: 0 after a pawn move or a capture, else one more, up to 999,999
+-- the halfmove clock after a move: 0 after a pawn move or a capture, else one more than before, but at most 999,999
 unfoldable pub halfmove_after : Setup → Move → ℕ
 halfmove_after p m = if resets_clock p m then 0 else min (p.halfmove + 1) COUNTER_LIMIT
 
--- the fullmove number after a move of this colour, from the number before: one more after Black's, up to 999,999
+-- the fullmove number after a move of this colour, from the number n before it: n after White's, after Black's one
+-- more, but at most 999,999
 abbrev pub fullmove_after : Colour → ℕ → ℕ
 fullmove_after White n = n
 fullmove_after Black n = min (n + 1) COUNTER_LIMIT
 
--- the whole position after a move: the other side is on move, and pieces, rights, target and counters are by their
--- rules
+-- the whole position after move m of position p, field by field: the variant stays, and the other side is on move.
+-- Whether m is legal is not asked here
 unfoldable pub after : Setup → Move → Setup
 after p m = record {
   variant = p.variant;
@@ -155,22 +161,22 @@ after p m = record {
   fullmove = fullmove_after p.side p.fullmove;
 }
 
--- the move is legal: it is pseudo-legal, and the mover's king is not attacked after it (3.9.2)
+-- move m is legal in position p: it is pseudo-legal, and the mover's king is not attacked after it (3.9.2)
 unfoldable pub is_legal : Setup → Move → Bool
 is_legal p m = is_pseudo_legal p m && not (is_in_check (after p m).men p.side)
 
--- ---- the pieces after a move in steps, as boards change them. A law says that the steps come to `men_after`; no claim
--- about games rests on what follows
+-- ---- what a move changes on the board, step by step. A law says that these steps give the pieces of `men_after`; no
+-- claim about games rests on what follows
 
--- the second square that move m empties, apart from its start square: that of the pawn taken en passant, or of the
--- castling rook; none for any other move
+-- the square that a second piece leaves by move m: that of the pawn taken en passant, or the castling rook's start
+-- square (in Chess960 the king may end there); none for any other move
 unfoldable pub second_square_emptied : Setup → Move → Option ℕ
 second_square_emptied p m =
     if is_en_passant p m then Some (one_rank_back p.side m.to) else option_map (λ k. k.rook_from) (castle_of p m)
 
--- what the move changes on the board: the mover leaves `from` and arrives on `to`; in castling the rook does so from
--- `second_from` to `second_to`, and a pawn taken en passant leaves `second_from`. `mover` is the piece that arrives on
--- `to`, `second` the rook that arrives on `second_to`; where there is no `second_to`, `second` means nothing
+-- what move m changes on the board: a piece leaves `from`, and `mover` arrives on `to`: in castling the king on its new
+-- square, after a promotion the new piece. In castling the rook `second` goes from `second_from` to `second_to`. A pawn
+-- taken en passant leaves `second_from`. If m is not castling, `second_to` is none and `second` means nothing
 abbrev pub steps_of : Setup → Move → Steps
 steps_of p m = record {
   from = m.from;

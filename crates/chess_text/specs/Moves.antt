@@ -25,12 +25,12 @@ use Rattle.chess_text.specs.Parts.{unmarked, kind_text, file_text, rank_text, fo
 
 -- ---- what a text can say of a move
 
--- move m captures a piece, en passant too
+-- move m of position p captures a piece, on its end square or en passant
 unfoldable pub captures : Setup → Move → Bool
 captures p m = is_some (captured_square p m)
 
--- a move as far as a text can describe it: the kind of its piece, both squares, the promotion, whether it captures, and
--- to which side it castles; none if no piece is on its start square
+-- move m of position p, legal or not, as far as a text can describe it: the kind of its piece, both squares, the
+-- promotion, whether it captures, and to which side it castles; none if no piece is on its start square
 unfoldable pub described : Setup → Move → Option Described
 described p m =
     option_map (λ x. record {
@@ -44,7 +44,7 @@ described p m =
 
 -- ---- the texts of a move
 
--- what may be written of the start square `from`: nothing, its file, its rank, or both (its name)
+-- what may be written of the start square `from` after a piece's letter: nothing, its file, its rank, or both
 abbrev pub start_texts : ℕ → List (List ℕ)
 start_texts from = [] ∷ file_text (file from) ∷ rank_text (rank from) ∷ square_text from ∷ []
 
@@ -52,14 +52,14 @@ start_texts from = [] ∷ file_text (file from) ∷ rank_text (rank from) ∷ sq
 abbrev pub capture_texts : Bool → List (List ℕ)
 capture_texts captures = [] ∷ (if captures then codes "x" ∷ [] else [])
 
--- the texts of a promotion: each of `signs` ("" or "=") followed by the piece's letter, capital or small; only the
--- empty text if there is no promotion
+-- the texts of a promotion to kind k: each element of `signs` ("" or "=") followed by the letter of k, capital or
+-- small; without a promotion (`None`) only the empty text
 abbrev pub promotion_texts : List (List ℕ) → Option Kind → List (List ℕ)
 promotion_texts signs None = [] ∷ []
 promotion_texts signs (Some k) = for_each signs (λ sign. (sign ++ kind_text k) ∷ (sign ++ small_letter_text k) ∷ [])
 
--- the texts of the described move by its two squares, as g1f3 or e7e8q, castling too (e1g1); a promotion's letter
--- follows without `=`
+-- the texts of the described move by its two squares, as g1f3, e7e8q or e7e8Q (but not e7e8=Q); castling too, as e1g1,
+-- and in Chess960, where the end square is the rook's, as e1h1
 abbrev pub texts_by_squares : Described → List (List ℕ)
 texts_by_squares d =
     for_each (promotion_texts ([] ∷ []) d.promotion) (λ promotion.
@@ -72,16 +72,17 @@ texts_by_letter d =
     else for_each (start_texts d.from) (λ start. for_each (capture_texts d.captures) (λ takes.
     (kind_text d.man ++ (start ++ (takes ++ square_text d.to))) ∷ []))
 
--- what may come before the end square of a pawn's move: nothing, if the pawn stays on its file; or, in any case, its
--- file or its start square, and `x` for a capture
+-- what may come before the end square of a pawn's move: its file or its start square, for a capture also with `x` after
+-- it; nothing too if the pawn stays on its file. So e2e4 may be written e4, ee4 or e2e4, and the capture e4d5 as ed5,
+-- exd5, e4d5 or e4xd5
 abbrev pub pawn_starts : Described → List (List ℕ)
 pawn_starts d =
     (if file d.from == file d.to then [] ∷ [] else [])
     ++ for_each (file_text (file d.from) ∷ square_text d.from ∷ []) (λ start.
     for_each (capture_texts d.captures) (λ takes. (start ++ takes) ∷ []))
 
--- the texts of the described move as a pawn's, such as e4, exd5, e7e8Q or e8=Q; none if another piece makes it. A
--- promotion is written with `=` or without it
+-- the texts of the described move as a pawn's, such as e4, exd5, e7e8Q or e8=q; none if another piece makes it. A
+-- promotion is written with or without `=`, its letter capital or small
 abbrev pub texts_of_pawn : Described → List (List ℕ)
 texts_of_pawn d =
     if same_kind Pawn d.man
@@ -109,7 +110,8 @@ unfoldable pub denotes_described : List ℕ → Described → Bool
 denotes_described text d = passes (is_castling_text text) d.castles
     || list_any (bytes_eq (unmarked text)) (texts_by_squares d ++ (texts_by_letter d ++ texts_of_pawn d))
 
--- all descriptions of moves, whether or not there are such moves
+-- all combinations of a kind of piece, a start and an end square, a promotion or none, capture or not, and castling to
+-- one side or none, whether or not there is such a move
 unfoldable pub all_described : List Described
 all_described =
     for_each (King ∷ Queen ∷ Rook ∷ Bishop ∷ Knight ∷ Pawn ∷ []) (λ man.
@@ -117,25 +119,27 @@ all_described =
     for_each (false ∷ true ∷ []) (λ takes. for_each (None ∷ Some KingSide ∷ Some QueenSide ∷ []) (λ castles.
     record { man = man; from = from; to = to; promotion = promotion; captures = takes; castles = castles } ∷ []))))))
 
--- the text has a move's shape: it denotes some described move, whether or not that is legal anywhere
+-- the text has a move's shape, as Nf3 has and Nf9 has not: it denotes some described move, even one that is legal in no
+-- position
 unfoldable pub shape : List ℕ → Bool
 shape text = list_any (λ d. denotes_described text d) all_described
 
--- the text denotes move m in position p: Nf3, Ng1f3, g1f3 and Nf3+ all denote the knight's move in the initial position
+-- the text denotes move m, legal or not, in position p: Nf3, Ng1f3, g1f3 and Nf3+ all denote g1f3 in the initial
+-- position. False if no piece is on m's start square
 unfoldable pub denotes : Setup → List ℕ → Move → Bool
 denotes p text m = passes (denotes_described text) (described p m)
 
 -- ---- reading
 
--- what a text is read as if these are all the legal moves that it denotes: the move if there is just one, `NoSuch` if
--- there is none, `Ambiguous` if there are several
+-- what a text is read as, from the list of all legal moves that it denotes: the move if it is the only one, `NoSuch` if
+-- the list is empty, `Ambiguous` if it has several
 abbrev pub one_of : List Move → Reading
 one_of [] = reads.NoSuch
 one_of (m ∷ []) = reads.Move m
 one_of (m ∷ n ∷ ms) = reads.Ambiguous
 
--- the reading of a text in a position: without a move's shape it is no move; else it is the one legal move that it
--- denotes, ambiguous if it denotes several, and no such move if it denotes none
+-- what the text is read as in position p: `NotAMove` if it doesn't have a move's shape; else the legal move that it
+-- denotes if there is only one, `Ambiguous` if it denotes several legal moves, `NoSuch` if it denotes none
 unfoldable pub reading : Setup → List ℕ → Reading
 reading p text = if shape text then one_of (filter (λ m. denotes p text m) (moves p)) else reads.NotAMove
 

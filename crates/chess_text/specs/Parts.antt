@@ -4,7 +4,7 @@ use Rattle.std.specs.List.{suffix_len}
 use Rattle.chess_base.specs.declared.man.Kind.{Kind}
 use Rattle.chess_base.specs.Letters.{byte, white_letter}
 
--- the byte is one of the marks + # ! ?, which comment on a move and don't name it
+-- the byte is one of the marks that may follow a move's text: + (check), # (mate), ! and ? (annotations)
 abbrev pub is_mark : ℕ → Bool
 is_mark c = (c == byte "+") || (c == byte "#") || (c == byte "!") || (c == byte "?")
 
@@ -16,11 +16,11 @@ unmarked text = take (length text - suffix_len is_mark text) text
 abbrev pub kind_text : Kind → List ℕ
 kind_text k = white_letter k ∷ []
 
--- a file's letter, a for 0
+-- the letter of a file, as text: a for file 0, h for file 7
 abbrev pub file_text : ℕ → List ℕ
 file_text f = (byte "a" + f) ∷ []
 
--- a rank's digit, 1 for 0
+-- the digit of a rank, as text: 1 for rank number 0, 8 for rank number 7
 abbrev pub rank_text : ℕ → List ℕ
 rank_text r = (byte "1" + r) ∷ []
 

@@ -30,28 +30,28 @@ abbrev pub castling_text : CastlingSide → List ℕ
 castling_text KingSide = codes "O-O"
 castling_text QueenSide = codes "O-O-O"
 
--- move m is a rival of the move d: it goes to the same end square with a piece of the same kind, but from another
--- square, so SAN must distinguish d from it
+-- move m of position p is a rival of the described move d: it goes to d's end square with a piece of d's kind, but from
+-- another square, so if m is legal SAN must distinguish d from m. Whether m is legal is not asked here
 unfoldable pub is_rival : Setup → Described → Move → Bool
 is_rival p d m = (m.to == d.to) && not (m.from == d.from) && passes (λ e. same_kind e.man d.man) (described p m)
 
--- the start squares of those of the moves ms that are rivals of the move d: that go to its end square with a piece of
--- the same kind from another square
+-- the start squares of the rivals of the described move d among the moves `ms` of position p; for SAN, `ms` are all
+-- legal moves of p
 unfoldable pub rival_starts : Setup → List Move → Described → List ℕ
 rival_starts p ms d = map (λ m. m.from) (filter (λ m. is_rival p d m) ms)
 
--- what SAN writes to distinguish the start square `from` from those of the rivals (8.2.3.4): nothing if there are no
--- rivals; its file if none is on it; else its rank if none is on it; else both
+-- what SAN writes of the start square `from` to distinguish it from the list of the rivals' start squares (8.2.3.4):
+-- nothing if the list is empty; the file if no rival starts on it; else the rank if no rival starts on it; else both
 abbrev pub start_text : ℕ → List ℕ → List ℕ
 start_text from [] = []
-start_text from (other ∷ others) =
-    if not (list_any (λ s. file s == file from) (other ∷ others)) then file_text (file from)
-    else if not (list_any (λ s. rank s == rank from) (other ∷ others)) then rank_text (rank from)
+start_text from (rival ∷ rivals) =
+    if not (list_any (λ s. file s == file from) (rival ∷ rivals)) then file_text (file from)
+    else if not (list_any (λ s. rank s == rank from) (rival ∷ rivals)) then rank_text (rank from)
     else square_text from
 
--- the text of a move that is not castling: for a pawn its file if it captures, for another piece its letter and what
--- distinguishes it from rivals on these squares; then `x` for a capture, the end square, and `=` and a letter for a
--- promotion
+-- the SAN, without `+` or `#`, of a described move that is not castling: for a pawn its file if it captures, for
+-- another piece its letter and what distinguishes its start square from the squares `rivals`, where its rivals start;
+-- then `x` for a capture, the end square, and for a promotion `=` and a letter
 abbrev pub piece_text : List ℕ → Described → List ℕ
 piece_text rivals d =
     (if same_kind d.man Pawn then list_if d.captures (file_text (file d.from))
@@ -67,16 +67,17 @@ unmarked_san rivals d = option_map_or castling_text d.castles (piece_text rivals
 unfoldable pub check_mark : Setup → List ℕ
 check_mark p = list_if (is_in_check p.men p.side) (if length (moves p) == 0 then codes "#" else codes "+")
 
--- the SAN of legal move m in position p, with `+` or `#` at its end if it gives check or mate: Nf3, exd5, Qh4#
+-- the SAN of legal move m in position p, with `+` or `#` at its end if it gives check or mate: Nf3, exd5, Qh4#. For a
+-- move from an empty square, which is not legal, the empty text
 unfoldable pub san : Setup → Move → List ℕ
 san p m = optional (λ d. unmarked_san (rival_starts p (moves p) d) d ++ check_mark (after p m)) (described p m)
 
--- the text of a move by its squares, as e2e4, except that castling in Chess960 is O-O or O-O-O. `castles` is the side
--- to which the move castles, `None` if it is not castling
+-- the text of move m by its squares, as e2e4 or e7e8q, except that castling in Chess960 is O-O or O-O-O. `castles` is
+-- the side to which m castles, `None` if it is not castling
 abbrev pub shown_as : Variant → Option CastlingSide → Move → List ℕ
 shown_as Normal castles m = coordinate m
 shown_as Fischerandom castles m = option_map_or castling_text castles (coordinate m)
 
--- the text of the move m of position p by its squares, as e2e4, except that castling in Chess960 is O-O or O-O-O
+-- the text of move m of position p by its squares, as e2e4, except that castling in Chess960 is O-O or O-O-O
 unfoldable pub shown_move : Setup → Move → List ℕ
 shown_move p m = shown_as p.variant (castling p m) m
