@@ -47,9 +47,9 @@ denoted_by v placement side castling target halfmove fullmove = do
     fullmove = max number 1;
   })
 
--- each fault with the condition whose failure it reports, in the order in which they are checked: the conditions of
--- soundness, and just before that of castling rights, which is the fifth, the condition that the castling field
--- `letters` names no right wrongly
+-- each fault with the condition whose failure it reports, in the order in which they are checked: the seven conditions
+-- of soundness (`conditions`), and between the fourth and the fifth, which is about castling rights, that the castling
+-- field `letters` names no right wrongly
 abbrev pub conditions_of : List ℕ → Setup → List (FenFault × Bool)
 conditions_of letters p =
     take 4 (conditions p) ++ ((faults.Castling, names_well p.variant p.men letters) ∷ drop 4 (conditions p))
@@ -65,8 +65,8 @@ reading_by v placement side castling target halfmove fullmove =
     denoted_by v placement side castling target halfmove fullmove
     >>= λ p. unless_fault p (first_failing (conditions_of castling p))
 
--- the sound position that a list of a FEN's fields denotes, or the fault. There must be six fields, or four, and then the
--- counters are 0 and 1; any other number of fields is a fault
+-- the sound position that a list of a FEN's fields denotes, or the fault. There must be six fields, or four, and then
+-- the counters are 0 and 1; any other number of fields is a fault
 abbrev pub reading_in : Variant → List (List ℕ) → Result Setup FenFault
 reading_in v (a ∷ b ∷ c ∷ d ∷ []) = reading_by v a b c d (codes "0") (codes "1")
 reading_in v (a ∷ b ∷ c ∷ d ∷ e ∷ f ∷ []) = reading_by v a b c d e f

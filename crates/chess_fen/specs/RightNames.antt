@@ -31,8 +31,8 @@ right_letter Fischerandom c w s = first_letter c + file s
 
 -- ---- normal chess
 
--- normal chess: a castling right, as its rook's square: the corner given, if the right's letter is in the castling
--- field `letters`; else none
+-- normal chess: the castling right with this letter, given as its rook's square: `corner`, if the letter is in the
+-- castling field `letters`; else none
 abbrev pub right_named : List ℕ → ℕ → ℕ → Option ℕ
 right_named letters letter corner = if occurs letter letters then Some corner else None
 
@@ -44,34 +44,35 @@ abbrev pub from_edge : Colour → CastlingSide → List ℕ
 from_edge c KingSide = map (home_square c) (7 ∷ 6 ∷ 5 ∷ 4 ∷ 3 ∷ 2 ∷ 1 ∷ 0 ∷ [])
 from_edge c QueenSide = map (home_square c) (0 ∷ 1 ∷ 2 ∷ 3 ∷ 4 ∷ 5 ∷ 6 ∷ 7 ∷ [])
 
--- for a king and a square s on one rank, which is not tested: s is nearer to the a-file than the king. False if there
--- is no king (`None`)
+-- square s is nearer to the a-file than the king's square; false if there is no king (`None`). Both are to be on one
+-- rank, which is not tested
 abbrev pub is_left_of : Option ℕ → ℕ → Bool
 is_left_of king s = option_map_or (λ k. nat_lt s k) king false
 
--- for a king and a square s on one rank, which is not tested: s is on that side of the king. The squares nearer to the
--- a-file than the king are on the queen's side, all others on the king's, even the king's own, and all if there is no
--- king
+-- square s is on that side of the king: on the queen's side if it is nearer to the a-file than the king's square
+-- (`is_left_of`); else on the king's side, as is even the king's own square, and each square if there is no king
+-- (`None`)
 abbrev pub is_towards : CastlingSide → Option ℕ → ℕ → Bool
 is_towards KingSide king s = not (is_left_of king s)
 is_towards QueenSide king s = is_left_of king s
 
--- the letter names colour c's right on side w: it is that side's (K, Q, k or q), or that of a file on that side of the
--- king
+-- the letter names colour c's right on side w: it is c's letter of that side (K or Q, k or q), or c's letter (A to H, a
+-- to h) of a file on that side of c's king
 abbrev pub names_right : Men → Colour → CastlingSide → ℕ → Bool
 names_right men c w letter = letter == side_letter c w
     || names_file c letter && is_towards w (king_square men c) (home_square c (letter - first_letter c))
 
--- the square that a letter that names colour c's right on side w (`names_right`) gives for the rook: by the side's
--- letter that of c's rook nearest to the board's edge on that side, if c has a rook on its first rank; by a file's
--- letter the square on that file, with or without a rook
+-- the rook's square by a letter that names colour c's right on side w (`names_right`). The side's letter gives the
+-- square of the rook of c on its first rank that is nearest to the board's edge on side w, none if it has no rook
+-- there. A file's letter gives the square on that file of c's first rank, with or without a rook
 abbrev pub rook_named : Men → Colour → CastlingSide → ℕ → Option ℕ
 rook_named men c w letter =
     if letter == side_letter c w then find (λ s. is_man c Rook (man_at men s)) (from_edge c w)
     else Some (home_square c (letter - first_letter c))
 
--- a right, as its rook's square, by the rooks that the letters for it name: there is no right (`Some None`) if there
--- are no such letters. `None` if it is named wrongly: by two letters, or by one that names no rook
+-- a castling right, by what `rook_named` gives for each letter that names it: its rook's square, or `Some None`, that
+-- it is not there, if no letter names it. `None` if it is named wrongly: by several letters, or by one for which there
+-- is no rook
 abbrev pub right_by : List (Option ℕ) → Option (Option ℕ)
 right_by [] = Some None
 right_by (Some s ∷ []) = Some (Some s)
@@ -79,15 +80,15 @@ right_by _ = None
 
 -- ---- both
 
--- colour c's castling right on side w by the letters of a castling field: its rook's square, or that there is none;
--- `None` if the letters name it wrongly
+-- colour c's castling right on side w by the letters of a castling field: its rook's square, or `Some None` if it is
+-- not there. `None` if the letters name it wrongly (`right_by`), which they never do in normal chess
 abbrev pub right_in : Variant → Men → List ℕ → Colour → CastlingSide → Option (Option ℕ)
 right_in Normal men letters c w = Some (right_named letters (side_letter c w) (home_square c (rook_file w)))
 right_in Fischerandom men letters c w = right_by (map (rook_named men c w) (filter (names_right men c w) letters))
 
--- whether no right is named wrongly. In Chess960 a right is, by two letters, or by a side's letter (K, Q, k or q) if
--- its colour has no rook on its first rank; whether a file's letter finds a rook is not tested here. A right without a
--- letter is not there, which is no fault. In normal chess no right is named wrongly
+-- whether a castling field's letters name no right wrongly. In Chess960 two letters for one right do, and a side's
+-- letter (K, Q, k or q) does if its colour has no rook on its first rank; whether a file's letter finds a rook is not
+-- tested here. A right without a letter is not there, which is no fault. In normal chess no right is named wrongly
 abbrev pub names_well : Variant → Men → List ℕ → Bool
 names_well v men letters = list_all
     (λ c. is_some (right_in v men letters c KingSide) && is_some (right_in v men letters c QueenSide))

@@ -28,7 +28,7 @@ abbrev pub squares_of : ℕ → Option (List (Option Man))
 squares_of c = if nat_le (byte "1") c && nat_le c (byte "8") then Some (replicate (c - byte "0") None) else option_map
     (λ m. Some m ∷ []) (man_with_letter c)
 
--- all these values, if none of them is missing
+-- the values in a list of options, in their order; `None` if one of the options is `None`
 abbrev pub all_there : {A : Type 0} → List (Option A) → Option (List A)
 all_there [] = Some []
 all_there (o ∷ os) = option_and_then (λ x. option_map (λ xs. x ∷ xs) (all_there os)) o
@@ -46,8 +46,8 @@ abbrev pub from_top : List (List (Option Man)) → List (Option Man)
 from_top [] = []
 from_top (row ∷ rows) = from_top rows ++ row
 
--- the pieces that a FEN's first field denotes: eight ranks, rank 8 first, with a slash between them; none for any other
--- text
+-- what is on the 64 squares, from a1 to h8, as a FEN's first field denotes it: by eight ranks, rank 8 first, with a
+-- slash between them. `None` for any other text
 abbrev pub placement_of : List ℕ → Option (List (Option Man))
 placement_of text = let ranks = slice_split (λ c. c == byte "/") text in
     if length ranks == 8 then option_map from_top (all_there (map rank_of ranks)) else None
@@ -87,8 +87,8 @@ is_castling v text = bytes_eq text (codes "-") || are_right_letters v text
 
 -- ---- target
 
--- what a FEN's fourth field denotes: by a dash no target (`Some None`), by the name of a square on rank 3 or 6 that
--- square; none for any other text
+-- what a FEN's fourth field denotes: a dash denotes no target (`Some None`), the name of a square on rank 3 or 6 that
+-- square (e3 is `Some (Some 20)`). `None` for any other text
 abbrev pub target_of : List ℕ → Option (Option ℕ)
 target_of (c ∷ []) = if c == byte "-" then Some None else None
 target_of (f ∷ r ∷ []) = if nat_le (byte "a") f && nat_le f (byte "h")

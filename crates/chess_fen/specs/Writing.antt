@@ -21,8 +21,8 @@ abbrev pub raised : List ℕ → List ℕ
 raised [] = []
 raised (c ∷ cs) = suc c ∷ cs
 
--- the text of squares of one rank, from file a on, as "4P3": a piece's letter for each piece, and for empty squares side
--- by side the digit that counts them
+-- the text of squares of one rank, from file a on, as "4P3": a piece's letter for each piece, and for empty squares
+-- side by side the digit that counts them
 abbrev pub fen_rank : List (Option Man) → List ℕ
 fen_rank [] = []
 fen_rank (Some man ∷ row) = letter man ∷ fen_rank row
@@ -65,8 +65,7 @@ abbrev pub fen : Setup → List ℕ
 fen p = join_with_byte space (placement_text p.men ∷ side_text p.side ∷ rights_text p.variant p.rights ∷ target_text
     p.target ∷ decimal p.halfmove ∷ decimal p.fullmove ∷ [])
 
--- whether a position has the FEN of normal chess's initial position. No two positions of normal chess have the same
--- FEN, so of these it is the initial position alone; and of Chess960 none, since a FEN of Chess960 has other letters of
--- rights
+-- whether a position has the FEN of normal chess's initial position. Of all sound positions only that one has it: no
+-- two sound positions of normal chess have the same FEN, and in Chess960 rights have other letters
 abbrev pub is_initial : Setup → Bool
 is_initial start = bytes_eq (fen start) (fen initial_setup)

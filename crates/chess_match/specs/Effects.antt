@@ -32,7 +32,7 @@ pub data Phase : Type 0 where
   Setup : (side : Colour) → Phase
   -- the moment at which that side's turn begins, once the lines that open it are sent
   Opening : (side : Colour) → Phase
-  -- that side's move, in a turn that began at this moment
+  -- that side's move, in a turn that began at the moment `opened`, in milliseconds by the clock
   BeforeMove : (side : Colour) → (opened : ℕ) → Phase
   -- that side's `pong`: it has moved, and the other is not yet sent the move
   AfterMove : (side : Colour) → Phase
@@ -46,7 +46,8 @@ pub record Match : Type 0 where
   pub seat : Colour → Seat
   -- the moves so far
   pub played : List Move
-  -- how many lines came in this handshake, or were ignored in this setup or turn
+  -- how many lines came so far in this handshake, or were ignored so far in this setup or turn. A turn lasts until the
+  -- `pong` after its move
   pub count : ℕ
 
 -- what an event does: the match after it, and the lines that each side is then sent (`to`)
@@ -56,24 +57,24 @@ pub record Effect : Type 0 where
 
 -- ---- what is asked of a match
 
--- the milliseconds that the side `S` has left after the moves that it has made; a turn that is on is not counted
+-- the milliseconds that the side `S` has left after the moves that it has made; the time of a turn in progress is not
+-- deducted
 abbrev pub clock : Rules → Match → Colour → ℕ
 clock r m S = time_left r.level (length (m.seat S).used) (sum (m.seat S).used)
 
--- the number of the latest `ping` that the side `S` was sent, or is due to be: 1 in its setup, n + 1 after its n-th
--- move (there is a used time for each of its moves)
+-- the number of the `ping` that the side `S` is sent after the latest of its moves: n + 1 after the n-th; 1, the `ping`
+-- of its setup, if it has not moved yet. Its moves are counted by their times in `used`
 abbrev pub ping_number : Match → Colour → ℕ
 ping_number m S = length (m.seat S).used + 1
 
--- whether the side `S` was ever sent a move. What is tested is whether the other side has made one: there is a used
--- time for each of its moves. This is asked only in a turn of `S`, and then all moves of the other side were sent, so
--- that both are the same
+-- whether the side `S` was ever sent a move. What is tested is whether the other side has made one (`used` has a time
+-- for each). Both are the same in a turn of `S`, where this is asked: by then `S` was sent each move of the other side
 abbrev pub was_sent_move : Match → Colour → Bool
 was_sent_move m S = nat_lt 0 (length (m.seat (other S)).used)
 
--- what an engine that sent these items lacks for the match, the first of: `ping=1`; `setboard=1`, if a start is sent;
--- for Chess960, `fischerandom` in its last item `variants` (an engine that sent no such item is taken to play it).
--- `None` if it lacks nothing
+-- what an engine that sent these items lacks for the match, the first of: `ping=1`; `setboard=1`, if the start's FEN is
+-- to be sent; for Chess960, `fischerandom` in its last item `variants` (an engine without an item `variants` is taken
+-- to play it). `None` if it lacks nothing
 abbrev pub missing : Rules → List Item → Option MatchFault
 missing r items =
     if not (takes (codes "ping") items) then Some NoPing
@@ -88,12 +89,12 @@ is_owed _ S = false
 
 -- ---- lines
 
--- `xboard`, `protover 2`
+-- the lines that begin the handshake of an engine
 abbrev pub handshake_lines : List SentLine
 handshake_lines = Says (codes "xboard") ∷ Says (codes "protover 2") ∷ []
 
--- the line that sends the last move, in the form that the engine of the side `S` asked for by `usermove=1` and `san=1`:
--- `usermove e2e4`, `e2e4`, `usermove e4` or `e4`
+-- the line that sends the last move to the side `S`: with `usermove` before it if the engine of `S` has that feature
+-- on, and in SAN if it has `san` on. So it is `e2e4`, `usermove e2e4`, `e4` or `usermove e4`
 abbrev pub move_line : Rules → Match → Colour → SentLine
 move_line r m S =
     MoveSent (takes (codes "usermove") (m.seat S).items) (r.move_text (takes (codes "san") (m.seat S).items) m.played)
@@ -108,8 +109,8 @@ abbrev pub clocks : Rules → Match → Colour → List SentLine
 clocks r m S =
     list_if (takes (codes "time") (m.seat S).items) (Time (clock r m S / 10) ∷ Otim (clock r m (other S) / 10) ∷ [])
 
--- the lines that open a turn of the side `S`: in its first turn the last move, the clocks and `go`, later the clocks
--- and the last move
+-- the lines that open a turn of the side `S`: in its first turn the last move (if one was made), the clocks and `go`;
+-- in later turns the clocks and the last move
 abbrev pub opening : Rules → Match → Colour → List SentLine
 opening r m S =
     if nat_lt 0 (length (m.seat S).used) then clocks r m S ++ last_move r m S
@@ -124,15 +125,15 @@ farewell r m reason S =
 
 -- ---- the effects of which rows are made
 
--- the match is then `m`; nothing is sent
+-- the effect after which the match is `m`, and by which no line is sent
 abbrev pub sends_nothing : Match → Effect
 sends_nothing m = record { after = m; to = λ S. [] }
 
--- the match is then `m`; the engine of this side is sent these lines
+-- the effect after which the match is `m`, and by which the engine of this side is sent these lines, the other none
 abbrev pub sends_to : Colour → List SentLine → Match → Effect
 sends_to side lines m = record { after = m; to = λ S. list_if (same_colour side S) lines }
 
--- the match `m` in another phase, in which no line was counted yet
+-- the match `m` once it has gone on to this phase, in which no line was counted yet
 abbrev pub enter : Phase → Match → Match
 enter phase m = record m { phase = phase; count = 0 }
 
@@ -140,22 +141,22 @@ enter phase m = record m { phase = phase; count = 0 }
 abbrev pub with_seat : Colour → (Seat → Seat) → Match → Match
 with_seat S change m = record m { seat = λ side. if same_colour side S then change (m.seat side) else m.seat side }
 
--- the match `m` ends for this reason. Each side is sent its `farewell`, with the last move if it was owed that in the
--- phase until then; but a side gets nothing if the reason is that a write to it failed
+-- the match `m` ends for this reason. Each side is sent its `farewell`, with the last move if by the phase of `m` it
+-- was not yet sent that. But if the reason is that writing to a side failed, that side is sent nothing
 abbrev pub ends : Rules → Reason → Match → Effect
 ends r reason m = record {
   after = record m { phase = Over reason };
   to = λ S. if is_unwritten reason S then [] else farewell r m reason S;
 }
 
--- a line of the side `S` is ignored; the 10,000th in one setup or turn ends the match
+-- a line of the side `S` is ignored; the 10,000th ignored line of one setup or turn ends the match
 abbrev pub ignores : Rules → Colour → Match → Effect
 ignores r S m =
     if nat_le 10000 (m.count + 1) then ends r (Faulted S Flood) m
     else sends_nothing (record m { count = m.count + 1 })
 
--- the turn of the side `S` is opened: the lines for that are due, and no line of this turn is counted yet. Its time
--- runs from the moment that is read once they are sent (`Opening`)
+-- the turn of the side `S` is opened: `S` is sent the lines of `opening`, and no line of the turn is counted yet. Its
+-- time runs from the moment that the clock shows once these are sent; until that is read, the phase is `Opening`
 abbrev pub begins_turn : Rules → Colour → Match → Effect
 begins_turn r S m = let m' = enter (Opening S) m in sends_to S (opening r m' S) m'
 
@@ -165,8 +166,9 @@ unless_decided r m otherwise = option_map_or (λ verdict. ends r (Decided verdic
 
 -- ---- a line in a turn
 
--- `offer draw` of the side `S`: agreed if the other's offer is open, ignored if its own is; else its offer is open from
--- now on, and the other is sent `draw`, unless its engine turned that off, as by `draw=0`
+-- `offer draw` of the side `S`. If an offer of the other side is open, the draw is agreed. If one of `S` is open
+-- already, the line is ignored. Else the offer of `S` is open from now on, and the other side is sent `draw`, unless
+-- the engine of that side has the feature off (`draw=0`)
 abbrev pub offer_row : Rules → Colour → Match → Effect
 offer_row r S m =
     if (m.seat (other S)).offers then ends r Agreed m
@@ -174,8 +176,8 @@ offer_row r S m =
     else sends_to (other S) (list_if (takes (codes "draw") (m.seat (other S)).items) (Says (codes "draw") ∷ []))
     (with_seat S (λ s. record s { offers = true }) m)
 
--- what a line of the side `S` does in its turn, if `before_move` and `after_move` say nothing else of its kind: the
--- same while its move is awaited and while its `pong` is
+-- what a line of this kind of the side `S` does in the turn of `S`, except where `before_move` (for `move`) and
+-- `after_move` (for `move` and `pong`) say otherwise
 abbrev pub turn_row : Rules → Colour → LineKind → Match → Effect
 -- `resign`: `S` loses
 turn_row r S Resigns m = ends r (over_by.Resigns S) m
@@ -183,15 +185,16 @@ turn_row r S Resigns m = ends r (over_by.Resigns S) m
 turn_row r S OffersDraw m = offer_row r S m
 -- `1/2-1/2`: a draw, if one may be claimed; else an offer of a draw
 turn_row r S ClaimsDraw m = option_map_or (λ claim. ends r (Claimed claim) m) (r.claim m.played) (offer_row r S m)
--- `1-0` or `0-1`: `S` loses, by a false claim if it names itself the winner, else by resigning
+-- `1-0` or `0-1`: `S` loses, by a false claim if it names itself the winner (a mate ends the match without a claim),
+-- else by resigning
 turn_row r S (ClaimsWin winner) m = ends r (if same_colour winner S then ClaimsFalsely S else over_by.Resigns S) m
 -- `Illegal move`: `S` loses, but if it was never sent a move, the line is ignored
 turn_row r S Rejects m = if was_sent_move m S then ends r (RejectsLegalMove S) m else ignores r S m
 -- any other line is ignored
 turn_row r S _ m = ignores r S m
 
--- the match `m` after this move of the side `S`, which took `used` milliseconds: they are added to its used times, the
--- other side's offer lapses, and the `pong` of `S` is awaited
+-- the match `m` after this move of the side `S`, which took `used` milliseconds: they are added to its used times, an
+-- open offer of a draw by the other side lapses, and the `pong` of `S` is awaited
 abbrev pub moved : Colour → Move → ℕ → Match → Match
 moved S move used m =
     with_seat (other S) (λ s. record s { offers = false }) (with_seat S (λ s. record s { used = s.used ++ used ∷ [] })
@@ -231,8 +234,8 @@ after_move r S kind m = turn_row r S kind m
 
 -- ---- a line before the game
 
--- what follows once both handshakes are done. The options are what White's engine lacks, and what Black's lacks. In
--- each case the count of lines, which was that of the handshake, is 0 again
+-- what follows once both handshakes are done; the options are what White's engine lacks, and what Black's lacks
+-- (`None`: nothing). In each case the count of lines, which was that of the handshake, is 0 again
 abbrev pub judged : Rules → Option MatchFault → Option MatchFault → Match → Effect
 -- White's engine lacks something: the match ends, whatever Black's lacks
 judged r (Some fault) _ m = ends r (Faulted White fault) (record m { count = 0 })
@@ -241,7 +244,8 @@ judged r None (Some fault) m = ends r (Faulted Black fault) (record m { count = 
 -- neither does: White's setup begins
 judged r None None m = sends_to White (setup_lines r) (enter (Setup White) m)
 
--- what follows when the handshake of this side is done: after White's comes Black's, and then both engines are judged
+-- what follows when the handshake of this side is done: after White's comes Black's, and after that it is judged what
+-- each engine lacks
 abbrev pub handshake_done : Rules → Colour → Match → Effect
 handshake_done r White m = sends_to Black handshake_lines (enter (Handshake Black) m)
 handshake_done r Black m = judged r (missing r (m.seat White).items) (missing r (m.seat Black).items) m
@@ -250,9 +254,9 @@ handshake_done r Black m = judged r (missing r (m.seat White).items) (missing r 
 abbrev pub with_answers : Colour → List Item → Effect → Effect
 with_answers side items e = record e { to = λ S. list_if (same_colour side S) (answers_to items) ++ e.to S }
 
--- a line of the side `S` in its handshake, which has these items (none, if it is no `feature` line): they are kept, and
--- each is answered. `done=1` ends the handshake; if the 1,000th line, of whatever kind, comes without it, the match
--- ends
+-- a line of the side `S` in its handshake, which has these items (none, if it is no `feature` line): they are added to
+-- those known of `S`, and each is answered. `done=1` ends the handshake; if the 1,000th line, of whatever kind, comes
+-- without it, the match ends
 abbrev pub handshake_row : Rules → Colour → List Item → Match → Effect
 handshake_row r S items m =
     let m' = with_seat S (λ s. record s { items = s.items ++ items }) m in
@@ -278,7 +282,8 @@ abbrev pub items_said : LineKind → List Item
 items_said (Features text) = items_of text
 items_said _ = []
 
--- what a line of this kind that came at `moment` does, by what the match waits for
+-- what a line of this kind does in the phase given; it was sent by the side that this phase waits for, and came at
+-- `moment`, in milliseconds by the clock
 abbrev pub line_row : Rules → Phase → LineKind → ℕ → Match → Effect
 line_row r (Handshake S) kind moment m = handshake_row r S (items_said kind) m
 line_row r (Setup S) kind moment m = setup_row r S kind m
@@ -297,7 +302,7 @@ abbrev pub effect : Rules → Match → Event → Effect
 effect r m (Line S text moment) = line_row r m.phase (line_kind text) moment m
 -- the lines that open a turn were sent: from this moment on its time runs
 effect r m (Opened S moment) = sends_nothing (record m { phase = BeforeMove S moment })
--- a device ended or failed: the match ends by this fault
+-- an engine's output ended, or a read from the engine or a write to it failed: the match ends by that fault
 effect r m (OutputEnds S) = ends r (Faulted S Ended) m
 effect r m (FailsToRead S) = ends r (Faulted S Read) m
 effect r m (FailsToWrite S) = ends r (Faulted S Write) m

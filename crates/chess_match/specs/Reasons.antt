@@ -36,12 +36,13 @@ fault_comment NoSetboard = codes " has no setboard"
 fault_comment Flood = codes " sent too many lines"
 fault_comment NoVariant = codes " has no fischerandom"
 
--- how a match that ended for this reason is reported: its outcome, its comment, as in `result 1-0 {Black resigns}`, and
--- the value for the tag Termination. The side that a reason names loses, except by `Faulted`: then, and if the game is
--- too long, the outcome is `*`. `Claimed c` names no side: there `c` is the claim
+-- how a match that ended for this reason is reported: its outcome; its comment, without braces, as `Black resigns`; and
+-- how it ended, for the tag Termination (which is `unterminated` in any case if the outcome is `*`). The side `c` that
+-- a reason names loses, except by a fault of its engine or a device (`Faulted`): then, and if the game is too long, the
+-- outcome is `*`
 abbrev pub reported : Reason → Outcome × List ℕ × HowEnded
 reported (Decided v) = (verdict_outcome v, verdict_comment v, Normal)
-reported (Claimed c) = (Draw, claim_comment c, Normal)
+reported (Claimed claim) = (Draw, claim_comment claim, Normal)
 reported Agreed = (Draw, codes "Draw agreed", Normal)
 reported (Resigns c) = (win_of (other c), colour_name c ++ codes " resigns", Normal)
 reported (MovesIllegally c) = (win_of (other c), colour_name c ++ codes " makes an illegal move", RulesInfraction)
@@ -61,19 +62,19 @@ outcome_by_reason reason = (reported reason).0
 abbrev pub comment_of : Reason → List ℕ
 comment_of reason = (reported reason).1
 
--- how a match that ended for this reason came to its end, as the value of the tag Termination (PGN standard, section
--- 9.8.1)
+-- how a match that ended for this reason came to its end, for the tag Termination (PGN standard, section 9.8.1)
 abbrev pub ended_by : Reason → HowEnded
 ended_by reason = (reported reason).2
 
--- the first fault of a match that ended for this reason, and whose it is: the one that ended it, if one did; else a
--- failed write to a side of which `failed` is true, White before Black (in a match, a write of the last lines). `None`
--- if there was no fault
+-- the fault that is reported of a match that ended for this reason, and its side: the fault that is the reason itself;
+-- else `Write`, if writing the last lines to a side failed (`failed`), and White's if it did for both. `None` if there
+-- was no fault
 abbrev pub first_fault : Reason → (Colour → Bool) → Option (Colour × MatchFault)
 first_fault (Faulted c f) failed = Some (c, f)
 first_fault _ failed = if failed White then Some (White, Write) else if failed Black then Some (Black, Write) else None
 
--- the result that is declared in the game when the match ends for this reason; `None` if the board has a verdict
+-- the result that is declared in the game when the match ends for this reason; `None` if the board has a verdict (the
+-- first argument), since the game has its result by that
 abbrev pub declared_at : Option Verdict → Reason → Option Declared
 declared_at (Some v) reason = None
 declared_at None reason = Some (record { outcome = outcome_by_reason reason; comment = comment_of reason })

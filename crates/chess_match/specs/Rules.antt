@@ -22,12 +22,13 @@ use Rattle.cecp_engine.specs.Levels.{LevelSeen}
 use Rattle.chess_base.specs.declared.man.Variant.{Variant}
 use Rattle.chess_base.specs.declared.man.Variant.TheVariants.{Normal, Fischerandom}
 
--- what a match needs to know of its game: what is fixed when it begins, and functions of the moves played so far. The
--- other definitions of a match learn only from these what moves mean. The comments say what each is in chess, for which
--- `rules_of`, below, gives them; the type allows any values
+-- what a match needs to know of its game: first what is fixed when it begins, then functions of the moves played so
+-- far, from which alone a match learns what moves mean. The type allows any values; the comments describe those that
+-- `rules_of`, below, gives for chess
 pub record Rules : Type 0 where
+  -- normal chess or Chess960
   pub variant : Variant
-  -- the FEN that `setboard` sends; `None` for the initial position of normal chess
+  -- the FEN of the start, for `setboard`; `None` for the initial position of normal chess: then no `setboard` is sent
   pub start_fen : Option (List ℕ)
   -- who is on move at the start
   pub first : Colour
@@ -39,16 +40,17 @@ pub record Rules : Type 0 where
   pub reading : List Move → List ℕ → Option Move
   -- why the game is over after these moves (mate, or a draw that nobody need claim); `None` if it is not
   pub verdict : List Move → Option Verdict
-  -- the draw that may be claimed after these moves, if any
+  -- the draw that may be claimed after these moves (threefold repetition or 50 moves); `None` if none may be
   pub claim : List Move → Option DrawClaim
-  -- the text of the last of these moves: in SAN if the test is `true`, else by squares (`e2e4`)
+  -- the text of the last of these moves: in SAN if the first argument is `true`, else by its squares (`e2e4`), where
+  -- castling in Chess960 is `O-O` or `O-O-O`. Empty if there is no move
   pub move_text : Bool → List Move → List ℕ
   -- whether after these moves that side has no piece but its king
   pub has_bare_king : List Move → Colour → Bool
 
 -- ---- chess
 
--- the move that a text was read as, if it denotes exactly one legal move
+-- the move in the result of reading a text; `None` if the text denotes no legal move, or more than one
 abbrev pub move_read : Reading → Option Move
 move_read (reads.Move m) = Some m
 move_read _ = None
@@ -60,11 +62,11 @@ text_of_last as_san p [] = []
 text_of_last as_san p (m ∷ []) = if as_san then san p m else shown_move p m
 text_of_last as_san p (m ∷ n ∷ ms) = text_of_last as_san (after p m) (n ∷ ms)
 
--- whether a square (`man` is what is on it) is empty, or has a king or a piece of the other colour than `c`
+-- whether the content `man` of a square is nothing, a king of either colour, or any piece of the opponent of `c`
 abbrev pub is_king_or_other : Colour → Option Man → Bool
 is_king_or_other c man = option_map_or (λ (x : Man). not (same_colour x.colour c) || same_kind x.kind King) man true
 
--- whether the side `c` has no piece but its king; `men` are the 64 squares
+-- whether the side `c` has no piece but its king; `men` are the 64 squares. That it has a king is not tested here
 unfoldable pub has_bare_king : Colour → Men → Bool
 has_bare_king c men = list_all (is_king_or_other c) men
 
@@ -73,14 +75,14 @@ abbrev pub is_fischerandom : Variant → Bool
 is_fischerandom Normal = false
 is_fischerandom Fischerandom = true
 
--- the FEN that `setboard` sends to the engines for this start; `None` for the initial position of normal chess, in
--- which `new` starts anyway
+-- the FEN that `setboard` sends to the engines for this start; `None` for the initial position of normal chess, which
+-- `new` sets up. In Chess960 one is always sent
 abbrev pub fen_sent : Setup → Option (List ℕ)
 fen_sent start = if is_initial start && not (is_fischerandom start.variant) then None else Some (fen start)
 
--- chess, as the answers to what `Rules` asks: of the game from this start, with this time control, of at most `limit`
--- half-moves. Texts are read and bare kings looked for in the position after the moves played; verdicts, claims and the
--- text of a move go by the start and all moves
+-- the rules of chess for a game from the position `start`, with this time control, of at most `limit` half-moves. Texts
+-- are read, and bare kings looked for, in the position after the moves played; the verdict, the claim and the text of
+-- the last move depend on the start and all moves
 unfoldable pub rules_of : Setup → LevelSeen → ℕ → Rules
 rules_of start level limit = record {
   variant = start.variant;

@@ -17,11 +17,11 @@ abbrev pub lines_of : List ℕ → List (List ℕ)
 lines_of [] = []
 lines_of (c ∷ cs) = if c == 10 then (c ∷ []) ∷ lines_of cs else onto_first c (lines_of cs)
 
--- a text without the bytes EF BB BF at its front
+-- a text without the byte order mark of UTF-8 (the bytes EF BB BF) at its front, if it has one there
 abbrev pub without_mark : List ℕ → List ℕ
 without_mark text = if bytes_eq (take 3 text) (239 ∷ 187 ∷ 191 ∷ []) then drop 3 text else text
 
--- the bytes that decide a line's kind: its first 256, without a byte order mark
+-- the front of a line, which decides the line's kind: its first 256 bytes, without a byte order mark at their beginning
 abbrev pub front_of : List ℕ → List ℕ
 front_of line = without_mark (take 256 line)
 
@@ -37,7 +37,8 @@ is_blank c = (c == 32) || (c == 9)
 abbrev pub is_white : ℕ → Bool
 is_white c = is_blank c || (c == 13) || (c == 10)
 
--- the name of the tag with which a line begins: the letters, digits and underscores after its first byte
+-- the name of the tag with which the front of a line begins: the letters, digits and underscores after its first byte,
+-- which is to be `[` but is not tested here
 abbrev pub tag_name : List ℕ → List ℕ
 tag_name front = take_while is_name_byte (drop 1 front)
 
@@ -76,8 +77,8 @@ is_moves_line line = not (is_tag_line line || is_empty_line line)
 
 -- ---- the pieces of a text
 
--- whether a line begins a new piece, where `piece` are the lines of the last piece before it: a tag line does, if a
--- line of moves is among these; and an Event line does, if an Event line is among these
+-- whether a line begins a new piece, where `piece` are the lines of the last piece before it. A tag line does if
+-- `piece` has a line of moves; an Event line does also if `piece` has an Event line
 abbrev pub begins_piece : List (List ℕ) → List ℕ → Bool
 begins_piece piece line = is_tag_line line
     && (list_any is_moves_line piece || (is_event_line line && list_any is_event_line piece))
@@ -122,8 +123,8 @@ abbrev pub with_offsets : ℕ → List (List ℕ) → List Piece
 with_offsets offset [] = []
 with_offsets offset (bytes ∷ rest) = piece_at offset bytes ∷ with_offsets (offset + length bytes) rest
 
--- the pieces that are known of an input, from an offset on at which a piece begins, if this text follows there. If the
--- input ends after the text (`ended`), these are all its pieces, else all but the last, which may go on
+-- the pieces from this offset of an input on, where a piece begins, as far as they are known by this text, which
+-- follows there. If the input ends after the text (`ended`), all are known; else all but the last, which may go on
 abbrev pub pieces_from : Bool → ℕ → List ℕ → List Piece
 pieces_from ended offset text =
     let all = cut text in with_offsets offset (if ended then all else take (length all - 1) all)
