@@ -23,11 +23,13 @@ use Rattle.cecp_engine.specs.Levels.{LevelSeen, level_of}
 
 -- ---- what arguments say
 
--- the value that an option was given, by its name, or `None`; the value of a flag that was given is `true`
+-- the values of options by their names, which are without `--`; `None` for an option that was not given. The value of a
+-- flag that was given is the text `true`
 abbrev pub Values : Type 0
 Values = Text → Option Text
 
--- what arguments say: the subcommand, what its options were given, and the arguments that `stub` plays
+-- what arguments say: the subcommand's name, the values of its options, and as `replies` the arguments after `stub`, an
+-- engine that plays these in order; `[]` for any other subcommand
 pub record Said : Type 0 where
   pub command : Text
   pub value : Values
@@ -37,8 +39,8 @@ pub record Said : Type 0 where
 abbrev pub text_or : Text → Values → Text → Text
 text_or name value default = unwrap_or (value name) default
 
--- the number that the value of `--games` denotes, where a `+` may come first; 1 if it was not given. That the value is
--- a number is not checked here
+-- how many games `--games` asks for, in decimal, where a `+` may come first; 1 without `--games`. That its value is a
+-- number is not checked here, but by the grammar (`games_rule`)
 abbrev pub games_in : Values → ℕ
 games_in value = option_map_or (λ t. digits_value 10 (without_leading_plus t)) (value (codes "games")) 1
 
@@ -47,7 +49,7 @@ abbrev pub variant_in : Values → Variant
 variant_in value =
     if bytes_eq (text_or (codes "variant") value (codes "normal")) (codes "fischerandom") then Fischerandom else Normal
 
--- whether the flag `name`, such as `--quiet`, was given
+-- whether the flag with this name, such as `quiet` for `--quiet`, was given
 abbrev pub is_set : Text → Values → Bool
 is_set name value = bytes_eq (text_or name value (codes "false")) (codes "true")
 
@@ -60,31 +62,33 @@ verify_plan_of value = record {
   explain = is_set (codes "explain") value;
 }
 
--- ---- what it means
+-- ---- what they mean
 
 -- the value of `--date`, `????.??.??` if it was not given
 abbrev pub date_asked : Values → Text
 date_asked value = text_or (codes "date") value (codes "????.??.??")
 
--- the position that a match starts in: what the value of `--fen` denotes as a FEN of the variant, or its fault; without
--- `--fen` the initial position of the variant
+-- the position in which each game of a match starts: the one that the value of `--fen` denotes as a FEN of the variant
+-- that `--variant` asks for, or the FEN's fault; without `--fen` that variant's initial position
 abbrev pub start_asked : Values → Result Setup FenFault
 start_asked value = let v = variant_in value in
     option_map_or (fen_reading_as v) (value (codes "fen")) (Ok (initial_setup_of v))
 
--- whether a text can be the tag Date: at most 60 bytes of printable ASCII (it need not be a date)
+-- whether a text may be the value of the tag Date: at most 60 bytes of printable ASCII (32 to 126). It need not be a
+-- date
 abbrev pub is_date : Text → Bool
 is_date text = nat_le (length text) 60 && list_all (λ b. nat_le 32 b && nat_le b 126) text
 
--- the time control of a match (that of `40 5 0` if `--level` was not given) and its start; or the fault of the first of
--- level, FEN and date that is invalid
+-- the time control of a match and the position in which its games start; or if level, FEN or date is invalid, the fault
+-- of the first that is. Without `--level` the time control is `40 5 0`, 40 moves in 5 minutes without an increment
 abbrev pub level_and_start : Values → Result (LevelSeen × Setup) WordsFault
 level_and_start value = do
   level ← ok_or (level_of (text_or (codes "level") value (codes "40 5 0"))) BadLevel
   start ← result_map_both (λ setup. setup) BadFen (start_asked value)
   if is_date (date_asked value) then Ok (level, start) else Err BadDate
 
--- the plan of a match is what its options say, each as given or by default; `--white` and `--black` have no default
+-- `plan` is the plan of a match with these options, each as given or by default: `--white` and `--black`, which have no
+-- default, are the commands of its engines; level, FEN and date are valid (`read`); and it has 1 to 1,000 games
 pub record IsMatchPlan (value : Values) (plan : MatchPlan) : Type 0 where
   pub white : value (codes "white") ≡ Some plan.white.now
   pub black : value (codes "black") ≡ Some plan.black.now
@@ -94,46 +98,52 @@ pub record IsMatchPlan (value : Values) (plan : MatchPlan) : Type 0 where
   pub date : plan.date.now ≡ date_asked value
   pub log : plan.log ≡ is_set (codes "log") value
 
--- the plan is what the arguments ask for: it is that of their subcommand, with what its options were given
+-- the plan is the one that the arguments, which say `said`, ask for: that of their subcommand, with fields as the
+-- options say; the plan of `stub` contains the arguments after `stub`, in order
 abbrev pub IsPlanOf : Said → Plan → Type 0
 IsPlanOf said Session = said.command ≡ codes "session"
 IsPlanOf said (Verify v) = (said.command ≡ codes "verify") × (v ≡ verify_plan_of said.value)
 IsPlanOf said (Stub arguments) = (said.command ≡ codes "stub") × (map (λ w. w.now) arguments.items ≡ said.replies)
 IsPlanOf said (Match plan) = (said.command ≡ codes "match") × IsMatchPlan said.value plan
 
--- the result of reading arguments that `clap`, their parser, accepts is right; `said` is what the arguments say
+-- the result of reading arguments that `clap`, the parser of arguments, accepts is right; `said` is what they say
 abbrev pub IsReadAs : Said → Result Plan WordsFault → Type 0
--- they are read as their plan
+-- the plan that they ask for
 IsReadAs said (Ok plan) = IsPlanOf said plan
--- no fault of `clap` is returned
+-- a fault of `clap` is never right, since it accepts them
 IsReadAs said (Err (Words e)) = ⊥
 -- out of memory may be reported for any arguments
 IsReadAs said (Err NoMemory) = ⊤
--- the level, FEN or date of a match is invalid: the fault of the first that is
+-- `BadLevel`, `BadFen` or `BadDate`: the level, FEN or date of a match is invalid, and this is the fault of the first
+-- that is
 IsReadAs said (Err f) = (said.command ≡ codes "match") × (level_and_start said.value ≡ Err f)
 
 -- ---- by the grammar
 
--- the value that each option was given; `rows` are the options as `clap` matched them
+-- the values of options by their names (see `Values`), from the options as `clap` matched them (`rows`); if an option
+-- has several values, the first
 abbrev pub matched : List Row → Values
 matched rows = λ name. first_of name rows
 
--- what arguments say; `p` is the subcommand's name and its options as `clap` matched them
+-- what arguments say; `p` is the subcommand's name and its options as `clap` matched them. `words` is the name by which
+-- `clap` knows the arguments after `stub`; without these, as for any other subcommand, `replies` is `[]`
 abbrev pub said_by : Text × List Row → Said
 said_by p =
     record { command = p.0; value = matched p.1; replies = unwrap_or (all_of (codes "words") p.1) [] }
 
--- the result of reading these arguments is right. `names` are the names that `--variant` takes
+-- the result of reading these arguments is right by the grammar in which `--variant` takes the names `names`
 abbrev pub IsReadBy : Lent → List Text → Result Plan WordsFault → Type 0
--- an error of `clap`, whose kind is one that `clap` may report for these arguments; asking for help or for the version
--- counts as one, too
+-- an error of `clap`, of a kind that `clap` may report for these arguments. A request for help or for the version
+-- counts as an error too
 IsReadBy names arguments (Err (Words e)) = IsAmong (kind_of e) (faults_in names arguments)
 -- out of memory may be reported for any arguments
 IsReadBy names arguments (Err NoMemory) = ⊤
--- a plan, or an invalid level, FEN or date: `clap` finds no fault in the arguments, and they are read as what they say
+-- a plan, or an invalid level, FEN or date: `clap` finds no fault in the arguments, and the result is right by what
+-- they say
 IsReadBy names arguments r = (faults_in names arguments ≡ []) × IsReadAs (said_by (asked names arguments)) r
 
--- the result of reading these arguments is right by the grammar of the command line. `names` is the list `normal`,
--- `fischerandom` of what `--variant` takes: the grammar holds a reference to it, and only these texts matter
+-- the result of reading these arguments, which come without the program's name, is right by the grammar of the command
+-- line. The grammar contains a reference to the list of names that `--variant` takes; `names` is some reference to the
+-- list `normal`, `fischerandom`, and it does not matter where in memory that is
 abbrev pub IsReading : List Text → Result Plan WordsFault → Type 0
 IsReading arguments result = (names : Lent) × AreVariants names × IsReadBy names arguments result

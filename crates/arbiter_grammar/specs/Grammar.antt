@@ -16,7 +16,7 @@ option_rule name = record (new_rule name) { long = Some name; value_names = 1 }
 abbrev pub flag_rule : Text → Rule
 flag_rule name = record (new_rule name) { long = Some name; action = Some SetTrue }
 
--- the option `r` with the difference that it must be given
+-- the option `r`, but it must be given
 abbrev pub needed : Rule → Rule
 needed r = record r { required = true }
 
@@ -54,7 +54,7 @@ verify_app = fold with_rule (new_app (codes "verify"))
     (flag_rule (codes "keep-going") ∷ flag_rule (codes "quiet") ∷ flag_rule (codes "strict")
     ∷ flag_rule (codes "explain") ∷ [])
 
--- the rule `words` of `stub`: any number of arguments without an option's name
+-- the positional arguments of `stub`, any number of them; `clap` knows them by the name `words`
 abbrev pub words_rule : Rule
 words_rule = record (new_rule (codes "words")) { action = Some Append; value_names = 1 }
 
@@ -74,13 +74,13 @@ abbrev pub arbiter_app : Lent → App
 arbiter_app names = fold with_subcommand bare_app
     (session_app.top ∷ verify_app.top ∷ stub_app.top ∷ (match_app names).top ∷ [])
 
--- what the arguments (`words`) ask for, as `clap` matches them: the subcommand, and what each of its options was
--- given. Without a subcommand it is `session`. `names` are those that `--variant` takes
+-- what the arguments (`words`) ask for if they have no fault (see `faults_in`): the subcommand's name and its options,
+-- as `clap` matches them; `session` without options if there is no subcommand. `names` are those that `--variant` takes
 abbrev pub asked : Lent → List Text → Text × List Row
 asked names words = unwrap_or (subcommand_of (arbiter_app names) words) (codes "session", [])
 
--- the kinds of fault that `clap` may report for these arguments; empty if it accepts them. `names` are those that
--- `--variant` takes
+-- the kinds of fault, apart from out of memory, that `clap` may report for the arguments `words`; empty if it accepts
+-- them. A request for help or for the version counts as a fault. `names` are those that `--variant` takes
 abbrev pub faults_in : Lent → List Text → Kinds
 faults_in names words = fault_of (arbiter_app names) words
 

@@ -10,43 +10,46 @@ use Rattle.pgn_verifier.specs.declared.options.VerifyOptions.{VerifyOptions}
 use Rattle.pgn_verifier.specs.declared.tally.Verified.{Verified}
 use Rattle.pgn_verifier.specs.Reports.{Report, AreReportsIn, report_lines, counts_line, counts_of, verified}
 
--- these are the reports on the games of a collection of which this text was read: on all its pieces, one after another,
--- if the text is all of it (`ended`), else on all but the last, which may be incomplete. `strict`: a contradiction
--- about a game's result is a fault
+-- `reports` are those on the games of a collection of which `text` was read, piece after piece: on all pieces of the
+-- text if the collection ends after it (`ended`), else on all but the last piece, which may be incomplete. `strict`: an
+-- outcome mark, such as `1-0`, that contradicts the tag Result or the board's verdict is a fault
 abbrev pub AreCollectionReports : Bool → Bool → List ℕ → List Report → Type 0
 AreCollectionReports strict ended text reports = (by_piece : List (List Report))
     × AllZip (AreReportsIn strict) (pieces ended text) by_piece × (reports ≡ flat_map (λ part. part) by_piece)
 
--- all that is written of a collection whose games have these reports: their lines, numbered from 1, and if all of it
--- was read (`ended`) the line of counts
+-- all that is written of a collection of which `text` was read, if its games have these reports: their lines, numbered
+-- from 1, and at the end the line of counts if the whole collection was read (`ended`)
 abbrev pub collection_text : VerifyOptions → Bool → List ℕ → List Report → List ℕ
 collection_text options ended text reports =
     report_lines options text 1 reports ++ (if ended then counts_line (counts_of reports) else [])
 
--- reading stopped before the input's end was reported, and the lines of the pieces whose end was read (all but the
--- last) were written, but not flushed
+-- reading (`i`) stopped before the input's end was reported; the lines of all pieces of what was read but the last,
+-- which may be incomplete, were written (`o`), without a line of counts, and nothing was flushed. No write or flush
+-- failed
 abbrev pub WritesPart : VerifyOptions → FromInput → ToOutput → Type 0
 WritesPart options i o = (i.ended ≡ false)
     × ((reports : List Report) × AreCollectionReports options.strict false i.text reports
     × (o ≡ all_unflushed (collection_text options false i.text reports)))
 
--- what verifying a collection reads (`i`) and writes (`o`), by its result. `options` say whether a contradiction about
--- a game's result is a fault (`strict`), whether only faults have a line (`quiet`), and whether faults are explained
--- (`explain`)
+-- what verifying a collection reads (`i`) and writes (`o`), by its result. Of the `options`, with `strict` an outcome
+-- mark, such as `1-0`, that contradicts the tag Result or the board's verdict is a fault; with `quiet` only faults have
+-- a line; with `explain` a second line explains each fault
 abbrev pub VerifiesCollection : VerifyOptions → Result Verified VerifyFault → FromInput → ToOutput → Type 0
--- the whole input was read; the lines of its reports and the line of counts were written and flushed; `verdict` says
--- whether there was a fault
-VerifiesCollection options (Ok verdict) i o = IsWhole i
+-- the whole input was read; the lines of its reports and the line of counts were written and flushed; `summary` is
+-- `FaultReported` if there was a fault, else `EachGame`
+VerifiesCollection options (Ok summary) i o = IsWhole i
     × ((reports : List Report) × AreCollectionReports options.strict true i.text reports
-    × (o ≡ all_of (collection_text options true i.text reports)) × (verdict ≡ verified (counts_of reports)))
--- no read failed, and a write or the flush failed: of the lines for the bytes that were read a beginning was written
+    × (o ≡ all_of (collection_text options true i.text reports)) × (summary ≡ verified (counts_of reports)))
+-- no read failed, whether the input's end was reported or not; of the lines for what was read (see `collection_text`) a
+-- beginning (it may be empty, or all of them) was written, nothing was flushed, and then a write or the flush failed
 VerifiesCollection options (Err WriteFailed) i o = IsUnbroken i
     × ((reports : List Report) × AreCollectionReports options.strict i.ended i.text reports
     × BreaksOffIn [] (collection_text options i.ended i.text reports) o)
--- a read failed, and what was written is as `WritesPart` says
+-- a read failed before the input's end was reported, and what was written is as `WritesPart` says
 VerifiesCollection options (Err ReadFailed) i o = IsCutOff i × WritesPart options i o
--- memory ran out; the same was written
+-- memory ran out before the input's end was reported; no read failed, and what was written is as `WritesPart` says
 VerifiesCollection options (Err NoMemory) i o = IsUnbroken i × WritesPart options i o
--- at least 2^63 - 2^16 bytes were read; the same was written
+-- at least 2^63 - 2^16 bytes were read, without the input's end; no read failed, and what was written is as
+-- `WritesPart` says
 VerifiesCollection options (Err InputTooLong) i o =
     IsUnbroken i × (2 ^ 63 ≤ length i.text + 2 ^ 16) × WritesPart options i o

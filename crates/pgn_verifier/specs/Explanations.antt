@@ -27,36 +27,37 @@ shown_byte c = if nat_le 33 c && nat_le c 126 then c else byte "?"
 abbrev pub first_word : List ℕ → List ℕ
 first_word text = take_while (λ c. not (is_white_space c)) (take 40 text)
 
--- a word as an explanation shows it; `(end)` in place of an empty one
+-- a word as an explanation shows it, byte by byte; `(end)` in place of an empty one, even if more text follows it
 abbrev pub shown_word : List ℕ → List ℕ
 shown_word word = if length word == 0 then codes "(end)" else map shown_byte word
 
--- what an explanation shows of a text: its first word
+-- what an explanation shows of a text: its first word, or `(end)` if it is empty or begins with white space
 abbrev pub shown : List ℕ → List ℕ
 shown text = shown_word (first_word text)
 
 -- ---- the part that is wrong; `text` is the text from the fault's byte on
 
--- how many bytes after the fault's byte the wrong part begins; `text` is the text from that byte on. The wrong part of
--- a FEN is the field that is shown for its fault; of anything else it begins at the fault's byte
+-- how many bytes after the fault's byte the wrong part begins; `text` is the text from the fault's byte on. For a bad
+-- FEN the wrong part is the field that is shown for its fault; for any other fault it begins at the fault's byte
 abbrev pub part_offset : FaultKind → List ℕ → ℕ
 part_offset (Pgn (BadFen fault)) text = field_offset fault (fen_text text)
 part_offset _ text = 0
 
--- what an explanation shows of the wrong part; `text` is the text from the fault's byte on. Of a FEN it is the field
--- for its fault (`wrong_field`), and at most 80 bytes of it; else the text's first word
+-- what an explanation shows of the wrong part; `text` is the text from the fault's byte on. For a bad FEN it is the
+-- field that is shown for its fault, but at most 80 bytes of it; for any other fault the first word of `text`
 abbrev pub shown_part : FaultKind → List ℕ → List ℕ
 shown_part (Pgn (BadFen fault)) text = shown_word (take 80 (wrong_field fault (fen_text text)))
 shown_part _ text = shown text
 
 -- ---- the reason
 
--- the board's verdict as its outcome and its comment in braces, such as `0-1 {Black mates}`; none without a verdict
+-- the board's verdict as its outcome and its comment in braces, such as `0-1 {Black mates}`; `None` without a verdict
 abbrev pub verdict_reason : Option Verdict → Option (List ℕ)
 verdict_reason verdict = option_map (λ v. result_text (verdict_outcome v) (verdict_comment v)) verdict
 
--- the reason for a fault of reading a game's text, if there is one to give: what a tag lacks, what is wrong with a FEN
--- or a token, or the verdict that ended the game before the move. `text` is the text from the fault's byte on
+-- the reason for a fault of reading a game's text: what a bad tag lacks, what is wrong with a bad FEN or token, or for
+-- a move after the end the verdict that ended the game; `None` for the other kinds. `text` is the text from the fault's
+-- byte on, and `verdict` is the board's where reading stopped
 abbrev pub pgn_reason : PgnFaultKind → List ℕ → Option Verdict → Option (List ℕ)
 pgn_reason BadTag text verdict = Some (tag_reason (drop 1 text))
 pgn_reason (BadFen fault) text verdict = Some (fen_fault_name fault)
@@ -64,33 +65,39 @@ pgn_reason BadToken text verdict = Some (token_reason text)
 pgn_reason AfterEnd text verdict = verdict_reason verdict
 pgn_reason _ text verdict = None
 
--- the reason for a fault, if there is one to give: for a fault of reading that of `pgn_reason`; for `result differs`
--- the first word of the tag Result and the outcome that ends the game's text, as in `Result 1-0, ended 0-1`; for
--- `board says otherwise` the verdict. `text` is the text from the fault's byte on, and `verdict` is the board's where
--- reading stopped
+-- the reason for a fault, or `None` if none is given. `text` is the text from the fault's byte on, and `verdict` is the
+-- board's where reading stopped
 abbrev pub reason : FaultKind → List ℕ → Option Verdict → Option (List ℕ)
+-- a fault of reading the game's text
 reason (Pgn kind) text verdict = pgn_reason kind text verdict
+-- `result differs`: the first word of the tag Result, which has `tag_len` bytes between its quotes, and the outcome of
+-- the game's outcome mark, as in `Result 1-0, ended 0-1`
 reason (ResultDiffers tag_len outcome) text verdict =
     Some (codes "Result " ++ (shown (take tag_len text) ++ (codes ", ended " ++ outcome_text outcome)))
+-- `board says otherwise`: the board's verdict
 reason BoardSaysOtherwise text verdict = verdict_reason verdict
 
 -- ---- the explanation
 
--- whether a position is known at a fault: not if a tag or a FEN could not be read
+-- whether the explanation of a fault in a game shows a position: not for a bad tag or a bad FEN
 abbrev pub has_position : FaultKind → Bool
 has_position (Pgn BadTag) = false
 has_position (Pgn (BadFen fault)) = false
 has_position _ = true
 
--- what explains a fault: how many bytes after the fault's byte the part begins that is wrong, its text as it is shown,
--- the position in which reading stopped, and the reason
+-- what explains a fault
 pub record Explanation : Type 0 where
+  -- how many bytes after the fault's byte the wrong part begins
   pub offset : ℕ
+  -- the wrong part's text as it is shown
   pub text : List ℕ
+  -- the position in which reading stopped; `None` if it is not shown
   pub position : Option Setup
+  -- the reason; `None` if none is given
   pub reason : Option (List ℕ)
 
--- what explains a fault of this kind in the game `s`, where `text` is the text from the fault's byte on
+-- what explains a fault of this kind; `s` is the game as far as it was read, and `text` is the text from the fault's
+-- byte on
 abbrev pub explained : State → List ℕ → FaultKind → Explanation
 explained s text kind = record {
   offset = part_offset kind text;
@@ -109,17 +116,19 @@ too_long_explained beginning = record { offset = 0; text = shown beginning; posi
 abbrev pub optional_part : Option (List ℕ) → List ℕ
 optional_part text = option_map_or (λ t. codes " | " ++ t) text []
 
--- the line after its column: the text of the part that is wrong, the FEN of the position, and the reason
+-- the rest of the line after the column's number and a space: the text of the wrong part, the FEN of the position, and
+-- the reason
 abbrev pub explanation_text : Explanation → List ℕ
 explanation_text e = e.text ++ (optional_part (option_map fen e.position) ++ (optional_part e.reason ++ new_line ∷ []))
 
--- the line that explains a fault, where the part that is wrong is on this line and in this column, such as
--- `# line 2 column 4 Ke3 | ` and a FEN
+-- the line that explains a fault whose wrong part begins on this line of the input and in this column, both counted
+-- from 1, such as `# line 2 column 4 Ke3 | ` and a FEN
 unfoldable pub explanation_at : ℕ → ℕ → Explanation → List ℕ
 explanation_at line column e = codes "# line " ++ (decimal line ++ (codes " column " ++ (decimal column
     ++ (codes " " ++ explanation_text e))))
 
--- the line that explains a fault at this offset of the input
+-- the line that explains a fault at this offset of the input; the line and column in it are those of the wrong part,
+-- which begins `e.offset` bytes later
 abbrev pub explanation_line : List ℕ → ℕ → Explanation → List ℕ
 explanation_line input offset e =
     explanation_at (line_of input (offset + e.offset)) (column_of input (offset + e.offset)) e

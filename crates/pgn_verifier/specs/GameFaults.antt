@@ -20,38 +20,41 @@ use Rattle.pgn_verifier.specs.declared.game_fault.GameFault.{GameFault}
 
 -- ---- contradictions
 
--- the fault of a game whose last tag Result (`tag`) does not name the outcome that ends its text (`end`), but another
--- one or none; no fault without such a tag. Its offset is the first byte of the tag's string
+-- the fault of a game whose last tag Result (`tag`) names another outcome than its outcome mark (`end`), or has a text
+-- that is no outcome; `None` if they agree, or if the game has no such tag. The fault's offset is that of the first
+-- byte between the tag's quotes
 abbrev pub result_differs : Option ResultTag → PgnEnd → Option GameFault
 result_differs None end = None
 result_differs (Some tag) end = if option_eq same_outcome tag.outcome (Some end.outcome) then None
     else Some (record { kind = ResultDiffers tag.len end.outcome; offset = tag.offset })
 
--- the fault of a game whose text ends with another outcome (`end`) than the board's verdict, such as mate; none without
--- a verdict. `*` too is another outcome than a verdict's. The fault's offset is that of the text's outcome mark
+-- the fault of a game whose outcome mark (`end`) differs from the outcome of the board's verdict, such as mate; `*`
+-- differs from that of any verdict. `None` if they agree, or without a verdict. The fault's offset is that of the mark
 abbrev pub board_says_otherwise : Option Verdict → PgnEnd → Option GameFault
 board_says_otherwise verdict end = if contradicts_verdict verdict end.outcome
     then Some (record { kind = BoardSaysOtherwise; offset = end.offset - length (outcome_text end.outcome) }) else None
 
--- the fault of a game whose outcome (`end`) differs from its last tag Result (`tag`) or else from the board's verdict;
--- none if it agrees, or if it isn't compared (`strict` is false)
+-- the fault of a game whose outcome mark (`end`) contradicts its last tag Result (`tag`), or if it does not, the
+-- board's verdict; `None` without a contradiction, or if `strict` is false: then nothing is compared
 abbrev pub contradiction : Bool → Option ResultTag → Option Verdict → PgnEnd → Option GameFault
 contradiction strict tag verdict end =
     if strict then option_or (result_differs tag end) (board_says_otherwise verdict end) else None
 
 -- ---- a game
 
--- what is reported of a game, from how its text was read (the last argument): its end, its fault, or `None` if there
--- was no more game. With `strict` an end that contradicts the tag Result (`tag`) or the board's verdict is a fault too
+-- what is reported of a game, from how its text was read (the last argument): `Ok (Some end)` with its end, `Err` with
+-- its fault, or `Ok None` if the text had no more games. With `strict` an end that contradicts the last tag Result
+-- (`tag`) or the board's verdict is a fault too
 abbrev pub judged : Bool → Option ResultTag → Option Verdict → Result (Option PgnEnd) PgnFault
     → Result (Option PgnEnd) GameFault
 judged strict tag verdict (Ok None) = Ok None
 judged strict tag verdict (Ok (Some end)) = option_map_or Err (contradiction strict tag verdict end) (Ok (Some end))
 judged strict tag verdict (Err fault) = Err (record { kind = Pgn fault.kind; offset = fault.offset })
 
--- `answer` is what is reported of the game from the offset `at` of the text on: its end, its fault, or `None` if the
--- text has no more games; and `s` is this game as far as it was read, of at most 20,000 half-moves. Both follow from
--- `tokens`, the only split of the text into tokens from there on; `strict`: results are compared
+-- `answer` is what is reported (see `judged`) of the first game from the offset `at` of the text on, and `s` is this
+-- game as far as it was read: at most 20,000 half-moves. Both follow from `tokens`, the only split of the text from
+-- `at` on into tokens; a byte order mark at offset 0 is skipped. `strict`: an outcome mark that contradicts the tag
+-- Result or the board's verdict is a fault
 pub record IsJudged (strict : Bool) (text : List ℕ) (at : ℕ) (s : State)
     (answer : Result (Option PgnEnd) GameFault) : Type 0 where
   pub tokens : List (ℕ × Token)

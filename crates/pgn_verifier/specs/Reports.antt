@@ -22,47 +22,54 @@ use Rattle.pgn_verifier.specs.declared.tally.Verified.TheVariants.{EachGame, Fau
 
 -- ---- a report
 
--- a report on a game: how many half-moves it has and how its text says that it ended; or its fault, with the offset
--- from the input's first byte, and what explains it
+-- a report on a game, or on a piece that is too long
 pub data Report : Type 0 where
+  -- a game without a fault: how many half-moves it has, the outcome of its outcome mark, such as `1-0`, and what its
+  -- last tag Termination names; `None` if there is no such tag, or if it has none of the standard's values
   Game : (plies : ℕ) (outcome : Outcome) (termination : Option Termination) → Report
+  -- a fault, with its offset from the input's first byte, and what explains it
   Faulty : (fault : GameFault) (explanation : Explanation) → Report
 
 -- ---- the reports on the games of a text
 
--- these are the reports on the games of a text from its offset `at` on: none, if no game is left; or that on a game
--- without a fault, and then those from its end on; or that on a fault, which is the last. The text begins at the offset
--- `start` of the input; `strict`: results are compared
+-- these are the reports on the games of `text` from its offset `at` on, which is the number before the list. The text
+-- begins at the offset `start` of the input. `strict`: an outcome mark that contradicts the tag Result or the board's
+-- verdict is a fault
 pub data AreReports (strict : Bool) (start : ℕ) (text : List ℕ) : ℕ → List Report → Type 0 where
+  -- no game comes from `at` on
   none_left : {at : ℕ} {s : State} → IsJudged strict text at s (Ok None) → AreReports strict start text at []
+  -- the next game has no fault, and the other reports are on the games after its outcome mark
   next_game : {at : ℕ} {s : State} {end : PgnEnd} {reports : List Report} → IsJudged strict text at s (Ok (Some end))
       → AreReports strict start text end.offset reports
       → AreReports strict start text at (Game (length s.moves) end.outcome end.termination ∷ reports)
+  -- the next game has a fault, and the games after it are not reported. The fault's offset in the text becomes its
+  -- offset in the input
   last_fault : {at : ℕ} {s : State} {fault : GameFault} → IsJudged strict text at s (Err fault)
       → AreReports strict start text at (Faulty (record fault { offset = start + fault.offset })
       (explained s (drop fault.offset text) fault.kind) ∷ [])
 
 -- ---- the reports on the games of pieces
 
--- the report on a piece that is too long: the fault TooLong at its first byte. A game that is full has this kind of
--- fault too, but at the move for which it has no room
+-- the report on a piece that is too long: the fault TooLong at its first byte. A game of more than 20,000 half-moves
+-- has the same kind of fault, but at its 20,001st half-move
 abbrev pub too_long_report : Piece → Report
 too_long_report piece =
     Faulty (record { kind = Pgn TooLong; offset = piece.offset }) (too_long_explained piece.beginning)
 
 -- these are the reports on the games of a piece with these bytes, which are read as a text of its own; a piece that is
--- too long, whose bytes are `None`, has one report. `strict`: results are compared
+-- too long, whose bytes are `None`, has one report. `strict`: see `AreReports`
 abbrev pub AreReportsOn : Bool → Piece → Option (List ℕ) → List Report → Type 0
 AreReportsOn strict piece (Some text) reports = AreReports strict piece.offset text 0 reports
 AreReportsOn strict piece None reports = reports ≡ too_long_report piece ∷ []
 
--- these are the reports on the games of a piece
+-- these are the reports on the games of a piece. `strict`: see `AreReports`
 abbrev pub AreReportsIn : Bool → Piece → List Report → Type 0
 AreReportsIn strict piece reports = AreReportsOn strict piece piece.bytes reports
 
 -- ---- their lines
 
--- what the line says of the tag Termination, such as `, time forfeit`; nothing if the game has none
+-- what the line says of the game's last tag Termination, such as `, time forfeit`; empty if it names none of the
+-- standard's values, or if there is no such tag
 abbrev pub termination_part : Option Termination → List ℕ
 termination_part termination = option_map_or (λ t. codes ", " ++ termination_text t) termination []
 
@@ -79,15 +86,16 @@ fault_line number fault = codes "game "
     ++ (decimal number ++ (codes ": " ++ (fault_name fault.kind ++ (codes " at byte "
     ++ (decimal fault.offset ++ new_line ∷ [])))))
 
--- what is written of a report on a game of the input: the game's line, unless `quiet` leaves it out; or the fault's
--- line, and with `explain` the line that explains it. `number` is the game's number
+-- what is written of a report: a game's line, unless `options.quiet` leaves it out; or a fault's line, and with
+-- `options.explain` the line that explains it. `input` is what was read of the input, `number` the report's number
 abbrev pub written_line : VerifyOptions → List ℕ → ℕ → Report → List ℕ
 written_line options input number (Game plies outcome termination) =
     if options.quiet then [] else game_line number plies outcome termination
 written_line options input number (Faulty fault explanation) = fault_line number fault
     ++ (if options.explain then explanation_line input fault.offset explanation else [])
 
--- the lines of reports on games of the input, which are numbered from `number` on
+-- the lines of these reports, which are numbered from `number` on; a report whose line `quiet` leaves out has a number
+-- too. `input` is what was read of the input
 abbrev pub report_lines : VerifyOptions → List ℕ → ℕ → List Report → List ℕ
 report_lines options input number [] = []
 report_lines options input number (report ∷ rest) =
@@ -119,7 +127,7 @@ counts_of reports = record {
 abbrev pub verified : Tally → Verified
 verified t = if t.faults == 0 then EachGame else FaultReported
 
--- the last line of a collection, such as `games 2 half-moves 6 faults 1`
+-- the last line written of a collection, such as `games 2 half-moves 6 faults 1`
 unfoldable pub counts_line : Tally → List ℕ
 counts_line t =
     codes "games " ++ (decimal t.games ++ (codes " half-moves " ++ (decimal t.half_moves

@@ -8,23 +8,26 @@ use Rattle.pgn_verifier.specs.declared.options.VerifyOptions.{VerifyOptions}
 use Rattle.pgn_verifier.specs.declared.tally.Verified.{Verified}
 use Rattle.pgn_verifier.specs.Reports.{Report, AreReports, report_lines, counts_of, verified}
 
--- what verifying a text reads (`i`) and writes (`o`), by its result. `options` say whether a contradiction about
--- a game's result is a fault (`strict`), whether only faults have a line (`quiet`), and whether faults are explained
--- (`explain`). `PIECE_LEN` is 16,777,216
+-- what verifying a text reads (`i`) and writes (`o`), by its result. Of the `options`, with `strict` an outcome mark,
+-- such as `1-0`, that contradicts the tag Result or the board's verdict is a fault; with `quiet` only faults have a
+-- line; with `explain` a second line explains the fault. `PIECE_LEN` is 16,777,216. The zeros given to `AreReports`:
+-- the text begins at offset 0 of the input, and its games from its own offset 0 on are reported
 abbrev pub Verifies : VerifyOptions → Result Verified VerifyFault → FromInput → ToOutput → Type 0
--- the whole input was read, and has at most `PIECE_LEN` bytes; the lines of its games up to and with the first fault,
--- numbered from 1, were written and flushed; `verdict` says whether there was a fault
-Verifies options (Ok verdict) i o = IsWhole i × (length i.text ≤ PIECE_LEN)
+-- the whole input was read, and has at most `PIECE_LEN` bytes; the lines of its games up to and including the first
+-- fault, numbered from 1, were written and flushed; `summary` is `FaultReported` if there was a fault, else `EachGame`
+Verifies options (Ok summary) i o = IsWhole i × (length i.text ≤ PIECE_LEN)
     × ((reports : List Report) × AreReports options.strict 0 i.text 0 reports
-    × (o ≡ all_of (report_lines options i.text 1 reports)) × (verdict ≡ verified (counts_of reports)))
--- the same was read, and a write or the flush failed after a beginning of these lines
+    × (o ≡ all_of (report_lines options i.text 1 reports)) × (summary ≡ verified (counts_of reports)))
+-- the whole input was read, and has at most `PIECE_LEN` bytes; of the lines as for `Ok` a beginning (it may be empty,
+-- or all of them) was written, nothing was flushed, and then a write or the flush failed
 Verifies options (Err WriteFailed) i o = IsWhole i × (length i.text ≤ PIECE_LEN)
     × ((reports : List Report) × AreReports options.strict 0 i.text 0 reports
     × BreaksOffIn [] (report_lines options i.text 1 reports) o)
 -- a read failed before the input's end, and nothing was written
 Verifies options (Err ReadFailed) i o = IsCutOff i × (o ≡ nothing)
--- memory ran out before the input's end, or at the end of an input of at most `PIECE_LEN` bytes; nothing was written
+-- memory ran out before the input's end, or at the end of an input of at most `PIECE_LEN` bytes; no read failed, and
+-- nothing was written
 Verifies options (Err NoMemory) i o = IsUnbroken i × (i.ended ≡ true → length i.text ≤ PIECE_LEN) × (o ≡ nothing)
--- more than `PIECE_LEN` bytes were read, and the input's end was not reached; nothing was written
+-- more than `PIECE_LEN` bytes were read, and the input's end was not reported; no read failed, and nothing was written
 Verifies options (Err InputTooLong) i o =
     IsUnbroken i × (i.ended ≡ false) × (PIECE_LEN < length i.text) × (o ≡ nothing)

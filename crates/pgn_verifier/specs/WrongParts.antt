@@ -23,7 +23,8 @@ after_spaces text = drop (prefix_len (λ c. c == space) text) text
 abbrev pub from_space : List ℕ → List ℕ
 from_space text = drop (prefix_len (λ c. not (c == space)) text) text
 
--- a FEN from its field with this number on, 0 for the first; spaces separate the fields
+-- a FEN from its field with this number on, 0 for the first; one or more spaces separate fields. Empty if the FEN has
+-- fewer fields
 unfoldable pub from_field : ℕ → List ℕ → List ℕ
 from_field zero fen = after_spaces fen
 from_field (suc number) fen = from_field number (from_space (after_spaces fen))
@@ -58,12 +59,14 @@ field_offset fault fen = length fen - length (from_field (field_number fault fen
 
 -- ---- tags
 
--- what a bad tag lacks, from the text after the opening quote of its string on: the closing quote, or the tag's bracket
+-- what a bad tag lacks, from the text after its opening quote on: the closing quote on the same line; or if that is
+-- there, the tag's `]`, since nothing else can be missing
 abbrev pub string_reason : List ℕ → List ℕ
 string_reason string =
     if is_some (string_at string) then codes "no bracket after the value" else codes "string not closed"
 
--- what a bad tag lacks, from the text after its name on: a value, which begins with a quote, or what comes after it
+-- what a bad tag lacks, from the text after its name on: a value, if no quote comes next, or else what `string_reason`
+-- says
 abbrev pub value_reason : List ℕ → List ℕ
 value_reason text = option_map_or string_reason (after_next (byte "\"") text) (codes "no value")
 
@@ -79,6 +82,6 @@ abbrev pub begins_word : List ℕ → Bool
 begins_word [] = false
 begins_word (c ∷ rest) = is_word_byte c
 
--- what is wrong with a bad token: a word that is not a move, or a byte that begins no token
+-- what is wrong with a bad token, from its first byte on: it is a word that is not a move, or that byte begins no token
 abbrev pub token_reason : List ℕ → List ℕ
 token_reason text = if begins_word text then codes "not a move" else codes "begins no token"
