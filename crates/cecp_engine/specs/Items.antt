@@ -9,7 +9,7 @@ use Rattle.text_lines.specs.Words.{is_name_byte}
 
 -- ---- one item, `NAME=VALUE`
 
--- the value of an item: digits, or the text between double quotes
+-- VALUE in an item `NAME=VALUE` of a `feature` line, as bytes: digits, or the text between two double quotes
 pub data Value : Type 0 where
   Digits : List ℕ → Value
   Quoted : List ℕ → Value
@@ -23,7 +23,8 @@ pub record Item : Type 0 where
 abbrev pub quote_at : List ℕ → ℕ
 quote_at text = position_or_len (λ c. c == byte "\"") text
 
--- the value at the front of a text, and what follows it: a text in double quotes, or digits; `None` if there is neither
+-- the value that a text begins with, and the text after it. The value is in double quotes, and may be empty, or it is a
+-- run of digits; `None` if there is neither, or an opening quote without a closing one
 abbrev pub value_of : List ℕ → Option (Value × List ℕ)
 value_of [] = None
 value_of (c ∷ cs) =
@@ -32,26 +33,27 @@ value_of (c ∷ cs) =
     else if is_digit c then Some (Digits (take_while is_digit (c ∷ cs)), drop (prefix_len is_digit (c ∷ cs)) (c ∷ cs))
     else None
 
--- whether an item may end before this text: it is empty, or begins with a space or tab
+-- whether an item may end right before this text: the text is empty, or begins with a space or tab
 abbrev pub is_apart : List ℕ → Bool
 is_apart [] = true
 is_apart (c ∷ cs) = is_blank c
 
--- the item with this name, whose value is at the front of `rest`, and what follows it, without the spaces and tabs
--- between; `None` if the value is malformed
+-- the item with this name and the value that `rest` begins with, and the text after it, without spaces and tabs at its
+-- front. `None` if `rest` begins with no value, or anything but a space, a tab or the end comes right after the value
 abbrev pub with_value : List ℕ → List ℕ → Option (Item × List ℕ)
 with_value name rest =
     option_and_then (λ (p : Value × List ℕ). if is_apart p.1 then Some
     (record { name = name; value = p.0 }, without_front_blanks p.1) else None) (value_of rest)
 
--- the item whose name is the first text and whose `=` and value are at the front of the second, and what follows it,
--- without the spaces and tabs between; `None` if the name is empty, or `=` or the value is malformed
+-- the item whose name is the first text, and whose `=` and value the second text begins with; and what follows these,
+-- without spaces and tabs at its front. `None` if the name is empty, `=` is missing, or the value is missing or
+-- malformed
 abbrev pub with_name : List ℕ → List ℕ → Option (Item × List ℕ)
 with_name (n ∷ ns) (c ∷ cs) = if c == byte "=" then with_value (n ∷ ns) cs else None
 with_name _ _ = None
 
--- the item at a text's front, such as `ping=1` or `myname="Sjeng"`, and what follows it, without the spaces and tabs
--- between; `None` if it is malformed
+-- the item that a text begins with, such as `ping=1` or `myname="Sjeng"`, and the text after it, without spaces and
+-- tabs at its front; `None` if it begins with no item or a malformed one
 unfoldable pub item_of : List ℕ → Option (Item × List ℕ)
 item_of text = with_name (take_while is_name_byte text) (drop (prefix_len is_name_byte text) text)
 
@@ -66,15 +68,15 @@ is_one (Quoted cs) = false
 abbrev pub ends_handshake : Item → Bool
 ends_handshake i = bytes_eq i.name (codes "done") && is_one i.value
 
--- the items of a text, at most as many as the number says: up to a malformed one, without it, or up to and with
--- `done=1`
+-- the items that a text begins with, at most n (the first argument). A malformed item and all after it are left out,
+-- and so are all after `done=1`
 abbrev pub first_items : ℕ → List ℕ → List Item
 first_items zero text = []
 first_items (suc n) text =
     option_map_or (λ p. if ends_handshake p.0 then p.0 ∷ [] else p.0 ∷ first_items n p.1) (item_of text) []
 
--- the items of a `feature` line: up to a malformed one, without it, or up to and with `done=1`. The text's length is a
--- bound on their number, since each takes at least three bytes
+-- the items of a `feature` line, from the text after `feature`. A malformed item and all after it are left out, and so
+-- are all after `done=1`. The text's length is a bound on their number, since each takes at least three bytes
 unfoldable pub items_of : List ℕ → List Item
 items_of text = first_items (length text) text
 
@@ -88,8 +90,9 @@ has_done items = list_any ends_handshake items
 abbrev pub last_said : {A : Type 0} → (Value → A) → A → List ℕ → List Item → A
 last_said f default name items = fold (λ before i. if bytes_eq i.name name then f i.value else before) default items
 
--- whether an engine has the feature `name` on: whether the last of these items with that name has the value 1. Without
--- one, `time` and `draw` are on, others off
+-- whether an engine that sent these items has the feature `name` on: the last item of that name has the value 1,
+-- without quotes. If there is no such item, `time` and `draw` are on and others off, which are CECP's defaults for
+-- `ping`, `setboard`, `san`, `usermove`, `time` and `draw`
 unfoldable pub takes : List ℕ → List Item → Bool
 takes name items = last_said is_one (bytes_eq name (codes "time") || bytes_eq name (codes "draw")) name items
 
@@ -111,8 +114,8 @@ is_comma_or_blank c = is_blank c || (c == byte ",")
 unfoldable pub has_word : List ℕ → List ℕ → Bool
 has_word word text = list_any (λ piece. bytes_eq piece word) (slice_split is_comma_or_blank text)
 
--- whether an engine plays Chess960: the value of its last item `variants` names `fischerandom`, or there is no such
--- item
+-- whether an engine that sent these items plays Chess960: its last item `variants` names `fischerandom`, or there is no
+-- item `variants` (CECP then assumes that it plays all variants)
 unfoldable pub plays_fischerandom : List Item → Bool
 plays_fischerandom items = last_said (λ v. has_word (codes "fischerandom") (value_text v)) true (codes "variants") items
 

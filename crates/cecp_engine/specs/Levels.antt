@@ -7,8 +7,8 @@ use Rattle.text_lines.specs.Words.{short_number, word_of, argument_of}
 use Rattle.text_lines.specs.Lines.{without_front_blanks}
 use Rattle.chess_base.specs.Options.{◌>>=◌}
 
--- a time control, as `level 40 5 0` sets it: `moves` per session (0: one session for the whole game), the `base` time
--- of each session and the `increment` per move, both in seconds
+-- a time control: `moves` per session (0: one session for the whole game), the `base` time of each session and the
+-- `increment` per move, both in seconds. The base of `level 40 5 0`, 5 minutes, is 300 here
 pub record LevelSeen : Type 0 where
   pub moves : ℕ
   pub base : ℕ
@@ -20,19 +20,20 @@ pub record LevelSeen : Type 0 where
 abbrev pub colon_at : List ℕ → ℕ
 colon_at text = position_or_len (λ c. c == byte ":") text
 
--- minutes and seconds, if both were read and the seconds are below 60, as seconds; else `None`
+-- m minutes and s seconds in seconds; `None` if one of the two could not be read (is `None`), or if s is not below 60
 abbrev pub in_seconds : Option ℕ → Option ℕ → Option ℕ
 in_seconds (Some m) (Some s) = if nat_lt s 60 then Some (60 * m + s) else None
 in_seconds _ _ = None
 
--- the base time that a text denotes, in seconds: minutes (`5`), or minutes and seconds (`0:30`); `None` for any other
--- text
+-- the base time that a text denotes, in seconds: minutes of 1 to 3 digits (`5` is 300), or these with a colon and
+-- seconds of 1 or 2 digits, below 60 (`0:30` is 30, `1:5` is 65); `None` for any other text
 unfoldable pub base_of : List ℕ → Option ℕ
 base_of text =
     if colon_at text == length text then option_map (λ m. 60 * m) (short_number 3 text)
     else in_seconds (short_number 3 (take (colon_at text) text)) (short_number 2 (drop (colon_at text + 1) text))
 
--- the time control that a text of three words denotes: moves, base time and increment, as `40 5 0`; `None` for any
+-- the time control that a text of three words denotes, such as `40 5 0`: moves per session (1 to 3 digits), base time,
+-- and increment in seconds (1 to 3 digits). Spaces and tabs before and after each word are ignored; `None` for any
 -- other text
 unfoldable pub level_of : List ℕ → Option LevelSeen
 level_of text =
@@ -63,7 +64,8 @@ level_text level =
 
 -- ---- time
 
--- how many sessions of the time control a side has begun after `k` moves; one if a session has no end
+-- how many sessions of the time control a side has begun when it has made `k` moves: with 40 moves per session 1 for k
+-- from 0 to 39, 2 from 40 to 79; always 1 if one session lasts for the whole game
 unfoldable pub sessions : LevelSeen → ℕ → ℕ
 sessions level k = if level.moves == 0 then 1 else 1 + k / level.moves
 

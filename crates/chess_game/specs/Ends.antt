@@ -36,8 +36,8 @@ is_kind k o = option_map_or (λ x. same_kind k x.kind) o false
 unfoldable pub has_bishop_on : Colour → Men → Bool
 has_bishop_on c men = some_square (λ s. same_colour c (square_colour s) && is_kind Bishop (man_at men s))
 
--- no pawn, rook or queen, and at most one bishop or knight in all, or no knight and all bishops on squares of one
--- colour (5.2.2): the dead positions by material alone; others are not judged
+-- there is no pawn, rook or queen, and either at most one bishop or knight in all, of both sides together, or no knight
+-- and all bishops on squares of one colour: no moves lead to mate (5.2.2). Other dead positions are not found
 unfoldable pub has_insufficient_material : Men → Bool
 has_insufficient_material men =
     not (list_any (λ o. is_kind Pawn o || is_kind Rook o || is_kind Queen o) men)
@@ -49,9 +49,10 @@ abbrev pub mates : Colour → Verdict
 mates White = WhiteMates
 mates Black = BlackMates
 
--- why the game from `start` by the moves ms is over, if it is, the first of: without a legal move mate in check, else
--- stalemate; insufficient material; the position for the fifth time; 75 moves of each side, 150 half-moves, without a
--- pawn move or capture
+-- why the game from `start` by the moves ms is over by its present position, the first that holds of: no legal move
+-- (mate if in check, otherwise stalemate); insufficient material; the position is there at least for the fifth time;
+-- the halfmove clock, which continues from that of `start`, is at least 150, 75 moves of each side without a pawn move
+-- or capture. `None` if none holds
 unfoldable pub verdict : Setup → List Move → Option Verdict
 verdict start ms =
     let p = position_after start ms in
@@ -76,8 +77,10 @@ verdict_comment InsufficientMaterial = codes "Insufficient material"
 verdict_comment FivefoldRepetition = codes "Fivefold repetition"
 verdict_comment SeventyFiveMoves = codes "75-move rule"
 
--- what the player on move may claim a draw by, after the moves ms from `start`: the position is there for the third
--- time (9.2); there were 50 moves of each side, 100 half-moves, without a pawn move or capture (9.3)
+-- what the player on move may claim a draw by, after the moves ms from `start`: the position is there at least for the
+-- third time (9.2.2); the halfmove clock, which continues from that of `start`, is at least 100, 50 moves of each side
+-- without a pawn move or capture (9.3.2). Claims with a move yet to be made (9.2.1, 9.3.1) are not included. Whether
+-- the game is over is not asked
 abbrev pub claims : Setup → List Move → Claims
 claims start ms = record {
   threefold = nat_le 3 (repetition_count start ms);

@@ -34,8 +34,8 @@ pub record Seen : Type 0 where
 abbrev pub current : State → Setup
 current s = position_after s.start s.moves
 
--- why the game is over by its position and its moves (mate, stalemate, bare material, fivefold repetition, 75 moves),
--- if it is
+-- why the game is over by its position and its moves (mate, stalemate, insufficient material, fivefold repetition,
+-- 75-move rule); `None` if it is not
 abbrev pub verdict_now : State → Option Verdict
 verdict_now s = verdict s.start s.moves
 
@@ -43,7 +43,8 @@ verdict_now s = verdict s.start s.moves
 abbrev pub is_over : State → Bool
 is_over s = is_some (verdict_now s) || is_some s.declared
 
--- the outcome of a game in its present state: that of the verdict, else of the declared result, else none yet
+-- the outcome of a game in its present state: the verdict's; without a verdict the declared result's; without either
+-- `Unfinished`
 abbrev pub outcome_now : State → Outcome
 outcome_now s = option_map_or verdict_outcome (verdict_now s) (option_map_or (λ d. d.outcome) s.declared Unfinished)
 
@@ -55,7 +56,7 @@ from_start start = record { start = start; moves = []; declared = None }
 abbrev pub played : State → Move → State
 played s m = record s { moves = s.moves ++ m ∷ [] }
 
--- the game's state s without its last n moves; what was declared is cleared
+-- the game's state s without its last n moves (with no moves if it has fewer); what was declared is cleared
 abbrev pub taken_back : State → ℕ → State
 taken_back s n = record s { moves = take (length s.moves - n) s.moves; declared = None }
 

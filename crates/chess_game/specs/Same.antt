@@ -13,7 +13,7 @@ use Rattle.chess_base.specs.Moves.{is_en_passant}
 use Rattle.chess_base.specs.MoveList.{moves}
 use Rattle.chess_game.specs.Line.{positions_of, position_after}
 
--- two squares have the same content: a piece of the same kind and colour, or none
+-- two squares' contents, as `man_at` gives them, are equal: pieces of the same kind and colour, or both none
 abbrev pub same_man : Option Man → Option Man → Bool
 same_man o r = option_eq (λ x y. same_colour x.colour y.colour && same_kind x.kind y.kind) o r
 
@@ -25,26 +25,27 @@ same_men men others = each_square (λ s. same_man (man_at men s) (man_at others 
 abbrev pub same_square : Option ℕ → Option ℕ → Bool
 same_square o r = option_eq (λ s t. s == t) o r
 
--- the castling rights of one colour are equal in r and in q
+-- one colour's castling rights r and q are equal, king-side and queen-side; each is the castling rook's square, or none
 abbrev pub same_colour_rights : ColourRights → ColourRights → Bool
 same_colour_rights r q = same_square r.king_side q.king_side && same_square r.queen_side q.queen_side
 
--- the castling rights of both colours are equal in r and in q
+-- two positions' castling rights r and q are equal, both White's and Black's
 unfoldable pub same_rights : Rights → Rights → Bool
 same_rights r q = same_colour_rights r.white q.white && same_colour_rights r.black q.black
 
--- the en passant target, if some legal move captures on it; else none, since positions differ by a capture en passant
--- only if it can be played
+-- the en passant target of p, if some legal move captures en passant; else none, even if p has a target: positions
+-- differ by a capture en passant only if it can be played (9.2.3.1)
 unfoldable pub legal_en_passant_square : Setup → Option ℕ
 legal_en_passant_square p = if list_any (λ m. is_en_passant p m) (moves p) then p.target else None
 
 -- two positions are the same: the same side on move, the same pieces on the same squares, the same castling rights, and
--- the same pawn that may be captured en passant; clock and move number make no difference
+-- the same target of a legal capture en passant, or none in both. Variant, halfmove clock and fullmove number are not
+-- compared
 unfoldable pub is_same_position : Setup → Setup → Bool
 is_same_position p q = same_colour p.side q.side && same_men p.men q.men && same_rights p.rights q.rights
     && same_square (legal_en_passant_square p) (legal_en_passant_square q)
 
--- how many positions of the game that went from `start` by the moves ms, from the start to the present one, are the
--- same as the present one: 1 at its first occurrence
+-- how often the position after the moves ms from `start` has occurred in this game, the last occurrence included: 1 for
+-- a new position
 unfoldable pub repetition_count : Setup → List Move → ℕ
 repetition_count start ms = count_by (λ p. is_same_position p (position_after start ms)) (positions_of start ms)

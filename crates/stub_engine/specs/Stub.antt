@@ -43,16 +43,16 @@ remark argument =
     else if bytes_eq argument (codes "claim") then Some (codes "1/2-1/2 {Draw by repetition}" ++ new_line ∷ [])
     else None
 
--- whether an argument is `offer` or `claim`, of which something is sent after a move
+-- whether an argument is `offer` or `claim`, for each of which the stub sends a line after a move
 abbrev pub is_remark : Bor (List ℕ) → Bool
 is_remark argument = is_some (remark argument.now)
 
--- the lines that the stub sends for the arguments `offer` and `claim` (an offer and a claim of a draw) at the front of
--- these, up to the first other one
+-- the lines that the stub sends for the `offer`s and `claim`s (offers and claims of a draw) that these arguments begin
+-- with, before the first other argument; empty if they begin with another
 unfoldable pub remarks : Arguments → List ℕ
 remarks arguments = flat_map (λ argument. unwrap_or (remark argument.now) []) (take_while is_remark arguments)
 
--- these arguments without those `offer` and `claim` that come before the first other one
+-- these arguments without the `offer`s and `claim`s that they begin with
 unfoldable pub after_remarks : Arguments → Arguments
 after_remarks arguments = drop (prefix_len is_remark arguments) arguments
 
@@ -65,8 +65,8 @@ played_text argument = (if bytes_eq argument (codes "resign") then [] else codes
 abbrev pub turn : Arguments → Response StubState
 -- none is left: it resigns
 turn [] = stub_says (playing []) (codes "resign" ++ new_line ∷ [])
--- `end` makes it end in the middle of a line, after `mov`; any other first argument is played, and what each `offer`
--- and `claim` right after it stands for is sent, too
+-- `end` makes it end in the middle of a line, after `mov`. Any other first argument is played, even an `offer` or
+-- `claim` (as `move offer`); the lines for the `offer`s and `claim`s right after it are sent, too
 turn (argument ∷ arguments) =
     if bytes_eq argument.now (codes "end") then record (stub_says (playing arguments) (codes "mov")) { ends = true }
     else stub_says (playing (after_remarks arguments)) (played_text argument.now ++ remarks arguments)
@@ -82,19 +82,21 @@ abbrev pub after_opponent_move : StubState → Response StubState
 after_opponent_move s = if s.plays then turn s.arguments else stub_says s []
 
 -- what a stub (an engine that plays the arguments that it is given) in the state `s` does at a command; `text` is the
--- whole line. A move of the opponent is not looked at, and `usermove` without one (`Unknown`) counts as one, too. Of
--- the commands that an arbiter ignores (`Silent`), the stub obeys `force`. All commands without a row here are ignored,
--- even a move without `usermove`
+-- whole line
 abbrev pub stub_row : StubState → List ℕ → Command → Response StubState
 stub_row s text (Protover n) = stub_says s features
 stub_row s text (Ping n) = stub_says s (codes "pong " ++ (decimal n ++ new_line ∷ []))
+-- it plays no side until `go`, and does not use again the arguments that it has used
 stub_row s text New = stub_says (waiting s.arguments) []
 stub_row s text Go = turn s.arguments
+-- which move the opponent made is ignored; `usermove` without a move, which is read as `Unknown`, counts as a move too
 stub_row s text UserMove = after_opponent_move s
 stub_row s text Unknown = if bytes_eq (word_of text) (codes "usermove") then after_opponent_move s else stub_says s []
 stub_row s text Quit = record (stub_says s []) { ends = true }
+-- of the commands that an arbiter ignores (`Silent`), the stub obeys only `force`: it plays no side until `go`
 stub_row s text Silent = if bytes_eq (word_of text) (codes "force") then stub_says (waiting s.arguments) []
     else stub_says s []
+-- all other commands are ignored, even a move without `usermove`
 stub_row s text _ = stub_says s []
 
 -- what a stub (an engine that plays the arguments that it is given) in the state `s` does with a line: it obeys the
