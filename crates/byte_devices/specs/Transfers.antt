@@ -1,6 +1,6 @@
--- What a run reads from an input and writes to an output, no matter into how many calls this is cut. The contract of a
--- run speaks of two values, a `FromInput` and a `ToOutput`; here is how the devices' states before and after the run
--- agree with them.
+-- What a run (a call of a function that reads and writes, such as a session) reads from an input and writes to an
+-- output, no matter by how many reads and writes. Contracts describe it by two values, a `FromInput` and a `ToOutput`;
+-- the relations here say how the devices' states before and after the run agree with them.
 use Rattle.std.specs.Prelude.{◌≡◌, ℕ, ◌-◌, ◌^◌, min, Bool, true, false, if◌then◌else◌, List, [], ◌++◌, length, take}
 use Rattle.std.specs.Io.KnownBytes.{Appends, Consumes, IsAtEnd}
 use Rattle.byte_devices.specs.Devices.{InputState, OutputState, saturating_increment, Begins}
@@ -9,20 +9,20 @@ use Rattle.byte_devices.specs.Devices.{InputState, OutputState, saturating_incre
 pub record FromInput : Type 0 where
   -- all bytes that were read
   pub text : List ℕ
-  -- those of them that came before the last successful read; all of them if that read reported the end
+  -- the bytes of `text` that the reads before the last successful one gave: all of `text` if that one reported the end
   pub early : List ℕ
-  -- whether the end of the input was reported after these bytes
+  -- whether the end of the input was reported after `text`
   pub ended : Bool
-  -- whether a read failed after these bytes
+  -- whether a read failed after `text`
   pub failed : Bool
 
 -- what went to an output in a run
 pub record ToOutput : Type 0 where
   -- the bytes that were written and flushed
   pub flushed : List ℕ
-  -- the bytes that were written after them and not flushed
+  -- the bytes that were written after those, and not flushed
   pub left : List ℕ
-  -- whether a write or a flush failed after these bytes
+  -- whether a write or a flush failed after all these bytes
   pub failed : Bool
 
 -- the states of an input and of an output
@@ -30,33 +30,34 @@ pub record Devices : Type 0 where
   pub input : InputState
   pub output : OutputState
 
--- a count of a device, such as that of its failures: one more, up to 2 ^ 64 - 1, if the flag is true, else unchanged
+-- the count `n`, such as of a device's failures; or, if `rises` is true, one more, but at most 2 ^ 64 - 1
 abbrev pub saturating_increment_if : Bool → ℕ → ℕ
 saturating_increment_if rises n = if rises then saturating_increment n else n
 
--- between its states `r` (before) and `r'` (after) the input gave just `i`
+-- from its state `r` to `r'` the input gave just what `i` says
 pub record InputGave (r r' : InputState) (i : FromInput) : Type 0 where
-  -- where bytes are known: those still to come were `i.text` and then those that are still to come now
+  -- if the bytes to come are known in `r`: they are `i.text` and then those to come in `r'`, which are known, too
   pub bytes : Consumes r.known_bytes r'.known_bytes i.text
   -- `i.early` is `i.text` without its last `r'.last_len` bytes, which the last successful read gave
   pub early : i.early ≡ take (length i.text - r'.last_len) i.text
   -- if the end was reported, no known byte is left
   pub at_end : i.ended ≡ true → IsAtEnd r'.known_bytes
-  -- one end more was counted if the end was reported, and one failure more if a read failed
+  -- one more report of the end was counted if the end was reported, else none
   pub ends : r'.end_count ≡ saturating_increment_if i.ended r.end_count
+  -- one more failure was counted if a read failed, else none
   pub failures : r'.failure_count ≡ saturating_increment_if i.failed r.failure_count
 
--- between its states `w` (before) and `w'` (after) the output took just `o`
+-- from its state `w` to `w'` the output took just what `o` says
 pub record OutputTook (w w' : OutputState) (o : ToOutput) : Type 0 where
-  -- where bytes are known: `o.flushed` and `o.left` were added to those that it had taken
+  -- if the bytes taken so far are known in `w`: in `w'` they are these, then `o.flushed`, then `o.left`
   pub bytes : Appends w.known_bytes w'.known_bytes (o.flushed ++ o.left)
-  -- if no byte was unflushed before, as many are now as `o.left` has (the count stops at 2 ^ 64 - 1)
+  -- if no byte is unflushed in `w`, as many are in `w'` as `o.left` has (the count stops at 2 ^ 64 - 1)
   pub unflushed : w.unflushed ≡ 0 → w'.unflushed ≡ min (length o.left) (2 ^ 64 - 1)
-  -- one failure more was counted if a write or a flush failed
+  -- one more failure was counted if a write or a flush failed, else none
   pub failures : w'.failure_count ≡ saturating_increment_if o.failed w.failure_count
 
--- the form of each contract of a run that reads and writes: there are an `i` and an `o` for which `P` holds, and from
--- the state `d` before the run to `d'` after it the input gave just `i` and the output took just `o`
+-- there are an `i` and an `o` for which `P i o` holds, and from the devices' states `d` to `d'` the input gave just
+-- what `i` says and the output took just what `o` says. Contracts of runs have this form: `P` is what they say of a run
 abbrev pub Ran : (FromInput → ToOutput → Type 0) → Devices → Devices → Type 0
 Ran P d d' = (i : FromInput) × (o : ToOutput) × InputGave d.input d'.input i × OutputTook d.output d'.output o × P i o
 
@@ -76,19 +77,19 @@ IsUnbroken i = i.failed ≡ false
 
 -- ---- what went to an output
 
--- what went to an output that took just this text and was then flushed; nothing failed
+-- what went to an output: all of this text was written and flushed, and nothing failed
 abbrev pub all_of : List ℕ → ToOutput
 all_of text = record { flushed = text; left = []; failed = false }
 
--- what went to an output that took just this text and was not flushed; nothing failed
+-- what went to an output: all of this text was written, none of it was flushed, and nothing failed
 abbrev pub all_unflushed : List ℕ → ToOutput
 all_unflushed text = record { flushed = []; left = text; failed = false }
 
--- what went to an output to which nothing was written; nothing failed
+-- what went to an output: nothing was written, and nothing failed
 abbrev pub nothing : ToOutput
 nothing = all_of []
 
--- `before` was written and flushed; then a beginning of `text` was written and not flushed (it may be empty, or all of
--- `text`), and a write or a flush failed
+-- `o` is what went to an output: all of `before` was written and flushed; then a beginning of `text`, maybe nothing or
+-- all of it, was written and not flushed; and then a write or a flush failed
 abbrev pub BreaksOffIn : List ℕ → List ℕ → ToOutput → Type 0
 BreaksOffIn before text o = (o.flushed ≡ before) × Begins o.left text × (o.failed ≡ true)

@@ -43,48 +43,54 @@ abbrev pub fault_status : ProgramFault → ℕ
 fault_status InvalidArguments = 2
 fault_status _ = 1
 
--- what the program works on: its input and output, and the error output, which has the log of a match
+-- what the program works on: its input and output (`devices`), and its error output, to which the log of a match is
+-- written (`log`)
 pub record World : Type 0 where
   pub devices : Devices
   pub log : LogSeen
 
--- the server `respond`, which began in the state `s`, answered the lines of the input on the output. It stopped at the
--- input's end, or after a line that ends the server, and `status` is 0; or a read, write or flush failed, and `status`
--- is 1
+-- from the devices' states `d` to `d'` the server `respond`, which began in the state `s`, answered the lines of the
+-- input on the output (`Served`). The exit status `status` is 0 if it stopped at the input's end or after a line that
+-- ends the server, such as `quit`; it is 1 if a read, a write or a flush failed
 abbrev pub Serves : {S : Type 0} → Server S → S → Devices → Devices → ℕ → Type 0
 Serves {S} respond s d d' status =
     (result : Result End Fault) × (s' : S) × Ran (Served respond s s' result) d d' × (status ≡ status_of result)
 
--- a session of at most 20,000 half-moves (`MOST_MOVES`) ran on input and output, with this exit status; or nothing was
--- read or written, as when memory ran out, and the status is 1
+-- from the devices' states `d` to `d'` a session answered the lines of the input, with the exit status `status`
+-- (`Serves`). It begins at the initial position of normal chess, with the tags of a game of which nothing is known, and
+-- takes at most 20,000 half-moves (`MOST_MOVES`). Or nothing was read or written, as when memory ran out, and `status`
+-- is 1
 abbrev pub RunsSession : Devices → Devices → ℕ → Type 0
 RunsSession d d' status =
     Serves session_response (opened_session default_tags MOST_MOVES) d d' status ⊎ ((d' ≡ d) × (status ≡ 1))
 
--- the options of verifying that the flags of `verify` ask for
+-- the options of verifying that the flags `--quiet`, `--strict` and `--explain` ask for
 abbrev pub options_of : VerifyPlan → VerifyOptions
 options_of plan = record { quiet = plan.quiet; strict = plan.strict; explain = plan.explain }
 
--- what verifying the input's PGN reads and writes, by the flag `--keep-going`: with it (true) piece by piece, so that a
--- fault ends only its piece; else as one text up to its first fault
+-- what verifying the input's PGN reads and writes, by the flag `--keep-going`. With it (true) the input is verified
+-- piece by piece, and a fault ends only its piece; without it (false) as one text, up to its first fault. The arguments
+-- after the flag are those of `VerifiesCollection` and `Verifies`: the options, the result, what is read and written
 abbrev pub VerifiesAs : Bool → VerifyOptions → Result Verified VerifyFault → FromInput → ToOutput → Type 0
 VerifiesAs true = VerifiesCollection
 VerifiesAs false = Verifies
 
--- the exit status of `verify`: 0 if all was verified and no game has a fault, else 1
+-- the exit status of `verify`, by its result: 0 if all was verified and no fault was found; 1 if one was found, or if
+-- verifying was not completed, as when a read failed
 abbrev pub verify_status : Result Verified VerifyFault → ℕ
 verify_status (Ok EachGame) = 0
 verify_status _ = 1
 
--- the input's games were verified as the flags of the plan ask, and the exit status `status` is 0 if all was verified
--- and no game has a fault, else 1
+-- from the devices' states `d` to `d'` the input's games were verified as the flags of the plan ask, with some result,
+-- and the exit status `status` is the one of this result (`verify_status`)
 abbrev pub VerifiesInput : VerifyPlan → Devices → Devices → ℕ → Type 0
 VerifiesInput plan d d' status = (result : Result Verified VerifyFault)
     × Ran (VerifiesAs plan.keep_going (options_of plan) result) d d' × (status ≡ verify_status result)
 
--- some text, which is not said here, was written and flushed, and the exit status is 0; or a write or flush failed
--- after a beginning of it, and the status is 1; or the output stays as it is, as when memory ran out, and the status is
--- 1. `w` and `w'` are the output before and after
+-- from the output's state `w` to `w'` some text was written, such as the help (which text, is not said here). All of it
+-- was written and flushed, and the exit status `status` is 0; or a beginning of it, maybe nothing or all, was written,
+-- then a write or a flush failed, and `status` is 1. Or the output stays as it is, as when memory ran out, and `status`
+-- is 1
 abbrev pub WritesHelp : OutputState → OutputState → ℕ → Type 0
 WritesHelp w w' status =
     ((text : List ℕ) × (o : ToOutput) × OutputTook w w' o
@@ -116,15 +122,16 @@ games_plan plan = record {
   log = plan.log;
 }
 
--- the games of the plan's match were played, written and logged as `PlaysGames` says, and the exit status `status` is 0
--- if all games were played without a fault and written, else 1. `logged` is the error output after the games, to which
--- the log goes. With status 0 it stays so; with status 1 what follows there is not said here
+-- from `d` to `d'` the games of the plan's match were played, written and logged as `PlaysGames` says. The exit status
+-- `status` is 0 if all were played without a fault and were written, and the score too; else 1. `logged` is the error
+-- output, to which the log goes, after the games. With status 0 it stays so; with status 1 more may be written to it,
+-- and of its state in `d'` (`d'.log`) nothing is said
 abbrev pub PlaysMatch : MatchPlan → Outputs → Outputs → ℕ → Type 0
 PlaysMatch plan d d' status = (result : Result (Unit {0}) GamesFault) × (logged : LogSeen)
     × PlaysGames (games_plan plan) result d (record d' { log = logged }) × (status ≡ status_of result)
     × (status ≡ 0 → d'.log ≡ logged)
 
--- where a match writes: the output, and the error output, which has its log
+-- where a match writes: the output, and the error output, to which its log goes
 abbrev pub outputs_of : World → Outputs
 outputs_of d = record { output = d.devices.output; log = d.log }
 

@@ -42,7 +42,8 @@ engine_command plan number side = if same_colour side (first_side number) then p
 abbrev pub player_name : List ℕ → List ℕ → List ℕ
 player_name name command = cut_tag (if length name == 0 then command else name)
 
--- the PGN tags of the game of this number, which ended as `end` says
+-- the PGN tags of the game of this number, which ended as `end` says; `ended` is for the tag Termination. `pgn` adds
+-- the tags that depend on the start and the outcome, such as FEN and Result
 abbrev pub tags_of : GamesPlan → ℕ → MatchEnd → Tags
 tags_of plan number end = record {
   event = codes "CECP match";
@@ -58,27 +59,28 @@ tags_of plan number end = record {
 
 -- a game that was played
 pub record GameRecord : Type 0 where
-  -- before it was played: the engines' pipes, the coming readings of the clock, and the game with its moves
+  -- before it was played: the engines' pipes, the coming readings of the clock, and the arbiter's record of a game, in
+  -- which this game's moves replace what it holds
   pub before : World
-  -- the same after it was played
+  -- the same after it was played: the record then holds this game's moves
   pub after : World
   -- how it ended
   pub end : MatchEnd
   -- what happened and what the engines were sent, in order; the log is made from these
   pub notes : List Note
 
--- what each game of `plan` begins from: its start and its time control
+-- what each game of `plan` begins from: the plan's start and time control
 abbrev pub setup_of : GamesPlan → Setup
 setup_of plan = record { start = plan.start; level = plan.level }
 
 -- the game `played` was played from the start of `plan`, with its time control and with at most 20,000 half-moves
--- (`MOST_MOVES`). The parts of `played` are of one and the same game (`PlayedNoting`). Which engines played it is not
--- said here
+-- (`MOST_MOVES`). What `played` has before and after, its end and its notes are of one and the same game
+-- (`PlayedNoting`). Which engines played it is not said here
 abbrev pub IsOfPlan : GamesPlan → GameRecord → Type 0
 IsOfPlan plan played = (played.before.game.limit ≡ MOST_MOVES)
     × PlayedNoting (λ notes. notes ≡ played.notes) (setup_of plan) played.end played.before played.after
 
--- the PGN of the game `played`, which has this number: its tags and its moves
+-- the PGN of the game `played`, which has this number: its tags, and its moves and result. `[]`: no line has a prefix
 abbrev pub game_text : GamesPlan → ℕ → GameRecord → List ℕ
 game_text plan number played = pgn [] (tags_of plan number played.end) played.after.game.state
 
@@ -110,7 +112,8 @@ game_texts plan games = flat_map (λ g. game_text plan g.0 g.1) (enumerate_from 
 abbrev pub game_logs : List GameRecord → List ℕ
 game_logs games = flat_map (λ g. log_text (first_side g.0) g.1.notes) (enumerate_from 1 games)
 
--- from the log's state `l` to `l'` these games were logged, if the flag asks for a log; else nothing was
+-- from the log's state `l` to `l'` these games were logged, if the flag is true (the plan asks for a log), though a
+-- write of the log may have failed (`Logged`). If the flag is false, nothing was logged
 abbrev pub LogsGames : Bool → LogSeen → LogSeen → List GameRecord → Type 0
 LogsGames false l l' games = l' ≡ l
 LogsGames true l l' games = Logged l l' (game_logs games)
@@ -129,18 +132,20 @@ score_of games = record {
   unfinished = count_of (λ number. Unfinished) games;
 }
 
--- the last line of a match, such as `score first 1 second 0 drawn 2 unfinished 0`
+-- the last line that a match writes to the output, such as `score first 1 second 0 drawn 2 unfinished 0`
 unfoldable pub score_line : Score → List ℕ
 score_line s =
     codes "score first " ++ decimal s.first ++ codes " second " ++ decimal s.second
     ++ codes " drawn " ++ decimal s.drawn ++ codes " unfinished " ++ decimal s.unfinished ++ new_line ∷ []
 
--- these are all the games of a match: as many as planned, or those up to the first game in which an engine had a fault.
--- The last argument is that fault (the game's number, the engine's side, the fault), or `None`
+-- `games` are all games of a match by this plan: as many as planned, or those up to and including the first in which an
+-- engine had a fault. Each was played as the plan says (`IsOfPlan`). The last argument is that fault (the number of the
+-- game, the engine's side, the fault), or `None` if no engine had one
 abbrev pub EndsGames : GamesPlan → List GameRecord → Option (ℕ × Colour × MatchFault) → Type 0
--- no engine had a fault: there are as many games as planned
+-- there are as many games as planned; each was played as the plan says, and no engine had a fault in it
 EndsGames plan games None = SoundGames plan games × (length games ≡ plan.games)
--- in the last game, which has this number, the engine of `side` had this fault; the games before it have no fault
+-- in the last game, which has this number, the engine of `side` had this fault; in the games before it no engine had
+-- one. Each was played as the plan says, and there are at most as many games as planned
 EndsGames plan games (Some (number, side, fault)) =
     (before : List GameRecord) × (last : GameRecord) × (games ≡ before ++ last ∷ []) × SoundGames plan before
     × IsOfPlan plan last × (last.end.fault ≡ Some (side, fault)) × (number ≡ length games) × (number ≤ plan.games)
@@ -152,29 +157,32 @@ abbrev pub match_text : GamesPlan → List GameRecord → List ℕ
 match_text plan games = game_texts plan games ++ score_line (score_of games)
 
 -- what playing a match writes to the output (`o`), by its result. `games` are the games whose PGN was written and
--- flushed. `unwritten` is the game after them if it was played and its PGN could not be written, and otherwise `None`
+-- flushed. `unwritten` is the game after them if it was played and its PGN could not be written, and otherwise `None`.
+-- In each case all these games were played as the plan says (`IsOfPlan`)
 abbrev pub WritesGames : GamesPlan → Result (Unit {0}) GamesFault → List GameRecord → Option GameRecord → ToOutput
     → Type 0
--- all planned games were played without a fault, and their PGN and the score were written and flushed
+-- all planned games were played as the plan says and without a fault; their PGN and the score were written and flushed
 WritesGames plan (Ok _) games None o = EndsGames plan games None × (o ≡ all_of (match_text plan games))
--- in the game with this number, the last one, an engine had the fault that `text` names; the PGN of all games and the
--- score were written and flushed
+-- in the last game, which has this number, an engine had the fault that `text` names. All games up to it were played as
+-- the plan says, those before it without a fault; the PGN of all and the score were written and flushed
 WritesGames plan (Err (Game number text)) games None o = (side : Colour) × (fault : MatchFault)
     × EndsGames plan games (Some (number, side, fault)) × (text.now ≡ comment_of (Faulted side fault))
     × (o ≡ all_of (match_text plan games))
--- a write or flush failed in the PGN of the game after `games`: a beginning of it, maybe nothing or all, was written.
--- An engine may have had a fault in that game
+-- a write or flush failed in the PGN of `unwritten`: a beginning of it, maybe nothing or all, was written. All these
+-- games were played as the plan says, those of `games` without a fault; in `unwritten` an engine may have had one. No
+-- score was written
 WritesGames plan (Err WriteFailed) games (Some unwritten) o =
     SoundGames plan games × (length games < plan.games) × IsOfPlan plan unwritten
     × BreaksOffIn (game_texts plan games) (game_text plan (length games + 1) unwritten) o
--- all games were played and their PGN was written; then a write or flush failed in the score. An engine may have had a
--- fault in the last game
+-- all games of the match were played as the plan says, and their PGN was written and flushed; then a write or flush
+-- failed in the score. In the last game an engine may have had a fault (`last`; `None` if it had none)
 WritesGames plan (Err WriteFailed) games None o = (last : Option (ℕ × Colour × MatchFault)) × EndsGames plan games last
     × BreaksOffIn (game_texts plan games) (score_line (score_of games)) o
--- `CanNotStart` or `NoMemory`: the engines of the next game could not be started, and no score was written
+-- `CanNotStart` or `NoMemory`: the engines of the game after `games` could not be started. `games` are fewer than
+-- planned, and were played as the plan says and without a fault; their PGN was written and flushed, but no score
 WritesGames plan (Err fault) games None o = SoundGames plan games × (length games < plan.games)
     × IsStartFault plan.white.now plan.black.now fault × (o ≡ all_of (game_texts plan games))
--- with any other result no game is left unwritten
+-- no other result comes with a game that was played and could not be written
 WritesGames plan _ games (Some unwritten) o = ⊥
 
 -- where a match writes, as contracts see it: its output, which has the games and the score, and its log
@@ -182,16 +190,17 @@ pub record Outputs : Type 0 where
   pub output : OutputState
   pub log : LogSeen
 
--- from `d` to `d'` just these games were played, with this result: `games` were written, and `unwritten` was played
--- after them but could not be written (`None`: no such game). If the plan asks for a log, it was given all of them
+-- from `d` to `d'` just these games were played, with this result: the PGN of `games` was written, and `unwritten` was
+-- played after them, but its PGN could not be written (`None`: there is no such game). The output was written to as
+-- `WritesGames` says. If the plan asks for a log, all these games were logged, `unwritten` too
 abbrev pub PlaysThese : GamesPlan → Result (Unit {0}) GamesFault → List GameRecord → Option GameRecord → Outputs
     → Outputs → Type 0
 PlaysThese plan result games unwritten d d' =
     (o : ToOutput) × WritesGames plan result games unwritten o × OutputTook d.output d'.output o
     × LogsGames plan.log d.log d'.log (games ++ option_to_list unwritten)
 
--- what playing a match does, by its result: games were played, maybe none, as `PlaysThese` says; or memory ran out
--- before the first one, and nothing was written or logged
+-- what playing a match does from `d` to `d'`, by its result: games were played, maybe none, as `PlaysThese` says; or
+-- memory ran out before the first one, and nothing was written or logged
 abbrev pub PlaysGames : GamesPlan → Result (Unit {0}) GamesFault → Outputs → Outputs → Type 0
 PlaysGames plan result d d' =
     ((games : List GameRecord) × (unwritten : Option GameRecord) × PlaysThese plan result games unwritten d d')
