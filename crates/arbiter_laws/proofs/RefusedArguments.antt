@@ -10,7 +10,7 @@ use Rattle.arbiter_cli.specs.declared.fault.WordsFault.TheVariants as faults
 use Rattle.arbiter_cli.specs.declared.plan.Plan.{Plan}
 use Rattle.byte_devices.specs.Devices.{OutputState}
 use Rattle.arbiter_laws.specs.Programs.{RefusesArguments, ShowsHelp}
-use Rattle.chess_arbiter.specs.Program.{WritesHelp, ReportsArguments}
+use Rattle.chess_arbiter.specs.Program.{WritesHelp, ReportsKind, ReportsArguments}
 use Rattle.arbiter_laws.proofs.PlainArguments.{both_same}
 
 no_fault : (k : ErrorKind) (kinds : Kinds) → kinds ≡ [] → kinds ≡ k ∷ [] → ⊥
@@ -45,8 +45,9 @@ no_plan ws k plan one (names, are, (none, is)) = no_fault k _ none (one names)
 shown : (k : ErrorKind) (fault : WordsFault) (w w' : OutputState) (status : ℕ)
     → (k ≡ DisplayHelp) ⊎ (k ≡ DisplayVersion) → IsRefusal k fault → ReportsArguments fault w w' status
     → WritesHelp w w' status
-shown k (faults.Words e) w w' status help is reported =
-    reported.1 (subst (λ x. (x ≡ DisplayHelp) ⊎ (x ≡ DisplayVersion)) (sym is) help)
+shown k (faults.Words e) w w' status (inl help) is reported = subst (λ x. ReportsKind x w w' status) (is ∙ help) reported
+shown k (faults.Words e) w w' status (inr version) is reported =
+    subst (λ x. ReportsKind x w w' status) (is ∙ version) reported
 shown k faults.NoMemory w w' status help is (same, ends) = inr (same, ends)
 shown k faults.BadLevel w w' status help is reported = absurd is
 shown k (faults.BadFen f) w w' status help is reported = absurd is
@@ -60,10 +61,17 @@ shows_help ws k help one d d' status (Err fault, is, (same, reported)) =
 
 -- ---- other kinds
 
+only_status : (k : ErrorKind) (w w' : OutputState) (status : ℕ) → k ≢ DisplayHelp → k ≢ DisplayVersion
+    → ReportsKind k w w' status → (w' ≡ w) × (status ≡ 2)
+only_status DisplayHelp w w' status help version reported = absurd (help refl)
+only_status DisplayVersion w w' status help version reported = absurd (version refl)
+only_status _ w w' status help version reported = reported
+
 refused : (k : ErrorKind) (fault : WordsFault) (w w' : OutputState) (status : ℕ) → k ≢ DisplayHelp → k ≢ DisplayVersion
     → IsRefusal k fault → ReportsArguments fault w w' status → (w' ≡ w) × ((status ≡ 2) ⊎ (status ≡ 1))
 refused k (faults.Words e) w w' status help version is reported =
-    let t = reported.0 (λ x. help (sym is ∙ x)) (λ x. version (sym is ∙ x)) in (t.0, inl t.1)
+    let t = only_status (kind_of e) w w' status (λ x. help (sym is ∙ x)) (λ x. version (sym is ∙ x)) reported in
+    (t.0, inl t.1)
 refused k faults.NoMemory w w' status help version is (same, ends) = (same, inr ends)
 refused k faults.BadLevel w w' status help version is reported = absurd is
 refused k (faults.BadFen f) w w' status help version is reported = absurd is

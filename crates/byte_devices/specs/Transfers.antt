@@ -72,8 +72,8 @@ abbrev pub IsCutOff : FromInput → Type 0
 IsCutOff i = (i.ended ≡ false) × (i.failed ≡ true)
 
 -- no read failed, whether the input's end was reported or not
-abbrev pub IsUnbroken : FromInput → Type 0
-IsUnbroken i = i.failed ≡ false
+abbrev pub NoReadFailed : FromInput → Type 0
+NoReadFailed i = i.failed ≡ false
 
 -- ---- what went to an output
 

@@ -34,15 +34,15 @@ value_of (c ∷ cs) =
     else None
 
 -- whether an item may end right before this text: the text is empty, or begins with a space or tab
-abbrev pub is_apart : List ℕ → Bool
-is_apart [] = true
-is_apart (c ∷ cs) = is_blank c
+abbrev pub may_follow_item : List ℕ → Bool
+may_follow_item [] = true
+may_follow_item (c ∷ cs) = is_blank c
 
 -- the item with this name and the value that `rest` begins with, and the text after it, without spaces and tabs at its
 -- front. `None` if `rest` begins with no value, or anything but a space, a tab or the end comes right after the value
 abbrev pub with_value : List ℕ → List ℕ → Option (Item × List ℕ)
 with_value name rest =
-    option_and_then (λ (p : Value × List ℕ). if is_apart p.1 then Some
+    option_and_then (λ (p : Value × List ℕ). if may_follow_item p.1 then Some
     (record { name = name; value = p.0 }, without_front_blanks p.1) else None) (value_of rest)
 
 -- the item whose name is the first text, and whose `=` and value the second text begins with; and what follows these,

@@ -2,7 +2,7 @@
 
 ghost use Rattle.std.specs.Prelude.{◌≡◌, ◌≤◌, ◌<◌, ◌++◌, ◌∷◌, [], length, drop, take, List, ℕ};
 ghost use Rattle.chess_base.specs.Letters.{is_digit};
-ghost use Rattle.cecp_engine.specs.Items.{value_of, with_value, with_name, item_of, is_apart, is_one, ends_handshake, quote_at, items_of, has_done, is_known, has_word, value_text, is_comma_or_blank};
+ghost use Rattle.cecp_engine.specs.Items.{value_of, with_value, with_name, item_of, may_follow_item, is_one, ends_handshake, quote_at, items_of, has_done, is_known, has_word, value_text, is_comma_or_blank};
 ghost use Rattle.cecp_engine.specs.ties.Taken.{said_again, fischerandom_again, value_read};
 ghost use Rattle.cecp_engine.specs.Seen.{value_seen, item_seen, item_read};
 ghost use Rattle.text_lines.specs.Words.{is_name_byte};
@@ -96,7 +96,7 @@ fn read_value(text: &[u8]) -> Option<(Value<'_>, &[u8])>
 
 // Whether an item may end before this text: it is empty, or begins with a space or tab.
 fn is_apart(text: &[u8]) -> bool
-    ensures { result ≡ is_apart text.now }
+    ensures { result ≡ may_follow_item text.now }
 {
     match text {
         [] => true,

@@ -1,6 +1,7 @@
 -- What the program does with its arguments and its devices.
-use Rattle.std.specs.Prelude.{◌≡◌, ◌≢◌, ◌⊎◌, ℕ, Bool, true, false, if◌then◌else◌, List, [], Result, Ok, Err, is_ok}
+use Rattle.std.specs.Prelude.{◌≡◌, ◌⊎◌, ℕ, Bool, true, false, if◌then◌else◌, List, [], Result, Ok, Err, is_ok}
 use Rattle.clap.specs.Words.{Text, kind_of}
+use Rattle.clap.specs.declared.error.kind.ErrorKind.{ErrorKind}
 use Rattle.clap.specs.declared.error.kind.ErrorKind.TheVariants.{DisplayHelp, DisplayVersion}
 use Rattle.arbiter_cli.specs.Plans.{IsReading}
 use Rattle.arbiter_cli.specs.declared.plan.Plan.{Plan}
@@ -97,18 +98,23 @@ WritesHelp w w' status =
     × (((o ≡ all_of text) × (status ≡ 0)) ⊎ (BreaksOffIn [] text o × (status ≡ 1))))
     ⊎ ((w' ≡ w) × (status ≡ 1))
 
+-- what is done with a fault of this kind of `clap`, the parser of arguments. `w` and `w'` are the output before and
+-- after; `status` is the exit status
+abbrev pub ReportsKind : ErrorKind → OutputState → OutputState → ℕ → Type 0
+-- `clap` counts it among the faults if the arguments ask for help or for the version: these are written to the output
+ReportsKind DisplayHelp w w' status = WritesHelp w w' status
+ReportsKind DisplayVersion w w' status = WritesHelp w w' status
+-- any other kind: the output stays as it is, and the status is 2
+ReportsKind _ w w' status = (w' ≡ w) × (status ≡ 2)
+
 -- what is done with arguments for which there is no plan, by the fault that says why. `w` and `w'` are the output
 -- before and after; `status` is the exit status. What is written to the error output is not said here
 abbrev pub ReportsArguments : WordsFault → OutputState → OutputState → ℕ → Type 0
--- a fault of `clap`, the parser of arguments, which counts asking for help or for the version as faults, too: these are
--- answered on the output (`WritesHelp`); for any other kind of fault the output stays as it is, and the status is 2
-ReportsArguments (faults.Words e) w w' status =
-    ((kind_of e ≢ DisplayHelp) → (kind_of e ≢ DisplayVersion) → (w' ≡ w) × (status ≡ 2))
-    × ((kind_of e ≡ DisplayHelp) ⊎ (kind_of e ≡ DisplayVersion) → WritesHelp w w' status)
+ReportsArguments (faults.Words e) w w' status = ReportsKind (kind_of e) w w' status
 -- memory ran out: the output stays as it is, and the status is 1
 ReportsArguments faults.NoMemory w w' status = (w' ≡ w) × (status ≡ 1)
 -- an invalid level, FEN or date of a match: the output stays as it is, and the status is 2
-ReportsArguments fault w w' status = (w' ≡ w) × (status ≡ 2)
+ReportsArguments _ w w' status = (w' ≡ w) × (status ≡ 2)
 
 -- how the games of a match are played: the plan of the arguments, field by field, as match_runner takes it
 abbrev pub games_plan : MatchPlan → GamesPlan

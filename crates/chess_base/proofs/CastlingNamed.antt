@@ -15,7 +15,7 @@ use Rattle.chess_base.specs.declared.setup.Setup.{Setup}
 use Rattle.chess_base.specs.Squares.{rank}
 use Rattle.chess_base.specs.Men.{Men, man_at, is_man}
 use Rattle.chess_base.specs.Sound.{IsSound, has_one_king}
-use Rattle.chess_base.specs.Castling.{right_of, king_square, castle_from, castle_of, are_placed_for_castling, right_is_sound, home_square, king_home_file, is_beside, names_castling_with, castled_king_file, is_castling_to, castling}
+use Rattle.chess_base.specs.Castling.{right_of, king_square, castle_from, castle_of, are_placed_for_castling, right_is_sound, home_square, king_home_file, is_on_side_of_king, names_castling_with, castled_king_file, is_castling_to, castling}
 use Rattle.chess_base.specs.Before.{castle_by}
 use Rattle.chess_base.specs.shared.Splits.{right_is_sound_at, names_castling}
 use Rattle.chess_base.specs.laws.Castles.{castling_on, is_castling_by, castling_named}
@@ -48,8 +48,8 @@ here Normal c men m w r k l one at placed same =
     eq-eqb _ _ (sym same ∙ k_home) in
     rw (t1, king, t2) (flip (home_square c (castled_king_file w)) m.to)
 here Fischerandom c men m w r k l one at placed same =
-    let parts = and_parts (is_beside c w (king_square men c) r) (is_man c Rook (man_at men r)) placed in
-    let beside : is_beside c w (Some k) r ≡ true = rw at at parts.0 in
+    let parts = and_parts (is_on_side_of_king c w (king_square men c) r) (is_man c Rook (man_at men r)) placed in
+    let beside : is_on_side_of_king c w (Some k) r ≡ true = rw at at parts.0 in
     let ranks = and_parts _ _ beside in
     let both = and_parts _ _ ranks.0 in
     let same_rank : rank m.from ≡ rank r =

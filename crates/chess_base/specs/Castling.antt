@@ -72,9 +72,9 @@ is_to_side QueenSide king s = nat_lt s king
 
 -- the king's square and square s are on colour c's first rank, and s lies on side w of the king, at any distance; false
 -- if there is no king
-abbrev pub is_beside : Colour → CastlingSide → Option ℕ → ℕ → Bool
-is_beside c w None s = false
-is_beside c w (Some king) s = (rank king == first_rank c) && (rank s == first_rank c) && is_to_side w king s
+abbrev pub is_on_side_of_king : Colour → CastlingSide → Option ℕ → ℕ → Bool
+is_on_side_of_king c w None s = false
+is_on_side_of_king c w (Some king) s = (rank king == first_rank c) && (rank s == first_rank c) && is_to_side w king s
 
 -- colour c's king, and a rook of c on square s, are where castling on side w begins. Normal chess: both on their
 -- initial squares, as e1 and h1. Chess960: both on c's first rank, the rook on side w of the king, at any distance
@@ -82,7 +82,8 @@ abbrev pub are_placed_for_castling : Variant → Men → Colour → CastlingSide
 are_placed_for_castling Normal men c w s =
     (s == home_square c (rook_file w)) && is_man c King (man_at men (home_square c king_home_file))
     && is_man c Rook (man_at men s)
-are_placed_for_castling Fischerandom men c w s = is_beside c w (king_square men c) s && is_man c Rook (man_at men s)
+are_placed_for_castling Fischerandom men c w s =
+    is_on_side_of_king c w (king_square men c) s && is_man c Rook (man_at men s)
 
 -- colour c has no castling right on side w; or c's king, and a rook of c on the square of that right, are where
 -- castling on side w begins
@@ -139,15 +140,15 @@ is_on_way a b x = (x == a) || (x == b) || is_between a b x
 
 -- for castling k, square x has to be empty: the king or the rook crosses it or ends on it, and neither of the two
 -- starts on it
-unfoldable pub castling_crosses : Castle → ℕ → Bool
-castling_crosses k x =
+unfoldable pub castling_needs_empty : Castle → ℕ → Bool
+castling_needs_empty k x =
     (is_on_way k.king_from k.king_to x || is_on_way k.rook_from k.rook_to x) && not (x == k.king_from)
     && not (x == k.rook_from)
 
 -- for castling k, each square that king or rook crosses or ends on, other than the two where they start, is empty
 -- (3.8.2.2.2)
 unfoldable pub castling_way_is_empty : Men → Castle → Bool
-castling_way_is_empty men k = each_square (λ x. not (castling_crosses k x) || is_none (man_at men x))
+castling_way_is_empty men k = each_square (λ x. not (castling_needs_empty k x) || is_none (man_at men x))
 
 -- for castling k of colour c, no square that the king starts on, crosses or ends on is attacked by the other colour;
 -- `men` are the pieces before castling (3.8.2.2.1)

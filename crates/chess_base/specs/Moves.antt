@@ -12,7 +12,7 @@ use Rattle.chess_base.specs.declared.man.Rights.{Rights}
 use Rattle.chess_base.specs.declared.setup.Setup.{Setup}
 use Rattle.chess_base.specs.declared.setup.TheConstants.{COUNTER_LIMIT}
 use Rattle.chess_base.specs.declared.steps.Steps.{Steps}
-use Rattle.chess_base.specs.Squares.{rank, is_square, from_below}
+use Rattle.chess_base.specs.Squares.{rank, is_at, from_below}
 use Rattle.chess_base.specs.Men.{Men, man_at, is_of, is_man, same_colour, same_kind, other, forward, first_rank, pawn_rank}
 use Rattle.chess_base.specs.Attacks.{attacks, is_in_check}
 use Rattle.chess_base.specs.Castling.{right_of, rights_by, castle_of, castling_rook_to, castles, mover_end}
@@ -35,7 +35,7 @@ is_double_advance p m =
 
 -- a pawn of the side on move goes one square diagonally ahead, to the en passant target (3.7.3.1): e5d6 after d7d5
 unfoldable pub is_en_passant : Setup → Move → Bool
-is_en_passant p m = is_man p.side Pawn (man_at p.men m.from) && attacks p.men m.from m.to && is_square p.target m.to
+is_en_passant p m = is_man p.side Pawn (man_at p.men m.from) && attacks p.men m.from m.to && is_at p.target m.to
 
 -- for a move of a pawn of the side on move: it goes straight ahead to an empty square, either one square, or two from
 -- its home rank across an empty square (3.7.1, 3.7.2)
@@ -47,7 +47,7 @@ pawn_advances p m =
 -- for a move of a pawn of the side on move: it goes one square diagonally ahead, to an enemy piece or to the en passant
 -- target (3.7.3)
 unfoldable pub pawn_captures : Setup → Move → Bool
-pawn_captures p m = attacks p.men m.from m.to && (is_of (other p.side) (man_at p.men m.to) || is_square p.target m.to)
+pawn_captures p m = attacks p.men m.from m.to && (is_of (other p.side) (man_at p.men m.to) || is_at p.target m.to)
 
 -- for a move of a pawn of the side on move: it advances or captures, and names a promotion (to queen, rook, bishop or
 -- knight) if and only if it ends on the pawn's last rank (3.7)
@@ -110,7 +110,7 @@ after_castling p m k s =
 abbrev pub after_moving : Setup → Move → ℕ → Option Man
 after_moving p m s =
     if s == m.to then arriving_man (man_at p.men m.from) m.promotion
-    else if (s == m.from) || is_square (captured_square p m) s then None
+    else if (s == m.from) || is_at (captured_square p m) s then None
     else man_at p.men s
 
 -- the pieces on all 64 squares after move m of position p: by `after_castling` if m is castling, else by `after_moving`

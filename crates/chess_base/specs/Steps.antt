@@ -4,7 +4,7 @@
 use Rattle.std.specs.Prelude.{ℕ, ◌==◌, ◌||◌, Option, None, if◌then◌else◌}
 use Rattle.chess_base.specs.declared.man.Man.{Man}
 use Rattle.chess_base.specs.declared.steps.Steps.{Steps}
-use Rattle.chess_base.specs.Squares.{from_below, is_square}
+use Rattle.chess_base.specs.Squares.{from_below, is_at}
 use Rattle.chess_base.specs.Men.{Men, man_at}
 
 -- the piece on square s after the steps t, or none; `men` are the pieces before. Where one arrives it is that one,
@@ -12,8 +12,8 @@ use Rattle.chess_base.specs.Men.{Men, man_at}
 abbrev pub man_stepped : Men → Steps → ℕ → Option Man
 man_stepped men t s =
     if t.to == s then t.mover
-    else if is_square t.second_to s then t.second
-    else if is_square t.second_from s || (t.from == s) then None
+    else if is_at t.second_to s then t.second
+    else if is_at t.second_from s || (t.from == s) then None
     else man_at men s
 
 -- the pieces on all 64 squares after the steps t

@@ -1,7 +1,7 @@
 //! Castling: with which rook, between which squares, and when.
 
 ghost use Rattle.std.specs.Prelude.{◌≡◌, ◌<◌, IfSome, Option};
-ghost use Rattle.chess_base.specs.Castling.{home_square, king_home_file, rook_file, castled_king_file, castled_rook_file, right_of, king_square, is_to_side, is_beside, are_placed_for_castling, right_is_sound, is_castling_to, castling, castle_from, castle_of, mover_end, castling_rook_to, is_on_way, castling_crosses, castling_way_is_empty, castling_way_is_safe, castles};
+ghost use Rattle.chess_base.specs.Castling.{home_square, king_home_file, rook_file, castled_king_file, castled_rook_file, right_of, king_square, is_to_side, is_on_side_of_king, are_placed_for_castling, right_is_sound, is_castling_to, castling, castle_from, castle_of, mover_end, castling_rook_to, is_on_way, castling_needs_empty, castling_way_is_empty, castling_way_is_safe, castles};
 ghost use Rattle.chess_base.specs.shared.Splits.{names_castling, rook_from, rook_to};
 ghost use Rattle.chess_base.specs.Before.{mover_to, castle_by};
 
@@ -118,7 +118,7 @@ fn is_to_side(castling_side: CastlingSide, k: Square, s: Square) -> bool
 // Whether the king's square and s are on the colour's first rank, and s lies on that side of the king; false if there
 // is no king.
 fn is_beside(colour: Colour, castling_side: CastlingSide, king: Option<Square>, s: Square) -> bool
-    ensures { result ≡ is_beside colour castling_side king s }
+    ensures { result ≡ is_on_side_of_king colour castling_side king s }
 {
     match king {
         None => false,
@@ -322,9 +322,9 @@ fn is_on_way(a: Square, b: Square, x: Square) -> bool
 
 // Whether by this castling king or rook crosses x or ends there, and neither of the two starts there: x must then be
 // empty. For White's castling on the king's side in normal chess these are f1 and g1.
-#[tactic(auto, unfolding(crate::specs::Castling::castling_crosses))]
+#[tactic(auto, unfolding(crate::specs::Castling::castling_needs_empty))]
 fn castling_crosses(castle: &Castle, x: Square) -> bool
-    ensures { result ≡ castling_crosses castle.now x }
+    ensures { result ≡ castling_needs_empty castle.now x }
 {
     (is_on_way(castle.king_from, castle.king_to, x)
         || is_on_way(castle.rook_from, castle.rook_to, x))

@@ -7,7 +7,7 @@ use Rattle.chess_base.specs.declared.man.Kind.{Kind}
 use Rattle.chess_base.specs.declared.man.Kind.TheVariants.{King, Rook}
 use Rattle.chess_base.specs.declared.man.Man.{Man}
 use Rattle.chess_base.specs.declared.man.Move.{Move}
-use Rattle.chess_base.specs.Squares.{is_square}
+use Rattle.chess_base.specs.Squares.{is_at}
 use Rattle.chess_base.specs.Men.{Men, man_at, other, is_of, is_man}
 use Rattle.chess_base.specs.Attacks.{is_attacked, is_in_check}
 use Rattle.chess_base.specs.declared.setup.Setup.{Setup}
@@ -69,13 +69,13 @@ unfolding man_after
 later_after p m changed filled some own c f = record {
   of_all = λ k l.
       rw (c k l, f k l, man_at-men_after p m k l)
-      (filled_by (mover_end p m == k) (is_square (castling_rook_to p m) k)
-      (is_square (second_square_emptied p m) k || (m.from == k))
+      (filled_by (mover_end p m == k) (is_at (castling_rook_to p m) k)
+      (is_at (second_square_emptied p m) k || (m.from == k))
       (arriving_man (man_at p.men m.from) m.promotion) (man_at p.men k) p.side some);
   of_man = λ x k l.
       rw (c k l, man_at-men_after p m k l)
-      (kept_by (mover_end p m == k) (is_square (castling_rook_to p m) k)
-      (is_square (second_square_emptied p m) k || (m.from == k))
+      (kept_by (mover_end p m == k) (is_at (castling_rook_to p m) k)
+      (is_at (second_square_emptied p m) k || (m.from == k))
       (arriving_man (man_at p.men m.from) m.promotion) (man_at p.men k) p.side (other p.side) x
       (not_is_man (other p.side) x (arriving_man (man_at p.men m.from) m.promotion) own)
       (not_is_man (other p.side) x _ (theirs_of p.side (record { colour = p.side; kind = Rook }) refl)));

@@ -16,7 +16,7 @@ use Rattle.chess_base.specs.Men.{man_at, is_of, is_man, kind_number, same_colour
 use Rattle.chess_base.specs.MoveList.{move_of}
 use Rattle.chess_base.specs.Moves.{is_pseudo_legal, is_legal, after, man_moves, pawn_advances, pawn_captures, promotion_fits}
 use Rattle.chess_base.specs.shared.Splits.{castles_or_moves}
-use Rattle.chess_base.specs.Squares.{is_square}
+use Rattle.chess_base.specs.Squares.{is_at}
 use Rattle.chess_base.proofs.shared.Men.{is_man-kind}
 use Rattle.chess_moves.specs.Promoting.{would_promote}
 use Rattle.chess_moves.specs.Sets.{contains}
@@ -61,7 +61,7 @@ officer_plain p kind a b h goes_so =
     record {
       pattern = goes_so;
       no_king = is_man-kind p.side p.side kind King (man_at p.men a) parts.0 h.man;
-      no_passing = and_left (is_man p.side Pawn (man_at p.men a)) (is_square p.target b)
+      no_passing = and_left (is_man p.side Pawn (man_at p.men a)) (is_at p.target b)
           (is_man-kind p.side p.side kind Pawn (man_at p.men a) parts.1 h.man);
     }
 
@@ -169,11 +169,11 @@ pawn_pattern p a b pawn low high =
     unpromoted false = refl
 
 pub pawn_plain : (p : Setup) (a b : ℕ) → is_man p.side Pawn (man_at p.men a) ≡ true
-    → is_pseudo_legal p (move_of a b None) ≡ true → is_square p.target b ≡ false → StepsPlainly p (move_of a b None)
+    → is_pseudo_legal p (move_of a b None) ≡ true → is_at p.target b ≡ false → StepsPlainly p (move_of a b None)
 pawn_plain p a b pawn goes_so off = record {
   pattern = goes_so;
   no_king = is_man-kind p.side p.side Pawn King (man_at p.men a) refl pawn;
-  no_passing = and_right (is_man p.side Pawn (man_at p.men a)) (is_square p.target b) off;
+  no_passing = and_right (is_man p.side Pawn (man_at p.men a)) (is_at p.target b) off;
 }
 
 -- what is neither officer nor king

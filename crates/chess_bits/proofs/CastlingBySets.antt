@@ -14,7 +14,7 @@ use Rattle.chess_base.specs.declared.man.Variant.{Variant}
 use Rattle.chess_base.specs.declared.man.Variant.TheVariants.{Normal, Fischerandom}
 use Rattle.chess_base.specs.declared.setup.Setup.{Setup}
 use Rattle.chess_base.specs.Attacks.{is_attacked}
-use Rattle.chess_base.specs.Castling.{home_square, king_home_file, rook_file, castled_king_file, castled_rook_file, right_of, king_square, is_to_side, is_beside, are_placed_for_castling, right_is_sound, names_castling_with, castling, castle_from, castle_of, castles, is_on_way, castling_crosses, castling_way_is_empty, castling_way_is_safe, castling_rook_to, mover_end}
+use Rattle.chess_base.specs.Castling.{home_square, king_home_file, rook_file, castled_king_file, castled_rook_file, right_of, king_square, is_to_side, is_on_side_of_king, are_placed_for_castling, right_is_sound, names_castling_with, castling, castle_from, castle_of, castles, is_on_way, castling_needs_empty, castling_way_is_empty, castling_way_is_safe, castling_rook_to, mover_end}
 use Rattle.chess_base.specs.Men.{Men, man_at, other, is_man, first_rank}
 use Rattle.chess_base.specs.MoveList.{move_of}
 use Rattle.chess_base.specs.Moves.{is_pseudo_legal, is_legal, promotion_fits, arriving_man, second_square_emptied, steps_of}
@@ -65,11 +65,11 @@ starts Normal men c w m r n s =
     )
 starts Fischerandom men c w m r n s =
     let same = eqb-true (rank m.from) (rank r) (and_parts (rank m.from == rank r) (m.to == r) n).0 in
-    let there = beside (king_square men c) (and_parts (is_beside c w (king_square men c) r)
+    let there = beside (king_square men c) (and_parts (is_on_side_of_king c w (king_square men c) r)
     (is_man c Rook (man_at men r)) s).0 in
     (same ∙ there, there)
   where
-    beside : (o : Option ℕ) → is_beside c w o r ≡ true → rank r ≡ first_rank c
+    beside : (o : Option ℕ) → is_on_side_of_king c w o r ≡ true → rank r ≡ first_rank c
     beside None e = cc
     beside (Some k) e =
         eqb-true (rank r) (first_rank c)
@@ -115,7 +115,7 @@ pub way_is_empty : (men : Men) (k : Castle) (met : ℕ → Bool)
     ((((is_on_way k.king_from k.king_to x || is_on_way k.rook_from k.rook_to x) && not (x == k.king_from))
     && not (x == k.rook_from)) && not (is_none (man_at men x))))
     → not (some_square met) ≡ castling_way_is_empty men k
-unfolding castling_way_is_empty castling_crosses
+unfolding castling_way_is_empty castling_needs_empty
 way_is_empty men k met h =
     sym (each_not _ met
     (λ x low. crossed (is_on_way k.king_from k.king_to x) (is_on_way k.rook_from k.rook_to x) (x == k.king_from)

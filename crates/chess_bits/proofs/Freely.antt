@@ -15,7 +15,7 @@ use Rattle.chess_base.specs.Men.{man_at, same_kind, other, is_of, is_man, forwar
 use Rattle.chess_base.specs.MoveList.{move_of}
 use Rattle.chess_base.specs.Moves.{is_pseudo_legal, is_legal, is_en_passant, men_after, pawn_advances, pawn_captures}
 use Rattle.chess_base.specs.Sound.{IsSound, no_pawn_on_end_ranks}
-use Rattle.chess_base.specs.Squares.{rank, is_square, share_rank_or_file, share_diagonal}
+use Rattle.chess_base.specs.Squares.{rank, is_at, share_rank_or_file, share_diagonal}
 use Rattle.chess_base.proofs.shared.Changes.{advance_goes, pawn_attack}
 use Rattle.chess_base.proofs.shared.Squares.{each_square-at}
 use Rattle.chess_bits.proofs.Lifted.{lifted_at}
@@ -82,7 +82,7 @@ capture_stays Black a b off ahead = λ last. let e = eqb-true (rank a) (rank b +
 -- a pawn that doesn't attack the target doesn't take there
 not_taken : (p : Setup) (a b : ℕ) (o : Option ℕ) → is_man p.side Pawn (man_at p.men a) ≡ true
     → aims_at o p.side a ≡ false
-    → ((is_man p.side Pawn (man_at p.men a) && attacks p.men a b) && is_square o b) ≡ false
+    → ((is_man p.side Pawn (man_at p.men a) && attacks p.men a b) && is_at o b) ≡ false
 unfolding attacks
 not_taken p a b None pawn off = and_right (is_man p.side Pawn (man_at p.men a) && attacks p.men a b) false refl
 not_taken p a b (Some t) pawn off =
@@ -117,7 +117,7 @@ pawn_ordinary p a sound low pawn no_target off = record {
           | inr takes ↦
               capture_stays p.side a b off
               (pawn_attack p.men p.side a b pawn (and_parts (attacks p.men a b)
-              (is_of (other p.side) (man_at p.men b) || is_square p.target b) takes).0).1
+              (is_of (other p.side) (man_at p.men b) || is_at p.target b) takes).0).1
         ]
 
 -- as the code computes it

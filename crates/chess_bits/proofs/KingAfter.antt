@@ -10,7 +10,7 @@ use Rattle.chess_base.specs.declared.man.Move.{Move}
 use Rattle.chess_base.specs.declared.setup.Setup.{Setup}
 use Rattle.chess_base.specs.Men.{man_at, other, is_of, is_man, same_colour}
 use Rattle.chess_base.specs.Attacks.{is_attacked, is_in_check}
-use Rattle.chess_base.specs.Squares.{is_square}
+use Rattle.chess_base.specs.Squares.{is_at}
 use Rattle.chess_base.specs.Castling.{mover_end, castling_rook_to}
 use Rattle.chess_base.specs.Moves.{is_pseudo_legal, is_legal, after, arriving_man, men_after, second_square_emptied}
 use Rattle.chess_base.specs.Sound.{IsSound, has_one_king}
@@ -58,8 +58,8 @@ elsewhere : (p : Setup) (m : Move) (k : ℕ) → is_man p.side King (arriving_ma
 unfolding man_after
 elsewhere p m k mover none low =
     rw (man_at-men_after p m k low)
-    (king_only (mover_end p m == k) (is_square (castling_rook_to p m) k)
-    (is_square (second_square_emptied p m) k || (m.from == k))
+    (king_only (mover_end p m == k) (is_at (castling_rook_to p m) k)
+    (is_at (second_square_emptied p m) k || (m.from == k))
     (arriving_man (man_at p.men m.from) m.promotion) (man_at p.men k) p.side mover none)
 
 one_after : (p : Setup) (m : Move) → IsSound p → is_pseudo_legal p m ≡ true → has_one_king (men_after p m) p.side ≡ true

@@ -15,7 +15,7 @@ use Rattle.chess_base.specs.declared.man.Move.{Move}
 use Rattle.chess_base.specs.declared.man.Rights.{Rights}
 use Rattle.chess_base.specs.declared.setup.Saved.{Saved}
 use Rattle.chess_base.specs.declared.setup.Setup.{Setup}
-use Rattle.chess_base.specs.Squares.{is_square}
+use Rattle.chess_base.specs.Squares.{is_at}
 use Rattle.chess_base.specs.Men.{Men, man_at, other, is_man, is_of, same_colour, same_kind}
 use Rattle.chess_base.specs.Before.{man_on, saved_of}
 use Rattle.chess_base.specs.Castling.{castling_rook_to, mover_end, right_of, is_castling_to}
@@ -96,7 +96,7 @@ no_right_says p m w h = rw (none_of p.rights p.side w h) (and-false _)
 -- ---- plain moves
 
 no_king_plainly : (p : Setup) (m : Move) → is_man p.side King (man_at p.men m.from) ≡ false
-    → (is_man p.side Pawn (man_at p.men m.from) && is_square p.target m.to) ≡ false → IsPlainly p m
+    → (is_man p.side Pawn (man_at p.men m.from) && is_at p.target m.to) ≡ false → IsPlainly p m
 no_king_plainly p m no_king no_passing = record {
   no_castle = no_king_castles p m no_king;
   no_passing = not_passing p m no_passing;
@@ -135,7 +135,7 @@ plainly_by p m x at King e h = record {
 }
 plainly_by p m x at Pawn e h = no_king_plainly p m
     (other_man p.side King (man_at p.men m.from) x at (ap (λ k. same_kind King k) e))
-    (and_right _ _ (not-true (is_square p.target m.to) h))
+    (and_right _ _ (not-true (is_at p.target m.to) h))
 plainly_by p m x at Queen e h = officer_plainly p m x at (ap (same_kind King) e) (ap (same_kind Pawn) e)
 plainly_by p m x at Rook e h = officer_plainly p m x at (ap (same_kind King) e) (ap (same_kind Pawn) e)
 plainly_by p m x at Bishop e h = officer_plainly p m x at (ap (same_kind King) e) (ap (same_kind Pawn) e)

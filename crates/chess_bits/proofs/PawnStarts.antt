@@ -9,7 +9,7 @@ use Rattle.chess_base.specs.declared.setup.Setup.{Setup}
 use Rattle.chess_base.specs.Men.{man_at, is_man, is_of, other, first_rank, forward, pawn_rank}
 use Rattle.chess_base.specs.MoveList.{move_of}
 use Rattle.chess_base.specs.Moves.{is_pseudo_legal, is_legal, pawn_advances, pawn_captures, is_double_advance, promotion_fits}
-use Rattle.chess_base.specs.Squares.{rank, is_square}
+use Rattle.chess_base.specs.Squares.{rank, is_at}
 use Rattle.chess_moves.specs.Promoting.{would_promote}
 use Rattle.chess_moves.specs.Sets.{contains}
 use Rattle.chess_bits.specs.ties.Changes.{StepsPlainly}
@@ -72,11 +72,11 @@ none_onto p to k full = sym (and_left (is_none (man_at p.men to)) _ full)
 -- ---- by a capture
 
 pub captures_are : (p : Setup) (k to : ℕ) → is_man p.side Pawn (man_at p.men k) ≡ true
-    → ((is_of (other p.side) (man_at p.men to) || is_square p.target to) && in_shape (shape.Pawn (other p.side)) to k)
+    → ((is_of (other p.side) (man_at p.men to) || is_at p.target to) && in_shape (shape.Pawn (other p.side)) to k)
     ≡ pawn_captures p (move_of k to None)
 captures_are p k to pawn =
-    and_comm (is_of (other p.side) (man_at p.men to) || is_square p.target to) (in_shape (shape.Pawn (other p.side)) to k)
-    ∙ ap (λ t. t && (is_of (other p.side) (man_at p.men to) || is_square p.target to)) (pawn_back p.men p.side k to)
+    and_comm (is_of (other p.side) (man_at p.men to) || is_at p.target to) (in_shape (shape.Pawn (other p.side)) to k)
+    ∙ ap (λ t. t && (is_of (other p.side) (man_at p.men to) || is_at p.target to)) (pawn_back p.men p.side k to)
     ∙ captures_is p k to pawn
 
 -- what comes after a test that holds
@@ -113,7 +113,7 @@ pawn_patterns p to w high off starts k low on =
     (parts.0, sym (goes_so p k to off high low parts.0) ∙ parts.1)
 
 pub pawns_plain : (p : Setup) (to w : ℕ) → to < 64 → (rank to == first_rank (other p.side)) ≡ false
-    → is_square p.target to ≡ false
+    → is_at p.target to ≡ false
     → ((k : ℕ) → k < 64 → contains w k ≡ (is_man p.side Pawn (man_at p.men k)
     && (pawn_advances p (move_of k to None) || pawn_captures p (move_of k to None))))
     → (k : ℕ) → k < 64 → contains w k ≡ true → StepsPlainly p (move_of k to None)

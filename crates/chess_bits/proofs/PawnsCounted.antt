@@ -14,7 +14,7 @@ use Rattle.chess_base.specs.Men.{Men, man_at, is_of, is_man, other, forward, paw
 use Rattle.chess_base.specs.MoveList.{move_of, squares}
 use Rattle.chess_base.specs.Moves.{is_legal, pawn_advances, pawn_captures}
 use Rattle.chess_base.specs.Sound.{IsSound, no_pawn_on_end_ranks, pawn_is_allowed}
-use Rattle.chess_base.specs.Squares.{file, rank, is_square}
+use Rattle.chess_base.specs.Squares.{file, rank, is_at}
 use Rattle.chess_base.proofs.shared.Squares.{each_square-at}
 use Rattle.chess_moves.specs.shared.MovesBySquares.{moves_between, moves_from}
 use Rattle.chess_moves.specs.Sets.{contains, members}
@@ -144,7 +144,7 @@ aims_back c k t = pawn_back [] c k t ∙ sym (pawn_from [] c k t)
 
 -- a pawn that does not attack the target captures enemies alone
 no_target : (men : Men) (c : Colour) (o : Option ℕ) (a b : ℕ) (e : Bool) → aims_at o c a ≡ false
-    → (could_capture men c Pawn a b && (e || is_square o b)) ≡ (could_capture men c Pawn a b && e)
+    → (could_capture men c Pawn a b && (e || is_at o b)) ≡ (could_capture men c Pawn a b && e)
 no_target men c None a b e off = ap (λ t. could_capture men c Pawn a b && t) (or-false e)
 no_target men c (Some t) a b e off =
     elim (cases_Bool (t == b)) [

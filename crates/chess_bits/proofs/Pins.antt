@@ -18,7 +18,7 @@ use Rattle.chess_base.specs.Castling.{castle_of, castle_from, mover_end, castlin
 use Rattle.chess_base.specs.Men.{Men, man_at, other, is_man, is_of, same_kind, same_colour, first_rank, crossed_rank}
 use Rattle.chess_base.specs.Moves.{is_pseudo_legal, is_legal, after, arriving_man, man_moves, men_after, second_square_emptied, promotion_fits}
 use Rattle.chess_base.specs.Sound.{IsSound}
-use Rattle.chess_base.specs.Squares.{file, rank, is_between, is_between_on_file, is_between_on_rank, is_between_on_diagonal, is_strictly_between, is_square, share_rank_or_file, share_diagonal}
+use Rattle.chess_base.specs.Squares.{file, rank, is_between, is_between_on_file, is_between_on_rank, is_between_on_diagonal, is_strictly_between, is_at, share_rank_or_file, share_diagonal}
 use Rattle.chess_base.specs.shared.Splits.{could_capture_as}
 use Rattle.chess_base.proofs.shared.Men.{is_none-None}
 use Rattle.chess_base.proofs.shared.MoveKinds.{Moves, MoveKind, ManMoves, Castles, PawnMoves, moves_from_pattern, castles_unpromoted}
@@ -76,7 +76,7 @@ apart White s e f = omega (arith, e, f)
 apart Black s e f = omega (arith, e, f)
 
 pub no_target_there : (p : Setup) (b : ℕ) → IsSound p → rank b ≡ first_rank (other p.side)
-    → is_square p.target b ≡ false
+    → is_at p.target b ≡ false
 no_target_there p b sound last =
     false_from_ne_true _ (λ on. apart p.side b (at_target p b sound.target on).0 last)
 
@@ -120,7 +120,7 @@ clear_lifted men a b k all low clear =
 pub must_end : (p : Setup) (m : Move) (king b : ℕ) → IsSound p → is_legal p m ≡ true → king < 64
     → ((k : ℕ) → k < 64 → is_man p.side King (man_at p.men k) ≡ (k == king))
     → is_man p.side King (man_at p.men m.from) ≡ false → b < 64 → is_of (other p.side) (man_at p.men b) ≡ true
-    → could_capture_as (lifted p.men m.from) (man_at p.men b) b king ≡ true → is_square p.target m.to ≡ false
+    → could_capture_as (lifted p.men m.from) (man_at p.men b) b king ≡ true → is_at p.target m.to ≡ false
     → (is_between king b m.to || (m.to == b)) ≡ true
 unfolding is_legal second_square_emptied castling_rook_to mover_end is_attacked attacks is_clear
 must_end p m king b sound legal there one no_king low theirs hits no_target =
@@ -137,7 +137,7 @@ must_end p m king b sound legal there one no_king low theirs hits no_target =
 
     plain : IsPlain p m
     plain = plain_by p m pattern no_castle (not_passing p m
-        (and_right (is_man p.side Pawn (man_at p.men m.from)) (is_square p.target m.to) no_target))
+        (and_right (is_man p.side Pawn (man_at p.men m.from)) (is_at p.target m.to) no_target))
 
     moves : Moves p m
     moves = moves_from_pattern p m pattern
@@ -203,12 +203,12 @@ pub answered : (p : Setup) (m : Move) (king b : ℕ) → IsSound p → is_legal 
     → ((k : ℕ) → k < 64 → is_man p.side King (man_at p.men k) ≡ (k == king))
     → is_man p.side King (man_at p.men m.from) ≡ false → b < 64 → is_of (other p.side) (man_at p.men b) ≡ true
     → could_capture_as (lifted p.men m.from) (man_at p.men b) b king ≡ true
-    → ((is_between king b m.to || (m.to == b)) || is_square p.target m.to) ≡ true
+    → ((is_between king b m.to || (m.to == b)) || is_at p.target m.to) ≡ true
 answered p m king b sound legal there one no_king low theirs hits =
-    elim (cases_Bool (is_square p.target m.to)) [
-      | inl passing ↦ or_right (is_between king b m.to || (m.to == b)) (is_square p.target m.to) passing
+    elim (cases_Bool (is_at p.target m.to)) [
+      | inl passing ↦ or_right (is_between king b m.to || (m.to == b)) (is_at p.target m.to) passing
       | inr plain ↦
-          or_left (is_between king b m.to || (m.to == b)) (is_square p.target m.to)
+          or_left (is_between king b m.to || (m.to == b)) (is_at p.target m.to)
           (must_end p m king b sound legal there one no_king low theirs hits plain)
     ]
 
@@ -365,7 +365,7 @@ pub check_met : (p : Setup) (m : Move) (king b : ℕ) → IsSound p → is_legal
     → ((k : ℕ) → k < 64 → is_man p.side King (man_at p.men k) ≡ (k == king))
     → is_man p.side King (man_at p.men m.from) ≡ false → b < 64
     → (is_of (other p.side) (man_at p.men b) && attacks p.men b king) ≡ true
-    → ((is_between king b m.to || (m.to == b)) || is_square p.target m.to) ≡ true
+    → ((is_between king b m.to || (m.to == b)) || is_at p.target m.to) ≡ true
 unfolding attacks
 check_met p m king b sound legal there one no_king low gives =
     let both = and_parts (is_of (other p.side) (man_at p.men b)) (attacks p.men b king) gives in

@@ -8,7 +8,7 @@ use Rattle.chess_base.specs.declared.man.Kind.{Kind}
 use Rattle.chess_base.specs.declared.man.Kind.TheVariants.{King, Queen, Rook, Bishop, Knight, Pawn}
 use Rattle.chess_base.specs.declared.man.Man.{Man}
 use Rattle.chess_base.specs.declared.man.Move.{Move}
-use Rattle.chess_base.specs.Squares.{is_square, share_rank_or_file, share_diagonal, is_between}
+use Rattle.chess_base.specs.Squares.{is_at, share_rank_or_file, share_diagonal, is_between}
 use Rattle.chess_base.specs.Men.{Men, man_at, other, is_man, is_of, same_kind}
 use Rattle.chess_base.specs.Attacks.{is_clear, could_capture, attacks, is_attacked}
 use Rattle.chess_base.specs.shared.Splits.{could_capture_as}
@@ -142,10 +142,10 @@ stays_safe p m king all low h =
 
 -- ---- moves that change only their two squares
 
-pub not_passing : (p : Setup) (m : Move) → (is_man p.side Pawn (man_at p.men m.from) && is_square p.target m.to) ≡ false
+pub not_passing : (p : Setup) (m : Move) → (is_man p.side Pawn (man_at p.men m.from) && is_at p.target m.to) ≡ false
     → is_en_passant p m ≡ false
 unfolding is_en_passant
-not_passing p m h = out (is_man p.side Pawn (man_at p.men m.from)) (attacks p.men m.from m.to) (is_square p.target m.to)
+not_passing p m h = out (is_man p.side Pawn (man_at p.men m.from)) (attacks p.men m.from m.to) (is_at p.target m.to)
     h
   where
     out : (a b c : Bool) → (a && c) ≡ false → ((a && b) && c) ≡ false
@@ -157,13 +157,13 @@ lands_same (Some x) = refl
 
 -- such a move fills its end square, and changes that and its start
 pub fills_end : (p : Setup) (m : Move) (k : ℕ) → is_man p.side King (man_at p.men m.from) ≡ false
-    → (is_man p.side Pawn (man_at p.men m.from) && is_square p.target m.to) ≡ false → (k == m.to) ≡ is_filled p m k
+    → (is_man p.side Pawn (man_at p.men m.from) && is_at p.target m.to) ≡ false → (k == m.to) ≡ is_filled p m k
 unfolding castling_rook_to mover_end
 fills_end p m k no_king no_passing =
     rw (no_king_castles p m no_king) (eq_back k m.to ∙ sym (or-false (m.to == k)))
 
 pub changes_both : (p : Setup) (m : Move) (k : ℕ) → is_man p.side King (man_at p.men m.from) ≡ false
-    → (is_man p.side Pawn (man_at p.men m.from) && is_square p.target m.to) ≡ false
+    → (is_man p.side Pawn (man_at p.men m.from) && is_at p.target m.to) ≡ false
     → ((k == m.to) || (k == m.from)) ≡ is_changed p m k
 unfolding second_square_emptied castling_rook_to mover_end
 changes_both p m k no_king no_passing =

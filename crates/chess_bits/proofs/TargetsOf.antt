@@ -23,7 +23,7 @@ use Rattle.chess_base.specs.Men.{Men, man_at, other, is_of, is_man, same_kind, s
 use Rattle.chess_base.specs.MoveList.{move_of}
 use Rattle.chess_base.specs.Moves.{is_legal, is_pseudo_legal, man_moves, pawn_advances, pawn_captures, is_double_advance}
 use Rattle.chess_base.proofs.shared.Squares.{some_square-at, some_square-none}
-use Rattle.chess_base.specs.Squares.{rank, is_square, some_square}
+use Rattle.chess_base.specs.Squares.{rank, is_at, some_square}
 use Rattle.chess_base.proofs.shared.Castling.{no_castle}
 use Rattle.chess_base.proofs.shared.Men.{same_colour-self, same_colour-true, same_kind-true}
 use Rattle.chess_moves.specs.Sets.{contains}
@@ -114,7 +114,7 @@ man_told c k (Some x) h =
     ∙ ap (λ (l : Kind). let y : Man = record { colour = c; kind = l } in Some y) (sym (same_kind-true k x.kind both.1))
 
 pub captures_is : (p : Setup) (a b : ℕ) → is_man p.side Pawn (man_at p.men a) ≡ true
-    → (could_capture p.men p.side Pawn a b && (is_of (other p.side) (man_at p.men b) || is_square p.target b))
+    → (could_capture p.men p.side Pawn a b && (is_of (other p.side) (man_at p.men b) || is_at p.target b))
     ≡ pawn_captures p (move_of a b None)
 unfolding pawn_captures attacks
 captures_is p a b pawn = let at = man_told p.side Pawn (man_at p.men a) pawn in rw at refl

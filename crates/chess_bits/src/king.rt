@@ -4,7 +4,7 @@ ghost use Rattle.std.specs.Prelude.{◌≡◌, ◌==◌, ◌&&◌, ◌||◌, not
 ghost use Rattle.chess_base.specs.Men.{man_at, is_man};
 ghost use Rattle.chess_base.specs.MoveList.{move_of};
 ghost use Rattle.chess_base.specs.Moves.{is_pseudo_legal, is_legal, man_moves, men_after, promotion_fits, steps_of};
-ghost use Rattle.chess_base.specs.Squares.{is_square};
+ghost use Rattle.chess_base.specs.Squares.{is_at};
 ghost use Rattle.chess_base.specs.declared.man.Kind.{Kind as ManKind};
 ghost use Rattle.chess_base.specs.declared.man.Kind.TheVariants.{King, Pawn};
 ghost use Rattle.chess_bits.specs.ties.Changes.{StepsPlainly, is_changed, is_filled};
@@ -23,7 +23,7 @@ use chess_moves::{SquareSet, would_promote};
 // The set that has just the given square; the empty set for `None`.
 #[tactic(auto, using(crate::proofs::Attackers::eq_back))]
 pub(crate) fn set_of(square: Option<Square>) -> SquareSet
-    ensures { (k : ℕ) → contains result k ≡ is_square square k }
+    ensures { (k : ℕ) → contains result k ≡ is_at square k }
 {
     match square {
         None => SquareSet::empty(),
@@ -35,7 +35,7 @@ pub(crate) fn set_of(square: Option<Square>) -> SquareSet
 // the rook does.
 #[inline(always)]
 fn filled_by(steps: &Steps) -> SquareSet
-    ensures { (k : ℕ) → contains result k ≡ ((steps.now.to == k) || is_square steps.now.second_to k) }
+    ensures { (k : ℕ) → contains result k ≡ ((steps.now.to == k) || is_at steps.now.second_to k) }
 {
     let to = set_of(Some(steps.to));
     to.union(set_of(steps.second_to))
@@ -45,7 +45,7 @@ fn filled_by(steps: &Steps) -> SquareSet
 // rook or of the pawn taken en passant.
 #[inline(always)]
 fn emptied_by(steps: &Steps) -> SquareSet
-    ensures { (k : ℕ) → contains result k ≡ (is_square steps.now.second_from k || (steps.now.from == k)) }
+    ensures { (k : ℕ) → contains result k ≡ (is_at steps.now.second_from k || (steps.now.from == k)) }
 {
     let second = set_of(steps.second_from);
     second.union(set_of(Some(steps.from)))
@@ -122,7 +122,7 @@ impl Bits<'_> {
     #[inline(always)]
     fn steps_plainly(&self, m: &Move) -> bool
         ensures { result ≡ (not (is_man (self.now).side King (man_at (self.now).men m.now.from))
-            && not (is_man (self.now).side Pawn (man_at (self.now).men m.now.from) && is_square (self.now).target m.now.to)) }
+            && not (is_man (self.now).side Pawn (man_at (self.now).men m.now.from) && is_at (self.now).target m.now.to)) }
     {
         let side = self.setup.side;
         let man = self.setup.men[m.from.index()];

@@ -5,7 +5,7 @@ ghost use Rattle.std.specs.List.{flat_map};
 ghost use Rattle.chess_base.specs.Men.{forward, is_man, is_of, man_at, other};
 ghost use Rattle.chess_base.specs.MoveList.{move_of};
 ghost use Rattle.chess_base.specs.Moves.{pawn_advances, pawn_captures};
-ghost use Rattle.chess_base.specs.Squares.{file, is_square};
+ghost use Rattle.chess_base.specs.Squares.{file, is_at};
 ghost use Rattle.chess_base.specs.declared.man.Kind.TheVariants.{Pawn};
 ghost use Rattle.chess_bits.specs.declared.table.Shape.TheVariants.{Pawn as PawnAttack};
 ghost use Rattle.chess_bits.specs.ties.Goes.{AreFree, GoesFreely, IsAhead, IsFree, goes_specially};
@@ -97,7 +97,7 @@ impl Bits<'_> {
     fn capture_starts(&self, to: Square) -> SquareSet
         ensures { (k : ℕ) → k < 64
             → contains result k ≡ ((is_of (other (self.now).side) (man_at (self.now).men to)
-            || is_square (self.now).target to) && in_shape (PawnAttack (other (self.now).side)) to k) }
+            || is_at (self.now).target to) && in_shape (PawnAttack (other (self.now).side)) to k) }
     {
         // The prover wants this fact: the number of the end is below 64.
         let _end = to.number();

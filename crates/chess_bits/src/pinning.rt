@@ -3,7 +3,7 @@
 ghost use Rattle.std.specs.Prelude.{◌≡◌, ◌<◌, ◌==◌, ◌&&◌, ◌||◌, not, is_none, ℕ, true, false, MatchOption};
 ghost use Rattle.chess_base.specs.Attacks.{is_in_check};
 ghost use Rattle.chess_base.specs.Men.{man_at, is_man};
-ghost use Rattle.chess_base.specs.Squares.{is_between, is_square};
+ghost use Rattle.chess_base.specs.Squares.{is_between, is_at};
 ghost use Rattle.chess_base.specs.declared.man.Kind.TheVariants.{King};
 ghost use Rattle.chess_bits.specs.ties.Pins.{aims_from, KeepsClosed, IsShield, EndsOn, AreEvasions};
 ghost use Rattle.chess_bits.specs.ties.Goes.{goes, IsFree};
@@ -74,7 +74,7 @@ impl Bits<'_> {
     // squares can be legal: in check for each piece but the king, otherwise for the piece that `from` pins.
     #[inline(always)]
     fn evasions(&self, king: Square, from: Square) -> SquareSet
-        ensures { (k : ℕ) → k < 64 → ((is_between king from k || (k == from)) || is_square (self.now).target k) ≡ true
+        ensures { (k : ℕ) → k < 64 → ((is_between king from k || (k == from)) || is_at (self.now).target k) ≡ true
             → contains result k ≡ true }
     {
         // The prover wants these facts: the numbers of both squares are below 64.

@@ -7,7 +7,7 @@ ghost use Rattle.chess_base.specs.Men.{man_at, other};
 ghost use Rattle.chess_base.specs.shared.OneSquare.{with_man};
 ghost use Rattle.chess_base.specs.Moves.{after, fullmove_after, is_legal, rights_after, target_after};
 ghost use Rattle.chess_base.specs.Sound.{IsSound};
-ghost use Rattle.chess_base.specs.Squares.{is_square};
+ghost use Rattle.chess_base.specs.Squares.{is_at};
 ghost use Rattle.chess_base.specs.Steps.{men_stepped};
 ghost use Rattle.chess_bits.specs.ties.BoardSets.{IsSets};
 ghost use Rattle.chess_bits.specs.ties.Changes.{clock_left, goes_plainly, has_no_right, is_king_or_rook, shifted, shifts};
@@ -95,7 +95,7 @@ fn take_steps(men: &mut [Option<Man>; 64], sets: &mut Sets, keys: &KeyTable, ste
 // same test, but is private there.
 #[inline(always)]
 pub(crate) fn is_target(setup: &Setup, square: Square) -> bool
-    ensures { result ≡ is_square (setup.now).target square }
+    ensures { result ≡ is_at (setup.now).target square }
 {
     match setup.target {
         None => false,

@@ -29,7 +29,7 @@ use Rattle.chess_cecp.specs.Declaring.{read_result}
 use Rattle.chess_cecp.specs.Held.{SessionSeen}
 use Rattle.text_lines.specs.Lines.{LineSeen}
 use Rattle.chess_cecp.specs.Serving.{Response}
-use Rattle.chess_cecp.specs.Session.{row, says, refuses, becomes, result_row, draws, claimed, setboard_row, normal_row, feature_text, joined_line, reading_row, move_row, session_response}
+use Rattle.chess_cecp.specs.Session.{row, says, refuses, becomes, result_row, declares_draw, draw_claim_row, setboard_row, normal_row, feature_text, joined_line, reading_row, move_row, session_response}
 use Rattle.chess_cecp.specs.ties.Replies.{is_quit, is_quit_command, reply_to, asks_for_moves, asks_for_pgn}
 
 -- the session goes on
@@ -65,10 +65,10 @@ result_on s text (Some d) =
     (refuses s (codes "Error (the board says otherwise): ") text)
     (becomes (with_declared s (Some d))) refl refl
 
-claimed_on : (s : State) (c : Claims) → GoesOn (claimed s c)
+claimed_on : (s : State) (c : Claims) → GoesOn (draw_claim_row s c)
 claimed_on s c = at (draw_claim c)
   where
-    at : (claim : Option DrawClaim) → GoesOn (option_map_or (λ claim. draws s (claim_comment claim)) claim
+    at : (claim : Option DrawClaim) → GoesOn (option_map_or (λ claim. declares_draw s (claim_comment claim)) claim
         (refuses s (codes "Error (no claim): ") (codes "claim")))
     at (Some claim) = refl
     at None = refl
@@ -92,7 +92,7 @@ row_ends tags limit s text argument Remove =
 row_ends tags limit s text argument Declare = result_on s text (read_result argument)
 row_ends tags limit s text argument Claim =
     by_test (is_over s) (refuses s (codes "Error (command not legal now): ") (codes "claim"))
-    (claimed s (claims s.start s.moves)) refl (claimed_on s (claims s.start s.moves))
+    (draw_claim_row s (claims s.start s.moves)) refl (claimed_on s (claims s.start s.moves))
 row_ends tags limit s text argument (Ping n) = refl
 row_ends tags limit s text argument (Protover n) =
     by_test (nat_lt n 2) (says s []) (says s (joined_line feature_text [])) refl refl

@@ -24,7 +24,7 @@ use Rattle.chess_game.specs.declared.verdicts.Verdict.{Verdict}
 use Rattle.chess_game.specs.declared.verdicts.Verdict.TheVariants.{Stalemate, InsufficientMaterial, FivefoldRepetition, SeventyFiveMoves}
 use Rattle.chess_game.specs.declared.results.Declared.{Declared}
 use Rattle.chess_game.specs.declared.results.Outcome.TheVariants.{Unfinished}
-use Rattle.chess_game.specs.Ends.{has_insufficient_material, mates, verdict, verdict_outcome, claims}
+use Rattle.chess_game.specs.Ends.{has_insufficient_material, mate_by, verdict, verdict_outcome, claims}
 use Rattle.chess_game.specs.Game.{State, is_over, outcome_now}
 use Rattle.chess_game.specs.Line.{positions_of, position_after}
 use Rattle.chess_game.specs.Results.{outcome_text}
@@ -102,7 +102,7 @@ rep_kept p e ms =
 -- the verdict, by what it is judged of
 judged : Setup → List Move → ℕ → Option Verdict
 judged p ms n =
-    if length ms == 0 then (if is_in_check p.men p.side then Some (mates (other p.side)) else Some Stalemate)
+    if length ms == 0 then (if is_in_check p.men p.side then Some (mate_by (other p.side)) else Some Stalemate)
     else if has_insufficient_material p.men then Some InsufficientMaterial
     else if nat_le 5 n then Some FivefoldRepetition
     else if nat_le 150 p.halfmove then Some SeventyFiveMoves

@@ -27,7 +27,7 @@ use Rattle.chess_pgn.specs.declared.tags.Tags.{Tags}
 use Rattle.chess_cecp.specs.declared.command.Command.{Command}
 use Rattle.chess_cecp.specs.declared.command.Command.TheVariants.{New, SetBoard, UserMove, BareMove, Undo, Remove, Declare, Claim, Ping, Protover, Variant, Go, ShowFen, ShowMoves, ShowState, ShowPgn, Quit, Silent, BadNumber, Unknown}
 use Rattle.chess_cecp.specs.Declaring.{read_result, claims_text, verdict_text, declared_text, state_text}
-use Rattle.chess_cecp.specs.Session.{row, says, refuses, becomes, becomes_judged, verdict_line, setboard_row, reading_row, move_row, result_row, claimed, claim_row, moves_line, joined_line}
+use Rattle.chess_cecp.specs.Session.{row, says, refuses, becomes, becomes_judged, verdict_line, setboard_row, reading_row, move_row, result_row, draw_claim_row, claim_row, moves_line, joined_line}
 use Rattle.chess_cecp.specs.laws.Normal.{normal_becomes_judged, normal_setboard_row, normal_reading_row, normal_move_row, normal_result_row, normal_claim_row, normal_moves_line, normal_state_text, normal_row_of, has_normal_row}
 use Rattle.chess_cecp.specs.laws.NormalGame.{normal_current, normal_rep, normal_claims, normal_is_over}
 use Rattle.chess_cecp.proofs.NormalGames.{initial_kept, last_stays, last_kept, rep_kept, verdict_kept, claims_kept, over_kept, pgn_kept}
@@ -87,9 +87,9 @@ result_kept s e text (Some d) =
 claim_kept : (s : State) → s.start.variant ≡ Normal → claim_row s ≡ normal_claim_row s
 claim_kept s e =
     ap (λ b. if b then refuses s (codes "Error (command not legal now): ") (codes "claim")
-    else claimed s (claims s.start s.moves)) (over_kept s e)
+    else draw_claim_row s (claims s.start s.moves)) (over_kept s e)
     ∙ ap (λ c. if normal_is_over s then refuses s (codes "Error (command not legal now): ") (codes "claim")
-    else claimed s c) (claims_kept s.start e s.moves)
+    else draw_claim_row s c) (claims_kept s.start e s.moves)
 
 -- ---- what is shown
 

@@ -8,7 +8,7 @@ use Rattle.text_lines.specs.Words.{argument_of}
 use Rattle.chess_cecp.specs.Held.{SessionSeen}
 use Rattle.text_lines.specs.Lines.{LineSeen}
 use Rattle.chess_cecp.specs.Serving.{Response}
-use Rattle.chess_cecp.specs.Session.{row, row_on, says, moves_line, session_response}
+use Rattle.chess_cecp.specs.Session.{row, game_response, says, moves_line, session_response}
 use Rattle.chess_cecp.specs.ties.Replies.{after_row, is_quit, reply_to, shows_moves, shows_pgn, asks_for_moves, asks_for_pgn}
 use Rattle.chess_game.specs.Game.{State, current}
 use Rattle.chess_cecp.specs.declared.session.Go.{Go as Further}
@@ -72,7 +72,7 @@ said : (seen : SessionSeen) (line : LineSeen) (command : Command) (text : List �
     → session_response seen line ≡ saying seen text
 unfolding session_response
 said seen line command text short is says_it =
-    let at : row_on seen line ≡ says seen.state text =
+    let at : game_response seen line ≡ says seen.state text =
     rw short (ap (row seen.tags seen.limit seen.state line.text (argument_of line.text)) is ∙ says_it) in
     ap (λ (r : Response State). record { text = r.text; state = after_row seen r; ends = r.ends }) at
 

@@ -30,7 +30,7 @@ use Rattle.chess_game.specs.Results.{result_text}
 use Rattle.chess_cecp.specs.declared.command.Command.{Command}
 use Rattle.chess_cecp.specs.declared.command.Command.TheVariants.{New, SetBoard, UserMove, BareMove, Undo, Remove, Declare, Claim, Ping, Protover, Variant, Go, ShowFen, ShowMoves, ShowState, ShowPgn, Quit, Silent, BadNumber, Unknown}
 use Rattle.chess_cecp.specs.Serving.{Response}
-use Rattle.chess_cecp.specs.Session.{row, says, refuses, becomes, becomes_judged, result_line, verdict_line, result_row, draws, claimed, setboard_row, normal_row, feature_text, joined_line, reading_row, move_row, IsRefusal, session_response}
+use Rattle.chess_cecp.specs.Session.{row, says, refuses, becomes, becomes_judged, result_line, verdict_line, result_row, declares_draw, draw_claim_row, setboard_row, normal_row, feature_text, joined_line, reading_row, move_row, IsRefusal, session_response}
 
 -- the first bytes of refusals: E, I and t
 abbrev pub begins_refusal : List ℕ → Bool
@@ -98,13 +98,13 @@ result_keeps s text (Some d) =
     (λ h. refl)
     (accepted s (becomes (with_declared s (Some d))) refl)
 
-draws_keeps : (s : State) (comment : List ℕ) → KeepsRefused s (draws s comment)
-draws_keeps s comment = accepted s (draws s comment) (result_begins Draw comment)
+draws_keeps : (s : State) (comment : List ℕ) → KeepsRefused s (declares_draw s comment)
+draws_keeps s comment = accepted s (declares_draw s comment) (result_begins Draw comment)
 
-claimed_keeps : (s : State) (c : Claims) → KeepsRefused s (claimed s c)
+claimed_keeps : (s : State) (c : Claims) → KeepsRefused s (draw_claim_row s c)
 claimed_keeps s c = at (draw_claim c)
   where
-    at : (claim : Option DrawClaim) → KeepsRefused s (option_map_or (λ claim. draws s (claim_comment claim)) claim
+    at : (claim : Option DrawClaim) → KeepsRefused s (option_map_or (λ claim. declares_draw s (claim_comment claim)) claim
         (refuses s (codes "Error (no claim): ") (codes "claim")))
     at (Some claim) = draws_keeps s (claim_comment claim)
     at None = λ h. refl
@@ -132,7 +132,7 @@ row_keeps tags limit s text argument Remove =
 row_keeps tags limit s text argument Declare = result_keeps s text (read_result argument)
 row_keeps tags limit s text argument Claim =
     by_test (is_over s) s (refuses s (codes "Error (command not legal now): ") (codes "claim"))
-    (claimed s (claims s.start s.moves)) (λ h. refl) (claimed_keeps s (claims s.start s.moves))
+    (draw_claim_row s (claims s.start s.moves)) (λ h. refl) (claimed_keeps s (claims s.start s.moves))
 row_keeps tags limit s text argument (Ping n) = λ h. refl
 row_keeps tags limit s text argument (Protover n) =
     by_test (nat_lt n 2) s (says s []) (says s (joined_line feature_text [])) (λ h. refl) (λ h. refl)

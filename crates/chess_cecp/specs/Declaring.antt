@@ -2,7 +2,7 @@
 use Rattle.std.specs.Prelude.{ℕ, ◌-◌, ◌==◌, ◌&&◌, nat_le, if◌then◌else◌, List, [], ◌++◌, length, take, drop, slice_index_or, codes, decimal, Option, None, Some}
 use Rattle.std.specs.Option.{option_map_or}
 use Rattle.chess_base.specs.Letters.{byte}
-use Rattle.chess_game.specs.Ends.{verdict_outcome, verdict_comment, claims}
+use Rattle.chess_game.specs.Ends.{verdict_result, claims}
 use Rattle.chess_game.specs.Game.{State, current, verdict_now}
 use Rattle.chess_game.specs.Results.{result_text, cut_comment}
 use Rattle.chess_game.specs.Same.{repetition_count}
@@ -33,7 +33,7 @@ read_result argument = do
 
 -- the board's verdict as `showstate` writes it, such as `1-0 {White mates}`; `none` without one
 abbrev pub verdict_text : Option Verdict → List ℕ
-verdict_text verdict = option_map_or (λ v. result_text (verdict_outcome v) (verdict_comment v)) verdict (codes "none")
+verdict_text verdict = option_map_or verdict_result verdict (codes "none")
 
 -- the result that was declared as `showstate` writes it, such as `1-0 {Black resigns}`; `none` without one
 abbrev pub declared_text : Option Declared → List ℕ

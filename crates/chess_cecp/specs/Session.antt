@@ -106,8 +106,8 @@ move_row limit s text =
 -- the answer to `undo` (`n` is 1) or `remove` (`n` is 2) in the game `s`: the last `n` half-moves are taken back, a
 -- declared result is cleared, and nothing is answered. If the game has fewer half-moves, the command is refused, and
 -- `name` is its name in the answer
-abbrev pub back_row : ℕ → List ℕ → State → Response State
-back_row n name s =
+abbrev pub take_back_row : ℕ → List ℕ → State → Response State
+take_back_row n name s =
     if nat_le n (length s.moves) then becomes (taken_back s n)
     else refuses s (codes "Error (command not legal now): ") name
 
@@ -122,21 +122,22 @@ result_row s text (Some d) =
     else becomes (with_declared s (Some d))
 
 -- a draw with this comment is declared in the game `s`, and answered, as `1/2-1/2 {50-move rule}`
-abbrev pub draws : State → List ℕ → Response State
-draws s comment =
+abbrev pub declares_draw : State → List ℕ → Response State
+declares_draw s comment =
     says (with_declared s (Some (record { outcome = Draw; comment = comment }))) (result_line Draw comment)
 
 -- the answer to a claim of a draw in the game `s`, where `c` are the draws that can be claimed: a draw by threefold
 -- repetition is declared if `c` has it, else one by the 50-move rule if `c` has that, else the claim is refused
-abbrev pub claimed : State → Claims → Response State
-claimed s c =
-    option_map_or (λ claim. draws s (claim_comment claim)) (draw_claim c)
+abbrev pub draw_claim_row : State → Claims → Response State
+draw_claim_row s c =
+    option_map_or (λ claim. declares_draw s (claim_comment claim)) (draw_claim c)
     (refuses s (codes "Error (no claim): ") (codes "claim"))
 
 -- the answer to `claim` in the game `s`: if the game is not over and a draw can be claimed by threefold repetition or
 -- 50 moves (Laws, articles 9.2 and 9.3), the draw is declared; else the claim is refused
 abbrev pub claim_row : State → Response State
-claim_row s = if is_over s then refuses s (codes "Error (command not legal now): ") (codes "claim") else claimed s
+claim_row s =
+    if is_over s then refuses s (codes "Error (command not legal now): ") (codes "claim") else draw_claim_row s
     (claims s.start s.moves)
 
 -- the answer to `variant normal` in the game `s`, by the variant of that game: a game of normal chess goes on; in place
@@ -162,8 +163,8 @@ row tags limit s text argument New = becomes (from_start initial_setup)
 row tags limit s text argument SetBoard = setboard_row s (fen_reading_as s.start.variant argument)
 row tags limit s text argument UserMove = move_row limit s argument
 row tags limit s text argument BareMove = move_row limit s text
-row tags limit s text argument Undo = back_row 1 (codes "undo") s
-row tags limit s text argument Remove = back_row 2 (codes "remove") s
+row tags limit s text argument Undo = take_back_row 1 (codes "undo") s
+row tags limit s text argument Remove = take_back_row 2 (codes "remove") s
 row tags limit s text argument Declare = result_row s text (read_result argument)
 row tags limit s text argument Claim = claim_row s
 row tags limit s text argument (Ping n) = says s (joined_line (codes "pong ") (decimal n))
@@ -181,16 +182,16 @@ row tags limit s text argument Unknown = refuses s (codes "Error (unknown comman
 
 -- how a session (`seen`) responds to a line, with only its game as the state: a line that is too long is refused, and
 -- the answer shows its first bytes; for any other line it is as the table of commands says
-abbrev pub row_on : SessionSeen → LineSeen → Response State
-row_on seen line =
+abbrev pub game_response : SessionSeen → LineSeen → Response State
+game_response seen line =
     if line.too_long then refuses seen.state (codes "Error (line too long): ") line.text
     else row seen.tags seen.limit seen.state line.text (argument_of line.text) (command_of line.text)
 
 -- how a session (`seen`) responds to a line: the text, the game after that, and whether the session ends are those of
--- `row_on`; its tags and its limit do not change
+-- `game_response`; its tags and its limit do not change
 unfoldable pub session_response : SessionSeen → LineSeen → Response SessionSeen
 session_response seen line =
-    let r = row_on seen line in
+    let r = game_response seen line in
     record { text = r.text; state = record seen { state = r.state }; ends = r.ends }
 
 -- the text begins as the answer of a refusal does: with `Error`, `Illegal move` or `tellusererror`

@@ -12,7 +12,7 @@ ghost use Rattle.chess_game.specs.Results.{cut_comment};
 ghost use Rattle.chess_text.specs.Moves.{reading, has_shape, shape, IsLegalReading};
 ghost use Rattle.text_lines.specs.Words.{argument_of};
 ghost use Rattle.chess_cecp.specs.Declaring.{read_result};
-ghost use Rattle.chess_cecp.specs.Session.{row, move_row, back_row, result_row, draws, claim_row, setboard_row, normal_row, variant_row, session_response, joined_line, moves_line, IsRefusal};
+ghost use Rattle.chess_cecp.specs.Session.{row, move_row, take_back_row, result_row, declares_draw, claim_row, setboard_row, normal_row, variant_row, session_response, joined_line, moves_line, IsRefusal};
 ghost use Rattle.chess_cecp.specs.ties.Replies.{after_row, unnamed_command, reply_of, reply_to, shows_moves, shows_pgn, asks_for_moves, asks_for_pgn};
 ghost use Rattle.chess_game.specs.declared.game.TheConstants.{MOST_MOVES};
 ghost use Rattle.chess_cecp.specs.declared.session.TheConstants.{COMMAND_LEN};
@@ -221,8 +221,8 @@ impl<B: Board> Session<B> {
     // Obeys `undo`: takes one half-move back, or refuses if there is none.
     fn undo(&mut self, answer: &mut Answer)
         requires { answer.old.items ≡ [] }
-        ensures next { self.new ≡ after_row self.old (back_row 1 (codes "undo") self.old.state) }
-        ensures text { answer.new.items ≡ (back_row 1 (codes "undo") self.old.state).text }
+        ensures next { self.new ≡ after_row self.old (take_back_row 1 (codes "undo") self.old.state) }
+        ensures text { answer.new.items ≡ (take_back_row 1 (codes "undo") self.old.state).text }
     {
         if self.game.take_back().is_err() {
             write_line(answer, b"Error (command not legal now): ", b"undo");
@@ -232,8 +232,8 @@ impl<B: Board> Session<B> {
     // Obeys `remove`: takes two half-moves back, or refuses if there are fewer.
     fn remove(&mut self, answer: &mut Answer)
         requires { answer.old.items ≡ [] }
-        ensures next { self.new ≡ after_row self.old (back_row 2 (codes "remove") self.old.state) }
-        ensures text { answer.new.items ≡ (back_row 2 (codes "remove") self.old.state).text }
+        ensures next { self.new ≡ after_row self.old (take_back_row 2 (codes "remove") self.old.state) }
+        ensures text { answer.new.items ≡ (take_back_row 2 (codes "remove") self.old.state).text }
     {
         if self.game.ply() < 2 {
             write_line(answer, b"Error (command not legal now): ", b"remove");
@@ -270,8 +270,8 @@ impl<B: Board> Session<B> {
         requires clean { cut_comment comment.now ≡ comment.now }
         requires short { length comment.now ≤ 60 }
         requires empty { answer.old.items ≡ [] }
-        ensures next { self.new ≡ after_row self.old (draws self.old.state comment.now) }
-        ensures text { answer.new.items ≡ (draws self.old.state comment.now).text }
+        ensures next { self.new ≡ after_row self.old (declares_draw self.old.state comment.now) }
+        ensures text { answer.new.items ≡ (declares_draw self.old.state comment.now).text }
     {
         self.game.declare_open(Outcome::Draw, Comment::cut(comment));
         write_result(answer, Outcome::Draw, comment);

@@ -11,8 +11,8 @@ use Rattle.chess_base.specs.Faults.{conditions, first_failing, setup_fault}
 use Rattle.chess_base.proofs.shared.Sound.{no_fault_from_IsSound}
 use Rattle.chess_base.specs.declared.fen_fault.FenFault.{FenFault}
 use Rattle.chess_base.specs.declared.fen_fault.FenFault.TheVariants as faults
-use Rattle.chess_fen.specs.RightNames.{names_well}
-use Rattle.chess_fen.specs.Texts.{number_of, placement_of, is_castling, target_of, fields_of}
+use Rattle.chess_fen.specs.RightNames.{names_rights_well}
+use Rattle.chess_fen.specs.Texts.{number_of, placement_of, is_castling_field, target_of, fields_of}
 use Rattle.chess_fen.specs.Reading.{◌>>=◌, side_of, denoted_by, conditions_of, unless_fault, fen_reading_as}
 use Rattle.chess_fen.specs.Denotation.{DenotesCounters, DenotesFields, DenotesText, DenotesFenAs}
 use Rattle.chess_fen.specs.FenFaults.{DenotesSomeMen, DenotesSomeSide, IsFieldFault, HasWrongFieldCount, IsMalformed, IsFaultAs}
@@ -49,7 +49,7 @@ some_impossible o x e h = let f = sym e ∙ h in absurd cc
 outcome : (v : Variant) (a b c d h f : List ℕ) (more : List (List ℕ)) → AreCounters more h f
     → Outcome v a b c d more (denoted_by v a b c d h f)
 outcome v a b c d h f more counters =
-    by_steps (placement_of a) refl (side_of b) refl (is_castling v c) refl (target_of d) refl (number_of h) refl
+    by_steps (placement_of a) refl (side_of b) refl (is_castling_field v c) refl (target_of d) refl (number_of h) refl
     (number_of f) refl
   where
     said : (men : Men) → placement_of a ≡ Some men → DenotesSomeMen a
@@ -59,13 +59,13 @@ outcome v a b c d h f more counters =
     moved colour e = (colour, denoted-side b colour e)
 
     counted : (men : Men) → placement_of a ≡ Some men → (colour : Colour) → side_of b ≡ Some colour
-        → is_castling v c ≡ true → (target : Option ℕ) → target_of d ≡ Some target
+        → is_castling_field v c ≡ true → (target : Option ℕ) → target_of d ≡ Some target
         → ((n m : ℕ) → DenotesCounters more n m → ⊥) → IsFieldFault v a b c d more faults.Counters
     counted men e0 colour e1 e2 target e3 none =
         (said men e0, moved colour e1, e2, (target, denoted-target d target e3), none)
 
     by_steps : (men : Option Men) → placement_of a ≡ men → (side : Option Colour) → side_of b ≡ side
-        → (fits : Bool) → is_castling v c ≡ fits → (target : Option (Option ℕ)) → target_of d ≡ target
+        → (fits : Bool) → is_castling_field v c ≡ fits → (target : Option (Option ℕ)) → target_of d ≡ target
         → (n : Option ℕ) → number_of h ≡ n → (k : Option ℕ) → number_of f ≡ k
         → Outcome v a b c d more (steps v c men side fits target n k)
     by_steps None e0 side e1 fits e2 target e3 n e4 k e5 =
@@ -147,7 +147,7 @@ fields-denoted : (v : Variant) (a b c d h f : List ℕ) (more : List (List ℕ))
     → DenotesFields v a b c d more p → denoted_by v a b c d h f ≡ Ok p
 fields-denoted v a b c d h f more p counters s =
     let k = counters.denoted p.halfmove p.fullmove s.counters in
-    let fits : is_castling v c ≡ true = s.castling in
+    let fits : is_castling_field v c ≡ true = s.castling in
     rw (
       placement-denoted a p.men s.men,
       side-denoted b p.side s.side,
@@ -178,7 +178,7 @@ third-is v text castling p s = ap third s.4
 -- ---- the position
 
 -- where the rights are named rightly, the conditions are those of soundness
-named-fault : (letters : List ℕ) (p : Setup) → names_well p.variant p.men letters ≡ true
+named-fault : (letters : List ℕ) (p : Setup) → names_rights_well p.variant p.men letters ≡ true
     → first_failing (conditions_of letters p) ≡ setup_fault p
 unfolding setup_fault
 named-fault letters p e =
@@ -196,8 +196,8 @@ pub reading-denoted : (v : Variant) (text : List ℕ) (p : Setup) → DenotesFen
     → fen_reading_as v text ≡ Ok p
 reading-denoted v text p s h =
     let letters = third (fields_of text) in
-    let well : names_well p.variant p.men letters ≡ true =
-    ap (names_well p.variant p.men) (third-is v text s.0 p s.1) ∙ s.2 in
+    let well : names_rights_well p.variant p.men letters ≡ true =
+    ap (names_rights_well p.variant p.men) (third-is v text s.0 p s.1) ∙ s.2 in
     reading-steps v (fields_of text) ∙ ap (λ r. r >>= if_fit letters) (text-denoted v text s.0 p s.1)
     ∙ ap (unless_fault p) (named-fault letters p well ∙ no_fault_from_IsSound p h)
 
@@ -219,7 +219,7 @@ reading_outcome v text =
     by_conditions p s None e = (
       castling,
       s,
-      holds (take 4 (conditions p)) faults.Castling (names_well p.variant p.men castling) (drop 4 (conditions p)) e,
+      holds (take 4 (conditions p)) faults.Castling (names_rights_well p.variant p.men castling) (drop 4 (conditions p)) e,
     )
     by_conditions p s (Some f) e = inr (inr (p, castling, s, e))
 
@@ -273,11 +273,11 @@ misread v a b c d h f more faults.Side n s =
 misread v a b c d h f more faults.Castling n s =
     rw (placement-denoted a s.0.0 s.0.1, side-denoted b s.1.0 s.1.1, s.2) refl
 misread v a b c d h f more faults.EnPassant n s =
-    let fits : is_castling v c ≡ true = s.2 in
+    let fits : is_castling_field v c ≡ true = s.2 in
     let none = none_if (target_of d) (λ target e. s.3 target (denoted-target d target e)) in
     rw (placement-denoted a s.0.0 s.0.1, side-denoted b s.1.0 s.1.1, fits, none) refl
 misread v a b c d h f more faults.Counters n s =
-    let fits : is_castling v c ≡ true = s.2 in
+    let fits : is_castling_field v c ≡ true = s.2 in
     rw (placement-denoted a s.0.0 s.0.1, side-denoted b s.1.0 s.1.1, fits, target-denoted d s.3.0 s.3.1)
     (unnumbered v c s.0.0 s.1.0 s.3.0 h f more n s.4)
 misread v a b c d h f more faults.Fields n s = absurd s

@@ -13,7 +13,7 @@ use Rattle.chess_base.specs.Faults.{conditions, rights_are_sound, first_failing,
 use Rattle.chess_base.specs.Men.{Men}
 use Rattle.chess_base.proofs.shared.Normal.{normal_kept}
 use Rattle.chess_fen.specs.Reading.{◌>>=◌, side_of, denoted_by, unless_fault, reading_in, fen_reading_as}
-use Rattle.chess_fen.specs.Texts.{may_name_right, placement_of, target_of, number_of, fields_of, is_castling}
+use Rattle.chess_fen.specs.Texts.{may_name_right, placement_of, target_of, number_of, fields_of, is_castling_field}
 use Rattle.chess_fen.specs.laws.Normal.{normal_rights_named, normal_setup_by, normal_setup_in, normal_rights_are_sound, normal_fault, normal_sound, normal_fen_reading}
 use Rattle.chess_fen.proofs.DenotedFen.{reading_in_variant}
 use Rattle.chess_fen.proofs.Steps.{steps, if_fit}
@@ -85,7 +85,7 @@ fields_kept : (a b c d h f : List ℕ)
     → (denoted_by Normal a b c d h f >>= if_fit c) ≡ (normal_setup_by a b c d h f >>= normal_sound)
 unfolding may_name_right
 fields_kept a b c d h f =
-    steps_kept c (placement_of a) (side_of b) (is_castling Normal c) (target_of d) (number_of h) (number_of f)
+    steps_kept c (placement_of a) (side_of b) (is_castling_field Normal c) (target_of d) (number_of h) (number_of f)
 
 pub reading_kept : (text : List ℕ) → fen_reading_as Normal text ≡ normal_fen_reading text
 reading_kept text = by_fields (fields_of text)

@@ -16,13 +16,13 @@ use Rattle.chess_base.specs.declared.setup.Setup.{Setup}
 use Rattle.chess_base.specs.declared.fen_fault.FenFault.{FenFault}
 use Rattle.chess_base.specs.declared.fen_fault.FenFault.TheVariants as faults
 use Rattle.chess_base.specs.Men.{Men, man_at, is_man}
-use Rattle.chess_base.specs.Castling.{home_square, king_square, is_beside, are_placed_for_castling, right_is_sound, rights_by}
+use Rattle.chess_base.specs.Castling.{home_square, king_square, is_on_side_of_king, are_placed_for_castling, right_is_sound, rights_by}
 use Rattle.chess_base.specs.Faults.{conditions, rights_are_sound, first_failing, setup_fault}
 use Rattle.chess_base.specs.Faults as base
 use Rattle.chess_base.specs.Sound.{IsSound}
 use Rattle.chess_base.proofs.shared.Sound.{no_fault_from_IsSound}
-use Rattle.chess_fen.specs.Texts.{first_letter, names_file, placement_of, number_of, is_castling, target_of, fields_of}
-use Rattle.chess_fen.specs.RightNames.{side_letter, from_edge, is_towards, names_right, rook_named, right_by, right_in, names_well, rights_in}
+use Rattle.chess_fen.specs.Texts.{first_letter, names_file, placement_of, number_of, is_castling_field, target_of, fields_of}
+use Rattle.chess_fen.specs.RightNames.{side_letter, from_edge, is_towards, names_right, rook_named, right_by, right_in, names_rights_well, rights_in}
 use Rattle.chess_fen.specs.Reading.{◌>>=◌, side_of, denoted_by, unless_fault, reading_in, fen_reading_as}
 use Rattle.chess_fen.specs.ties.Reader.{nowhere, outer_rook, named_square, one_or_nowhere, right_by_letters, setup_by, setup_in}
 use Rattle.chess_fen.proofs.Steps.{steps, if_fit}
@@ -95,7 +95,7 @@ right_is men letters c w =
 no_rook : (men : Men) (c : Colour) (w : CastlingSide) → are_placed_for_castling Fischerandom men c w nowhere ≡ false
 no_rook men c w = by_king c (king_square men c)
   where
-    by_king : (c : Colour) (king : Option ℕ) → (is_beside c w king nowhere && is_man c Rook (man_at men nowhere))
+    by_king : (c : Colour) (king : Option ℕ) → (is_on_side_of_king c w king nowhere && is_man c Rook (man_at men nowhere))
         ≡ false
     by_king c None = refl
     by_king White (Some k) = grind arith
@@ -187,7 +187,7 @@ module _ (men : Men) (colour : Colour) (target : Option ℕ) (halfmove fullmove 
   named_alike (Some a) (Some b) (Some c) (Some d) = refl
 
   alike : (v : Variant) (letters : List ℕ)
-      → said v (rights_in v men letters) (names_well v men letters)
+      → said v (rights_in v men letters) (names_rights_well v men letters)
       ≡ read v (rights_by (right_by_letters v men letters))
   unfolding setup_fault
   alike Normal letters = refl
@@ -210,7 +210,7 @@ if_sound p = unless_fault p (setup_fault p)
 fields_are : (v : Variant) (a b c d h f : List ℕ)
     → (denoted_by v a b c d h f >>= if_fit c) ≡ (setup_by v a b c d h f >>= if_sound)
 fields_are v a b c d h f =
-    by_steps (placement_of a) (side_of b) (is_castling v c) (target_of d) (number_of h) (number_of f)
+    by_steps (placement_of a) (side_of b) (is_castling_field v c) (target_of d) (number_of h) (number_of f)
   where
     read_by : Option Men → Option Colour → Bool → Option (Option ℕ) → Option ℕ → Option ℕ → Result Setup FenFault
     read_by men side fits target halfmove fullmove = do

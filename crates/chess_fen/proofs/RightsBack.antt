@@ -17,9 +17,9 @@ use Rattle.chess_base.specs.declared.man.Variant.{Variant}
 use Rattle.chess_base.specs.declared.man.Variant.TheVariants.{Fischerandom}
 use Rattle.chess_base.specs.Squares.{file, rank}
 use Rattle.chess_base.specs.Men.{Men, man_at, is_man, other, first_rank}
-use Rattle.chess_base.specs.Castling.{home_square, king_square, is_to_side, is_beside, right_of}
+use Rattle.chess_base.specs.Castling.{home_square, king_square, is_to_side, is_on_side_of_king, right_of}
 use Rattle.chess_base.specs.shared.Splits.{right_is_sound_at}
-use Rattle.chess_fen.specs.Texts.{times, first_letter, names_file, may_name_right, is_castling}
+use Rattle.chess_fen.specs.Texts.{times, first_letter, names_file, may_name_right, is_castling_field}
 use Rattle.chess_fen.specs.RightNames.{side_letter, is_towards, names_right, rook_named, right_by, right_in}
 use Rattle.chess_fen.specs.ties.Reader.{names_once}
 use Rattle.chess_fen.specs.Writing.{right_text, or_dash, rights_text}
@@ -34,7 +34,7 @@ pub record Beside (men : Men) (c : Colour) (w : CastlingSide) (s : ℕ) : Type 0
   pub side : is_to_side w king s ≡ true
 
 beside_by : (men : Men) (c : Colour) (w : CastlingSide) (s : ℕ) (o : Option ℕ) → king_square men c ≡ o
-    → is_beside c w o s ≡ true → Beside men c w s
+    → is_on_side_of_king c w o s ≡ true → Beside men c w s
 beside_by men c w s None at e = cc
 beside_by men c w s (Some k) at e =
     record {
@@ -48,7 +48,7 @@ beside_by men c w s (Some k) at e =
 pub beside : (men : Men) (c : Colour) (w : CastlingSide) (s : ℕ) → right_is_sound_at Fischerandom men c w (Some s)
     ≡ true → Beside men c w s
 beside men c w s e = beside_by men c w s (king_square men c) refl
-    (and_parts (is_beside c w (king_square men c) s) (is_man c Rook (man_at men s)) e).0
+    (and_parts (is_on_side_of_king c w (king_square men c) s) (is_man c Rook (man_at men s)) e).0
 
 abbrev other_side : CastlingSide → CastlingSide
 other_side KingSide = QueenSide
@@ -337,7 +337,7 @@ each_once whole (x ∷ xs) within one p =
     rw (may, t, rest) refl
 
 castling_or_dash : (text : List ℕ) → length text ≤ 4 → AllByRecursion (λ l. IsTrue (may_name_right Fischerandom l)) text
-    → ((n : ℕ) → times n text ≤ 1) → is_castling Fischerandom (or_dash text) ≡ true
+    → ((n : ℕ) → times n text ≤ 1) → is_castling_field Fischerandom (or_dash text) ≡ true
 castling_or_dash [] few each distinct = refl
 castling_or_dash (x ∷ xs) few each distinct =
     let short : leb (length (x ∷ xs)) 4 ≡ true = grind (arith, nat_tests, few) in
@@ -346,7 +346,7 @@ castling_or_dash (x ∷ xs) few each distinct =
     grind (arith, short, once, some)
 
 pub text_is_castling : (men : Men) (r : Rights) → Stand Fischerandom men r
-    → is_castling Fischerandom (rights_text Fischerandom r) ≡ true
+    → is_castling_field Fischerandom (rights_text Fischerandom r) ≡ true
 text_is_castling men r s =
     let P = λ (l : ℕ). IsTrue (may_name_right Fischerandom l) in
     let a = one_at_most White KingSide r.white.king_side in

@@ -24,8 +24,8 @@ use Rattle.chess_base.specs.shared.Splits.{right_is_sound_at}
 use Rattle.chess_base.proofs.shared.Castling.{right_is_sound_of}
 use Rattle.std.proofs.Math.Seq.{take-add}
 use Rattle.text_lines.specs.Words.{short_number}
-use Rattle.chess_fen.specs.RightNames.{side_letter, right_named, right_in, names_well}
-use Rattle.chess_fen.specs.Texts.{number_of, from_top, placement_of, occurs, may_name_right, is_castling, fields_of}
+use Rattle.chess_fen.specs.RightNames.{side_letter, right_named, right_in, names_rights_well}
+use Rattle.chess_fen.specs.Texts.{number_of, from_top, placement_of, occurs, may_name_right, is_castling_field, fields_of}
 use Rattle.chess_fen.specs.Writing.{fen_rank, placement_text, side_text, right_text, or_dash, rights_text, target_text, fen}
 use Rattle.chess_fen.specs.Denotation.{DenotesSquares, DenotesRank}
 use Rattle.chess_fen.specs.ties.Loops.{ranks_down, run_text, row_text, ranks_text}
@@ -64,7 +64,7 @@ text_by a b c d =
 -- what is written for the rights of normal chess has the form of a castling field, in which K, Q, k and q occur for the
 -- rights that are there
 abbrev Says : Option ℕ → Option ℕ → Option ℕ → Option ℕ → Type 0
-Says a b c d = (is_castling Normal (text_by a b c d) ≡ true) × (occurs (byte "K") (text_by a b c d) ≡ is_some a)
+Says a b c d = (is_castling_field Normal (text_by a b c d) ≡ true) × (occurs (byte "K") (text_by a b c d) ≡ is_some a)
     × (occurs (byte "Q") (text_by a b c d) ≡ is_some b) × (occurs (byte "k") (text_by a b c d) ≡ is_some c)
     × (occurs (byte "q") (text_by a b c d) ≡ is_some d)
 
@@ -111,7 +111,7 @@ right_read men r s Black QueenSide = ap (λ b. cond b (Some 56) None)
 
 -- what is written for the rights of a position has the form of a castling field, and names them
 record ReadBack (v : Variant) (men : Men) (r : Rights) : Type 0 where
-  castling : is_castling v (rights_text v r) ≡ true
+  castling : is_castling_field v (rights_text v r) ≡ true
   rights : (c : Colour) (w : CastlingSide) → right_in v men (rights_text v r) c w ≡ Some (right_of r c w)
 
 are_read : (v : Variant) (men : Men) (r : Rights) → Stand v men r → ReadBack v men r
@@ -254,9 +254,9 @@ written-fen p h =
       t Black QueenSide,
     ) refl
 
-pub written-well : (p : Setup) → IsSound p → names_well p.variant p.men (third (fields_of (fen p))) ≡ true
+pub written-well : (p : Setup) → IsSound p → names_rights_well p.variant p.men (third (fields_of (fen p))) ≡ true
 written-well p h =
     let t = (read_back p h).rights in
-    let well : names_well p.variant p.men (rights_text p.variant p.rights) ≡ true =
+    let well : names_rights_well p.variant p.men (rights_text p.variant p.rights) ≡ true =
     rw (t White KingSide, t White QueenSide, t Black KingSide, t Black QueenSide) refl in
-    ap (λ fields. names_well p.variant p.men (third fields)) (fen_fields p h) ∙ well
+    ap (λ fields. names_rights_well p.variant p.men (third fields)) (fen_fields p h) ∙ well

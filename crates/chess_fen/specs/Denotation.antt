@@ -8,8 +8,8 @@ use Rattle.chess_base.specs.declared.man.Variant.TheVariants.{Normal}
 use Rattle.chess_base.specs.Squares.{rank}
 use Rattle.chess_base.specs.declared.setup.Setup.{Setup}
 use Rattle.chess_base.specs.Letters.{byte, letter}
-use Rattle.chess_fen.specs.RightNames.{names_well, rights_in}
-use Rattle.chess_fen.specs.Texts.{from_top, number_of, is_castling, fields_of}
+use Rattle.chess_fen.specs.RightNames.{names_rights_well, rights_in}
+use Rattle.chess_fen.specs.Texts.{from_top, number_of, is_castling_field, fields_of}
 use Rattle.chess_fen.specs.Writing.{side_text, target_text}
 
 -- one byte of a rank's text denotes these squares: a piece's letter one square with that piece, a digit n from 1 to 8 n
@@ -53,7 +53,7 @@ pub record DenotesFields (v : Variant) (a b c d : List ℕ) (counters_text : Lis
   pub variant : p.variant ≡ v
   pub men : DenotesPlacement a p.men
   pub side : b ≡ side_text p.side
-  pub castling : IsTrue (is_castling v c)
+  pub castling : IsTrue (is_castling_field v c)
   pub rights : p.rights ≡ rights_in v p.men c
   pub target : DenotesTarget d p.target
   pub counters : DenotesCounters counters_text p.halfmove p.fullmove
@@ -65,10 +65,10 @@ DenotesText v text c p = (a : List ℕ) × (b : List ℕ) × (d : List ℕ) × (
     × (fields_of text ≡ a ∷ b ∷ c ∷ d ∷ more) × DenotesFields v a b c d more p
 
 -- the text denotes position p as a FEN of variant v: its fields denote p, and the third names no castling right wrongly
--- (`names_well`)
+-- (`names_rights_well`)
 abbrev pub DenotesFenAs : Variant → List ℕ → Setup → Type 0
 DenotesFenAs v text p = (castling : List ℕ) × DenotesText v text castling p
-    × IsTrue (names_well p.variant p.men castling)
+    × IsTrue (names_rights_well p.variant p.men castling)
 
 -- the text denotes position p as a FEN of normal chess
 abbrev pub DenotesFen : List ℕ → Setup → Type 0

@@ -9,7 +9,7 @@ use Rattle.chess_base.specs.Men.{Men}
 use Rattle.chess_base.specs.Faults.{first_failing}
 use Rattle.chess_base.specs.declared.fen_fault.FenFault.{FenFault}
 use Rattle.chess_base.specs.declared.fen_fault.FenFault.TheVariants.{Fields, Placement, Side, Castling, EnPassant, Counters}
-use Rattle.chess_fen.specs.Texts.{is_castling, fields_of}
+use Rattle.chess_fen.specs.Texts.{is_castling_field, fields_of}
 use Rattle.chess_fen.specs.Writing.{side_text}
 use Rattle.chess_fen.specs.Reading.{conditions_of}
 use Rattle.chess_fen.specs.Denotation.{DenotesPlacement, DenotesTarget, DenotesCounters, DenotesText}
@@ -32,11 +32,11 @@ DenotesSomeTarget text = (target : Option ℕ) × DenotesTarget text target
 abbrev pub IsFieldFault : Variant → List ℕ → List ℕ → List ℕ → List ℕ → List (List ℕ) → FenFault → Type 0
 IsFieldFault v a b c d more Placement = (men : Men) → DenotesPlacement a men → ⊥
 IsFieldFault v a b c d more Side = DenotesSomeMen a × ((colour : Colour) → b ≢ side_text colour)
-IsFieldFault v a b c d more Castling = DenotesSomeMen a × DenotesSomeSide b × (is_castling v c ≡ false)
-IsFieldFault v a b c d more EnPassant = DenotesSomeMen a × DenotesSomeSide b × IsTrue (is_castling v c)
+IsFieldFault v a b c d more Castling = DenotesSomeMen a × DenotesSomeSide b × (is_castling_field v c ≡ false)
+IsFieldFault v a b c d more EnPassant = DenotesSomeMen a × DenotesSomeSide b × IsTrue (is_castling_field v c)
     × ((target : Option ℕ) → DenotesTarget d target → ⊥)
-IsFieldFault v a b c d more Counters = DenotesSomeMen a × DenotesSomeSide b × IsTrue (is_castling v c) × DenotesSomeTarget d
-    × ((halfmove fullmove : ℕ) → DenotesCounters more halfmove fullmove → ⊥)
+IsFieldFault v a b c d more Counters = DenotesSomeMen a × DenotesSomeSide b × IsTrue (is_castling_field v c)
+    × DenotesSomeTarget d × ((halfmove fullmove : ℕ) → DenotesCounters more halfmove fullmove → ⊥)
 IsFieldFault v a b c d more f = ⊥
 
 -- f is the fault `Fields`, and the text has neither four nor six fields

@@ -13,8 +13,8 @@ use Rattle.chess_base.specs.Faults.{conditions, first_failing}
 use Rattle.chess_base.specs.declared.fen_fault.FenFault.{FenFault}
 use Rattle.chess_base.specs.declared.fen_fault.FenFault.TheVariants as faults
 use Rattle.chess_base.specs.Letters.{byte}
-use Rattle.chess_fen.specs.RightNames.{names_well, rights_in}
-use Rattle.chess_fen.specs.Texts.{placement_of, is_castling, target_of, number_of, fields_of}
+use Rattle.chess_fen.specs.RightNames.{names_rights_well, rights_in}
+use Rattle.chess_fen.specs.Texts.{placement_of, is_castling_field, target_of, number_of, fields_of}
 
 infixl 10 ◌>>=◌
 -- goes on with f from a step's value, or stops with its error: so a chain of steps gives the first error
@@ -33,7 +33,7 @@ abbrev pub denoted_by : Variant → List ℕ → List ℕ → List ℕ → List 
 denoted_by v placement side castling target halfmove fullmove = do
   pieces ← ok_or (placement_of placement) faults.Placement
   colour ← ok_or (side_of side) faults.Side
-  named ← if is_castling v castling then Ok (rights_in v pieces castling) else Err faults.Castling
+  named ← if is_castling_field v castling then Ok (rights_in v pieces castling) else Err faults.Castling
   passed ← ok_or (target_of target) faults.EnPassant
   clock ← ok_or (number_of halfmove) faults.Counters
   number ← ok_or (number_of fullmove) faults.Counters
@@ -52,7 +52,7 @@ denoted_by v placement side castling target halfmove fullmove = do
 -- field `letters` names no right wrongly
 abbrev pub conditions_of : List ℕ → Setup → List (FenFault × Bool)
 conditions_of letters p =
-    take 4 (conditions p) ++ ((faults.Castling, names_well p.variant p.men letters) ∷ drop 4 (conditions p))
+    take 4 (conditions p) ++ ((faults.Castling, names_rights_well p.variant p.men letters) ∷ drop 4 (conditions p))
 
 -- `Ok p` if the optional fault is none, else that fault as an error
 abbrev pub unless_fault : Setup → Option FenFault → Result Setup FenFault

@@ -89,8 +89,8 @@ right_in Fischerandom men letters c w = right_by (map (rook_named men c w) (filt
 -- whether a castling field's letters name no right wrongly. In Chess960 two letters for one right do, and a side's
 -- letter (K, Q, k or q) does if its colour has no rook on its first rank; whether a file's letter finds a rook is not
 -- tested here. A right without a letter is not there, which is no fault. In normal chess no right is named wrongly
-abbrev pub names_well : Variant → Men → List ℕ → Bool
-names_well v men letters = list_all
+abbrev pub names_rights_well : Variant → Men → List ℕ → Bool
+names_rights_well v men letters = list_all
     (λ c. is_some (right_in v men letters c KingSide) && is_some (right_in v men letters c QueenSide))
     (White ∷ Black ∷ [])
 

@@ -82,8 +82,8 @@ are_right_letters v text =
     nat_lt 0 (length text) && nat_le (length text) 4 && list_all (λ c. may_name_right v c && (times c text == 1)) text
 
 -- the text has the form of a FEN's castling field: a dash, or one to four different letters that may name rights
-abbrev pub is_castling : Variant → List ℕ → Bool
-is_castling v text = bytes_eq text (codes "-") || are_right_letters v text
+abbrev pub is_castling_field : Variant → List ℕ → Bool
+is_castling_field v text = bytes_eq text (codes "-") || are_right_letters v text
 
 -- ---- target
 

@@ -9,7 +9,7 @@ ghost use Rattle.chess_base.specs.declared.man.Variant.TheVariants.{Normal, Fisc
 ghost use Rattle.chess_base.specs.declared.setup.Setup.{Setup};
 ghost use Rattle.chess_base.specs.Initial.{man_of};
 ghost use Rattle.chess_fen.specs.Reading.{denoted_by, fen_reading_as};
-ghost use Rattle.chess_fen.specs.RightNames.{right_in, names_well};
+ghost use Rattle.chess_fen.specs.RightNames.{right_in, names_rights_well};
 ghost use Rattle.chess_fen.specs.Texts.{fields_of};
 ghost use Rattle.chess_fen.specs.Writing.{fen, fen_rank};
 ghost use Rattle.chess_fen.specs.laws.Examples.{kings_and_pawn, kings_and_pawn_men, three_rooks};
@@ -55,7 +55,7 @@ pub fn fens_are_worked_out()
         ≡ codes "4k3/8/8/8/8/8/4P3/4K3" ∷ codes "b" ∷ codes "-" ∷ codes "-" ∷ codes "5" ∷ codes "39" ∷ [])
         × (denoted_by Normal (codes "4k3/8/8/8/8/8/4P3/4K3") (codes "b") (codes "-") (codes "-") (codes "5")
         (codes "39") ≡ Ok kings_and_pawn)
-        × (names_well Normal kings_and_pawn_men (codes "-") ≡ true) }
+        × (names_rights_well Normal kings_and_pawn_men (codes "-") ≡ true) }
     ensures rank { IsRankText (replicate 4 None ++ (man_of White Pawn ∷ replicate 3 None)) (codes "4P3") }
     // The outermost rook on the king's side is on h1, the only one on the queen's side on b1.
     ensures side { right_in Fischerandom three_rooks (codes "KQ") White KingSide ≡ Some (Some 7) }
@@ -68,6 +68,6 @@ pub fn fens_are_worked_out()
     ensures two { right_in Fischerandom three_rooks (codes "FK") White KingSide ≡ None }
     ensures no_rook { right_in Fischerandom three_rooks (codes "k") Black KingSide ≡ None }
     // So these letters name each right well, or one of them wrongly.
-    ensures well { names_well Fischerandom three_rooks (codes "FB") ≡ true }
-    ensures wrongly { names_well Fischerandom three_rooks (codes "FK") ≡ false }
+    ensures well { names_rights_well Fischerandom three_rooks (codes "FB") ≡ true }
+    ensures wrongly { names_rights_well Fischerandom three_rooks (codes "FK") ≡ false }
 {}

@@ -15,6 +15,7 @@ use Rattle.chess_base.specs.Men.{Men, man_at, other, same_colour, same_kind}
 use Rattle.chess_base.specs.MoveList.{moves}
 use Rattle.chess_base.specs.Squares.{file, rank, some_square}
 use Rattle.chess_game.specs.Line.{position_after}
+use Rattle.chess_game.specs.Results.{result_text}
 use Rattle.chess_game.specs.Same.{repetition_count}
 use Rattle.chess_game.specs.declared.results.Outcome.{Outcome}
 use Rattle.chess_game.specs.declared.results.Outcome.TheVariants.{WhiteWins, BlackWins, Draw}
@@ -45,9 +46,9 @@ has_insufficient_material men =
     && not (has_bishop_on White men && has_bishop_on Black men)))
 
 -- the verdict that the side of this colour has mated the other
-abbrev pub mates : Colour → Verdict
-mates White = WhiteMates
-mates Black = BlackMates
+abbrev pub mate_by : Colour → Verdict
+mate_by White = WhiteMates
+mate_by Black = BlackMates
 
 -- why the game from `start` by the moves ms is over by its present position, the first that holds of: no legal move
 -- (mate if in check, otherwise stalemate); insufficient material; the position is there at least for the fifth time;
@@ -56,7 +57,7 @@ mates Black = BlackMates
 unfoldable pub verdict : Setup → List Move → Option Verdict
 verdict start ms =
     let p = position_after start ms in
-    if length (moves p) == 0 then (if is_in_check p.men p.side then Some (mates (other p.side)) else Some Stalemate)
+    if length (moves p) == 0 then (if is_in_check p.men p.side then Some (mate_by (other p.side)) else Some Stalemate)
     else if has_insufficient_material p.men then Some InsufficientMaterial
     else if nat_le 5 (repetition_count start ms) then Some FivefoldRepetition
     else if nat_le 150 p.halfmove then Some SeventyFiveMoves
@@ -76,6 +77,10 @@ verdict_comment Stalemate = codes "Stalemate"
 verdict_comment InsufficientMaterial = codes "Insufficient material"
 verdict_comment FivefoldRepetition = codes "Fivefold repetition"
 verdict_comment SeventyFiveMoves = codes "75-move rule"
+
+-- a verdict as a result with its comment, such as `0-1 {Black mates}`
+abbrev pub verdict_result : Verdict → List ℕ
+verdict_result v = result_text (verdict_outcome v) (verdict_comment v)
 
 -- what the player on move may claim a draw by, after the moves ms from `start`: the position is there at least for the
 -- third time (9.2.2); the halfmove clock, which continues from that of `start`, is at least 100, 50 moves of each side

@@ -3,7 +3,7 @@
 ghost use Rattle.std.specs.Prelude.{◌≡◌, ◌≤◌, ◌<◌, Some, length, count_by};
 ghost use Rattle.std.specs.List.{list_any};
 ghost use Rattle.chess_base.specs.Sound.{IsSound};
-ghost use Rattle.chess_game.specs.Ends.{is_kind, has_bishop_on, has_insufficient_material, square_colour, mates, verdict_outcome, verdict_comment, draw_claim, claim_comment};
+ghost use Rattle.chess_game.specs.Ends.{is_kind, has_bishop_on, has_insufficient_material, square_colour, mate_by, verdict_outcome, verdict_comment, draw_claim, claim_comment};
 ghost use Rattle.chess_game.specs.ties.Material.{is_pawn_rook_or_queen, is_minor};
 
 use crate::packed::squares_of;
@@ -127,7 +127,7 @@ impl DrawClaim {
 
 // The verdict that the side of this colour has mated the other.
 pub(crate) fn mates(colour: Colour) -> Verdict
-    ensures { result ≡ mates colour }
+    ensures { result ≡ mate_by colour }
 {
     match colour {
         Colour::White => Verdict::WhiteMates,

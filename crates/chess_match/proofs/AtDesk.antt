@@ -14,7 +14,7 @@ use Rattle.chess_match.specs.Events.{Line, Opened, OutputEnds, FailsToRead, Fail
 use Rattle.chess_base.specs.Options.{list_if}
 use Rattle.chess_match.specs.Lines.{SentLine, bytes_of}
 use Rattle.chess_match.specs.Notes.{Note, Noted, Happened, Gives, WasNoted}
-use Rattle.chess_match.specs.Reasons.{is_unwritten}
+use Rattle.chess_match.specs.Reasons.{is_write_fault_of}
 use Rattle.chess_match.specs.Run.{ClockReadings, text_read}
 use Rattle.chess_match.specs.Table.{Does, Notes, Passes, Step, reading_of, sending, watched}
 use Rattle.chess_match.specs.declared.reason.Reason.{Reason}
@@ -242,7 +242,7 @@ pub acts_watched : (reason : Reason) (H : List Act) → acts_in (watched reason 
 acts_watched reason [] = refl
 acts_watched reason (Sends b ∷ H) = ap (λ (l : List Act). Sends b ∷ l) (acts_watched reason H)
 acts_watched reason (SendFails b ∷ H) = ap (λ (l : List Act). SendFails b ∷ l)
-    (at (is_unwritten reason b.to) ∙ acts_watched reason H)
+    (at (is_write_fault_of reason b.to) ∙ acts_watched reason H)
   where
     at : (x : Bool) → acts_in (list_if x (Notes (Happened (FailsToWrite b.to)) ∷ []) ++ watched reason H)
         ≡ acts_in (watched reason H)
@@ -270,8 +270,8 @@ notes_watched reason [] = refl
 notes_watched reason (Sends b ∷ H) =
     ap (λ (l : List Note). Gives b.to (bytes_of b.lines) ∷ l) (notes_watched reason H)
 notes_watched reason (SendFails b ∷ H) = ap (λ (l : List Note). Gives b.to (bytes_of b.lines) ∷ l)
-    (at (is_unwritten reason b.to) ∙ ap (λ (l : List Note).
-    list_if (is_unwritten reason b.to) (Happened (FailsToWrite b.to) ∷ []) ++ l) (notes_watched reason H))
+    (at (is_write_fault_of reason b.to) ∙ ap (λ (l : List Note).
+    list_if (is_write_fault_of reason b.to) (Happened (FailsToWrite b.to) ∷ []) ++ l) (notes_watched reason H))
   where
     at : (x : Bool) → notes_in (list_if x (Notes (Happened (FailsToWrite b.to)) ∷ []) ++ watched reason H)
         ≡ list_if x (Happened (FailsToWrite b.to) ∷ []) ++ notes_in (watched reason H)

@@ -14,10 +14,10 @@ use Rattle.cecp_engine.specs.EngineLines.{LineKind}
 use Rattle.cecp_engine.specs.Items.{Item, takes}
 use Rattle.cecp_engine.specs.Seen.{features_of}
 use Rattle.chess_match.specs.Acts.{awaits_line, is_over}
-use Rattle.chess_match.specs.Effects.{Match, Phase, Opening, BeforeMove, Over, Effect, begins_turn, clock, ends, enter, is_owed, line_row, moved, sends_nothing, sends_to, with_answers, with_seat}
+use Rattle.chess_match.specs.Effects.{Match, Phase, Opening, BeforeMove, Over, Effect, begins_turn, clock, ends, enter, is_owed_move, line_row, moved, sends_nothing, sends_to, with_answers, with_seat}
 use Rattle.chess_match.specs.Events.{Seat}
 use Rattle.chess_match.specs.Lines.{SentLine, Says, answers_to}
-use Rattle.chess_match.specs.Reasons.{is_unwritten}
+use Rattle.chess_match.specs.Reasons.{is_write_fault_of}
 use Rattle.chess_match.specs.Rules.{Rules}
 use Rattle.chess_match.specs.declared.phase.Phase.{Phase as CorePhase}
 use Rattle.chess_match.specs.declared.phase.Phase.TheVariants as core_in
@@ -67,13 +67,13 @@ pub over_goes : (r : Rules) (core : MatchState) (played : List Move) (reason : R
     (ends r reason m)
 unfolding given_lines
 over_goes r core played reason m on s = record {
-  stands = let ended : is_over (Over reason) ≡ false → (S : Colour) → is_unsent core.last S ≡ is_owed (Over reason) S =
+  stands = let ended : is_over (Over reason) ≡ false → (S : Colour) → is_unsent core.last S ≡ is_owed_move (Over reason) S =
       λ h S. absurd cc in search ended;
-  gives = λ S. ap (λ (b : Bool). if is_unwritten reason S then [] else last_lines r m reason b S) (s.unsent on S);
+  gives = λ S. ap (λ (b : Bool). if is_write_fault_of reason S then [] else last_lines r m reason b S) (s.unsent on S);
 }
 
 pub enter_goes : (r : Rules) (core : MatchState) (played : List Move) (p : CorePhase) (m : Match)
-    → ((S : Colour) → is_unsent core.last S ≡ is_owed (phase_of core.opened p) S) → Represents r core played m
+    → ((S : Colour) → is_unsent core.last S ≡ is_owed_move (phase_of core.opened p) S) → Represents r core played m
     → Goes r (record core { phase = p; count = 0 }) played (record { draw = None; entered = true }) nothing_said
     (record {
       after = enter (phase_of core.opened p) m;
@@ -82,7 +82,7 @@ pub enter_goes : (r : Rules) (core : MatchState) (played : List Move) (p : CoreP
 unfolding given_lines
 enter_goes r core played p m owed s = record {
   stands = let entered : is_over (phase_of core.opened p) ≡ false → (S : Colour) → is_unsent core.last S
-      ≡ is_owed (phase_of core.opened p) S = λ h. owed in search entered;
+      ≡ is_owed_move (phase_of core.opened p) S = λ h. owed in search entered;
   gives = λ S. refl;
 }
 
@@ -120,7 +120,7 @@ pub opened_stands : (r : Rules) (core : MatchState) (played : List Move) (S : Co
     (record m { phase = BeforeMove S moment })
 opened_stands r core played S moment m o s =
     let owed : is_over (BeforeMove S moment) ≡ false → (X : Colour) → is_unsent core.last X ≡ false =
-    λ h X. s.unsent (ap is_over o) X ∙ ap (λ (p : Phase). is_owed p X) o in search owed
+    λ h X. s.unsent (ap is_over o) X ∙ ap (λ (p : Phase). is_owed_move p X) o in search owed
 
 -- ---- in the same phase
 

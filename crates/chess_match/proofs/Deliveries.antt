@@ -11,7 +11,7 @@ use Rattle.chess_match.specs.Acts.{Block, block_of, blocks_from, blocks_after, i
 use Rattle.chess_match.specs.Effects.{Match, Effect, effect}
 use Rattle.chess_match.specs.Events.{FailsToWrite}
 use Rattle.chess_match.specs.Lines.{SentLine}
-use Rattle.chess_match.specs.Reasons.{is_unwritten}
+use Rattle.chess_match.specs.Reasons.{is_write_fault_of}
 use Rattle.chess_match.specs.Rules.{Rules}
 use Rattle.chess_match.specs.Table.{Step, Passing, Passes}
 use Rattle.chess_match.specs.declared.reason.MatchFault.TheVariants.{Write}
@@ -108,7 +108,7 @@ ended_for r m S lines rest f on some more =
     (leads_failed r m S lines rest on some))
     (leads_farewell r t.after (other S) ls [] f refl more
     (λ reason e. let same : Faulted S Write ≡ reason = cc in
-    ap (λ (x : Reason). is_unwritten x (other S)) (sym same)
+    ap (λ (x : Reason). is_write_fault_of x (other S)) (sym same)
     ∙ same_colour-other S (other S) (same_colour-self (other S))))
 
 -- nothing was sent yet

@@ -12,7 +12,7 @@ use Rattle.chess_match.specs.Events.{Event, Line, Opened, OutputEnds, FailsToRea
 use Rattle.chess_base.specs.Options.{list_if}
 use Rattle.chess_match.specs.Lines.{SentLine, bytes_of}
 use Rattle.chess_match.specs.Notes.{Happened, Gives}
-use Rattle.chess_match.specs.Reasons.{is_unwritten}
+use Rattle.chess_match.specs.Reasons.{is_write_fault_of}
 use Rattle.chess_match.specs.Rules.{Rules}
 use Rattle.chess_match.specs.Table.{Step, Does, Notes, watched}
 use Rattle.chess_match.specs.declared.reason.MatchFault.TheVariants.{Write}
@@ -72,7 +72,7 @@ leads_sent r m S (l ∷ ls) due H final reason g e =
 -- a write of a farewell failed
 pub leads_broken : (r : Rules) (m : Match) (S : Colour) (lines : List SentLine) (due : List Block)
     → is_over m.phase ≡ true → 0 < length lines
-    → ((reason : Reason) → m.phase ≡ Over reason → is_unwritten reason S ≡ false)
+    → ((reason : Reason) → m.phase ≡ Over reason → is_write_fault_of reason S ≡ false)
     → Leads r m (block_of S lines ++ due) (giving true S lines) m due (same_colour S)
 leads_broken r m S [] due over some apart H final reason g e = absurd (omega (arith, some))
 leads_broken r m S (l ∷ ls) due over some apart H final reason g e =
@@ -93,14 +93,14 @@ leads_broken r m S (l ∷ ls) due over some apart H final reason g e =
 -- a farewell was sent, or a write of it failed
 pub leads_farewell : (r : Rules) (m : Match) (S : Colour) (lines : List SentLine) (due : List Block) (failed : Bool)
     → is_over m.phase ≡ true → (failed ≡ true → 0 < length lines)
-    → ((reason : Reason) → m.phase ≡ Over reason → is_unwritten reason S ≡ false)
+    → ((reason : Reason) → m.phase ≡ Over reason → is_write_fault_of reason S ≡ false)
     → Leads r m (block_of S lines ++ due) (giving failed S lines) m due (only failed S)
 leads_farewell r m S lines due true over some apart = leads_broken r m S lines due over (some refl) apart
 leads_farewell r m S lines due false over some apart = leads_sent r m S lines due
 
-pub unwritten : (S : Colour) (reason : Reason) → Over (Faulted S Write) ≡ Over reason → is_unwritten reason S ≡ true
+pub unwritten : (S : Colour) (reason : Reason) → Over (Faulted S Write) ≡ Over reason → is_write_fault_of reason S ≡ true
 unwritten S reason e = let same : Faulted S Write ≡ reason = cc in
-    ap (λ (x : Reason). is_unwritten x S) (sym same) ∙ same_colour-self S
+    ap (λ (x : Reason). is_write_fault_of x S) (sym same) ∙ same_colour-self S
 
 -- a write failed, and that ended the match
 pub leads_failed : (r : Rules) (m : Match) (S : Colour) (lines : List SentLine) (due : List Block)

@@ -16,7 +16,7 @@ use Rattle.cecp_engine.specs.Items.{Item, has_done, plays_fischerandom, takes}
 use Rattle.chess_match.specs.Acts.{awaits_line}
 use Rattle.chess_match.specs.Effects.{Match, Phase, Handshake, Setup, Opening, BeforeMove, AfterMove, Over, Effect, after_move, before_move, begins_turn, clock, ends, enter, flag_row, handshake_done, handshake_lines, handshake_row, ignores, items_said, judged, line_row, missing, move_row, moved, offer_row, ping_number, sends_nothing, sends_to, setup_done, setup_row, turn_row, was_sent_move, with_answers, with_seat}
 use Rattle.chess_match.specs.Lines.{Says, ping, setup_lines}
-use Rattle.chess_match.specs.Reasons.{is_unwritten}
+use Rattle.chess_match.specs.Reasons.{is_write_fault_of}
 use Rattle.chess_match.specs.Rules.{Rules, is_fischerandom}
 use Rattle.chess_game.specs.declared.verdicts.DrawClaim.{DrawClaim}
 use Rattle.chess_match.specs.declared.reason.MatchFault.{MatchFault}
@@ -34,7 +34,7 @@ is_decided _ = false
 
 -- a line of S may end a match for this reason: it is no failed write, what no line of the other did, and no verdict
 abbrev pub MayStop : Colour → Reason → Type 0
-MayStop S reason = ((O : Colour) → is_unwritten reason O ≡ false)
+MayStop S reason = ((O : Colour) → is_write_fault_of reason O ≡ false)
     × ((c : Colour) → whose_line reason ≡ Some c → S ≡ c) × (is_decided reason ≡ false)
 
 -- whether a match in this phase waits for a move, or for the `pong` after one
@@ -110,7 +110,7 @@ by_test Q false f g = g refl
 -- what is missing of an engine is no write that failed
 abbrev NoWriteFault : Option MatchFault → Type 0
 NoWriteFault None = Unit {0}
-NoWriteFault (Some f) = (c O : Colour) → is_unwritten (Faulted c f) O ≡ false
+NoWriteFault (Some f) = (c O : Colour) → is_write_fault_of (Faulted c f) O ≡ false
 
 if_fault : (b : Bool) (x y : Option MatchFault) → NoWriteFault x → NoWriteFault y → NoWriteFault (if b then x else y)
 if_fault true x y p q = p

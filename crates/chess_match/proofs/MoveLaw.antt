@@ -12,10 +12,10 @@ use Rattle.cecp_engine.specs.EngineLines.{line_kind}
 use Rattle.cecp_engine.specs.Items.{takes}
 use Rattle.chess_match.specs.Acts.{Act, Block, IsMatch, IsMatchFrom, Sends, SendFails, Reads, ReadsEnd, ReadFails, ReadsClock, awaits_line, is_over}
 use Rattle.chess_match.specs.ByDevice.{broken_blocks, is_broken, lines_sent}
-use Rattle.chess_match.specs.Effects.{Match, Phase, Handshake, Setup, Opening, BeforeMove, AfterMove, Over, begins_turn, beginning, effect, ends, enter, is_owed, moved, opening}
+use Rattle.chess_match.specs.Effects.{Match, Phase, Handshake, Setup, Opening, BeforeMove, AfterMove, Over, begins_turn, beginning, effect, ends, enter, is_owed_move, moved, opening}
 use Rattle.chess_match.specs.Events.{Line}
 use Rattle.chess_match.specs.Lines.{SentLine}
-use Rattle.chess_match.specs.Reasons.{is_unwritten}
+use Rattle.chess_match.specs.Reasons.{is_write_fault_of}
 use Rattle.chess_match.specs.Rules.{Rules}
 use Rattle.chess_match.specs.declared.reason.Reason.{Reason}
 use Rattle.chess_match.specs.laws.Laws.{move_sent, moves_sent, texts_from}
@@ -62,7 +62,7 @@ last_text r O m = r.move_text (takes (codes "san") (m.seat O).items) m.played �
 -- in this phase `rest` is what O is still to be sent
 abbrev OwedIn : Colour → List (List ℕ) → Phase → List (List ℕ) → Type 0
 OwedIn O text (AfterMove c) rest = rest ≡ (if same_colour (other c) O then text else [])
-OwedIn O text (Over reason) rest = is_unwritten reason O ≡ false → rest ≡ []
+OwedIn O text (Over reason) rest = is_write_fault_of reason O ≡ false → rest ≡ []
 OwedIn O text p rest = rest ≡ []
 
 abbrev all_texts : Rules → Colour → Match → List (List ℕ)
@@ -80,25 +80,25 @@ opening_moves : (r : Rules) (m : Match) (S : Colour) → moves_sent (opening r m
 opening_moves r m S = grind (arith, flat_map-append, append-nil)
 
 end_moves : (r : Rules) (m : Match) (reason : Reason) (O : Colour) → moves_sent ((ends r reason m).to O)
-    ≡ (if is_unwritten reason O then [] else if is_owed m.phase O then last_text r O m else [])
+    ≡ (if is_write_fault_of reason O then [] else if is_owed_move m.phase O then last_text r O m else [])
 end_moves r m reason O = grind arith
 
 owed_on : (O : Colour) (text : List (List ℕ)) (p : Phase) (rest : List (List ℕ)) → is_over p ≡ false
-    → OwedIn O text p rest → rest ≡ (if is_owed p O then text else [])
+    → OwedIn O text p rest → rest ≡ (if is_owed_move p O then text else [])
 owed_on O text p rest h1 h2 = grind arith
 
 stops : (r : Rules) (O : Colour) (m : Match) (reason : Reason) (rest : List (List ℕ)) → is_over m.phase ≡ false
     → length rest ≤ 1 → Owed r O m rest
     → Goes (all_texts r O) (Owed r O) m rest (moves_sent ((ends r reason m).to O)) (ends r reason m).after
 stops r O m reason rest on l h =
-    rw (end_moves r m reason O, sym (owed_on O (last_text r O m) m.phase rest on h)) (at (is_unwritten reason O) refl)
+    rw (end_moves r m reason O, sym (owed_on O (last_text r O m) m.phase rest on h)) (at (is_write_fault_of reason O) refl)
   where
     n : Match
     n = (ends r reason m).after
 
-    at : (b : Bool) → is_unwritten reason O ≡ b
+    at : (b : Bool) → is_write_fault_of reason O ≡ b
         → Goes (all_texts r O) (Owed r O) m rest (if b then [] else rest) (ends r reason m).after
-    at true e = sends (all_texts r O) (Owed r O) m n rest [] rest l refl refl (λ w. both_not (is_unwritten reason O) w
+    at true e = sends (all_texts r O) (Owed r O) m n rest [] rest l refl refl (λ w. both_not (is_write_fault_of reason O) w
         e)
     at false e = sends (all_texts r O) (Owed r O) m n rest rest [] l (sym (append-nil rest)) refl (λ w. refl)
 
@@ -201,7 +201,7 @@ all_sent S (ReadsClock c n ∷ H) h = all_sent S H h
 
 -- whether a match ended since writing to O failed
 abbrev pub unwritten_in : Phase → Colour → Bool
-unwritten_in (Over reason) O = is_unwritten reason O
+unwritten_in (Over reason) O = is_write_fault_of reason O
 unwritten_in _ O = false
 
 broken_more : (b : Block) (H : List Act) (O : Colour) → is_broken (SendFails b ∷ H) O ≡ false
@@ -290,7 +290,7 @@ unbroken_on r S H K final g e = by_points r (λ m due H n. is_over n.phase ≡ f
 -- before these acts nothing is due, the match is on, and no move is owed to the side
 abbrev IsSettled : Rules → Colour → List Act → Match → Type 0
 IsSettled r S K final = (m : Match) (due : List Block) → IsMatchFrom r m due K final
-    → (due ≡ []) × (is_over m.phase ≡ false) × (is_owed m.phase S ≡ false)
+    → (due ≡ []) × (is_over m.phase ≡ false) × (is_owed_move m.phase S ≡ false)
 
 all_sent_before : (r : Rules) (S : Colour) (H K : List Act) (final : Match) → IsSettled r S K final
     → IsMatch r (H ++ K) final → Uncut H K → IsSentAllMoves r S H (match_after r beginning.after H)
@@ -311,7 +311,7 @@ pub all_sent_at_lines : AtEachLine IsSentAllMoves
 all_sent_at_lines r H after S text final g =
     all_sent_before r S H (Reads S text ∷ after) final settled g (λ cut. absurd cc)
   where
-    none_owed : (p : Phase) → awaits_line p S ≡ true → is_owed p S ≡ false
+    none_owed : (p : Phase) → awaits_line p S ≡ true → is_owed_move p S ≡ false
     none_owed p h1 = grind arith
 
     awaited : (m : Match) (K : List Act) → IsMatchFrom r m [] (Reads S text ∷ K) final → awaits_line m.phase S ≡ true
@@ -332,7 +332,7 @@ all_sent_at_openings r H after S moment final g e =
     all_sent_before r S H (ReadsClock S moment ∷ after) final settled g (λ cut. e)
   where
     settled : IsSettled r S (ReadsClock S moment ∷ after) final
-    settled m [] (o, q) = (refl, ap is_over o, ap (λ p. is_owed p S) o)
+    settled m [] (o, q) = (refl, ap is_over o, ap (λ p. is_owed_move p S) o)
     settled m (b ∷ due) q = absurd q
 
 -- there is a used time for each move

@@ -11,7 +11,7 @@ use Rattle.chess_match.specs.Effects.{Match, Phase, Over, beginning, effect, far
 use Rattle.chess_match.specs.Events.{Event, Line, OutputEnds, FailsToRead, FailsToWrite}
 use Rattle.chess_match.specs.Lines.{SentLine, bytes_of}
 use Rattle.chess_match.specs.Notes.{Note, Happened}
-use Rattle.chess_match.specs.Reasons.{is_unwritten}
+use Rattle.chess_match.specs.Reasons.{is_write_fault_of}
 use Rattle.chess_match.specs.Rules.{Rules}
 use Rattle.chess_match.specs.declared.reason.MatchFault.TheVariants.{Write}
 use Rattle.chess_match.specs.declared.reason.Reason.{Reason}
@@ -40,7 +40,7 @@ unfolding bytes_of
 all_lines reason [] S = refl
 all_lines reason (Sends b ∷ H) S = block_bytes (same_colour b.to S) b.lines (lines_given S H) _ (all_lines reason H S)
 all_lines reason (SendFails b ∷ H) S = block_bytes (same_colour b.to S) b.lines (lines_given S H) _
-    (no_bytes (is_unwritten reason b.to) S (FailsToWrite b.to) (notes_given reason H) ∙ all_lines reason H S)
+    (no_bytes (is_write_fault_of reason b.to) S (FailsToWrite b.to) (notes_given reason H) ∙ all_lines reason H S)
 all_lines reason (Reads c t ∷ ReadsClock d n ∷ H) S = all_lines reason H S
 all_lines reason (ReadsClock c n ∷ H) S = all_lines reason H S
 all_lines reason (ReadsEnd c ∷ H) S = all_lines reason H S
@@ -75,13 +75,13 @@ all_lines_read r reason H final S g = by_cases r final
   where
     failed : (b : Block) (H : List Act)
         → lines_noted S (notes_given reason (SendFails b ∷ H)) ≡ lines_noted S (notes_given reason H)
-    failed b H = (no_readings (is_unwritten reason b.to) S b.to (notes_given reason H)).0
+    failed b H = (no_readings (is_write_fault_of reason b.to) S b.to (notes_given reason H)).0
 
 pub all_moments : NotesHaveMoments
 all_moments reason [] = refl
 all_moments reason (Sends b ∷ H) = all_moments reason H
 all_moments reason (SendFails b ∷ H) =
-    (no_readings (is_unwritten reason b.to) b.to b.to (notes_given reason H)).1 ∙ all_moments reason H
+    (no_readings (is_write_fault_of reason b.to) b.to b.to (notes_given reason H)).1 ∙ all_moments reason H
 all_moments reason (Reads c t ∷ ReadsClock d n ∷ H) = ap (λ ns. n ∷ ns) (all_moments reason H)
 all_moments reason (ReadsClock c n ∷ H) = ap (λ ns. n ∷ ns) (all_moments reason H)
 all_moments reason (ReadsEnd c ∷ H) = all_moments reason H
@@ -98,9 +98,9 @@ all_moments reason (Reads c t ∷ ReadFails d ∷ H) = all_moments reason (ReadF
 -- none of these blocks is for a side to which a write ended the match
 abbrev AreWritten : Reason → List Block → Type 0
 AreWritten reason [] = Unit {0}
-AreWritten reason (b ∷ due) = (is_unwritten reason b.to ≡ false) × AreWritten reason due
+AreWritten reason (b ∷ due) = (is_write_fault_of reason b.to ≡ false) × AreWritten reason due
 
-all_written : (reason : Reason) (due : List Block) → ((O : Colour) → is_unwritten reason O ≡ false) → AreWritten reason
+all_written : (reason : Reason) (due : List Block) → ((O : Colour) → is_write_fault_of reason O ≡ false) → AreWritten reason
     due
 all_written reason [] w = tt
 all_written reason (b ∷ due) w = (w b.to, all_written reason due w)
@@ -110,13 +110,13 @@ failed_written : (r : Rules) (m : Match) (c : Colour)
 failed_written r m White = at (farewell r m (Faulted White Write) Black)
   where
     at : (ls : List SentLine) → AreWritten (Faulted White Write)
-        (blocks_from White (λ S. if is_unwritten (Faulted White Write) S then [] else ls))
+        (blocks_from White (λ S. if is_write_fault_of (Faulted White Write) S then [] else ls))
     at [] = tt
     at (l ∷ ls) = (refl, tt)
 failed_written r m Black = at (farewell r m (Faulted Black Write) White)
   where
     at : (ls : List SentLine) → AreWritten (Faulted Black Write)
-        (blocks_from White (λ S. if is_unwritten (Faulted Black Write) S then [] else ls))
+        (blocks_from White (λ S. if is_write_fault_of (Faulted Black Write) S then [] else ls))
     at [] = tt
     at (l ∷ ls) = (refl, tt)
 
@@ -137,7 +137,7 @@ module _ (r : Rules) (reason : Reason) (final : Match) (over : final.phase ≡ O
 
   broken : (m : Match) (b : Block) (H : List Act)
       → Leads (effect r m (FailsToWrite b.to)).after (blocks_from White (effect r m (FailsToWrite b.to)).to) H
-      → final ≡ after_events r m (events_in (list_if (is_unwritten reason b.to) (Happened (FailsToWrite b.to) ∷ [])
+      → final ≡ after_events r m (events_in (list_if (is_write_fault_of reason b.to) (Happened (FailsToWrite b.to) ∷ [])
       ++ notes_given reason H))
   broken m b H p =
       let same : Over (Faulted b.to Write) ≡ Over reason = p.0 refl ∙ over in
@@ -146,9 +146,9 @@ module _ (r : Rules) (reason : Reason) (final : Match) (over : final.phase ≡ O
       (λ (x : Reason). AreWritten x (blocks_from White (effect r m (FailsToWrite b.to)).to)) is
       (failed_written r m b.to)))
 
-  late : (m : Match) (b : Block) (H : List Act) → is_unwritten reason b.to ≡ false
+  late : (m : Match) (b : Block) (H : List Act) → is_write_fault_of reason b.to ≡ false
       → final ≡ after_events r m (events_in (notes_given reason H))
-      → final ≡ after_events r m (events_in (list_if (is_unwritten reason b.to) (Happened (FailsToWrite b.to) ∷ [])
+      → final ≡ after_events r m (events_in (list_if (is_write_fault_of reason b.to) (Happened (FailsToWrite b.to) ∷ [])
       ++ notes_given reason H))
   late m b H w e = rw w e
 

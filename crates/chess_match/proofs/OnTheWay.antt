@@ -24,7 +24,7 @@ use Rattle.chess_match.specs.Acts.{Block, awaits_line, blocks_from, blocks_after
 use Rattle.chess_match.specs.Effects.{Match, Phase, Handshake, Setup as SetupPhase, Opening, BeforeMove, AfterMove, Over, Effect, beginning, effect}
 use Rattle.chess_match.specs.Events.{Event, Line, Opened, OutputEnds, FailsToRead}
 use Rattle.chess_match.specs.Played.{PlayedAt}
-use Rattle.chess_match.specs.Reasons.{comment_of, declared_at, ended_by, first_fault, outcome_by_reason, reported}
+use Rattle.chess_match.specs.Reasons.{comment_of, declared_at, ended_by, reported_fault, outcome_by_reason, reported}
 use Rattle.chess_match.specs.Rules.{Rules, rules_of}
 use Rattle.chess_match.specs.Table.{Step, Passing, Passes, watched}
 use Rattle.chess_match.specs.declared.phase.Phase.TheVariants as core_in
@@ -269,7 +269,7 @@ played_at setup old new g h h' core reason failed end (m, K, w) over reported wn
         ended = ended;
         report = one_report reason end.outcome end.comment end.ended reported.outcome reported.comment reported.ended;
         name = λ S. names S;
-        fault = reported.fault ∙ ap (first_fault reason) (fun_ext (λ S. sym (broken S)));
+        fault = reported.fault ∙ ap (reported_fault reason) (fun_ext (λ S. sym (broken S)));
       },
       game_kept g h h' setup.start setup.level m reason s l w.stands.moves e,
     )

@@ -8,7 +8,7 @@ use Rattle.cecp_engine.specs.EngineLines.{LineKind, line_kind}
 use Rattle.chess_match.specs.Acts.{awaits_line, is_over}
 use Rattle.chess_match.specs.Effects.{Match, Phase, Handshake, Setup, Opening, Over, beginning, effect, line_row, moved}
 use Rattle.chess_match.specs.Events.{Event, Line, OutputEnds, FailsToRead}
-use Rattle.chess_match.specs.Reasons.{is_unwritten}
+use Rattle.chess_match.specs.Reasons.{is_write_fault_of}
 use Rattle.chess_match.specs.Rules.{Rules}
 use Rattle.chess_match.specs.declared.reason.Reason.{Reason}
 use Rattle.chess_match.specs.declared.reason.Reason.TheVariants.{Decided}
@@ -30,11 +30,11 @@ Fine r m = IsSane r m × IsWritten m
 
 -- ---- a match that ends, or goes on
 
-over_fine : (r : Rules) (m : Match) (reason : Reason) → IsSane r m → ((S : Colour) → is_unwritten reason S ≡ false)
+over_fine : (r : Rules) (m : Match) (reason : Reason) → IsSane r m → ((S : Colour) → is_write_fault_of reason S ≡ false)
     → Fine r (record m { phase = Over reason })
 over_fine r m reason s mild = (
   sane_over r m reason s,
-  λ why e S. let same : reason ≡ why = cc in subst (λ x. is_unwritten x S ≡ false) same (mild S),
+  λ why e S. let same : reason ≡ why = cc in subst (λ x. is_write_fault_of x S ≡ false) same (mild S),
 )
 
 on_fine : (r : Rules) (m : Match) → is_over m.phase ≡ false → IsSane r m → Fine r m

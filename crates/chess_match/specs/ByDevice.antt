@@ -8,7 +8,7 @@ use Rattle.chess_match.specs.Events.{Line, Opened, OutputEnds, FailsToRead, Fail
 use Rattle.chess_match.specs.Notes.{Note, Happened, Gives}
 use Rattle.chess_base.specs.Options.{list_if}
 use Rattle.chess_match.specs.Lines.{SentLine, bytes_of}
-use Rattle.chess_match.specs.Reasons.{is_unwritten}
+use Rattle.chess_match.specs.Reasons.{is_write_fault_of}
 use Rattle.chess_match.specs.declared.reason.Reason.{Reason}
 
 -- ---- what was read
@@ -64,10 +64,11 @@ abbrev pub notes_given : Reason → List Act → List Note
 notes_given reason [] = []
 -- a block that was sent: its bytes
 notes_given reason (Sends block ∷ H) = Gives block.to (bytes_of block.lines) ∷ notes_given reason H
--- a block that could not be sent: all its bytes; then the failure, but only if the match ended by it (`is_unwritten`)
+-- a block that could not be sent: all its bytes; then the failure, but only if the match ended by it
+-- (`is_write_fault_of`)
 notes_given reason (SendFails block ∷ H) =
     Gives block.to (bytes_of block.lines)
-    ∷ (list_if (is_unwritten reason block.to) (Happened (FailsToWrite block.to) ∷ []) ++ notes_given reason H)
+    ∷ (list_if (is_write_fault_of reason block.to) (Happened (FailsToWrite block.to) ∷ []) ++ notes_given reason H)
 -- a line, with the moment that the clock showed right after it
 notes_given reason (Reads S text ∷ ReadsClock side moment ∷ H) = Happened (Line S text moment) ∷ notes_given reason H
 -- any other reading of the clock: the lines that open a turn of `S` were sent

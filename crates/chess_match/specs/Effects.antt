@@ -15,7 +15,7 @@ use Rattle.chess_match.specs.Reasons.{outcome_by_reason, comment_of}
 use Rattle.chess_match.specs.Rules.{Rules, is_fischerandom}
 use Rattle.chess_base.specs.Options.{list_if}
 use Rattle.chess_match.specs.Lines.{SentLine, Says, MoveSent, Time, Otim, answers_to, setup_lines, ping}
-use Rattle.chess_match.specs.Reasons.{is_unwritten}
+use Rattle.chess_match.specs.Reasons.{is_write_fault_of}
 use Rattle.chess_match.specs.declared.reason.MatchFault.{MatchFault}
 use Rattle.chess_match.specs.declared.reason.MatchFault.TheVariants.{Ended, Read, Write, NoDone, NoPing, NoSetboard, Flood, NoVariant}
 use Rattle.chess_match.specs.declared.reason.Reason.{Reason}
@@ -83,9 +83,9 @@ missing r items =
     else None
 
 -- whether in this phase the side `S` was not yet sent the last move: the other side made it, and has yet to send `pong`
-abbrev pub is_owed : Phase → Colour → Bool
-is_owed (AfterMove side) S = same_colour (other side) S
-is_owed _ S = false
+abbrev pub is_owed_move : Phase → Colour → Bool
+is_owed_move (AfterMove side) S = same_colour (other side) S
+is_owed_move _ S = false
 
 -- ---- lines
 
@@ -120,7 +120,7 @@ opening r m S =
 -- not yet sent it; the result with its comment, such as `result 1-0 {Black resigns}`; and `quit`
 abbrev pub farewell : Rules → Match → Reason → Colour → List SentLine
 farewell r m reason S =
-    list_if (is_owed m.phase S) (move_line r m S ∷ [])
+    list_if (is_owed_move m.phase S) (move_line r m S ∷ [])
     ++ (Says (codes "result " ++ result_text (outcome_by_reason reason) (comment_of reason)) ∷ Says (codes "quit") ∷ [])
 
 -- ---- the effects of which rows are made
@@ -146,7 +146,7 @@ with_seat S change m = record m { seat = λ side. if same_colour side S then cha
 abbrev pub ends : Rules → Reason → Match → Effect
 ends r reason m = record {
   after = record m { phase = Over reason };
-  to = λ S. if is_unwritten reason S then [] else farewell r m reason S;
+  to = λ S. if is_write_fault_of reason S then [] else farewell r m reason S;
 }
 
 -- a line of the side `S` is ignored; the 10,000th ignored line of one setup or turn ends the match

@@ -10,7 +10,7 @@ use Rattle.chess_match.specs.Acts.{Act, IsMatch}
 use Rattle.chess_match.specs.ByDevice.{lines_read, has_ended, has_failed_read, moments_shown, lines_sent, broken_blocks, is_broken, notes_given}
 use Rattle.chess_match.specs.Effects.{Match, Over}
 use Rattle.chess_match.specs.Notes.{Note}
-use Rattle.chess_match.specs.Reasons.{reported, first_fault, declared_at}
+use Rattle.chess_match.specs.Reasons.{reported, reported_fault, declared_at}
 use Rattle.chess_base.specs.ByColour.{by_colour}
 use Rattle.chess_match.specs.Rules.{Rules, rules_of}
 use Rattle.chess_match.specs.Run.{engine_lines, ClockReadings}
@@ -76,7 +76,7 @@ pub record ReportedAs (H : List Act) (final : Match) (reason : Reason) (end : Ma
       ≡ cut_tag (last_value (codes "myname") (final.seat S).items)
   -- the first fault, and whose it is: the one that ended the match; if none did, a failed write after the end (White's,
   -- if writing to both sides failed); `None` if there was none
-  pub fault : end.fault ≡ first_fault reason (is_broken H)
+  pub fault : end.fault ≡ reported_fault reason (is_broken H)
 
 -- a match of the acts `H` was played from the world `w` to `w'`, from the start position and with the time control of
 -- `setup`, for at most as many half-moves as the game's limit. It ended for this reason, and was reported as `end`. In

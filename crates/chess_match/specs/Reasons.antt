@@ -69,9 +69,10 @@ ended_by reason = (reported reason).2
 -- the fault that is reported of a match that ended for this reason, and its side: the fault that is the reason itself;
 -- else `Write`, if writing the last lines to a side failed (`failed`), and White's if it did for both. `None` if there
 -- was no fault
-abbrev pub first_fault : Reason → (Colour → Bool) → Option (Colour × MatchFault)
-first_fault (Faulted c f) failed = Some (c, f)
-first_fault _ failed = if failed White then Some (White, Write) else if failed Black then Some (Black, Write) else None
+abbrev pub reported_fault : Reason → (Colour → Bool) → Option (Colour × MatchFault)
+reported_fault (Faulted c f) failed = Some (c, f)
+reported_fault _ failed =
+    if failed White then Some (White, Write) else if failed Black then Some (Black, Write) else None
 
 -- the result that is declared in the game when the match ends for this reason; `None` if the board has a verdict (the
 -- first argument), since the game has its result by that
@@ -80,6 +81,6 @@ declared_at (Some v) reason = None
 declared_at None reason = Some (record { outcome = outcome_by_reason reason; comment = comment_of reason })
 
 -- whether this reason, for which a match ended, is that writing to the side `S` failed
-abbrev pub is_unwritten : Reason → Colour → Bool
-is_unwritten (Faulted c Write) S = same_colour c S
-is_unwritten _ S = false
+abbrev pub is_write_fault_of : Reason → Colour → Bool
+is_write_fault_of (Faulted c Write) S = same_colour c S
+is_write_fault_of _ S = false

@@ -9,7 +9,7 @@ use Rattle.chess_match.specs.Events.{Line, Opened, OutputEnds, FailsToRead, Fail
 use Rattle.chess_base.specs.Options.{list_if}
 use Rattle.chess_match.specs.Lines.{bytes_of}
 use Rattle.chess_match.specs.Notes.{Note, Happened, Gives}
-use Rattle.chess_match.specs.Reasons.{is_unwritten}
+use Rattle.chess_match.specs.Reasons.{is_write_fault_of}
 use Rattle.chess_match.specs.Run.{text_read}
 use Rattle.chess_match.specs.declared.reason.Reason.{Reason}
 
@@ -29,7 +29,7 @@ watched reason (Sends block ∷ H) = Notes (Gives block.to (bytes_of block.lines
 -- so are those of a block that could not be sent; the failure is noted after it, if the match ended by it
 watched reason (SendFails block ∷ H) =
     Notes (Gives block.to (bytes_of block.lines)) ∷ Does (SendFails block)
-    ∷ (list_if (is_unwritten reason block.to) (Notes (Happened (FailsToWrite block.to)) ∷ []) ++ watched reason H)
+    ∷ (list_if (is_write_fault_of reason block.to) (Notes (Happened (FailsToWrite block.to)) ∷ []) ++ watched reason H)
 -- a line is noted once the clock is read after it
 watched reason (Reads S text ∷ ReadsClock side moment ∷ H) =
     Does (Reads S text) ∷ Does (ReadsClock side moment) ∷ Notes (Happened (Line S text moment)) ∷ watched reason H

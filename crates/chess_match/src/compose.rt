@@ -8,7 +8,7 @@ ghost use Rattle.chess_match.specs.Effects.{Match, clocks, last_move, move_line,
 ghost use Rattle.chess_match.specs.Rules.{Rules};
 ghost use Rattle.chess_base.specs.declared.man.Move.{Move};
 ghost use Rattle.chess_match.specs.Lines.{Says, bytes_of, setup_lines, variant_command};
-ghost use Rattle.chess_match.specs.Reasons.{is_unwritten};
+ghost use Rattle.chess_match.specs.Reasons.{is_write_fault_of};
 ghost use Rattle.chess_match.specs.ties.Represents.{Represents, is_unsent, last_lines, lines_if_to, phase_lines, player};
 
 use crate::block::{Block, add_end, add_level, add_move, add_ping, add_times};
@@ -151,7 +151,7 @@ fn add_end_lines(block: &mut Block, core: &MatchState, side: Colour, reason: Rea
 
 // Whether this reason is that writing to this side failed.
 fn is_unwritten(reason: Reason, side: Colour) -> bool
-    ensures { result ≡ is_unwritten reason side }
+    ensures { result ≡ is_write_fault_of reason side }
 {
     match reason {
         Reason::Faulted(failed, MatchFault::Write) => same_colour(failed, side),

@@ -2,7 +2,7 @@
 
 ghost use Rattle.std.specs.Prelude.{◌≡◌, ◌≤◌, ◌++◌, length};
 ghost use Rattle.chess_base.specs.ByColour.{of_colour};
-ghost use Rattle.chess_match.specs.Reasons.{win_of, outcome_by_reason, comment_of, colour_name, fault_comment, ended_by, first_fault};
+ghost use Rattle.chess_match.specs.Reasons.{win_of, outcome_by_reason, comment_of, colour_name, fault_comment, ended_by, reported_fault};
 
 use chess_base::{ByColour, Colour};
 use chess_game::{DrawClaim, HowEnded, Outcome, Verdict};
@@ -166,7 +166,7 @@ impl Reason {
 // The first fault of a match that ended for this reason, and whose it is: the one that ended it, if one did; else a
 // write of the last lines that failed (`failed` says to which side), White's before Black's.
 pub(crate) fn first_fault(reason: Reason, failed: ByColour<bool>) -> Option<(Colour, MatchFault)>
-    ensures { result ≡ first_fault reason (of_colour failed) }
+    ensures { result ≡ reported_fault reason (of_colour failed) }
 {
     if let Reason::Faulted(side, fault) = reason {
         return Some((side, fault));

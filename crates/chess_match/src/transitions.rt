@@ -4,7 +4,7 @@ ghost use Rattle.std.specs.Prelude.{◌≡◌, ◌+◌, ◌<◌, List, false};
 ghost use Rattle.chess_base.specs.declared.man.Colour.{Colour};
 ghost use Rattle.chess_base.specs.declared.man.Move.{Move};
 ghost use Rattle.chess_match.specs.Acts.{is_over};
-ghost use Rattle.chess_match.specs.Effects.{Match, begins_turn, ends, enter, ignores, is_owed};
+ghost use Rattle.chess_match.specs.Effects.{Match, begins_turn, ends, enter, ignores, is_owed_move};
 ghost use Rattle.chess_match.specs.Rules.{Rules};
 ghost use Rattle.chess_match.specs.ties.Represents.{Represents, Goes, is_unsent, nothing_said, phase_lines, phase_of};
 ghost use Rattle.chess_match.specs.ties.Texts.{all_sent};
@@ -29,7 +29,7 @@ impl MatchState {
     #[tactic(auto, using(crate::proofs::CoreSteps::enter_goes))]
     pub(crate) fn enter(&mut self, phase: Phase) -> Actions
         ensures { (r : Rules) (played : List Move) (m : Match)
-            → ((S : Colour) → is_unsent self.old.last S ≡ is_owed (phase_of self.old.opened phase) S)
+            → ((S : Colour) → is_unsent self.old.last S ≡ is_owed_move (phase_of self.old.opened phase) S)
             → Represents r self.old played m
             → Goes r self.new played result nothing_said (record {
               after = enter (phase_of self.old.opened phase) m;

@@ -10,7 +10,7 @@ use Rattle.chess_match.specs.ByDevice.{broken_blocks, is_broken, lines_sent}
 use Rattle.chess_match.specs.Lines.{SentLine}
 use Rattle.chess_match.specs.Notes.{Note}
 use Rattle.chess_match.specs.Played.{PlayedNoting, WasSent, World}
-use Rattle.chess_match.specs.Reasons.{first_fault}
+use Rattle.chess_match.specs.Reasons.{reported_fault}
 use Rattle.chess_match.specs.declared.reason.MatchFault.{MatchFault}
 use Rattle.chess_match.specs.declared.reason.MatchFault.TheVariants.{Write}
 use Rattle.chess_match.specs.declared.reason.Reason.{Reason}
@@ -37,7 +37,7 @@ by_sides : (failed : Colour → Bool) (e : (failed White ≡ false) × (failed B
 by_sides failed e White = e.0
 by_sides failed e Black = e.1
 
-none_failed : (reason : Reason) (failed : Colour → Bool) → first_fault reason failed ≡ None
+none_failed : (reason : Reason) (failed : Colour → Bool) → reported_fault reason failed ≡ None
     → (failed White ≡ false) × (failed Black ≡ false)
 none_failed (Decided v) failed e = by_side (failed White) (failed Black) e
 none_failed (Claimed c) failed e = by_side (failed White) (failed Black) e

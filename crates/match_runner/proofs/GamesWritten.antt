@@ -25,7 +25,7 @@ use Rattle.chess_match.specs.declared.reason.Reason.TheVariants.{Faulted}
 use Rattle.chess_match.specs.declared.run.MatchEnd.{MatchEnd}
 use Rattle.chess_pgn.specs.GameText.{pgn}
 use Rattle.chess_pgn.specs.declared.tags.Tags.{Tags}
-use Rattle.match_runner.specs.Games.{EndsGames, GameRecord, IsOfPlan, IsStartFault, LogsGame, LogsGames, Outputs, PlaysGames, SoundGames, count_of, engine_command, first_side, game_logs, game_text, game_texts, match_text, score_line, score_of, tags_of}
+use Rattle.match_runner.specs.Games.{AreAllGames, GameRecord, IsOfPlan, IsStartFault, LogsGame, LogsGames, Outputs, PlaysGames, FaultlessGames, count_of, engine_command, first_side, game_logs, game_text, game_texts, match_text, score_line, score_of, tags_of}
 use Rattle.match_runner.specs.GamesTable.{Finishes, GamesPassing, GamesStep, Plays, StartFails, Starts, StepsPass, PlaysGamesAt, WriteFails, Writes, game_steps, games_steps, unstarted_steps, unwritten_steps}
 use Rattle.match_runner.specs.ties.Playing.{FailsToStart, HasPlayed, PlayedGame, logged_side, no_score, plus, score_after}
 use Rattle.match_runner.specs.Log.{LogSeen, Logged, log_text}
@@ -265,8 +265,8 @@ score_more games g few =
 
 -- ---- one game more
 
-sound_more : (plan : GamesPlan) (games : List GameRecord) (g : GameRecord) → SoundGames plan games → IsOfPlan plan g
-    → g.end.fault ≡ None → SoundGames plan (games ++ g ∷ [])
+sound_more : (plan : GamesPlan) (games : List GameRecord) (g : GameRecord) → FaultlessGames plan games → IsOfPlan plan g
+    → g.end.fault ≡ None → FaultlessGames plan (games ++ g ∷ [])
 sound_more plan [] g h of none = ((of, none), tt)
 sound_more plan (x ∷ games) g h of none = (h.0, sound_more plan games g h.1 of none)
 
@@ -276,7 +276,7 @@ sound_more plan (x ∷ games) g h of none = (h.0, sound_more plan games g h.1 of
 pub record SoFar (plan : GamesPlan) (p p' : GamesPassing) (w w' : OutputState) (l l' : LogSeen) (number : ℕ)
     (score : Score) (games : List GameRecord) : Type 0
   where
-    pub games_sound : SoundGames plan games
+    pub games_sound : FaultlessGames plan games
     pub numbered : number ≡ 1 + length games
     pub few : length games ≤ plan.games
     pub counted : score ≡ score_of games
@@ -398,7 +398,7 @@ module _ (plan : GamesPlan) (p p' p'' : GamesPassing) (w w' w'' : OutputState) (
   not_started : (fault : GamesFault) → number ≤ plan.games → IsStartFault plan.white.now plan.black.now fault
       → w'' ≡ w' → l'' ≡ l' → StepsPass p' p'' (unstarted_steps plan number)
       → (games : List GameRecord) × (o : ToOutput)
-      × (SoundGames plan games × (length games < plan.games)
+      × (FaultlessGames plan games × (length games < plan.games)
       × IsStartFault plan.white.now plan.black.now fault × (o ≡ all_of (game_texts plan games)))
       × OutputTook w w'' o × LogsGames plan.log l l'' (games ++ [])
       × StepsPass p p'' (games_steps plan games ++ unstarted_steps plan (length games + 1))
@@ -462,7 +462,7 @@ module _ (plan : GamesPlan) (p p' : GamesPassing) (w w' w'' : OutputState) (l l'
   all_written sent none = (
     h.0,
     None,
-    (all_of (match_text plan h.0), (subst (EndsGames plan h.0) none h.1, refl), score_sent sent, logs_all),
+    (all_of (match_text plan h.0), (subst (AreAllGames plan h.0) none h.1, refl), score_sent sent, logs_all),
     steps_all,
   )
 
@@ -475,7 +475,7 @@ module _ (plan : GamesPlan) (p p' : GamesPassing) (w w' w'' : OutputState) (l l'
     None,
     (
       all_of (match_text plan h.0),
-      (side, fault, subst (EndsGames plan h.0) is h.1, written, refl),
+      (side, fault, subst (AreAllGames plan h.0) is h.1, written, refl),
       score_sent sent,
       logs_all,
     ),

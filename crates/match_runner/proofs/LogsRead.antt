@@ -16,7 +16,7 @@ use Rattle.chess_match.specs.Effects.{Match, beginning}
 use Rattle.chess_match.specs.Events.{Event, Line, Opened, OutputEnds, FailsToRead, FailsToWrite}
 use Rattle.chess_match.specs.Lines.{SentLine, bytes_of, text_of}
 use Rattle.chess_match.specs.Notes.{Note, Happened, Gives}
-use Rattle.chess_match.specs.Reasons.{is_unwritten}
+use Rattle.chess_match.specs.Reasons.{is_write_fault_of}
 use Rattle.chess_match.specs.laws.Laws.{events_in}
 use Rattle.chess_match.specs.laws.OfActs.{lines_given}
 use Rattle.chess_match.specs.declared.reason.Reason.{Reason}
@@ -191,7 +191,7 @@ given_read first S moment reason (Sends b ∷ H) =
     given_block first S b.to moment b.lines (lines_given S H) _ (given_read first S moment reason H)
 given_read first S moment reason (SendFails b ∷ H) =
     given_block first S b.to moment b.lines (lines_given S H) _
-    (given_failure first S b.to moment (notes_given reason H) (is_unwritten reason b.to)
+    (given_failure first S b.to moment (notes_given reason H) (is_write_fault_of reason b.to)
     ∙ given_read first S moment reason H)
 given_read first S moment reason (Reads c (Some t) ∷ ReadsClock d now ∷ H) = given_read first S now reason H
 given_read first S moment reason (Reads c None ∷ ReadsClock d now ∷ H) = given_read first S now reason H

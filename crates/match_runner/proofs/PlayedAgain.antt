@@ -13,7 +13,7 @@ use Rattle.chess_base.specs.Options.{list_if}
 use Rattle.chess_game.specs.declared.verdicts.Verdict.{Verdict}
 use Rattle.cecp_engine.specs.EngineLines.{LineKind, Moves, Resigns, OffersDraw, ClaimsDraw, ClaimsWin, Rejects, Answers}
 use Rattle.cecp_engine.specs.Items.{Item, has_done}
-use Rattle.chess_match.specs.Effects.{Match, Phase, Handshake, Setup, Opening, BeforeMove, AfterMove, Over, Effect, after_move, flag_row, before_move, clock, ends, farewell, handshake_done, handshake_row, ignores, is_owed, items_said, judged, line_row, missing, move_line, move_row, moved, offer_row, ping_number, sends_nothing, sends_to, setup_done, setup_row, turn_row, was_sent_move, with_answers, with_seat}
+use Rattle.chess_match.specs.Effects.{Match, Phase, Handshake, Setup, Opening, BeforeMove, AfterMove, Over, Effect, after_move, flag_row, before_move, clock, ends, farewell, handshake_done, handshake_row, ignores, is_owed_move, items_said, judged, line_row, missing, move_line, move_row, moved, offer_row, ping_number, sends_nothing, sends_to, setup_done, setup_row, turn_row, was_sent_move, with_answers, with_seat}
 use Rattle.chess_match.specs.Acts.{awaits_line, is_over}
 use Rattle.chess_match.specs.Events.{Seat}
 use Rattle.chess_match.specs.Rules.{Rules}
@@ -22,7 +22,7 @@ use Rattle.chess_match.specs.declared.reason.MatchFault.{MatchFault}
 use Rattle.chess_match.specs.declared.reason.MatchFault.TheVariants.{Flood, NoDone}
 use Rattle.chess_match.specs.declared.reason.Reason.{Reason}
 use Rattle.chess_match.specs.Lines.{SentLine, Says, answers_to, ping}
-use Rattle.chess_match.specs.Reasons.{is_unwritten}
+use Rattle.chess_match.specs.Reasons.{is_write_fault_of}
 use Rattle.chess_match.specs.declared.reason.Reason.TheVariants as over_by
 use Rattle.match_runner.specs.laws.ReadBack.{text_of_result}
 
@@ -40,15 +40,15 @@ last_lines reason = Says (text_of_result reason) ∷ Says (codes "quit") ∷ []
 
 -- a match that ended for this reason: no write failed, and each side is sent the last lines
 pub record Stops (reason : Reason) (to : Colour → List SentLine) : Type 0 where
-  pub written : (S : Colour) → is_unwritten reason S ≡ false
+  pub written : (S : Colour) → is_write_fault_of reason S ≡ false
   pub last : (S : Colour) → (before : List SentLine) × (to S ≡ before ++ last_lines reason)
 
-stops_at : (r : Rules) (reason : Reason) (m : Match) → ((S : Colour) → is_unwritten reason S ≡ false)
+stops_at : (r : Rules) (reason : Reason) (m : Match) → ((S : Colour) → is_write_fault_of reason S ≡ false)
     → Stops reason (ends r reason m).to
 stops_at r reason m w = record {
   written = w;
   last = λ S. (
-    list_if (is_owed m.phase S) (move_line r m S ∷ []),
+    list_if (is_owed_move m.phase S) (move_line r m S ∷ []),
     ap (λ (b : Bool). if b then [] else farewell r m reason S) (w S),
   );
 }
@@ -79,7 +79,7 @@ opened m = record m { phase = once_opened m.phase }
 
 -- no flag fell, and no write failed
 abbrev IsPlain : Reason → Type 0
-IsPlain reason = (ends_by_flag reason ≡ false) × ((S : Colour) → is_unwritten reason S ≡ false)
+IsPlain reason = (ends_by_flag reason ≡ false) × ((S : Colour) → is_write_fault_of reason S ≡ false)
 
 -- what is done is done again, and no flag falls
 pub record Again (done redone : Effect) : Type 0 where
@@ -130,7 +130,7 @@ opened_again m = grind arith
 -- what an engine lacks is no write that failed
 abbrev Lacks : Option MatchFault → Type 0
 Lacks lack = (fault : MatchFault) → lack ≡ Some fault → (c O : Colour)
-    → is_unwritten (over_by.Faulted c fault) O ≡ false
+    → is_write_fault_of (over_by.Faulted c fault) O ≡ false
 
 lacks : (r : Rules) (items : List Item) → Lacks (missing r items)
 lacks r items fault h1 c O = grind arith
@@ -223,7 +223,7 @@ module _ (r : Rules) (S : Colour) (m : Match) (on : is_over m.phase ≡ false) w
       met : Match
       met = with_seat S added m
 
-      faulted : (c : Colour) (fault : MatchFault) → ((O : Colour) → is_unwritten (over_by.Faulted c fault) O ≡ false)
+      faulted : (c : Colour) (fault : MatchFault) → ((O : Colour) → is_write_fault_of (over_by.Faulted c fault) O ≡ false)
           → Again (ends r (over_by.Faulted c fault) (record met { count = 0 }))
           (ends r (over_by.Faulted c fault) (record (again met) { count = 0 }))
       faulted c fault h = over_again r (over_by.Faulted c fault) (record met { count = 0 }) (refl, h)

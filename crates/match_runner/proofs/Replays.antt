@@ -10,11 +10,11 @@ use Rattle.chess_base.specs.Options.{list_if}
 use Rattle.cecp_engine.specs.EngineLines.{line_kind}
 use Rattle.chess_match.specs.Acts.{Act, Block, Sends, SendFails, Reads, ReadsEnd, ReadFails, ReadsClock, IsMatch, IsMatchFrom, awaits_line, block_of, blocks_after, blocks_from, is_over}
 use Rattle.chess_match.specs.ByDevice.{notes_given}
-use Rattle.chess_match.specs.Effects.{Match, Phase, Opening, Over, beginning, effect, ends, is_owed, move_line}
+use Rattle.chess_match.specs.Effects.{Match, Phase, Opening, Over, beginning, effect, ends, is_owed_move, move_line}
 use Rattle.chess_match.specs.Events.{Event, Line, Opened, OutputEnds, FailsToRead, FailsToWrite}
 use Rattle.chess_match.specs.Lines.{SentLine, bytes_of}
 use Rattle.chess_match.specs.Notes.{Note, Happened, Gives}
-use Rattle.chess_match.specs.Reasons.{is_unwritten}
+use Rattle.chess_match.specs.Reasons.{is_write_fault_of}
 use Rattle.chess_match.specs.Rules.{Rules}
 use Rattle.chess_match.specs.declared.reason.MatchFault.TheVariants.{Ended, Read, Write}
 use Rattle.chess_match.specs.declared.reason.Reason.{Reason}
@@ -66,9 +66,9 @@ blocks_end reason first to h =
 
 -- none of these blocks is for a side to which a write ended the match
 abbrev AreWritten : Reason → List Block → Type 0
-AreWritten reason due = AllByRecursion (λ b. is_unwritten reason b.to ≡ false) due
+AreWritten reason due = AllByRecursion (λ b. is_write_fault_of reason b.to ≡ false) due
 
-all_written : (reason : Reason) (due : List Block) → ((S : Colour) → is_unwritten reason S ≡ false)
+all_written : (reason : Reason) (due : List Block) → ((S : Colour) → is_write_fault_of reason S ≡ false)
     → AreWritten reason due
 all_written reason [] w = tt
 all_written reason (b ∷ due) w = (w b.to, all_written reason due w)
@@ -77,17 +77,17 @@ all_written reason (b ∷ due) w = (w b.to, all_written reason due w)
 other_block : (r : Rules) (m : Match) (c : Colour)
     → blocks_from White (ends r (Faulted c Write) m).to ≡ record {
       to = other c;
-      lines = list_if (is_owed m.phase (other c)) (move_line r m (other c) ∷ []) ++ last_lines (Faulted c Write);
+      lines = list_if (is_owed_move m.phase (other c)) (move_line r m (other c) ∷ []) ++ last_lines (Faulted c Write);
     } ∷ []
 other_block r m White =
-    block_is Black (list_if (is_owed m.phase Black) (move_line r m Black ∷ [])) (Faulted White Write)
+    block_is Black (list_if (is_owed_move m.phase Black) (move_line r m Black ∷ [])) (Faulted White Write)
 other_block r m Black = ap (λ (bs : List Block). bs ++ [])
-    (block_is White (list_if (is_owed m.phase White) (move_line r m White ∷ [])) (Faulted Black Write))
+    (block_is White (list_if (is_owed_move m.phase White) (move_line r m White ∷ [])) (Faulted Black Write))
 
-other_written : (c : Colour) → is_unwritten (Faulted c Write) (other c) ≡ false
+other_written : (c : Colour) → is_write_fault_of (Faulted c Write) (other c) ≡ false
 other_written c = grind arith
 
-own_unwritten : (c : Colour) → is_unwritten (Faulted c Write) c ≡ true
+own_unwritten : (c : Colour) → is_write_fault_of (Faulted c Write) c ≡ true
 own_unwritten c = grind arith
 
 -- ---- a match that is over
@@ -110,11 +110,11 @@ Rests reason final m due notes = (final ≡ m) × (AreWritten reason due → not
 sent_more : (b s : Block) (l l' : List Note) → b ≡ s → l ≡ l' → Gives s.to (bytes_of s.lines) ∷ l ≡ give b ∷ l'
 sent_more b s l l' q e = ap (λ (x : Block). give x ∷ l) (sym q) ∙ ap (λ (l : List Note). give b ∷ l) e
 
-unsent_more : (reason : Reason) (b s : Block) (l l' : List Note) → b ≡ s → is_unwritten reason b.to ≡ false → l ≡ l'
+unsent_more : (reason : Reason) (b s : Block) (l l' : List Note) → b ≡ s → is_write_fault_of reason b.to ≡ false → l ≡ l'
     → Gives s.to (bytes_of s.lines)
-    ∷ (list_if (is_unwritten reason s.to) (Happened (FailsToWrite s.to) ∷ []) ++ l) ≡ give b ∷ l'
+    ∷ (list_if (is_write_fault_of reason s.to) (Happened (FailsToWrite s.to) ∷ []) ++ l) ≡ give b ∷ l'
 unsent_more reason b s l l' q w e =
-    ap (λ (x : Block). give x ∷ (list_if (is_unwritten reason x.to) (Happened (FailsToWrite x.to) ∷ []) ++ l)) (sym q)
+    ap (λ (x : Block). give x ∷ (list_if (is_write_fault_of reason x.to) (Happened (FailsToWrite x.to) ∷ []) ++ l)) (sym q)
     ∙ ap (λ (x : Bool). give b ∷ (list_if x (Happened (FailsToWrite b.to) ∷ []) ++ l)) w
     ∙ ap (λ (l : List Note). give b ∷ l) e
 
@@ -223,17 +223,17 @@ module _ (r : Rules) (reason : Reason) (final : Match) (over : final.phase ≡ O
       → Rests reason final (effect r m (FailsToWrite s.to)).after
       (blocks_from White (effect r m (FailsToWrite s.to)).to) notes
       → Goes r reason final m
-      (give s ∷ (list_if (is_unwritten reason s.to) (Happened (FailsToWrite s.to) ∷ []) ++ notes))
+      (give s ∷ (list_if (is_write_fault_of reason s.to) (Happened (FailsToWrite s.to) ∷ []) ++ notes))
   unwritten m s notes (is, given) =
       let both : Over (Faulted s.to Write) ≡ Over reason = ap (λ (n : Match). n.phase) (sym is) ∙ over in
       let same : Faulted s.to Write ≡ reason = cc in
-      let mine : is_unwritten reason s.to ≡ true =
-      ap (λ (x : Reason). is_unwritten x s.to) (sym same) ∙ own_unwritten s.to in
+      let mine : is_write_fault_of reason s.to ≡ true =
+      ap (λ (x : Reason). is_write_fault_of x s.to) (sym same) ∙ own_unwritten s.to in
       let timely : ends_by_flag reason ≡ false = ap ends_by_flag (sym same) in
-      let before = list_if (is_owed m.phase (other s.to)) (move_line r m (other s.to) ∷ []) in
+      let before = list_if (is_owed_move m.phase (other s.to)) (move_line r m (other s.to) ∷ []) in
       let all : notes ≡ Gives (other s.to) (bytes_of (before ++ last_lines reason)) ∷ [] =
       given (subst (AreWritten reason) (sym (other_block r m s.to))
-      (ap (λ (x : Reason). is_unwritten x (other s.to)) (sym same) ∙ other_written s.to, tt))
+      (ap (λ (x : Reason). is_write_fault_of x (other s.to)) (sym same) ∙ other_written s.to, tt))
       ∙ ap (λ (l : List Block). map give l) (other_block r m s.to)
       ∙ ap (λ (x : Reason). Gives (other s.to) (bytes_of (before ++ last_lines x)) ∷ []) same in
       rw (mine, all) (record {

@@ -87,9 +87,9 @@ game_text plan number played = pgn [] (tags_of plan number played.end) played.af
 -- the fault is one of starting the engines with the commands `one` and `other`: it says that an engine with one of
 -- these commands could not be started, or that there was no memory
 abbrev pub IsStartFault : List ℕ → List ℕ → GamesFault → Type 0
-IsStartFault one other (CanNotStart command) = (command.now ≡ one) ⊎ (command.now ≡ other)
-IsStartFault one other NoMemory = ⊤
-IsStartFault one other _ = ⊥
+IsStartFault first second (CanNotStart command) = (command.now ≡ first) ⊎ (command.now ≡ second)
+IsStartFault first second NoMemory = ⊤
+IsStartFault first second _ = ⊥
 
 -- from the log's state `l` to `l'` a game with these notes was logged, in which the engine of `--white` had the side
 -- `first`; or, if no side is given (`None`), nothing was logged. A write of the log may fail (`Logged`)
@@ -100,8 +100,8 @@ LogsGame (Some first) l l' notes = Logged l l' (log_text first notes)
 -- ---- the games
 
 -- each of these games was played as the plan says (`IsOfPlan`), and no engine had a fault in it
-abbrev pub SoundGames : GamesPlan → List GameRecord → Type 0
-SoundGames plan games = AllByRecursion (λ played. IsOfPlan plan played × (played.end.fault ≡ None)) games
+abbrev pub FaultlessGames : GamesPlan → List GameRecord → Type 0
+FaultlessGames plan games = AllByRecursion (λ played. IsOfPlan plan played × (played.end.fault ≡ None)) games
 
 -- the PGN of these games one after another; they are numbered from 1
 abbrev pub game_texts : GamesPlan → List GameRecord → List ℕ
@@ -141,13 +141,13 @@ score_line s =
 -- `games` are all games of a match by this plan: as many as planned, or those up to and including the first in which an
 -- engine had a fault. Each was played as the plan says (`IsOfPlan`). The last argument is that fault (the number of the
 -- game, the engine's side, the fault), or `None` if no engine had one
-abbrev pub EndsGames : GamesPlan → List GameRecord → Option (ℕ × Colour × MatchFault) → Type 0
+abbrev pub AreAllGames : GamesPlan → List GameRecord → Option (ℕ × Colour × MatchFault) → Type 0
 -- there are as many games as planned; each was played as the plan says, and no engine had a fault in it
-EndsGames plan games None = SoundGames plan games × (length games ≡ plan.games)
+AreAllGames plan games None = FaultlessGames plan games × (length games ≡ plan.games)
 -- in the last game, which has this number, the engine of `side` had this fault; in the games before it no engine had
 -- one. Each was played as the plan says, and there are at most as many games as planned
-EndsGames plan games (Some (number, side, fault)) =
-    (before : List GameRecord) × (last : GameRecord) × (games ≡ before ++ last ∷ []) × SoundGames plan before
+AreAllGames plan games (Some (number, side, fault)) =
+    (before : List GameRecord) × (last : GameRecord) × (games ≡ before ++ last ∷ []) × FaultlessGames plan before
     × IsOfPlan plan last × (last.end.fault ≡ Some (side, fault)) × (number ≡ length games) × (number ≤ plan.games)
 
 -- ---- what a match writes
@@ -162,25 +162,25 @@ match_text plan games = game_texts plan games ++ score_line (score_of games)
 abbrev pub WritesGames : GamesPlan → Result (Unit {0}) GamesFault → List GameRecord → Option GameRecord → ToOutput
     → Type 0
 -- all planned games were played as the plan says and without a fault; their PGN and the score were written and flushed
-WritesGames plan (Ok _) games None o = EndsGames plan games None × (o ≡ all_of (match_text plan games))
+WritesGames plan (Ok _) games None o = AreAllGames plan games None × (o ≡ all_of (match_text plan games))
 -- in the last game, which has this number, an engine had the fault that `text` names. All games up to it were played as
 -- the plan says, those before it without a fault; the PGN of all and the score were written and flushed
 WritesGames plan (Err (Game number text)) games None o = (side : Colour) × (fault : MatchFault)
-    × EndsGames plan games (Some (number, side, fault)) × (text.now ≡ comment_of (Faulted side fault))
+    × AreAllGames plan games (Some (number, side, fault)) × (text.now ≡ comment_of (Faulted side fault))
     × (o ≡ all_of (match_text plan games))
 -- a write or flush failed in the PGN of `unwritten`: a beginning of it, maybe nothing or all, was written. All these
 -- games were played as the plan says, those of `games` without a fault; in `unwritten` an engine may have had one. No
 -- score was written
 WritesGames plan (Err WriteFailed) games (Some unwritten) o =
-    SoundGames plan games × (length games < plan.games) × IsOfPlan plan unwritten
+    FaultlessGames plan games × (length games < plan.games) × IsOfPlan plan unwritten
     × BreaksOffIn (game_texts plan games) (game_text plan (length games + 1) unwritten) o
 -- all games of the match were played as the plan says, and their PGN was written and flushed; then a write or flush
--- failed in the score. In the last game an engine may have had a fault (`last`; `None` if it had none)
-WritesGames plan (Err WriteFailed) games None o = (last : Option (ℕ × Colour × MatchFault)) × EndsGames plan games last
-    × BreaksOffIn (game_texts plan games) (score_line (score_of games)) o
+-- failed in the score. In the last game an engine may have had a fault (`fault`; `None` if it had none)
+WritesGames plan (Err WriteFailed) games None o = (fault : Option (ℕ × Colour × MatchFault))
+    × AreAllGames plan games fault × BreaksOffIn (game_texts plan games) (score_line (score_of games)) o
 -- `CanNotStart` or `NoMemory`: the engines of the game after `games` could not be started. `games` are fewer than
 -- planned, and were played as the plan says and without a fault; their PGN was written and flushed, but no score
-WritesGames plan (Err fault) games None o = SoundGames plan games × (length games < plan.games)
+WritesGames plan (Err fault) games None o = FaultlessGames plan games × (length games < plan.games)
     × IsStartFault plan.white.now plan.black.now fault × (o ≡ all_of (game_texts plan games))
 -- no other result comes with a game that was played and could not be written
 WritesGames plan _ games (Some unwritten) o = ⊥

@@ -31,13 +31,13 @@ abbrev pub engine_text : Bool → List ℕ
 engine_text is_first = if is_first then codes "first : " else codes "second: "
 
 -- what a line of the log begins with, such as `312 <first : `: its moment, its mark, and which engine
-abbrev pub head : ℕ → ℕ → Bool → List ℕ
-head moment mark is_first = decimal moment ++ ((32 ∷ mark ∷ []) ++ engine_text is_first)
+abbrev pub line_head : ℕ → ℕ → Bool → List ℕ
+line_head moment mark is_first = decimal moment ++ ((32 ∷ mark ∷ []) ++ engine_text is_first)
 
 -- a line of the log as it is written, such as `312 <first : move e2e4`, with `\n` at its end. The arguments are the
 -- fields of an `Entry`. In the text, `?` stands for each byte that is no printable ASCII
 abbrev pub log_line : ℕ → ℕ → Bool → List ℕ → List ℕ
-log_line moment mark is_first text = head moment mark is_first ++ (map shown_byte text ++ new_line ∷ [])
+log_line moment mark is_first text = line_head moment mark is_first ++ (map shown_byte text ++ new_line ∷ [])
 
 -- these lines as they are written, one after another
 abbrev pub entries_text : List Entry → List ℕ

@@ -10,7 +10,7 @@ ghost use Rattle.chess_match.specs.Notes.{Gives, Happened};
 ghost use Rattle.chess_match.specs.Played.{PlayedNoting};
 ghost use Rattle.chess_match.specs.Run.{engines_of, text_read};
 ghost use Rattle.match_runner.specs.Log.{Logged, LogsNote};
-ghost use Rattle.match_runner.specs.Log.{engine_text, head, lines_in, log_line, log_seen, log_text};
+ghost use Rattle.match_runner.specs.Log.{engine_text, line_head, lines_in, log_line, log_seen, log_text};
 ghost use Rattle.match_runner.specs.ties.Logging.{Adds, IsLog, noted_by};
 
 use arrayvec::ArrayVec;
@@ -133,7 +133,7 @@ impl Pending {
     // Logs what a line begins with, such as `312 <first : `; `mark` is `<`, `>` or `!`, and `is_first` says whether
     // the engine is that of `--white`.
     fn add_head<E: Output>(&mut self, output: &mut E, moment: u64, mark: u8, is_first: bool)
-        ensures { Adds (E.seen output.old) (E.seen output.new) self.old self.new (head moment mark is_first) }
+        ensures { Adds (E.seen output.old) (E.seen output.new) self.old self.new (line_head moment mark is_first) }
     {
         self.add_number(output, moment);
         self.add_text(output, &[b' ', mark]);

@@ -2,7 +2,7 @@
 -- text of its own; a piece that is too long is a fault. Nothing here depends on how the input is cut into reads.
 use Rattle.std.specs.Prelude.{◌≡◌, ◌≤◌, ◌^◌, ℕ, ◌+◌, Bool, true, false, if◌then◌else◌, List, [], ◌++◌, length, Result, Ok, Err}
 use Rattle.std.specs.List.{AllZip, flat_map}
-use Rattle.byte_devices.specs.Transfers.{FromInput, ToOutput, IsWhole, IsCutOff, IsUnbroken, all_of, all_unflushed, BreaksOffIn}
+use Rattle.byte_devices.specs.Transfers.{FromInput, ToOutput, IsWhole, IsCutOff, NoReadFailed, all_of, all_unflushed, BreaksOffIn}
 use Rattle.pgn_pieces.specs.Pieces.{pieces}
 use Rattle.pgn_verifier.specs.declared.fault.VerifyFault.{VerifyFault}
 use Rattle.pgn_verifier.specs.declared.fault.VerifyFault.TheVariants.{ReadFailed, WriteFailed, NoMemory, InputTooLong}
@@ -42,14 +42,14 @@ VerifiesCollection options (Ok summary) i o = IsWhole i
     × (o ≡ all_of (collection_text options true i.text reports)) × (summary ≡ verified (counts_of reports)))
 -- no read failed, whether the input's end was reported or not; of the lines for what was read (see `collection_text`) a
 -- beginning (it may be empty, or all of them) was written, nothing was flushed, and then a write or the flush failed
-VerifiesCollection options (Err WriteFailed) i o = IsUnbroken i
+VerifiesCollection options (Err WriteFailed) i o = NoReadFailed i
     × ((reports : List Report) × AreCollectionReports options.strict i.ended i.text reports
     × BreaksOffIn [] (collection_text options i.ended i.text reports) o)
 -- a read failed before the input's end was reported, and what was written is as `WritesPart` says
 VerifiesCollection options (Err ReadFailed) i o = IsCutOff i × WritesPart options i o
 -- memory ran out before the input's end was reported; no read failed, and what was written is as `WritesPart` says
-VerifiesCollection options (Err NoMemory) i o = IsUnbroken i × WritesPart options i o
+VerifiesCollection options (Err NoMemory) i o = NoReadFailed i × WritesPart options i o
 -- at least 2^63 - 2^16 bytes were read, without the input's end; no read failed, and what was written is as
 -- `WritesPart` says
 VerifiesCollection options (Err InputTooLong) i o =
-    IsUnbroken i × (2 ^ 63 ≤ length i.text + 2 ^ 16) × WritesPart options i o
+    NoReadFailed i × (2 ^ 63 ≤ length i.text + 2 ^ 16) × WritesPart options i o

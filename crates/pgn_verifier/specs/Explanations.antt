@@ -5,9 +5,9 @@ use Rattle.chess_base.specs.Faults.{fen_fault_name}
 use Rattle.chess_base.specs.Letters.{byte, new_line}
 use Rattle.chess_base.specs.declared.setup.Setup.{Setup}
 use Rattle.chess_fen.specs.Writing.{fen}
-use Rattle.chess_game.specs.Ends.{verdict_outcome, verdict_comment}
+use Rattle.chess_game.specs.Ends.{verdict_result}
 use Rattle.chess_game.specs.Game.{State, current, verdict_now}
-use Rattle.chess_game.specs.Results.{outcome_text, result_text}
+use Rattle.chess_game.specs.Results.{outcome_text}
 use Rattle.chess_game.specs.declared.verdicts.Verdict.{Verdict}
 use Rattle.chess_pgn.specs.Tokens.{is_white_space}
 use Rattle.chess_pgn.specs.declared.read.PgnFaultKind.{PgnFaultKind}
@@ -20,8 +20,8 @@ use Rattle.pgn_verifier.specs.WrongParts.{fen_text, wrong_field, field_offset, t
 -- ---- the text at a fault
 
 -- a byte as an explanation shows it: a question mark in place of one that is no visible character (33 to 126)
-abbrev pub shown_byte : ℕ → ℕ
-shown_byte c = if nat_le 33 c && nat_le c 126 then c else byte "?"
+abbrev pub visible_byte : ℕ → ℕ
+visible_byte c = if nat_le 33 c && nat_le c 126 then c else byte "?"
 
 -- the first word of a text: its bytes before the first white space, at most 40
 abbrev pub first_word : List ℕ → List ℕ
@@ -29,7 +29,7 @@ first_word text = take_while (λ c. not (is_white_space c)) (take 40 text)
 
 -- a word as an explanation shows it, byte by byte; `(end)` in place of an empty one, even if more text follows it
 abbrev pub shown_word : List ℕ → List ℕ
-shown_word word = if length word == 0 then codes "(end)" else map shown_byte word
+shown_word word = if length word == 0 then codes "(end)" else map visible_byte word
 
 -- what an explanation shows of a text: its first word, or `(end)` if it is empty or begins with white space
 abbrev pub shown : List ℕ → List ℕ
@@ -51,10 +51,6 @@ shown_part _ text = shown text
 
 -- ---- the reason
 
--- the board's verdict as its outcome and its comment in braces, such as `0-1 {Black mates}`; `None` without a verdict
-abbrev pub verdict_reason : Option Verdict → Option (List ℕ)
-verdict_reason verdict = option_map (λ v. result_text (verdict_outcome v) (verdict_comment v)) verdict
-
 -- the reason for a fault of reading a game's text: what a bad tag lacks, what is wrong with a bad FEN or token, or for
 -- a move after the end the verdict that ended the game; `None` for the other kinds. `text` is the text from the fault's
 -- byte on, and `verdict` is the board's where reading stopped
@@ -62,7 +58,7 @@ abbrev pub pgn_reason : PgnFaultKind → List ℕ → Option Verdict → Option 
 pgn_reason BadTag text verdict = Some (tag_reason (drop 1 text))
 pgn_reason (BadFen fault) text verdict = Some (fen_fault_name fault)
 pgn_reason BadToken text verdict = Some (token_reason text)
-pgn_reason AfterEnd text verdict = verdict_reason verdict
+pgn_reason AfterEnd text verdict = option_map verdict_result verdict
 pgn_reason _ text verdict = None
 
 -- the reason for a fault, or `None` if none is given. `text` is the text from the fault's byte on, and `verdict` is the
@@ -75,7 +71,7 @@ reason (Pgn kind) text verdict = pgn_reason kind text verdict
 reason (ResultDiffers tag_len outcome) text verdict =
     Some (codes "Result " ++ (shown (take tag_len text) ++ (codes ", ended " ++ outcome_text outcome)))
 -- `board says otherwise`: the board's verdict
-reason BoardSaysOtherwise text verdict = verdict_reason verdict
+reason BoardSaysOtherwise text verdict = option_map verdict_result verdict
 
 -- ---- the explanation
 

@@ -38,16 +38,11 @@ field_at number fen = take_while (λ c. not (c == space)) (from_field number fen
 -- fullmove number) if field 4 (the halfmove clock) is a number of one to six digits, else 4. For a wrong number of
 -- fields, and for a fault of the pieces together, such as two kings of a colour, the first field is shown
 abbrev pub field_number : FenFault → List ℕ → ℕ
-field_number Fields fen = 0
-field_number Placement fen = 0
 field_number Side fen = 1
 field_number Castling fen = 2
 field_number EnPassant fen = 3
 field_number Counters fen = if is_some (short_number 6 (field_at 4 fen)) then 5 else 4
-field_number Kings fen = 0
-field_number Pawns fen = 0
-field_number Men fen = 0
-field_number Check fen = 0
+field_number _ fen = 0
 
 -- the field that is shown for a FEN's fault
 abbrev pub wrong_field : FenFault → List ℕ → List ℕ

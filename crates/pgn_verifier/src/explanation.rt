@@ -6,10 +6,11 @@ ghost use Rattle.std.specs.Option.{option_map};
 ghost use Rattle.arrayvec.specs.ArrayVec.{array_vec_len};
 ghost use Rattle.chess_base.specs.Letters.{new_line};
 ghost use Rattle.chess_fen.specs.Writing.{fen};
+ghost use Rattle.chess_game.specs.Ends.{verdict_result};
 ghost use Rattle.chess_game.specs.Game.{current, verdict_now};
 ghost use Rattle.chess_pgn.specs.declared.read.PgnFaultKind.TheVariants.{TooLong};
 ghost use Rattle.pgn_pieces.specs.Places.{line_ends, last_line_len, line_of, column_of};
-ghost use Rattle.pgn_verifier.specs.Explanations.{part_offset, shown_part, has_position, verdict_reason, pgn_reason, reason, optional_part, explained, explanation_text, explanation_at, explanation_line, too_long_explained, shown};
+ghost use Rattle.pgn_verifier.specs.Explanations.{part_offset, shown_part, has_position, pgn_reason, reason, optional_part, explained, explanation_text, explanation_at, explanation_line, too_long_explained, shown};
 ghost use Rattle.chess_game.specs.Results.{outcome_text};
 ghost use Rattle.pgn_verifier.specs.Reports.{fault_line};
 ghost use Rattle.pgn_verifier.specs.declared.game_fault.FaultKind.TheVariants.{Pgn};
@@ -102,7 +103,7 @@ fn shown_part(kind: FaultKind, text: &[u8]) -> Shown
 // Appends ` | ` and the board's verdict, such as `0-1 {Black mates}`; nothing without one.
 fn append_verdict(lines: &mut FaultLines, verdict: Option<Verdict>)
     requires { array_vec_len lines.old + 80 ≤ FAULT_LINES_LEN }
-    ensures text { lines.new.items ≡ lines.old.items ++ optional_part (verdict_reason verdict) }
+    ensures text { lines.new.items ≡ lines.old.items ++ optional_part (option_map verdict_result verdict) }
     ensures len { array_vec_len lines.new ≤ array_vec_len lines.old + 80 }
 {
     if let Some(verdict) = verdict {

@@ -5,7 +5,7 @@ ghost use Rattle.std.specs.List.{prefix_len};
 ghost use Rattle.arrayvec.specs.ArrayVec.{array_vec_len};
 ghost use Rattle.chess_pgn.specs.Tokens.{is_white_space};
 ghost use Rattle.pgn_verifier.specs.declared.shown.TheConstants.{FIELD_LEN};
-ghost use Rattle.pgn_verifier.specs.Explanations.{shown_byte, first_word, shown_word, shown};
+ghost use Rattle.pgn_verifier.specs.Explanations.{visible_byte, first_word, shown_word, shown};
 
 use arrayvec::ArrayVec;
 use chess_pgn::token_parts::is_white_space;
@@ -48,7 +48,7 @@ fn first_word(text: &[u8]) -> &[u8]
 
 // A byte as it is shown: `?` in place of one that is no visible character.
 fn shown_byte(byte: u8) -> u8
-    ensures { result ≡ shown_byte byte }
+    ensures { result ≡ visible_byte byte }
 {
     if byte.is_ascii_graphic() { byte } else { b'?' }
 }
@@ -56,7 +56,7 @@ fn shown_byte(byte: u8) -> u8
 // The bytes of a word as they are shown.
 fn shown_bytes(word: &[u8]) -> Shown
     requires { length word.now ≤ FIELD_LEN }
-    ensures text { result.items ≡ map shown_byte word.now }
+    ensures text { result.items ≡ map visible_byte word.now }
     ensures len { array_vec_len result ≡ length word.now }
 {
     let mut shown = Shown::new();

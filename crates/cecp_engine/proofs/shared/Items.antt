@@ -9,7 +9,7 @@ use Rattle.text_lines.specs.Lines.{without_front_blanks}
 use Rattle.text_lines.proofs.shared.Lines.{without_front_blanks-short}
 use Rattle.text_lines.specs.Words.{is_name_byte}
 use Rattle.std.specs.List.{prefix_len}
-use Rattle.cecp_engine.specs.Items.{Item, Value, Digits, Quoted, quote_at, value_of, is_apart, with_value, with_name, item_of, ends_handshake, first_items, items_of, has_done, last_said}
+use Rattle.cecp_engine.specs.Items.{Item, Value, Digits, Quoted, quote_at, value_of, may_follow_item, with_value, with_name, item_of, ends_handshake, first_items, items_of, has_done, last_said}
 
 -- ---- the last value
 
@@ -68,11 +68,11 @@ name_or default None = default
 name_or default (Some p) = p.0.name
 
 with_value_shorter : (name rest : List ℕ) (v : Option (Value × List ℕ)) (p : Item × List ℕ) → value_of rest ≡ v
-    → option_and_then (λ (p : Value × List ℕ). if is_apart p.1 then
+    → option_and_then (λ (p : Value × List ℕ). if may_follow_item p.1 then
     Some (record { name = name; value = p.0 }, without_front_blanks p.1) else None) v ≡ Some p
     → (p.0.name ≡ name) × (length p.1 < length rest)
 with_value_shorter name rest None p is e = cc
-with_value_shorter name rest (Some q) p is e = by_test (is_apart q.1) e
+with_value_shorter name rest (Some q) p is e = by_test (may_follow_item q.1) e
   where
     by_test : (b : Bool) → (if b then Some (record { name = name; value = q.0 }, without_front_blanks q.1) else None)
         ≡ Some p → (p.0.name ≡ name) × (length p.1 < length rest)

@@ -4,7 +4,7 @@ use Rattle.std.specs.Prelude.{is_some, if◌then◌else◌}
 use Rattle.chess_base.specs.declared.man.Kind.TheVariants.{Pawn}
 use Rattle.chess_base.specs.declared.man.Move.{Move}
 use Rattle.chess_base.specs.declared.setup.Setup.{Setup}
-use Rattle.chess_base.specs.Squares.{is_square}
+use Rattle.chess_base.specs.Squares.{is_at}
 use Rattle.chess_base.specs.Men.{man_at, is_of, is_man, other}
 use Rattle.chess_base.specs.Attacks.{attacks}
 use Rattle.chess_base.specs.Moves.{is_en_passant, one_rank_back, captured_square, resets_clock}
@@ -32,4 +32,4 @@ unfolding resets_clock is_en_passant
 resets_clock_is p m =
     let pawn = is_man p.side Pawn (man_at p.men m.from) in
     ap (λ v. pawn || v) (captures_is p m)
-    ∙ passing pawn (is_of (other p.side) (man_at p.men m.to)) (attacks p.men m.from m.to) (is_square p.target m.to)
+    ∙ passing pawn (is_of (other p.side) (man_at p.men m.to)) (attacks p.men m.from m.to) (is_at p.target m.to)

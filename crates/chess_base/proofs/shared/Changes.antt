@@ -10,7 +10,7 @@ use Rattle.chess_base.specs.declared.man.CastlingSide.{CastlingSide}
 use Rattle.chess_base.specs.declared.man.CastlingSide.TheVariants.{KingSide, QueenSide}
 use Rattle.chess_base.specs.declared.man.Man.{Man}
 use Rattle.chess_base.specs.declared.man.Move.{Move}
-use Rattle.chess_base.specs.Squares.{rank, file, is_square}
+use Rattle.chess_base.specs.Squares.{rank, file, is_at}
 use Rattle.chess_base.specs.Men.{Men, man_at, other, same_colour, same_kind, is_of, is_man, forward, first_rank, crossed_rank, pawn_rank}
 use Rattle.chess_base.specs.Attacks.{attacks, could_capture, is_rank_ahead}
 use Rattle.chess_base.specs.shared.Splits.{could_capture_as}
@@ -102,7 +102,7 @@ advance_is_no_attack p m man e =
 
 -- en passant goes to an empty square, past which there is an enemy pawn
 target_facts : (men : Men) (c : Colour) (o : Option ℕ) (s : ℕ) → target_is_sound_at men c o ≡ true
-    → is_square o s ≡ true
+    → is_at o s ≡ true
     → (rank s ≡ crossed_rank (other c)) × (is_none (man_at men s) ≡ true)
     × (is_man (other c) Pawn (man_at men (forward (other c) s)) ≡ true)
     × (is_none (man_at men (forward c s)) ≡ true)
@@ -115,7 +115,7 @@ target_facts men c (Some u) s t e =
     let one = and_parts _ _ two.0 in
     (eqb-true _ _ one.0, one.1, two.1, three.1)
 
-pub at_target : (p : Setup) (s : ℕ) → target_is_sound p ≡ true → is_square p.target s ≡ true
+pub at_target : (p : Setup) (s : ℕ) → target_is_sound p ≡ true → is_at p.target s ≡ true
     → (rank s ≡ crossed_rank (other p.side)) × (is_none (man_at p.men s) ≡ true)
     × (is_man (other p.side) Pawn (man_at p.men (one_rank_back p.side s)) ≡ true)
     × (is_none (man_at p.men (forward p.side s)) ≡ true)
@@ -290,7 +290,7 @@ rest_alone p m walk e c = let none = no_castle p m c in Alone walk (simp (e, non
 
 rest_with_capture : (p : Setup) (m : Move) → Walk p m → target_is_sound p ≡ true
     → is_man p.side Pawn (man_at p.men m.from) ≡ true → attacks p.men m.from m.to ≡ true
-    → is_square p.target m.to ≡ true → Rest p m
+    → is_at p.target m.to ≡ true → Rest p m
 unfolding second_square_emptied castling_rook_to is_en_passant
 rest_with_capture p m walk stands man hits at =
     let there = at_target p m.to stands at in

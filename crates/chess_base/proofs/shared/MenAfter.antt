@@ -14,7 +14,7 @@ use Rattle.chess_base.specs.Men.{Men, man_at, is_man, is_of, other}
 use Rattle.chess_base.specs.declared.setup.Setup.{Setup}
 use Rattle.chess_base.specs.Moves.{is_en_passant, one_rank_back, arriving_man, captured_square, after_castling, after_moving, second_square_emptied, steps_of, men_after}
 use Rattle.chess_base.specs.Before.{castling_undone, before_castling, before_moving, steps_back_by, steps_back, men_before}
-use Rattle.chess_base.specs.Squares.{is_square}
+use Rattle.chess_base.specs.Squares.{is_at}
 use Rattle.chess_base.specs.Castling.{castling, castle_of, castle_from, mover_end, castling_rook_to}
 use Rattle.chess_base.specs.Steps.{man_stepped, men_stepped}
 use Rattle.chess_base.proofs.shared.Castling.{says_from_castling, castling_says, castle_there, no_castle}
@@ -45,8 +45,8 @@ or_flip a b = grind arith
 
 -- off the end square, a capture empties a square beside the start square only if it is en passant
 emptied : (passes enemy : Bool) (behind to s : ℕ) → (s == to) ≡ false
-    → is_square (if passes then Some behind else None) s
-    ≡ is_square (if passes then Some behind else if enemy then Some to else None) s
+    → is_at (if passes then Some behind else None) s
+    ≡ is_at (if passes then Some behind else if enemy then Some to else None) s
 emptied true enemy behind to s n = refl
 emptied false true behind to s n = sym (flip to s ∙ n)
 emptied false false behind to s n = refl
@@ -69,7 +69,7 @@ moved p m s e =
     let second = if passes then Some behind else None in
     let taken = if passes then Some behind else if is_of (other p.side) (man_at p.men m.to) then Some m.to else None in
     rw e (moved_by (m.to == s) m.to m.from s (arriving_man (man_at p.men m.from) m.promotion) (man_at p.men s)
-    (is_square second s) (is_square taken s) refl
+    (is_at second s) (is_at taken s) refl
     (λ n. emptied passes (is_of (other p.side) (man_at p.men m.to)) behind m.to s (flip s m.to ∙ n)))
 
 turned_round : (a b c d s : ℕ) (x y z : Option Man)
@@ -148,8 +148,8 @@ men_before_by_steps q m s =
 unfoldable pub man_after : Setup → Move → ℕ → Option Man
 man_after p m s =
     if mover_end p m == s then arriving_man (man_at p.men m.from) m.promotion
-    else if is_square (castling_rook_to p m) s then Some (record { colour = p.side; kind = Rook })
-    else if is_square (second_square_emptied p m) s || (m.from == s) then None
+    else if is_at (castling_rook_to p m) s then Some (record { colour = p.side; kind = Rook })
+    else if is_at (second_square_emptied p m) s || (m.from == s) then None
     else man_at p.men s
 
 pub length-men_after : (p : Setup) (m : Move) → length (men_after p m) ≡ 64
@@ -161,7 +161,7 @@ man_at-men_after p m s h =
     ap (λ (men : Men). man_at men s) (men_after_by_steps p m) ∙ man_at-men_stepped p.men (steps_of p m) s h
 
 pub man_after-same : (p : Setup) (m : Move) (s : ℕ) → mover_end p m ≢ s → m.from ≢ s
-    → is_square (castling_rook_to p m) s ≡ false → is_square (second_square_emptied p m) s ≡ false
+    → is_at (castling_rook_to p m) s ≡ false → is_at (second_square_emptied p m) s ≡ false
     → man_after p m s ≡ man_at p.men s
 unfolding man_after
 man_after-same p m s t f r l = rw (ne_eqb _ _ t, r, l, ne_eqb _ _ f) refl

@@ -6,7 +6,7 @@ use Rattle.chess_base.specs.declared.man.Kind.TheVariants.{King, Pawn}
 use Rattle.chess_base.specs.declared.man.CastlingSide.{CastlingSide}
 use Rattle.chess_base.specs.declared.man.Man.{Man}
 use Rattle.chess_base.specs.declared.man.Move.{Move}
-use Rattle.chess_base.specs.Squares.{rank, is_square}
+use Rattle.chess_base.specs.Squares.{rank, is_at}
 use Rattle.chess_base.specs.Men.{Men, man_at, other, same_colour, same_kind, is_of, is_man, first_rank}
 use Rattle.chess_base.specs.Attacks.{attacks, is_attacked, is_in_check}
 use Rattle.chess_base.specs.declared.setup.Setup.{Setup}
@@ -23,7 +23,7 @@ use Rattle.chess_base.proofs.shared.Men.{same_colour-self, same_colour-true, oth
 pub data PawnKind (p : Setup) (m : Move) : Type 0 where
   Advances : pawn_advances p m ≡ true → PawnKind p m
   Captures : attacks p.men m.from m.to ≡ true → is_of (other p.side) (man_at p.men m.to) ≡ true → PawnKind p m
-  TakesEnPassant : attacks p.men m.from m.to ≡ true → is_square p.target m.to ≡ true → PawnKind p m
+  TakesEnPassant : attacks p.men m.from m.to ≡ true → is_at p.target m.to ≡ true → PawnKind p m
 
 pub data MoveKind (p : Setup) (m : Move) : Type 0 where
   ManMoves : is_man p.side Pawn (man_at p.men m.from) ≡ false → castling p m ≡ None → man_moves p m ≡ true

@@ -10,7 +10,7 @@ use Rattle.chess_base.specs.declared.steps.Steps.{Steps}
 use Rattle.chess_base.specs.Steps.{men_stepped}
 use Rattle.chess_base.specs.Moves.{arriving_man, second_square_emptied, steps_of, men_after}
 use Rattle.chess_base.specs.Castling.{mover_end, castling_rook_to}
-use Rattle.chess_base.specs.Squares.{is_square}
+use Rattle.chess_base.specs.Squares.{is_at}
 use Rattle.chess_base.proofs.shared.MenAfter.{men_after_by_steps, length-men_stepped, man_at-men_stepped}
 
 -- the list after a write, if there is a place to write
@@ -23,7 +23,7 @@ length-write xs None v = refl
 length-write xs (Some s) v = length-set xs s v
 
 pub get_or-write : {X : Type 0} (xs : List X) (o : Option ℕ) (v : X) (i : ℕ) (d : X) → i < length xs
-    → get_or (write xs o v) i d ≡ cond (is_square o i) v (get_or xs i d)
+    → get_or (write xs o v) i d ≡ cond (is_at o i) v (get_or xs i d)
 get_or-write xs None v i d h = refl
 get_or-write xs (Some s) v i d h =
     elim (cases_eq s i) [

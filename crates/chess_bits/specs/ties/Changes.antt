@@ -11,22 +11,22 @@ use Rattle.chess_base.specs.declared.setup.TheConstants.{COUNTER_LIMIT}
 use Rattle.chess_base.specs.Castling.{castle_of, mover_end, castling_rook_to}
 use Rattle.chess_base.specs.Men.{man_at, is_man, same_kind}
 use Rattle.chess_base.specs.Moves.{is_pseudo_legal, is_en_passant, second_square_emptied}
-use Rattle.chess_base.specs.Squares.{is_square}
+use Rattle.chess_base.specs.Squares.{is_at}
 
 -- by move m of position p a piece arrives on square k or leaves it
 abbrev pub is_changed : Setup → Move → ℕ → Bool
-is_changed p m k = (mover_end p m == k) || is_square (castling_rook_to p m) k
-    || (is_square (second_square_emptied p m) k || (m.from == k))
+is_changed p m k = (mover_end p m == k) || is_at (castling_rook_to p m) k
+    || (is_at (second_square_emptied p m) k || (m.from == k))
 
 -- by move m of position p a piece arrives on square k: the mover, or the castling rook
 abbrev pub is_filled : Setup → Move → ℕ → Bool
-is_filled p m k = (mover_end p m == k) || is_square (castling_rook_to p m) k
+is_filled p m k = (mover_end p m == k) || is_at (castling_rook_to p m) k
 
 -- move m is pseudo-legal, not the king's and not en passant; so only what is on its two squares changes
 pub record StepsPlainly (p : Setup) (m : Move) : Type 0 where
   pub pattern : is_pseudo_legal p m ≡ true
   pub no_king : is_man p.side King (man_at p.men m.from) ≡ false
-  pub no_passing : (is_man p.side Pawn (man_at p.men m.from) && is_square p.target m.to) ≡ false
+  pub no_passing : (is_man p.side Pawn (man_at p.men m.from) && is_at p.target m.to) ≡ false
 
 -- neither colour has a castling right
 abbrev pub has_no_right : Rights → Bool
@@ -51,7 +51,7 @@ goes_plainly p m Queen = true
 goes_plainly p m Rook = true
 goes_plainly p m Bishop = true
 goes_plainly p m Knight = true
-goes_plainly p m Pawn = not (is_square p.target m.to)
+goes_plainly p m Pawn = not (is_at p.target m.to)
 
 -- move m, of a piece of kind k, is no promotion, and surely neither castling nor en passant: it takes the piece from
 -- one square to the other and changes no more

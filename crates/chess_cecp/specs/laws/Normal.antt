@@ -22,7 +22,7 @@ use Rattle.chess_cecp.specs.declared.command.Command.TheVariants.{New, SetBoard,
 use Rattle.chess_cecp.specs.Declaring.{read_result, claims_text, verdict_text, declared_text}
 use Rattle.chess_cecp.specs.Serving.{Response}
 use Rattle.chess_base.specs.Faults.{fen_fault_name}
-use Rattle.chess_cecp.specs.Session.{says, refuses, becomes, verdict_line, claimed, joined_line, back_row}
+use Rattle.chess_cecp.specs.Session.{says, refuses, becomes, verdict_line, draw_claim_row, joined_line, take_back_row}
 use Rattle.chess_cecp.specs.laws.NormalGame.{normal_initial, normal_current, normal_rep, normal_claims, normal_verdict_now, normal_is_over}
 use Rattle.chess_cecp.specs.laws.NormalPgn.{normal_pgn}
 
@@ -67,7 +67,7 @@ normal_result_row s text (Some d) =
 abbrev pub normal_claim_row : State → Response State
 normal_claim_row s =
     if normal_is_over s then refuses s (codes "Error (command not legal now): ") (codes "claim")
-    else claimed s (normal_claims s.start s.moves)
+    else draw_claim_row s (normal_claims s.start s.moves)
 
 -- the answer to `variant` by its argument (`text` is the whole line), for normal chess alone: only `normal` is
 -- accepted, and changes nothing
@@ -102,8 +102,8 @@ normal_row_of tags limit s text argument New = becomes (from_start normal_initia
 normal_row_of tags limit s text argument SetBoard = normal_setboard_row s (normal_fen_reading argument)
 normal_row_of tags limit s text argument UserMove = normal_move_row limit s argument
 normal_row_of tags limit s text argument BareMove = normal_move_row limit s text
-normal_row_of tags limit s text argument Undo = back_row 1 (codes "undo") s
-normal_row_of tags limit s text argument Remove = back_row 2 (codes "remove") s
+normal_row_of tags limit s text argument Undo = take_back_row 1 (codes "undo") s
+normal_row_of tags limit s text argument Remove = take_back_row 2 (codes "remove") s
 normal_row_of tags limit s text argument Declare = normal_result_row s text (read_result argument)
 normal_row_of tags limit s text argument Claim = normal_claim_row s
 normal_row_of tags limit s text argument (Ping n) = says s (joined_line (codes "pong ") (decimal n))

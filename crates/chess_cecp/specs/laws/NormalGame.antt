@@ -18,7 +18,7 @@ use Rattle.chess_game.specs.declared.verdicts.Verdict.{Verdict}
 use Rattle.chess_game.specs.declared.verdicts.Verdict.TheVariants.{Stalemate, InsufficientMaterial, FivefoldRepetition, SeventyFiveMoves}
 use Rattle.chess_game.specs.declared.results.Outcome.{Outcome}
 use Rattle.chess_game.specs.declared.results.Outcome.TheVariants.{Unfinished}
-use Rattle.chess_game.specs.Ends.{has_insufficient_material, mates, verdict_outcome}
+use Rattle.chess_game.specs.Ends.{has_insufficient_material, mate_by, verdict_outcome}
 use Rattle.chess_game.specs.Game.{State}
 use Rattle.chess_game.specs.Same.{same_men, same_rights, same_square}
 
@@ -80,7 +80,7 @@ unfoldable pub normal_verdict : Setup → List Move → Option Verdict
 normal_verdict start ms =
     let p = normal_last start ms in
     if length (normal_moves p) == 0
-    then (if is_in_check p.men p.side then Some (mates (other p.side)) else Some Stalemate)
+    then (if is_in_check p.men p.side then Some (mate_by (other p.side)) else Some Stalemate)
     else if has_insufficient_material p.men then Some InsufficientMaterial
     else if nat_le 5 (normal_rep start ms) then Some FivefoldRepetition
     else if nat_le 150 p.halfmove then Some SeventyFiveMoves

@@ -16,7 +16,7 @@ use Rattle.chess_base.specs.Men.{Men, man_at, is_man}
 use Rattle.chess_base.specs.Castling.{home_square, king_square, rook_file, rights_by}
 use Rattle.chess_fen.specs.Reading.{◌>>=◌, side_of}
 use Rattle.chess_fen.specs.RightNames.{side_letter, right_named, from_edge, is_towards}
-use Rattle.chess_fen.specs.Texts.{placement_of, times, first_letter, names_file, may_name_right, is_castling, target_of, number_of}
+use Rattle.chess_fen.specs.Texts.{placement_of, times, first_letter, names_file, may_name_right, is_castling_field, target_of, number_of}
 
 -- ---- the letters
 
@@ -66,7 +66,7 @@ right_by_letters Fischerandom men letters c w = right_after_letters men c w None
 -- the castling rights that a FEN's third field denotes in a position with these pieces; none if it is neither a dash
 -- nor letters that may name rights
 abbrev pub rights_of : Variant → Men → List ℕ → Option Rights
-rights_of v men text = if is_castling v text then Some (rights_by (right_by_letters v men text)) else None
+rights_of v men text = if is_castling_field v text then Some (rights_by (right_by_letters v men text)) else None
 
 -- the position with these pieces that the five fields of a FEN after the first denote, or the fault of the first of
 -- them that denotes nothing

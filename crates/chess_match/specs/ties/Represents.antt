@@ -14,11 +14,11 @@ use Rattle.cecp_engine.specs.Items.{Item, last_value}
 use Rattle.cecp_engine.specs.Seen.{features_of}
 use Rattle.cecp_engine.specs.Levels.{LevelSeen}
 use Rattle.chess_match.specs.Acts.{is_over}
-use Rattle.chess_match.specs.Effects.{Match, Phase, Handshake, Setup, Opening, BeforeMove, AfterMove, Over, Effect, handshake_lines, is_owed, items_said, move_line, opening, ping_number}
+use Rattle.chess_match.specs.Effects.{Match, Phase, Handshake, Setup, Opening, BeforeMove, AfterMove, Over, Effect, handshake_lines, is_owed_move, items_said, move_line, opening, ping_number}
 use Rattle.chess_match.specs.Events.{Seat}
 use Rattle.chess_match.specs.Rules.{Rules}
 use Rattle.chess_match.specs.Lines.{SentLine, Says, answers_to, ping, setup_lines}
-use Rattle.chess_match.specs.Reasons.{comment_of, is_unwritten, outcome_by_reason}
+use Rattle.chess_match.specs.Reasons.{comment_of, is_write_fault_of, outcome_by_reason}
 use Rattle.chess_match.specs.declared.phase.Phase.{Phase as CorePhase}
 use Rattle.chess_match.specs.declared.phase.Phase.TheVariants as core_in
 use Rattle.chess_match.specs.declared.reason.Reason.{Reason}
@@ -74,7 +74,7 @@ pub record Represents (r : Rules) (core : MatchState) (played : List Move) (m : 
   pub clocks : core.clocks ≡ clocks_of r.level m
   pub moves : played ≡ m.played
   pub last : AreOfLast r core.last m.played
-  pub unsent : is_over m.phase ≡ false → (S : Colour) → is_unsent core.last S ≡ is_owed m.phase S
+  pub unsent : is_over m.phase ≡ false → (S : Colour) → is_unsent core.last S ≡ is_owed_move m.phase S
   pub count : core.count ≡ m.count
 
 -- what the code's state keeps of the engine of this side
@@ -117,7 +117,7 @@ phase_lines r last m S (core_in.SendTurn c) = list_if (same_colour c S) (opening
 phase_lines r last m S (core_in.AwaitMove c) = []
 phase_lines r last m S (core_in.AwaitPong c) = list_if (same_colour c S) (ping (ping_number m c) ∷ [])
 phase_lines r last m S (core_in.Over reason) =
-    if is_unwritten reason S then [] else last_lines r m reason (is_unsent last S) S
+    if is_write_fault_of reason S then [] else last_lines r m reason (is_unsent last S) S
 
 -- what the side `S` is sent after the answers to its items, by the code's `given`: `draw`, if the other offered one,
 -- and the lines of the code's phase, if it was entered

@@ -3,7 +3,7 @@ use Rattle.std.proofs.Common.{◌≡◌, ◌<◌, IsTrue}
 use Rattle.chess_base.specs.declared.man.Move.{Move}
 use Rattle.chess_base.specs.declared.setup.Setup.{Setup}
 use Rattle.chess_base.specs.declared.setup.Saved.{Saved}
-use Rattle.chess_base.specs.Squares.{is_square}
+use Rattle.chess_base.specs.Squares.{is_at}
 use Rattle.chess_base.specs.Men.{other}
 use Rattle.chess_base.specs.Sound.{IsSound}
 use Rattle.chess_base.specs.Moves.{one_rank_back, after}
@@ -20,7 +20,7 @@ pub IsMade-sound : (q : Setup) (m : Move) (s : Saved) → IsMade q m s → IsSou
 IsMade-sound q m s h = rw (WasMade-back h.0 m s q h.1) h.1.sound
 
 -- a pawn taken en passant was on the board
-pub captured_in_board : (q : Setup) (m : Move) (s : Saved) → IsMade q m s → IsTrue (is_square s.target m.to)
+pub captured_in_board : (q : Setup) (m : Move) (s : Saved) → IsMade q m s → IsTrue (is_at s.target m.to)
     → one_rank_back (other q.side) m.to < 64
 unfolding saved_of after
 captured_in_board q m s h at =

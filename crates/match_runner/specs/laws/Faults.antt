@@ -3,7 +3,7 @@ use Rattle.std.specs.Prelude.{◌≡◌, List}
 use Rattle.std.specs.List.{AllByRecursion}
 use Rattle.chess_base.specs.declared.man.Colour.{Colour}
 use Rattle.match_runner.specs.declared.plan.GamesPlan.{GamesPlan}
-use Rattle.match_runner.specs.Games.{GameRecord, SoundGames}
+use Rattle.match_runner.specs.Games.{GameRecord, FaultlessGames}
 
 -- after this game the count of failed writes and flushes of each engine's input (`output`, as the arbiter sees it) is
 -- as before it; the end lines belong to the game
@@ -14,5 +14,5 @@ KeepsFailureCounts played = (S : Colour)
 -- in every match: each game without a fault of an engine leaves these counts as they were. All games of a match but the
 -- last are such games, whether it was played to its end or broke off (`WritesGames`)
 abbrev pub OnlyLastGamesHaveFailedWrites : Type 0
-OnlyLastGamesHaveFailedWrites = (plan : GamesPlan) (games : List GameRecord) → SoundGames plan games
+OnlyLastGamesHaveFailedWrites = (plan : GamesPlan) (games : List GameRecord) → FaultlessGames plan games
     → AllByRecursion KeepsFailureCounts games

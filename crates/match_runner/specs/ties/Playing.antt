@@ -15,7 +15,7 @@ use Rattle.match_runner.specs.declared.fault.GamesFault.{GamesFault}
 use Rattle.match_runner.specs.declared.fault.GamesFault.TheVariants.{WriteFailed, NoMemory, CanNotStart}
 use Rattle.match_runner.specs.declared.games.GamesPlayed.{GamesPlayed}
 use Rattle.match_runner.specs.declared.score.Score.{Score}
-use Rattle.match_runner.specs.Games.{first_side, GameRecord, IsOfPlan, game_text, IsStartFault, LogsGame, game_texts, LogsGames, score_of, EndsGames, PlaysThese}
+use Rattle.match_runner.specs.Games.{first_side, GameRecord, IsOfPlan, game_text, IsStartFault, LogsGame, game_texts, LogsGames, score_of, AreAllGames, PlaysThese}
 use Rattle.match_runner.specs.GamesTable.{GamesPassing, StepsPass, game_steps, unwritten_steps, unstarted_steps, games_steps}
 
 -- ---- the score, as it is counted
@@ -72,7 +72,7 @@ PlayedGame plan number p p' w w' l l' (Err fault) =
 abbrev pub HasPlayed : GamesPlan → GamesPassing → GamesPassing → OutputState → OutputState → LogSeen → LogSeen
     → Result GamesPlayed GamesFault → Type 0
 HasPlayed plan p p' w w' l l' (Ok played) =
-    (games : List GameRecord) × EndsGames plan games played.fault × (played.score ≡ score_of games)
+    (games : List GameRecord) × AreAllGames plan games played.fault × (played.score ≡ score_of games)
     × OutputTook w w' (all_of (game_texts plan games)) × LogsGames plan.log l l' games
     × StepsPass p p' (games_steps plan games)
 HasPlayed plan p p' w w' l l' (Err WriteFailed) = (games : List GameRecord) × (unwritten : GameRecord)

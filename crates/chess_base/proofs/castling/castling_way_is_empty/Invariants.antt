@@ -1,8 +1,8 @@
 use Rattle.std.proofs.Common.{◌≡◌, ℕ, ◌<◌, true, not, ◌||◌, is_none}
 use Rattle.chess_base.specs.Men.{man_at}
-use Rattle.chess_base.specs.Castling.{castling_crosses}
+use Rattle.chess_base.specs.Castling.{castling_needs_empty}
 use Rattle.chess_base.proofs.castling.castling_way_is_empty.Given as goal
 
 abbrev pub invariant-loop-number : goal.invariant-loop-number
-invariant-loop-number l = (k : ℕ) → k < l.number → (not (castling_crosses l.castle k) || is_none (man_at l.men k))
+invariant-loop-number l = (k : ℕ) → k < l.number → (not (castling_needs_empty l.castle k) || is_none (man_at l.men k))
     ≡ true

@@ -1,7 +1,7 @@
 -- The squares between the king and a piece are on one line with both (line_between of Pins), so they are in the set.
 use Rattle.std.proofs.Common.{◌≡◌, ◌==◌, ◌||◌, ◌<◌, inl, inr, subst, ◌∙◌}
 use Rattle.std.proofs.lemmas.Bool.{or_cases, or_left, or_right}
-use Rattle.chess_base.specs.Squares.{is_between, is_square}
+use Rattle.chess_base.specs.Squares.{is_between, is_at}
 use Rattle.chess_moves.specs.Sets.{contains}
 use Rattle.chess_bits.proofs.Pins.{line_between}
 use Rattle.chess_bits.proofs.bits.Bits.evasions.Goals as goal
@@ -12,11 +12,11 @@ returns c = λ k low h.
     subst (λ n. n < 64) c.number-king.ensures.value c.number-king.ensures.in_range in
     let from : c.args.from < 64 =
     subst (λ n. n < 64) c.number-from.ensures.value c.number-from.ensures.in_range in
-    let target : contains c.set_of.result k ≡ is_square c.args.self.now.target k =
+    let target : contains c.set_of.result k ≡ is_at c.args.self.now.target k =
     rw (← c.self.view_is) (c.set_of.ensures k) in
     c.union.ensures k
     ∙ elim
-    (or_cases (is_between c.args.king c.args.from k || (k == c.args.from)) (is_square c.args.self.now.target k) h) [
+    (or_cases (is_between c.args.king c.args.from k || (k == c.args.from)) (is_at c.args.self.now.target k) h) [
       | inr passing ↦ or_right (contains c.union-met.result k) (contains c.set_of.result k)
           (target ∙ passing)
       | inl near ↦

@@ -2,7 +2,7 @@
 use Rattle.std.proofs.Common.{not, ◌&&◌, sym, ◌∙◌}
 use Rattle.std.proofs.lemmas.Bool.{and_parts, not-true}
 use Rattle.chess_base.specs.Men.{is_man, man_at}
-use Rattle.chess_base.specs.Squares.{is_square}
+use Rattle.chess_base.specs.Squares.{is_at}
 use Rattle.chess_base.specs.declared.man.Kind.TheVariants.{King, Pawn}
 use Rattle.chess_bits.proofs.bits.Bits.is_safe_after.Goals as goal
 
@@ -11,7 +11,7 @@ returns-then-steps_plainly c = λ pattern.
     let p = c.args.self.now in
     let m = c.args.m.now in
     let both = and_parts (not (is_man p.side King (man_at p.men m.from)))
-    (not (is_man p.side Pawn (man_at p.men m.from) && is_square p.target m.to))
+    (not (is_man p.side Pawn (man_at p.men m.from) && is_at p.target m.to))
     (sym c.steps_plainly.ensures ∙ c.if-steps_plainly.true) in
     c.is_safe_plain.ensures m.promotion
     (record { pattern = pattern; no_king = not-true _ both.0; no_passing = not-true _ both.1 })

@@ -6,7 +6,7 @@ use Rattle.std.proofs.lemmas.Bool.{and_parts, and_right, eqb-true}
 use Rattle.chess_base.specs.declared.man.Kind.TheVariants.{Pawn, King}
 use Rattle.chess_base.specs.Men.{first_rank, man_at, is_man, other}
 use Rattle.chess_base.specs.Moves.{promotion_fits}
-use Rattle.chess_base.specs.Squares.{is_square, rank}
+use Rattle.chess_base.specs.Squares.{is_at, rank}
 use Rattle.chess_moves.specs.Promoting.{would_promote}
 use Rattle.chess_bits.specs.ties.Goes.{goes}
 use Rattle.chess_bits.proofs.Pins.{no_target_there}
@@ -30,5 +30,5 @@ returns c =
     safe (Some kind) (record {
       pattern = pattern_from p (move_of a b (Some kind)) go (subst (λ t. promotion_fits t (Some kind) ≡ true) (sym last) fits);
       no_king = is_man-kind p.side p.side Pawn King (man_at p.men a) refl both.0;
-      no_passing = and_right (is_man p.side Pawn (man_at p.men a)) (is_square p.target b) off;
+      no_passing = and_right (is_man p.side Pawn (man_at p.men a)) (is_at p.target b) off;
     }))

@@ -2,14 +2,14 @@
 use Rattle.std.proofs.Common.{◌≡◌, sym, ◌∙◌, ap, Some, None}
 use Rattle.chess_base.specs.declared.man.Colour.TheVariants.{White, Black}
 use Rattle.chess_match.specs.Acts.{is_over}
-use Rattle.chess_match.specs.Effects.{is_owed, missing}
+use Rattle.chess_match.specs.Effects.{is_owed_move, missing}
 use Rattle.chess_match.proofs.CoreSteps.{recounted}
 use Rattle.chess_match.proofs.state.MatchState.handshake_done.Goals as goal
 
 pub returns-in-White : goal.returns-in-White
 returns-in-White g c r m p at s =
     rw c.in-White.is (c.enter.ensures r _ (record m { count = 0 })
-    (λ X. s.unsent (ap is_over at) X ∙ ap (λ q. is_owed q X) at) (recounted r _ _ m 0 s))
+    (λ X. s.unsent (ap is_over at) X ∙ ap (λ q. is_owed_move q X) at) (recounted r _ _ m 0 s))
 
 pub returns-in-Some : goal.returns-in-Some
 returns-in-Some g c r m p at s =
@@ -36,4 +36,4 @@ returns-in-None-missing g c r m p at s =
     (c.variant-variant.ensures r p)) in
     rw (c.in-Black.is, first, second)
     (c.enter-in-None-missing.ensures r _ (record m { count = 0 })
-    (λ X. s.unsent (ap is_over at) X ∙ ap (λ q. is_owed q X) at) (recounted r _ _ m 0 s))
+    (λ X. s.unsent (ap is_over at) X ∙ ap (λ q. is_owed_move q X) at) (recounted r _ _ m 0 s))

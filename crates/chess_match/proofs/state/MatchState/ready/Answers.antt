@@ -2,13 +2,13 @@
 -- verdict of the start or the turn of the side on move there.
 use Rattle.std.proofs.Common.{◌≡◌, ap, sym, ◌∙◌, Some, None}
 use Rattle.chess_match.specs.Acts.{is_over}
-use Rattle.chess_match.specs.Effects.{is_owed}
+use Rattle.chess_match.specs.Effects.{is_owed_move}
 use Rattle.chess_match.proofs.CoreSteps.{first_opens}
 use Rattle.chess_match.proofs.state.MatchState.ready.Goals as goal
 
 pub returns-in-White : goal.returns-in-White
 returns-in-White g c r m p at s =
-    rw c.in-White.is (c.enter.ensures r _ m (λ X. s.unsent (ap is_over at) X ∙ ap (λ q. is_owed q X) at) s)
+    rw c.in-White.is (c.enter.ensures r _ m (λ X. s.unsent (ap is_over at) X ∙ ap (λ q. is_owed_move q X) at) s)
 
 pub returns-in-Some : goal.returns-in-Some
 returns-in-Some g c r m p at s =
