@@ -5,7 +5,7 @@ use Rattle.std.specs.List.{prefix_len}
 use Rattle.std.specs.Option.{option_map_or}
 use Rattle.chess_base.specs.Letters.{byte, space}
 use Rattle.chess_base.specs.declared.fen_fault.FenFault.{FenFault}
-use Rattle.chess_base.specs.declared.fen_fault.FenFault.TheVariants.{Fields, Placement, Side, Castling, EnPassant, Counters, Kings, Pawns, Men, Check}
+use Rattle.chess_base.specs.declared.fen_fault.FenFault.TheVariants.{Side, Castling, EnPassant, Counters}
 use Rattle.text_lines.specs.Words.{short_number}
 use Rattle.chess_pgn.specs.Tokens.{is_word_byte, after_gap, name_at, after_next, string_at}
 
