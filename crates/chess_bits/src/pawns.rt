@@ -44,8 +44,8 @@ fn behind(colour: Colour, squares: SquareSet) -> SquareSet
 
 // The squares from which a pawn of this colour attacks a square of the set by a capture towards the a-file: a white
 // pawn attacks d5 so from e4. The set is moved one file right, then one rank back. A square of the h-file would arrive
-// on the a-file (for White h5 on a5), so the a-file is taken out. (Nothing is said of squares of the last rank, since
-// `raised` promises only squares on the board.)
+// on the a-file (for White h5 on a5), so the a-file is taken out. (Nothing is said of squares of rank 1, nor of White's
+// last rank: no pawn is there.)
 #[inline(always)]
 fn attacking_left(colour: Colour, squares: SquareSet) -> SquareSet
     ensures { (k : ℕ) → k < 64 → 8 ≤ k → forward colour k < 64

@@ -4,7 +4,7 @@
 //! In contracts the clause `added` (`Adds`) ends in the text that a function adds. What waited in the buffer and then
 //! this text is what the writer took and what waits now. `ended prefix lines` is the text of these lines, each with the
 //! prefix before it and `\n` after it. `prefix`, `writer` and `kept` say what stays as it was; `column` says how long
-//! the line is that is begun, and `position` which position the board has.
+//! the line is that is begun, `position` which position the board has, and `playable` that the game's moves are legal.
 
 ghost use Rattle.std.specs.Prelude.{◌≡◌, ℕ, ◌≤◌, ◌<◌, List, [], ◌∷◌, ◌++◌, true, length, decimal, OnOk, OnErr, IsTrue};
 ghost use Rattle.arrayvec.specs.ArrayVec.{array_vec_len};
