@@ -23,8 +23,8 @@ use Rattle.cecp_engine.specs.Levels.{LevelSeen, level_of}
 
 -- ---- what arguments say
 
--- the values of options by their names, which are without `--`; `None` for an option that was not given. The value of a
--- flag that was given is the text `true`
+-- the values of options by their names, which are without `--`; `None` for an option that was not given. A flag that
+-- was given has the value `true`; one that was not given has `false`, or none
 abbrev pub Values : Type 0
 Values = Text → Option Text
 
@@ -120,8 +120,8 @@ IsReadAs said (Err f) = (said.command ≡ codes "match") × (level_and_start sai
 
 -- ---- by the grammar
 
--- the values of options by their names (see `Values`), from the options as `clap` matched them (`rows`); if an option
--- has several values, the first
+-- the values of options by their names, without `--`, from the options as `clap` matched them (`rows`): the first value
+-- of each; `None` for an option without one. A flag has `true` if it was given, else `false`
 abbrev pub matched : List Row → Values
 matched rows = λ name. first_of name rows
 

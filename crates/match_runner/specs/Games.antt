@@ -59,14 +59,15 @@ tags_of plan number end = record {
 
 -- a game that was played
 pub record GameRecord : Type 0 where
-  -- before it was played: the engines' pipes, the coming readings of the clock, and the arbiter's record of a game, in
-  -- which this game's moves replace what it holds
+  -- before it was played: the engines' pipes, the coming readings of the clock, and the game in which it will be played;
+  -- of what that game has before, only its limit of half-moves counts
   pub before : World
-  -- the same after it was played: the record then holds this game's moves
+  -- the same after it was played: the game then has this game's start, moves and result
   pub after : World
   -- how it ended
   pub end : MatchEnd
-  -- what happened and what the engines were sent, in order; the log is made from these
+  -- the events, and the bytes of each block for an engine, even if sending it failed, in order (`notes_given`); the log
+  -- is made from these
   pub notes : List Note
 
 -- what each game of `plan` begins from: the plan's start and time control
