@@ -59,8 +59,8 @@ tags_of plan number end = record {
 
 -- a game that was played
 pub record GameRecord : Type 0 where
-  -- before it was played: the engines' pipes, the coming readings of the clock, and the game in which it will be played;
-  -- of what that game has before, only its limit of half-moves counts
+  -- before it was played: the engines' pipes, the coming readings of the clock, and the game in which it will be
+  -- played; of what that game has before, only its limit of half-moves counts
   pub before : World
   -- the same after it was played: the game then has this game's start, moves and result
   pub after : World
