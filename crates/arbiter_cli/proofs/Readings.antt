@@ -3,7 +3,7 @@ use Rattle.std.proofs.Common.{◌≡◌, ◌∙◌, ◌≤◌, true, false, refl
 use Rattle.clap.specs.Words.{HasKind, IsAmong, Kinds, Row, Text, found_of, kind_of, rows_of, subcommand_of, subcommand_rows_of}
 use Rattle.clap.specs.declared.error.Error.{Error}
 use Rattle.clap.specs.declared.parser.matches.ArgMatches.{ArgMatches}
-use Rattle.arbiter_grammar.specs.Grammar.{AreVariants, IsComplete, IsParsed, Lent, arbiter_app, asked, faults_in}
+use Rattle.arbiter_grammar.specs.Grammar.{AreVariants, IsComplete, IsParsed, VariantNames, arbiter_app, asked, faults_in}
 use Rattle.arbiter_cli.specs.Plans.{IsMatchPlan, IsPlanOf, IsReadBy, IsReading, Said, Values, date_asked, is_date, level_and_start, matched, said_by, start_asked, text_or}
 use Rattle.arbiter_cli.specs.ties.Requests.{IsJudged, IsJudgedFault, IsMatchOf, IsPlanFault, IsPlanned, IsRequestOf, Refuses, start_of}
 use Rattle.cecp_engine.specs.Levels.{level_of}
@@ -31,7 +31,7 @@ refusal_by kinds e BadLevel h fits = absurd fits
 refusal_by kinds e (BadFen x) h fits = absurd fits
 refusal_by kinds e BadDate h fits = absurd fits
 
-refused_by : (names : Lent) (texts : List Text) (f : WordsFault) → IsRefusalBy (faults_in names texts) f
+refused_by : (names : VariantNames) (texts : List Text) (f : WordsFault) → IsRefusalBy (faults_in names texts) f
     → IsReadBy names texts (Err f)
 refused_by names texts (Words x) h = h
 refused_by names texts NoMemory h = h
@@ -73,7 +73,7 @@ module _ (value : Values) (m : MatchRequest) (is : IsMatchOf value m) where
   judged_fault BadDate (l, p, level, start, date) =
       read_as value (Some l) (Ok p) false (level_is ∙ level) (start_is ∙ start) (ap is_date (sym is.date) ∙ date)
 
-match_fault : (names : Lent) (texts : List Text) (f : WordsFault) → faults_in names texts ≡ []
+match_fault : (names : VariantNames) (texts : List Text) (f : WordsFault) → faults_in names texts ≡ []
     → (asked names texts).0 ≡ codes "match" → (m : MatchRequest) → IsMatchOf (matched (asked names texts).1) m
     → IsJudgedFault m f → IsReadBy names texts (Err f)
 match_fault names texts (Words x) none name m is h = absurd h
@@ -89,7 +89,7 @@ planned_plan said (request.Stub arguments) plan is e = subst (IsPlanOf said) (sy
 planned_plan said (request.Match m) plan is e =
     subst (IsPlanOf said) (sym e.1) (is.0, match_judged said.value m is.1 e.0 e.2)
 
-plan_fault : (names : Lent) (texts : List Text) (s : Request) (f : WordsFault) → faults_in names texts ≡ []
+plan_fault : (names : VariantNames) (texts : List Text) (s : Request) (f : WordsFault) → faults_in names texts ≡ []
     → IsRequestOf (said_by (asked names texts)) s → IsPlanFault s f → IsReadBy names texts (Err f)
 plan_fault names texts request.Session f none is h = absurd h
 plan_fault names texts (request.Verify v) f none is h = absurd h
@@ -98,7 +98,7 @@ plan_fault names texts (request.Match m) f none is h =
     match_fault names texts f none is.0 m is.1 h
 
 -- what was taken as written was planned
-pub planned_reading : (names : Lent) (texts : List Text) → AreVariants names → faults_in names texts ≡ []
+pub planned_reading : (names : VariantNames) (texts : List Text) → AreVariants names → faults_in names texts ≡ []
     → (s : Request) → IsRequestOf (said_by (asked names texts)) s
     → (r : Result Plan WordsFault) → IfOk r (IsPlanned s) → IfErr r (IsPlanFault s) → IsReading texts r
 planned_reading names texts are none s is (Ok plan) p f =

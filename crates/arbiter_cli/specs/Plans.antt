@@ -6,7 +6,7 @@ use Rattle.std.specs.Result.{result_map_both}
 use Rattle.std.specs.Str.{bytes_eq}
 use Rattle.std.specs.Str.Parse.{digits_value, without_leading_plus}
 use Rattle.clap.specs.Words.{IsAmong, Row, Text, all_of, first_of, kind_of}
-use Rattle.arbiter_grammar.specs.Grammar.{AreVariants, Lent, asked, faults_in}
+use Rattle.arbiter_grammar.specs.Grammar.{AreVariants, VariantNames, asked, faults_in}
 use Rattle.arbiter_cli.specs.declared.plan.Plan.{Plan}
 use Rattle.arbiter_cli.specs.declared.plan.Plan.TheVariants.{Session, Verify, Stub, Match}
 use Rattle.arbiter_cli.specs.declared.plan.MatchPlan.{MatchPlan}
@@ -132,7 +132,7 @@ said_by p =
     record { command = p.0; value = matched p.1; replies = unwrap_or (all_of (codes "words") p.1) [] }
 
 -- the result of reading these arguments is right by the grammar in which `--variant` takes the names `names`
-abbrev pub IsReadBy : Lent → List Text → Result Plan WordsFault → Type 0
+abbrev pub IsReadBy : VariantNames → List Text → Result Plan WordsFault → Type 0
 -- an error of `clap`, of a kind that `clap` may report for these arguments. A request for help or for the version
 -- counts as an error too
 IsReadBy names arguments (Err (Words e)) = IsAmong (kind_of e) (faults_in names arguments)
@@ -146,4 +146,4 @@ IsReadBy names arguments r = (faults_in names arguments ≡ []) × IsReadAs (sai
 -- line. The grammar contains a reference to the list of names that `--variant` takes; `names` is some reference to the
 -- list `normal`, `fischerandom`, and it does not matter where in memory that is
 abbrev pub IsReading : List Text → Result Plan WordsFault → Type 0
-IsReading arguments result = (names : Lent) × AreVariants names × IsReadBy names arguments result
+IsReading arguments result = (names : VariantNames) × AreVariants names × IsReadBy names arguments result

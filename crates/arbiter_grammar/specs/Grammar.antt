@@ -24,16 +24,17 @@ needed r = record r { required = true }
 abbrev pub games_rule : Rule
 games_rule = record (option_rule (codes "games")) { parser = Some (Unsigned 1 1000) }
 
--- a reference to the list of names that `--variant` takes, wherever it is in memory
-abbrev pub Lent : Type 0
-Lent = Bor (List (Bor Text))
+-- a reference to a list of names, as the rule of `--variant` holds it for those that it takes; where the list is in
+-- memory is left open, and `AreVariants` says which names it has
+abbrev pub VariantNames : Type 0
+VariantNames = Bor (List (Bor Text))
 
 -- these names, in their order, are `normal` and `fischerandom`
-abbrev pub AreVariants : Lent → Type 0
+abbrev pub AreVariants : VariantNames → Type 0
 AreVariants names = map (λ n. n.now) names.now ≡ codes "normal" ∷ codes "fischerandom" ∷ []
 
 -- the option `--variant NAME`, where NAME is one of these names
-abbrev pub variant_rule : Lent → Rule
+abbrev pub variant_rule : VariantNames → Rule
 variant_rule names = record (option_rule (codes "variant")) { parser = Some (Names names) }
 
 -- the subcommand `session`, which has no options
@@ -42,7 +43,7 @@ session_app = new_app (codes "session")
 
 -- the subcommand `match` with its options; `--white` and `--black` are required. `names` are those that `--variant`
 -- takes
-abbrev pub match_app : Lent → App
+abbrev pub match_app : VariantNames → App
 match_app names = fold with_rule (new_app (codes "match")) (
     needed (option_rule (codes "white")) ∷ needed (option_rule (codes "black")) ∷ option_rule (codes "level")
     ∷ option_rule (codes "fen") ∷ games_rule ∷ option_rule (codes "date") ∷ variant_rule names
@@ -70,30 +71,30 @@ bare_app = let a = new_app (codes "arbiter") in
 
 -- the whole grammar: `arbiter` with the subcommands `session`, `verify`, `stub` and `match`. `names` are those that
 -- `--variant` takes
-abbrev pub arbiter_app : Lent → App
+abbrev pub arbiter_app : VariantNames → App
 arbiter_app names = fold with_subcommand bare_app
     (session_app.top ∷ verify_app.top ∷ stub_app.top ∷ (match_app names).top ∷ [])
 
 -- what the arguments (`words`) ask for if they have no fault (see `faults_in`): the subcommand's name and its options,
 -- as `clap` matches them; `session` without options if there is no subcommand. `names` are those that `--variant` takes
-abbrev pub asked : Lent → List Text → Text × List Row
+abbrev pub asked : VariantNames → List Text → Text × List Row
 asked names words = unwrap_or (subcommand_of (arbiter_app names) words) (codes "session", [])
 
 -- the kinds of fault, apart from out of memory, that `clap` may report for the arguments `words`; empty if it accepts
 -- them. A request for help or for the version counts as a fault. `names` are those that `--variant` takes
-abbrev pub faults_in : Lent → List Text → Kinds
+abbrev pub faults_in : VariantNames → List Text → Kinds
 faults_in names words = fault_of (arbiter_app names) words
 
 -- the result of parsing the arguments `words` is right: their subcommand and options if they have no fault, else an
 -- error of one of the kinds of fault that they have. `names` are those that `--variant` takes
-abbrev pub IsParsedBy : Lent → List Text → Result ArgMatches Error → Type 0
+abbrev pub IsParsedBy : VariantNames → List Text → Result ArgMatches Error → Type 0
 IsParsedBy names words (Ok m) = (faults_in names words ≡ [])
     × (subcommand_rows_of m ≡ subcommand_of (arbiter_app names) words)
 IsParsedBy names words (Err e) = HasKind (faults_in names words) e
 
 -- the result of parsing the arguments `words` is right by the grammar, wherever in memory its names of variants are
 abbrev pub IsParsed : List Text → Result ArgMatches Error → Type 0
-IsParsed words result = (names : Lent) × AreVariants names × IsParsedBy names words result
+IsParsed words result = (names : VariantNames) × AreVariants names × IsParsedBy names words result
 
 -- the text is the name of a subcommand: `session`, `verify`, `stub` or `match`
 abbrev pub IsCommand : Text → Type 0

@@ -12,7 +12,7 @@ use Rattle.clap.specs.declared.builder.value_parser.ValueParser.TheVariants as v
 use Rattle.clap.specs.declared.error.kind.ErrorKind.TheVariants as kind
 use Rattle.clap.proofs.ValueTestLemmas.{Accepts-accepts}
 use Rattle.clap.proofs.WalkLemmas.{list_any-map}
-use Rattle.arbiter_grammar.specs.Grammar.{AreVariants, Lent, match_app, stub_app, verify_app}
+use Rattle.arbiter_grammar.specs.Grammar.{AreVariants, VariantNames, match_app, stub_app, verify_app}
 use Rattle.arbiter_laws.specs.PlainArguments.{Given, IsGames, IsOfMatch, IsOfVerify, IsVariant, flag, has_hyphen, valued}
 use Rattle.arbiter_laws.proofs.PlainWalk.{IsFlag, Known, TakesValue}
 
@@ -31,7 +31,7 @@ verify_shape = built_shape (codes "verify") verify_app.top.rules
 abbrev pub stub_shape : Shape
 stub_shape = built_shape (codes "stub") stub_app.top.rules
 
-abbrev pub match_shape : Lent → Shape
+abbrev pub match_shape : VariantNames → Shape
 match_shape names = built_shape (codes "match") (match_app names).top.rules
 
 -- ---- verify
@@ -70,7 +70,7 @@ variant_named text (inl e) =
 variant_named text (inr e) =
     subst (λ t. list_any (is_text t) (codes "normal" ∷ codes "fischerandom" ∷ []) ≡ true) (sym e) refl
 
-module _ (names : Lent) (text : Text) (plain : has_hyphen text ≡ false) where
+module _ (names : VariantNames) (text : Text) (plain : has_hyphen text ≡ false) where
   white : TakesValue (match_shape names) (codes "white") text
   unfolding walked
   white = record {
@@ -151,11 +151,11 @@ module _ (names : Lent) (text : Text) (plain : has_hyphen text ≡ false) where
         ∙ ap (list_any (is_text text)) are ∙ variant_named text is);
   }
 
-log : (names : Lent) → IsFlag (match_shape names) (codes "log")
+log : (names : VariantNames) → IsFlag (match_shape names) (codes "log")
 unfolding walked
 log names = record { first = λ rows p. refl; first_fault = λ rows p. refl }
 
-pub of_match : (names : Lent) → AreVariants names → (g : Given) → IsOfMatch g → Known (match_shape names) g
+pub of_match : (names : VariantNames) → AreVariants names → (g : Given) → IsOfMatch g → Known (match_shape names) g
 of_match names are (flag name) e = subst (IsFlag (match_shape names)) (sym e) (log names)
 of_match names are (valued name text) (plain, inl e) =
     subst (λ n. TakesValue (match_shape names) n text) (sym e) (white names text plain)

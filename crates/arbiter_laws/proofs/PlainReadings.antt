@@ -10,7 +10,7 @@ use Rattle.clap.specs.Simple.{App, Shape, built, entered, label_of, names_of, ro
 use Rattle.clap.specs.Walk.{Walk, answers_to, finished, nothing_held, rows_after, settled, walk, walk_from, walked}
 use Rattle.clap.proofs.FaultLemmas.{stopped_fault}
 use Rattle.clap.proofs.WalkLemmas.{walk_stopped}
-use Rattle.arbiter_grammar.specs.Grammar.{AreVariants, Lent, arbiter_app, asked, faults_in}
+use Rattle.arbiter_grammar.specs.Grammar.{AreVariants, VariantNames, arbiter_app, asked, faults_in}
 use Rattle.chess_base.specs.declared.man.Variant.{Variant}
 use Rattle.chess_base.specs.declared.fen_fault.FenFault.{FenFault}
 use Rattle.chess_base.specs.declared.setup.Setup.{Setup}
@@ -38,7 +38,7 @@ shorter xs ys lt e = let same : length xs ≡ length ys = ap length e in absurd 
 
 -- ---- the first argument names the subcommand
 
-abbrev whole : Lent → App
+abbrev whole : VariantNames → App
 whole names = built (arbiter_app names)
 
 abbrev with_name : Text → List Row → Text × List Row
@@ -47,7 +47,7 @@ with_name name rows = (name, rows)
 abbrev stopped_at : Text → List Text → Walk
 stopped_at command rest = record (walk_from nothing_held) { stopped = Some (command, rest) }
 
-module _ (names : Lent) (command : Text) (s : Shape) (rest : List Text)
+module _ (names : VariantNames) (command : Text) (s : Shape) (rest : List Text)
     (stops : walked (whole names).top.rules (names_of (whole names)) (walk_from nothing_held) command
     ≡ stopped_at command [])
     (turns : turn_fault (whole names).top (names_of (whole names)) (walk_from nothing_held) command ≡ [])
@@ -148,7 +148,7 @@ read_alike a b s (Err BadDate) is =
     (sym s.command ∙ is.0, sym (same_start a.value b.value (s.on_match is.0)) ∙ is.1)
 
 -- arguments without a fault are read as what they say by the grammar
-read_as_asked : (names : Lent) (arguments : List Text) → faults_in names arguments ≡ [] → (r : Result Plan WordsFault)
+read_as_asked : (names : VariantNames) (arguments : List Text) → faults_in names arguments ≡ [] → (r : Result Plan WordsFault)
     → IsReadBy names arguments r → IsReadAs (said_by (asked names arguments)) r
 read_as_asked names arguments none (Ok plan) is = is.1
 read_as_asked names arguments none (Err (Words e)) among = subst (IsAmong (kind_of e)) none among
@@ -159,7 +159,7 @@ read_as_asked names arguments none (Err BadDate) is = is.1
 
 -- ---- each kind of line
 
-record SaysIt (names : Lent) (line : CommandLine) : Type 0 where
+record SaysIt (names : VariantNames) (line : CommandLine) : Type 0 where
   passes : faults_in names (arguments_of line) ≡ []
   says : SaysTheSame (said_by (asked names (arguments_of line))) (said_in line)
 
@@ -206,7 +206,7 @@ verify_alike options =
     ∙ ap₂ (plan_with (is_set (codes "keep-going") (values_in options)) (is_set (codes "quiet") (values_in options)))
     (alike (codes "strict") refl) (alike (codes "explain") refl)
 
-match_alike : (names : Lent) (options : List Given)
+match_alike : (names : VariantNames) (options : List Given)
     → Agrees (matched (rows_of_given (match_shape names) options)) (values_in options)
 match_alike names options =
     let alike = value_alike (match_shape names) options in
@@ -248,7 +248,7 @@ of_match_only a b e f same = record {
   on_match = λ is. same;
 }
 
-says_it : (names : Lent) → AreVariants names → (line : CommandLine) → IsPlain line → SaysIt names line
+says_it : (names : VariantNames) → AreVariants names → (line : CommandLine) → IsPlain line → SaysIt names line
 unfolding walked
 says_it names are empty plain = record {
   passes = literals.none_asked.taken names;

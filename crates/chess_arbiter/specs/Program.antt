@@ -98,10 +98,10 @@ WritesHelp w w' status =
     × (((o ≡ all_of text) × (status ≡ 0)) ⊎ (BreaksOffIn [] text o × (status ≡ 1))))
     ⊎ ((w' ≡ w) × (status ≡ 1))
 
--- what is done with a fault of this kind of `clap`, the parser of arguments. `w` and `w'` are the output before and
--- after; `status` is the exit status
+-- what is done with an error of `clap`, the parser of arguments, that has this kind. `w` and `w'` are the output before
+-- and after; `status` is the exit status
 abbrev pub ReportsKind : ErrorKind → OutputState → OutputState → ℕ → Type 0
--- `clap` counts it among the faults if the arguments ask for help or for the version: these are written to the output
+-- arguments that ask for help or for the version, which `clap` counts among the errors: the text asked for is written
 ReportsKind DisplayHelp w w' status = WritesHelp w w' status
 ReportsKind DisplayVersion w w' status = WritesHelp w w' status
 -- any other kind: the output stays as it is, and the status is 2
@@ -110,6 +110,7 @@ ReportsKind _ w w' status = (w' ≡ w) × (status ≡ 2)
 -- what is done with arguments for which there is no plan, by the fault that says why. `w` and `w'` are the output
 -- before and after; `status` is the exit status. What is written to the error output is not said here
 abbrev pub ReportsArguments : WordsFault → OutputState → OutputState → ℕ → Type 0
+-- an error of `clap`, by its kind
 ReportsArguments (faults.Words e) w w' status = ReportsKind (kind_of e) w w' status
 -- memory ran out: the output stays as it is, and the status is 1
 ReportsArguments faults.NoMemory w w' status = (w' ≡ w) × (status ≡ 1)

@@ -107,8 +107,8 @@ unfoldable pub is_castling_to : Setup → Move → CastlingSide → Bool
 is_castling_to p m w = is_man p.side King (man_at p.men m.from)
     && option_map_or (names_castling_with p.variant p.side m w) (right_of p.rights p.side w) false
 
--- the side to which move m is written as castling, legal or not; none if m is not castling. If both rights have one
--- rook (in Chess960, and in no sound position), it is king side
+-- the side to which move m is written as castling, legal or not; none if m is not castling. If both rights have
+-- the same rook (in Chess960, and in no sound position), it is king side
 unfoldable pub castling : Setup → Move → Option CastlingSide
 castling p m =
     if is_castling_to p m KingSide then Some KingSide

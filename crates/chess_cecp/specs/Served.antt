@@ -30,8 +30,9 @@ AnswersAll respond s s' ends i o =
 -- the lines that were read are `before`, `line` and `after`, and a write or a flush failed in the answer to `line`. The
 -- server `respond` ends with none of `before`, and the answers to these were written and flushed. Of the answer to
 -- `line` a beginning was written and not flushed; it may be empty or the whole answer. The lines `after` were not
--- answered. `before` has at least as many lines as `early_lines`, which are the first of those read. `s` is the
--- server's state at the start; `s'`, at the end, is the one after `line`
+-- answered. Each line that was complete before the last successful read (`early_lines`) is among `before`: once `line`
+-- was complete, nothing more was read before its answer. `s` is the server's state at the start; `s'`, at the end, is
+-- the one after `line`
 abbrev pub AnswersSome : {S : Type 0} → Server S → S → S → FromInput → ToOutput → Type 0
 AnswersSome respond s s' i o =
     (before : List LineSeen) × (line : LineSeen) × (after : List LineSeen) × (lines_read i ≡ before ++ line ∷ after)

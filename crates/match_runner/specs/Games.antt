@@ -85,7 +85,7 @@ IsOfPlan plan played = (played.before.game.limit ≡ MOST_MOVES)
 abbrev pub game_text : GamesPlan → ℕ → GameRecord → List ℕ
 game_text plan number played = pgn [] (tags_of plan number played.end) played.after.game.state
 
--- the fault is one of starting the engines with the commands `one` and `other`: it says that an engine with one of
+-- the fault is one of starting the engines with the commands `first` and `second`: it says that an engine with one of
 -- these commands could not be started, or that there was no memory
 abbrev pub IsStartFault : List ℕ → List ℕ → GamesFault → Type 0
 IsStartFault first second (CanNotStart command) = (command.now ≡ first) ⊎ (command.now ≡ second)
