@@ -4,7 +4,6 @@ mod Rays
 mod Reaches
 mod Knights
 mod CountedWrites
-mod KingChecks
 mod CastlingChange
 mod CastlingNamed
 mod StaysSound
