@@ -44,17 +44,12 @@ abbrev pub from_edge : Colour → CastlingSide → List ℕ
 from_edge c KingSide = map (home_square c) (7 ∷ 6 ∷ 5 ∷ 4 ∷ 3 ∷ 2 ∷ 1 ∷ 0 ∷ [])
 from_edge c QueenSide = map (home_square c) (0 ∷ 1 ∷ 2 ∷ 3 ∷ 4 ∷ 5 ∷ 6 ∷ 7 ∷ [])
 
--- square s is nearer to the a-file than the king's square; false if there is no king (`None`). Both are to be on one
--- rank, which is not tested
-abbrev pub is_left_of : Option ℕ → ℕ → Bool
-is_left_of king s = option_map_or (λ k. nat_lt s k) king false
-
--- square s is on that side of the king: on the queen's side if it is nearer to the a-file than the king's square
--- (`is_left_of`); else on the king's side, as is even the king's own square, and each square if there is no king
--- (`None`)
+-- square s is on that side of the king, whose square is `king`; both are on one rank, which is not tested. Queen side:
+-- s is left of the king (nearer to the a-file). King side: it is not; so the king's own square is on the king side, and
+-- without a king (`None`) each square is
 abbrev pub is_towards : CastlingSide → Option ℕ → ℕ → Bool
-is_towards KingSide king s = not (is_left_of king s)
-is_towards QueenSide king s = is_left_of king s
+is_towards QueenSide king s = option_map_or (λ k. nat_lt s k) king false
+is_towards KingSide king s = not (option_map_or (λ k. nat_lt s k) king false)
 
 -- the letter names colour c's right on side w: it is c's letter of that side (K or Q, k or q), or c's letter (A to H, a
 -- to h) of a file on that side of c's king

@@ -3,7 +3,7 @@
 ghost use Rattle.std.specs.Prelude.{◌≡◌, ◌<◌, [], None, codes};
 ghost use Rattle.std.specs.List.{list_all};
 ghost use Rattle.chess_fen.specs.Texts.{occurs, times, may_name_right, are_right_letters, first_letter, names_file};
-ghost use Rattle.chess_fen.specs.RightNames.{side_letter, right_letter, right_named, is_left_of, is_towards};
+ghost use Rattle.chess_fen.specs.RightNames.{side_letter, right_letter, right_named, is_towards};
 ghost use Rattle.chess_fen.specs.ties.Loops.{edge_file};
 ghost use Rattle.chess_fen.specs.ties.Reader.{names_once, nowhere, outer_rook, named_square, one_or_nowhere, right_after_letters, right_by_letters};
 ghost use Rattle.chess_base.specs.Castling.{home_square, rook_file, rights_by};
@@ -157,24 +157,18 @@ fn outer_rook(men: &[Option<Man>; 64], colour: Colour, castling_side: CastlingSi
     nowhere()
 }
 
-// For squares on one rank, whether s is nearer to the a-file than the king; false if there is no king.
-fn is_left_of(king: Option<Square>, s: Square) -> bool
-    ensures { result ≡ is_left_of king s }
-{
-    match king {
-        None => false,
-        Some(k) => s.number() < k.number(),
-    }
-}
-
-// Whether square `s` is on that side of the king, both on one rank: nearer to the a-file than he is for the queen's
-// side, else for the king's.
+// Whether square `s` is on that side of the king, both on one rank: on the queen's side if it is nearer to the a-file
+// than he is, else on the king's, where each square is without a king.
 fn is_towards(castling_side: CastlingSide, king: Option<Square>, s: Square) -> bool
     ensures { result ≡ is_towards castling_side king s }
 {
+    let is_left = match king {
+        None => false,
+        Some(k) => s.number() < k.number(),
+    };
     match castling_side {
-        CastlingSide::KingSide => !is_left_of(king, s),
-        CastlingSide::QueenSide => is_left_of(king, s),
+        CastlingSide::KingSide => !is_left,
+        CastlingSide::QueenSide => is_left,
     }
 }
 

@@ -12,7 +12,8 @@ use Rattle.cecp_engine.specs.Items.{Item, items_of, has_done, takes, plays_fisch
 use Rattle.cecp_engine.specs.Levels.{time_left}
 use Rattle.chess_match.specs.Events.{Event, Line, Opened, OutputEnds, FailsToRead, FailsToWrite, Seat}
 use Rattle.chess_match.specs.Reasons.{outcome_by_reason, comment_of}
-use Rattle.chess_match.specs.Rules.{Rules, is_fischerandom}
+use Rattle.chess_match.specs.Rules.{Rules}
+use Rattle.chess_text.specs.San.{is_fischerandom}
 use Rattle.chess_base.specs.Options.{list_if}
 use Rattle.chess_match.specs.Lines.{SentLine, Says, MoveSent, Time, Otim, answers_to, setup_lines, ping}
 use Rattle.chess_match.specs.Reasons.{is_write_fault_of}

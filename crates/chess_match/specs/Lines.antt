@@ -5,7 +5,8 @@ use Rattle.chess_base.specs.Letters.{new_line}
 use Rattle.chess_base.specs.Options.{list_if}
 use Rattle.cecp_engine.specs.Items.{Item, is_known}
 use Rattle.cecp_engine.specs.Levels.{level_text}
-use Rattle.chess_match.specs.Rules.{Rules, is_fischerandom}
+use Rattle.chess_match.specs.Rules.{Rules}
+use Rattle.chess_text.specs.San.{is_fischerandom}
 use Rattle.chess_base.specs.declared.man.Variant.{Variant}
 
 -- a line that is sent to an engine

@@ -15,12 +15,11 @@ use Rattle.chess_game.specs.Line.{position_after}
 use Rattle.chess_game.specs.declared.verdicts.DrawClaim.{DrawClaim}
 use Rattle.chess_game.specs.declared.verdicts.Verdict.{Verdict}
 use Rattle.chess_text.specs.Moves.{reading}
-use Rattle.chess_text.specs.San.{san, shown_move}
+use Rattle.chess_text.specs.San.{is_fischerandom, san, shown_move}
 use Rattle.chess_text.specs.declared.reading.Reading.{Reading}
 use Rattle.chess_text.specs.declared.reading.Reading.TheVariants as reads
 use Rattle.cecp_engine.specs.Levels.{LevelSeen}
 use Rattle.chess_base.specs.declared.man.Variant.{Variant}
-use Rattle.chess_base.specs.declared.man.Variant.TheVariants.{Normal, Fischerandom}
 
 -- what a match needs to know of its game: first what is fixed when it begins, then functions of the moves played so
 -- far, from which alone a match learns what moves mean. The type allows any values; the comments describe those that
@@ -69,11 +68,6 @@ is_king_or_other c man = option_map_or (λ (x : Man). not (same_colour x.colour 
 -- whether the side `c` has no piece but its king; `men` are the 64 squares. That it has a king is not tested here
 unfoldable pub has_bare_king : Colour → Men → Bool
 has_bare_king c men = list_all (is_king_or_other c) men
-
--- whether a variant is Chess960
-abbrev pub is_fischerandom : Variant → Bool
-is_fischerandom Normal = false
-is_fischerandom Fischerandom = true
 
 -- the FEN that `setboard` sends to the engines for this start; `None` for the initial position of normal chess, which
 -- `new` sets up. In Chess960 one is always sent

@@ -1,7 +1,7 @@
 -- On positions of normal chess the texts are those of normal chess.
 use Rattle.std.proofs.Common.{◌≡◌, ℕ, Bool, not, ◌&&◌, ◌==◌, List, ◌++◌, length, map, filter, codes, Option, Some, None, refl, ap, ◌∙◌, if◌then◌else◌}
 use Rattle.std.proofs.Math.Path.{fun_ext}
-use Rattle.std.specs.Option.{option_map}
+use Rattle.std.specs.Option.{option_map, option_map_or}
 use Rattle.chess_base.specs.declared.man.CastlingSide.{CastlingSide}
 use Rattle.chess_base.specs.declared.man.Man.{Man}
 use Rattle.chess_base.specs.declared.man.Move.{Move}
@@ -19,7 +19,7 @@ use Rattle.chess_text.specs.declared.described.Described.{Described}
 use Rattle.chess_text.specs.declared.reading.Reading.TheVariants.{NotAMove}
 use Rattle.chess_text.specs.Moves.{described, captures, passes, shape, denotes, denotes_described, one_of, reading}
 use Rattle.chess_base.specs.Options.{list_if}
-use Rattle.chess_text.specs.San.{is_rival, rival_starts, check_mark, san, unmarked_san, shown_as, shown_move}
+use Rattle.chess_text.specs.San.{is_rival, rival_starts, check_mark, san, unmarked_san, castling_text, is_fischerandom, shown_move}
 use Rattle.chess_text.specs.laws.Normal.{NormalIsKept, normal_moves, normal_described, normal_denotes, normal_reading, normal_is_rival, normal_rival_starts, normal_check_mark, normal_san}
 
 pub moves_kept : (p : Setup) → p.variant ≡ Normal → moves p ≡ normal_moves p
@@ -101,7 +101,8 @@ san_kept p e m =
 
 shown_kept : (p : Setup) → p.variant ≡ Normal → (m : Move) → shown_move p m ≡ coordinate m
 unfolding shown_move
-shown_kept p e m = ap (λ v. shown_as v (castling p m) m) e
+shown_kept p e m =
+    ap (λ v. if is_fischerandom v then option_map_or castling_text (castling p m) (coordinate m) else coordinate m) e
 
 pub normal_kept : (p : Setup) → p.variant ≡ Normal → NormalIsKept p
 normal_kept p e = record {

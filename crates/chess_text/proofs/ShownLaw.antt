@@ -1,6 +1,7 @@
 -- The text of a legal move as lists and lines of moves show it denotes it alone.
 use Rattle.std.proofs.Common.{◌≡◌, Option, Some, None, refl}
-use Rattle.std.specs.Prelude.{IsTrue}
+use Rattle.std.specs.Prelude.{IsTrue, if◌then◌else◌}
+use Rattle.std.specs.Option.{option_map_or}
 use Rattle.chess_base.specs.declared.man.CastlingSide.{CastlingSide}
 use Rattle.chess_base.specs.declared.man.Move.{Move}
 use Rattle.chess_base.specs.declared.man.Variant.{Variant}
@@ -13,7 +14,7 @@ use Rattle.chess_base.specs.Sound.{IsSound}
 use Rattle.chess_text.specs.declared.reading.Reading.TheVariants as reads
 use Rattle.chess_text.specs.laws.Laws.{DenotesAlone}
 use Rattle.chess_text.specs.Moves.{shape, reading}
-use Rattle.chess_text.specs.San.{castling_text, shown_as, shown_move}
+use Rattle.chess_text.specs.San.{castling_text, is_fischerandom, shown_move}
 use Rattle.chess_text.proofs.OneMoveFits.{read_alone}
 use Rattle.chess_text.proofs.CoordinateLaw.{coordinate_alone, coordinate_shape}
 use Rattle.chess_text.proofs.Legal.{legal_move}
@@ -24,7 +25,8 @@ by_squares : (p : Setup) (m : Move) → IsTrue (is_legal p m) → Law p m (coord
 by_squares p m legal = record { has_shape = coordinate_shape p m legal; alone = coordinate_alone p m legal }
 
 law_by : (p : Setup) (m : Move) → IsSound p → IsTrue (is_legal p m) → (v : Variant) (o : Option CastlingSide)
-    → castling p m ≡ o → Law p m (shown_as v o m)
+    → castling p m ≡ o
+    → Law p m (if is_fischerandom v then option_map_or castling_text o (coordinate m) else coordinate m)
 law_by p m sound legal Normal o e = by_squares p m legal
 law_by p m sound legal Fischerandom None e = by_squares p m legal
 law_by p m sound legal Fischerandom (Some w) e = castling_law p m (castling_text w) w sound (legal_move p m legal) e

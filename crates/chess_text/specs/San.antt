@@ -2,7 +2,7 @@
 -- move is for a capture its file and `x`, the end square, and for a promotion `=` and a letter; another piece's its
 -- letter, what distinguishes its start square from those of its rivals, `x` for a capture, and the end square. Last
 -- comes `#` for mate, else `+` for check.
-use Rattle.std.specs.Prelude.{ℕ, Bool, not, ◌&&◌, ◌==◌, if◌then◌else◌, List, [], ◌∷◌, ◌++◌, length, map, Option, codes}
+use Rattle.std.specs.Prelude.{ℕ, Bool, true, false, not, ◌&&◌, ◌==◌, if◌then◌else◌, List, [], ◌∷◌, ◌++◌, length, map, Option, codes}
 use Rattle.std.specs.List.{list_any, filter}
 use Rattle.std.specs.Option.{option_map_or}
 use Rattle.chess_base.specs.declared.man.CastlingSide.{CastlingSide}
@@ -72,12 +72,12 @@ check_mark p = list_if (is_in_check p.men p.side) (if length (moves p) == 0 then
 unfoldable pub san : Setup → Move → List ℕ
 san p m = optional (λ d. unmarked_san (rival_starts p (moves p) d) d ++ check_mark (after p m)) (described p m)
 
--- the text of move m by its squares, as e2e4 or e7e8q, except that castling in Chess960 is O-O or O-O-O. `castles` is
--- the side to which m castles, `None` if it is not castling
-abbrev pub shown_as : Variant → Option CastlingSide → Move → List ℕ
-shown_as Normal castles m = coordinate m
-shown_as Fischerandom castles m = option_map_or castling_text castles (coordinate m)
+-- whether a variant is Chess960
+abbrev pub is_fischerandom : Variant → Bool
+is_fischerandom Normal = false
+is_fischerandom Fischerandom = true
 
--- the text of move m of position p by its squares, as e2e4, except that castling in Chess960 is O-O or O-O-O
+-- the text of move m of position p by its squares, as e2e4 or e7e8q, except that castling in Chess960 is O-O or O-O-O
 unfoldable pub shown_move : Setup → Move → List ℕ
-shown_move p m = shown_as p.variant (castling p m) m
+shown_move p m =
+    if is_fischerandom p.variant then option_map_or castling_text (castling p m) (coordinate m) else coordinate m
