@@ -6,13 +6,28 @@ ghost use Rattle.chess_base.specs.Letters.{space};
 ghost use Rattle.chess_fen.specs.Texts.{fields_of};
 ghost use Rattle.chess_fen.specs.ties.Fields.{FieldsAre};
 
+// The offset of a text's first byte that is no space, if there is one. It is apart from `skip_spaces` for the prover,
+// which wants one search with its test alone; `first_space` is apart for the same reason.
+fn first_other(text: &[u8]) -> Option<usize>
+    ensures { result ≡ position (λ b. not (b == space)) text.now }
+{
+    text.iter().position(|byte| *byte != b' ')
+}
+
+// The offset of a text's first space, if there is one.
+fn first_space(text: &[u8]) -> Option<usize>
+    ensures { result ≡ position (λ b. b == space) text.now }
+{
+    text.iter().position(|byte| *byte == b' ')
+}
+
 // The text from its first byte that is no space on.
 #[tactic(auto, using(crate::proofs::CutFields::place_or_len, crate::proofs::CutFields::place_le))]
 pub(crate) fn skip_spaces(text: &[u8]) -> &[u8]
     ensures { result.now ≡ drop (position_or_len (λ b. not (b == space)) text.now) text.now }
 {
-    let start = text.iter().position(|byte| *byte != b' ');
-    text.split_at(start.unwrap_or(text.len())).1
+    let start = first_other(text).unwrap_or(text.len());
+    text.split_at(start).1
 }
 
 // Splits a text before its first space: what is before it, and what begins with it. Without a space the second part is
@@ -22,8 +37,8 @@ fn split_before_space(text: &[u8]) -> (&[u8], &[u8])
     ensures front { result.0.now ≡ before_first (λ b. b == space) text.now }
     ensures back { result.1.now ≡ drop (position_or_len (λ b. b == space) text.now) text.now }
 {
-    let end = text.iter().position(|byte| *byte == b' ');
-    text.split_at(end.unwrap_or(text.len()))
+    let end = first_space(text).unwrap_or(text.len());
+    text.split_at(end)
 }
 
 // The next field, which is between spaces, and the text after it; none if only spaces are left.
