@@ -44,14 +44,12 @@ tag_name front = take_while is_name_byte (drop 1 front)
 
 -- what comes after the tag's name in the front of a line, and after any spaces and tabs that follow the name
 abbrev pub after_name : List ℕ → List ℕ
-after_name front =
-    let rest = drop (length (tag_name front)) (drop 1 front) in drop (prefix_len is_blank rest) rest
+after_name front = let rest = drop (length (tag_name front)) (drop 1 front) in drop (prefix_len is_blank rest) rest
 
 -- whether a line is a tag line: its front begins with `[`, a name of one byte or more, any spaces and tabs, and `"`
 abbrev pub is_tag_line : List ℕ → Bool
-is_tag_line line =
-    let front = front_of line in bytes_eq (take 1 front) (codes "[") && nat_lt 0 (length (tag_name front))
-    && bytes_eq (take 1 (after_name front)) (codes "\"")
+is_tag_line line = bytes_eq (take 1 (front_of line)) (codes "[") && nat_lt 0 (length (tag_name (front_of line)))
+    && bytes_eq (take 1 (after_name (front_of line))) (codes "\"")
 
 -- whether a line is a tag line of the tag Event
 abbrev pub is_event_line : List ℕ → Bool
@@ -59,9 +57,8 @@ is_event_line line = is_tag_line line && bytes_eq (tag_name (front_of line)) (co
 
 -- whether a line counts as empty: its front has nothing but spaces, tabs, `\r` and `\n`, or begins with `%` or `;`
 abbrev pub is_empty_line : List ℕ → Bool
-is_empty_line line =
-    let front = front_of line in bytes_eq (take 1 front) (codes "%") || bytes_eq (take 1 front) (codes ";")
-    || list_all is_white front
+is_empty_line line = bytes_eq (take 1 (front_of line)) (codes "%") || bytes_eq (take 1 (front_of line)) (codes ";")
+    || list_all is_white (front_of line)
 
 -- whether a line counts as one of moves: any line that is neither a tag line nor empty, so also one of a comment, or of
 -- a tag that `is_tag_line` doesn't take
