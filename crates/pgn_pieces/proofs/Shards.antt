@@ -5,8 +5,9 @@ use Rattle.std.specs.List.{onto_first, concat, list_any, list_all}
 use Rattle.std.specs.Str.{bytes_eq}
 use Rattle.std.proofs.lemmas.Bool.{and_left, or_left, eqb-true}
 use Rattle.std.proofs.lemmas.List.Folds.{list_any-append}
-use Rattle.pgn_pieces.specs.Pieces.{lines_of, front_of, tag_name, after_name, begins_tag, is_empty_front, is_tag_line, is_event_line, is_empty_line, is_moves_line, begins_piece}
+use Rattle.pgn_pieces.specs.Pieces.{lines_of, front_of, tag_name, after_name, is_tag_line, is_event_line, is_empty_line, is_moves_line, begins_piece}
 use Rattle.pgn_pieces.specs.ties.Cutting.{cut_lines, piece_of}
+use Rattle.pgn_pieces.specs.ties.Fronts.{begins_tag, is_empty_front}
 use Rattle.pgn_pieces.specs.laws.Shards.{ends_in_moves, begins_in_tag, ShardsAreCut}
 use Rattle.pgn_pieces.proofs.CutLines.{some_line, ends_here, begun, some_bytes, piece_of_some, cut_is}
 

@@ -5,7 +5,7 @@ use Rattle.std.specs.Io.KnownBytes.{Consumes, IsAtEnd}
 use Rattle.std.specs.List.{onto_first, take_while, prefix_len, list_any, list_all, concat}
 use Rattle.std.specs.Str.{bytes_eq}
 use Rattle.byte_devices.specs.Devices.{InputState, saturating_increment}
-use Rattle.pgn_pieces.specs.Places.{line_ends}
+use Rattle.pgn_pieces.specs.Places.{ends_line, line_ends}
 use Rattle.pgn_pieces.specs.declared.pieces.PieceFault.{PieceFault}
 use Rattle.pgn_pieces.specs.declared.pieces.PieceFault.TheVariants.{ReadFailed, NoMemory, InputTooLong}
 use Rattle.pgn_pieces.specs.declared.pieces.TheConstants.{PIECE_LEN}
@@ -15,7 +15,7 @@ use Rattle.pgn_pieces.specs.declared.pieces.TheConstants.{PIECE_LEN}
 -- the lines of a text, each with the `\n` that ends it; the last one may have none
 abbrev pub lines_of : List ℕ → List (List ℕ)
 lines_of [] = []
-lines_of (c ∷ cs) = if c == 10 then (c ∷ []) ∷ lines_of cs else onto_first c (lines_of cs)
+lines_of (c ∷ cs) = if ends_line c then (c ∷ []) ∷ lines_of cs else onto_first c (lines_of cs)
 
 -- a text without the byte order mark of UTF-8 (the bytes EF BB BF) at its front, if it has one there
 abbrev pub without_mark : List ℕ → List ℕ
@@ -35,7 +35,7 @@ is_blank c = (c == 32) || (c == 9)
 
 -- whether a byte is a space, a tab, `\r` or `\n`
 abbrev pub is_white : ℕ → Bool
-is_white c = is_blank c || (c == 13) || (c == 10)
+is_white c = is_blank c || (c == 13) || ends_line c
 
 -- the name of the tag with which the front of a line begins: the letters, digits and underscores after its first byte,
 -- which is to be `[` but is not tested here
@@ -44,34 +44,24 @@ tag_name front = take_while is_name_byte (drop 1 front)
 
 -- what comes after the tag's name in the front of a line, and after any spaces and tabs that follow the name
 abbrev pub after_name : List ℕ → List ℕ
-after_name front =
-    let rest = drop (length (tag_name front)) (drop 1 front) in drop (prefix_len is_blank rest) rest
+after_name front = let rest = drop (length (tag_name front)) (drop 1 front) in drop (prefix_len is_blank rest) rest
 
--- whether the front of a line begins with `[`, a name of one byte or more, any spaces and tabs, and `"`
-abbrev pub begins_tag : List ℕ → Bool
-begins_tag front = bytes_eq (take 1 front) (codes "[") && nat_lt 0 (length (tag_name front))
-    && bytes_eq (take 1 (after_name front)) (codes "\"")
-
--- whether a line with this front counts as empty: the front has nothing but spaces, tabs, `\r` and `\n`, or begins
--- with `%` or `;`
-abbrev pub is_empty_front : List ℕ → Bool
-is_empty_front front = bytes_eq (take 1 front) (codes "%") || bytes_eq (take 1 front) (codes ";")
-    || list_all is_white front
-
--- whether a line is a tag line: its front begins with `[`, a name, any spaces and tabs, and `"`
+-- whether a line is a tag line: its front begins with `[`, a name of one byte or more, any spaces and tabs, and `"`
 abbrev pub is_tag_line : List ℕ → Bool
-is_tag_line line = begins_tag (front_of line)
+is_tag_line line = bytes_eq (take 1 (front_of line)) (codes "[") && nat_lt 0 (length (tag_name (front_of line)))
+    && bytes_eq (take 1 (after_name (front_of line))) (codes "\"")
 
 -- whether a line is a tag line of the tag Event
 abbrev pub is_event_line : List ℕ → Bool
 is_event_line line = is_tag_line line && bytes_eq (tag_name (front_of line)) (codes "Event")
 
--- whether a line counts as empty: its front has only white space, or begins with `%` or `;`
+-- whether a line counts as empty: its front has nothing but spaces, tabs, `\r` and `\n`, or begins with `%` or `;`
 abbrev pub is_empty_line : List ℕ → Bool
-is_empty_line line = is_empty_front (front_of line)
+is_empty_line line = bytes_eq (take 1 (front_of line)) (codes "%") || bytes_eq (take 1 (front_of line)) (codes ";")
+    || list_all is_white (front_of line)
 
 -- whether a line counts as one of moves: any line that is neither a tag line nor empty, so also one of a comment, or of
--- a tag that `begins_tag` doesn't take
+-- a tag that `is_tag_line` doesn't take
 abbrev pub is_moves_line : List ℕ → Bool
 is_moves_line line = not (is_tag_line line || is_empty_line line)
 

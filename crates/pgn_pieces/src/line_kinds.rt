@@ -12,8 +12,9 @@
 ghost use Rattle.std.specs.Prelude.{◌≡◌, ◌≤◌, true, false, length, take, drop, codes};
 ghost use Rattle.std.specs.Str.{bytes_eq};
 ghost use Rattle.std.specs.List.{prefix_len, list_all};
-ghost use Rattle.pgn_pieces.specs.Pieces.{without_mark, front_of, after_name, is_name_byte, is_blank, is_white, tag_name, begins_tag, is_empty_front, is_tag_line, is_event_line, is_moves_line};
+ghost use Rattle.pgn_pieces.specs.Pieces.{without_mark, front_of, after_name, is_name_byte, is_blank, is_white, tag_name, is_tag_line, is_event_line, is_moves_line};
 ghost use Rattle.pgn_pieces.specs.Places.{line_ends};
+ghost use Rattle.pgn_pieces.specs.ties.Fronts.{begins_tag, is_empty_front};
 
 // How many of a line's first bytes decide its kind; the bytes after these are not looked at.
 pub(crate) const FRONT_LEN: usize = 256;

@@ -10,7 +10,7 @@ use Rattle.pgn_pieces.specs.declared.pieces.PieceFault.TheVariants.{ReadFailed, 
 use Rattle.pgn_pieces.specs.declared.pieces.TheConstants.{PIECE_LEN}
 use Rattle.pgn_pieces.specs.Pieces.{lines_of, is_tag_line, is_event_line, is_moves_line, begins_piece, cut}
 use Rattle.pgn_pieces.specs.ties.Cutting.{cut_lines, piece_of}
-use Rattle.pgn_pieces.specs.Places.{line_ends}
+use Rattle.pgn_pieces.specs.Places.{ends_line, line_ends}
 use Rattle.pgn_pieces.specs.Stream.{State}
 
 -- the state s with the next `n` of the bytes that were read (`coming`) added to the current piece
@@ -20,7 +20,7 @@ passed n s =
 
 -- whether `\n` is among these bytes
 abbrev pub has_line_end : List ℕ → Bool
-has_line_end = list_any (λ c. c == 10)
+has_line_end = list_any ends_line
 
 -- ---- the lines of a piece
 
