@@ -112,19 +112,12 @@ too_long_explained beginning = record { offset = 0; text = shown beginning; posi
 abbrev pub optional_part : Option (List ℕ) → List ℕ
 optional_part text = option_map_or (λ t. codes " | " ++ t) text []
 
--- the rest of the line after the column's number and a space: the text of the wrong part, the FEN of the position, and
--- the reason
-abbrev pub explanation_text : Explanation → List ℕ
-explanation_text e = e.text ++ (optional_part (option_map fen e.position) ++ (optional_part e.reason ++ new_line ∷ []))
-
--- the line that explains a fault whose wrong part begins on this line of the input and in this column, both counted
--- from 1, such as `# line 2 column 4 Ke3 | ` and a FEN
-unfoldable pub explanation_at : ℕ → ℕ → Explanation → List ℕ
-explanation_at line column e = codes "# line " ++ (decimal line ++ (codes " column " ++ (decimal column
-    ++ (codes " " ++ explanation_text e))))
-
--- the line that explains a fault at this offset of the input; the line and column in it are those of the wrong part,
--- which begins `e.offset` bytes later
-abbrev pub explanation_line : List ℕ → ℕ → Explanation → List ℕ
+-- the line that explains a fault at this offset of the input, such as `# line 2 column 4 Ke3 | ` and a FEN: the wrong
+-- part's line and column, both counted from 1, and its text, then the FEN of the position and the reason, if any. The
+-- wrong part begins `e.offset` bytes after the fault's byte
+unfoldable pub explanation_line : List ℕ → ℕ → Explanation → List ℕ
 explanation_line input offset e =
-    explanation_at (line_of input (offset + e.offset)) (column_of input (offset + e.offset)) e
+    let begin = offset + e.offset in
+    codes "# line " ++ (decimal (line_of input begin) ++ (codes " column " ++ (decimal (column_of input begin)
+    ++ (codes " " ++ (e.text ++ (optional_part (option_map fen e.position) ++ (optional_part e.reason
+    ++ new_line ∷ [])))))))

@@ -59,9 +59,10 @@ pub record IsJudged (strict : Bool) (text : List ℕ) (at : ℕ) (s : State)
     (answer : Result (Option PgnEnd) GameFault) : Type 0 where
   pub tokens : List (ℕ × Token)
   pub split : IsSplit text (after_byte_order_mark text at) tokens
-  pub game : s ≡ (read_of_split MOST_MOVES (length text) tokens).state
-  pub is : answer ≡ judged strict (result_tag_of (length text) tokens) (verdict_now s)
-      (read_of_split MOST_MOVES (length text) tokens).answer
+  -- how reading the game ended
+  pub ended : Result (Option PgnEnd) PgnFault
+  pub read : read_of_split MOST_MOVES (length text) tokens ≡ record { state = s; answer = ended }
+  pub is : answer ≡ judged strict (result_tag_of (length text) tokens) (verdict_now s) ended
 
 -- ---- names
 
