@@ -10,7 +10,6 @@ use Rattle.chess_game.specs.Game.{State, current, verdict_now}
 use Rattle.chess_game.specs.Results.{outcome_text}
 use Rattle.chess_game.specs.declared.verdicts.Verdict.{Verdict}
 use Rattle.chess_pgn.specs.Tokens.{is_white_space}
-use Rattle.chess_pgn.specs.declared.read.PgnFaultKind.{PgnFaultKind}
 use Rattle.chess_pgn.specs.declared.read.PgnFaultKind.TheVariants.{BadTag, BadFen, BadToken, AfterEnd}
 use Rattle.pgn_pieces.specs.Places.{line_of, column_of}
 use Rattle.pgn_verifier.specs.declared.game_fault.FaultKind.{FaultKind}
@@ -51,27 +50,23 @@ shown_part _ text = shown text
 
 -- ---- the reason
 
--- the reason for a fault of reading a game's text: what a bad tag lacks, what is wrong with a bad FEN or token, or for
--- a move after the end the verdict that ended the game; `None` for the other kinds. `text` is the text from the fault's
--- byte on, and `verdict` is the board's where reading stopped
-abbrev pub pgn_reason : PgnFaultKind → List ℕ → Option Verdict → Option (List ℕ)
-pgn_reason BadTag text verdict = Some (tag_reason (drop 1 text))
-pgn_reason (BadFen fault) text verdict = Some (fen_fault_name fault)
-pgn_reason BadToken text verdict = Some (token_reason text)
-pgn_reason AfterEnd text verdict = option_map verdict_result verdict
-pgn_reason _ text verdict = None
-
 -- the reason for a fault, or `None` if none is given. `text` is the text from the fault's byte on, and `verdict` is the
 -- board's where reading stopped
 abbrev pub reason : FaultKind → List ℕ → Option Verdict → Option (List ℕ)
--- a fault of reading the game's text
-reason (Pgn kind) text verdict = pgn_reason kind text verdict
+-- what a bad tag lacks, and what is wrong with a bad FEN or token
+reason (Pgn BadTag) text verdict = Some (tag_reason (drop 1 text))
+reason (Pgn (BadFen fault)) text verdict = Some (fen_fault_name fault)
+reason (Pgn BadToken) text verdict = Some (token_reason text)
+-- a move after the end: the verdict that ended the game
+reason (Pgn AfterEnd) text verdict = option_map verdict_result verdict
 -- `result differs`: the first word of the tag Result, which has `tag_len` bytes between its quotes, and the outcome of
 -- the game's outcome mark, as in `Result 1-0, ended 0-1`
 reason (ResultDiffers tag_len outcome) text verdict =
     Some (codes "Result " ++ (shown (take tag_len text) ++ (codes ", ended " ++ outcome_text outcome)))
 -- `board says otherwise`: the board's verdict
 reason BoardSaysOtherwise text verdict = option_map verdict_result verdict
+-- any other fault
+reason _ text verdict = None
 
 -- ---- the explanation
 
