@@ -1,11 +1,12 @@
 -- The reports that are made one after another are those of the definitions, and no others are.
-use Rattle.std.proofs.Common.{◌≡◌, ℕ, zero, suc, ◌+◌, ◌<◌, ◌≤◌, Bool, List, [], ◌∷◌, ◌++◌, length, map, drop, Option, Some, None, IfSome, Result, Ok, Err, IfOk, refl, sym, ap, subst, ◌∙◌, arith}
-use Rattle.std.specs.List.{AllZip, flat_map}
+use Rattle.std.proofs.Common.{◌≡◌, ℕ, zero, suc, ◌+◌, ◌<◌, ◌≤◌, Bool, List, [], ◌∷◌, ◌++◌, length, drop, Option, Some, None, IfSome, IfNone, Result, Ok, Err, IfOk, refl, sym, ap, subst, ◌∙◌, arith}
+use Rattle.std.proofs.Math.Path.{fun_ext}
+use Rattle.std.specs.List.{flat_map}
 use Rattle.std.specs.Option.{option_map_or}
 use Rattle.chess_game.specs.Game.{State, verdict_now}
 use Rattle.chess_game.specs.declared.game.TheConstants.{MOST_MOVES}
 use Rattle.chess_game.specs.declared.verdicts.Verdict.{Verdict}
-use Rattle.chess_pgn.specs.GameRead.{pgn_read, read_of_split}
+use Rattle.chess_pgn.specs.GameRead.{GameRead, pgn_read, read_of_split}
 use Rattle.chess_pgn.specs.LastTags.{result_tag_of}
 use Rattle.chess_pgn.specs.Tokens.{Token, after_byte_order_mark, tokens_from}
 use Rattle.chess_pgn.specs.declared.read.PgnEnd.{PgnEnd}
@@ -17,7 +18,7 @@ use Rattle.pgn_pieces.specs.Pieces.{Piece, pieces}
 use Rattle.pgn_verifier.specs.Collection.{AreCollectionReports}
 use Rattle.pgn_verifier.specs.Explanations.{explained}
 use Rattle.pgn_verifier.specs.GameFaults.{contradiction, judged, IsJudged}
-use Rattle.pgn_verifier.specs.Reports.{Report, Game, Faulty, AreReports, none_left, next_game, last_fault, too_long_report, AreReportsOn, AreReportsIn}
+use Rattle.pgn_verifier.specs.Reports.{Report, Game, Faulty, AreReports, none_left, next_game, last_fault, too_long_report, AreReportsIn}
 use Rattle.pgn_verifier.specs.declared.game_fault.GameFault.{GameFault}
 use Rattle.pgn_verifier.specs.laws.Reported.{read_at, judged_at, report_then, reports_from, reports_on, reports_in, collection_reports}
 
@@ -29,7 +30,8 @@ unfolding pgn_read
 judged_is strict text at = record {
   tokens = tokens_from text (after_byte_order_mark text at);
   split = read_split text (after_byte_order_mark text at);
-  game = refl;
+  ended = (read_at text at).answer;
+  read = refl;
   is = refl;
 }
 
@@ -39,14 +41,11 @@ unfolding pgn_read
 only_judged strict text at s answer j =
     let all : List (ℕ × Token) = tokens_from text (after_byte_order_mark text at) in
     let same : j.tokens ≡ all = split_read text j.split in
-    let state : s ≡ (read_of_split MOST_MOVES (length text) all).state =
-    j.game ∙ ap (λ (ts : List (ℕ × Token)). (read_of_split MOST_MOVES (length text) ts).state) same in (
-      state,
+    let read = sym j.read ∙ ap (read_of_split MOST_MOVES (length text)) same in (
+      ap (λ (r : GameRead). r.state) read,
       j.is
-          ∙ ap (λ (ts : List (ℕ × Token)). judged strict (result_tag_of (length text) ts) (verdict_now s)
-          (read_of_split MOST_MOVES (length text) ts).answer) same
-          ∙ ap (λ (g : State). judged strict (result_tag_of (length text) all) (verdict_now g)
-          (read_of_split MOST_MOVES (length text) all).answer) state,
+          ∙ ap (λ (ts : List (ℕ × Token)). judged strict (result_tag_of (length text) ts) (verdict_now s) j.ended) same
+          ∙ ap (λ (r : GameRead). judged strict (result_tag_of (length text) all) (verdict_now r.state) r.answer) read,
     )
 
 -- ---- a text has no other reports
@@ -155,49 +154,29 @@ only_reports strict start text reports h = one_list (are_reports strict start te
 reports_are_in : (strict : Bool) (piece : Piece) → AreReportsIn strict piece (reports_in strict piece)
 reports_are_in strict piece = by_bytes piece.bytes
   where
-    by_bytes : (bytes : Option (List ℕ)) → AreReportsOn strict piece bytes
-        (option_map_or (reports_on strict piece.offset) bytes (too_long_report piece ∷ []))
-    by_bytes None = refl
-    by_bytes (Some text) = are_reports strict piece.offset text
+    by_bytes : (bytes : Option (List ℕ))
+        → let reports = option_map_or (reports_on strict piece.offset) bytes (too_long_report piece ∷ []) in
+        IfSome bytes (λ text. AreReports strict piece.offset text 0 reports)
+        × IfNone bytes (reports ≡ too_long_report piece ∷ [])
+    by_bytes None = (tt, refl)
+    by_bytes (Some text) = (are_reports strict piece.offset text, tt)
 
 only_reports_in : (strict : Bool) (piece : Piece) (reports : List Report) → AreReportsIn strict piece reports
     → reports ≡ reports_in strict piece
-only_reports_in strict piece reports h = by_bytes piece.bytes h
+only_reports_in strict piece reports h = by_bytes piece.bytes h.0 h.1
   where
-    by_bytes : (bytes : Option (List ℕ)) → AreReportsOn strict piece bytes reports
+    by_bytes : (bytes : Option (List ℕ)) → IfSome bytes (λ text. AreReports strict piece.offset text 0 reports)
+        → IfNone bytes (reports ≡ too_long_report piece ∷ [])
         → reports ≡ option_map_or (reports_on strict piece.offset) bytes (too_long_report piece ∷ [])
-    by_bytes None k = k
-    by_bytes (Some text) k = only_reports strict piece.offset text reports k
-
-each_piece : (strict : Bool) (ps : List Piece)
-    → AllZip (AreReportsIn strict) ps (map (reports_in strict) ps)
-each_piece strict [] = tt
-each_piece strict (p ∷ ps) = (reports_are_in strict p, each_piece strict ps)
-
-joined : (strict : Bool) (ps : List Piece) → flat_map (reports_in strict) ps
-    ≡ flat_map (λ part. part) (map (reports_in strict) ps)
-joined strict [] = refl
-joined strict (p ∷ ps) = ap (λ rest. reports_in strict p ++ rest) (joined strict ps)
-
-only_pieces : (strict : Bool) (ps : List Piece) (parts : List (List Report))
-    → AllZip (AreReportsIn strict) ps parts
-    → flat_map (λ part. part) parts ≡ flat_map (reports_in strict) ps
-only_pieces strict [] [] h = refl
-only_pieces strict [] (part ∷ parts) h = absurd h
-only_pieces strict (p ∷ ps) [] h = absurd h
-only_pieces strict (p ∷ ps) (part ∷ parts) h =
-    ap (λ first. first ++ flat_map (λ part. part) parts) (only_reports_in strict p part h.0)
-    ∙ ap (λ rest. reports_in strict p ++ rest) (only_pieces strict ps parts h.1)
+    by_bytes None h k = k
+    by_bytes (Some text) h k = only_reports strict piece.offset text reports h
 
 pub are_collection_reports : (strict ended : Bool) (text : List ℕ)
     → AreCollectionReports strict ended text (collection_reports strict ended text)
-are_collection_reports strict ended text = (
-  map (reports_in strict) (pieces ended text),
-  each_piece strict (pieces ended text),
-  joined strict (pieces ended text),
-)
+are_collection_reports strict ended text = (reports_in strict, reports_are_in strict, refl)
 
 pub only_collection_reports : (strict ended : Bool) (text : List ℕ) (reports : List Report)
     → AreCollectionReports strict ended text reports → reports ≡ collection_reports strict ended text
-only_collection_reports strict ended text reports (parts, each, is) =
-    is ∙ only_pieces strict (pieces ended text) parts each
+only_collection_reports strict ended text reports (by_piece, each, is) =
+    is ∙ ap (λ f. flat_map f (pieces ended text))
+    (fun_ext (λ piece. only_reports_in strict piece (by_piece piece) (each piece)))

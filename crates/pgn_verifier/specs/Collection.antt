@@ -1,9 +1,9 @@
 -- What verifying a collection reads and writes. The input is cut into pieces (`pieces`), each of which is verified as a
 -- text of its own; a piece that is too long is a fault. Nothing here depends on how the input is cut into reads.
 use Rattle.std.specs.Prelude.{◌≡◌, ◌≤◌, ◌^◌, ℕ, ◌+◌, Bool, true, false, if◌then◌else◌, List, [], ◌++◌, length, Result, Ok, Err}
-use Rattle.std.specs.List.{AllZip, flat_map}
+use Rattle.std.specs.List.{flat_map}
 use Rattle.byte_devices.specs.Transfers.{FromInput, ToOutput, IsWhole, IsCutOff, NoReadFailed, all_of, all_unflushed, BreaksOffIn}
-use Rattle.pgn_pieces.specs.Pieces.{pieces}
+use Rattle.pgn_pieces.specs.Pieces.{Piece, pieces}
 use Rattle.pgn_verifier.specs.declared.fault.VerifyFault.{VerifyFault}
 use Rattle.pgn_verifier.specs.declared.fault.VerifyFault.TheVariants.{ReadFailed, WriteFailed, NoMemory, InputTooLong}
 use Rattle.pgn_verifier.specs.declared.options.VerifyOptions.{VerifyOptions}
@@ -14,8 +14,8 @@ use Rattle.pgn_verifier.specs.Reports.{Report, AreReportsIn, report_lines, count
 -- text if the collection ends after it (`ended`), else on all but the last piece, which may be incomplete. `strict`: an
 -- outcome mark, such as `1-0`, that contradicts the tag Result or the board's verdict is a fault
 abbrev pub AreCollectionReports : Bool → Bool → List ℕ → List Report → Type 0
-AreCollectionReports strict ended text reports = (by_piece : List (List Report))
-    × AllZip (AreReportsIn strict) (pieces ended text) by_piece × (reports ≡ flat_map (λ part. part) by_piece)
+AreCollectionReports strict ended text reports = (by_piece : Piece → List Report)
+    × ((piece : Piece) → AreReportsIn strict piece (by_piece piece)) × (reports ≡ flat_map by_piece (pieces ended text))
 
 -- all that is written of a collection of which `text` was read, if its games have these reports: their lines, numbered
 -- from 1, and at the end the line of counts if the whole collection was read (`ended`)

@@ -10,7 +10,6 @@ use Rattle.chess_game.specs.Game.{State, current, verdict_now}
 use Rattle.chess_game.specs.Results.{outcome_text}
 use Rattle.chess_game.specs.declared.verdicts.Verdict.{Verdict}
 use Rattle.chess_pgn.specs.Tokens.{is_white_space}
-use Rattle.chess_pgn.specs.declared.read.PgnFaultKind.{PgnFaultKind}
 use Rattle.chess_pgn.specs.declared.read.PgnFaultKind.TheVariants.{BadTag, BadFen, BadToken, AfterEnd}
 use Rattle.pgn_pieces.specs.Places.{line_of, column_of}
 use Rattle.pgn_verifier.specs.declared.game_fault.FaultKind.{FaultKind}
@@ -51,27 +50,23 @@ shown_part _ text = shown text
 
 -- ---- the reason
 
--- the reason for a fault of reading a game's text: what a bad tag lacks, what is wrong with a bad FEN or token, or for
--- a move after the end the verdict that ended the game; `None` for the other kinds. `text` is the text from the fault's
--- byte on, and `verdict` is the board's where reading stopped
-abbrev pub pgn_reason : PgnFaultKind → List ℕ → Option Verdict → Option (List ℕ)
-pgn_reason BadTag text verdict = Some (tag_reason (drop 1 text))
-pgn_reason (BadFen fault) text verdict = Some (fen_fault_name fault)
-pgn_reason BadToken text verdict = Some (token_reason text)
-pgn_reason AfterEnd text verdict = option_map verdict_result verdict
-pgn_reason _ text verdict = None
-
 -- the reason for a fault, or `None` if none is given. `text` is the text from the fault's byte on, and `verdict` is the
 -- board's where reading stopped
 abbrev pub reason : FaultKind → List ℕ → Option Verdict → Option (List ℕ)
--- a fault of reading the game's text
-reason (Pgn kind) text verdict = pgn_reason kind text verdict
+-- what a bad tag lacks, and what is wrong with a bad FEN or token
+reason (Pgn BadTag) text verdict = Some (tag_reason (drop 1 text))
+reason (Pgn (BadFen fault)) text verdict = Some (fen_fault_name fault)
+reason (Pgn BadToken) text verdict = Some (token_reason text)
+-- a move after the end: the verdict that ended the game
+reason (Pgn AfterEnd) text verdict = option_map verdict_result verdict
 -- `result differs`: the first word of the tag Result, which has `tag_len` bytes between its quotes, and the outcome of
 -- the game's outcome mark, as in `Result 1-0, ended 0-1`
 reason (ResultDiffers tag_len outcome) text verdict =
     Some (codes "Result " ++ (shown (take tag_len text) ++ (codes ", ended " ++ outcome_text outcome)))
 -- `board says otherwise`: the board's verdict
 reason BoardSaysOtherwise text verdict = option_map verdict_result verdict
+-- any other fault
+reason _ text verdict = None
 
 -- ---- the explanation
 
@@ -112,19 +107,12 @@ too_long_explained beginning = record { offset = 0; text = shown beginning; posi
 abbrev pub optional_part : Option (List ℕ) → List ℕ
 optional_part text = option_map_or (λ t. codes " | " ++ t) text []
 
--- the rest of the line after the column's number and a space: the text of the wrong part, the FEN of the position, and
--- the reason
-abbrev pub explanation_text : Explanation → List ℕ
-explanation_text e = e.text ++ (optional_part (option_map fen e.position) ++ (optional_part e.reason ++ new_line ∷ []))
-
--- the line that explains a fault whose wrong part begins on this line of the input and in this column, both counted
--- from 1, such as `# line 2 column 4 Ke3 | ` and a FEN
-unfoldable pub explanation_at : ℕ → ℕ → Explanation → List ℕ
-explanation_at line column e = codes "# line " ++ (decimal line ++ (codes " column " ++ (decimal column
-    ++ (codes " " ++ explanation_text e))))
-
--- the line that explains a fault at this offset of the input; the line and column in it are those of the wrong part,
--- which begins `e.offset` bytes later
-abbrev pub explanation_line : List ℕ → ℕ → Explanation → List ℕ
+-- the line that explains a fault at this offset of the input, such as `# line 2 column 4 Ke3 | ` and a FEN: the wrong
+-- part's line and column, both counted from 1, and its text, then the FEN of the position and the reason, if any. The
+-- wrong part begins `e.offset` bytes after the fault's byte
+unfoldable pub explanation_line : List ℕ → ℕ → Explanation → List ℕ
 explanation_line input offset e =
-    explanation_at (line_of input (offset + e.offset)) (column_of input (offset + e.offset)) e
+    let begin = offset + e.offset in
+    codes "# line " ++ (decimal (line_of input begin) ++ (codes " column " ++ (decimal (column_of input begin)
+    ++ (codes " " ++ (e.text ++ (optional_part (option_map fen e.position) ++ (optional_part e.reason
+    ++ new_line ∷ [])))))))

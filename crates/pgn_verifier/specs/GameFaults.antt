@@ -11,7 +11,6 @@ use Rattle.chess_pgn.specs.Split.{IsSplit}
 use Rattle.chess_pgn.specs.Tokens.{Token, after_byte_order_mark}
 use Rattle.chess_pgn.specs.declared.read.PgnEnd.{PgnEnd}
 use Rattle.chess_pgn.specs.declared.read.PgnFault.{PgnFault}
-use Rattle.chess_pgn.specs.declared.read.PgnFaultKind.{PgnFaultKind}
 use Rattle.chess_pgn.specs.declared.read.PgnFaultKind.TheVariants.{BadTag, BadFen, BadToken, IllegalMove, AmbiguousMove, AfterEnd, TooLong, UnclosedComment, UnclosedVariation, NoResult}
 use Rattle.chess_pgn.specs.declared.tagged_result.ResultTag.{ResultTag}
 use Rattle.pgn_verifier.specs.declared.game_fault.FaultKind.{FaultKind}
@@ -59,27 +58,24 @@ pub record IsJudged (strict : Bool) (text : List ℕ) (at : ℕ) (s : State)
     (answer : Result (Option PgnEnd) GameFault) : Type 0 where
   pub tokens : List (ℕ × Token)
   pub split : IsSplit text (after_byte_order_mark text at) tokens
-  pub game : s ≡ (read_of_split MOST_MOVES (length text) tokens).state
-  pub is : answer ≡ judged strict (result_tag_of (length text) tokens) (verdict_now s)
-      (read_of_split MOST_MOVES (length text) tokens).answer
+  -- how reading the game ended
+  pub ended : Result (Option PgnEnd) PgnFault
+  pub read : read_of_split MOST_MOVES (length text) tokens ≡ record { state = s; answer = ended }
+  pub is : answer ≡ judged strict (result_tag_of (length text) tokens) (verdict_now s) ended
 
 -- ---- names
 
--- the words by which a line names a fault of reading a game's text, as `illegal move`
-abbrev pub pgn_fault_name : PgnFaultKind → List ℕ
-pgn_fault_name BadTag = codes "bad tag"
-pgn_fault_name (BadFen fault) = codes "bad FEN"
-pgn_fault_name BadToken = codes "bad token"
-pgn_fault_name IllegalMove = codes "illegal move"
-pgn_fault_name AmbiguousMove = codes "ambiguous move"
-pgn_fault_name AfterEnd = codes "move after the end"
-pgn_fault_name TooLong = codes "too long"
-pgn_fault_name UnclosedComment = codes "unclosed comment"
-pgn_fault_name UnclosedVariation = codes "unclosed variation"
-pgn_fault_name NoResult = codes "no result"
-
 -- the words by which a line names a game's fault, as in `game 2: illegal move at byte 39`
 abbrev pub fault_name : FaultKind → List ℕ
-fault_name (Pgn kind) = pgn_fault_name kind
+fault_name (Pgn BadTag) = codes "bad tag"
+fault_name (Pgn (BadFen fault)) = codes "bad FEN"
+fault_name (Pgn BadToken) = codes "bad token"
+fault_name (Pgn IllegalMove) = codes "illegal move"
+fault_name (Pgn AmbiguousMove) = codes "ambiguous move"
+fault_name (Pgn AfterEnd) = codes "move after the end"
+fault_name (Pgn TooLong) = codes "too long"
+fault_name (Pgn UnclosedComment) = codes "unclosed comment"
+fault_name (Pgn UnclosedVariation) = codes "unclosed variation"
+fault_name (Pgn NoResult) = codes "no result"
 fault_name (ResultDiffers tag_len outcome) = codes "result differs"
 fault_name BoardSaysOtherwise = codes "board says otherwise"

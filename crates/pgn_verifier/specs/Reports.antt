@@ -1,5 +1,5 @@
 -- The reports on the games of a text and of pieces, their lines and their counts.
-use Rattle.std.specs.Prelude.{◌≡◌, ℕ, ◌+◌, ◌==◌, Bool, true, false, not, if◌then◌else◌, List, [], ◌∷◌, ◌++◌, length, drop, codes, decimal, Option, Some, None, Ok, Err}
+use Rattle.std.specs.Prelude.{◌≡◌, ℕ, ◌+◌, ◌==◌, Bool, true, false, not, if◌then◌else◌, List, [], ◌∷◌, ◌++◌, length, drop, codes, decimal, Option, IfSome, IfNone, Some, None, Ok, Err}
 use Rattle.std.specs.List.{count_by, sum_by}
 use Rattle.std.specs.Option.{option_map_or}
 use Rattle.chess_base.specs.Letters.{new_line}
@@ -56,15 +56,11 @@ abbrev pub too_long_report : Piece → Report
 too_long_report piece =
     Faulty (record { kind = Pgn TooLong; offset = piece.offset }) (too_long_explained piece.beginning)
 
--- these are the reports on the games of a piece with these bytes, which are read as a text of its own; a piece that is
--- too long, whose bytes are `None`, has one report. `strict`: see `AreReports`
-abbrev pub AreReportsOn : Bool → Piece → Option (List ℕ) → List Report → Type 0
-AreReportsOn strict piece (Some text) reports = AreReports strict piece.offset text 0 reports
-AreReportsOn strict piece None reports = reports ≡ too_long_report piece ∷ []
-
--- these are the reports on the games of a piece. `strict`: see `AreReports`
+-- these are the reports on the games of a piece, whose bytes are read as a text of its own; a piece that is too long,
+-- whose bytes are `None`, has one report. `strict`: see `AreReports`
 abbrev pub AreReportsIn : Bool → Piece → List Report → Type 0
-AreReportsIn strict piece reports = AreReportsOn strict piece piece.bytes reports
+AreReportsIn strict piece reports = IfSome piece.bytes (λ text. AreReports strict piece.offset text 0 reports)
+    × IfNone piece.bytes (reports ≡ too_long_report piece ∷ [])
 
 -- ---- their lines
 

@@ -10,7 +10,7 @@ ghost use Rattle.chess_game.specs.Ends.{verdict_result};
 ghost use Rattle.chess_game.specs.Game.{current, verdict_now};
 ghost use Rattle.chess_pgn.specs.declared.read.PgnFaultKind.TheVariants.{TooLong};
 ghost use Rattle.pgn_pieces.specs.Places.{line_ends, last_line_len, line_of, column_of};
-ghost use Rattle.pgn_verifier.specs.Explanations.{part_offset, shown_part, has_position, pgn_reason, reason, optional_part, explained, explanation_text, explanation_at, explanation_line, too_long_explained, shown};
+ghost use Rattle.pgn_verifier.specs.Explanations.{part_offset, shown_part, has_position, reason, optional_part, explained, explanation_line, too_long_explained, shown};
 ghost use Rattle.chess_game.specs.Results.{outcome_text};
 ghost use Rattle.pgn_verifier.specs.Reports.{fault_line};
 ghost use Rattle.pgn_verifier.specs.declared.game_fault.FaultKind.TheVariants.{Pgn};
@@ -135,7 +135,7 @@ fn append_pgn_reason(
     verdict: Option<Verdict>,
 )
     requires { array_vec_len lines.old + 80 ≤ FAULT_LINES_LEN }
-    ensures text { lines.new.items ≡ lines.old.items ++ optional_part (pgn_reason kind text.now verdict) }
+    ensures text { lines.new.items ≡ lines.old.items ++ optional_part (reason (Pgn kind) text.now verdict) }
     ensures len { array_vec_len lines.new ≤ array_vec_len lines.old + 80 }
 {
     match kind {
@@ -224,8 +224,9 @@ fn append_explanation<B: Board>(
     game: &Game<B>,
 )
     requires { array_vec_len lines.old ≤ 100 }
-    ensures { lines.new.items
-        ≡ lines.old.items ++ explanation_at line column (explained game.now.state text.now kind) }
+    ensures { (input : List ℕ) (offset : ℕ) → line ≡ line_of input (offset + part_offset kind text.now)
+        → column ≡ column_of input (offset + part_offset kind text.now)
+        → lines.new.items ≡ lines.old.items ++ explanation_line input offset (explained game.now.state text.now kind) }
 {
     append_place(lines, line, column);
     append(lines, shown_part(kind, text).as_slice());

@@ -2,7 +2,7 @@
 
 ghost use Rattle.std.specs.Prelude.{◌≡◌, ◌≤◌, ◌<◌, ◌+◌, ◌^◌, length};
 ghost use Rattle.pgn_verifier.specs.declared.game_fault.FaultKind.TheVariants.{Pgn};
-ghost use Rattle.pgn_verifier.specs.GameFaults.{pgn_fault_name, fault_name};
+ghost use Rattle.pgn_verifier.specs.GameFaults.{fault_name};
 ghost use Rattle.pgn_verifier.specs.ties.OnTheWay.{moved};
 
 use chess_game::Outcome;
@@ -55,7 +55,7 @@ impl From<PgnFault> for GameFault {
 
 // The words by which a line names a fault of reading a game's text, as `illegal move`.
 fn pgn_fault_name(kind: PgnFaultKind) -> &'static [u8]
-    ensures value { result.now ≡ pgn_fault_name kind }
+    ensures value { result.now ≡ fault_name (Pgn kind) }
     ensures short { length result.now ≤ 18 }
 {
     match kind {

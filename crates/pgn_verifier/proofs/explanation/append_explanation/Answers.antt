@@ -1,11 +1,11 @@
 -- The parts were put one after the other, and the definition groups them to the right.
 use Rattle.std.proofs.Common.{append_assoc}
-use Rattle.pgn_verifier.specs.Explanations.{explanation_at}
+use Rattle.pgn_verifier.specs.Explanations.{explanation_line}
 use Rattle.pgn_verifier.proofs.explanation.append_explanation.Goals as goal
 
 pub returns : goal.returns
-unfolding explanation_at
-returns g c =
+unfolding explanation_line
+returns g c input offset line column =
     rw (
       c.push.ensures.items,
       c.append_reason.ensures.text,
@@ -15,4 +15,6 @@ returns g c =
       c.as_slice.ensures.value,
       c.shown_part.ensures,
       c.append_place.ensures.text,
+      line,
+      column,
     ) (simp append_assoc)

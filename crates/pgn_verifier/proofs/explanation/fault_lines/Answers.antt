@@ -1,9 +1,9 @@
 -- The place counted from the text's beginning is the one in the input (Placed).
-use Rattle.std.proofs.Common.{◌≡◌, ◌≤◌, ◌+◌, ◌++◌, [], length, drop, sym, ap, subst, ◌∙◌, length-drop, arith}
+use Rattle.std.proofs.Common.{◌≡◌, ◌≤◌, ◌+◌, ◌-◌, ◌++◌, [], length, take, drop, sym, ap, subst, ◌∙◌, length-drop, arith}
 use Rattle.std.specs.Prelude.{if◌then◌else◌}
 use Rattle.std.proofs.Math.Path.{ap₂}
 use Rattle.pgn_pieces.specs.Places.{line_of, column_of}
-use Rattle.pgn_verifier.specs.Explanations.{part_offset, explained, explanation_at, explanation_line}
+use Rattle.pgn_verifier.specs.Explanations.{part_offset, explained, explanation_line}
 use Rattle.pgn_verifier.specs.Reports.{fault_line}
 use Rattle.pgn_verifier.specs.ties.OnTheWay.{moved}
 use Rattle.pgn_verifier.proofs.Placed.{line_there, column_there, rest_is}
@@ -20,22 +20,19 @@ returns-then-explain g c input stands =
     let rest = drop at text in
     let own = fault_line c.args.number (moved start.offset c.args.fault) in
     let first = c.fault_line-lines.ensures.text ∙ ap (fault_line c.args.number) c.moved.ensures in
-    let is : c.part_offset.result ≡ part_offset kind rest =
-    c.part_offset.ensures.value ∙ ap (part_offset kind) (rest_is at text) in
     let few : c.part_offset.result ≤ length rest =
     subst (λ xs. c.part_offset.result ≤ length xs) (rest_is at text) c.part_offset.ensures.within in
     let short = length-drop at text in
     let known = c.requires.within in
     let within : at + c.part_offset.result ≤ length text = omega (arith, few, short, known) in
-    let place : start.offset + (at + c.part_offset.result) ≡ start.offset + at + part_offset kind rest =
-    omega (arith, is) in
+    let is : c.part_offset.result ≡ part_offset kind (take (length text - at) rest) = c.part_offset.ensures.value in
+    let place : start.offset + (at + c.part_offset.result)
+    ≡ start.offset + at + part_offset kind (take (length text - at) rest) = omega (arith, is) in
     let line = c.line_after-line.ensures ∙ sym (line_there start input text (at + c.part_offset.result) within here)
     ∙ ap (line_of input) place in
     let column = c.column_after-column.ensures
     ∙ sym (column_there start input text (at + c.part_offset.result) within here) ∙ ap (column_of input) place in
-    c.append_explanation.ensures
-    ∙ ap₂ (λ xs t. xs ++ explanation_at c.line_after-line.result c.column_after-column.result
-    (explained s t kind)) first (rest_is at text)
-    ∙ ap₂ (λ l k. own ++ explanation_at l k (explained s rest kind)) line column
+    c.append_explanation.ensures input (start.offset + at) line column
+    ∙ ap₂ (λ xs t. xs ++ explanation_line input (start.offset + at) (explained s t kind)) first (rest_is at text)
     ∙ sym (ap (λ b. own ++ (if b then explanation_line input (start.offset + at) (explained s rest kind) else []))
     c.if-explain.true)

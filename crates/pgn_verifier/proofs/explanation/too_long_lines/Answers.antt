@@ -1,10 +1,10 @@
 -- The parts were put one after the other, and the definition groups them to the right.
 use Rattle.std.proofs.Common.{◌≡◌, ◌+◌, append_assoc, arith}
-use Rattle.pgn_verifier.specs.Explanations.{explanation_at}
+use Rattle.pgn_verifier.specs.Explanations.{explanation_line}
 use Rattle.pgn_verifier.proofs.explanation.too_long_lines.Goals as goal
 
 pub returns-then-explain : goal.returns-then-explain
-unfolding explanation_at
+unfolding explanation_line
 returns-then-explain c input stands =
     let here = stands c.if-explain.true in
     let first : c.args.start.offset + 0 ≡ c.args.start.offset = omega arith in
