@@ -56,8 +56,9 @@ abbrev pub too_long_report : Piece → Report
 too_long_report piece =
     Faulty (record { kind = Pgn TooLong; offset = piece.offset }) (too_long_explained piece.beginning)
 
--- these are the reports on the games of a piece, whose bytes are read as a text of its own; a piece that is too long,
--- whose bytes are `None`, has one report. `strict`: see `AreReports`
+-- these are the reports on a piece, whose bytes are read as a text of its own: on its games in order, up to the first
+-- with a fault; or, if it is too long (its bytes are `None`), one report on the piece. `strict`: an outcome mark that
+-- contradicts the tag Result or the board's verdict is a fault
 abbrev pub AreReportsIn : Bool → Piece → List Report → Type 0
 AreReportsIn strict piece reports = IfSome piece.bytes (λ text. AreReports strict piece.offset text 0 reports)
     × IfNone piece.bytes (reports ≡ too_long_report piece ∷ [])
