@@ -4,6 +4,7 @@ mod Rays
 mod Reaches
 mod Knights
 mod CountedWrites
+mod KingChecks
 mod CastlingChange
 mod CastlingNamed
 mod StaysSound

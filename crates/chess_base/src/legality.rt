@@ -7,7 +7,7 @@ ghost use Rattle.chess_base.specs.Sound.{IsSound};
 ghost use Rattle.chess_base.specs.Moves.{man_moves, is_pseudo_legal, is_legal};
 
 use crate::after::men_after;
-use crate::attack::{attacks, is_in_check, is_of};
+use crate::attack::{attacks, is_king_attacked, is_of};
 use crate::castling::{castle_of, castles};
 use crate::man::{Colour, Kind, Man, Move};
 use crate::pawns::pawn_moves;
@@ -75,5 +75,5 @@ pub fn is_legal(setup: &Setup, m: &Move) -> bool
     requires { IsSound setup.now }
     ensures { result ≡ is_legal setup.now m.now }
 {
-    is_pseudo_legal(setup, m) && !is_in_check(&men_after(setup, m), setup.side)
+    is_pseudo_legal(setup, m) && !is_king_attacked(&men_after(setup, m), setup.side)
 }

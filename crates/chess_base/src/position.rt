@@ -9,7 +9,7 @@ ghost use Rattle.chess_base.specs.Faults.{setup_fault};
 ghost use Rattle.chess_base.specs.Initial.{initial_setup, initial_setup_of};
 
 use crate::after::{fullmove_after, halfmove_after, men_after, rights_after, target_after};
-use crate::attack::{is_attacked, is_in_check};
+use crate::attack::{is_attacked, is_king_attacked};
 use crate::fen_fault::FenFault;
 use crate::initial::initial_men;
 use crate::legality::is_legal;
@@ -144,7 +144,7 @@ impl Position {
     pub fn in_check(&self) -> bool
         ensures { result ≡ is_in_check self.now.men self.now.side }
     {
-        is_in_check(&self.setup.men, self.setup.side)
+        is_king_attacked(&self.setup.men, self.setup.side)
     }
 
     /// Whether the side on move may make this move: one of its pieces can go there, and its king is not attacked

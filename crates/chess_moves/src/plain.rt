@@ -13,7 +13,7 @@ use crate::hashing::position_hash;
 use crate::listing::{has_legal_move, legal_moves};
 use crate::moving::{move_back, move_on};
 use crate::set::SquareSet;
-use chess_base::rules::{is_in_check, is_legal, is_man, saved_of};
+use chess_base::rules::{is_king_attacked, is_legal, is_man, saved_of};
 use chess_base::{Colour, Kind, Man, Move, Position, Saved, Setup, Square};
 use std::marker::Model;
 
@@ -157,7 +157,7 @@ impl Board for Plain {
     // Whether the side on move is in check.
     #[tactic(auto, using(chess_base::proofs::shared::Kings::one_king_of))]
     fn in_check(&self) -> bool {
-        is_in_check(&self.setup.men, self.setup.side)
+        is_king_attacked(&self.setup.men, self.setup.side)
     }
 
     // The position's Zobrist hash, computed from all its pieces at each call.
