@@ -1,9 +1,10 @@
 -- The items of a `feature` line (CECP, version 2: section 9), and what an engine says by them.
-use Rattle.std.specs.Prelude.{ℕ, zero, suc, ◌+◌, ◌==◌, ◌&&◌, ◌||◌, nat_lt, Bool, true, false, if◌then◌else◌, List, [], ◌∷◌, length, take, drop, codes, Option, None, Some, option_and_then}
+use Rattle.std.specs.Prelude.{ℕ, zero, suc, ◌+◌, ◌==◌, ◌&&◌, ◌||◌, nat_lt, Bool, true, false, not, if◌then◌else◌, List, [], ◌∷◌, length, take, drop, codes, Option, None, Some}
 use Rattle.std.specs.List.{fold, list_any, position_or_len, prefix_len, slice_split, take_while}
 use Rattle.std.specs.Option.{option_map_or}
 use Rattle.std.specs.Str.{bytes_eq}
 use Rattle.chess_base.specs.Letters.{byte, is_digit}
+use Rattle.chess_base.specs.Options.{◌>>=◌}
 use Rattle.text_lines.specs.Lines.{is_blank, without_front_blanks}
 use Rattle.text_lines.specs.Words.{is_name_byte}
 
@@ -38,24 +39,16 @@ abbrev pub may_follow_item : List ℕ → Bool
 may_follow_item [] = true
 may_follow_item (c ∷ cs) = is_blank c
 
--- the item with this name and the value that `rest` begins with, and the text after it, without spaces and tabs at its
--- front. `None` if `rest` begins with no value, or anything but a space, a tab or the end comes right after the value
-abbrev pub with_value : List ℕ → List ℕ → Option (Item × List ℕ)
-with_value name rest =
-    option_and_then (λ (p : Value × List ℕ). if may_follow_item p.1 then Some
-    (record { name = name; value = p.0 }, without_front_blanks p.1) else None) (value_of rest)
-
--- the item whose name is the first text, and whose `=` and value the second text begins with; and what follows these,
--- without spaces and tabs at its front. `None` if the name is empty, `=` is missing, or the value is missing or
--- malformed
-abbrev pub with_name : List ℕ → List ℕ → Option (Item × List ℕ)
-with_name (n ∷ ns) (c ∷ cs) = if c == byte "=" then with_value (n ∷ ns) cs else None
-with_name _ _ = None
-
 -- the item that a text begins with, such as `ping=1` or `myname="Sjeng"`, and the text after it, without spaces and
--- tabs at its front; `None` if it begins with no item or a malformed one
+-- tabs at its front. An item is a name of one or more letters, digits or `_`, then `=`, then a value (`value_of`), and
+-- right after the value comes a space, a tab or the end. `None` if the text begins with no item
 unfoldable pub item_of : List ℕ → Option (Item × List ℕ)
-item_of text = with_name (take_while is_name_byte text) (drop (prefix_len is_name_byte text) text)
+item_of text =
+    let name = take_while is_name_byte text in
+    let rest = drop (length name) text in
+    if length name == 0 || not (bytes_eq (take 1 rest) (codes "=")) then None else do
+      (value, after) ← value_of (drop 1 rest)
+      if may_follow_item after then Some (record { name = name; value = value }, without_front_blanks after) else None
 
 -- ---- the items of a line
 
@@ -121,13 +114,9 @@ plays_fischerandom items = last_said (λ v. has_word (codes "fischerandom") (val
 
 -- ---- the answer to an item
 
--- the names of the features that are answered by `accepted`
-abbrev pub known_names : List (List ℕ)
-known_names =
-    codes "ping" ∷ codes "setboard" ∷ codes "playother" ∷ codes "san" ∷ codes "usermove" ∷ codes "time" ∷ codes "draw"
-    ∷ codes "sigint" ∷ codes "sigterm" ∷ codes "reuse" ∷ codes "analyze" ∷ codes "myname" ∷ codes "variants"
-    ∷ codes "colors" ∷ codes "debug" ∷ codes "done" ∷ []
-
 -- whether a feature of this name is answered by `accepted`, else by `rejected`
 unfoldable pub is_known : List ℕ → Bool
-is_known name = list_any (bytes_eq name) known_names
+is_known name = list_any (bytes_eq name)
+    (codes "ping" ∷ codes "setboard" ∷ codes "playother" ∷ codes "san" ∷ codes "usermove" ∷ codes "time" ∷ codes "draw"
+    ∷ codes "sigint" ∷ codes "sigterm" ∷ codes "reuse" ∷ codes "analyze" ∷ codes "myname" ∷ codes "variants"
+    ∷ codes "colors" ∷ codes "debug" ∷ codes "done" ∷ [])

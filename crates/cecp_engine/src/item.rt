@@ -2,7 +2,7 @@
 
 ghost use Rattle.std.specs.Prelude.{◌≡◌, ◌≤◌, ◌<◌, ◌++◌, ◌∷◌, [], length, drop, take, List, ℕ};
 ghost use Rattle.chess_base.specs.Letters.{is_digit};
-ghost use Rattle.cecp_engine.specs.Items.{value_of, with_value, with_name, item_of, may_follow_item, is_one, ends_handshake, quote_at, items_of, has_done, is_known, has_word, value_text, is_comma_or_blank};
+ghost use Rattle.cecp_engine.specs.Items.{value_of, item_of, may_follow_item, is_one, ends_handshake, quote_at, items_of, has_done, is_known, has_word, value_text, is_comma_or_blank};
 ghost use Rattle.cecp_engine.specs.ties.Taken.{said_again, fischerandom_again, value_read};
 ghost use Rattle.cecp_engine.specs.Seen.{value_seen, item_seen, item_read};
 ghost use Rattle.text_lines.specs.Words.{is_name_byte};
@@ -106,7 +106,7 @@ fn is_apart(text: &[u8]) -> bool
 
 /// Reads the item at a text's front, such as `ping=1` or `myname="Sjeng"`, and returns it with what follows it, without
 /// the spaces and tabs between; `None` if it is malformed.
-#[tactic(auto, unfolding(crate::specs::Items::item_of))]
+#[tactic(auto, using(std::proofs::lemmas::Grind::common_steps, crate::proofs::shared::Items::item_parts))]
 pub fn next_item(text: &[u8]) -> Option<(Item<'_>, &[u8])>
     ensures { item_read result ≡ item_of text.now }
 {

@@ -1,15 +1,17 @@
 -- For matches: the items of a `feature` line, one after the other.
 use Rattle.std.proofs.Common.{◌≡◌, ℕ, zero, suc, ◌+◌, ◌-◌, ◌≤◌, ◌<◌, Bool, true, false, List, [], ◌∷◌, ◌++◌, length, take, drop, get_or, refl, ap, sym, ◌∙◌, Option, None, Some, arith, length-append, length-drop, append_assoc, append-nil}
-use Rattle.std.proofs.lemmas.List.{take-append-drop, take_all}
-use Rattle.std.specs.Prelude.{if◌then◌else◌, ◌==◌, ◌&&◌, nat_lt, option_and_then, take_while}
+use Rattle.std.proofs.lemmas.Bool.Decides.{nat_tests}
+use Rattle.std.proofs.lemmas.List.{length-take-le, take-append-drop, take_all}
+use Rattle.std.proofs.lemmas.List.Sums.{prefix_len-le-length}
+use Rattle.std.specs.Prelude.{if◌then◌else◌, ◌==◌, ◌&&◌, ◌||◌, not, nat_lt, option_and_then}
 use Rattle.std.specs.Option.{option_map_or}
 use Rattle.std.specs.Str.{bytes_eq}
 use Rattle.chess_base.specs.Letters.{is_digit}
 use Rattle.text_lines.specs.Lines.{without_front_blanks}
 use Rattle.text_lines.proofs.shared.Lines.{without_front_blanks-short}
 use Rattle.text_lines.specs.Words.{is_name_byte}
-use Rattle.std.specs.List.{prefix_len}
-use Rattle.cecp_engine.specs.Items.{Item, Value, Digits, Quoted, quote_at, value_of, may_follow_item, with_value, with_name, item_of, ends_handshake, first_items, items_of, has_done, last_said}
+use Rattle.std.specs.List.{prefix_len, take_while}
+use Rattle.cecp_engine.specs.Items.{Item, Value, Digits, Quoted, quote_at, value_of, may_follow_item, item_of, ends_handshake, first_items, items_of, has_done, last_said}
 
 -- ---- the last value
 
@@ -63,6 +65,55 @@ unclosed (c ∷ cs) at h e k =
     let none : nat_lt (quote_at cs) (length cs) ≡ false = grind (arith, place, same, k) in
     rw (h, none) refl
 
+-- ---- an item by its parts, each with what is left after it
+
+-- the item with this name and the value that `rest` begins with, and the text after it, without spaces and tabs at its
+-- front. `None` if `rest` begins with no value, or anything but a space, a tab or the end comes right after the value
+abbrev with_value : List ℕ → List ℕ → Option (Item × List ℕ)
+with_value name rest =
+    option_and_then (λ (p : Value × List ℕ). if may_follow_item p.1 then Some
+    (record { name = name; value = p.0 }, without_front_blanks p.1) else None) (value_of rest)
+
+-- the item whose name is the first text, and whose `=` and value the second text begins with; and what follows these,
+-- without spaces and tabs at its front. `None` if the name is empty, `=` is missing, or the value is missing or
+-- malformed
+abbrev pub with_name : List ℕ → List ℕ → Option (Item × List ℕ)
+with_name (n ∷ ns) (c ∷ cs) = if c == 61 then with_value (n ∷ ns) cs else None
+with_name _ _ = None
+
+-- the item of this name, as defined, from what follows the name
+abbrev item_after : List ℕ → List ℕ → Option (Item × List ℕ)
+item_after name rest =
+    if length name == 0 || not (bytes_eq (take 1 rest) (61 ∷ [])) then None
+    else option_and_then (λ (p : Value × List ℕ). if may_follow_item p.1 then
+    Some (record { name = name; value = p.0 }, without_front_blanks p.1) else None) (value_of (drop 1 rest))
+
+item_after-is : (name rest : List ℕ) → item_after name rest ≡ with_name name rest
+item_after-is [] rest = refl
+item_after-is (n ∷ ns) [] = by_test (length (n ∷ ns) == 0)
+  where
+    by_test : (b : Bool) → (if b || true then None else with_value (n ∷ ns) []) ≡ None
+    by_test true = refl
+    by_test false = refl
+item_after-is (n ∷ ns) (c ∷ cs) =
+    let some : (length (n ∷ ns) == 0) ≡ false = grind (arith, nat_tests) in
+    rw some (by_test (c == 61))
+  where
+    by_test : (b : Bool)
+        → (if not (b && true) then None else with_value (n ∷ ns) cs)
+        ≡ (if b then with_value (n ∷ ns) cs else None)
+    by_test true = refl
+    by_test false = refl
+
+-- the item that a text begins with, by its parts
+pub item_parts : (text : List ℕ)
+    → item_of text ≡ with_name (take_while is_name_byte text) (drop (prefix_len is_name_byte text) text)
+unfolding item_of
+item_parts text =
+    item_after-is (take_while is_name_byte text) (drop (length (take_while is_name_byte text)) text)
+    ∙ ap (λ n. with_name (take_while is_name_byte text) (drop n text))
+    (length-take-le (prefix_len is_name_byte text) text (prefix_len-le-length is_name_byte text))
+
 abbrev name_or : List ℕ → Option (Item × List ℕ) → List ℕ
 name_or default None = default
 name_or default (Some p) = p.0.name
@@ -103,10 +154,9 @@ with_name_shorter (n ∷ ns) (c ∷ cs) p e = by_test (c == 61) e
 -- an item takes at least two bytes more than its name, which is not empty
 pub item_room : (text : List ℕ) (p : Item × List ℕ) → item_of text ≡ Some p
     → (0 < length p.0.name) × (length p.0.name + length p.1 + 2 ≤ length text)
-unfolding item_of
 item_room text p e =
-    let h = with_name_shorter (take (prefix_len is_name_byte text) text) (drop (prefix_len is_name_byte text) text) p e
-    in
+    let h = with_name_shorter (take (prefix_len is_name_byte text) text) (drop (prefix_len is_name_byte text) text) p
+    (sym (item_parts text) ∙ e) in
     let all : length (take (prefix_len is_name_byte text) text) + length (drop (prefix_len is_name_byte text) text)
     ≡ length text = sym (length-append (take (prefix_len is_name_byte text) text)
     (drop (prefix_len is_name_byte text) text))
@@ -136,8 +186,7 @@ first_items-by n text = at (item_of text)
     at (Some p) = refl
 
 none_left : (text : List ℕ) → length text ≤ 0 → item_of text ≡ None
-unfolding item_of
-none_left [] h = refl
+none_left [] h = item_parts []
 none_left (c ∷ cs) h = absurd (omega arith)
 
 same_by : (f g : List ℕ → List Item) (o : Option (Item × List ℕ)) → ((p : Item × List ℕ) → o ≡ Some p → f p.1 ≡ g p.1)
