@@ -29,7 +29,7 @@ use Rattle.chess_cecp.specs.Declaring.{read_result}
 use Rattle.chess_cecp.specs.Held.{SessionSeen}
 use Rattle.text_lines.specs.Lines.{LineSeen}
 use Rattle.chess_cecp.specs.Serving.{Response}
-use Rattle.chess_cecp.specs.Session.{row, says, refuses, becomes, result_row, declares_draw, draw_claim_row, setboard_row, normal_row, feature_text, joined_line, reading_row, move_row, session_response}
+use Rattle.chess_cecp.specs.Session.{row, says, refuses, becomes, result_row, declares_draw, draw_claim_row, setboard_row, normal_row, features_line, reading_row, move_row, session_response}
 use Rattle.chess_cecp.specs.ties.Replies.{is_quit, is_quit_command, reply_to, asks_for_moves, asks_for_pgn}
 
 -- the session goes on
@@ -95,7 +95,7 @@ row_ends tags limit s text argument Claim =
     (draw_claim_row s (claims s.start s.moves)) refl (claimed_on s (claims s.start s.moves))
 row_ends tags limit s text argument (Ping n) = refl
 row_ends tags limit s text argument (Protover n) =
-    by_test (nat_lt n 2) (says s []) (says s (joined_line feature_text [])) refl refl
+    by_test (nat_lt n 2) (becomes s) (says s features_line) refl refl
 row_ends tags limit s text argument Variant =
     let normal : Response State = normal_row s s.start.variant in
     let other : Response State = refuses s (codes "Error (unsupported variant): ") text in

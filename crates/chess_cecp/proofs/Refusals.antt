@@ -30,7 +30,7 @@ use Rattle.chess_game.specs.Results.{result_text}
 use Rattle.chess_cecp.specs.declared.command.Command.{Command}
 use Rattle.chess_cecp.specs.declared.command.Command.TheVariants.{New, SetBoard, UserMove, BareMove, Undo, Remove, Declare, Claim, Ping, Protover, Variant, Go, ShowFen, ShowMoves, ShowState, ShowPgn, Quit, Silent, BadNumber, Unknown}
 use Rattle.chess_cecp.specs.Serving.{Response}
-use Rattle.chess_cecp.specs.Session.{row, says, refuses, becomes, becomes_judged, result_line, verdict_line, result_row, declares_draw, draw_claim_row, setboard_row, normal_row, feature_text, joined_line, reading_row, move_row, IsRefusal, session_response}
+use Rattle.chess_cecp.specs.Session.{row, says, refuses, becomes, becomes_judged, result_line, verdict_line, result_row, declares_draw, draw_claim_row, setboard_row, normal_row, features_line, reading_row, move_row, IsRefusal, session_response}
 
 -- the first bytes of refusals: E, I and t
 abbrev pub begins_refusal : List ℕ → Bool
@@ -135,7 +135,7 @@ row_keeps tags limit s text argument Claim =
     (draw_claim_row s (claims s.start s.moves)) (λ h. refl) (claimed_keeps s (claims s.start s.moves))
 row_keeps tags limit s text argument (Ping n) = λ h. refl
 row_keeps tags limit s text argument (Protover n) =
-    by_test (nat_lt n 2) s (says s []) (says s (joined_line feature_text [])) (λ h. refl) (λ h. refl)
+    by_test (nat_lt n 2) s (becomes s) (says s features_line) (λ h. refl) (λ h. refl)
 row_keeps tags limit s text argument Variant =
     by_test (bytes_eq argument (codes "fischerandom")) s (becomes (from_start (initial_setup_of Fischerandom)))
     (if bytes_eq argument (codes "normal") then normal_row s s.start.variant else
