@@ -7,8 +7,7 @@ use Rattle.byte_devices.specs.Devices.{Begins}
 use Rattle.chess_base.specs.declared.fen_fault.FenFault.{FenFault}
 use Rattle.chess_base.specs.Faults.{fen_fault_name}
 use Rattle.chess_base.specs.declared.man.Move.{Move}
-use Rattle.chess_base.specs.declared.man.Variant.{Variant as Rules}
-use Rattle.chess_base.specs.declared.man.Variant.TheVariants.{Normal, Fischerandom}
+use Rattle.chess_base.specs.declared.man.Variant.TheVariants.{Fischerandom}
 use Rattle.chess_game.specs.declared.results.Outcome.{Outcome}
 use Rattle.chess_base.specs.declared.setup.Setup.{Setup}
 use Rattle.chess_base.specs.Initial.{initial_setup, initial_setup_of}
@@ -23,7 +22,7 @@ use Rattle.chess_cecp.specs.Held.{SessionSeen}
 use Rattle.chess_pgn.specs.GameText.{pgn}
 use Rattle.chess_pgn.specs.declared.tags.Tags.{Tags}
 use Rattle.chess_text.specs.Moves.{reading}
-use Rattle.chess_text.specs.San.{shown_move}
+use Rattle.chess_text.specs.San.{is_fischerandom, shown_move}
 use Rattle.chess_text.specs.declared.reading.Reading.{Reading}
 use Rattle.chess_text.specs.declared.reading.Reading.TheVariants as reads
 use Rattle.chess_cecp.specs.Commands.{command_of}
@@ -140,19 +139,14 @@ claim_row s =
     if is_over s then refuses s (codes "Error (command not legal now): ") (codes "claim") else draw_claim_row s
     (claims s.start s.moves)
 
--- the answer to `variant normal` in the game `s`, by the variant of that game: a game of normal chess goes on; in place
--- of a game of Chess960 a new game of normal chess starts. Nothing is answered
-abbrev pub normal_row : State → Rules → Response State
-normal_row s Normal = becomes s
-normal_row s Fischerandom = becomes (from_start initial_setup)
-
 -- the answer to `variant` in the game `s`, by its argument (`text` is the whole line): `fischerandom` starts a new game
 -- of Chess960 at the initial position of normal chess; `normal` starts one of normal chess if `s` is of Chess960, and
 -- else does nothing. Neither has an answer. Any other argument is refused
 abbrev pub variant_row : State → List ℕ → List ℕ → Response State
 variant_row s text argument =
     if bytes_eq argument (codes "fischerandom") then becomes (from_start (initial_setup_of Fischerandom))
-    else if bytes_eq argument (codes "normal") then normal_row s s.start.variant
+    else if bytes_eq argument (codes "normal")
+    then becomes (if is_fischerandom s.start.variant then from_start initial_setup else s)
     else refuses s (codes "Error (unsupported variant): ") text
 
 -- the table of commands: what a session does in the game `s` with a line that has this command. `text` is the whole
