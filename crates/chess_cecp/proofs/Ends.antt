@@ -4,12 +4,12 @@ use Rattle.std.specs.Prelude.{nat_le, nat_lt, not, Result, Ok, Err}
 use Rattle.std.specs.Option.{option_map_or}
 use Rattle.std.specs.Str.{bytes_eq}
 use Rattle.chess_base.specs.declared.fen_fault.FenFault.{FenFault}
-use Rattle.chess_base.specs.declared.man.Variant.{Variant as Rules}
-use Rattle.chess_base.specs.declared.man.Variant.TheVariants.{Normal, Fischerandom}
+use Rattle.chess_base.specs.declared.man.Variant.TheVariants.{Fischerandom}
 use Rattle.chess_base.specs.declared.setup.Setup.{Setup}
-use Rattle.chess_base.specs.Initial.{initial_setup_of}
+use Rattle.chess_base.specs.Initial.{initial_setup, initial_setup_of}
 use Rattle.chess_fen.specs.Reading.{fen_reading_as}
 use Rattle.chess_text.specs.Moves.{reading}
+use Rattle.chess_text.specs.San.{is_fischerandom}
 use Rattle.chess_text.specs.declared.reading.Reading.{Reading}
 use Rattle.chess_text.specs.declared.reading.Reading.TheVariants as reads
 use Rattle.chess_game.specs.Ends.{claims, draw_claim, claim_comment}
@@ -29,7 +29,7 @@ use Rattle.chess_cecp.specs.Declaring.{read_result}
 use Rattle.chess_cecp.specs.Held.{SessionSeen}
 use Rattle.text_lines.specs.Lines.{LineSeen}
 use Rattle.chess_cecp.specs.Serving.{Response}
-use Rattle.chess_cecp.specs.Session.{row, says, refuses, becomes, result_row, declares_draw, draw_claim_row, setboard_row, normal_row, feature_text, joined_line, reading_row, move_row, session_response}
+use Rattle.chess_cecp.specs.Session.{row, says, refuses, becomes, result_row, declares_draw, draw_claim_row, setboard_row, features_line, reading_row, move_row, session_response}
 use Rattle.chess_cecp.specs.ties.Replies.{is_quit, is_quit_command, reply_to, asks_for_moves, asks_for_pgn}
 
 -- the session goes on
@@ -73,10 +73,6 @@ claimed_on s c = at (draw_claim c)
     at (Some claim) = refl
     at None = refl
 
-normal_on : (s : State) (v : Rules) → GoesOn (normal_row s v)
-normal_on s Normal = refl
-normal_on s Fischerandom = refl
-
 row_ends : (tags : Tags) (limit : ℕ) (s : State) (text argument : List ℕ) (command : Command)
     → (row tags limit s text argument command).ends ≡ is_quit_command command
 row_ends tags limit s text argument New = refl
@@ -95,13 +91,14 @@ row_ends tags limit s text argument Claim =
     (draw_claim_row s (claims s.start s.moves)) refl (claimed_on s (claims s.start s.moves))
 row_ends tags limit s text argument (Ping n) = refl
 row_ends tags limit s text argument (Protover n) =
-    by_test (nat_lt n 2) (says s []) (says s (joined_line feature_text [])) refl refl
+    by_test (nat_lt n 2) (becomes s) (says s features_line) refl refl
 row_ends tags limit s text argument Variant =
-    let normal : Response State = normal_row s s.start.variant in
+    let normal : Response State =
+    becomes (if is_fischerandom s.start.variant then from_start initial_setup else s) in
     let other : Response State = refuses s (codes "Error (unsupported variant): ") text in
     by_test (bytes_eq argument (codes "fischerandom")) (becomes (from_start (initial_setup_of Fischerandom)))
     (if bytes_eq argument (codes "normal") then normal else other) refl
-    (by_test (bytes_eq argument (codes "normal")) normal other (normal_on s s.start.variant) refl)
+    (by_test (bytes_eq argument (codes "normal")) normal other refl refl)
 row_ends tags limit s text argument Go = refl
 row_ends tags limit s text argument ShowFen = refl
 row_ends tags limit s text argument ShowMoves = refl

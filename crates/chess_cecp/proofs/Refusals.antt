@@ -4,8 +4,7 @@ use Rattle.std.specs.Prelude.{nat_le, nat_lt, Result, Ok, Err}
 use Rattle.std.specs.Option.{option_map_or}
 use Rattle.std.specs.Str.{bytes_eq}
 use Rattle.chess_base.specs.declared.fen_fault.FenFault.{FenFault}
-use Rattle.chess_base.specs.declared.man.Variant.{Variant as Rules}
-use Rattle.chess_base.specs.declared.man.Variant.TheVariants.{Normal, Fischerandom}
+use Rattle.chess_base.specs.declared.man.Variant.TheVariants.{Fischerandom}
 use Rattle.chess_base.specs.declared.setup.Setup.{Setup}
 use Rattle.chess_fen.specs.Reading.{fen_reading_as}
 use Rattle.chess_base.specs.Initial.{initial_setup, initial_setup_of}
@@ -13,6 +12,7 @@ use Rattle.text_lines.specs.Lines.{LineSeen}
 use Rattle.chess_cecp.specs.Held.{SessionSeen}
 use Rattle.chess_pgn.specs.declared.tags.Tags.{Tags}
 use Rattle.chess_text.specs.Moves.{reading}
+use Rattle.chess_text.specs.San.{is_fischerandom}
 use Rattle.chess_text.specs.declared.reading.Reading.{Reading}
 use Rattle.chess_text.specs.declared.reading.Reading.TheVariants as reads
 use Rattle.chess_cecp.specs.Commands.{command_of}
@@ -30,7 +30,7 @@ use Rattle.chess_game.specs.Results.{result_text}
 use Rattle.chess_cecp.specs.declared.command.Command.{Command}
 use Rattle.chess_cecp.specs.declared.command.Command.TheVariants.{New, SetBoard, UserMove, BareMove, Undo, Remove, Declare, Claim, Ping, Protover, Variant, Go, ShowFen, ShowMoves, ShowState, ShowPgn, Quit, Silent, BadNumber, Unknown}
 use Rattle.chess_cecp.specs.Serving.{Response}
-use Rattle.chess_cecp.specs.Session.{row, says, refuses, becomes, becomes_judged, result_line, verdict_line, result_row, declares_draw, draw_claim_row, setboard_row, normal_row, feature_text, joined_line, reading_row, move_row, IsRefusal, session_response}
+use Rattle.chess_cecp.specs.Session.{row, says, refuses, becomes, becomes_judged, result_line, verdict_line, result_row, declares_draw, draw_claim_row, setboard_row, features_line, reading_row, move_row, IsRefusal, session_response}
 
 -- the first bytes of refusals: E, I and t
 abbrev pub begins_refusal : List ℕ → Bool
@@ -109,10 +109,6 @@ claimed_keeps s c = at (draw_claim c)
     at (Some claim) = draws_keeps s (claim_comment claim)
     at None = λ h. refl
 
-normal_keeps : (s : State) (v : Rules) → KeepsRefused s (normal_row s v)
-normal_keeps s Normal = λ h. refl
-normal_keeps s Fischerandom = accepted s (becomes (from_start initial_setup)) refl
-
 row_keeps : (tags : Tags) (limit : ℕ) (s : State) (text argument : List ℕ) (command : Command)
     → KeepsRefused s (row tags limit s text argument command)
 row_keeps tags limit s text argument New = accepted s (becomes (from_start initial_setup)) refl
@@ -135,14 +131,15 @@ row_keeps tags limit s text argument Claim =
     (draw_claim_row s (claims s.start s.moves)) (λ h. refl) (claimed_keeps s (claims s.start s.moves))
 row_keeps tags limit s text argument (Ping n) = λ h. refl
 row_keeps tags limit s text argument (Protover n) =
-    by_test (nat_lt n 2) s (says s []) (says s (joined_line feature_text [])) (λ h. refl) (λ h. refl)
+    by_test (nat_lt n 2) s (becomes s) (says s features_line) (λ h. refl) (λ h. refl)
 row_keeps tags limit s text argument Variant =
+    let normal : Response State =
+    becomes (if is_fischerandom s.start.variant then from_start initial_setup else s) in
+    let other : Response State = refuses s (codes "Error (unsupported variant): ") text in
     by_test (bytes_eq argument (codes "fischerandom")) s (becomes (from_start (initial_setup_of Fischerandom)))
-    (if bytes_eq argument (codes "normal") then normal_row s s.start.variant else
-    refuses s (codes "Error (unsupported variant): ") text)
+    (if bytes_eq argument (codes "normal") then normal else other)
     (accepted s (becomes (from_start (initial_setup_of Fischerandom))) refl)
-    (by_test (bytes_eq argument (codes "normal")) s (normal_row s s.start.variant)
-    (refuses s (codes "Error (unsupported variant): ") text) (normal_keeps s s.start.variant) (λ h. refl))
+    (by_test (bytes_eq argument (codes "normal")) s normal other (accepted s normal refl) (λ h. refl))
 row_keeps tags limit s text argument Go = λ h. refl
 row_keeps tags limit s text argument ShowFen = λ h. refl
 row_keeps tags limit s text argument ShowMoves = λ h. refl

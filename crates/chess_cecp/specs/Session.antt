@@ -7,8 +7,7 @@ use Rattle.byte_devices.specs.Devices.{Begins}
 use Rattle.chess_base.specs.declared.fen_fault.FenFault.{FenFault}
 use Rattle.chess_base.specs.Faults.{fen_fault_name}
 use Rattle.chess_base.specs.declared.man.Move.{Move}
-use Rattle.chess_base.specs.declared.man.Variant.{Variant as Rules}
-use Rattle.chess_base.specs.declared.man.Variant.TheVariants.{Normal, Fischerandom}
+use Rattle.chess_base.specs.declared.man.Variant.TheVariants.{Fischerandom}
 use Rattle.chess_game.specs.declared.results.Outcome.{Outcome}
 use Rattle.chess_base.specs.declared.setup.Setup.{Setup}
 use Rattle.chess_base.specs.Initial.{initial_setup, initial_setup_of}
@@ -23,7 +22,7 @@ use Rattle.chess_cecp.specs.Held.{SessionSeen}
 use Rattle.chess_pgn.specs.GameText.{pgn}
 use Rattle.chess_pgn.specs.declared.tags.Tags.{Tags}
 use Rattle.chess_text.specs.Moves.{reading}
-use Rattle.chess_text.specs.San.{shown_move}
+use Rattle.chess_text.specs.San.{is_fischerandom, shown_move}
 use Rattle.chess_text.specs.declared.reading.Reading.{Reading}
 use Rattle.chess_text.specs.declared.reading.Reading.TheVariants as reads
 use Rattle.chess_cecp.specs.Commands.{command_of}
@@ -51,13 +50,13 @@ says s text = record { text = text; state = s; ends = false }
 abbrev pub refuses : State → List ℕ → List ℕ → Response State
 refuses s front text = says s (joined_line front text)
 
--- the game becomes `s`, and nothing is answered
+-- nothing is answered, and the session goes on; `s` is the state of its game after that
 abbrev pub becomes : State → Response State
 becomes s = says s []
 
 -- the line of a result with its comment, such as `1-0 {White mates}`, with `\n` at its end
 unfoldable pub result_line : Outcome → List ℕ → List ℕ
-result_line o comment = joined_line (result_text o comment) []
+result_line o comment = result_text o comment ++ new_line ∷ []
 
 -- the line of the board's verdict, such as `1-0 {White mates}`, with `\n` at its end; the empty text if there is no
 -- verdict
@@ -81,10 +80,11 @@ setboard_row s (Ok start) = becomes_judged (from_start start)
 -- the FEN is refused by its fault, as `tellusererror Illegal position (kings)`, and the game does not change
 setboard_row s (Err fault) = refuses s (codes "tellusererror Illegal position (") (fen_fault_name fault ++ codes ")")
 
--- the line, without `\n`, that answers `protover 2` and each later version: the CECP features with the arbiter's values
-unfoldable pub feature_text : List ℕ
-feature_text =
-    codes "feature ping=1 setboard=1 playother=0 san=0 usermove=1 time=1 draw=1 sigint=0 sigterm=0 reuse=1 analyze=0 colors=0 debug=1 myname=\"CECP arbiter\" variants=\"normal,fischerandom\" done=1"
+-- the line that answers `protover 2` and each later version, with `\n` at its end: the CECP features with the arbiter's
+-- values
+unfoldable pub features_line : List ℕ
+features_line =
+    codes "feature ping=1 setboard=1 playother=0 san=0 usermove=1 time=1 draw=1 sigint=0 sigterm=0 reuse=1 analyze=0 colors=0 debug=1 myname=\"CECP arbiter\" variants=\"normal,fischerandom\" done=1\n"
 
 -- the answer to a move's text in the game `s`, by what the text denotes in the current position. The one legal move
 -- that it denotes is played, and the board's verdict after that is answered, if there is one. A text that denotes
@@ -92,8 +92,7 @@ feature_text =
 abbrev pub reading_row : State → List ℕ → Reading → Response State
 reading_row s text (reads.Move m) = becomes_judged (played s m)
 reading_row s text reads.Ambiguous = refuses s (codes "Error (ambiguous move): ") text
-reading_row s text reads.NoSuch = refuses s (codes "Illegal move: ") text
-reading_row s text reads.NotAMove = refuses s (codes "Illegal move: ") text
+reading_row s text _ = refuses s (codes "Illegal move: ") text
 
 -- the answer to a move's text in the game `s`, such as `e4` in `usermove e4`: refused if the game is over, by a verdict
 -- or by a declared result, or has `limit` half-moves or more; else by what the text denotes (`reading_row`)
@@ -140,19 +139,14 @@ claim_row s =
     if is_over s then refuses s (codes "Error (command not legal now): ") (codes "claim") else draw_claim_row s
     (claims s.start s.moves)
 
--- the answer to `variant normal` in the game `s`, by the variant of that game: a game of normal chess goes on; in place
--- of a game of Chess960 a new game of normal chess starts. Nothing is answered
-abbrev pub normal_row : State → Rules → Response State
-normal_row s Normal = says s []
-normal_row s Fischerandom = becomes (from_start initial_setup)
-
 -- the answer to `variant` in the game `s`, by its argument (`text` is the whole line): `fischerandom` starts a new game
 -- of Chess960 at the initial position of normal chess; `normal` starts one of normal chess if `s` is of Chess960, and
 -- else does nothing. Neither has an answer. Any other argument is refused
 abbrev pub variant_row : State → List ℕ → List ℕ → Response State
 variant_row s text argument =
     if bytes_eq argument (codes "fischerandom") then becomes (from_start (initial_setup_of Fischerandom))
-    else if bytes_eq argument (codes "normal") then normal_row s s.start.variant
+    else if bytes_eq argument (codes "normal")
+    then becomes (if is_fischerandom s.start.variant then from_start initial_setup else s)
     else refuses s (codes "Error (unsupported variant): ") text
 
 -- the table of commands: what a session does in the game `s` with a line that has this command. `text` is the whole
@@ -168,15 +162,15 @@ row tags limit s text argument Remove = take_back_row 2 (codes "remove") s
 row tags limit s text argument Declare = result_row s text (read_result argument)
 row tags limit s text argument Claim = claim_row s
 row tags limit s text argument (Ping n) = says s (joined_line (codes "pong ") (decimal n))
-row tags limit s text argument (Protover n) = if nat_lt n 2 then says s [] else says s (joined_line feature_text [])
+row tags limit s text argument (Protover n) = if nat_lt n 2 then becomes s else says s features_line
 row tags limit s text argument Variant = variant_row s text argument
 row tags limit s text argument Go = refuses s (codes "Error (the arbiter plays no side): ") (codes "go")
 row tags limit s text argument ShowFen = says s (joined_line (codes "# fen ") (fen (current s)))
 row tags limit s text argument ShowMoves = says s (moves_line (current s) (moves (current s)))
 row tags limit s text argument ShowState = says s (joined_line (codes "# state ply ") (state_text s))
 row tags limit s text argument ShowPgn = says s (pgn (codes "# ") tags s)
-row tags limit s text argument Quit = record (says s []) { ends = true }
-row tags limit s text argument Silent = says s []
+row tags limit s text argument Quit = record (becomes s) { ends = true }
+row tags limit s text argument Silent = becomes s
 row tags limit s text argument BadNumber = refuses s (codes "Error (bad number): ") text
 row tags limit s text argument Unknown = refuses s (codes "Error (unknown command): ") text
 

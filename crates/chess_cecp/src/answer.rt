@@ -10,7 +10,7 @@ ghost use Rattle.chess_text.specs.San.{shown_move};
 ghost use Rattle.chess_base.specs.Faults.{fen_fault_name};
 ghost use Rattle.chess_game.specs.Results.{result_text};
 ghost use Rattle.chess_cecp.specs.Declaring.{verdict_text, declared_text, claims_text, state_text};
-ghost use Rattle.chess_cecp.specs.Session.{moves_line, result_line, verdict_line, feature_text, joined_line};
+ghost use Rattle.chess_cecp.specs.Session.{moves_line, result_line, verdict_line, features_line, joined_line};
 
 use arrayvec::ArrayVec;
 use byte_devices::{append, append_number};
@@ -53,17 +53,17 @@ pub(crate) fn write_pong(answer: &mut Answer, number: u32)
     answer.push(b'\n');
 }
 
-// The features that an arbiter has: it takes `setboard`, answers `ping`, and knows normal chess and Chess960.
+// The line of the features that an arbiter has: it takes `setboard`, answers `ping`, and knows normal chess and Chess960.
 const FEATURES: &[u8] =
-    b"feature ping=1 setboard=1 playother=0 san=0 usermove=1 time=1 draw=1 sigint=0 sigterm=0 reuse=1 analyze=0 colors=0 debug=1 myname=\"CECP arbiter\" variants=\"normal,fischerandom\" done=1";
+    b"feature ping=1 setboard=1 playother=0 san=0 usermove=1 time=1 draw=1 sigint=0 sigterm=0 reuse=1 analyze=0 colors=0 debug=1 myname=\"CECP arbiter\" variants=\"normal,fischerandom\" done=1\n";
 
 // Puts the answer to `protover 2` together: the line of the features.
-#[tactic(auto, unfolding(crate::specs::Session::feature_text))]
+#[tactic(auto, unfolding(crate::specs::Session::features_line))]
 pub(crate) fn write_features(answer: &mut Answer)
     requires { answer.old.items ≡ [] }
-    ensures { answer.new.items ≡ joined_line feature_text [] }
+    ensures { answer.new.items ≡ features_line }
 {
-    write_line(answer, FEATURES, b"");
+    append(answer, FEATURES);
 }
 
 // Puts the answer together that refuses a FEN for this fault: `tellusererror Illegal position (kings)`.

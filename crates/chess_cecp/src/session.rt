@@ -2,17 +2,19 @@
 
 ghost use Rattle.std.specs.Prelude.{◌≡◌, ◌≢◌, ◌≤◌, [], if◌then◌else◌, Some, IfOk, false, length, codes};
 ghost use Rattle.byte_devices.specs.Devices.{Sends};
+ghost use Rattle.chess_base.specs.Initial.{initial_setup};
 ghost use Rattle.chess_base.specs.MoveList.{moves};
 ghost use Rattle.chess_fen.specs.Reading.{fen_reading_as};
 ghost use Rattle.chess_fen.specs.Writing.{fen};
-ghost use Rattle.chess_game.specs.Game.{current, is_over, refusal_now, IsPlayable};
+ghost use Rattle.chess_game.specs.Game.{current, from_start, is_over, refusal_now, IsPlayable};
 ghost use Rattle.chess_cecp.specs.Held.{opened_session, game_held};
 ghost use Rattle.chess_pgn.specs.GameText.{pgn};
 ghost use Rattle.chess_game.specs.Results.{cut_comment};
 ghost use Rattle.chess_text.specs.Moves.{reading, has_shape, shape, IsLegalReading};
+ghost use Rattle.chess_text.specs.San.{is_fischerandom};
 ghost use Rattle.text_lines.specs.Words.{argument_of};
 ghost use Rattle.chess_cecp.specs.Declaring.{read_result};
-ghost use Rattle.chess_cecp.specs.Session.{row, move_row, take_back_row, result_row, declares_draw, claim_row, setboard_row, normal_row, variant_row, session_response, joined_line, moves_line, IsRefusal};
+ghost use Rattle.chess_cecp.specs.Session.{becomes, row, move_row, take_back_row, result_row, declares_draw, claim_row, setboard_row, variant_row, session_response, joined_line, moves_line, IsRefusal};
 ghost use Rattle.chess_cecp.specs.ties.Replies.{after_row, unnamed_command, reply_of, reply_to, shows_moves, shows_pgn, asks_for_moves, asks_for_pgn};
 ghost use Rattle.chess_game.specs.declared.game.TheConstants.{MOST_MOVES};
 ghost use Rattle.chess_cecp.specs.declared.session.TheConstants.{COMMAND_LEN};
@@ -210,7 +212,8 @@ impl<B: Board> Session<B> {
 
     // Obeys `variant normal`: a game of Chess960 starts anew as one of normal chess, and one of normal chess goes on.
     fn leave_chess960(&mut self)
-        ensures { self.new ≡ after_row self.old (normal_row self.old.state self.old.state.start.variant) }
+        ensures { self.new ≡ after_row self.old (becomes
+            (if is_fischerandom self.old.state.start.variant then from_start initial_setup else self.old.state)) }
     {
         match self.game.variant() {
             Variant::Normal => {}

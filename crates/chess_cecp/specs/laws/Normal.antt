@@ -42,8 +42,7 @@ normal_setboard_row s (Err fault) =
 abbrev pub normal_reading_row : State → List ℕ → Reading → Response State
 normal_reading_row s text (reads.Move m) = normal_becomes_judged (played s m)
 normal_reading_row s text reads.Ambiguous = refuses s (codes "Error (ambiguous move): ") text
-normal_reading_row s text reads.NoSuch = refuses s (codes "Illegal move: ") text
-normal_reading_row s text reads.NotAMove = refuses s (codes "Illegal move: ") text
+normal_reading_row s text _ = refuses s (codes "Illegal move: ") text
 
 -- the answer to a move's text in the game `s`: refused if the game is over or has `limit` half-moves, else played or
 -- refused by what it denotes; for normal chess alone
@@ -73,12 +72,13 @@ normal_claim_row s =
 -- accepted, and changes nothing
 abbrev pub normal_variant_row : State → List ℕ → List ℕ → Response State
 normal_variant_row s text argument =
-    if bytes_eq argument (codes "normal") then says s [] else refuses s (codes "Error (unsupported variant): ") text
+    if bytes_eq argument (codes "normal") then becomes s else refuses s (codes "Error (unsupported variant): ") text
 
--- the line that answers `protover 2`: the features of an arbiter of normal chess alone
-unfoldable pub normal_feature_text : List ℕ
-normal_feature_text =
-    codes "feature ping=1 setboard=1 playother=0 san=0 usermove=1 time=1 draw=1 sigint=0 sigterm=0 reuse=1 analyze=0 colors=0 debug=1 myname=\"CECP arbiter\" variants=\"normal\" done=1"
+-- the line that answers `protover 2` and each later version, with `\n` at its end: the features of an arbiter of normal
+-- chess alone
+unfoldable pub normal_features_line : List ℕ
+normal_features_line =
+    codes "feature ping=1 setboard=1 playother=0 san=0 usermove=1 time=1 draw=1 sigint=0 sigterm=0 reuse=1 analyze=0 colors=0 debug=1 myname=\"CECP arbiter\" variants=\"normal\" done=1\n"
 
 -- the answer of `showmoves`: `# moves 20 b1a3 b1c3 ..`, castling by the king's squares; for normal chess alone
 abbrev pub normal_moves_line : List Move → List ℕ
@@ -107,16 +107,15 @@ normal_row_of tags limit s text argument Remove = take_back_row 2 (codes "remove
 normal_row_of tags limit s text argument Declare = normal_result_row s text (read_result argument)
 normal_row_of tags limit s text argument Claim = normal_claim_row s
 normal_row_of tags limit s text argument (Ping n) = says s (joined_line (codes "pong ") (decimal n))
-normal_row_of tags limit s text argument (Protover n) = if nat_lt n 2 then says s [] else says s
-    (joined_line normal_feature_text [])
+normal_row_of tags limit s text argument (Protover n) = if nat_lt n 2 then becomes s else says s normal_features_line
 normal_row_of tags limit s text argument Variant = normal_variant_row s text argument
 normal_row_of tags limit s text argument Go = refuses s (codes "Error (the arbiter plays no side): ") (codes "go")
 normal_row_of tags limit s text argument ShowFen = says s (joined_line (codes "# fen ") (normal_fen (normal_current s)))
 normal_row_of tags limit s text argument ShowMoves = says s (normal_moves_line (normal_moves (normal_current s)))
 normal_row_of tags limit s text argument ShowState = says s (joined_line (codes "# state ply ") (normal_state_text s))
 normal_row_of tags limit s text argument ShowPgn = says s (normal_pgn (codes "# ") tags s)
-normal_row_of tags limit s text argument Quit = record (says s []) { ends = true }
-normal_row_of tags limit s text argument Silent = says s []
+normal_row_of tags limit s text argument Quit = record (becomes s) { ends = true }
+normal_row_of tags limit s text argument Silent = becomes s
 normal_row_of tags limit s text argument BadNumber = refuses s (codes "Error (bad number): ") text
 normal_row_of tags limit s text argument Unknown = refuses s (codes "Error (unknown command): ") text
 
