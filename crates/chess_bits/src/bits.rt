@@ -120,9 +120,9 @@ impl Board for Bits<'_> {
     }
 
     // A set with at least the start square of each legal move to `to` by a piece of this kind, of the side on move. It
-    // is asked for texts of castling and promotions (for most others `legal_starts` is), and for the pawns that may
-    // take en passant. The moves from these squares are then tested one by one, so there may be more: for a king always
-    // its square, for another kind each piece that reaches `to`, even if pinned.
+    // is asked for texts of castling and promotions (for most others `legal_starts` is). The moves from these squares
+    // are then tested one by one, so there may be more: for a king always its square, for another kind each piece that
+    // reaches `to`, even if pinned.
     fn origins(&self, kind: Kind, to: Square) -> SquareSet {
         let side = self.setup.side;
         let men = self.sets.of(side);
@@ -143,7 +143,8 @@ impl Board for Bits<'_> {
     }
 
     // The squares from which a piece of this kind, of the side on move, may legally move to `to` without a promotion.
-    // Unlike `origins`, it names no other square. SAN needs it: for Nd2, whether one knight can go there or two.
+    // Unlike `origins`, it names no other square. SAN needs it: for Nd2, whether one knight can go there or two. So does
+    // the comparison of positions: for the en passant target, whether a pawn can legally capture there.
     #[inline(always)]
     fn legal_starts(&self, kind: Kind, to: Square) -> SquareSet {
         self.starts_of(kind, to)

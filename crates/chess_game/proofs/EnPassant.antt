@@ -1,40 +1,47 @@
--- A legal capture en passant begins on a pawn's square, ends on the target and promotes nothing.
-use Rattle.std.proofs.Common.{◌≡◌, ◌<◌, ℕ, true, ◌==◌, Option, Some, None, refl, ap, ◌∙◌, arith}
+-- A pawn's legal moves to the en passant target are the legal captures en passant.
+use Rattle.std.proofs.Common.{◌≡◌, ◌<◌, ℕ, inl, inr, Bool, true, not, ◌==◌, ◌&&◌, Option, Some, None, get_or, refl, sym, ap, ◌∙◌, arith}
 use Rattle.std.proofs.lemmas.Bool.Decides.{nat_tests}
-use Rattle.std.proofs.lemmas.Bool.{eqb-true}
+use Rattle.std.proofs.lemmas.Bool.{eqb-true, and_from, and_parts, both_ways}
+use Rattle.std.specs.List.{list_any}
 use Rattle.chess_base.specs.declared.man.Colour.{Colour}
 use Rattle.chess_base.specs.declared.man.Colour.TheVariants.{White, Black}
 use Rattle.chess_base.specs.declared.man.Kind.{Kind}
 use Rattle.chess_base.specs.declared.man.Kind.TheVariants.{Pawn}
 use Rattle.chess_base.specs.declared.man.Move.{Move}
 use Rattle.chess_base.specs.declared.setup.Setup.{Setup}
-use Rattle.chess_base.specs.Men.{man_at, is_man, other, first_rank, crossed_rank}
-use Rattle.chess_base.specs.Moves.{is_legal, is_en_passant}
-use Rattle.chess_base.specs.Squares.{rank}
-use Rattle.chess_base.specs.Sound.{IsSound, target_is_sound, target_is_sound_at}
+use Rattle.chess_base.specs.Men.{man_at, is_man, other, first_rank, crossed_rank, forward, pawn_rank}
+use Rattle.chess_base.specs.MoveList.{squares, move_of, moves}
+use Rattle.chess_base.specs.Moves.{is_legal, is_en_passant, pawn_advances, one_rank_back}
+use Rattle.chess_base.specs.Squares.{rank, is_at, some_square}
+use Rattle.chess_base.specs.Sound.{IsSound}
+use Rattle.chess_base.proofs.shared.Changes.{advance_goes, at_target, pawn_no_castling}
+use Rattle.chess_base.proofs.shared.Men.{is_man-colour}
+use Rattle.chess_base.proofs.shared.MoveKinds.{MoveKind, ManMoves, Castles, PawnMoves, Advances, Captures, TakesEnPassant, moves_from_pattern}
+use Rattle.chess_base.proofs.shared.Squares.{length-from_below, get_or-from_below, some_square_same}
 use Rattle.chess_moves.specs.Promoting.{would_promote}
-use Rattle.chess_moves.specs.Sets.{HasOrigins}
+use Rattle.chess_moves.specs.Sets.{contains, HasLegalStarts}
 use Rattle.chess_moves.proofs.shared.LegalMoves.{promotes_on_last_rank}
-use Rattle.chess_moves.proofs.shared.AnyMove.{AllFound}
+use Rattle.chess_moves.proofs.shared.AnyMove.{any_by_start}
+use Rattle.chess_game.proofs.SomeKind.{any_square, not_none}
+
+at_itself : (t : ℕ) → is_at (Some t) t ≡ true
+at_itself t = grind arith
+
+is_target : (p : Setup) (s t : ℕ) → p.target ≡ Some t → s ≡ t → is_at p.target s ≡ true
+is_target p s t at there = rw (at, there) (at_itself t)
 
 -- the target's rank
-pub target_rank : (p : Setup) (t : ℕ) → IsSound p → p.target ≡ Some t → rank t ≡ crossed_rank (other p.side)
-unfolding target_is_sound
-target_rank p t sound at = by_target p.target sound.target at
-  where
-    by_target : (o : Option ℕ) → target_is_sound_at p.men p.side o ≡ true → o ≡ Some t
-        → rank t ≡ crossed_rank (other p.side)
-    by_target None h e = cc
-    by_target (Some s) h e = grind (arith, h, e)
+target_rank : (p : Setup) (t : ℕ) → IsSound p → p.target ≡ Some t → rank t ≡ crossed_rank (other p.side)
+target_rank p t sound at = (at_target p t sound.target (is_target p t t at refl)).0
 
 not_last : (c : Colour) (t : ℕ) → rank t ≡ crossed_rank (other c) → (rank t == first_rank (other c)) ≡ true
     → (A : Type 0) → A
 not_last White t e h A = let last = eqb-true (rank t) 7 h in absurd (omega (arith, e, last))
 not_last Black t e h A = let last = eqb-true (rank t) 0 h in absurd (omega (arith, e, last))
 
-captures : (p : Setup) (m : Move) → is_en_passant p m ≡ true → is_man p.side Pawn (man_at p.men m.from) ≡ true
+pawn_captures : (p : Setup) (m : Move) → is_en_passant p m ≡ true → is_man p.side Pawn (man_at p.men m.from) ≡ true
 unfolding is_en_passant
-captures p m h = grind (arith, h)
+pawn_captures p m h = grind (arith, h)
 
 on_target : (p : Setup) (m : Move) (t : ℕ) → p.target ≡ Some t → is_en_passant p m ≡ true → m.to ≡ t
 unfolding is_en_passant
@@ -52,18 +59,69 @@ none_promoted p m t sound at legal there = by_promotion m.promotion refl
         let last : (rank m.to == first_rank (other p.side)) ≡ true = grind (arith, promoting) in
         not_last p.side m.to (ap rank there ∙ target_rank p t sound at) last (Some k ≡ None)
 
--- so the squares from which pawns may go to the target are all to be looked at
-pub en_passant_found : (p : Setup) (t w : ℕ) → IsSound p → p.target ≡ Some t → HasOrigins p Pawn t w
-    → AllFound p (λ m. is_en_passant p m) t w
-en_passant_found p t w sound at origins = record {
-  begins = λ m legal h. origins m legal (captures p m h) (on_target p m t at h);
-  ends = λ m legal h. on_target p m t at h;
-  stays = λ m legal h. none_promoted p m t sound at legal (on_target p m t at h);
-}
-
 target_below : (c : Colour) (t : ℕ) → rank t ≡ crossed_rank (other c) → t < 64
 target_below White t e = omega (arith, e)
 target_below Black t e = omega (arith, e)
 
-pub target_in : (p : Setup) (t : ℕ) → IsSound p → p.target ≡ Some t → t < 64
-target_in p t sound at = target_below p.side t (target_rank p t sound at)
+-- no pawn advances to the target: one step back is the pawn that crossed it, and a double advance ends elsewhere
+
+back : (c : Colour) (a b : ℕ) → rank b ≡ crossed_rank (other c) → b ≡ forward c a → one_rank_back c b ≡ a
+back White a b e f = omega (arith, e, f)
+back Black a b e f = omega (arith, e, f)
+
+too_far : (c : Colour) (a b : ℕ) → rank b ≡ crossed_rank (other c) → rank a ≡ pawn_rank c
+    → b ≡ forward c (forward c a) → ⊥
+too_far White a b e r f = omega (arith, e, r, f)
+too_far Black a b e r f = omega (arith, e, r, f)
+
+none_advances : (p : Setup) (m : Move) → IsSound p → is_at p.target m.to ≡ true
+    → is_man p.side Pawn (man_at p.men m.from) ≡ true → pawn_advances p m ≡ true → ⊥
+none_advances p m sound at pawn e =
+    let facts = at_target p m.to sound.target at in
+    elim (advance_goes p m e) [
+      | inl one ↦
+          let enemy = rw (back p.side m.from m.to facts.0 one) at facts.2 in
+          both_ways _ (is_man-colour p.side Pawn Pawn _ enemy) pawn
+      | inr two ↦ too_far p.side m.from m.to facts.0 two.0 two.1
+    ]
+
+captures_there : (p : Setup) (m : Move) → IsSound p → is_at p.target m.to ≡ true
+    → is_man p.side Pawn (man_at p.men m.from) ≡ true → is_legal p m ≡ true → is_en_passant p m ≡ true
+unfolding is_legal is_en_passant
+captures_there p m sound at pawn legal = by_kind (moves_from_pattern p m (and_parts _ _ legal).0).kind
+  where
+    by_kind : MoveKind p m → is_en_passant p m ≡ true
+    by_kind (ManMoves away none goes) = absurd (both_ways _ away pawn)
+    by_kind (Castles w r castles right goes) = let none = pawn_no_castling p m pawn in cc
+    by_kind (PawnMoves man fits (Advances e)) = absurd (none_advances p m sound at pawn e)
+    by_kind (PawnMoves man fits (Captures e taken)) = and_from _ _ (and_from _ _ pawn e) at
+    by_kind (PawnMoves man fits (TakesEnPassant e passed)) = and_from _ _ (and_from _ _ pawn e) at
+
+squares_any : (f : ℕ → Bool) → list_any f squares ≡ some_square f
+unfolding squares
+squares_any f =
+    any_square f squares 0 (length-from_below 64 (λ s. s))
+    ∙ some_square_same (λ k. f (get_or squares k 0)) f (λ k l. ap f (get_or-from_below 64 (λ s. s) k 0 l))
+
+-- so some pawn may legally go there exactly if some legal move captures en passant
+pub some_start : (p : Setup) (t w : ℕ) → IsSound p → p.target ≡ Some t → HasLegalStarts p Pawn t w
+    → not (not (some_square (λ k. contains w k))) ≡ list_any (λ m. is_en_passant p m) (moves p)
+some_start p t w sound at starts =
+    not_none (some_square (λ k. contains w k))
+    ∙ some_square_same (λ k. contains w k) captures (λ k l. starts k l ∙ same k)
+    ∙ sym (squares_any captures)
+    ∙ any_by_start p (λ m. is_en_passant p m) t (target_below p.side t (target_rank p t sound at)) (record {
+      ends = λ m legal h. on_target p m t at h;
+      stays = λ m legal h. none_promoted p m t sound at legal (on_target p m t at h);
+    })
+  where
+    captures : ℕ → Bool
+    captures k = is_en_passant p (move_of k t None) && is_legal p (move_of k t None)
+
+    alike : (x y z : Bool) → (z ≡ true → x ≡ true → y ≡ true) → (y ≡ true → x ≡ true) → (x && z) ≡ (y && z)
+    alike x y z h g = grind (arith, h, g)
+
+    same : (k : ℕ) → (is_man p.side Pawn (man_at p.men k) && is_legal p (move_of k t None)) ≡ captures k
+    same k = alike _ _ _
+        (λ legal pawn. captures_there p (move_of k t None) sound (is_target p t t at refl) pawn legal)
+        (λ e. pawn_captures p (move_of k t None) e)

@@ -1,5 +1,5 @@
 -- Whether a piece of a kind is there, by the sets of its squares.
-use Rattle.std.proofs.Common.{◌≡◌, ℕ, zero, suc, ◌+◌, ◌<◌, ◌≤◌, Bool, not, ◌&&◌, ◌||◌, Option, Some, None, List, [], ◌∷◌, length, take, refl, sym, ◌∙◌, ap, arith}
+use Rattle.std.proofs.Common.{◌≡◌, ℕ, zero, suc, ◌+◌, ◌<◌, ◌≤◌, Bool, not, ◌&&◌, ◌||◌, Option, Some, None, List, [], ◌∷◌, length, get_or, take, refl, sym, ◌∙◌, ap, arith}
 use Rattle.std.proofs.Math.Seq.{take-length}
 use Rattle.std.proofs.lemmas.List.Folds.{list_any_more}
 use Rattle.std.specs.List.{list_any}
@@ -32,17 +32,17 @@ next : (n : ℕ) → suc n ≡ n + 1
 next n = omega arith
 
 -- a list's test by its numbers
-any_below : (f : Option Man → Bool) (men : Men) (n : ℕ) → n ≤ length men
-    → list_any f (take n men) ≡ some_below n (λ k. f (man_at men k))
-any_below f men zero h = refl
-any_below f men (suc n) h = ap (λ m. list_any f (take m men)) (next n) ∙ list_any_more f men n None (omega arith)
-    ∙ ap (λ b. b || f (man_at men n)) (any_below f men n (omega arith))
+any_below : {A : Type 0} (f : A → Bool) (xs : List A) (d : A) (n : ℕ) → n ≤ length xs
+    → list_any f (take n xs) ≡ some_below n (λ k. f (get_or xs k d))
+any_below f xs d zero h = refl
+any_below f xs d (suc n) h = ap (λ m. list_any f (take m xs)) (next n) ∙ list_any_more f xs n d (omega arith)
+    ∙ ap (λ b. b || f (get_or xs n d)) (any_below f xs d n (omega arith))
 
-any_square : (f : Option Man → Bool) (men : Men) → length men ≡ 64 → list_any f men
-    ≡ some_square (λ k. f (man_at men k))
+pub any_square : {A : Type 0} (f : A → Bool) (xs : List A) (d : A) → length xs ≡ 64
+    → list_any f xs ≡ some_square (λ k. f (get_or xs k d))
 unfolding some_square
-any_square f men whole = ap (list_any f) (sym (take-length men)) ∙ ap (λ n. list_any f (take n men)) whole
-    ∙ any_below f men 64 (omega (arith, whole))
+any_square f xs d whole = ap (list_any f) (sym (take-length xs)) ∙ ap (λ n. list_any f (take n xs)) whole
+    ∙ any_below f xs d 64 (omega (arith, whole))
 
 -- ---- by colours
 
@@ -54,7 +54,7 @@ unfolding is_man
 of_colours wanted None = refl
 of_colours wanted (Some x) = by_colour x.colour (same_kind wanted x.kind)
 
-not_none : (a : Bool) → not (not a) ≡ a
+pub not_none : (a : Bool) → not (not a) ≡ a
 not_none a = grind arith
 
 -- a piece of the kind is there where the squares of the kind's pieces are some
@@ -63,7 +63,7 @@ pub some_of_kind : (p : Setup) (kind : Kind) (w : ℕ) → IsSound p
     → not (not (some_square (λ k. contains w k))) ≡ list_any (is_kind kind) p.men
 some_of_kind p kind w sound is =
     not_none (some_square (λ k. contains w k))
-    ∙ sym (any_square (is_kind kind) p.men sound.board
+    ∙ sym (any_square (is_kind kind) p.men None sound.board
     ∙ some_square_same (λ k. is_kind kind (man_at p.men k)) (λ k. contains w k) (λ k l. sym (is k l)))
 
 -- the three kinds together

@@ -3,5 +3,4 @@ pub mod PlayedMoves
 pub mod PositionsLeft
 pub mod Buckets
 pub mod Packed
-pub mod Captures
 pub mod Material

@@ -5,12 +5,10 @@ ghost use Rattle.std.specs.List.{list_any};
 ghost use Rattle.chess_base.specs.MoveList.{moves};
 ghost use Rattle.chess_base.specs.Moves.{is_en_passant};
 ghost use Rattle.chess_game.specs.Same.{same_square, same_colour_rights, same_rights, legal_en_passant_square, is_same_position};
-ghost use Rattle.chess_game.specs.ties.Captures.{captures_legally};
 ghost use Rattle.chess_game.specs.ties.PlayedMoves.{IsKnown, HasHash, ShareHashing};
 
 use crate::packed::PackedPosition;
-use chess_base::rules::is_en_passant;
-use chess_base::{ColourRights, Kind, Move, Rights, Square};
+use chess_base::{ColourRights, Kind, Rights, Square};
 use chess_moves::Board;
 
 // A position, packed, with its hash, and its en passant target if a legal move captures on it; both are computed once.
@@ -98,8 +96,8 @@ fn legal_en_passant_square<B: Board>(board: &B) -> Option<Square>
     }
 }
 
-// Whether some legal move captures en passant on `target`, the position's en passant target. Few positions have a
-// target, so this is not inlined.
+// Whether some legal move captures en passant on `target`, the position's en passant target: a pawn of the side on move
+// goes there in no other way. Few positions have a target, so this is not inlined.
 #[inline(never)]
 fn is_captured_on<B: Board>(board: &B, target: Square) -> bool
     requires { (B.position board.now).target ≡ Some target }
@@ -107,25 +105,7 @@ fn is_captured_on<B: Board>(board: &B, target: Square) -> bool
 {
     // The prover wants this fact: the position is sound, so its target is a square that a double advance crossed.
     let _sound = board.setup();
-    let mut rest = board.origins(Kind::Pawn, target);
-    while let Some(from) = rest.take_first() {
-        if is_en_passant_from(board, from, target) {
-            return true;
-        }
-    }
-    false
-}
-
-// Whether the move from `from` to `to` (no promotion) is a legal capture en passant in the board's position.
-fn is_en_passant_from<B: Board>(board: &B, from: Square, to: Square) -> bool
-    ensures { result ≡ captures_legally (B.position board.now) to from }
-{
-    let m = Move {
-        from,
-        to,
-        promotion: None,
-    };
-    is_en_passant(board.setup(), &m) && board.is_legal(&m)
+    !board.legal_starts(Kind::Pawn, target).is_empty()
 }
 
 // Whether two optional squares are equal, the same square or both none: `==`, with a contract in the words of the

@@ -194,13 +194,6 @@ fn has_pawn_rook_or_queen<B: Board>(board: &B) -> bool
     has_kind(board, Kind::Pawn) || has_kind(board, Kind::Rook) || has_kind(board, Kind::Queen)
 }
 
-// Whether a knight, of either colour, is on the board.
-fn has_knight(men: &[Option<Man>; 64]) -> bool
-    ensures { result ≡ list_any (is_kind Kind.Knight) men.now }
-{
-    men.iter().any(|man| is_kind(Kind::Knight, *man))
-}
-
 // How many bishops and knights, of both colours, are on the board.
 fn minor_count(men: &[Option<Man>; 64]) -> usize
     ensures { result ≡ count_by is_minor men.now }
@@ -217,6 +210,6 @@ pub(crate) fn has_insufficient_material<B: Board>(board: &B) -> bool
     let men = &board.setup().men;
     !has_pawn_rook_or_queen(board)
         && (minor_count(men) <= 1
-            || (!has_knight(men)
+            || (!has_kind(board, Kind::Knight)
                 && !(has_bishop_on(Colour::White, men) && has_bishop_on(Colour::Black, men))))
 }

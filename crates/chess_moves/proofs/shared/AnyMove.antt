@@ -1,4 +1,4 @@
--- For texts of moves and games: a test of the legal moves, made only on the squares of a set.
+-- For texts of moves and games: a test of the legal moves, made once for each start square.
 use Rattle.std.proofs.Common.{◌≡◌, ◌≢◌, ℕ, zero, suc, ◌<◌, inl, inr, Bool, true, false, ◌&&◌, ◌||◌, ◌==◌, Option, Some, None, List, [], ◌∷◌, map, refl, sym, ap, ◌∙◌, arith}
 use Rattle.std.proofs.Math.Path.{fun_ext}
 use Rattle.std.proofs.lemmas.Bool.{cases_Bool, and_parts, false_from_ne_true, or_left, or_right, eqb-true, eqb-false}
@@ -11,7 +11,6 @@ use Rattle.chess_base.specs.declared.setup.Setup.{Setup}
 use Rattle.chess_base.specs.Moves.{is_legal}
 use Rattle.chess_base.specs.Squares.{from_below}
 use Rattle.chess_base.specs.MoveList.{promotions, move_of, squares, all_moves, moves}
-use Rattle.chess_moves.specs.Sets.{contains, members}
 
 -- ---- over lists
 
@@ -32,16 +31,6 @@ any-flat_map t f (x ∷ xs) = list_any-append t (f x) (flat_map f xs)
 any-none : {A : Type 0} (f : A → Bool) (xs : List A) → ((x : A) → f x ≡ false) → list_any f xs ≡ false
 any-none f [] h = refl
 any-none f (x ∷ xs) h = rw (h x) (any-none f xs h)
-
--- what a filter leaves out would not pass
-any-kept : {A : Type 0} (q t : A → Bool) (xs : List A) → ((x : A) → q x ≡ false → t x ≡ false)
-    → list_any t (filter q xs) ≡ list_any t xs
-any-kept q t [] h = refl
-any-kept q t (x ∷ xs) h =
-    elim (cases_Bool (q x)) [
-      | inl on ↦ rw on (ap (λ b. t x || b) (any-kept q t xs h))
-      | inr off ↦ rw (off, h x off) (any-kept q t xs h)
-    ]
 
 -- ---- over squares
 
@@ -66,17 +55,10 @@ any-alone f b low away =
       ]) ∙ sym off
     ]
 
--- the squares outside a set need not be looked at where none of them passes
-pub any_members : (t : ℕ → Bool) (w : ℕ) → ((k : ℕ) → contains w k ≡ false → t k ≡ false)
-    → list_any t (members w) ≡ list_any t squares
-unfolding members
-any_members t w h = any-kept (λ k. contains w k) t squares h
-
 -- ---- over the legal moves
 
--- the moves that a test finds begin on squares of the set, end on one square and promote nothing
-pub record AllFound (p : Setup) (t : Move → Bool) (to w : ℕ) : Type 0 where
-  pub begins : (m : Move) → is_legal p m ≡ true → t m ≡ true → contains w m.from ≡ true
+-- the legal moves that a test finds end on one square and promote nothing
+pub record AllFound (p : Setup) (t : Move → Bool) (to : ℕ) : Type 0 where
   pub ends : (m : Move) → is_legal p m ≡ true → t m ≡ true → m.to ≡ to
   pub stays : (m : Move) → is_legal p m ≡ true → t m ≡ true → m.promotion ≡ None
 
@@ -86,23 +68,23 @@ found p t m = is_legal p m && t m
 not_found : (p : Setup) (t : Move → Bool) (m : Move) → (is_legal p m ≡ true → t m ≡ true → ⊥) → found p t m ≡ false
 not_found p t m h = false_from_ne_true _ (λ e. let both = and_parts _ _ e in h both.0 both.1)
 
-elsewhere : (p : Setup) (t : Move → Bool) (to w a b : ℕ) → AllFound p t to w → b ≢ to → (k : Option Kind)
+elsewhere : (p : Setup) (t : Move → Bool) (to a b : ℕ) → AllFound p t to → b ≢ to → (k : Option Kind)
     → found p t (move_of a b k) ≡ false
-elsewhere p t to w a b all away k = not_found p t (move_of a b k) (λ e f. away (all.ends (move_of a b k) e f))
+elsewhere p t to a b all away k = not_found p t (move_of a b k) (λ e f. away (all.ends (move_of a b k) e f))
 
-promoted : (p : Setup) (t : Move → Bool) (to w a : ℕ) → AllFound p t to w → (k : Kind)
+promoted : (p : Setup) (t : Move → Bool) (to a : ℕ) → AllFound p t to → (k : Kind)
     → found p t (move_of a to (Some k)) ≡ false
-promoted p t to w a all k =
+promoted p t to a all k =
     not_found p t (move_of a to (Some k)) (λ e f. let none = all.stays (move_of a to (Some k)) e f in cc)
 
-between : (p : Setup) (t : Move → Bool) (to w a : ℕ) → AllFound p t to w
+between : (p : Setup) (t : Move → Bool) (to a : ℕ) → AllFound p t to
     → list_any (found p t) (map (move_of a to) promotions) ≡ (t (move_of a to None) && is_legal p (move_of a to None))
-between p t to w a all =
+between p t to a all =
     rw (
-      promoted p t to w a all Queen,
-      promoted p t to w a all Rook,
-      promoted p t to w a all Bishop,
-      promoted p t to w a
+      promoted p t to a all Queen,
+      promoted p t to a all Rook,
+      promoted p t to a all Bishop,
+      promoted p t to a
           all Knight,
     )
     (by_one (is_legal p (move_of a to None)) (t (move_of a to None)))
@@ -110,32 +92,26 @@ between p t to w a all =
     by_one : (x y : Bool) → ((x && y) || false) ≡ (y && x)
     by_one x y = grind arith
 
-none_elsewhere : (p : Setup) (t : Move → Bool) (to w a b : ℕ) → AllFound p t to w → b ≢ to
+none_elsewhere : (p : Setup) (t : Move → Bool) (to a b : ℕ) → AllFound p t to → b ≢ to
     → list_any (found p t) (map (move_of a b) promotions) ≡ false
-none_elsewhere p t to w a b all away =
+none_elsewhere p t to a b all away =
     rw (
-      elsewhere p t to w a b all away None,
-      elsewhere p t to w a b all away (Some Queen),
-      elsewhere p t to w a b all away (Some Rook),
-      elsewhere p t to w a b all away (Some Bishop),
-      elsewhere p t to w a b all away (Some Knight),
+      elsewhere p t to a b all away None,
+      elsewhere p t to a b all away (Some Queen),
+      elsewhere p t to a b all away (Some Rook),
+      elsewhere p t to a b all away (Some Bishop),
+      elsewhere p t to a b all away (Some Knight),
     ) refl
 
--- such a test need look at the squares of the set alone
-pub any_from_members : (p : Setup) (t : Move → Bool) (to w : ℕ) → to < 64 → AllFound p t to w
-    → list_any (λ a. t (move_of a to None) && is_legal p (move_of a to None)) (members w) ≡ list_any t (moves p)
+-- such a test need look at one move from each square alone
+pub any_by_start : (p : Setup) (t : Move → Bool) (to : ℕ) → to < 64 → AllFound p t to
+    → list_any (λ a. t (move_of a to None) && is_legal p (move_of a to None)) squares ≡ list_any t (moves p)
 unfolding moves all_moves
-any_from_members p t to w low all =
-    any_members (λ a. t (move_of a to None) && is_legal p (move_of a to None)) w (λ a out. outside a out)
-    ∙ sym (any-filter (λ m. is_legal p m) t
+any_by_start p t to low all =
+    sym (any-filter (λ m. is_legal p m) t
     (flat_map (λ a. flat_map (λ b. map (move_of a b) promotions) squares) squares)
     ∙ any-flat_map (found p t) (λ a. flat_map (λ b. map (move_of a b) promotions) squares) squares
     ∙ ap (λ (f : ℕ → Bool). list_any f squares) (fun_ext (λ a. any-flat_map (found p t) (λ b. map (move_of a b) promotions) squares
     ∙ any-alone (λ b. list_any (found p t) (map (move_of a b) promotions)) to low
-    (λ b away. none_elsewhere p t to w a b all away)
-    ∙ between p t to w a all)))
-  where
-    outside : (a : ℕ) → contains w a ≡ false → (t (move_of a to None) && is_legal p (move_of a to None)) ≡ false
-    outside a out = false_from_ne_true _ (λ e. let both = and_parts _ _ e in
-        let there = all.begins (move_of a to None) both.1 both.0 in
-        cc)
+    (λ b away. none_elsewhere p t to a b all away)
+    ∙ between p t to a all)))
