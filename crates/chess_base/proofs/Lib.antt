@@ -5,7 +5,6 @@ mod Reaches
 mod Knights
 mod CountedWrites
 mod CastlingChange
-mod CastlingNamed
 mod StaysSound
 mod TakesBack
 mod CountsAfter
