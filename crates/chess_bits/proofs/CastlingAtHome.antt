@@ -1,4 +1,5 @@
--- Castling: in normal chess the king is at home where its right is available; and its squares, by those of king and rook.
+-- Where a right to castle is available: the king is at home (in normal chess), and the move of the king to the end
+-- square of that castling has its squares.
 use mathlib.Core.Bool.{and-false, and-true}
 use Rattle.std.proofs.Common.{◌≡◌, inl, inr, ℕ, ◌<◌, Bool, true, false, ◌&&◌, ◌==◌, Option, Some, None, refl, sym, ap, ◌∙◌, arith}
 use Rattle.std.specs.Prelude.{option_and_then}
@@ -105,7 +106,8 @@ castle_told p w a b rook sound right king end =
     let on : castling_on p w ≡ Some (castle_from p.side w a rook) = rw (right, at) refl in
     let here : is_by p (move_of a b None) w ≡ true = rw (on, end, eq-eqb a a refl, eq-eqb _ _ refl) refl in
     same_castle p (move_of a b None) sound
-    ∙ ap (option_and_then (castling_on p)) (found p (move_of a b None) w here (other_side p w a b rook sound right at end)) ∙ on
+    ∙ ap (option_and_then (castling_on p)) (found p (move_of a b None) w here (other_side p w a b rook sound right at end))
+    ∙ on
 
 -- and this is the one end square of that castling
 end_is : (v : Variant) (c : Colour) (w : CastlingSide) (a rook k : ℕ)
@@ -113,8 +115,8 @@ end_is : (v : Variant) (c : Colour) (w : CastlingSide) (a rook k : ℕ)
 end_is Normal c w a rook k = refl
 end_is Fischerandom c w a rook k = refl
 
-pub castles_onto_end : (p : Setup) (w : CastlingSide) (a b rook k : ℕ) → IsSound p → right_of p.rights p.side w ≡ Some rook
-    → is_man p.side King (man_at p.men a) ≡ true → b ≡ named_square p.variant (castle_from p.side w a rook)
+pub castles_onto_end : (p : Setup) (w : CastlingSide) (a b rook k : ℕ) → IsSound p
+    → right_of p.rights p.side w ≡ Some rook → is_man p.side King (man_at p.men a) ≡ true → b ≡ named_square p.variant (castle_from p.side w a rook)
     → (is_legal p (move_of a b None) && (k == b)) ≡ castles_onto p w a k
 castles_onto_end p w a b rook k sound right king end =
     let ends : names_end p.variant p.side w (right_of p.rights p.side w) k ≡ (k == b) =

@@ -1,6 +1,5 @@
 -- With king and right there, the move is the castling with these squares (castle_told of CastlingAtHome), and no other
 -- end square names it (castles_onto_end); a piece that is no king never castles (no_king_castles).
-use mathlib.Core.Bool.{and-false}
 use Rattle.std.proofs.Common.{rules, ◌≡◌, ◌==◌, ◌&&◌, true, false, None, Some, sym, ap, ◌∙◌}
 use Rattle.chess_base.specs.declared.castling.Castle.{Castle}
 use Rattle.chess_base.specs.declared.man.Kind.TheVariants.{King}
@@ -39,4 +38,5 @@ returns c = λ k low.
     let end : c.named_square-to.result
     ≡ named_square p.variant (castle_from p.side c.args.castling_side c.args.king c.args.rook) = search rules in
     c.single_if.ensures k ∙ ap (λ t. t && (k == c.named_square-to.result)) c.castles_legally.ensures
-    ∙ castles_onto_end p c.args.castling_side c.args.king c.named_square-to.result c.args.rook k sound c.requires king end
+    ∙ castles_onto_end p c.args.castling_side c.args.king c.named_square-to.result c.args.rook k sound c.requires king
+    end
