@@ -6,7 +6,6 @@ mod Knights
 mod CountedWrites
 mod KingChecks
 mod CastlingChange
-mod CastlingNamed
 mod StaysSound
 mod TakesBack
 mod CountsAfter

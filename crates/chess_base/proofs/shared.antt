@@ -1,6 +1,7 @@
 -- Lemmas for crates above: all are about definitions, none about functions. They can cite no other module of proofs/.
 pub mod Captures
 pub mod Castling
+pub mod CastlingNamed
 pub mod Changes
 pub mod Choices
 pub mod Geometry

@@ -227,9 +227,14 @@ pub fn castling(setup: &Setup, m: &Move) -> Option<CastlingSide>
     }
 }
 
-// The four squares of this colour's castling to this side, where the king starts on the square `king` and the rook on
-// the square `rook`.
-fn castle_from(colour: Colour, castling_side: CastlingSide, king: Square, rook: Square) -> Castle
+/// The four squares of this colour's castling to this side: the king starts on `king`, the rook on `rook`. For White's
+/// on the king's side from `e1` and `h1` the ends are `g1` and `f1`. Whether king and rook are there is not asked.
+pub fn castle_from(
+    colour: Colour,
+    castling_side: CastlingSide,
+    king: Square,
+    rook: Square,
+) -> Castle
     ensures { result ≡ castle_from colour castling_side king rook }
 {
     Castle {

@@ -1,24 +1,31 @@
--- Castling in normal chess: where its right is available, the king is at home.
-use Rattle.chess_base.proofs.shared.Kings.{one_king_of}
-use Rattle.std.proofs.Common.{◌≡◌, ℕ, ◌<◌, true, false, ◌&&◌, ◌==◌, Option, Some, None, refl, sym, ap, ◌∙◌}
-use Rattle.std.proofs.lemmas.Bool.{and_parts, and_from, and_right, eqb-true, eq-eqb}
+-- Where a right to castle is available: the king is at home (in normal chess), and the move of the king to the end
+-- square of that castling has its squares.
+use mathlib.Core.Bool.{and-false, and-true}
+use Rattle.std.proofs.Common.{◌≡◌, inl, inr, ℕ, ◌<◌, Bool, true, false, ◌&&◌, ◌==◌, Option, Some, None, refl, sym, ap, ◌∙◌, arith}
+use Rattle.std.specs.Prelude.{option_and_then}
+use Rattle.std.specs.Option.{option_map, option_map_or}
+use Rattle.std.proofs.lemmas.Bool.Decides.{nat_tests}
+use Rattle.std.proofs.lemmas.Bool.{and_parts, and_right, cases_eq, eqb-true, eq-eqb, ne_eqb}
 use Rattle.chess_base.specs.declared.man.CastlingSide.{CastlingSide}
 use Rattle.chess_base.specs.declared.man.CastlingSide.TheVariants.{KingSide, QueenSide}
 use Rattle.chess_base.specs.declared.man.Colour.{Colour}
 use Rattle.chess_base.specs.declared.man.Colour.TheVariants.{White, Black}
-use Rattle.chess_base.specs.declared.man.Kind.{Kind}
 use Rattle.chess_base.specs.declared.man.Kind.TheVariants.{King, Rook}
-use Rattle.chess_base.specs.declared.man.Variant.TheVariants.{Normal}
+use Rattle.chess_base.specs.declared.man.Move.{Move}
+use Rattle.chess_base.specs.declared.man.Variant.{Variant}
+use Rattle.chess_base.specs.declared.man.Variant.TheVariants.{Normal, Fischerandom}
 use Rattle.chess_base.specs.declared.setup.Setup.{Setup}
-use Rattle.chess_base.specs.Castling.{home_square, king_home_file, rook_file, castled_king_file, castled_rook_file, right_of, are_placed_for_castling, right_is_sound, is_castling_to, castling, castle_from, castle_of}
-use Rattle.chess_base.specs.Before.{castle_by}
-use Rattle.chess_base.specs.shared.Splits.{names_castling, castle_with}
-use Rattle.chess_base.specs.Men.{man_at, is_man}
+use Rattle.chess_base.specs.laws.Castles.{castling_on, is_castling_by, castling_named, named_square}
+use Rattle.chess_base.specs.shared.Splits.{right_is_sound_at}
+use Rattle.chess_base.specs.Castling.{home_square, king_home_file, rook_file, right_of, king_square, is_on_side_of_king, are_placed_for_castling, right_is_sound, castle_from, castle_of}
+use Rattle.chess_base.specs.Men.{Men, man_at, is_man}
 use Rattle.chess_base.specs.MoveList.{move_of}
+use Rattle.chess_base.specs.Moves.{is_legal}
 use Rattle.chess_base.specs.Sound.{IsSound}
 use Rattle.chess_base.proofs.shared.Castling.{right_is_sound_of, placed_for_right}
-use Rattle.chess_base.specs.declared.man.Variant.{Variant}
-use Rattle.chess_bits.specs.ties.Goes.{castling_end}
+use Rattle.chess_base.proofs.shared.CastlingNamed.{same_castle}
+use Rattle.chess_base.proofs.shared.Kings.{one_king_of, king_square-at}
+use Rattle.chess_bits.specs.ties.Goes.{names_end, castles_onto}
 use Rattle.chess_bits.proofs.OneKing.{alone}
 
 pub stands : (p : Setup) (w : CastlingSide) (rook : ℕ) → IsSound p → p.variant ≡ Normal
@@ -43,61 +50,79 @@ at_home p w a rook sound normal right king low =
     (sym (alone p.men p.side (home_square p.side king_home_file) sound.board (one_king_of p sound p.side) home a low)
     ∙ king)
 
--- the end square of one side doesn't name castling to the other
-not_both_sides : (c : Colour) (a : ℕ) (o : Option ℕ)
-    → names_castling Normal c (move_of a (home_square c (castled_king_file QueenSide)) None) KingSide o ≡ false
-not_both_sides c a None = refl
-not_both_sides White a (Some r) = and_right (a == home_square White king_home_file) false refl
-not_both_sides Black a (Some r) = and_right (a == home_square Black king_home_file) false refl
+-- ---- by the squares of king and rook
 
-says : (p : Setup) (w : CastlingSide) (a rook : ℕ) → p.variant ≡ Normal → right_of p.rights p.side w ≡ Some rook
-    → is_man p.side King (man_at p.men a) ≡ true → a ≡ home_square p.side king_home_file
-    → is_castling_to p (move_of a (home_square p.side (castled_king_file w)) None) w ≡ true
-unfolding is_castling_to
-says p w a rook normal right king home =
-    let m = move_of a (home_square p.side (castled_king_file w)) None in
-    and_from (is_man p.side King (man_at p.men a)) (names_castling p.variant p.side m w (right_of p.rights p.side w))
-    king
-    (ap (λ (v : Variant). names_castling v p.side m w (right_of p.rights p.side w)) normal
-    ∙ ap (λ o. names_castling Normal p.side m w o) right
-    ∙ and_from (a == home_square p.side king_home_file)
-    (home_square p.side (castled_king_file w) == home_square p.side (castled_king_file w))
-    (eq-eqb a (home_square p.side king_home_file) home)
-    (eq-eqb (home_square p.side (castled_king_file w)) (home_square p.side (castled_king_file w)) refl))
+-- the end squares of the two castlings differ
+ends_differ : (v : Variant) (men : Men) (c : Colour) (a r rook : ℕ) → king_square men c ≡ Some a
+    → are_placed_for_castling v men c KingSide r ≡ true → are_placed_for_castling v men c QueenSide rook ≡ true
+    → (named_square v (castle_from c KingSide a r) == named_square v (castle_from c QueenSide a rook)) ≡ false
+ends_differ Normal men White a r rook at near far = refl
+ends_differ Normal men Black a r rook at near far = refl
+ends_differ Fischerandom men c a r rook at near far =
+    let parts = and_parts (is_on_side_of_king c KingSide (king_square men c) r) (is_man c Rook (man_at men r)) near in
+    let far_parts = and_parts (is_on_side_of_king c QueenSide (king_square men c) rook)
+    (is_man c Rook (man_at men rook)) far in
+    let near_side : is_on_side_of_king c KingSide (Some a) r ≡ true = rw at at parts.0 in
+    let far_side : is_on_side_of_king c QueenSide (Some a) rook ≡ true = rw at at far_parts.0 in
+    grind (arith, nat_tests, near_side, far_side)
 
-says_other : (p : Setup) (a : ℕ) → p.variant ≡ Normal
-    → is_castling_to p (move_of a (home_square p.side (castled_king_file QueenSide)) None) KingSide ≡ false
-unfolding is_castling_to
-says_other p a normal =
-    let m = move_of a (home_square p.side (castled_king_file QueenSide)) None in
-    and_right (is_man p.side King (man_at p.men a))
-    (names_castling p.variant p.side m KingSide (right_of p.rights p.side KingSide))
-    (ap (λ (v : Variant). names_castling v p.side m KingSide (right_of p.rights p.side KingSide)) normal
-    ∙ not_both_sides p.side a (right_of p.rights p.side KingSide))
+-- move m is the castling on side w
+abbrev is_by : Setup → Move → CastlingSide → Bool
+is_by p m w = option_map_or (is_castling_by p.variant m) (castling_on p w) false
 
-castling_is : (p : Setup) (w : CastlingSide) (a rook : ℕ) → p.variant ≡ Normal → right_of p.rights p.side w ≡ Some rook
-    → is_man p.side King (man_at p.men a) ≡ true → a ≡ home_square p.side king_home_file
-    → castling p (move_of a (home_square p.side (castled_king_file w)) None) ≡ Some w
-unfolding castling
-castling_is p KingSide a rook normal right king home = rw (says p KingSide a rook normal right king home) refl
-castling_is p QueenSide a rook normal right king home =
-    rw (says_other p a normal, says p QueenSide a rook normal right king home) refl
+-- the queen's side is asked last
+found : (p : Setup) (m : Move) (w : CastlingSide) → is_by p m w ≡ true → (w ≡ QueenSide → is_by p m KingSide ≡ false)
+    → castling_named p m ≡ Some w
+unfolding castling_named
+found p m KingSide h other = rw h refl
+found p m QueenSide h other = rw (other refl, h) refl
 
-castle_at : (p : Setup) (w : CastlingSide) (a rook : ℕ) → IsSound p → p.variant ≡ Normal
-    → right_of p.rights p.side w ≡ Some rook → is_man p.side King (man_at p.men a) ≡ true → a < 64
-    → castle_of p (move_of a (home_square p.side (castled_king_file w)) None) ≡ Some (castle_from p.side w a rook)
-unfolding castle_of
-castle_at p w a rook sound normal right king low =
-    ap (castle_by p.side p.rights (move_of a (home_square p.side (castled_king_file w)) None))
-    (castling_is p w a rook normal right king (at_home p w a rook sound normal right king low))
-    ∙ ap (castle_with p.side w a) right
+not_near : (p : Setup) (a rook : ℕ) (o : Option ℕ) → king_square p.men p.side ≡ Some a
+    → right_is_sound_at p.variant p.men p.side KingSide o ≡ true
+    → are_placed_for_castling p.variant p.men p.side QueenSide rook ≡ true
+    → option_map_or
+    (is_castling_by p.variant (move_of a (named_square p.variant (castle_from p.side QueenSide a rook)) None))
+    (option_and_then (λ r. option_map (λ king. castle_from p.side KingSide king r) (Some a)) o) false ≡ false
+not_near p a rook None at near far = refl
+not_near p a rook (Some r) at near far =
+    and_right (a == a) _ (ends_differ p.variant p.men p.side a r rook at near far)
 
--- as the code computes it
-pub castle_told : (p : Setup) (w : CastlingSide) (a b rook far : ℕ) (o : Option Kind) → IsSound p → p.variant ≡ Normal
-    → right_of p.rights p.side w ≡ Some rook → is_man p.side King (man_at p.men a) ≡ true → a < 64
-    → b ≡ castling_end p.variant p.side w rook → o ≡ None → far ≡ home_square p.side (castled_rook_file w)
-    → Some (record { king_from = a; king_to = b; rook_from = rook; rook_to = far }) ≡ castle_of p (move_of a b o)
-castle_told p w a b rook far o sound normal right king low end none there =
-    let home : b ≡ home_square p.side (castled_king_file w) = end
-    ∙ ap (λ (v : Variant). castling_end v p.side w rook) normal in
-    rw (home, none, there) (sym (castle_at p w a rook sound normal right king low))
+other_side : (p : Setup) (w : CastlingSide) (a b rook : ℕ) → IsSound p → right_of p.rights p.side w ≡ Some rook
+    → king_square p.men p.side ≡ Some a → b ≡ named_square p.variant (castle_from p.side w a rook) → w ≡ QueenSide
+    → is_by p (move_of a b None) KingSide ≡ false
+unfolding right_is_sound
+other_side p KingSide a b rook sound right at end far = cc
+other_side p QueenSide a b rook sound right at end far =
+    rw (at, end)
+    (not_near p a rook (right_of p.rights p.side KingSide) at (right_is_sound_of p sound p.side KingSide)
+    (placed_for_right p.variant p.men p.side QueenSide (right_of p.rights p.side QueenSide) rook
+    (right_is_sound_of p sound p.side QueenSide) right))
+
+pub castle_told : (p : Setup) (w : CastlingSide) (a b rook : ℕ) → IsSound p → right_of p.rights p.side w ≡ Some rook
+    → is_man p.side King (man_at p.men a) ≡ true → b ≡ named_square p.variant (castle_from p.side w a rook)
+    → castle_of p (move_of a b None) ≡ Some (castle_from p.side w a rook)
+castle_told p w a b rook sound right king end =
+    let at = king_square-at p.men p.side a sound.board (one_king_of p sound p.side) king in
+    let on : castling_on p w ≡ Some (castle_from p.side w a rook) = rw (right, at) refl in
+    let here : is_by p (move_of a b None) w ≡ true = rw (on, end, eq-eqb a a refl, eq-eqb _ _ refl) refl in
+    same_castle p (move_of a b None) sound
+    ∙ ap (option_and_then (castling_on p)) (found p (move_of a b None) w here (other_side p w a b rook sound right at end))
+    ∙ on
+
+-- and this is the one end square of that castling
+end_is : (v : Variant) (c : Colour) (w : CastlingSide) (a rook k : ℕ)
+    → names_end v c w (Some rook) k ≡ (k == named_square v (castle_from c w a rook))
+end_is Normal c w a rook k = refl
+end_is Fischerandom c w a rook k = refl
+
+pub castles_onto_end : (p : Setup) (w : CastlingSide) (a b rook k : ℕ) → IsSound p
+    → right_of p.rights p.side w ≡ Some rook → is_man p.side King (man_at p.men a) ≡ true → b ≡ named_square p.variant (castle_from p.side w a rook)
+    → (is_legal p (move_of a b None) && (k == b)) ≡ castles_onto p w a k
+castles_onto_end p w a b rook k sound right king end =
+    let ends : names_end p.variant p.side w (right_of p.rights p.side w) k ≡ (k == b) =
+    rw (right, end) (end_is p.variant p.side w a rook k) in
+    elim (cases_eq k b) [
+      | inl same ↦
+          rw (ends, same, castle_told p w a b rook sound right king end, eq-eqb b b refl) (and-true _)
+      | inr apart ↦ rw (ends, ne_eqb k b apart) (and-false _)
+    ]

@@ -1,30 +1,32 @@
 -- Castling by sets: its squares are on one rank, and its ways are sets.
 use Rattle.chess_base.proofs.shared.Squares.{each_square_same}
-use mathlib.Core.Bool.{and-true}
-use Rattle.std.proofs.Common.{◌≡◌, ℕ, ◌<◌, Bool, true, false, not, ◌&&◌, ◌||◌, ◌==◌, Option, Some, None, is_none, refl, sym, ap, subst, ◌∙◌, arith}
+use mathlib.Core.Bool.{and-true, or-false}
+use Rattle.std.proofs.Common.{◌≡◌, ℕ, zero, suc, ◌<◌, Bool, true, false, not, ◌&&◌, ◌||◌, ◌==◌, Option, Some, None, is_none, refl, sym, ap, subst, ◌∙◌, arith}
 use Rattle.std.proofs.lemmas.Bool.{and_parts, eqb-true}
+use Rattle.std.specs.List.{list_any}
 use Rattle.chess_base.specs.declared.castling.Castle.{Castle}
 use Rattle.chess_base.specs.declared.man.CastlingSide.{CastlingSide}
 use Rattle.chess_base.specs.declared.man.CastlingSide.TheVariants.{KingSide, QueenSide}
 use Rattle.chess_base.specs.declared.man.Colour.{Colour}
 use Rattle.chess_base.specs.declared.man.Colour.TheVariants.{White, Black}
-use Rattle.chess_base.specs.declared.man.Kind.TheVariants.{King, Rook, Pawn}
+use Rattle.chess_base.specs.declared.man.Kind.TheVariants.{King, Rook}
 use Rattle.chess_base.specs.declared.man.Move.{Move}
 use Rattle.chess_base.specs.declared.man.Variant.{Variant}
 use Rattle.chess_base.specs.declared.man.Variant.TheVariants.{Normal, Fischerandom}
 use Rattle.chess_base.specs.declared.setup.Setup.{Setup}
 use Rattle.chess_base.specs.Attacks.{is_attacked}
-use Rattle.chess_base.specs.Castling.{home_square, king_home_file, rook_file, castled_king_file, castled_rook_file, right_of, king_square, is_to_side, is_on_side_of_king, are_placed_for_castling, right_is_sound, names_castling_with, castling, castle_from, castle_of, castles, is_on_way, castling_needs_empty, castling_way_is_empty, castling_way_is_safe, castling_rook_to, mover_end}
+use Rattle.chess_base.specs.Castling.{home_square, king_home_file, rook_file, castled_king_file, castled_rook_file, right_of, king_square, is_to_side, is_on_side_of_king, are_placed_for_castling, right_is_sound, names_castling_with, castling, castle_from, castle_of, castles, is_on_way, castling_needs_empty, castling_way_is_empty, castling_way_is_safe}
 use Rattle.chess_base.specs.Men.{Men, man_at, other, is_man, first_rank}
-use Rattle.chess_base.specs.MoveList.{move_of}
-use Rattle.chess_base.specs.Moves.{is_pseudo_legal, is_legal, promotion_fits, arriving_man, second_square_emptied, steps_of}
+use Rattle.chess_base.specs.MoveList.{move_of, squares}
+use Rattle.chess_base.specs.Moves.{is_pseudo_legal, is_legal, promotion_fits}
 use Rattle.chess_base.specs.shared.Splits.{castles_or_moves}
 use Rattle.chess_base.specs.Sound.{IsSound}
-use Rattle.chess_base.specs.Squares.{rank, each_square, some_square}
+use Rattle.chess_base.specs.Squares.{rank, each_square, some_below, some_square, from_below}
 use Rattle.chess_base.proofs.shared.Castling.{right_is_sound_of, placed_for_right, says_from_castling, castling_says, castle_there, no_castle}
-use Rattle.chess_base.proofs.shared.Changes.{no_en_passant}
-use Rattle.chess_base.proofs.shared.Men.{in_board, is_man-kind}
+use Rattle.chess_base.proofs.shared.Men.{in_board}
+use Rattle.chess_moves.proofs.shared.AnyMove.{any-filter}
 use Rattle.chess_moves.specs.Promoting.{would_promote}
+use Rattle.chess_moves.specs.Sets.{contains, members}
 use Rattle.chess_bits.specs.ties.Goes.{goes}
 use Rattle.chess_bits.proofs.Patterns.{pattern_by, officer_goes, not_promoting}
 use Rattle.chess_bits.proofs.TargetsOf.{man_told}
@@ -121,6 +123,26 @@ way_is_empty men k met h =
     (λ x low. crossed (is_on_way k.king_from k.king_to x) (is_on_way k.rook_from k.rook_to x) (x == k.king_from)
     (x == k.rook_from) (is_none (man_at men x)) ∙ ap not (sym (h x low))))
 
+-- of the squares of the set w none passes q
+first_apart : (n : ℕ) (p : ℕ → Bool) → some_below (suc n) p ≡ (p 0 || some_below n (λ k. p (suc k)))
+first_apart zero p = sym (or-false (p 0))
+first_apart (suc n) p = ap (λ b. b || p (suc n)) (first_apart n p) ∙ grind arith
+
+any-below : (n : ℕ) (g : ℕ → ℕ) (t : ℕ → Bool) → list_any t (from_below n g) ≡ some_below n (λ k. t (g k))
+any-below zero g t = refl
+any-below (suc n) g t = ap (λ b. t (g 0) || b) (any-below n (λ k. g (suc k)) t) ∙ sym (first_apart n (λ k. t (g k)))
+
+any-squares : (t : ℕ → Bool) → list_any t squares ≡ some_square t
+unfolding squares some_square
+any-squares t = any-below 64 (λ k. k) t
+
+pub none_of : (q : ℕ → Bool) (w : ℕ)
+    → not (list_any q (members w)) ≡ each_square (λ x. not (contains w x) || not (q x))
+unfolding members
+none_of q w =
+    ap not (any-filter (λ x. contains w x) q squares ∙ any-squares (λ x. contains w x && q x))
+    ∙ sym (each_not _ (λ x. contains w x && q x) (λ x low. grind arith))
+
 pub way_is_safe : (men : Men) (c : Colour) (k : Castle) (way : ℕ → Bool)
     → ((x : ℕ) → x < 64 → way x ≡ is_on_way k.king_from k.king_to x)
     → each_square (λ x. not (way x) || not (is_attacked men x (other c))) ≡ castling_way_is_safe men c k
@@ -157,26 +179,6 @@ pub castle_pattern : (p : Setup) (m : Move) (k : Castle) → IsSound p → m.to 
 castle_pattern p m k sound high none e =
     ap (λ o. is_pseudo_legal p (move_of m.from m.to o)) none
     ∙ castle_pattern_by p m.from m.to k sound high (ap (λ o. castle_of p (move_of m.from m.to o)) (sym none) ∙ e)
-
--- and its steps
-pub castle_steps : (p : Setup) (m : Move) (k : Castle) → castle_of p m ≡ Some k → m.promotion ≡ None
-    → record {
-      from = m.from;
-      second_from = Some k.rook_from;
-      second_to = Some k.rook_to;
-      second = Some (record { colour = p.side; kind = Rook });
-      to = k.king_to;
-      mover =
-          Some (record { colour = p.side; kind = King });
-    } ≡ steps_of p m
-unfolding second_square_emptied castling_rook_to mover_end
-castle_steps p m k e none =
-    let king = king_goes p m k e (castling p m) refl in
-    let still = no_en_passant p m (is_man-kind p.side p.side King Pawn (man_at p.men m.from) refl king) in
-    let mover : arriving_man (man_at p.men m.from) m.promotion ≡ Some (record { colour = p.side; kind = King }) =
-    ap (λ o. arriving_man (man_at p.men m.from) o) none
-    ∙ ap (λ o. arriving_man o None) (man_told p.side King (man_at p.men m.from) king) in
-    rw (still, e, mover) refl
 
 pub not_castling : (p : Setup) (m : Move) → is_pseudo_legal p m ≡ false → false ≡ is_legal p m
 unfolding is_legal

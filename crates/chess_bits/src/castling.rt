@@ -1,17 +1,17 @@
 //! Whether castling is legal, tested with sets of squares.
 
-ghost use Rattle.std.specs.Prelude.{◌≡◌, ◌<◌, ℕ, ◌&&◌, ◌||◌, not, None, Some, IsTrue};
+ghost use Rattle.std.specs.Prelude.{◌≡◌, ◌<◌, ℕ, ◌&&◌, ◌||◌, not, None, Some};
 ghost use Rattle.chess_base.specs.Attacks.{is_attacked};
 ghost use Rattle.chess_base.specs.Castling.{castle_of, is_on_way, castling_way_is_empty, castling_way_is_safe};
 ghost use Rattle.chess_base.specs.Men.{other};
-ghost use Rattle.chess_base.specs.Moves.{is_pseudo_legal, is_legal};
+ghost use Rattle.chess_base.specs.Moves.{is_legal};
 ghost use Rattle.chess_base.specs.Squares.{rank, each_square};
 ghost use Rattle.chess_moves.specs.Sets.{contains};
 
 use crate::bits::Bits;
-use crate::squares::filter;
-use chess_base::rules::{Castle, Steps};
-use chess_base::{Kind, Man, Move, Square, Variant};
+use crate::squares::any;
+use chess_base::rules::Castle;
+use chess_base::{Move, Square, Variant};
 use chess_moves::{Board, SquareSet};
 
 impl Bits<'_> {
@@ -31,8 +31,7 @@ impl Bits<'_> {
             (λ x. not (contains way x) || not (is_attacked (self.now).men x (other (self.now).side))) }
     {
         let by = self.setup.side.other();
-        let attacked = filter(way, |x| self.is_attacked(x, by));
-        attacked.is_empty()
+        !any(way, |x| self.is_attacked(x, by))
     }
 
     // Whether all squares that king and rook cross or end on in this castling are empty, apart from the two on which
@@ -68,7 +67,8 @@ impl Bits<'_> {
     }
 
     // Whether the move `m`, which is the castling with the squares `castle`, is legal. In normal chess it is if nothing
-    // prevents it (`castles`); in Chess960 the king must also be safe once the rook has left its square.
+    // prevents it (`castles`). In Chess960 the king must also be safe once the rook has left its square: with king on
+    // c1, rook on b1 and an enemy rook on a1, the rook that goes to d1 no longer protects its king.
     #[tactic(auto, using(crate::proofs::CastlingBySets::castle_pattern, crate::proofs::CastlingBySets::not_castling, crate::proofs::CastlingSafely::castles_safely))]
     pub(crate) fn castles_legally(&self, m: &Move, castle: &Castle) -> bool
         requires castle { castle_of self.now m.now ≡ Some castle.now }
@@ -83,35 +83,7 @@ impl Bits<'_> {
         }
         match self.setup.variant {
             Variant::Normal => true,
-            Variant::Fischerandom => self.is_safe_castled(m, castle),
+            Variant::Fischerandom => self.is_safe_after(m),
         }
-    }
-
-    // Whether the castling `m`, which nothing else prevents, leaves the king safe, and so is legal; `castle` are its
-    // squares. Only Chess960 needs this test: with king on c1, rook on b1 and an enemy rook on a1, the rook that goes
-    // to d1 no longer protects its king. `steps` are what the castling changes on the board.
-    #[tactic(auto, using(crate::proofs::CastlingBySets::castle_steps))]
-    fn is_safe_castled(&self, m: &Move, castle: &Castle) -> bool
-        requires castle { castle_of self.now m.now ≡ Some castle.now }
-        requires none { m.now.promotion ≡ None }
-        requires pattern { IsTrue (is_pseudo_legal self.now m.now) }
-        ensures { result ≡ is_legal self.now m.now }
-    {
-        let side = self.setup.side;
-        let steps = Steps {
-            from: m.from,
-            second_from: Some(castle.rook_from),
-            second_to: Some(castle.rook_to),
-            second: Some(Man {
-                colour: side,
-                kind: Kind::Rook,
-            }),
-            to: castle.king_to,
-            mover: Some(Man {
-                colour: side,
-                kind: Kind::King,
-            }),
-        };
-        self.is_safe_by(&steps)
     }
 }

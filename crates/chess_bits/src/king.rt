@@ -14,9 +14,8 @@ ghost use Rattle.chess_moves.specs.Promoting.{would_promote};
 ghost use Rattle.chess_moves.specs.Sets.{contains};
 
 use crate::bits::Bits;
-use crate::placing::is_target;
 use crate::squares::filter;
-use chess_base::rules::{PROMOTIONS, Steps, is_man, steps_of};
+use chess_base::rules::{PROMOTIONS, Steps, is_man, is_square, steps_of};
 use chess_base::{Kind, Move, Square};
 use chess_moves::{SquareSet, would_promote};
 
@@ -127,7 +126,7 @@ impl Bits<'_> {
         let side = self.setup.side;
         let man = self.setup.men[m.from.index()];
         !is_man(side, Kind::King, man)
-            && !(is_man(side, Kind::Pawn, man) && is_target(&self.setup, m.to))
+            && !(is_man(side, Kind::Pawn, man) && is_square(self.setup.target, m.to))
     }
 
     // Whether a pseudo-legal move is legal: the mover's king is not attacked after it. Most moves change only two
@@ -147,7 +146,7 @@ impl Bits<'_> {
     // changes on the board. Only moves of the king, castling included, and captures en passant come here, so it is not
     // inlined.
     #[inline(never)]
-    pub(crate) fn is_safe_by(&self, steps: &Steps) -> bool
+    fn is_safe_by(&self, steps: &Steps) -> bool
         ensures { (m : Move) → is_pseudo_legal self.now m ≡ true → steps.now ≡ steps_of self.now m
             → result ≡ is_legal self.now m }
     {

@@ -11,11 +11,10 @@ ghost use Rattle.chess_bits.specs.ties.Goes.{IsOfficer};
 ghost use Rattle.chess_moves.specs.Sets.{contains, HasLegalStarts};
 
 use crate::bits::Bits;
-use crate::placing::is_target;
 use crate::reaching::reached_among;
 use crate::squares::{filter, single_if};
 use crate::targets::{is_king, is_pawn};
-use chess_base::rules::{first_rank, is_of, promotion_fits};
+use chess_base::rules::{first_rank, is_of, is_square, promotion_fits};
 use chess_base::{Colour, Kind, Man, Move, Square};
 use chess_moves::{SquareSet, would_promote};
 
@@ -189,7 +188,7 @@ impl Bits<'_> {
             return SquareSet::empty();
         }
         let men = self.pawns_to(to);
-        if is_target(&self.setup, to) {
+        if is_square(self.setup.target, to) {
             return self.tried_starts(men, to);
         }
         self.safe_starts(men, to)

@@ -7,7 +7,6 @@ ghost use Rattle.chess_base.specs.Men.{man_at, other};
 ghost use Rattle.chess_base.specs.shared.OneSquare.{with_man};
 ghost use Rattle.chess_base.specs.Moves.{after, fullmove_after, is_legal, rights_after, target_after};
 ghost use Rattle.chess_base.specs.Sound.{IsSound};
-ghost use Rattle.chess_base.specs.Squares.{is_at};
 ghost use Rattle.chess_base.specs.Steps.{men_stepped};
 ghost use Rattle.chess_bits.specs.ties.BoardSets.{IsSets};
 ghost use Rattle.chess_bits.specs.ties.Changes.{clock_left, goes_plainly, has_no_right, is_king_or_rook, shifted, shifts};
@@ -19,8 +18,8 @@ use crate::sets::Sets;
 use crate::squares::single_if;
 use crate::targets::is_pawn;
 use chess_base::rules::{
-    Steps, fullmove_after, halfmove_after, is_man, rights_after, saved_of, steps_back, steps_of,
-    target_after,
+    Steps, fullmove_after, halfmove_after, is_man, is_square, rights_after, saved_of, steps_back,
+    steps_of, target_after,
 };
 use chess_base::{COUNTER_LIMIT, Kind, Man, Move, Rights, Saved, Setup, Square};
 use chess_moves::SquareSet;
@@ -91,18 +90,6 @@ fn take_steps(men: &mut [Option<Man>; 64], sets: &mut Sets, keys: &KeyTable, ste
     place(men, sets, keys, Some(steps.to), steps.mover);
 }
 
-// Whether `square` is the position's en passant target; false if there is no target. chess_base's `is_square` is the
-// same test, but is private there.
-#[inline(always)]
-pub(crate) fn is_target(setup: &Setup, square: Square) -> bool
-    ensures { result ≡ is_at (setup.now).target square }
-{
-    match setup.target {
-        None => false,
-        Some(target) => target == square,
-    }
-}
-
 // Whether neither colour has a castling right. Then no move is castling, and no move can cost a right.
 #[inline(always)]
 fn has_no_right(rights: &Rights) -> bool
@@ -165,7 +152,7 @@ fn goes_plainly(setup: &Setup, m: &Move, kind: Kind) -> bool
 {
     match kind {
         Kind::King => has_no_right(&setup.rights),
-        Kind::Pawn => !is_target(setup, m.to),
+        Kind::Pawn => !is_square(setup.target, m.to),
         _ => true,
     }
 }

@@ -7,8 +7,9 @@ ghost use Rattle.chess_base.specs.Men.{man_at, is_of, is_man, same_kind};
 ghost use Rattle.chess_base.specs.MoveList.{move_of};
 ghost use Rattle.chess_base.specs.Moves.{is_legal, pawn_advances, pawn_captures};
 ghost use Rattle.chess_base.specs.declared.man.Kind.TheVariants.{King, Pawn};
-ghost use Rattle.chess_base.specs.Castling.{right_of, castled_rook_file, castle_of};
-ghost use Rattle.chess_bits.specs.ties.Goes.{goes, castling_end, castles_onto, legal_or, man_goes};
+ghost use Rattle.chess_base.specs.Castling.{right_of, castle_of};
+ghost use Rattle.chess_base.specs.laws.Castles.{named_square};
+ghost use Rattle.chess_bits.specs.ties.Goes.{goes, castles_onto, legal_or, man_goes};
 ghost use Rattle.chess_moves.specs.Sets.{contains};
 
 use crate::bits::Bits;
@@ -17,10 +18,7 @@ use crate::pawns::ahead;
 use crate::reaching::reached_from;
 use crate::squares::single_if;
 use crate::table::Shape;
-use chess_base::rules::{
-    Castle, castle_of, castled_king_file, castled_rook_file, home_square, is_man, is_of, pawn_rank,
-    right_of,
-};
+use chess_base::rules::{Castle, castle_from, is_man, is_of, pawn_rank, right_of};
 use chess_base::{CastlingSide, Kind, Move, Square, Variant};
 use chess_moves::SquareSet;
 
@@ -38,6 +36,17 @@ pub(crate) fn is_pawn(kind: Kind) -> bool
     kind == Kind::Pawn
 }
 
+// The end square of the move that is this castling: in normal chess the square where the king ends, in Chess960 the one
+// where the rook starts. chess_base's `names_castling` knows it too, but only tests a move's squares.
+fn named_square(variant: Variant, castle: &Castle) -> Square
+    ensures { result ≡ named_square variant castle.now }
+{
+    match variant {
+        Variant::Normal => castle.king_to,
+        Variant::Fischerandom => castle.rook_from,
+    }
+}
+
 impl Bits<'_> {
     // The squares that a piece of this kind on `from`, of the side on move, attacks, without the ones that hold its own
     // pieces. For queen, rook, bishop and knight these are the end squares of its pseudo-legal moves, for the king all
@@ -53,43 +62,9 @@ impl Bits<'_> {
         reached.without(self.sets.all(side))
     }
 
-    // The four squares of the castling that the move `m` is: start and end of king and rook. `None` if the piece on its
-    // start is not the king of the side on move. The caller knows the rest: the right to castle to this side is there,
-    // with the rook on `rook`, and the move's end square is that of this castling (the king's end square in normal
-    // chess, `rook` in Chess960). In normal chess that gives the squares at once; `castle_of` would find the castling
-    // side again, and chess_base's `castle_from`, which gives the squares for a known side, is private there.
-    fn castle_with_rook(
-        &self,
-        m: &Move,
-        castling_side: CastlingSide,
-        rook: Square,
-    ) -> Option<Castle>
-        requires right { right_of (self.now).rights (self.now).side castling_side ≡ Some rook }
-        requires end { m.now.to ≡ castling_end (self.now).variant (self.now).side castling_side rook }
-        requires none { m.now.promotion ≡ None }
-        ensures { result ≡ castle_of self.now m.now }
-    {
-        // The prover wants this fact: the start's number is below 64.
-        let _start = m.from.number();
-        let side = self.setup.side;
-        if !is_man(side, Kind::King, self.setup.men[m.from.index()]) {
-            return None;
-        }
-        match self.setup.variant {
-            Variant::Fischerandom => castle_of(&self.setup, m),
-            Variant::Normal => Some(Castle {
-                king_from: m.from,
-                king_to: m.to,
-                rook_from: rook,
-                rook_to: home_square(side, castled_rook_file(castling_side)),
-            }),
-        }
-    }
-
     // The end square of the move that castles to this side with the king on `king`, as a set; the empty set if that
-    // move is not legal. The right to it is there, with the rook on `rook`. In normal chess this is the square where
-    // the king arrives, in Chess960 `rook`. Most positions of a game have no such right, so only the test for the right
-    // (`legal_castling_end`) is inlined, and this is not.
+    // move is not legal. The right to it is there, with the rook on `rook`. Most positions of a game have no such right,
+    // so only the test for the right (`legal_castling_end`) is inlined, and this is not.
     #[inline(never)]
     fn legal_castling_end_with_rook(
         &self,
@@ -100,18 +75,16 @@ impl Bits<'_> {
         requires { right_of (self.now).rights (self.now).side castling_side ≡ Some rook }
         ensures { (k : ℕ) → k < 64 → contains result k ≡ castles_onto self.now castling_side king k }
     {
-        // chess_base's `names_castling` knows this square too, but only tests a move's squares, and is private there.
-        let to = match self.setup.variant {
-            Variant::Normal => home_square(self.setup.side, castled_king_file(castling_side)),
-            Variant::Fischerandom => rook,
-        };
+        let side = self.setup.side;
+        if !is_man(side, Kind::King, self.setup.men[king.index()]) {
+            return SquareSet::empty();
+        }
+        let castle = castle_from(side, castling_side, king, rook);
+        let to = named_square(self.setup.variant, &castle);
         let m = Move {
             from: king,
             to,
             promotion: None,
-        };
-        let Some(castle) = self.castle_with_rook(&m, castling_side, rook) else {
-            return SquareSet::empty();
         };
         single_if(self.castles_legally(&m, &castle), to)
     }

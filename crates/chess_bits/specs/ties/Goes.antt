@@ -39,12 +39,6 @@ names_end v c w None b = false
 names_end Normal c w (Some rook) b = b == home_square c (castled_king_file w)
 names_end Fischerandom c w (Some rook) b = b == rook
 
--- the end square of colour c's castling on side w with that rook: in normal chess the king's end square, in Chess960
--- the rook's square
-abbrev pub castling_end : Variant → Colour → CastlingSide → ℕ → ℕ
-castling_end Normal c w rook = home_square c (castled_king_file w)
-castling_end Fischerandom c w rook = rook
-
 -- whether move m is legal, if it is a castling (whose squares are given); for any other move the answer s
 abbrev pub legal_or : Setup → Move → Option Castle → Bool → Bool
 legal_or p m None s = s

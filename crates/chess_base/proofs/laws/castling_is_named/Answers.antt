@@ -1,4 +1,4 @@
-use Rattle.chess_base.proofs.CastlingNamed.{same_side, same_castle}
+use Rattle.chess_base.proofs.shared.CastlingNamed.{same_side, same_castle}
 use Rattle.chess_base.proofs.laws.castling_is_named.Goals as goal
 
 pub returns : goal.returns

@@ -1,4 +1,4 @@
--- A castling is found by the squares of its king and rook.
+-- For boards: a castling is found by the squares of its king and rook.
 use Rattle.std.proofs.Common.{◌≡◌, ◌≢◌, ℕ, inl, inr, Bool, true, false, ◌&&◌, Option, Some, None, refl, sym, ap, ◌∙◌, ◌==◌, length}
 use Rattle.std.specs.Prelude.{option_and_then}
 use Rattle.std.specs.Option.{option_map, option_map_or}
