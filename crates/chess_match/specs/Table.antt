@@ -19,8 +19,7 @@ pub data Step : Type 0 where
   Does : (act : Act) → Step
   -- a line of that side's engine was read (`None`: it was too long)
   ReadsLine : (side : Colour) → (text : Option (List ℕ)) → Step
-  -- the clock was read, right after a line of that side or after its turn was opened, and showed `moment`, in
-  -- milliseconds
+  -- the clock was read, for a line or an opening of that side, and showed `moment`, in milliseconds
   ReadsClock : (side : Colour) → (moment : ℕ) → Step
   -- the witness was given a note
   Notes : (note : Note) → Step
