@@ -8,7 +8,7 @@ use Rattle.chess_base.specs.declared.man.Colour.{Colour}
 use Rattle.chess_base.specs.Men.{other}
 use Rattle.text_lines.specs.Lines.{Held, LineSeen, nothing_held}
 use Rattle.text_lines.specs.Next.{NextLine}
-use Rattle.chess_match.specs.Acts.{Act, Block, Sends, SendFails, Reads, ReadsEnd, ReadFails, ReadsClock}
+use Rattle.chess_match.specs.Acts.{Act, Block, Sends, SendFails, Happens}
 use Rattle.chess_match.specs.ByDevice.{has_ended, has_failed_read, lines_read, moments_shown, notes_given}
 use Rattle.chess_match.specs.Events.{Line, Opened, OutputEnds, FailsToRead, FailsToWrite}
 use Rattle.chess_base.specs.Options.{list_if}
@@ -16,14 +16,14 @@ use Rattle.chess_match.specs.Lines.{SentLine, bytes_of}
 use Rattle.chess_match.specs.Notes.{Note, Noted, Happened, Gives, WasNoted}
 use Rattle.chess_match.specs.Reasons.{is_write_fault_of}
 use Rattle.chess_match.specs.Run.{ClockReadings, text_read}
-use Rattle.chess_match.specs.Table.{Does, Notes, Passes, Step, reading_of, sending, watched}
+use Rattle.chess_match.specs.Table.{Does, ReadsLine, ReadsClock, Notes, Passes, Step, reading_of, sending, watched}
 use Rattle.chess_match.specs.declared.reason.Reason.{Reason}
 use Rattle.chess_match.specs.declared.run.TheConstants.{ENGINE_LINE_LEN}
-use Rattle.chess_match.specs.ties.AtDesk.{Did, NotedSince, ReadsOf, WritesAt, WritesOf, acts_in, notes_in}
+use Rattle.chess_match.specs.ties.AtDesk.{Did, NotedSince, ReadsOf, WritesAt, WritesOf, acts_in, moments_in, notes_in}
 use Rattle.chess_match.specs.ties.EngineOutput.{OutputAt}
 use Rattle.chess_match.specs.ties.Reported.{SendsIf}
 use Rattle.chess_match.proofs.ClockAsked.{asked_more, asked_none}
-use Rattle.chess_match.proofs.LinesRead.{other_read, own_read}
+use Rattle.chess_match.proofs.LinesRead.{act_read, other_read, own_read}
 use Rattle.chess_match.proofs.MatchCases.{unread}
 
 -- ---- one step more
@@ -31,21 +31,23 @@ use Rattle.chess_match.proofs.MatchCases.{unread}
 acts_in-append : (K J : List Step) → acts_in (K ++ J) ≡ acts_in K ++ acts_in J
 acts_in-append [] J = refl
 acts_in-append (Does a ∷ K) J = ap (λ (l : List Act). a ∷ l) (acts_in-append K J)
+acts_in-append (ReadsLine c t ∷ K) J = ap (λ (l : List Act). Happens (Line c t 0) ∷ l) (acts_in-append K J)
+acts_in-append (ReadsClock c n ∷ K) J = acts_in-append K J
 acts_in-append (Notes n ∷ K) J = acts_in-append K J
 
 notes_in-append : (K J : List Step) → notes_in (K ++ J) ≡ notes_in K ++ notes_in J
 notes_in-append [] J = refl
 notes_in-append (Does a ∷ K) J = notes_in-append K J
+notes_in-append (ReadsLine c t ∷ K) J = notes_in-append K J
+notes_in-append (ReadsClock c n ∷ K) J = notes_in-append K J
 notes_in-append (Notes n ∷ K) J = ap (λ (l : List Note). n ∷ l) (notes_in-append K J)
 
-moments_shown-append : (H G : List Act) → moments_shown (H ++ G) ≡ moments_shown H ++ moments_shown G
-moments_shown-append [] G = refl
-moments_shown-append (ReadsClock c n ∷ H) G = ap (λ (l : List ℕ). n ∷ l) (moments_shown-append H G)
-moments_shown-append (Sends b ∷ H) G = moments_shown-append H G
-moments_shown-append (SendFails b ∷ H) G = moments_shown-append H G
-moments_shown-append (Reads c t ∷ H) G = moments_shown-append H G
-moments_shown-append (ReadsEnd c ∷ H) G = moments_shown-append H G
-moments_shown-append (ReadFails c ∷ H) G = moments_shown-append H G
+moments_in-append : (K J : List Step) → moments_in (K ++ J) ≡ moments_in K ++ moments_in J
+moments_in-append [] J = refl
+moments_in-append (ReadsClock c n ∷ K) J = ap (λ (l : List ℕ). n ∷ l) (moments_in-append K J)
+moments_in-append (Does a ∷ K) J = moments_in-append K J
+moments_in-append (ReadsLine c t ∷ K) J = moments_in-append K J
+moments_in-append (Notes n ∷ K) J = moments_in-append K J
 
 reads-append : (S : Colour) (H G : List Act) (r r' r'' : InputState) (h h' h'' : Held) → ReadsOf S H r r' h h'
     → ReadsOf S G r' r'' h' h'' → ReadsOf S (H ++ G) r r'' h h''
@@ -64,7 +66,7 @@ pub record Moves (engines engines' : Colour → Devices) (held held' : Colour �
   pub named : names' ≡ names
   pub read : (S : Colour) → ReadsOf S (acts_in J) (engines S).input (engines' S).input (held S) (held' S)
   pub written : (S : Colour) → WritesOf S (acts_in J) (engines S).output (engines' S).output
-  pub moments : ClockReadings coming coming' (moments_shown (acts_in J))
+  pub moments : ClockReadings coming coming' (moments_in J)
   pub noted : WasNoted witness witness' (notes_in J)
 
 since_more : (a b : Noted) (first : Option (List ℕ × List Note)) (M N all : List Note) → all ≡ M ++ N
@@ -88,11 +90,8 @@ moved engines engines' held held' coming coming' witness witness' names names' J
     written = λ S. subst (λ (H : List Act). WritesOf S H (begun.engines S).output (engines' S).output)
         (sym (acts_in-append K J))
         (writes-append S (acts_in K) (acts_in J) _ (engines S).output _ (d.written S) (m.written S));
-    moments = subst (λ (H : List Act). ClockReadings begun.coming coming' (moments_shown H)) (sym (acts_in-append K J))
-        (subst (λ (ms : List ℕ). ClockReadings begun.coming coming' ms)
-        (sym (moments_shown-append (acts_in K) (acts_in J)))
-        (asked_more begun.coming coming coming' (moments_shown (acts_in K)) (moments_shown (acts_in J)) d.moments
-        m.moments));
+    moments = subst (λ (ms : List ℕ). ClockReadings begun.coming coming' ms) (sym (moments_in-append K J))
+        (asked_more begun.coming coming coming' (moments_in K) (moments_in J) d.moments m.moments);
     noted = since_more witness witness' begun.noted (notes_in K) (notes_in J) (notes_in (K ++ J)) (notes_in-append K J)
         m.noted d.noted;
   };
@@ -121,12 +120,12 @@ note_moves engines held coming witness witness' names n h =
 pub clock_moves : (engines : Colour → Devices) (held : Colour → Held) (coming coming' : ℕ → Option ℕ) (witness : Noted)
     (names : List ℕ) (c : Colour) (n : ℕ) → ClockReadings coming coming' (n ∷ [])
     → Passes (λ begun K. Did begun engines held coming witness names K)
-    (λ begun K. Did begun engines held coming' witness names K) (Does (ReadsClock c n) ∷ [])
+    (λ begun K. Did begun engines held coming' witness names K) (ReadsClock c n ∷ [])
 clock_moves engines held coming coming' witness names c n h =
-    moved engines engines held held coming coming' witness witness names names (Does (ReadsClock c n) ∷ []) (record {
+    moved engines engines held held coming coming' witness witness names names (ReadsClock c n ∷ []) (record {
       named = refl;
-      read = λ S. ((engines S).input, held S, (refl, refl), (refl, refl));
-      written = λ S. ((engines S).output, refl, refl);
+      read = λ S. (refl, refl);
+      written = λ S. refl;
       moments = h;
       noted = same_noted witness;
     })
@@ -148,11 +147,6 @@ reads_nothing : (S X : Colour) (failed : Bool) (lines : List SentLine) (r r' : I
     → OutputAt X (sending failed (record { to = S; lines = lines })) r r' h h
 reads_nothing S X true lines r r' h e = (e, refl)
 reads_nothing S X false lines r r' h e = (e, refl)
-
-no_moment : (failed : Bool) (b : Block) (coming : ℕ → Option ℕ)
-    → ClockReadings coming coming (moments_shown (sending failed b ∷ []))
-no_moment true b coming = asked_none coming
-no_moment false b coming = asked_none coming
 
 -- a block was sent, or a write of it failed
 pub send_moves : (engines engines' : Colour → Devices) (held : Colour → Held) (coming : ℕ → Option ℕ) (witness : Noted)
@@ -181,29 +175,36 @@ send_moves engines engines' held coming witness names S failed lines h same othe
                 (ap (λ d. d.output) others),
             refl,
           );
-      moments = no_moment failed (record { to = S; lines = lines }) coming;
+      moments = asked_none coming;
       noted = same_noted witness;
     })
 
 read_writes : {E : Type 0} (S X : Colour) (result : Result (Option LineSeen) E) (w : OutputState)
-    → WritesAt X (reading_of S result) w w
+    → WritesAt X (act_read S result) w w
 read_writes S X (Err x) w = refl
 read_writes S X (Ok None) w = refl
 read_writes S X (Ok (Some line)) w = at line.ended
   where
-    at : (b : Bool) → WritesAt X (if b then Reads S (text_read line) else ReadsEnd S) w w
+    at : (b : Bool) → WritesAt X (if b then Happens (Line S (text_read line) 0) else Happens (OutputEnds S)) w w
     at true = refl
     at false = refl
 
-read_moments : {E : Type 0} (S : Colour) (result : Result (Option LineSeen) E)
-    → moments_shown (reading_of S result ∷ []) ≡ []
-read_moments S (Err x) = refl
-read_moments S (Ok None) = refl
-read_moments S (Ok (Some line)) = at line.ended
+-- the step of it: one act, no moment and no note
+read_step : {E : Type 0} (S : Colour) (result : Result (Option LineSeen) E)
+    → (acts_in (reading_of S result ∷ []) ≡ act_read S result ∷ []) × (moments_in (reading_of S result ∷ []) ≡ [])
+    × (notes_in (reading_of S result ∷ []) ≡ [])
+read_step S (Err x) = (refl, refl, refl)
+read_step S (Ok None) = (refl, refl, refl)
+read_step S (Ok (Some line)) = at line.ended
   where
-    at : (b : Bool) → moments_shown ((if b then Reads S (text_read line) else ReadsEnd S) ∷ []) ≡ []
-    at true = refl
-    at false = refl
+    step : Bool → Step
+    step b = if b then ReadsLine S (text_read line) else Does (Happens (OutputEnds S))
+
+    at : (b : Bool) → (acts_in (step b ∷ [])
+        ≡ (if b then Happens (Line S (text_read line) 0) else Happens (OutputEnds S)) ∷ [])
+        × (moments_in (step b ∷ []) ≡ []) × (notes_in (step b ∷ []) ≡ [])
+    at true = (refl, refl, refl)
+    at false = (refl, refl, refl)
 
 -- a line was read, or an end or a failure came
 pub read_moves : {E : Type 0} (engines engines' : Colour → Devices) (held held' : Colour → Held) (coming : ℕ → Option ℕ)
@@ -212,58 +213,86 @@ pub read_moves : {E : Type 0} (engines engines' : Colour → Devices) (held held
     → (engines' S).output ≡ (engines S).output → engines' (other S) ≡ engines (other S)
     → held' (other S) ≡ held (other S)
     → Passes (λ begun K. Did begun engines held coming witness names K)
-    (λ begun K. Did begun engines' held' coming witness names K) (Does (reading_of S result) ∷ [])
+    (λ begun K. Did begun engines' held' coming witness names K) (reading_of S result ∷ [])
 read_moves engines engines' held held' coming witness names S result next same others kept =
-    moved engines engines' held held' coming coming witness witness names names (Does (reading_of S result) ∷ [])
+    moved engines engines' held held' coming coming witness witness names names (reading_of S result ∷ [])
     (record {
       named = refl;
-      read = λ X. (
-        (engines' X).input,
-        held' X,
-        either (λ Y. OutputAt Y (reading_of S result) (engines Y).input (engines' Y).input (held Y) (held' Y)) S
-            (own_read S (engines S).input (engines' S).input (held S) (held' S) result next)
-            (other_read S (engines (other S)).input (engines' (other S)).input (held (other S)) (held' (other S)) result
-            (ap (λ d. d.input) others) kept) X,
-        (refl, refl),
-      );
-      written = λ X. (
-        (engines X).output,
-        read_writes S X result (engines X).output,
-        either (λ Y. (engines' Y).output ≡ (engines Y).output) S same (ap (λ d. d.output) others) X,
-      );
-      moments = subst (λ (ms : List ℕ). ClockReadings coming coming ms) (sym (read_moments S result))
+      read = λ X. subst (λ (H : List Act). ReadsOf X H (engines X).input (engines' X).input (held X) (held' X))
+          (sym (read_step S result).0) (
+            (engines' X).input,
+            held' X,
+            either (λ Y. OutputAt Y (act_read S result) (engines Y).input (engines' Y).input (held Y) (held' Y)) S
+                (own_read S (engines S).input (engines' S).input (held S) (held' S) result next)
+                (other_read S (engines (other S)).input (engines' (other S)).input (held (other S)) (held' (other S)) result
+                (ap (λ d. d.input) others) kept) X,
+            (refl, refl),
+          );
+      written = λ X. subst (λ (H : List Act). WritesOf X H (engines X).output (engines' X).output)
+          (sym (read_step S result).0) (
+            (engines X).output,
+            read_writes S X result (engines X).output,
+            either (λ Y. (engines' Y).output ≡ (engines Y).output) S same (ap (λ d. d.output) others) X,
+          );
+      moments = subst (λ (ms : List ℕ). ClockReadings coming coming ms) (sym (read_step S result).1)
           (asked_none coming);
-      noted = same_noted witness;
+      noted = subst (λ (ns : List Note). WasNoted witness witness ns) (sym (read_step S result).2) (same_noted witness);
     })
 
 -- ---- a whole match
 
-pub acts_watched : (reason : Reason) (H : List Act) → acts_in (watched reason H) ≡ H
-acts_watched reason [] = refl
-acts_watched reason (Sends b ∷ H) = ap (λ (l : List Act). Sends b ∷ l) (acts_watched reason H)
-acts_watched reason (SendFails b ∷ H) = ap (λ (l : List Act). SendFails b ∷ l)
-    (at (is_write_fault_of reason b.to) ∙ acts_watched reason H)
-  where
-    at : (x : Bool) → acts_in (list_if x (Notes (Happened (FailsToWrite b.to)) ∷ []) ++ watched reason H)
-        ≡ acts_in (watched reason H)
-    at true = refl
-    at false = refl
-acts_watched reason (Reads S t ∷ ReadsClock c n ∷ H) =
-    ap (λ (l : List Act). Reads S t ∷ ReadsClock c n ∷ l) (acts_watched reason H)
-acts_watched reason (ReadsClock c n ∷ H) = ap (λ (l : List Act). ReadsClock c n ∷ l) (acts_watched reason H)
-acts_watched reason (ReadsEnd c ∷ H) = ap (λ (l : List Act). ReadsEnd c ∷ l) (acts_watched reason H)
-acts_watched reason (ReadFails c ∷ H) = ap (λ (l : List Act). ReadFails c ∷ l) (acts_watched reason H)
-acts_watched reason (Reads S t ∷ []) = refl
-acts_watched reason (Reads S t ∷ Sends b ∷ H) =
-    ap (λ (l : List Act). Reads S t ∷ l) (acts_watched reason (Sends b ∷ H))
-acts_watched reason (Reads S t ∷ SendFails b ∷ H) =
-    ap (λ (l : List Act). Reads S t ∷ l) (acts_watched reason (SendFails b ∷ H))
-acts_watched reason (Reads S t ∷ Reads c u ∷ H) =
-    ap (λ (l : List Act). Reads S t ∷ l) (acts_watched reason (Reads c u ∷ H))
-acts_watched reason (Reads S t ∷ ReadsEnd c ∷ H) =
-    ap (λ (l : List Act). Reads S t ∷ l) (acts_watched reason (ReadsEnd c ∷ H))
-acts_watched reason (Reads S t ∷ ReadFails c ∷ H) =
-    ap (λ (l : List Act). Reads S t ∷ l) (acts_watched reason (ReadFails c ∷ H))
+-- a failed write is noted, or not: no act, and no moment
+no_more : (reason : Reason) (b : Block) (H : List Act) (x : Bool)
+    → (acts_in (list_if x (Notes (Happened (FailsToWrite b.to)) ∷ []) ++ watched reason H) ≡ acts_in (watched reason H))
+    × (moments_in (list_if x (Notes (Happened (FailsToWrite b.to)) ∷ []) ++ watched reason H)
+    ≡ moments_in (watched reason H))
+no_more reason b H true = (refl, refl)
+no_more reason b H false = (refl, refl)
+
+-- what the steps of a match did to the output of an engine, its acts did
+pub reads_watched : (reason : Reason) (S : Colour) (H : List Act) (r r' : InputState) (h h' : Held)
+    → ReadsOf S (acts_in (watched reason H)) r r' h h' → ReadsOf S H r r' h h'
+reads_watched reason S [] r r' h h' p = p
+reads_watched reason S (Sends b ∷ H) r r' h h' (v, k, o, p) = (v, k, o, reads_watched reason S H v r' k h' p)
+reads_watched reason S (SendFails b ∷ H) r r' h h' (v, k, o, p) =
+    let e = (no_more reason b H (is_write_fault_of reason b.to)).0 in
+    (v, k, o, reads_watched reason S H v r' k h' (subst (λ (G : List Act). ReadsOf S G v r' k h') e p))
+reads_watched reason S (Happens (Line c t n) ∷ H) r r' h h' (v, k, o, p) =
+    (v, k, o, reads_watched reason S H v r' k h' p)
+reads_watched reason S (Happens (Opened c n) ∷ H) r r' h h' p =
+    (r, h, (refl, refl), reads_watched reason S H r r' h h' p)
+reads_watched reason S (Happens (OutputEnds c) ∷ H) r r' h h' (v, k, o, p) =
+    (v, k, o, reads_watched reason S H v r' k h' p)
+reads_watched reason S (Happens (FailsToRead c) ∷ H) r r' h h' (v, k, o, p) =
+    (v, k, o, reads_watched reason S H v r' k h' p)
+reads_watched reason S (Happens (FailsToWrite c) ∷ H) r r' h h' (v, k, o, p) =
+    (v, k, o, reads_watched reason S H v r' k h' p)
+
+-- and to its input
+pub writes_watched : (reason : Reason) (S : Colour) (H : List Act) (w w' : OutputState)
+    → WritesOf S (acts_in (watched reason H)) w w' → WritesOf S H w w'
+writes_watched reason S [] w w' p = p
+writes_watched reason S (Sends b ∷ H) w w' (v, o, p) = (v, o, writes_watched reason S H v w' p)
+writes_watched reason S (SendFails b ∷ H) w w' (v, o, p) =
+    let e = (no_more reason b H (is_write_fault_of reason b.to)).0 in
+    (v, o, writes_watched reason S H v w' (subst (λ (G : List Act). WritesOf S G v w') e p))
+writes_watched reason S (Happens (Line c t n) ∷ H) w w' (v, o, p) = (v, o, writes_watched reason S H v w' p)
+writes_watched reason S (Happens (Opened c n) ∷ H) w w' p = (w, refl, writes_watched reason S H w w' p)
+writes_watched reason S (Happens (OutputEnds c) ∷ H) w w' (v, o, p) = (v, o, writes_watched reason S H v w' p)
+writes_watched reason S (Happens (FailsToRead c) ∷ H) w w' (v, o, p) = (v, o, writes_watched reason S H v w' p)
+writes_watched reason S (Happens (FailsToWrite c) ∷ H) w w' (v, o, p) = (v, o, writes_watched reason S H v w' p)
+
+-- the moments of the steps are those of the acts
+pub moments_watched : (reason : Reason) (H : List Act) → moments_in (watched reason H) ≡ moments_shown H
+moments_watched reason [] = refl
+moments_watched reason (Sends b ∷ H) = moments_watched reason H
+moments_watched reason (SendFails b ∷ H) =
+    (no_more reason b H (is_write_fault_of reason b.to)).1 ∙ moments_watched reason H
+moments_watched reason (Happens (Line c t n) ∷ H) = ap (λ (l : List ℕ). n ∷ l) (moments_watched reason H)
+moments_watched reason (Happens (Opened c n) ∷ H) = ap (λ (l : List ℕ). n ∷ l) (moments_watched reason H)
+moments_watched reason (Happens (OutputEnds c) ∷ H) = moments_watched reason H
+moments_watched reason (Happens (FailsToRead c) ∷ H) = moments_watched reason H
+moments_watched reason (Happens (FailsToWrite c) ∷ H) = moments_watched reason H
 
 pub notes_watched : (reason : Reason) (H : List Act) → notes_in (watched reason H) ≡ notes_given reason H
 notes_watched reason [] = refl
@@ -277,17 +306,16 @@ notes_watched reason (SendFails b ∷ H) = ap (λ (l : List Note). Gives b.to (b
         ≡ list_if x (Happened (FailsToWrite b.to) ∷ []) ++ notes_in (watched reason H)
     at true = refl
     at false = refl
-notes_watched reason (Reads S t ∷ ReadsClock c n ∷ H) =
-    ap (λ (l : List Note). Happened (Line S t n) ∷ l) (notes_watched reason H)
-notes_watched reason (ReadsClock c n ∷ H) = ap (λ (l : List Note). Happened (Opened c n) ∷ l) (notes_watched reason H)
-notes_watched reason (ReadsEnd c ∷ H) = ap (λ (l : List Note). Happened (OutputEnds c) ∷ l) (notes_watched reason H)
-notes_watched reason (ReadFails c ∷ H) = ap (λ (l : List Note). Happened (FailsToRead c) ∷ l) (notes_watched reason H)
-notes_watched reason (Reads S t ∷ []) = refl
-notes_watched reason (Reads S t ∷ Sends b ∷ H) = notes_watched reason (Sends b ∷ H)
-notes_watched reason (Reads S t ∷ SendFails b ∷ H) = notes_watched reason (SendFails b ∷ H)
-notes_watched reason (Reads S t ∷ Reads c u ∷ H) = notes_watched reason (Reads c u ∷ H)
-notes_watched reason (Reads S t ∷ ReadsEnd c ∷ H) = notes_watched reason (ReadsEnd c ∷ H)
-notes_watched reason (Reads S t ∷ ReadFails c ∷ H) = notes_watched reason (ReadFails c ∷ H)
+notes_watched reason (Happens (Line c t n) ∷ H) =
+    ap (λ (l : List Note). Happened (Line c t n) ∷ l) (notes_watched reason H)
+notes_watched reason (Happens (Opened c n) ∷ H) =
+    ap (λ (l : List Note). Happened (Opened c n) ∷ l) (notes_watched reason H)
+notes_watched reason (Happens (OutputEnds c) ∷ H) =
+    ap (λ (l : List Note). Happened (OutputEnds c) ∷ l) (notes_watched reason H)
+notes_watched reason (Happens (FailsToRead c) ∷ H) =
+    ap (λ (l : List Note). Happened (FailsToRead c) ∷ l) (notes_watched reason H)
+notes_watched reason (Happens (FailsToWrite c) ∷ H) =
+    ap (λ (l : List Note). Happened (FailsToWrite c) ∷ l) (notes_watched reason H)
 
 -- ---- what was read
 
@@ -297,17 +325,19 @@ pub quiet_read : (S : Colour) (H : List Act) → unread H ≡ true
 quiet_read S [] u = (refl, refl, refl)
 quiet_read S (Sends b ∷ H) u = quiet_read S H u
 quiet_read S (SendFails b ∷ H) u = quiet_read S H u
-quiet_read S (ReadsClock c n ∷ H) u = quiet_read S H u
-quiet_read S (Reads c t ∷ H) u = absurd cc
-quiet_read S (ReadsEnd c ∷ H) u = absurd cc
-quiet_read S (ReadFails c ∷ H) u = absurd cc
+quiet_read S (Happens (Opened c n) ∷ H) u = quiet_read S H u
+quiet_read S (Happens (FailsToWrite c) ∷ H) u = quiet_read S H u
+quiet_read S (Happens (Line c t n) ∷ H) u = absurd cc
+quiet_read S (Happens (OutputEnds c) ∷ H) u = absurd cc
+quiet_read S (Happens (FailsToRead c) ∷ H) u = absurd cc
 
 pub tail_same : (S : Colour) (H : List Act) (r r' : InputState) (h h' : Held) → unread H ≡ true → ReadsOf S H r r' h h'
     → r' ≡ r
 tail_same S [] r r' h h' u (e, k) = e
 tail_same S (Sends b ∷ H) r r' h h' u (v, k, (e, f), p) = tail_same S H v r' k h' u p ∙ e
 tail_same S (SendFails b ∷ H) r r' h h' u (v, k, (e, f), p) = tail_same S H v r' k h' u p ∙ e
-tail_same S (ReadsClock c n ∷ H) r r' h h' u (v, k, (e, f), p) = tail_same S H v r' k h' u p ∙ e
-tail_same S (Reads c t ∷ H) r r' h h' u p = absurd cc
-tail_same S (ReadsEnd c ∷ H) r r' h h' u p = absurd cc
-tail_same S (ReadFails c ∷ H) r r' h h' u p = absurd cc
+tail_same S (Happens (Opened c n) ∷ H) r r' h h' u (v, k, (e, f), p) = tail_same S H v r' k h' u p ∙ e
+tail_same S (Happens (FailsToWrite c) ∷ H) r r' h h' u (v, k, (e, f), p) = tail_same S H v r' k h' u p ∙ e
+tail_same S (Happens (Line c t n) ∷ H) r r' h h' u p = absurd cc
+tail_same S (Happens (OutputEnds c) ∷ H) r r' h h' u p = absurd cc
+tail_same S (Happens (FailsToRead c) ∷ H) r r' h h' u p = absurd cc

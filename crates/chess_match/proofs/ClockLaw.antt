@@ -67,7 +67,7 @@ line_in_time r S kind moment m aw w = line_cases r S kind moment m (λ e. AreInT
 
 pub clocks_do_not_underflow : AtEachMoment ClocksDoNotUnderflow
 unfolding time_left
-clocks_do_not_underflow r H K final g e S =
+clocks_do_not_underflow r H K final g S =
     let m : Match = match_after r beginning.after H in
     let w : AreInTime r m = by_points r (λ m due H n. AreInTime r m → AreInTime r n) (record {
       sends = λ m n b due H p. p;
@@ -77,7 +77,7 @@ clocks_do_not_underflow r H K final g e S =
       opens = λ m n S x H o q p. p;
       output_ends = λ m n S H aw q s u p. p;
       read_fails = λ m n S H aw q s u p. p;
-    }) H K final (λ m due q f w. w) g (λ k. e) (λ C. omega arith) in
+    }) H K final (λ m due q f w. w) g (λ C. omega arith) in
     sums (allotted r.level (length (m.seat S).used)) (sum (m.seat S).used) (w S)
   where
     sums : (given used : ℕ) → used ≤ given → given - used + used ≡ given

@@ -9,8 +9,8 @@ use Rattle.chess_base.specs.declared.man.Colour.{Colour}
 use Rattle.chess_base.specs.Men.{same_colour}
 use Rattle.chess_game.specs.Game as game
 use Rattle.text_lines.specs.Lines.{Held, nothing_held}
-use Rattle.chess_match.specs.Acts.{Act, IsMatch, Sends, SendFails, Reads, ReadsEnd, ReadFails, ReadsClock}
-use Rattle.chess_match.specs.ByDevice.{broken_blocks, lines_sent, moments_shown, notes_given}
+use Rattle.chess_match.specs.Acts.{Act, IsMatch, Sends, SendFails, Happens}
+use Rattle.chess_match.specs.ByDevice.{broken_blocks, lines_sent, notes_given}
 use Rattle.chess_match.specs.Effects as effects
 use Rattle.chess_base.specs.Options.{list_if}
 use Rattle.chess_match.specs.Lines.{SentLine, bytes_of}
@@ -22,8 +22,8 @@ use Rattle.chess_match.specs.Table.{Beginning, Passes, Step, watched}
 use Rattle.chess_match.specs.declared.reason.Reason.{Reason}
 use Rattle.chess_match.specs.declared.run.MatchEnd.{MatchEnd}
 use Rattle.chess_match.specs.declared.run.Setup.{Setup}
-use Rattle.chess_match.specs.ties.AtDesk.{Did, NotedSince, ReadsOf, WritesOf, acts_in}
-use Rattle.chess_match.proofs.AtDesk.{acts_watched, notes_watched}
+use Rattle.chess_match.specs.ties.AtDesk.{Did, NotedSince, WritesOf}
+use Rattle.chess_match.proofs.AtDesk.{moments_watched, notes_watched, reads_watched, writes_watched}
 use Rattle.chess_match.proofs.ClockAsked.{asked_none}
 use Rattle.chess_match.proofs.MatchCases.{all_reads_end, all_sends_end, sends_end, unsent_in}
 use Rattle.chess_match.proofs.OutputByActs.{all_read}
@@ -50,10 +50,7 @@ silent S (SendFails b ∷ H) w w' u (v, o, p) = at (same_colour b.to S) u o (λ 
         → (lines_sent S H ≡ []) × (list_if x (b.lines ∷ []) ++ broken_blocks S H ≡ []) × (w' ≡ w)
     at true u o more = absurd cc
     at false u o more = let q = more u in (q.0, q.1, q.2 ∙ o)
-silent S (ReadsClock c n ∷ H) w w' u (v, o, p) = let q = silent S H v w' u p in (q.0, q.1, q.2 ∙ o)
-silent S (Reads c t ∷ H) w w' u (v, o, p) = let q = silent S H v w' u p in (q.0, q.1, q.2 ∙ o)
-silent S (ReadsEnd c ∷ H) w w' u (v, o, p) = let q = silent S H v w' u p in (q.0, q.1, q.2 ∙ o)
-silent S (ReadFails c ∷ H) w w' u (v, o, p) = let q = silent S H v w' u p in (q.0, q.1, q.2 ∙ o)
+silent S (Happens e ∷ H) w w' u (v, o, p) = let q = silent S H v w' u p in (q.0, q.1, q.2 ∙ o)
 
 -- these lines were sent to an output, and these blocks could not be sent
 abbrev pub Wrote : List SentLine → List (List SentLine) → OutputState → OutputState → Type 0
@@ -106,13 +103,7 @@ writes_all S before (SendFails b ∷ H) w v w' end f (u, o, p) =
           (refl, o.1, refl),
         ))))
     at false end o more = more end (still w v u before o f)
-writes_all S before (ReadsClock c n ∷ H) w v w' end f (u, o, p) =
-    writes_all S before H w u w' end (still w v u before o f) p
-writes_all S before (Reads c t ∷ H) w v w' end f (u, o, p) =
-    writes_all S before H w u w' end (still w v u before o f) p
-writes_all S before (ReadsEnd c ∷ H) w v w' end f (u, o, p) =
-    writes_all S before H w u w' end (still w v u before o f) p
-writes_all S before (ReadFails c ∷ H) w v w' end f (u, o, p) =
+writes_all S before (Happens e ∷ H) w v w' end f (u, o, p) =
     writes_all S before H w u w' end (still w v u before o f) p
 
 pub all_written : (S : Colour) (H : List Act) (w w' : OutputState) → sends_end S H ≡ true → WritesOf S H w w'
@@ -129,19 +120,17 @@ pub desk_passed : (r : Rules) (H : List Act) (final : effects.Match) (reason : R
     → w.engines ≡ begun.engines → w.coming ≡ begun.coming → w'.engines ≡ engines → w'.coming ≡ coming
     → Passed r H final w w'
 desk_passed r H final reason begun engines held coming witness names w w' is_match d p c p' c' =
-    let acts : acts_in (watched reason H) ≡ H = acts_watched reason H in
     record {
       is_match = is_match;
       passed = λ S.
           let read = all_read S H (w.engines S).input (w'.engines S).input (held S) (all_reads_end r H final is_match)
-          (rw (p, p') (subst (λ (G : List Act).
-          ReadsOf S G (begun.engines S).input (engines S).input nothing_held (held S)) acts (d.read S))) in
+          (rw (p, p') (reads_watched reason S H (begun.engines S).input (engines S).input nothing_held (held S)
+          (d.read S))) in
           let written = all_written S H (w.engines S).output (w'.engines S).output
           (all_sends_end r H final S is_match)
-          (rw (p, p') (subst (λ (G : List Act). WritesOf S G (begun.engines S).output (engines S).output) acts
-          (d.written S))) in
+          (rw (p, p') (writes_watched reason S H (begun.engines S).output (engines S).output (d.written S))) in
           (read.0, written.0, read.1, written.1, (read.2, written.2));
-      moments = rw (c, c') (subst (λ (G : List Act). ClockReadings begun.coming coming (moments_shown G)) acts
+      moments = rw (c, c') (subst (λ (ms : List ℕ). ClockReadings begun.coming coming ms) (moments_watched reason H)
           d.moments);
     }
 

@@ -20,7 +20,7 @@ use Rattle.chess_match.specs.declared.reason.Reason.{Reason}
 use Rattle.chess_match.specs.declared.reason.Reason.TheVariants.{Decided}
 use Rattle.chess_match.specs.laws.OfActs.{lines_given, match_after}
 use Rattle.chess_match.proofs.LineCases.{line_cases, offering, said_by}
-use Rattle.chess_match.proofs.MatchCases.{Uncut, both_not, on_when_read}
+use Rattle.chess_match.proofs.MatchCases.{both_not, on_when_read}
 use Rattle.chess_match.proofs.Points.{Kept, by_points}
 
 -- ---- lines that only say something
@@ -351,10 +351,10 @@ module _ {A : Type 0} (f : SentLine → List A) (says : (text : List ℕ) → f 
   pub given_at : (C : Match → List A → Type 0) (H K : List Act) (final : Match)
       → ((m : Match) (due : List Block) → IsMatchFrom r m due K final → (X : List A)
       → Sofar X (flat_map f (lines_due O due)) m → C m X)
-      → IsMatch r (H ++ K) final → Uncut H K
+      → IsMatch r (H ++ K) final
       → Sofar [] (flat_map f (beginning.to O)) beginning.after
       → C (match_after r beginning.after H) (flat_map f (lines_given O H))
-  given_at C H K final rest g e start =
+  given_at C H K final rest g start =
       by_points r (λ m due H n. (X : List A) → (is_over m.phase ≡ false → First due)
       → Sofar X (flat_map f (lines_due O due)) m → C n (X ++ flat_map f (lines_given O H))) (record {
         sends = λ m n b due H p X one s. given_more (C n) X (list_if (same_colour b.to O) b.lines) (lines_given O H)
@@ -376,7 +376,7 @@ module _ {A : Type 0} (f : SentLine → List A) (says : (text : List ℕ) → f 
             (over m _ White (on_when_read m.phase S aw) X s);
         read_fails = λ m n S H aw q only same p X one s. p X (λ o. absurd cc)
             (over m _ White (on_when_read m.phase S aw) X s);
-      }) H K final (λ m due q g X one s. subst (C m) (sym (append-nil X)) (rest m due g X s)) g e []
+      }) H K final (λ m due q g X one s. subst (C m) (sym (append-nil X)) (rest m due g X s)) g []
       (λ on. first_begun O)
       (dues White beginning [] start)
     where

@@ -2,9 +2,9 @@
 use Rattle.std.proofs.Common.{◌≡◌, ℕ, Bool, true, false, List, [], ◌∷◌, ◌++◌, refl, ap, sym, ◌∙◌, Option, None, Some}
 use Rattle.chess_base.specs.declared.man.Colour.{Colour}
 use Rattle.cecp_engine.specs.EngineLines.{LineKind, line_kind}
-use Rattle.chess_match.specs.Acts.{Act, Block, IsMatchFrom, Reads, ReadsClock, Sends, awaits_line, is_over}
+use Rattle.chess_match.specs.Acts.{Act, Block, IsMatchFrom, Happens, Sends, awaits_line, is_over}
 use Rattle.chess_match.specs.Effects.{Match, Phase, Over, effect, line_row}
-use Rattle.chess_match.specs.Events.{Line}
+use Rattle.chess_match.specs.Events.{Line, Opened}
 use Rattle.chess_match.specs.Rules.{Rules}
 use Rattle.chess_match.specs.declared.reason.MatchFault.{MatchFault}
 use Rattle.chess_match.specs.declared.reason.MatchFault.TheVariants.{Ended, Read, Write}
@@ -47,7 +47,7 @@ line_theirs r S kind n m aw = line_cases r S kind n m (λ e. Theirs S e.after.ph
 -- the acts end with a line of the side `S`, and then only blocks are sent
 abbrev EndsWith : Colour → List Act → Type 0
 EndsWith S H = (before : List Act) × (text : Option (List ℕ)) × (moment : ℕ) × (after : List Act)
-    × (H ≡ before ++ Reads S text ∷ ReadsClock S moment ∷ after) × (only_sends after ≡ true)
+    × (H ≡ before ++ Happens (Line S text moment) ∷ after) × (only_sends after ≡ true)
 
 one_more : (S : Colour) (a : Act) (H : List Act) → EndsWith S H → EndsWith S (a ∷ H)
 one_more S a H (before, text, moment, after, e, o) =
@@ -68,17 +68,17 @@ module _ (r : Rules) (reason : Reason) (S : Colour) (theirs : whose_line reason 
 
   line_last : (m n : Match) (c : Colour) (t : Option (List ℕ)) (k : ℕ) (H : List Act) → awaits_line m.phase c ≡ true
       → Stays (effect r m (Line c t k)).after H n → Lasts (effect r m (Line c t k)).after H n → n.phase ≡ Over reason
-      → EndsWith S (Reads c t ∷ ReadsClock c k ∷ H)
+      → EndsWith S (Happens (Line c t k) ∷ H)
   line_last m n c t k H aw stays p o = at (is_over (effect r m (Line c t k)).after.phase) refl
     where
       at : (b : Bool) → is_over (effect r m (Line c t k)).after.phase ≡ b
-          → EndsWith S (Reads c t ∷ ReadsClock c k ∷ H)
+          → EndsWith S (Happens (Line c t k) ∷ H)
       at true over =
           let (same, only) = stays over in
           let side : c ≡ S = line_theirs r c (line_kind t) k m aw reason S
           (ap (λ (x : Match). x.phase) (sym same) ∙ o) theirs in
-          ([], t, k, H, ap (λ (x : Colour). Reads x t ∷ ReadsClock x k ∷ H) side, only)
-      at false on = one_more S (Reads c t) (ReadsClock c k ∷ H) (one_more S (ReadsClock c k) H (p on o))
+          ([], t, k, H, ap (λ (x : Colour). Happens (Line x t k) ∷ H) side, only)
+      at false on = one_more S (Happens (Line c t k)) H (p on o)
 
 pub last_line_is_theirs : LastLineIsTheirs
 last_line_is_theirs r reason S H final g over theirs =
@@ -89,12 +89,12 @@ last_line_is_theirs r reason S H final g over theirs =
           (ap (λ (x : Match). x.phase) same) o;
       fails_late = λ m n b due K o only same p on. both_not (is_over m.phase) on o;
       reads = λ m n c t k K aw q stays p on o. line_last r reason S theirs m n c t k K aw stays p o;
-      opens = λ m n c k K o q p on end. one_more S (ReadsClock c k) K (p refl end);
+      opens = λ m n c k K o q p on end. one_more S (Happens (Opened c k)) K (p refl end);
       output_ends = λ m n c K aw q only same p on o. faulted r reason S theirs c Ended n
           (ap (λ (x : Match). x.phase) same) o;
       read_fails = λ m n c K aw q only same p on o. faulted r reason S theirs c Read n
           (ap (λ (x : Match). x.phase) same) o;
-    }) H [] final (λ m due q g on o. at_end m due g on) g' (λ cut. absurd cc) refl
+    }) H [] final (λ m due q g on o. at_end m due g on) g' refl
     (ap (λ (x : Match). x.phase) e ∙ over)
   where
     at_end : {A : Type 0} (m : Match) (due : List Block) → IsMatchFrom r m due [] final → is_over m.phase ≡ false → A

@@ -5,7 +5,7 @@ use Rattle.chess_base.specs.declared.man.Colour.{Colour}
 use Rattle.chess_base.specs.declared.man.Colour.TheVariants.{White, Black}
 use Rattle.chess_base.specs.Men.{other, same_colour}
 use Rattle.chess_base.proofs.shared.Men.{same_colour-self, same_colour-true}
-use Rattle.chess_match.specs.Acts.{Act, Block, Sends, SendFails, Reads, ReadsEnd, ReadFails, ReadsClock, IsMatchFrom, awaits_line, is_over, block_of, blocks_from, blocks_after}
+use Rattle.chess_match.specs.Acts.{Act, Block, Sends, SendFails, Happens, IsMatchFrom, awaits_line, is_over, block_of, blocks_from, blocks_after}
 use Rattle.chess_match.specs.ByDevice.{broken_blocks, is_broken}
 use Rattle.chess_match.specs.Effects.{Match, Effect, Opening, Over, effect}
 use Rattle.chess_match.specs.Events.{Event, Line, Opened, OutputEnds, FailsToRead, FailsToWrite}
@@ -131,9 +131,8 @@ pub leads_event : (r : Rules) (m : Match) (S : Colour) (e : Event) → is_of_out
     → Leads r m [] (steps_of e) (effect r m e).after (blocks_after S (effect r m e)) none
 leads_event r m S (Line c text moment) is awaits H final reason g ends =
     let same : c ≡ S = same_colour-true c S is in (
-      Reads c text ∷ ReadsClock c moment ∷ H,
+      Happens (Line c text moment) ∷ H,
       (
-        refl,
         subst (λ (x : Colour). awaits_line m.phase x ≡ true) (sym same) awaits,
         subst (λ (x : Colour). IsMatchFrom r (effect r m (Line c text moment)).after
             (blocks_after x (effect r m (Line c text moment))) H final) (sym same) g,
@@ -143,14 +142,14 @@ leads_event r m S (Line c text moment) is awaits H final reason g ends =
     )
 leads_event r m S (OutputEnds c) is awaits H final reason g ends =
     let same : c ≡ S = same_colour-true c S is in (
-      ReadsEnd c ∷ H,
+      Happens (OutputEnds c) ∷ H,
       (subst (λ (x : Colour). awaits_line m.phase x ≡ true) (sym same) awaits, g),
       refl,
       λ X. refl,
     )
 leads_event r m S (FailsToRead c) is awaits H final reason g ends =
     let same : c ≡ S = same_colour-true c S is in (
-      ReadFails c ∷ H,
+      Happens (FailsToRead c) ∷ H,
       (subst (λ (x : Colour). awaits_line m.phase x ≡ true) (sym same) awaits, g),
       refl,
       λ X. refl,
@@ -160,7 +159,7 @@ leads_event r m S e is awaits H final reason g ends = absurd cc
 -- a turn was opened
 pub leads_opened : (r : Rules) (m : Match) (S : Colour) (moment : ℕ) → m.phase ≡ Opening S
     → Leads r m [] (steps_of (Opened S moment)) (effect r m (Opened S moment)).after [] none
-leads_opened r m S moment opening H final reason g ends = (ReadsClock S moment ∷ H, (opening, g), refl, λ X. refl)
+leads_opened r m S moment opening H final reason g ends = (Happens (Opened S moment) ∷ H, (opening, g), refl, λ X. refl)
 
 -- ---- which blocks
 

@@ -81,7 +81,7 @@ more_lines White t xs ys k n h = omega (arith, h)
 more_lines Black t xs ys k n h = omega (arith, h)
 
 pub lines_are_few : AtEachMoment LinesAreFew
-lines_are_few r H K final g e =
+lines_are_few r H K final g =
     let most : ℕ = 22000 + 10002 * (r.limit + 1) in
     let Q : Match → List Act → Type 0 =
     λ m H. (k : ℕ) → Few r k m → k + length (lines_read White H) + length (lines_read Black H) ≤ most in
@@ -95,5 +95,5 @@ lines_are_few r H K final g e =
       opens = λ m n S x H o q p k w. p k (opened r k S x m (subst (λ (y : Phase). FewIn r k y m) o w));
       output_ends = λ m n S H aw q s u p k w. p k (few_over r k m w);
       read_fails = λ m n S H aw q s u p k w. p k (few_over r k m w);
-    }) H K final (λ m due q f k w. let l = few_over r k m w in omega (arith, l)) g (λ k. e) 0
+    }) H K final (λ m due q f k w. let l = few_over r k m w in omega (arith, l)) g 0
     (omega arith, omega arith, refl) in omega (arith, h)

@@ -8,9 +8,9 @@ use Rattle.chess_base.specs.Men.{other, same_colour}
 use Rattle.chess_base.proofs.shared.Men.{same_colour-other, same_colour-self}
 use Rattle.text_lines.specs.Lines.{LineSeen, Held}
 use Rattle.text_lines.specs.Next.{NextLine, GotLine, GotLast}
-use Rattle.chess_match.specs.Acts.{Reads, ReadsEnd}
+use Rattle.chess_match.specs.Acts.{Act, Happens}
+use Rattle.chess_match.specs.Events.{Line, OutputEnds, FailsToRead}
 use Rattle.chess_match.specs.Run.{text_read}
-use Rattle.chess_match.specs.Table.{reading_of}
 use Rattle.chess_match.specs.ties.EngineOutput.{OutputAt}
 use Rattle.chess_match.specs.declared.run.TheConstants.{ENGINE_LINE_LEN}
 
@@ -20,30 +20,36 @@ own S P Q p = subst (λ (x : Bool). MatchBool x P Q) (sym (same_colour-self S)) 
 others : (S : Colour) (P Q : Type 0) → Q → MatchBool (same_colour S (other S)) P Q
 others S P Q q = subst (λ (x : Bool). MatchBool x P Q) (sym (same_colour-other S (other S) (same_colour-self (other S)))) q
 
+-- the act of reading from the engine of the side `S`, with the moment 0 for a line
+abbrev pub act_read : {E : Type 0} → Colour → Result (Option LineSeen) E → Act
+act_read S (Ok (Some line)) = if line.ended then Happens (Line S (text_read line) 0) else Happens (OutputEnds S)
+act_read S (Ok None) = Happens (OutputEnds S)
+act_read S (Err e) = Happens (FailsToRead S)
+
 -- the output that was read
 pub own_read : {E : Type 0} (S : Colour) (r r' : InputState) (h h' : Held) (result : Result (Option LineSeen) E)
-    → NextLine ENGINE_LINE_LEN r r' h h' result → OutputAt S (reading_of S result) r r' h h'
+    → NextLine ENGINE_LINE_LEN r r' h h' result → OutputAt S (act_read S result) r r' h h'
 own_read S r r' h h' (Err x) (more, b, w, got) = own S _ _ (more, b, got)
 own_read S r r' h h' (Ok None) (more, b, w, got) = own S _ _ (more, b, inr got)
 own_read S r r' h h' (Ok (Some line)) (more, b, w, got) = by_whether line.ended refl got
   where
     by_whether : (x : Bool) → line.ended ≡ x
         → MatchBool x (GotLine ENGINE_LINE_LEN r r' h h' more line) (GotLast ENGINE_LINE_LEN r r' h h' more line)
-        → OutputAt S (if line.ended then Reads S (text_read line) else ReadsEnd S) r r' h h'
+        → OutputAt S (if line.ended then Happens (Line S (text_read line) 0) else Happens (OutputEnds S)) r r' h h'
     by_whether true e g =
-        subst (λ (x : Bool). OutputAt S (if x then Reads S (text_read line) else ReadsEnd S) r r' h h') (sym e)
+        subst (λ (x : Bool). OutputAt S (if x then Happens (Line S (text_read line) 0) else Happens (OutputEnds S)) r r' h h') (sym e)
         (own S _ _ (more, b, line, g, refl))
     by_whether false e g =
-        subst (λ (x : Bool). OutputAt S (if x then Reads S (text_read line) else ReadsEnd S) r r' h h') (sym e)
+        subst (λ (x : Bool). OutputAt S (if x then Happens (Line S (text_read line) 0) else Happens (OutputEnds S)) r r' h h') (sym e)
         (own S _ _ (more, b, inl (line, g)))
 
 -- the other output
 pub other_read : {E : Type 0} (S : Colour) (r r' : InputState) (h h' : Held) (result : Result (Option LineSeen) E)
-    → r' ≡ r → h' ≡ h → OutputAt (other S) (reading_of S result) r r' h h'
+    → r' ≡ r → h' ≡ h → OutputAt (other S) (act_read S result) r r' h h'
 other_read S r r' h h' (Err x) same kept = others S _ _ (same, kept)
 other_read S r r' h h' (Ok None) same kept = others S _ _ (same, kept)
 other_read S r r' h h' (Ok (Some line)) same kept = at line.ended
   where
-    at : (x : Bool) → OutputAt (other S) (if x then Reads S (text_read line) else ReadsEnd S) r r' h h'
+    at : (x : Bool) → OutputAt (other S) (if x then Happens (Line S (text_read line) 0) else Happens (OutputEnds S)) r r' h h'
     at true = others S _ _ (same, kept)
     at false = others S _ _ (same, kept)

@@ -5,12 +5,12 @@ use Rattle.std.specs.Prelude.{if◌then◌else◌}
 use Rattle.chess_base.specs.declared.man.Colour.{Colour}
 use Rattle.chess_base.specs.declared.man.Colour.TheVariants.{White}
 use Rattle.chess_base.specs.Men.{same_colour}
-use Rattle.chess_match.specs.Acts.{Act, Block, Sends, SendFails, Reads, ReadsEnd, ReadFails, ReadsClock, IsMatch, IsMatchFrom, awaits_line, is_over, blocks_from, blocks_after}
+use Rattle.chess_match.specs.Acts.{Act, Block, Sends, SendFails, Happens, IsMatch, IsMatchFrom, awaits_line, is_over, blocks_from, blocks_after}
 use Rattle.chess_match.specs.Effects.{Match, Phase, Opening, effect, beginning}
 use Rattle.chess_match.specs.Events.{Line, Opened, OutputEnds, FailsToRead, FailsToWrite}
 use Rattle.chess_match.specs.Lines.{SentLine}
 use Rattle.chess_match.specs.Rules.{Rules}
-use Rattle.chess_match.specs.laws.OfActs.{ends_in_line, match_after}
+use Rattle.chess_match.specs.laws.OfActs.{match_after}
 
 -- what holds before each act of a match, of what is due, of the acts up to a moment, and of the match then, if it holds
 -- after the act
@@ -23,38 +23,29 @@ pub record Acts (r : Rules) (P : Match → List Block → List Act → Match →
       → P m (b ∷ due) (SendFails b ∷ H) n
   pub reads : (m n : Match) (S : Colour) (t : Option (List ℕ)) (k : ℕ) (H : List Act) → awaits_line m.phase S ≡ true
       → P (effect r m (Line S t k)).after (blocks_after S (effect r m (Line S t k))) H n
-      → P m [] (Reads S t ∷ ReadsClock S k ∷ H) n
+      → P m [] (Happens (Line S t k) ∷ H) n
   pub opens : (m n : Match) (S : Colour) (k : ℕ) (H : List Act) → m.phase ≡ Opening S
-      → P (effect r m (Opened S k)).after [] H n → P m [] (ReadsClock S k ∷ H) n
+      → P (effect r m (Opened S k)).after [] H n → P m [] (Happens (Opened S k) ∷ H) n
   pub ends : (m n : Match) (S : Colour) (H : List Act) → awaits_line m.phase S ≡ true
       → P (effect r m (OutputEnds S)).after (blocks_from White (effect r m (OutputEnds S)).to) H n
-      → P m [] (ReadsEnd S ∷ H) n
+      → P m [] (Happens (OutputEnds S) ∷ H) n
   pub read_fails : (m n : Match) (S : Colour) (H : List Act) → awaits_line m.phase S ≡ true
       → P (effect r m (FailsToRead S)).after (blocks_from White (effect r m (FailsToRead S)).to) H n
-      → P m [] (ReadFails S ∷ H) n
-
--- whether these acts begin with a moment
-abbrev pub begins_in_moment : List Act → Bool
-begins_in_moment (ReadsClock S n ∷ H) = true
-begins_in_moment _ = false
-
--- a line and its moment are not parted
-abbrev pub Uncut : List Act → List Act → Type 0
-Uncut H K = begins_in_moment K ≡ true → ends_in_line H ≡ false
+      → P m [] (Happens (FailsToRead S) ∷ H) n
 
 module _ (r : Rules) (P : Match → List Block → List Act → Match → Type 0) (k : Acts r P) (K : List Act) (final : Match)
     (rest : (m : Match) (due : List Block) → IsMatchFrom r m due K final → P m due [] m) where
-  pub by_acts : (m : Match) (due : List Block) (H : List Act) → IsMatchFrom r m due (H ++ K) final → Uncut H K
+  pub by_acts : (m : Match) (due : List Block) (H : List Act) → IsMatchFrom r m due (H ++ K) final
       → P m due H (match_after r m H)
-  by_acts m due [] g e = rest m due g
-  by_acts m (b ∷ due) (Sends s ∷ H) (q, g) e = subst (λ (x : Block). P m (b ∷ due) (Sends x ∷ H) (match_after r m H)) q
-      (k.sends m (match_after r m H) b due H (by_acts m due H g e))
-  by_acts m (b ∷ due) (SendFails s ∷ H) (q, g) e = subst (λ (x : Block). P m (b ∷ due) (SendFails x ∷ H)
+  by_acts m due [] g = rest m due g
+  by_acts m (b ∷ due) (Sends s ∷ H) (q, g) = subst (λ (x : Block). P m (b ∷ due) (Sends x ∷ H) (match_after r m H)) q
+      (k.sends m (match_after r m H) b due H (by_acts m due H g))
+  by_acts m (b ∷ due) (SendFails s ∷ H) (q, g) = subst (λ (x : Block). P m (b ∷ due) (SendFails x ∷ H)
       (let n : Match × List Block = if is_over m.phase then (m, []) else (
         (effect r m (FailsToWrite x.to)).after,
         blocks_from White (effect r m (FailsToWrite x.to)).to,
       ) in match_after r n.0 H)) q
-      (at (is_over m.phase) refl (λ m' due' h. by_acts m' due' H h e)
+      (at (is_over m.phase) refl (λ m' due' h. by_acts m' due' H h)
       (subst (λ (x : Block). let n : Match × List Block = if is_over m.phase then (m, due) else (
         (effect r m (FailsToWrite x.to)).after,
         blocks_from White (effect r m (FailsToWrite x.to)).to,
@@ -74,37 +65,18 @@ module _ (r : Rules) (P : Match → List Block → List Act → Match → Type 0
       at true o more h = k.fails_late m (match_after r m H) b due H o (more m due h)
       at false o more h = k.fails m (match_after r (effect r m (FailsToWrite b.to)).after H) b due H o
           (more (effect r m (FailsToWrite b.to)).after (blocks_from White (effect r m (FailsToWrite b.to)).to) h)
-  by_acts m [] (Reads S t ∷ ReadsClock c n ∷ H) (q, aw, g) e =
-      subst (λ (x : Colour). P m [] (Reads S t ∷ ReadsClock x n ∷ H) (match_after r (effect r m (Line S t n)).after H))
-      (sym q) (k.reads m (match_after r (effect r m (Line S t n)).after H) S t n H aw (by_acts _ _ H g e))
-  by_acts m [] (ReadsClock S n ∷ H) (o, g) e =
-      k.opens m (match_after r (effect r m (Opened S n)).after H) S n H o (by_acts _ [] H g e)
-  by_acts m [] (ReadsEnd S ∷ H) (aw, g) e =
-      k.ends m (match_after r (effect r m (OutputEnds S)).after H) S H aw (by_acts _ _ H g e)
-  by_acts m [] (ReadFails S ∷ H) (aw, g) e =
-      k.read_fails m (match_after r (effect r m (FailsToRead S)).after H) S H aw (by_acts _ _ H g e)
-  by_acts m (b ∷ due) (Reads S t ∷ H) g e = absurd g
-  by_acts m (b ∷ due) (ReadsClock S n ∷ H) g e = absurd g
-  by_acts m (b ∷ due) (ReadsEnd S ∷ H) g e = absurd g
-  by_acts m (b ∷ due) (ReadFails S ∷ H) g e = absurd g
-  by_acts m [] (Sends s ∷ H) g e = absurd g
-  by_acts m [] (SendFails s ∷ H) g e = absurd g
-  by_acts m [] (Reads S t ∷ []) g e = cut K g e
-    where
-      cut : (J : List Act) → IsMatchFrom r m [] (Reads S t ∷ J) final → (begins_in_moment J ≡ true → true ≡ false)
-          → P m [] (Reads S t ∷ []) m
-      cut [] g e = absurd g
-      cut (ReadsClock c n ∷ J) g e = let no : true ≡ false = e refl in absurd cc
-      cut (Sends b ∷ J) g e = absurd g
-      cut (SendFails b ∷ J) g e = absurd g
-      cut (Reads c u ∷ J) g e = absurd g
-      cut (ReadsEnd c ∷ J) g e = absurd g
-      cut (ReadFails c ∷ J) g e = absurd g
-  by_acts m [] (Reads S t ∷ Sends s ∷ H) g e = absurd g
-  by_acts m [] (Reads S t ∷ SendFails s ∷ H) g e = absurd g
-  by_acts m [] (Reads S t ∷ Reads c u ∷ H) g e = absurd g
-  by_acts m [] (Reads S t ∷ ReadsEnd c ∷ H) g e = absurd g
-  by_acts m [] (Reads S t ∷ ReadFails c ∷ H) g e = absurd g
+  by_acts m [] (Happens (Line S t n) ∷ H) (aw, g) =
+      k.reads m (match_after r (effect r m (Line S t n)).after H) S t n H aw (by_acts _ _ H g)
+  by_acts m [] (Happens (Opened S n) ∷ H) (o, g) =
+      k.opens m (match_after r (effect r m (Opened S n)).after H) S n H o (by_acts _ [] H g)
+  by_acts m [] (Happens (OutputEnds S) ∷ H) (aw, g) =
+      k.ends m (match_after r (effect r m (OutputEnds S)).after H) S H aw (by_acts _ _ H g)
+  by_acts m [] (Happens (FailsToRead S) ∷ H) (aw, g) =
+      k.read_fails m (match_after r (effect r m (FailsToRead S)).after H) S H aw (by_acts _ _ H g)
+  by_acts m [] (Happens (FailsToWrite S) ∷ H) (never, g) = absurd never
+  by_acts m (b ∷ due) (Happens e ∷ H) g = absurd g
+  by_acts m [] (Sends s ∷ H) g = absurd g
+  by_acts m [] (SendFails s ∷ H) g = absurd g
 
 -- ---- a whole match
 
@@ -112,7 +84,7 @@ pub by_cases : (r : Rules) (final : Match) (P : Match → List Block → List Ac
     → Acts r (λ m due H end. P m due H) → (is_over final.phase ≡ true → P final [] []) → (m : Match) (due : List Block)
     (H : List Act) → IsMatchFrom r m due H final → P m due H
 by_cases r final P k over m due H g = by_acts r (λ m due H end. P m due H) k [] final at m due H
-    (subst (λ (K : List Act). IsMatchFrom r m due K final) (sym (append-nil H)) g) (λ cut. absurd cc)
+    (subst (λ (K : List Act). IsMatchFrom r m due K final) (sym (append-nil H)) g)
   where
     at : (m : Match) (due : List Block) → IsMatchFrom r m due [] final → P m due []
     at m [] (o, e) = subst (λ (x : Match). P x [] []) e (over (ap (λ (x : Match). is_over x.phase) e ∙ o))
@@ -125,20 +97,20 @@ abbrev pub unread : List Act → Bool
 unread [] = true
 unread (Sends b ∷ H) = unread H
 unread (SendFails b ∷ H) = unread H
-unread (ReadsClock c n ∷ H) = unread H
-unread (Reads c t ∷ H) = false
-unread (ReadsEnd c ∷ H) = false
-unread (ReadFails c ∷ H) = false
+unread (Happens (Line c t n) ∷ H) = false
+unread (Happens (OutputEnds c) ∷ H) = false
+unread (Happens (FailsToRead c) ∷ H) = false
+unread (Happens (Opened c n) ∷ H) = unread H
+unread (Happens (FailsToWrite c) ∷ H) = unread H
 
 -- after an end or a failed read, nothing is read
 abbrev pub reads_end : List Act → Bool
 reads_end [] = true
 reads_end (Sends b ∷ H) = reads_end H
 reads_end (SendFails b ∷ H) = reads_end H
-reads_end (ReadsClock c n ∷ H) = reads_end H
-reads_end (Reads c t ∷ H) = reads_end H
-reads_end (ReadsEnd c ∷ H) = unread H
-reads_end (ReadFails c ∷ H) = unread H
+reads_end (Happens (OutputEnds c) ∷ H) = unread H
+reads_end (Happens (FailsToRead c) ∷ H) = unread H
+reads_end (Happens e ∷ H) = reads_end H
 
 pub on_when_read : (p : Phase) (S : Colour) → awaits_line p S ≡ true → is_over p ≡ false
 on_when_read p S h1 = grind arith
@@ -178,20 +150,14 @@ abbrev pub unsent_in : Colour → List Act → Bool
 unsent_in S [] = true
 unsent_in S (Sends b ∷ H) = if same_colour b.to S then false else unsent_in S H
 unsent_in S (SendFails b ∷ H) = if same_colour b.to S then false else unsent_in S H
-unsent_in S (ReadsClock c n ∷ H) = unsent_in S H
-unsent_in S (Reads c t ∷ H) = unsent_in S H
-unsent_in S (ReadsEnd c ∷ H) = unsent_in S H
-unsent_in S (ReadFails c ∷ H) = unsent_in S H
+unsent_in S (Happens e ∷ H) = unsent_in S H
 
 -- after a failed write to the side `S`, nothing is sent to it
 abbrev pub sends_end : Colour → List Act → Bool
 sends_end S [] = true
 sends_end S (Sends b ∷ H) = sends_end S H
 sends_end S (SendFails b ∷ H) = if same_colour b.to S then unsent_in S H else sends_end S H
-sends_end S (ReadsClock c n ∷ H) = sends_end S H
-sends_end S (Reads c t ∷ H) = sends_end S H
-sends_end S (ReadsEnd c ∷ H) = sends_end S H
-sends_end S (ReadFails c ∷ H) = sends_end S H
+sends_end S (Happens e ∷ H) = sends_end S H
 
 -- none of these blocks is for the side `S`, or at most one
 abbrev none_for : Colour → List Block → Bool

@@ -10,10 +10,10 @@ use Rattle.chess_base.specs.Options.{list_if}
 use Rattle.chess_base.proofs.shared.Men.{same_colour-true}
 use Rattle.cecp_engine.specs.EngineLines.{line_kind}
 use Rattle.cecp_engine.specs.Items.{takes}
-use Rattle.chess_match.specs.Acts.{Act, Block, IsMatch, IsMatchFrom, Sends, SendFails, Reads, ReadsEnd, ReadFails, ReadsClock, awaits_line, is_over}
+use Rattle.chess_match.specs.Acts.{Act, Block, IsMatch, IsMatchFrom, Sends, SendFails, Happens, awaits_line, is_over}
 use Rattle.chess_match.specs.ByDevice.{broken_blocks, is_broken, lines_sent}
 use Rattle.chess_match.specs.Effects.{Match, Phase, Handshake, Setup, Opening, BeforeMove, AfterMove, Over, begins_turn, beginning, effect, ends, enter, is_owed_move, moved, opening}
-use Rattle.chess_match.specs.Events.{Line}
+use Rattle.chess_match.specs.Events.{Line, Opened}
 use Rattle.chess_match.specs.Lines.{SentLine}
 use Rattle.chess_match.specs.Reasons.{is_write_fault_of}
 use Rattle.chess_match.specs.Rules.{Rules}
@@ -22,7 +22,7 @@ use Rattle.chess_match.specs.laws.Laws.{move_sent, moves_sent, texts_from}
 use Rattle.chess_match.specs.laws.OfActs.{AllMovesAreSent, AtEachLine, AtEachMoment, AtEachOpening, InEachMatch, IsSentAllMoves, MovesAreSent, MovesSentAreKnown, lines_given, match_after, others_moves}
 use Rattle.chess_match.proofs.Givings.{Gives, Goes, given_at, grows, sends}
 use Rattle.chess_match.proofs.LineCases.{line_cases}
-use Rattle.chess_match.proofs.MatchCases.{Uncut, both_not, on_when_read}
+use Rattle.chess_match.proofs.MatchCases.{both_not, on_when_read}
 use Rattle.chess_match.proofs.Points.{by_points, whole, mover, moved_items, offered_items, turn_in, turns_of}
 
 -- ---- texts of moves
@@ -164,11 +164,11 @@ gives r O = record {
 sent_at : (r : Rules) (O : Colour) (C : Match → List (List ℕ) → Type 0) (H K : List Act) (final : Match)
     → ((m : Match) (due : List Block) → IsMatchFrom r m due K final → (X Y rest : List (List ℕ)) → (due ≡ [] → Y ≡ [])
     → length (Y ++ rest) ≤ 1 → X ++ (Y ++ rest) ≡ all_texts r O m → Owed r O m rest → C m X)
-    → IsMatch r (H ++ K) final → Uncut H K
+    → IsMatch r (H ++ K) final
     → C (match_after r beginning.after H) (moves_sent (lines_given O H))
-sent_at r O C H K final done g e = given_at move_sent (λ text. refl) r O (all_texts r O) (Owed r O) (gives r O) C H K
+sent_at r O C H K final done g = given_at move_sent (λ text. refl) r O (all_texts r O) (Owed r O) (gives r O) C H K
     final
-    (λ m due q X s. done m due q X _ s.0 (λ none. rw none refl) s.1 s.2 s.3) g e (begun O)
+    (λ m due q X s. done m due q X _ s.0 (λ none. rw none refl) s.1 s.2 s.3) g (begun O)
   where
     begun : (O : Colour) → (rest : List (List ℕ)) × (length (moves_sent (beginning.to O) ++ rest) ≤ 1)
         × ([] ++ (moves_sent (beginning.to O) ++ rest) ≡ all_texts r O beginning.after) × Owed r O beginning.after rest
@@ -176,9 +176,9 @@ sent_at r O C H K final done g e = given_at move_sent (λ text. refl) r O (all_t
     begun Black = ([], omega arith, refl, refl)
 
 pub moves_are_sent : AtEachMoment MovesAreSent
-moves_are_sent r H K final g e O = sent_at r O
+moves_are_sent r H K final g O = sent_at r O
     (λ m X. (rest : List (List ℕ)) × (length rest ≤ 1) × (X ++ rest ≡ all_texts r O m)) H K final
-    (λ m due q X Y rest none l a o. (Y ++ rest, l, a)) g (λ k. e)
+    (λ m due q X Y rest none l a o. (Y ++ rest, l, a)) g
 
 -- ---- a whole match
 
@@ -194,10 +194,7 @@ all_sent S (SendFails b ∷ H) h = at (same_colour b.to S) h (all_sent S H)
     at true h more = both_not (nat_lt 0 (length (b.lines ∷ broken_blocks S H))) h
         (lt-ltb 0 (length (b.lines ∷ broken_blocks S H)) (omega arith))
     at false h more = more h
-all_sent S (Reads c t ∷ H) h = all_sent S H h
-all_sent S (ReadsEnd c ∷ H) h = all_sent S H h
-all_sent S (ReadFails c ∷ H) h = all_sent S H h
-all_sent S (ReadsClock c n ∷ H) h = all_sent S H h
+all_sent S (Happens e ∷ H) h = all_sent S H h
 
 -- whether a match ended since writing to O failed
 abbrev pub unwritten_in : Phase → Colour → Bool
@@ -239,9 +236,9 @@ line_written r O S t x m aw =
     on_written p h1 = grind arith
 
 -- if each block for O was sent, no write to O ended the match
-written : (r : Rules) (O : Colour) (H K : List Act) (final : Match) → IsMatch r (H ++ K) final → Uncut H K
+written : (r : Rules) (O : Colour) (H K : List Act) (final : Match) → IsMatch r (H ++ K) final
     → is_broken H O ≡ false → unwritten_in (match_after r beginning.after H).phase O ≡ false
-written r O H K final g e = by_points r
+written r O H K final g = by_points r
     (λ m due H n. unwritten_in m.phase O ≡ false → is_broken H O ≡ false → unwritten_in n.phase O ≡ false) (record {
       sends = λ m n b due H p. p;
       fails = λ m n b due H on q only same p w h. p (broken_more b H O h).0 (broken_more b H O h).1;
@@ -250,15 +247,15 @@ written r O H K final g e = by_points r
       opens = λ m n S x H o q p w h. p refl h;
       output_ends = λ m n S H aw q only same p w h. p refl h;
       read_fails = λ m n S H aw q only same p w h. p refl h;
-    }) H K final (λ m due q g w h. w) g e refl
+    }) H K final (λ m due q g w h. w) g refl
 
 pub all_moves_are_sent : InEachMatch AllMovesAreSent
 all_moves_are_sent r H final g O unbroken =
     let (g', e) = whole r H final g in
     subst (λ (m : Match). moves_sent (lines_sent O H) ≡ all_texts r O m) e
     (ap moves_sent (all_sent O H unbroken)
-    ∙ sent_at r O (λ m X. unwritten_in m.phase O ≡ false → X ≡ all_texts r O m) H [] final done g' (λ cut. absurd cc)
-    (written r O H [] final g' (λ cut. absurd cc) unbroken))
+    ∙ sent_at r O (λ m X. unwritten_in m.phase O ≡ false → X ≡ all_texts r O m) H [] final done g'
+    (written r O H [] final g' unbroken))
   where
     none_left : (p : Phase) (text rest : List (List ℕ)) → is_over p ≡ true → unwritten_in p O ≡ false
         → OwedIn O text p rest → rest ≡ []
@@ -274,9 +271,9 @@ all_moves_are_sent r H final g O unbroken =
 -- ---- when a line or the clock is read
 
 -- no write failed before
-unbroken_on : (r : Rules) (S : Colour) (H K : List Act) (final : Match) → IsMatch r (H ++ K) final → Uncut H K
+unbroken_on : (r : Rules) (S : Colour) (H K : List Act) (final : Match) → IsMatch r (H ++ K) final
     → is_over (match_after r beginning.after H).phase ≡ false → is_broken H S ≡ false
-unbroken_on r S H K final g e = by_points r (λ m due H n. is_over n.phase ≡ false → is_broken H S ≡ false) (record {
+unbroken_on r S H K final g = by_points r (λ m due H n. is_over n.phase ≡ false → is_broken H S ≡ false) (record {
   sends = λ m n b due H p. p;
   fails = λ m n b due H on q only same p w. both_not (is_over n.phase) w (ap (λ (x : Match). is_over x.phase) same);
   fails_late = λ m n b due H o only same p w. both_not (is_over n.phase) w (ap (λ (x : Match). is_over x.phase) same
@@ -285,7 +282,7 @@ unbroken_on r S H K final g e = by_points r (λ m due H n. is_over n.phase ≡ f
   opens = λ m n S x H o q p. p;
   output_ends = λ m n S H aw q only same p. p;
   read_fails = λ m n S H aw q only same p. p;
-}) H K final (λ m due q g w. refl) g e
+}) H K final (λ m due q g w. refl) g
 
 -- before these acts nothing is due, the match is on, and no move is owed to the side
 abbrev IsSettled : Rules → Colour → List Act → Match → Type 0
@@ -293,11 +290,11 @@ IsSettled r S K final = (m : Match) (due : List Block) → IsMatchFrom r m due K
     → (due ≡ []) × (is_over m.phase ≡ false) × (is_owed_move m.phase S ≡ false)
 
 all_sent_before : (r : Rules) (S : Colour) (H K : List Act) (final : Match) → IsSettled r S K final
-    → IsMatch r (H ++ K) final → Uncut H K → IsSentAllMoves r S H (match_after r beginning.after H)
-all_sent_before r S H K final settled g u =
+    → IsMatch r (H ++ K) final → IsSentAllMoves r S H (match_after r beginning.after H)
+all_sent_before r S H K final settled g =
     let C : Match → List (List ℕ) → Type 0 = λ m X. (X ≡ all_texts r S m) × (is_over m.phase ≡ false) in
-    let c = sent_at r S C H K final done g u in
-    ap moves_sent (all_sent S H (unbroken_on r S H K final g u c.1)) ∙ c.0
+    let c = sent_at r S C H K final done g in
+    ap moves_sent (all_sent S H (unbroken_on r S H K final g c.1)) ∙ c.0
   where
     done : (m : Match) (due : List Block) → IsMatchFrom r m due K final → (X Y rest : List (List ℕ))
         → (due ≡ [] → Y ≡ []) → length (Y ++ rest) ≤ 1 → X ++ (Y ++ rest) ≡ all_texts r S m → Owed r S m rest
@@ -308,37 +305,28 @@ all_sent_before r S H K final settled g u =
         (sym (rw (none empty, left) (append-nil X)) ∙ a, on)
 
 pub all_sent_at_lines : AtEachLine IsSentAllMoves
-all_sent_at_lines r H after S text final g =
-    all_sent_before r S H (Reads S text ∷ after) final settled g (λ cut. absurd cc)
+all_sent_at_lines r H after S text moment final g =
+    all_sent_before r S H (Happens (Line S text moment) ∷ after) final settled g
   where
     none_owed : (p : Phase) → awaits_line p S ≡ true → is_owed_move p S ≡ false
     none_owed p h1 = grind arith
 
-    awaited : (m : Match) (K : List Act) → IsMatchFrom r m [] (Reads S text ∷ K) final → awaits_line m.phase S ≡ true
-    awaited m [] q = absurd q
-    awaited m (ReadsClock c n ∷ K) (e, aw, q) = aw
-    awaited m (Sends b ∷ K) q = absurd q
-    awaited m (SendFails b ∷ K) q = absurd q
-    awaited m (Reads c u ∷ K) q = absurd q
-    awaited m (ReadsEnd c ∷ K) q = absurd q
-    awaited m (ReadFails c ∷ K) q = absurd q
-
-    settled : IsSettled r S (Reads S text ∷ after) final
-    settled m [] q = let aw = awaited m after q in (refl, on_when_read m.phase S aw, none_owed m.phase aw)
+    settled : IsSettled r S (Happens (Line S text moment) ∷ after) final
+    settled m [] (aw, q) = (refl, on_when_read m.phase S aw, none_owed m.phase aw)
     settled m (b ∷ due) q = absurd q
 
 pub all_sent_at_openings : AtEachOpening IsSentAllMoves
-all_sent_at_openings r H after S moment final g e =
-    all_sent_before r S H (ReadsClock S moment ∷ after) final settled g (λ cut. e)
+all_sent_at_openings r H after S moment final g =
+    all_sent_before r S H (Happens (Opened S moment) ∷ after) final settled g
   where
-    settled : IsSettled r S (ReadsClock S moment ∷ after) final
+    settled : IsSettled r S (Happens (Opened S moment) ∷ after) final
     settled m [] (o, q) = (refl, ap is_over o, ap (λ p. is_owed_move p S) o)
     settled m (b ∷ due) q = absurd q
 
 -- there is a used time for each move
-used_are_turns : (r : Rules) (C : Colour) (H K : List Act) (final : Match) → IsMatch r (H ++ K) final → Uncut H K
+used_are_turns : (r : Rules) (C : Colour) (H K : List Act) (final : Match) → IsMatch r (H ++ K) final
     → (let m = match_after r beginning.after H in length (m.seat C).used ≡ turns_of C r.first m.played)
-used_are_turns r C H K final g e = by_points r
+used_are_turns r C H K final g = by_points r
     (λ m due H n. length (n.seat C).used ≡ turns_of C r.first n.played) (record {
       sends = λ m n b due H p. p;
       fails = λ m n b due H on q only same p. p;
@@ -347,11 +335,11 @@ used_are_turns r C H K final g e = by_points r
       opens = λ m n S x H o q p. p;
       output_ends = λ m n S H aw q only same p. p;
       read_fails = λ m n S H aw q only same p. p;
-    }) H K final (λ m due q g. q.1 C) g e
+    }) H K final (λ m due q g. q.1 C) g
 
 pub moves_sent_are_known : AtEachLine MovesSentAreKnown
-moves_sent_are_known r H after S text final g =
+moves_sent_are_known r H after S text moment final g =
     let m = match_after r beginning.after H in
-    ap (λ (l : ℕ). nat_lt 0 l) (used_are_turns r (other S) H (Reads S text ∷ after) final g (λ cut. absurd cc)
+    ap (λ (l : ℕ). nat_lt 0 l) (used_are_turns r (other S) H (Happens (Line S text moment) ∷ after) final g
     ∙ sym (texts-length r (takes (codes "san") (m.seat S).items) (other S) r.first [] m.played)
-    ∙ ap (λ (l : List (List ℕ)). length l) (sym (all_sent_at_lines r H after S text final g)))
+    ∙ ap (λ (l : List (List ℕ)). length l) (sym (all_sent_at_lines r H after S text moment final g)))

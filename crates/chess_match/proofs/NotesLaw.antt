@@ -5,10 +5,10 @@ use Rattle.chess_base.specs.declared.man.Colour.{Colour}
 use Rattle.chess_base.specs.declared.man.Colour.TheVariants.{White, Black}
 use Rattle.chess_base.specs.Men.{same_colour}
 use Rattle.chess_base.specs.Options.{list_if}
-use Rattle.chess_match.specs.Acts.{Act, Block, Sends, SendFails, Reads, ReadsEnd, ReadFails, ReadsClock, blocks_from, is_over}
+use Rattle.chess_match.specs.Acts.{Act, Block, Sends, SendFails, Happens, blocks_from, is_over}
 use Rattle.chess_match.specs.ByDevice.{lines_read, notes_given}
 use Rattle.chess_match.specs.Effects.{Match, Phase, Over, beginning, effect, farewell}
-use Rattle.chess_match.specs.Events.{Event, Line, OutputEnds, FailsToRead, FailsToWrite}
+use Rattle.chess_match.specs.Events.{Event, Line, Opened, OutputEnds, FailsToRead, FailsToWrite}
 use Rattle.chess_match.specs.Lines.{SentLine, bytes_of}
 use Rattle.chess_match.specs.Notes.{Note, Happened}
 use Rattle.chess_match.specs.Reasons.{is_write_fault_of}
@@ -41,16 +41,7 @@ all_lines reason [] S = refl
 all_lines reason (Sends b ∷ H) S = block_bytes (same_colour b.to S) b.lines (lines_given S H) _ (all_lines reason H S)
 all_lines reason (SendFails b ∷ H) S = block_bytes (same_colour b.to S) b.lines (lines_given S H) _
     (no_bytes (is_write_fault_of reason b.to) S (FailsToWrite b.to) (notes_given reason H) ∙ all_lines reason H S)
-all_lines reason (Reads c t ∷ ReadsClock d n ∷ H) S = all_lines reason H S
-all_lines reason (ReadsClock c n ∷ H) S = all_lines reason H S
-all_lines reason (ReadsEnd c ∷ H) S = all_lines reason H S
-all_lines reason (ReadFails c ∷ H) S = all_lines reason H S
-all_lines reason (Reads c t ∷ []) S = refl
-all_lines reason (Reads c t ∷ Sends b ∷ H) S = all_lines reason (Sends b ∷ H) S
-all_lines reason (Reads c t ∷ SendFails b ∷ H) S = all_lines reason (SendFails b ∷ H) S
-all_lines reason (Reads c t ∷ Reads d u ∷ H) S = all_lines reason (Reads d u ∷ H) S
-all_lines reason (Reads c t ∷ ReadsEnd d ∷ H) S = all_lines reason (ReadsEnd d ∷ H) S
-all_lines reason (Reads c t ∷ ReadFails d ∷ H) S = all_lines reason (ReadFails d ∷ H) S
+all_lines reason (Happens e ∷ H) S = all_lines reason H S
 
 -- ---- lines that are read, and moments
 
@@ -82,16 +73,11 @@ all_moments reason [] = refl
 all_moments reason (Sends b ∷ H) = all_moments reason H
 all_moments reason (SendFails b ∷ H) =
     (no_readings (is_write_fault_of reason b.to) b.to b.to (notes_given reason H)).1 ∙ all_moments reason H
-all_moments reason (Reads c t ∷ ReadsClock d n ∷ H) = ap (λ ns. n ∷ ns) (all_moments reason H)
-all_moments reason (ReadsClock c n ∷ H) = ap (λ ns. n ∷ ns) (all_moments reason H)
-all_moments reason (ReadsEnd c ∷ H) = all_moments reason H
-all_moments reason (ReadFails c ∷ H) = all_moments reason H
-all_moments reason (Reads c t ∷ []) = refl
-all_moments reason (Reads c t ∷ Sends b ∷ H) = all_moments reason (Sends b ∷ H)
-all_moments reason (Reads c t ∷ SendFails b ∷ H) = all_moments reason (SendFails b ∷ H)
-all_moments reason (Reads c t ∷ Reads d u ∷ H) = all_moments reason (Reads d u ∷ H)
-all_moments reason (Reads c t ∷ ReadsEnd d ∷ H) = all_moments reason (ReadsEnd d ∷ H)
-all_moments reason (Reads c t ∷ ReadFails d ∷ H) = all_moments reason (ReadFails d ∷ H)
+all_moments reason (Happens (Line c t n) ∷ H) = ap (λ ns. n ∷ ns) (all_moments reason H)
+all_moments reason (Happens (Opened c n) ∷ H) = ap (λ ns. n ∷ ns) (all_moments reason H)
+all_moments reason (Happens (OutputEnds c) ∷ H) = all_moments reason H
+all_moments reason (Happens (FailsToRead c) ∷ H) = all_moments reason H
+all_moments reason (Happens (FailsToWrite c) ∷ H) = all_moments reason H
 
 -- ---- events
 

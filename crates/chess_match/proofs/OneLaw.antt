@@ -8,7 +8,7 @@ use Rattle.chess_base.specs.declared.man.Colour.TheVariants.{White, Black}
 use Rattle.chess_base.specs.Men.{same_colour}
 use Rattle.chess_base.specs.Options.{list_if}
 use Rattle.chess_base.proofs.shared.Men.{same_colour-self}
-use Rattle.chess_match.specs.Acts.{Act, Block, IsMatchFrom, Sends, SendFails, Reads, ReadsEnd, ReadFails, ReadsClock, awaits_line, blocks_after, blocks_from, is_over}
+use Rattle.chess_match.specs.Acts.{Act, Block, IsMatchFrom, Sends, SendFails, Happens, awaits_line, blocks_after, blocks_from, is_over}
 use Rattle.chess_match.specs.ByDevice.{broken_blocks, has_ended, has_failed_read, is_broken, lines_read, moments_shown}
 use Rattle.chess_match.specs.Effects.{Match, Phase, Opening, beginning, effect}
 use Rattle.chess_match.specs.Events.{Event, Line, Opened, OutputEnds, FailsToRead, FailsToWrite}
@@ -23,32 +23,26 @@ use Rattle.chess_match.proofs.MatchCases.{both_not, by_cases, none_read, on_when
 -- is over
 abbrev Begins : Rules → Match → Match → List Act → List Act → Option Event → Type 0
 Begins r m final K J None = (K ≡ []) × (is_over m.phase ≡ true)
-Begins r m final K J (Some (Line S t n)) = (K ≡ Reads S t ∷ ReadsClock S n ∷ J) × (awaits_line m.phase S ≡ true)
+Begins r m final K J (Some (Line S t n)) = (K ≡ Happens (Line S t n) ∷ J) × (awaits_line m.phase S ≡ true)
     × IsMatchFrom r (effect r m (Line S t n)).after (blocks_after S (effect r m (Line S t n))) J final
-Begins r m final K J (Some (Opened S n)) = (K ≡ ReadsClock S n ∷ J) × (m.phase ≡ Opening S)
+Begins r m final K J (Some (Opened S n)) = (K ≡ Happens (Opened S n) ∷ J) × (m.phase ≡ Opening S)
     × IsMatchFrom r (effect r m (Opened S n)).after [] J final
-Begins r m final K J (Some (OutputEnds S)) = (K ≡ ReadsEnd S ∷ J) × (awaits_line m.phase S ≡ true)
+Begins r m final K J (Some (OutputEnds S)) = (K ≡ Happens (OutputEnds S) ∷ J) × (awaits_line m.phase S ≡ true)
     × IsMatchFrom r (effect r m (OutputEnds S)).after (blocks_from White (effect r m (OutputEnds S)).to) J final
-Begins r m final K J (Some (FailsToRead S)) = (K ≡ ReadFails S ∷ J) × (awaits_line m.phase S ≡ true)
+Begins r m final K J (Some (FailsToRead S)) = (K ≡ Happens (FailsToRead S) ∷ J) × (awaits_line m.phase S ≡ true)
     × IsMatchFrom r (effect r m (FailsToRead S)).after (blocks_from White (effect r m (FailsToRead S)).to) J final
 Begins r m final K J (Some (FailsToWrite S)) = ⊥
 
 next : (r : Rules) (m final : Match) (K : List Act) → IsMatchFrom r m [] K final
     → (e : Option Event) × (J : List Act) × Begins r m final K J e
 next r m final [] (o, e) = (None, [], (refl, o))
-next r m final (Reads S t ∷ ReadsClock c n ∷ J) (e, aw, g) =
-    (Some (Line S t n), J, (ap (λ (x : Colour). Reads S t ∷ ReadsClock x n ∷ J) e, aw, g))
-next r m final (ReadsClock S n ∷ J) (o, g) = (Some (Opened S n), J, (refl, o, g))
-next r m final (ReadsEnd S ∷ J) (aw, g) = (Some (OutputEnds S), J, (refl, aw, g))
-next r m final (ReadFails S ∷ J) (aw, g) = (Some (FailsToRead S), J, (refl, aw, g))
+next r m final (Happens (Line S t n) ∷ J) (aw, g) = (Some (Line S t n), J, (refl, aw, g))
+next r m final (Happens (Opened S n) ∷ J) (o, g) = (Some (Opened S n), J, (refl, o, g))
+next r m final (Happens (OutputEnds S) ∷ J) (aw, g) = (Some (OutputEnds S), J, (refl, aw, g))
+next r m final (Happens (FailsToRead S) ∷ J) (aw, g) = (Some (FailsToRead S), J, (refl, aw, g))
+next r m final (Happens (FailsToWrite S) ∷ J) (never, g) = absurd never
 next r m final (Sends b ∷ J) g = absurd g
 next r m final (SendFails b ∷ J) g = absurd g
-next r m final (Reads S t ∷ []) g = absurd g
-next r m final (Reads S t ∷ Sends b ∷ J) g = absurd g
-next r m final (Reads S t ∷ SendFails b ∷ J) g = absurd g
-next r m final (Reads S t ∷ Reads c u ∷ J) g = absurd g
-next r m final (Reads S t ∷ ReadsEnd c ∷ J) g = absurd g
-next r m final (Reads S t ∷ ReadFails c ∷ J) g = absurd g
 
 -- one phase awaits one side's line
 one_awaits : (p : Phase) (c d : Colour) → awaits_line p c ≡ true → awaits_line p d ≡ true → c ≡ d
@@ -93,7 +87,7 @@ after_read S t s = record {
 }
 
 of_read : (s : Streams) (S : Colour) (t : Option (List ℕ)) (n : ℕ) (H : List Act)
-    → Held s (Reads S t ∷ ReadsClock S n ∷ H) → Held (after_read S t s) H
+    → Held s (Happens (Line S t n) ∷ H) → Held (after_read S t s) H
 of_read s S t n H (lines, ends, failures, moments, sent) = (
   λ X. ((lines X).0, drop_front (line_of S t X) (lines_read X H) (lines X).0 (s.lines X) (lines X).1),
   λ X h. (drop_exact (line_of S t X) (lines_read X H) (s.lines X) (ends X h).0, (ends X h).1),
@@ -102,14 +96,14 @@ of_read s S t n H (lines, ends, failures, moments, sent) = (
   sent,
 )
 
-of_opened : (s : Streams) (S : Colour) (n : ℕ) (H : List Act) → Held s (ReadsClock S n ∷ H)
+of_opened : (s : Streams) (S : Colour) (n : ℕ) (H : List Act) → Held s (Happens (Opened S n) ∷ H)
     → Held (record s { moments = λ n. s.moments (suc n) }) H
 of_opened s S n H o = (o.0, o.1, o.2, later n (moments_shown H) s.moments o.3, o.4)
 
-of_end : (s : Streams) (S : Colour) (H : List Act) → Held s (ReadsEnd S ∷ H) → Held s H
+of_end : (s : Streams) (S : Colour) (H : List Act) → Held s (Happens (OutputEnds S) ∷ H) → Held s H
 of_end s S H o = (o.0, λ X h. o.1 X (or_right (same_colour S X) (has_ended X H) h), o.2, o.3, o.4)
 
-of_failure : (s : Streams) (S : Colour) (H : List Act) → Held s (ReadFails S ∷ H) → Held s H
+of_failure : (s : Streams) (S : Colour) (H : List Act) → Held s (Happens (FailsToRead S) ∷ H) → Held s H
 of_failure s S H o = (o.0, o.1, λ X h. o.2 X (or_right (same_colour S X) (has_failed_read X H) h), o.3, o.4)
 
 none_broke : {A : Type 0} (s : Streams) (b : Block) (H : List Act) → Held s (SendFails b ∷ H) → A
@@ -124,7 +118,7 @@ none_broke s b H o = at (same_colour b.to b.to) (same_colour-self b.to) (o.4 b.t
 -- ---- the first line, or none
 
 first_line : (s : Streams) (S : Colour) (t : Option (List ℕ)) (n : ℕ) (H : List Act)
-    → Held s (Reads S t ∷ ReadsClock S n ∷ H) → (rest : List (Option (List ℕ))) × (s.lines S ≡ t ∷ rest)
+    → Held s (Happens (Line S t n) ∷ H) → (rest : List (Option (List ℕ))) × (s.lines S ≡ t ∷ rest)
 first_line s White t n H o = (lines_read White H ++ (o.0 White).0, (o.0 White).1)
 first_line s Black t n H o = (lines_read Black H ++ (o.0 Black).0, (o.0 Black).1)
 
@@ -132,26 +126,27 @@ unread_none : (S : Colour) (H : List Act) → unread H ≡ true → lines_read S
 unread_none S [] h = refl
 unread_none S (Sends b ∷ H) h = unread_none S H h
 unread_none S (SendFails b ∷ H) h = unread_none S H h
-unread_none S (ReadsClock c n ∷ H) h = unread_none S H h
-unread_none S (Reads c t ∷ H) h = cc
-unread_none S (ReadsEnd c ∷ H) h = cc
-unread_none S (ReadFails c ∷ H) h = cc
+unread_none S (Happens (Opened c n) ∷ H) h = unread_none S H h
+unread_none S (Happens (FailsToWrite c) ∷ H) h = unread_none S H h
+unread_none S (Happens (Line c t n) ∷ H) h = absurd cc
+unread_none S (Happens (OutputEnds c) ∷ H) h = absurd cc
+unread_none S (Happens (FailsToRead c) ∷ H) h = absurd cc
 
 -- an engine whose end was reported, or of which a read failed, has no line left
 ended_none : (s : Streams) (S : Colour) (H : List Act) → unread H ≡ true
-    → Held s (ReadsEnd S ∷ H) → (s.lines S ≡ []) × (s.fails S ≡ false)
+    → Held s (Happens (OutputEnds S) ∷ H) → (s.lines S ≡ []) × (s.fails S ≡ false)
 ended_none s S H u o =
     let e = o.1 S (or_left (same_colour S S) (has_ended S H) (same_colour-self S)) in
     (e.0 ∙ unread_none S H u, e.1)
 
 failed_none : (s : Streams) (S : Colour) (H : List Act) → unread H ≡ true
-    → Held s (ReadFails S ∷ H) → (s.lines S ≡ []) × (s.fails S ≡ true)
+    → Held s (Happens (FailsToRead S) ∷ H) → (s.lines S ≡ []) × (s.fails S ≡ true)
 failed_none s S H u o =
     let e = o.2 S (or_left (same_colour S S) (has_failed_read S H) (same_colour-self S)) in
     (e.0 ∙ unread_none S H u, e.1)
 
 line_not_none : {A : Type 0} (s : Streams) (S c : Colour) (t : Option (List ℕ)) (n : ℕ) (H : List Act) → S ≡ c
-    → Held s (Reads S t ∷ ReadsClock S n ∷ H) → s.lines c ≡ [] → A
+    → Held s (Happens (Line S t n) ∷ H) → s.lines c ≡ [] → A
 line_not_none s S c t n H e o k = absurd (at (s.lines S) (first_line s S t n H o).1 (ap s.lines e ∙ k))
   where
     at : (xs : List (Option (List ℕ))) → xs ≡ t ∷ (first_line s S t n H o).0 → xs ≡ [] → ⊥
@@ -179,21 +174,18 @@ one_sends r m b due H p s (Sends c ∷ K) final (e, g) o q =
     let same : H ≡ K = p s K final g o q in rw (e, same) refl
 one_sends r m b due H p s (SendFails c ∷ K) final g o q = none_broke s c K q
 one_sends r m b due H p s [] final g o q = absurd g
-one_sends r m b due H p s (Reads S t ∷ K) final g o q = absurd g
-one_sends r m b due H p s (ReadsClock S n ∷ K) final g o q = absurd g
-one_sends r m b due H p s (ReadsEnd S ∷ K) final g o q = absurd g
-one_sends r m b due H p s (ReadFails S ∷ K) final g o q = absurd g
+one_sends r m b due H p s (Happens e ∷ K) final g o q = absurd g
 
 one_reads : (r : Rules) (m : Match) (S : Colour) (t : Option (List ℕ)) (n : ℕ) (H : List Act)
     → awaits_line m.phase S ≡ true
     → One r (effect r m (Line S t n)).after (blocks_after S (effect r m (Line S t n))) H
-    → One r m [] (Reads S t ∷ ReadsClock S n ∷ H)
+    → One r m [] (Happens (Line S t n) ∷ H)
 one_reads r m S t n H aw p s K final g o q = let (e, J, x) = next r m final K g in at e J x
   where
-    at : (e : Option Event) (J : List Act) → Begins r m final K J e → Reads S t ∷ ReadsClock S n ∷ H ≡ K
+    at : (e : Option Event) (J : List Act) → Begins r m final K J e → Happens (Line S t n) ∷ H ≡ K
     at None J (is, over) = both_not (is_over m.phase) (on_when_read m.phase S aw) over
     at (Some (Line c u k)) J x =
-        let q' : Held s (Reads c u ∷ ReadsClock c k ∷ J) = subst (λ (L : List Act). Held s L) x.0 q in
+        let q' : Held s (Happens (Line c u k) ∷ J) = subst (λ (L : List Act). Held s L) x.0 q in
         let side : S ≡ c = one_awaits m.phase S c aw x.1 in
         let same : Line S t n ≡ Line c u k = same_line S c t u n k (s.moments 0) (first_line s S t n H o).0
         (first_line s c u k J q').0 (s.lines S) (s.lines c) side (first_line s S t n H o).1 (first_line s c u k J q').1
@@ -201,7 +193,7 @@ one_reads r m S t n H aw p s K final g o q = let (e, J, x) = next r m final K g 
         (first_moment k (moments_shown J) s.moments q'.3) in
         let y : Begins r m final K J (Some (Line S t n)) =
         subst (λ (e : Event). Begins r m final K J (Some e)) (sym same) x in
-        ap (λ (L : List Act). Reads S t ∷ ReadsClock S n ∷ L) (p (after_read S t s) J final y.2 (of_read s S t n H o)
+        ap (λ (L : List Act). Happens (Line S t n) ∷ L) (p (after_read S t s) J final y.2 (of_read s S t n H o)
         (of_read s S t n J (subst (λ (L : List Act). Held s L) y.0 q))) ∙ sym y.0
     at (Some (Opened c k)) J x = awaits_or_opens m.phase S c aw x.1
     at (Some (OutputEnds c)) J x = line_not_none s S c t n H (one_awaits m.phase S c aw x.1) o
@@ -211,19 +203,19 @@ one_reads r m S t n H aw p s K final g o q = let (e, J, x) = next r m final K g 
     at (Some (FailsToWrite c)) J x = absurd x
 
 one_opens : (r : Rules) (m : Match) (S : Colour) (n : ℕ) (H : List Act) → m.phase ≡ Opening S
-    → One r (effect r m (Opened S n)).after [] H → One r m [] (ReadsClock S n ∷ H)
+    → One r (effect r m (Opened S n)).after [] H → One r m [] (Happens (Opened S n) ∷ H)
 one_opens r m S n H opening p s K final g o q = let (e, J, x) = next r m final K g in at e J x
   where
-    at : (e : Option Event) (J : List Act) → Begins r m final K J e → ReadsClock S n ∷ H ≡ K
+    at : (e : Option Event) (J : List Act) → Begins r m final K J e → Happens (Opened S n) ∷ H ≡ K
     at None J (is, over) = both_not (is_over m.phase) (ap is_over opening) over
     at (Some (Opened c k)) J x =
-        let q' : Held s (ReadsClock c k ∷ J) = subst (λ (L : List Act). Held s L) x.0 q in
+        let q' : Held s (Happens (Opened c k) ∷ J) = subst (λ (L : List Act). Held s L) x.0 q in
         let same : Opened S n ≡ Opened c k = same_opened S c n k (s.moments 0) m.phase opening x.1
         (first_moment n (moments_shown H) s.moments o.3)
         (first_moment k (moments_shown J) s.moments q'.3) in
         let y : Begins r m final K J (Some (Opened S n)) =
         subst (λ (e : Event). Begins r m final K J (Some e)) (sym same) x in
-        ap (λ (L : List Act). ReadsClock S n ∷ L) (p (record s { moments = λ n. s.moments (suc n) }) J final y.2
+        ap (λ (L : List Act). Happens (Opened S n) ∷ L) (p (record s { moments = λ n. s.moments (suc n) }) J final y.2
         (of_opened s S n H o) (of_opened s S n J (subst (λ (L : List Act). Held s L) y.0 q))) ∙ sym y.0
     at (Some (Line c u k)) J x = awaits_or_opens m.phase c S x.1 opening
     at (Some (OutputEnds c)) J x = awaits_or_opens m.phase c S x.1 opening
@@ -232,18 +224,18 @@ one_opens r m S n H opening p s K final g o q = let (e, J, x) = next r m final K
 
 one_ends : (r : Rules) (m : Match) (S : Colour) (H : List Act) → awaits_line m.phase S ≡ true → unread H ≡ true
     → One r (effect r m (OutputEnds S)).after (blocks_from White (effect r m (OutputEnds S)).to) H
-    → One r m [] (ReadsEnd S ∷ H)
+    → One r m [] (Happens (OutputEnds S) ∷ H)
 one_ends r m S H aw u p s K final g o q = let (e, J, x) = next r m final K g in at e J x
   where
     none : (s.lines S ≡ []) × (s.fails S ≡ false)
     none = ended_none s S H u o
 
-    at : (e : Option Event) (J : List Act) → Begins r m final K J e → ReadsEnd S ∷ H ≡ K
+    at : (e : Option Event) (J : List Act) → Begins r m final K J e → Happens (OutputEnds S) ∷ H ≡ K
     at None J (is, over) = both_not (is_over m.phase) (on_when_read m.phase S aw) over
     at (Some (OutputEnds c)) J x =
         let y : Begins r m final K J (Some (OutputEnds S)) =
         subst (λ (d : Colour). Begins r m final K J (Some (OutputEnds d))) (one_awaits m.phase c S x.1 aw) x in
-        ap (λ (L : List Act). ReadsEnd S ∷ L) (p s J final y.2 (of_end s S H o)
+        ap (λ (L : List Act). Happens (OutputEnds S) ∷ L) (p s J final y.2 (of_end s S H o)
         (of_end s S J (subst (λ (L : List Act). Held s L) y.0 q))) ∙ sym y.0
     at (Some (Line c u k)) J x = line_not_none s c S u k J (one_awaits m.phase c S x.1 aw)
         (subst (λ (L : List Act). Held s L) x.0 q) none.0
@@ -254,18 +246,18 @@ one_ends r m S H aw u p s K final g o q = let (e, J, x) = next r m final K g in 
 
 one_fails : (r : Rules) (m : Match) (S : Colour) (H : List Act) → awaits_line m.phase S ≡ true → unread H ≡ true
     → One r (effect r m (FailsToRead S)).after (blocks_from White (effect r m (FailsToRead S)).to) H
-    → One r m [] (ReadFails S ∷ H)
+    → One r m [] (Happens (FailsToRead S) ∷ H)
 one_fails r m S H aw u p s K final g o q = let (e, J, x) = next r m final K g in at e J x
   where
     none : (s.lines S ≡ []) × (s.fails S ≡ true)
     none = failed_none s S H u o
 
-    at : (e : Option Event) (J : List Act) → Begins r m final K J e → ReadFails S ∷ H ≡ K
+    at : (e : Option Event) (J : List Act) → Begins r m final K J e → Happens (FailsToRead S) ∷ H ≡ K
     at None J (is, over) = both_not (is_over m.phase) (on_when_read m.phase S aw) over
     at (Some (FailsToRead c)) J x =
         let y : Begins r m final K J (Some (FailsToRead S)) =
         subst (λ (d : Colour). Begins r m final K J (Some (FailsToRead d))) (one_awaits m.phase c S x.1 aw) x in
-        ap (λ (L : List Act). ReadFails S ∷ L) (p s J final y.2 (of_failure s S H o)
+        ap (λ (L : List Act). Happens (FailsToRead S) ∷ L) (p s J final y.2 (of_failure s S H o)
         (of_failure s S J (subst (λ (L : List Act). Held s L) y.0 q))) ∙ sym y.0
     at (Some (Line c u k)) J x = line_not_none s c S u k J (one_awaits m.phase c S x.1 aw)
         (subst (λ (L : List Act). Held s L) x.0 q) none.0

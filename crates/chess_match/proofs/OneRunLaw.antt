@@ -8,7 +8,8 @@ use Rattle.std.proofs.lemmas.List.{append_cancel_right}
 use Rattle.chess_base.specs.declared.man.Colour.{Colour}
 use Rattle.byte_devices.specs.Devices.{OutputState, saturating_increment}
 use Rattle.byte_devices.specs.Transfers.{FromInput, ToOutput, OutputTook, saturating_increment_if}
-use Rattle.chess_match.specs.Acts.{Act, Sends, SendFails, Reads, ReadsEnd, ReadFails, ReadsClock}
+use Rattle.chess_match.specs.Acts.{Act, Sends, SendFails, Happens}
+use Rattle.chess_match.specs.Events.{Line, Opened, OutputEnds, FailsToRead, FailsToWrite}
 use Rattle.chess_match.specs.ByDevice.{broken_blocks, has_ended, has_failed_read, lines_sent, moments_shown}
 use Rattle.chess_match.specs.Effects.{Match}
 use Rattle.chess_match.specs.Lines.{SentLine}
@@ -53,10 +54,11 @@ no_failure : (S : Colour) (H : List Act) → reads_end H ≡ true → has_ended 
 no_failure S [] e h = refl
 no_failure S (Sends b ∷ H) e h = no_failure S H e h
 no_failure S (SendFails b ∷ H) e h = no_failure S H e h
-no_failure S (ReadsClock c n ∷ H) e h = no_failure S H e h
-no_failure S (Reads c t ∷ H) e h = no_failure S H e h
-no_failure S (ReadsEnd c ∷ H) e h = (quiet_read S H e).2
-no_failure S (ReadFails c ∷ H) e h = both_not (has_ended S H) (quiet_read S H e).1 h
+no_failure S (Happens (Line c t n) ∷ H) e h = no_failure S H e h
+no_failure S (Happens (Opened c n) ∷ H) e h = no_failure S H e h
+no_failure S (Happens (FailsToWrite c) ∷ H) e h = no_failure S H e h
+no_failure S (Happens (OutputEnds c) ∷ H) e h = (quiet_read S H e).2
+no_failure S (Happens (FailsToRead c) ∷ H) e h = both_not (has_ended S H) (quiet_read S H e).1 h
 
 abbrev moment_or : Option ℕ → ℕ
 moment_or None = 0

@@ -10,7 +10,8 @@ use Rattle.text_lines.specs.Lines.{LineSeen, Held, nothing_held, stream_lines, l
 use Rattle.text_lines.specs.Next.{GotLine, GotLast, GotNone, GotFault}
 use Rattle.byte_devices.specs.Transfers.{FromInput, InputGave, saturating_increment_if}
 use Rattle.byte_devices.proofs.shared.Transfers.{came}
-use Rattle.chess_match.specs.Acts.{Act, Sends, SendFails, Reads, ReadsEnd, ReadFails, ReadsClock}
+use Rattle.chess_match.specs.Acts.{Act, Sends, SendFails, Happens}
+use Rattle.chess_match.specs.Events.{Line, Opened, OutputEnds, FailsToRead, FailsToWrite}
 use Rattle.chess_match.specs.ByDevice.{has_ended, has_failed_read, lines_read}
 use Rattle.chess_base.specs.Options.{list_if}
 use Rattle.chess_match.specs.Played.{SaidBy}
@@ -110,9 +111,11 @@ reads_all S texts (Sends b ∷ H) r v r' h h' given end s (v', k, o, p) =
     reads_all S texts H r v' r' k h' given end (still r v v' h k given texts o s) p
 reads_all S texts (SendFails b ∷ H) r v r' h h' given end s (v', k, o, p) =
     reads_all S texts H r v' r' k h' given end (still r v v' h k given texts o s) p
-reads_all S texts (ReadsClock c n ∷ H) r v r' h h' given end s (v', k, o, p) =
+reads_all S texts (Happens (Opened c n) ∷ H) r v r' h h' given end s (v', k, o, p) =
     reads_all S texts H r v' r' k h' given end (still r v v' h k given texts o s) p
-reads_all S texts (Reads c t ∷ H) r v r' h h' given end s (v', k, o, p) =
+reads_all S texts (Happens (FailsToWrite c) ∷ H) r v r' h h' given end s (v', k, o, p) =
+    reads_all S texts H r v' r' k h' given end (still r v v' h k given texts o s) p
+reads_all S texts (Happens (Line c t n) ∷ H) r v r' h h' given end s (v', k, o, p) =
     at (same_colour c S) o (λ texts' given' s'. reads_all S texts' H r v' r' k h' given' end s' p)
   where
     at : (x : Bool) → MatchBool x ((more : List ℕ) × Consumes v.known_bytes v'.known_bytes more
@@ -131,7 +134,7 @@ reads_all S texts (Reads c t ∷ H) r v r' h h' given end s (v', k, o, p) =
               ∙ ap (λ (x : Option (List ℕ)). texts ++ (x ∷ lines_read S H)) (sym same)) q.1,
         )
     at false o next = next texts given (still r v v' h k given texts o s)
-reads_all S texts (ReadsEnd c ∷ H) r v r' h h' given end s (v', k, o, p) =
+reads_all S texts (Happens (OutputEnds c) ∷ H) r v r' h h' given end s (v', k, o, p) =
     let q = quiet_read S H end in
     let a = at (same_colour c S) o in (
       a.0,
@@ -149,7 +152,7 @@ reads_all S texts (ReadsEnd c ∷ H) r v r' h h' given end s (v', k, o, p) =
     at true (more, b, inr got) =
         (given ++ more, read_to_end r v' (given ++ more) texts (output_none r v v' h k given more texts s b got))
     at false o = (given, still_read r v' k given texts (still r v v' h k given texts o s))
-reads_all S texts (ReadFails c ∷ H) r v r' h h' given end s (v', k, o, p) =
+reads_all S texts (Happens (FailsToRead c) ∷ H) r v r' h h' given end s (v', k, o, p) =
     let q = quiet_read S H end in
     let a = at (same_colour c S) o in (
       a.0,

@@ -7,15 +7,15 @@ use Rattle.chess_base.specs.declared.man.Colour.TheVariants.{White}
 use Rattle.chess_base.specs.declared.man.Move.{Move}
 use Rattle.chess_base.specs.Men.{other, same_colour}
 use Rattle.cecp_engine.specs.EngineLines.{LineKind, line_kind}
-use Rattle.chess_match.specs.Acts.{Act, Block, Sends, SendFails, Reads, ReadsEnd, ReadFails, ReadsClock, IsMatch, IsMatchFrom, awaits_line, is_over, blocks_from, blocks_after}
+use Rattle.chess_match.specs.Acts.{Act, Block, Sends, SendFails, Happens, IsMatch, IsMatchFrom, awaits_line, is_over, blocks_from, blocks_after}
 use Rattle.chess_match.specs.Effects.{Match, Phase, Handshake, Setup, Opening, BeforeMove, AfterMove, Over, beginning, effect, ends, line_row, moved}
-use Rattle.chess_match.specs.Events.{Line, Opened}
+use Rattle.chess_match.specs.Events.{Line, Opened, OutputEnds, FailsToRead}
 use Rattle.chess_match.specs.Rules.{Rules}
 use Rattle.chess_match.specs.declared.reason.MatchFault.TheVariants.{Ended, Read, Write}
 use Rattle.chess_match.specs.declared.reason.Reason.TheVariants.{Faulted}
-use Rattle.chess_match.specs.laws.OfActs.{AtEachMoment, EndsAfterItsActs, InEachMatch, ends_in_line, match_after, only_sends}
+use Rattle.chess_match.specs.laws.OfActs.{AtEachMoment, EndsAfterItsActs, InEachMatch, match_after, only_sends}
 use Rattle.chess_match.proofs.LineCases.{line_cases, offering, said_by}
-use Rattle.chess_match.proofs.MatchCases.{Uncut, both_not, by_acts, by_cases, on_when_read}
+use Rattle.chess_match.proofs.MatchCases.{both_not, by_acts, on_when_read}
 
 -- ---- who moves
 
@@ -132,24 +132,24 @@ pub record Points (r : Rules) (P : Match → List Block → List Act → Match �
   pub reads : (m n : Match) (S : Colour) (t : Option (List ℕ)) (k : ℕ) (H : List Act) → awaits_line m.phase S ≡ true
       → Kept r m → Stays (effect r m (Line S t k)).after H n
       → P (effect r m (Line S t k)).after (blocks_after S (effect r m (Line S t k))) H n
-      → P m [] (Reads S t ∷ ReadsClock S k ∷ H) n
+      → P m [] (Happens (Line S t k) ∷ H) n
   pub opens : (m n : Match) (S : Colour) (k : ℕ) (H : List Act) → m.phase ≡ Opening S → Kept r m
-      → P (effect r m (Opened S k)).after [] H n → P m [] (ReadsClock S k ∷ H) n
+      → P (effect r m (Opened S k)).after [] H n → P m [] (Happens (Opened S k) ∷ H) n
   pub output_ends : (m n : Match) (S : Colour) (H : List Act) → awaits_line m.phase S ≡ true → Kept r m
       → only_sends H ≡ true → n ≡ (ends r (Faulted S Ended) m).after
       → P (ends r (Faulted S Ended) m).after (blocks_from White (ends r (Faulted S Ended) m).to) H n
-      → P m [] (ReadsEnd S ∷ H) n
+      → P m [] (Happens (OutputEnds S) ∷ H) n
   pub read_fails : (m n : Match) (S : Colour) (H : List Act) → awaits_line m.phase S ≡ true → Kept r m
       → only_sends H ≡ true → n ≡ (ends r (Faulted S Read) m).after
       → P (ends r (Faulted S Read) m).after (blocks_from White (ends r (Faulted S Read) m).to) H n
-      → P m [] (ReadFails S ∷ H) n
+      → P m [] (Happens (FailsToRead S) ∷ H) n
 
 -- what holds at the moment holds at the beginning
 pub by_points : (r : Rules) (P : Match → List Block → List Act → Match → Type 0) → Points r P → (H K : List Act)
     (final : Match) → ((m : Match) (due : List Block) → Kept r m → IsMatchFrom r m due K final → P m due [] m)
-    → IsMatch r (H ++ K) final → Uncut H K
+    → IsMatch r (H ++ K) final
     → P beginning.after (blocks_from White beginning.to) H (match_after r beginning.after H)
-by_points r P k H K final rest g e =
+by_points r P k H K final rest g =
     (by_acts r (λ m due H n. Stays m H n × (Kept r m → P m due H n)) (record {
       sends = λ m n b due H p. (p.0, λ q. k.sends m n b due H (p.1 q));
       fails = λ m n b due H on p. (
@@ -174,8 +174,7 @@ by_points r P k H K final rest g e =
         λ q. k.read_fails m n S H aw q (p.0 refl).1 (p.0 refl).0 (p.1 (tt, q.1)),
       );
     }) K final (λ m due g. ((λ o. (refl, refl)), λ q. rest m due q g)) beginning.after (blocks_from White beginning.to)
-    H g
-    e).1 (refl, λ C. refl)
+    H g).1 (refl, λ C. refl)
 
 -- ---- a whole match
 
@@ -189,22 +188,11 @@ end_after_acts r H final g = by_acts r (λ m due K n. n ≡ final) (record {
   ends = λ m n S K aw p. p;
   read_fails = λ m n S K aw p. p;
 }) [] final (λ m due g. at m due g) beginning.after (blocks_from White beginning.to) H
-    (subst (λ (K : List Act). IsMatch r K final) (sym (append-nil H)) g) (λ cut. absurd cc)
+    (subst (λ (K : List Act). IsMatch r K final) (sym (append-nil H)) g)
   where
     at : (m : Match) (due : List Block) → IsMatchFrom r m due [] final → m ≡ final
     at m [] (o, e) = sym e
     at m (b ∷ due) g = absurd g
-
-not_in_line : (r : Rules) (H : List Act) (final : Match) → IsMatch r H final → ends_in_line H ≡ false
-not_in_line r H final g = by_cases r final (λ m due K. ends_in_line K ≡ false) (record {
-  sends = λ m end b due K p. p;
-  fails = λ m end b due K on p. p;
-  fails_late = λ m end b due K o p. p;
-  reads = λ m end S t n K aw p. p;
-  opens = λ m end S n K o p. p;
-  ends = λ m end S K aw p. p;
-  read_fails = λ m end S K aw p. p;
-}) (λ o. refl) beginning.after (blocks_from White beginning.to) H g
 
 -- a whole match is one up to its end
 pub whole : (r : Rules) (H : List Act) (final : Match) → IsMatch r H final
@@ -214,4 +202,4 @@ whole r H final g = (subst (λ (K : List Act). IsMatch r K final) (sym (append-n
 -- what holds at each moment holds of the whole
 pub in_each : (P : Rules → List Act → Match → Type 0) → AtEachMoment P → InEachMatch P
 in_each P h r H final g = let (w, e) = whole r H final g in
-    subst (λ (n : Match). P r H n) e (h r H [] final w (not_in_line r H final g))
+    subst (λ (n : Match). P r H n) e (h r H [] final w)

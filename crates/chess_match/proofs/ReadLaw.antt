@@ -8,7 +8,7 @@ use Rattle.chess_base.specs.Options.{list_if}
 use Rattle.chess_base.proofs.shared.Men.{other-other}
 use Rattle.cecp_engine.specs.EngineLines.{line_kind, Moves}
 use Rattle.cecp_engine.specs.Items.{has_done}
-use Rattle.chess_match.specs.Acts.{Act, Sends, SendFails, Reads, ReadsEnd, ReadFails, ReadsClock, awaits_line, is_over}
+use Rattle.chess_match.specs.Acts.{Act, Sends, SendFails, Happens, awaits_line, is_over}
 use Rattle.chess_match.specs.ByDevice.{lines_read}
 use Rattle.chess_match.specs.Effects.{Match, Phase, Handshake, Setup, Opening, BeforeMove, AfterMove, Over, ends, enter, items_said, line_row, moved}
 use Rattle.chess_match.specs.Rules.{Rules}
@@ -219,16 +219,13 @@ pub none_read_in : (S : Colour) (H : List Act) → only_sends H ≡ true → lin
 none_read_in S [] h = refl
 none_read_in S (Sends b ∷ H) h = none_read_in S H h
 none_read_in S (SendFails b ∷ H) h = none_read_in S H h
-none_read_in S (Reads c t ∷ H) h = cc
-none_read_in S (ReadsClock c n ∷ H) h = cc
-none_read_in S (ReadsEnd c ∷ H) h = cc
-none_read_in S (ReadFails c ∷ H) h = cc
+none_read_in S (Happens e ∷ H) h = absurd cc
 
 abbrev pub lines_in : List Act → Streamed
 lines_in H S = lines_read S H
 
 pub moves_are_read : AtEachMoment MovesAreRead
-moves_are_read r H K final g e =
+moves_are_read r H K final g =
     let (more, same, read) = by_points r (λ m due H n. ReadsOff r m n (lines_in H)) (record {
       sends = λ m n b due H p. p;
       fails = λ m n b due H on q only same p. stopped m n H (ends r (Faulted b.to Write) m).after refl same only;
@@ -239,7 +236,7 @@ moves_are_read r H K final g e =
           (λ X. rw o refl) p;
       output_ends = λ m n S H aw q only same p. stopped m n H (ends r (Faulted S Ended) m).after refl same only;
       read_fails = λ m n S H aw q only same p. stopped m n H (ends r (Faulted S Read) m).after refl same only;
-    }) H K final (λ m due q g. reads_none r m m no_lines refl (λ S. refl)) g (λ cut. e) r.first refl in
+    }) H K final (λ m due q g. reads_none r m m no_lines refl (λ S. refl)) g r.first refl in
     subst (λ (ms : List Move). AreRead r [] ms (ahead (Handshake White) r.first (lines_read r.first H))
     (ahead (Handshake White) (other r.first) (lines_read (other r.first) H))) (sym same) read
   where

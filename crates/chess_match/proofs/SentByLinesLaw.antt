@@ -128,7 +128,7 @@ lines_say r d t n m aw = line_cases r d (line_kind t) n m (λ e. Says d t m e.af
 })
 
 pub items_are_said : AtEachMoment ItemsAreSaid
-items_are_said r H K final g e S = sym (by_points r
+items_are_said r H K final g S = sym (by_points r
     (λ m due H n. (m.seat S).items ++ said_ahead m.phase S (lines_read S H) ≡ (n.seat S).items) (record {
       sends = λ m n b due H p. p;
       fails = λ m n b due H on q only same p. stopped m n H (ends r (Faulted b.to Write) m).after (λ X. refl) same only;
@@ -138,7 +138,7 @@ items_are_said r H K final g e S = sym (by_points r
       opens = λ m n c k H o q p. ap (λ (x : Phase). (m.seat S).items ++ said_ahead x S (lines_read S H)) o ∙ p;
       output_ends = λ m n c H aw q only same p. stopped m n H (ends r (Faulted c Ended) m).after (λ X. refl) same only;
       read_fails = λ m n c H aw q only same p. stopped m n H (ends r (Faulted c Read) m).after (λ X. refl) same only;
-    }) H K final (λ m due q g. none m m [] refl refl) g (λ cut. e))
+    }) H K final (λ m due q g. none m m [] refl refl) g)
   where
     none : (m n : Match) (ls : List (Option (List ℕ))) → ls ≡ [] → (n.seat S).items ≡ (m.seat S).items
         → (m.seat S).items ++ said_ahead m.phase S ls ≡ (n.seat S).items
@@ -170,10 +170,10 @@ module _ (r : Rules) (H : List Act) (m : Match) (read : MovesAreRead r H m) (sai
   )
 
 pub each_is_sent_so_far : AtEachMoment (EachIsSentOthersMoves false)
-each_is_sent_so_far r H K final g e =
-    sent_by_lines r H (match_after r beginning.after H) (moves_are_read r H K final g e)
-    (items_are_said r H K final g e) false
-    (λ O. let (rest, l, s) = moves_are_sent r H K final g e O in (rest, l, λ w. absurd cc, s))
+each_is_sent_so_far r H K final g =
+    sent_by_lines r H (match_after r beginning.after H) (moves_are_read r H K final g)
+    (items_are_said r H K final g) false
+    (λ O. let (rest, l, s) = moves_are_sent r H K final g O in (rest, l, λ w. absurd cc, s))
 
 pub each_is_sent_the_others : InEachMatch (EachIsSentOthersMoves true)
 each_is_sent_the_others r H final g =

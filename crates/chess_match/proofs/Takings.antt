@@ -6,13 +6,13 @@ use Rattle.chess_base.specs.declared.man.Move.{Move}
 use Rattle.chess_base.specs.Men.{other}
 use Rattle.cecp_engine.specs.Items.{Item}
 use Rattle.text_lines.specs.Lines.{LineSeen}
-use Rattle.chess_match.specs.Acts.{Reads, ReadsEnd, ReadFails, awaits_line}
+use Rattle.chess_match.specs.Acts.{Happens, awaits_line}
 use Rattle.chess_match.specs.Effects.{Match, effect}
-use Rattle.chess_match.specs.Events.{Event}
+use Rattle.chess_match.specs.Events.{Event, OutputEnds, FailsToRead}
 use Rattle.chess_match.specs.Lines.{answers_to, bytes_of}
 use Rattle.chess_match.specs.Rules.{Rules}
 use Rattle.chess_match.specs.Run.{text_read}
-use Rattle.chess_match.specs.Table.{Does, Passing, Passes, is_line, reading_of}
+use Rattle.chess_match.specs.Table.{Does, ReadsLine, Passing, Passes, reading_of}
 use Rattle.chess_match.specs.declared.state.Actions.{Actions}
 use Rattle.chess_match.specs.declared.state.MatchState.{MatchState}
 use Rattle.chess_match.specs.ties.Driving.{is_line_event, is_of_output, steps_of}
@@ -40,31 +40,32 @@ bare plays old new core played core' given text S n n' e is line empty passes go
   goes,
 )
 
--- the act of a read that failed, found no line, or found a last one
+-- the step of a read that failed, found no line, or found a last one
 pub as_fault : {E : Type 0} (old new : Passing) (S : Colour) (result : Result (Option LineSeen) E) (x : E)
-    → result ≡ Err x → Passes old new (Does (reading_of S result) ∷ []) → Passes old new (Does (ReadFails S) ∷ [])
-as_fault old new S result x e p = subst (λ v. Passes old new (Does (reading_of S v) ∷ [])) e p
+    → result ≡ Err x → Passes old new (reading_of S result ∷ []) → Passes old new (Does (Happens (FailsToRead S)) ∷ [])
+as_fault old new S result x e p = subst (λ v. Passes old new (reading_of S v ∷ [])) e p
 
 pub as_none : {E : Type 0} (old new : Passing) (S : Colour) (result : Result (Option LineSeen) E) → result ≡ Ok None
-    → Passes old new (Does (reading_of S result) ∷ []) → Passes old new (Does (ReadsEnd S) ∷ [])
-as_none old new S result e p = subst (λ v. Passes old new (Does (reading_of S v) ∷ [])) e p
+    → Passes old new (reading_of S result ∷ []) → Passes old new (Does (Happens (OutputEnds S)) ∷ [])
+as_none old new S result e p = subst (λ v. Passes old new (reading_of S v ∷ [])) e p
 
 pub as_last : {E : Type 0} (old new : Passing) (S : Colour) (result : Result (Option LineSeen) E) (line : LineSeen)
-    → result ≡ Ok (Some line) → line.ended ≡ false → Passes old new (Does (reading_of S result) ∷ [])
-    → Passes old new (Does (ReadsEnd S) ∷ [])
+    → result ≡ Ok (Some line) → line.ended ≡ false → Passes old new (reading_of S result ∷ [])
+    → Passes old new (Does (Happens (OutputEnds S)) ∷ [])
 as_last old new S result line e last p =
-    subst (λ (b : Bool). Passes old new (Does (if b then Reads S (text_read line) else ReadsEnd S) ∷ [])) last
-    (subst (λ v. Passes old new (Does (reading_of S v) ∷ [])) e p)
+    subst (λ (b : Bool). Passes old new ((if b then ReadsLine S (text_read line) else Does (Happens (OutputEnds S))) ∷ [])) last
+    (subst (λ v. Passes old new (reading_of S v ∷ [])) e p)
 
 pub as_line : {E : Type 0} (old new : Passing) (S : Colour) (result : Result (Option LineSeen) E) (line : LineSeen)
-    → result ≡ Ok (Some line) → line.ended ≡ true → Passes old new (Does (reading_of S result) ∷ [])
-    → Passes old new (Does (Reads S (text_read line)) ∷ [])
+    → result ≡ Ok (Some line) → line.ended ≡ true → Passes old new (reading_of S result ∷ [])
+    → Passes old new (ReadsLine S (text_read line) ∷ [])
 as_line old new S result line e whole p =
-    subst (λ (b : Bool). Passes old new (Does (if b then Reads S (text_read line) else ReadsEnd S) ∷ [])) whole
-    (subst (λ v. Passes old new (Does (reading_of S v) ∷ [])) e p)
+    subst (λ (b : Bool). Passes old new ((if b then ReadsLine S (text_read line) else Does (Happens (OutputEnds S))) ∷ [])) whole
+    (subst (λ v. Passes old new (reading_of S v ∷ [])) e p)
 
 pub line_falls : {E : Type 0} (S : Colour) (result : Result (Option LineSeen) E) (line : LineSeen) (n n' : ℕ)
-    → result ≡ Ok (Some line) → line.ended ≡ true → (is_line (reading_of S result) ≡ true → n' < n) → n' < n
-line_falls S result line n n' e whole falls = falls
-    (ap (λ v. is_line (reading_of S v)) e
-    ∙ ap (λ (b : Bool). is_line (if b then Reads S (text_read line) else ReadsEnd S)) whole)
+    → result ≡ Ok (Some line) → line.ended ≡ true
+    → ((text : Option (List ℕ)) → reading_of S result ≡ ReadsLine S text → n' < n) → n' < n
+line_falls S result line n n' e whole falls = falls (text_read line)
+    (ap (λ v. reading_of S v) e
+    ∙ ap (λ (b : Bool). if b then ReadsLine S (text_read line) else Does (Happens (OutputEnds S))) whole)

@@ -18,7 +18,7 @@ use Rattle.chess_match.specs.Lines.{SentLine, Says}
 use Rattle.chess_match.specs.Rules.{Rules}
 use Rattle.chess_match.specs.declared.reason.Reason.{Reason}
 use Rattle.chess_match.specs.laws.Laws.{centiseconds, otim_sent, time_sent}
-use Rattle.chess_match.specs.laws.OfActs.{AtEachMoment, OtherTimesAreClocks, TimesAreClocks, ends_in_line, lines_given, match_after}
+use Rattle.chess_match.specs.laws.OfActs.{AtEachMoment, OtherTimesAreClocks, TimesAreClocks, lines_given, match_after}
 use Rattle.chess_match.proofs.Givings.{Gives, Goes, given_at, grows, sends}
 use Rattle.chess_match.proofs.ClockLaw.{sum-snoc}
 use Rattle.chess_match.proofs.Points.{moved_items, moved_used, offered_items, offered_used, said_used}
@@ -304,15 +304,14 @@ gives own r O = record {
 -- ---- all that is sent
 
 shown_at : (own : Bool) (r : Rules) (O : Colour) (H K : List Act) (final : Match) → IsMatch r (H ++ K) final
-    → ends_in_line H ≡ false
     → (let m = match_after r beginning.after H in (rest : List ℕ) × (length rest ≤ 1)
     × (flat_map (numbers own) (lines_given O H) ++ rest
     ≡ all_shown (is_whole own r O) r (takes_time m O) (m.seat (whose own O)).used))
-shown_at own r O H K final g e =
+shown_at own r O H K final g =
     given_at (numbers own) (no_text own) r O (AllOf own r O) (RestIs own r O) (gives own r O)
     (λ m X. (rest : List ℕ) × (length rest ≤ 1)
     × (X ++ rest ≡ all_shown (is_whole own r O) r (takes_time m O) (m.seat (whose own O)).used)) H K final
-    (λ m due q X s. done m X _ s.0 s.1 s.2 s.3) g (λ cut. e) (begun own O)
+    (λ m due q X s. done m X _ s.0 s.1 s.2 s.3) g (begun own O)
   where
     done : (m : Match) (X Y rest : List ℕ) → length (Y ++ rest) ≤ 1 → X ++ (Y ++ rest) ≡ AllOf own r O m
         → RestIs own r O m rest
@@ -358,12 +357,12 @@ shown_at own r O H K final g e =
     begun false Black = ([], omega arith, refl, (refl, refl))
 
 pub times_are_clocks : AtEachMoment TimesAreClocks
-times_are_clocks r H K final g e S = shown_at true r S H K final g e
+times_are_clocks r H K final g S = shown_at true r S H K final g
 
 pub other_times_are_clocks : AtEachMoment OtherTimesAreClocks
-other_times_are_clocks r H K final g e S =
+other_times_are_clocks r H K final g S =
     let m = match_after r beginning.after H in
-    let h = shown_at false r S H K final g e in (h.0, h.1, h.2 ∙ at (same_colour S r.first) m)
+    let h = shown_at false r S H K final g in (h.0, h.1, h.2 ∙ at (same_colour S r.first) m)
   where
     at : (b : Bool) (m : Match) → all_shown b r (takes_time m S) (m.seat (other S)).used
         ≡ (if takes_time m S then (if b then centiseconds r.level 0 0 (m.seat (other S)).used

@@ -5,9 +5,9 @@ use Rattle.chess_base.specs.declared.man.Colour.{Colour}
 use Rattle.chess_base.specs.declared.man.Colour.TheVariants.{White, Black}
 use Rattle.chess_base.specs.Men.{other, same_colour}
 use Rattle.cecp_engine.specs.EngineLines.{LineKind, line_kind}
-use Rattle.chess_match.specs.Acts.{Act, Sends, SendFails, Reads, ReadsEnd, ReadFails, ReadsClock, awaits_line, is_over}
+use Rattle.chess_match.specs.Acts.{Act, Sends, SendFails, Happens, awaits_line, is_over}
 use Rattle.chess_match.specs.Effects.{Match, Phase, Handshake, Setup, Opening, BeforeMove, Over, effect, enter, line_row, moved}
-use Rattle.chess_match.specs.Events.{Line}
+use Rattle.chess_match.specs.Events.{Line, Opened}
 use Rattle.chess_match.specs.Rules.{Rules}
 use Rattle.chess_match.specs.declared.reason.Reason.TheVariants.{Decided}
 use Rattle.chess_match.specs.laws.Laws.{is_move, move_said}
@@ -129,7 +129,7 @@ lines_grow r S c kind n m aw = line_cases r c kind n m (λ e. Grows S kind n m e
 
 -- a line that a turn reads is S's, if S's move is awaited
 line_times : (S c : Colour) (p : Phase) (text : Option (List ℕ)) (n : ℕ) (H : List Act) → awaits_line p c ≡ true
-    → move_times S (awaited S p) (Reads c text ∷ ReadsClock c n ∷ H) ≡ taken (awaited S p) (line_kind text) n
+    → move_times S (awaited S p) (Happens (Line c text n) ∷ H) ≡ taken (awaited S p) (line_kind text) n
     ++ move_times S (awaited_then (awaited S p) (line_kind text)) H
 line_times S c p text n H h1 = grind arith
 
@@ -137,10 +137,7 @@ no_times : (S : Colour) (o : Option ℕ) (H : List Act) → only_sends H ≡ tru
 no_times S o [] h = refl
 no_times S o (Sends b ∷ H) h = no_times S o H h
 no_times S o (SendFails b ∷ H) h = no_times S o H h
-no_times S o (Reads c t ∷ H) h = cc
-no_times S o (ReadsClock c n ∷ H) h = cc
-no_times S o (ReadsEnd c ∷ H) h = cc
-no_times S o (ReadFails c ∷ H) h = cc
+no_times S o (Happens e ∷ H) h = absurd cc
 
 -- from here on the times are those of these acts
 abbrev Ends : Colour → Match → Option ℕ → List Act → Match → Type 0
@@ -149,7 +146,7 @@ Ends S m o H n = (rest : List ℕ) × (length rest ≤ 1) × ((m.seat S).used ++
 
 goes_on : (S c : Colour) (text : Option (List ℕ)) (k : ℕ) (H : List Act) (m m' n : Match) → awaits_line m.phase c ≡ true
     → Stays m' H n → Grows S (line_kind text) k m m' → Ends S m' (awaited S m'.phase) H n
-    → Ends S m (awaited S m.phase) (Reads c text ∷ ReadsClock c k ∷ H) n
+    → Ends S m (awaited S m.phase) (Happens (Line c text k) ∷ H) n
 goes_on S c text k H m m' n aw stays g e = at (is_over m'.phase) refl
   where
     kind : LineKind
@@ -159,13 +156,13 @@ goes_on S c text k H m m' n aw stays g e = at (is_over m'.phase) refl
     now = taken (awaited S m.phase) kind k
 
     all : (X : List ℕ) → move_times S (awaited_then (awaited S m.phase) kind) H ≡ X
-        → (m.seat S).used ++ move_times S (awaited S m.phase) (Reads c text ∷ ReadsClock c k ∷ H)
+        → (m.seat S).used ++ move_times S (awaited S m.phase) (Happens (Line c text k) ∷ H)
         ≡ ((m'.seat S).used ++ g.0) ++ X
     all X x = ap (λ (l : List ℕ). (m.seat S).used ++ l)
         (line_times S c m.phase text k H aw ∙ ap (λ (l : List ℕ). now ++ l) x)
         ∙ sym (append_assoc (m.seat S).used now X) ∙ ap (λ (l : List ℕ). l ++ X) g.2
 
-    at : (b : Bool) → is_over m'.phase ≡ b → Ends S m (awaited S m.phase) (Reads c text ∷ ReadsClock c k ∷ H) n
+    at : (b : Bool) → is_over m'.phase ≡ b → Ends S m (awaited S m.phase) (Happens (Line c text k) ∷ H) n
     at false on = (
       e.0,
       e.1,
@@ -193,18 +190,18 @@ stopped S o H m n u only = (
 )
 
 pub used_times_are_differences : AtEachMoment UsedTimesAreDifferences
-used_times_are_differences r H K final g e S = by_points r (λ m due H n. Ends S m (awaited S m.phase) H n) (record {
+used_times_are_differences r H K final g S = by_points r (λ m due H n. Ends S m (awaited S m.phase) H n) (record {
   sends = λ m n b due H p. p;
   fails = λ m n b due H on q only same p. stopped S (awaited S m.phase) H m n
       (ap (λ (x : Match). (x.seat S).used) same) only;
   fails_late = λ m n b due H o only same p. p;
   reads = λ m n c t k H aw q stays p. goes_on S c t k H m (effect r m (Line c t k)).after n aw stays
       (lines_grow r S c (line_kind t) k m aw) p;
-  opens = λ m n c k H o q p. subst (λ (x : Phase). Ends S m (awaited S x) (ReadsClock c k ∷ H) n) (sym o) p;
+  opens = λ m n c k H o q p. subst (λ (x : Phase). Ends S m (awaited S x) (Happens (Opened c k) ∷ H) n) (sym o) p;
   output_ends = λ m n c H aw q only same p. stopped S (awaited S m.phase) H m n
       (ap (λ (x : Match). (x.seat S).used) same)
       only;
   read_fails = λ m n c H aw q only same p. stopped S (awaited S m.phase) H m n
       (ap (λ (x : Match). (x.seat S).used) same)
       only;
-}) H K final (λ m due q g. ([], omega arith, refl, λ on. refl)) g (λ cut. e)
+}) H K final (λ m due q g. ([], omega arith, refl, λ on. refl)) g

@@ -1,10 +1,10 @@
 -- What the arbiter does at its devices, act by act; and which lists of acts are a match. `H` stands for a list of acts,
 -- in the order in which they were done.
-use Rattle.std.specs.Prelude.{◌≡◌, ℕ, Bool, true, false, if◌then◌else◌, List, [], ◌∷◌, ◌++◌, Option}
+use Rattle.std.specs.Prelude.{◌≡◌, Bool, true, false, if◌then◌else◌, List, [], ◌∷◌, ◌++◌}
 use Rattle.chess_base.specs.declared.man.Colour.{Colour}
 use Rattle.chess_base.specs.declared.man.Colour.TheVariants.{White}
 use Rattle.chess_base.specs.Men.{other, same_colour}
-use Rattle.chess_match.specs.Events.{Line, Opened, OutputEnds, FailsToRead, FailsToWrite}
+use Rattle.chess_match.specs.Events.{Event, Opened, FailsToWrite, event_side}
 use Rattle.chess_match.specs.Rules.{Rules}
 use Rattle.chess_match.specs.Lines.{SentLine}
 use Rattle.chess_match.specs.Effects.{Match, Phase, Handshake, Setup, Opening, BeforeMove, AfterMove, Over, Effect, effect, beginning}
@@ -15,21 +15,15 @@ pub record Block : Type 0 where
   pub to : Colour
   pub lines : List SentLine
 
--- one act of the arbiter: at an engine's input or output, or at the clock
+-- one act of the arbiter, at an engine's input, at an engine's output or at the clock
 pub data Act : Type 0 where
   -- a block was written and flushed
   Sends : (block : Block) → Act
   -- a write or a flush failed while this block was sent; a beginning of it, or all of it, may have been written
   SendFails : (block : Block) → Act
-  -- a line of that side's engine was read (`None`: it was too long)
-  Reads : (side : Colour) → (text : Option (List ℕ)) → Act
-  -- the end of the output of that side's engine was read; what follows its last `\n` is no line
-  ReadsEnd : (side : Colour) → Act
-  -- a read from that side's engine failed
-  ReadFails : (side : Colour) → Act
-  -- the clock was read and showed `moment`, in milliseconds: right after a line of that side was read, or after the
-  -- lines that open its turn were sent
-  ReadsClock : (side : Colour) → (moment : ℕ) → Act
+  -- this event was read: a line and right after it the clock (`Line`), the clock once the lines that open a turn were
+  -- sent (`Opened`), the end of an output (what follows its last `\n` is no line), or a failure to read
+  Happens : (event : Event) → Act
 
 -- ---- what is due
 
@@ -54,13 +48,20 @@ awaits_line (BeforeMove side opened) S = same_colour side S
 awaits_line (AfterMove side) S = same_colour side S
 awaits_line _ S = false
 
+-- this event may come in this phase: `Opened`, if this side's turn is being opened; a line, the end of an output or a
+-- failed read, if a line of this side is awaited. A failed write is no act `Happens`, but an act `SendFails`
+abbrev pub MayCome : Phase → Event → Type 0
+MayCome phase (Opened S moment) = phase ≡ Opening S
+MayCome phase (FailsToWrite S) = ⊥
+MayCome phase event = awaits_line phase (event_side event) ≡ true
+
 -- whether the match has ended
 abbrev pub is_over : Phase → Bool
 is_over (Over reason) = true
 is_over _ = false
 
--- the blocks that are due after a line of the side `S` had the effect `done`: first the one for `S`, then the other
--- side's; but if the match is over after the line, first White's, then Black's
+-- the blocks that are due after an event of the side `S` had the effect `done`: first the one for `S`, then the other
+-- side's; but if the match is over after the event, first White's, then Black's
 abbrev pub blocks_after : Colour → Effect → List Block
 blocks_after S done = blocks_from (if is_over done.after.phase then White else S) done.to
 
@@ -74,9 +75,9 @@ after_failed_send r m due S =
     if is_over m.phase then (m, due) else (done.after, blocks_from White done.to)
 
 -- these acts, in order, are the rest of a match by the rules `r`: before them its state is `m`, and the blocks `due`
--- are still to be sent; after them it is over, in the state `final`. Each of the first six equations is about the first
--- act, or the first two: it says when they may come, and from which state and with which blocks due the acts `H` after
--- them are then the rest of the match. While a block is due, nothing is read
+-- are still to be sent; after them it is over, in the state `final`. Each of the first three equations is about the
+-- first act: it says when it may come, and from which state and with which blocks due the acts `H` after it are then
+-- the rest of the match. While a block is due, nothing is read
 abbrev pub IsMatchFrom : Rules → Match → List Block → List Act → Match → Type 0
 -- a block is due: the first one due is sent. The state stays, and the other blocks are still due
 IsMatchFrom r m (block ∷ due) (Sends sent ∷ H) final = (block ≡ sent) × IsMatchFrom r m due H final
@@ -84,25 +85,11 @@ IsMatchFrom r m (block ∷ due) (Sends sent ∷ H) final = (block ≡ sent) × I
 -- blocks that are then due (`next.1`)
 IsMatchFrom r m (block ∷ due) (SendFails sent ∷ H) final =
     let next = after_failed_send r m due sent.to in (block ≡ sent) × IsMatchFrom r next.0 next.1 H final
--- no block is due, and a line of the side `S` is awaited: it is read, and right after it the clock, as an act of the
--- same side. Both acts are one event, `Line`; its effect gives the new state and the blocks that are then due
-IsMatchFrom r m [] (Reads S text ∷ ReadsClock side moment ∷ H) final =
-    let done = effect r m (Line S text moment) in
-    (side ≡ S) × (awaits_line m.phase S ≡ true) × IsMatchFrom r done.after (blocks_after S done) H final
--- no block is due, and the lines that open the turn of `S` were sent: the clock is read, which is the event `Opened`.
--- It begins the turn, and no block is due after it
-IsMatchFrom r m [] (ReadsClock S moment ∷ H) final =
-    (m.phase ≡ Opening S) × IsMatchFrom r (effect r m (Opened S moment)).after [] H final
--- no block is due, and a line of the side `S` is awaited: in its place comes the end of the output. This ends the
--- match, and the blocks that report the end are due, White's before Black's
-IsMatchFrom r m [] (ReadsEnd S ∷ H) final =
-    let done = effect r m (OutputEnds S) in
-    (awaits_line m.phase S ≡ true) × IsMatchFrom r done.after (blocks_from White done.to) H final
--- no block is due, and a line of the side `S` is awaited: reading it fails. This ends the match, and the blocks that
--- report the end are due, White's before Black's
-IsMatchFrom r m [] (ReadFails S ∷ H) final =
-    let done = effect r m (FailsToRead S) in
-    (awaits_line m.phase S ≡ true) × IsMatchFrom r done.after (blocks_from White done.to) H final
+-- no block is due: an event that may come in this phase happens. Its effect gives the new state and the blocks that are
+-- then due
+IsMatchFrom r m [] (Happens event ∷ H) final =
+    let done = effect r m event in
+    MayCome m.phase event × IsMatchFrom r done.after (blocks_after (event_side event) done) H final
 -- no act is left: no block is due, the match is over, and `final` is its state
 IsMatchFrom r m [] [] final = (is_over m.phase ≡ true) × (final ≡ m)
 -- any other list of acts is not the rest of a match

@@ -3,7 +3,7 @@
 use Rattle.std.specs.Prelude.{ℕ, Bool, false, ◌||◌, nat_lt, List, [], ◌∷◌, ◌++◌, length, Option}
 use Rattle.chess_base.specs.declared.man.Colour.{Colour}
 use Rattle.chess_base.specs.Men.{same_colour}
-use Rattle.chess_match.specs.Acts.{Act, Sends, SendFails, Reads, ReadsEnd, ReadFails, ReadsClock}
+use Rattle.chess_match.specs.Acts.{Act, Sends, SendFails, Happens}
 use Rattle.chess_match.specs.Events.{Line, Opened, OutputEnds, FailsToRead, FailsToWrite}
 use Rattle.chess_match.specs.Notes.{Note, Happened, Gives}
 use Rattle.chess_base.specs.Options.{list_if}
@@ -16,25 +16,26 @@ use Rattle.chess_match.specs.declared.reason.Reason.{Reason}
 -- the lines that were read from the engine of the side `S`, in order (`None`: one that was too long)
 abbrev pub lines_read : Colour → List Act → List (Option (List ℕ))
 lines_read S [] = []
-lines_read S (Reads side text ∷ H) = list_if (same_colour side S) (text ∷ []) ++ lines_read S H
+lines_read S (Happens (Line side text moment) ∷ H) = list_if (same_colour side S) (text ∷ []) ++ lines_read S H
 lines_read S (_ ∷ H) = lines_read S H
 
 -- whether the output of the engine of the side `S` was read up to its end
 abbrev pub has_ended : Colour → List Act → Bool
 has_ended S [] = false
-has_ended S (ReadsEnd side ∷ H) = same_colour side S || has_ended S H
+has_ended S (Happens (OutputEnds side) ∷ H) = same_colour side S || has_ended S H
 has_ended S (_ ∷ H) = has_ended S H
 
 -- whether a read from the engine of the side `S` failed
 abbrev pub has_failed_read : Colour → List Act → Bool
 has_failed_read S [] = false
-has_failed_read S (ReadFails side ∷ H) = same_colour side S || has_failed_read S H
+has_failed_read S (Happens (FailsToRead side) ∷ H) = same_colour side S || has_failed_read S H
 has_failed_read S (_ ∷ H) = has_failed_read S H
 
 -- the moments that the clock showed, in milliseconds and in order, whichever side it was read for
 abbrev pub moments_shown : List Act → List ℕ
 moments_shown [] = []
-moments_shown (ReadsClock side moment ∷ H) = moment ∷ moments_shown H
+moments_shown (Happens (Line side text moment) ∷ H) = moment ∷ moments_shown H
+moments_shown (Happens (Opened side moment) ∷ H) = moment ∷ moments_shown H
 moments_shown (_ ∷ H) = moments_shown H
 
 -- ---- what was written
@@ -69,12 +70,5 @@ notes_given reason (Sends block ∷ H) = Gives block.to (bytes_of block.lines) �
 notes_given reason (SendFails block ∷ H) =
     Gives block.to (bytes_of block.lines)
     ∷ (list_if (is_write_fault_of reason block.to) (Happened (FailsToWrite block.to) ∷ []) ++ notes_given reason H)
--- a line, with the moment that the clock showed right after it
-notes_given reason (Reads S text ∷ ReadsClock side moment ∷ H) = Happened (Line S text moment) ∷ notes_given reason H
--- any other reading of the clock: the lines that open a turn of `S` were sent
-notes_given reason (ReadsClock S moment ∷ H) = Happened (Opened S moment) ∷ notes_given reason H
--- an output ended, or a read failed
-notes_given reason (ReadsEnd S ∷ H) = Happened (OutputEnds S) ∷ notes_given reason H
-notes_given reason (ReadFails S ∷ H) = Happened (FailsToRead S) ∷ notes_given reason H
--- a line without a reading of the clock right after it is not noted; the acts of a match have no such line
-notes_given reason (Reads S text ∷ H) = notes_given reason H
+-- an event that was read: itself
+notes_given reason (Happens event ∷ H) = Happened event ∷ notes_given reason H

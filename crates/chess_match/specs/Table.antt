@@ -1,11 +1,11 @@
 -- What passes at the table of a match, in order: acts at its devices, and notes that its witness is given. A table has
 -- both engines, the clock and a witness, such as the log; each call of it is one step.
-use Rattle.std.specs.Prelude.{ℕ, Bool, true, false, if◌then◌else◌, List, [], ◌∷◌, ◌++◌, Option, None, Some, Result, Ok, Err}
+use Rattle.std.specs.Prelude.{ℕ, Bool, if◌then◌else◌, List, [], ◌∷◌, ◌++◌, Option, None, Some, Result, Ok, Err}
 use Rattle.byte_devices.specs.Transfers.{Devices}
 use Rattle.chess_base.specs.declared.man.Colour.{Colour}
 use Rattle.text_lines.specs.Lines.{LineSeen}
-use Rattle.chess_match.specs.Acts.{Act, Block, Sends, SendFails, Reads, ReadsEnd, ReadFails, ReadsClock}
-use Rattle.chess_match.specs.Events.{Line, Opened, OutputEnds, FailsToRead, FailsToWrite}
+use Rattle.chess_match.specs.Acts.{Act, Block, Sends, SendFails, Happens}
+use Rattle.chess_match.specs.Events.{Event, Line, Opened, OutputEnds, FailsToRead, FailsToWrite}
 use Rattle.chess_base.specs.Options.{list_if}
 use Rattle.chess_match.specs.Lines.{bytes_of}
 use Rattle.chess_match.specs.Notes.{Note, Happened, Gives}
@@ -15,10 +15,20 @@ use Rattle.chess_match.specs.declared.reason.Reason.{Reason}
 
 -- one step at a table
 pub data Step : Type 0 where
-  -- an act at a device
+  -- this act, done in one call: a block was sent or could not be sent, an output ended, or a read failed
   Does : (act : Act) → Step
+  -- a line of that side's engine was read (`None`: it was too long)
+  ReadsLine : (side : Colour) → (text : Option (List ℕ)) → Step
+  -- the clock was read, for a line or an opening of that side, and showed `moment`, in milliseconds
+  ReadsClock : (side : Colour) → (moment : ℕ) → Step
   -- the witness was given a note
   Notes : (note : Note) → Step
+
+-- the steps by which this event is read: a line and then the clock, the clock alone, or an end or a failure
+abbrev pub reads : Event → List Step
+reads (Line S text moment) = ReadsLine S text ∷ ReadsClock S moment ∷ []
+reads (Opened S moment) = ReadsClock S moment ∷ []
+reads event = Does (Happens event) ∷ []
 
 -- the steps of a match that ended for this reason: its acts, in order, each with its note (the notes are those of
 -- `notes_given`)
@@ -30,17 +40,8 @@ watched reason (Sends block ∷ H) = Notes (Gives block.to (bytes_of block.lines
 watched reason (SendFails block ∷ H) =
     Notes (Gives block.to (bytes_of block.lines)) ∷ Does (SendFails block)
     ∷ (list_if (is_write_fault_of reason block.to) (Notes (Happened (FailsToWrite block.to)) ∷ []) ++ watched reason H)
--- a line is noted once the clock is read after it
-watched reason (Reads S text ∷ ReadsClock side moment ∷ H) =
-    Does (Reads S text) ∷ Does (ReadsClock side moment) ∷ Notes (Happened (Line S text moment)) ∷ watched reason H
--- any other reading of the clock comes when a turn was opened, and this is noted after it
-watched reason (ReadsClock S moment ∷ H) =
-    Does (ReadsClock S moment) ∷ Notes (Happened (Opened S moment)) ∷ watched reason H
--- an end of an output and a failed read are noted after they happened
-watched reason (ReadsEnd S ∷ H) = Does (ReadsEnd S) ∷ Notes (Happened (OutputEnds S)) ∷ watched reason H
-watched reason (ReadFails S ∷ H) = Does (ReadFails S) ∷ Notes (Happened (FailsToRead S)) ∷ watched reason H
--- a line without a reading of the clock right after it has no note; the acts of a match have no such line
-watched reason (Reads S text ∷ H) = Does (Reads S text) ∷ watched reason H
+-- an event is noted once it is read
+watched reason (Happens event ∷ H) = reads event ++ (Notes (Happened event) ∷ watched reason H)
 
 -- ---- one call
 
@@ -48,18 +49,13 @@ watched reason (Reads S text ∷ H) = Does (Reads S text) ∷ watched reason H
 abbrev pub sending : Bool → Block → Act
 sending failed block = if failed then SendFails block else Sends block
 
--- the act of reading from the engine of the side `S`, by the result of the read
-abbrev pub reading_of : {E : Type 0} → Colour → Result (Option LineSeen) E → Act
+-- the step of reading from the engine of the side `S`, by the result of the read
+abbrev pub reading_of : {E : Type 0} → Colour → Result (Option LineSeen) E → Step
 -- a line, if `\n` ended it; what comes after the last `\n` counts as the end of the output
-reading_of S (Ok (Some line)) = if line.ended then Reads S (text_read line) else ReadsEnd S
+reading_of S (Ok (Some line)) = if line.ended then ReadsLine S (text_read line) else Does (Happens (OutputEnds S))
 -- no line: the output has ended
-reading_of S (Ok None) = ReadsEnd S
-reading_of S (Err e) = ReadFails S
-
--- whether this act is that a line was read
-abbrev pub is_line : Act → Bool
-is_line (Reads S text) = true
-is_line _ = false
+reading_of S (Ok None) = Does (Happens (OutputEnds S))
+reading_of S (Err e) = Does (Happens (FailsToRead S))
 
 -- ---- what passed
 

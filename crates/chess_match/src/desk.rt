@@ -1,15 +1,14 @@
 //! The table of separate devices.
 
-ghost use Rattle.std.specs.Prelude.{◌≡◌, ◌<◌, List, true};
+ghost use Rattle.std.specs.Prelude.{◌≡◌, ◌<◌, ℕ, List, Option};
 ghost use Rattle.std.specs.Result.{is_err};
 ghost use Rattle.chess_base.specs.declared.man.Colour.{Colour};
 ghost use Rattle.text_lines.specs.Next.{line_read};
-ghost use Rattle.chess_match.specs.Acts.{ReadsClock};
 ghost use Rattle.chess_match.specs.Events as events;
 ghost use Rattle.chess_match.specs.Lines.{SentLine, bytes_of};
 ghost use Rattle.chess_match.specs.Notes.{Happened, Gives};
 ghost use Rattle.chess_match.specs.Run.{text_read};
-ghost use Rattle.chess_match.specs.Table.{Does, Notes, is_line, reading_of, sending};
+ghost use Rattle.chess_match.specs.Table.{Does, ReadsLine, ReadsClock, Notes, reading_of, sending};
 ghost use Rattle.chess_match.specs.ties.AtDesk.{PassesAt, left_at, passed_at};
 
 use crate::moments::Moments;
@@ -61,8 +60,8 @@ impl<R: Input, W: Output, M: Moments, L: Witness> MatchTable
         line: &mut Line<ENGINE_LINE_LEN>,
     ) -> Result<bool, ReadFault>
         ensures passes { PassesAt R.seen W.seen M.coming L.noted self.old self.new
-            (Does (reading_of side (line_read result line.new))) }
-        ensures less { is_line (reading_of side (line_read result line.new)) ≡ true
+            (reading_of side (line_read result line.new)) }
+        ensures less { (text : Option (List ℕ)) → reading_of side (line_read result line.new) ≡ ReadsLine side text
             → left_at R.seen self.new < left_at R.seen self.old }
         ensures white { side ≡ Colour.White → self.new ≡ (record self.old {
           white_reader = self.new.white_reader;
@@ -82,7 +81,7 @@ impl<R: Input, W: Output, M: Moments, L: Witness> MatchTable
     // Reads the clock.
     fn moment(&mut self, _side: Colour) -> u64
         ensures passes { PassesAt R.seen W.seen M.coming L.noted self.old self.new
-            (Does (ReadsClock _side result)) }
+            (ReadsClock _side result) }
         ensures left { left_at R.seen self.new ≡ left_at R.seen self.old }
         ensures others { self.new ≡ (record self.old { moments = self.new.moments }) }
     {

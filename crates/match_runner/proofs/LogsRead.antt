@@ -10,7 +10,7 @@ use Rattle.chess_base.specs.Letters.{byte, new_line}
 use Rattle.chess_base.specs.Options.{list_if}
 use Rattle.chess_base.specs.declared.man.Colour.{Colour}
 use Rattle.chess_base.specs.Men.{other, same_colour}
-use Rattle.chess_match.specs.Acts.{Act, Sends, SendFails, Reads, ReadsEnd, ReadFails, ReadsClock}
+use Rattle.chess_match.specs.Acts.{Act, Sends, SendFails, Happens}
 use Rattle.chess_match.specs.ByDevice.{notes_given}
 use Rattle.chess_match.specs.Effects.{Match, beginning}
 use Rattle.chess_match.specs.Events.{Event, Line, Opened, OutputEnds, FailsToRead, FailsToWrite}
@@ -193,12 +193,12 @@ given_read first S moment reason (SendFails b ∷ H) =
     given_block first S b.to moment b.lines (lines_given S H) _
     (given_failure first S b.to moment (notes_given reason H) (is_write_fault_of reason b.to)
     ∙ given_read first S moment reason H)
-given_read first S moment reason (Reads c (Some t) ∷ ReadsClock d now ∷ H) = given_read first S now reason H
-given_read first S moment reason (Reads c None ∷ ReadsClock d now ∷ H) = given_read first S now reason H
-given_read first S moment reason (ReadsClock c now ∷ H) = given_read first S now reason H
-given_read first S moment reason (ReadsEnd c ∷ H) = given_read first S moment reason H
-given_read first S moment reason (ReadFails c ∷ H) = given_read first S moment reason H
-given_read first S moment reason (Reads c t ∷ H) = given_read first S moment reason H
+given_read first S moment reason (Happens (Line c (Some t) now) ∷ H) = given_read first S now reason H
+given_read first S moment reason (Happens (Line c None now) ∷ H) = given_read first S now reason H
+given_read first S moment reason (Happens (Opened c now) ∷ H) = given_read first S now reason H
+given_read first S moment reason (Happens (OutputEnds c) ∷ H) = given_read first S moment reason H
+given_read first S moment reason (Happens (FailsToRead c) ∷ H) = given_read first S moment reason H
+given_read first S moment reason (Happens (FailsToWrite c) ∷ H) = given_read first S moment reason H
 
 -- ---- the result
 

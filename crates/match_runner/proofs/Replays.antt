@@ -8,7 +8,7 @@ use Rattle.chess_base.specs.declared.man.Colour.TheVariants.{White, Black}
 use Rattle.chess_base.specs.Men.{other}
 use Rattle.chess_base.specs.Options.{list_if}
 use Rattle.cecp_engine.specs.EngineLines.{line_kind}
-use Rattle.chess_match.specs.Acts.{Act, Block, Sends, SendFails, Reads, ReadsEnd, ReadFails, ReadsClock, IsMatch, IsMatchFrom, awaits_line, block_of, blocks_after, blocks_from, is_over}
+use Rattle.chess_match.specs.Acts.{Act, Block, Sends, SendFails, Happens, IsMatch, IsMatchFrom, awaits_line, block_of, blocks_after, blocks_from, is_over}
 use Rattle.chess_match.specs.ByDevice.{notes_given}
 use Rattle.chess_match.specs.Effects.{Match, Phase, Opening, Over, beginning, effect, ends, is_owed_move, move_line}
 use Rattle.chess_match.specs.Events.{Event, Line, Opened, OutputEnds, FailsToRead, FailsToWrite}
@@ -274,13 +274,13 @@ module _ (r : Rules) (reason : Reason) (final : Match) (over : final.phase ≡ O
     λ on. unwritten m s (notes_given reason H) ((leads (effect r m (FailsToWrite s.to)).after
         (blocks_from White (effect r m (FailsToWrite s.to)).to) H (subst (Broken m due s H) on g)).0 refl),
   )
-  leads m [] (Reads S t ∷ ReadsClock c k ∷ H) (q, aw, g) = (
+  leads m [] (Happens (Line S t k) ∷ H) (aw, g) = (
     awaiting m S [] _ aw,
     λ on. shown_event m (Line S t k) (if is_over (effect r m (Line S t k)).after.phase then White else S)
         (notes_given reason H) (λ es. refl) (line_again r S (line_kind t) k m m.phase aw on)
         (leads (effect r m (Line S t k)).after (blocks_after S (effect r m (Line S t k))) H g),
   )
-  leads m [] (ReadsClock S k ∷ H) (o, g) = let p = (leads (effect r m (Opened S k)).after [] H g).1 refl in (
+  leads m [] (Happens (Opened S k) ∷ H) (o, g) = let p = (leads (effect r m (Opened S k)).after [] H g).1 refl in (
     λ over. not_over (is_over m.phase) over (ap is_over o),
     λ on. record {
       last = more_before reason (Happened (Opened S k) ∷ []) (notes_given reason H) p.last;
@@ -289,18 +289,19 @@ module _ (r : Rules) (reason : Reason) (final : Match) (over : final.phase ≡ O
           subst (λ (n : Match). Same final (replayed r reason n es)) (on_opened m S k o) p.same;
     },
   )
-  leads m [] (ReadsEnd S ∷ H) (aw, g) = (
+  leads m [] (Happens (OutputEnds S) ∷ H) (aw, g) = (
     awaiting m S [] _ aw,
     λ on. shown_event m (OutputEnds S) White (notes_given reason H) (λ es. refl)
         (inr (over_again r (Faulted S Ended) m (refl, λ O. refl)))
         (leads (effect r m (OutputEnds S)).after (blocks_from White (effect r m (OutputEnds S)).to) H g),
   )
-  leads m [] (ReadFails S ∷ H) (aw, g) = (
+  leads m [] (Happens (FailsToRead S) ∷ H) (aw, g) = (
     awaiting m S [] _ aw,
     λ on. shown_event m (FailsToRead S) White (notes_given reason H) (λ es. refl)
         (inr (over_again r (Faulted S Read) m (refl, λ O. refl)))
         (leads (effect r m (FailsToRead S)).after (blocks_from White (effect r m (FailsToRead S)).to) H g),
   )
+  leads m [] (Happens (FailsToWrite S) ∷ H) (never, g) = absurd never
   leads m [] [] (o, e) = (λ over. (e, λ w. refl), λ on. not_over (is_over m.phase) o on)
   leads m due H g = absurd g
 

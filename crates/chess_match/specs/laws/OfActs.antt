@@ -15,53 +15,45 @@ use Rattle.chess_match.specs.ByDevice.{lines_read, has_ended, has_failed_read, m
 use Rattle.chess_base.specs.Options.{list_if}
 use Rattle.chess_match.specs.Lines.{SentLine, bytes_of}
 use Rattle.chess_match.specs.laws.Laws.{Streams, AreRead, events_in, given_in, lines_noted, moments_noted, is_move, moves_of, items_said, moves_sent, texts_from, time_sent, otim_sent, centiseconds}
-use Rattle.chess_match.specs.Acts.{Act, Block, Sends, SendFails, Reads, ReadsEnd, ReadFails, ReadsClock, IsMatch, IsMatchFrom, after_failed_send, is_over}
+use Rattle.chess_match.specs.Acts.{Act, Block, Sends, SendFails, Happens, IsMatch, IsMatchFrom, after_failed_send, is_over}
 use Rattle.chess_match.specs.Effects.{Match, Over, beginning, clock, effect, was_sent_move}
-use Rattle.chess_match.specs.Events.{Event, Line, Opened, OutputEnds, FailsToRead}
+use Rattle.chess_match.specs.Events.{Event, Line, Opened}
+use Rattle.chess_match.specs.Notes.{Happened}
 use Rattle.chess_match.specs.Played.{World, Passed}
 use Rattle.chess_match.specs.Rules.{Rules, rules_of}
+use Rattle.chess_match.specs.Table.{Step, ReadsLine, ReadsClock, Notes, watched}
 use Rattle.chess_match.specs.declared.reason.Reason.{Reason}
 use Rattle.chess_match.specs.declared.reason.Reason.TheVariants.{Decided, Resigns, MovesIllegally, MovesOutOfTurn, ClaimsFalsely, RejectsLegalMove, Forfeits}
 
 -- ---- each match, and each moment of one
 
--- the match after these acts, if it is `m` before them. A line counts with the moment that the clock shows after it
+-- the match after these acts, if it is `m` before them
 abbrev pub match_after : Rules → Match → List Act → Match
 match_after r m [] = m
 match_after r m (Sends block ∷ H) = match_after r m H
 match_after r m (SendFails block ∷ H) = match_after r (after_failed_send r m [] block.to).0 H
-match_after r m (Reads S text ∷ ReadsClock side moment ∷ H) = match_after r (effect r m (Line S text moment)).after H
-match_after r m (ReadsClock S moment ∷ H) = match_after r (effect r m (Opened S moment)).after H
-match_after r m (ReadsEnd S ∷ H) = match_after r (effect r m (OutputEnds S)).after H
-match_after r m (ReadFails S ∷ H) = match_after r (effect r m (FailsToRead S)).after H
-match_after r m (Reads S text ∷ H) = match_after r m H
-
--- whether these acts are cut off after a line, before the moment that the clock then shows
-abbrev pub ends_in_line : List Act → Bool
-ends_in_line [] = false
-ends_in_line (Reads S text ∷ []) = true
-ends_in_line (_ ∷ H) = ends_in_line H
+match_after r m (Happens event ∷ H) = match_after r (effect r m event).after H
 
 -- in every match `P` holds of the rules, of all acts, and of the match at its end
 abbrev pub InEachMatch : (Rules → List Act → Match → Type 0) → Type 0
 InEachMatch P = (r : Rules) (H : List Act) (final : Match) → IsMatch r H final → P r H final
 
--- at each moment of every match `P` holds of the rules, of the acts so far (`before`; a line and the moment that the
--- clock then shows are not parted), and of the match after them
+-- at each moment of every match `P` holds of the rules, of the acts so far (`before`), and of the match after them
 abbrev pub AtEachMoment : (Rules → List Act → Match → Type 0) → Type 0
 AtEachMoment P = (r : Rules) (before after : List Act) (final : Match) → IsMatch r (before ++ after) final
-    → ends_in_line before ≡ false → P r before (match_after r beginning.after before)
+    → P r before (match_after r beginning.after before)
 
 -- whenever a line of a side is read, `P` holds of the rules, of the side, of the acts before, and of the match then
 abbrev pub AtEachLine : (Rules → Colour → List Act → Match → Type 0) → Type 0
-AtEachLine P = (r : Rules) (before after : List Act) (S : Colour) (text : Option (List ℕ)) (final : Match)
-    → IsMatch r (before ++ Reads S text ∷ after) final → P r S before (match_after r beginning.after before)
+AtEachLine P = (r : Rules) (before after : List Act) (S : Colour) (text : Option (List ℕ)) (moment : ℕ) (final : Match)
+    → IsMatch r (before ++ Happens (Line S text moment) ∷ after) final
+    → P r S before (match_after r beginning.after before)
 
--- whenever the clock is read for the opening of a side's turn, and so not after a line, `P` holds of the rules, of the
--- side, of the acts before, and of the match then
+-- whenever the clock is read for the opening of a side's turn, `P` holds of the rules, of the side, of the acts before,
+-- and of the match then
 abbrev pub AtEachOpening : (Rules → Colour → List Act → Match → Type 0) → Type 0
 AtEachOpening P = (r : Rules) (before after : List Act) (S : Colour) (moment : ℕ) (final : Match)
-    → IsMatch r (before ++ ReadsClock S moment ∷ after) final → ends_in_line before ≡ false
+    → IsMatch r (before ++ Happens (Opened S moment) ∷ after) final
     → P r S before (match_after r beginning.after before)
 
 -- the match after all its acts is the match at its end
@@ -70,20 +62,19 @@ EndsAfterItsActs r H m = match_after r beginning.after H ≡ m
 
 -- ---- order
 
--- wherever acts follow in a match, whatever it is and whatever is due (`IsMatchFrom`): if a line is read first, nothing
--- is due, and the next act is to read the clock for that side
+-- among the steps of any acts, a match or not: after a line is read, the next steps are to read the clock for that side
+-- and to note the line with the moment that the clock showed
 abbrev pub LinesAreReadInOrder : Type 0
-LinesAreReadInOrder = (r : Rules) (m final : Match) (due : List Block) (S : Colour) (text : Option (List ℕ))
-    (H : List Act) → IsMatchFrom r m due (Reads S text ∷ H) final
-    → (due ≡ []) × ((moment : ℕ) × (rest : List Act) × (H ≡ ReadsClock S moment ∷ rest))
+LinesAreReadInOrder = (reason : Reason) (H : List Act) (before after : List Step) (S : Colour)
+    (text : Option (List ℕ)) → watched reason H ≡ before ++ ReadsLine S text ∷ after
+    → (moment : ℕ) × (rest : List Step)
+    × (after ≡ ReadsClock S moment ∷ Notes (Happened (Line S text moment)) ∷ rest)
 
--- wherever acts follow in a match, whatever it is and whatever is due: nothing is due if the clock is read first, an
--- output ends or a read fails
-abbrev pub NothingIsDueAtOthers : Type 0
-NothingIsDueAtOthers = (r : Rules) (m final : Match) (due : List Block) (S : Colour) (moment : ℕ) (H : List Act)
-    → (IsMatchFrom r m due (ReadsClock S moment ∷ H) final → due ≡ [])
-    × (IsMatchFrom r m due (ReadsEnd S ∷ H) final → due ≡ [])
-    × (IsMatchFrom r m due (ReadFails S ∷ H) final → due ≡ [])
+-- wherever acts follow in a match, whatever it is and whatever is due (`IsMatchFrom`): nothing is due if an event comes
+-- first: if a line is read, the clock is read, an output ends or a read fails
+abbrev pub NothingIsDueAtEvents : Type 0
+NothingIsDueAtEvents = (r : Rules) (m final : Match) (due : List Block) (event : Event) (H : List Act)
+    → IsMatchFrom r m due (Happens event ∷ H) final → due ≡ []
 
 -- ---- what two engines and a clock give fixes the match
 
@@ -146,13 +137,13 @@ only_sends (Sends block ∷ H) = only_sends H
 only_sends (SendFails block ∷ H) = only_sends H
 only_sends (_ ∷ H) = false
 
--- in every match that ended for what a line of the side `S` did, such as an illegal move: the last line read is of `S`.
--- Then the clock was read, and after that only blocks were sent
+-- in every match that ended for what a line of the side `S` did, such as an illegal move: the last line read is of `S`,
+-- and after it only blocks were sent
 abbrev pub LastLineIsTheirs : Type 0
 LastLineIsTheirs = (r : Rules) (reason : Reason) (S : Colour) (H : List Act) (final : Match) → IsMatch r H final
     → final.phase ≡ Over reason → whose_line reason ≡ Some S
     → (before : List Act) × (text : Option (List ℕ)) × (moment : ℕ) × (after : List Act)
-    × (H ≡ before ++ Reads S text ∷ ReadsClock S moment ∷ after) × (only_sends after ≡ true)
+    × (H ≡ before ++ Happens (Line S text moment) ∷ after) × (only_sends after ≡ true)
 
 -- ---- moves
 
@@ -237,15 +228,14 @@ OtherTimesAreClocks r H m = (S : Colour) → (rest : List ℕ) × (length rest �
     else []))
 
 -- the milliseconds from when each turn of the side `S` was opened to its first `move` line after that (0 if the clock
--- went back); a turn is opened when the clock is read, but not after a line. `opened` is when the present turn of `S`
--- was opened; `None` if no move of `S` is awaited
+-- went back). `opened` is when the present turn of `S` was opened; `None` if no move of `S` is awaited
 abbrev pub move_times : Colour → Option ℕ → List Act → List ℕ
 move_times S opened [] = []
-move_times S opened (Reads side text ∷ ReadsClock c moment ∷ H) =
+move_times S opened (Happens (Line side text moment) ∷ H) =
     if is_some opened && (same_colour side S && is_move (line_kind text))
     then (moment - unwrap_or opened 0) ∷ move_times S None H
     else move_times S opened H
-move_times S opened (ReadsClock side moment ∷ H) =
+move_times S opened (Happens (Opened side moment) ∷ H) =
     move_times S (if same_colour side S then Some moment else None) H
 move_times S opened (_ ∷ H) = move_times S opened H
 

@@ -8,26 +8,34 @@ use Rattle.chess_base.specs.ByColour.{by_colour, of_colour}
 use Rattle.chess_base.specs.Men.{same_colour}
 use Rattle.text_lines.specs.Lines.{Held, nothing_held}
 use Rattle.text_lines.specs.Next.{work}
-use Rattle.chess_match.specs.Acts.{Act, Sends, SendFails}
-use Rattle.chess_match.specs.ByDevice.{moments_shown}
+use Rattle.chess_match.specs.Acts.{Act, Sends, SendFails, Happens}
+use Rattle.chess_match.specs.Events.{Line}
 use Rattle.chess_match.specs.Lines.{bytes_of}
 use Rattle.chess_match.specs.Notes.{Note, Noted}
 use Rattle.chess_match.specs.Run.{ClockReadings}
-use Rattle.chess_match.specs.Table.{Step, Does, Notes, Beginning, Passing, Passes}
+use Rattle.chess_match.specs.Table.{Step, Does, ReadsLine, ReadsClock, Notes, Beginning, Passing, Passes}
 use Rattle.chess_match.specs.declared.desk.Desk.{Desk}
 use Rattle.chess_match.specs.ties.EngineOutput.{OutputAt}
 
--- the acts among these steps
+-- the acts at engines among these steps; a line that was read has the moment 0, whatever the clock then showed
 abbrev pub acts_in : List Step → List Act
 acts_in [] = []
 acts_in (Does act ∷ K) = act ∷ acts_in K
+acts_in (ReadsLine S text ∷ K) = Happens (Line S text 0) ∷ acts_in K
+acts_in (ReadsClock S moment ∷ K) = acts_in K
 acts_in (Notes note ∷ K) = acts_in K
+
+-- the moments that the clock showed among these steps
+abbrev pub moments_in : List Step → List ℕ
+moments_in [] = []
+moments_in (ReadsClock S moment ∷ K) = moment ∷ moments_in K
+moments_in (_ ∷ K) = moments_in K
 
 -- the notes among these steps
 abbrev pub notes_in : List Step → List Note
 notes_in [] = []
-notes_in (Does act ∷ K) = notes_in K
 notes_in (Notes note ∷ K) = note ∷ notes_in K
+notes_in (_ ∷ K) = notes_in K
 
 -- these acts took the output of the engine of the side `S` from `r` to `r'`; `h` and `h'` are the bytes of it that are
 -- held, before and after
@@ -62,7 +70,7 @@ pub record Did (begun : Beginning) (engines : Colour → Devices) (held : Colour
   pub read : (S : Colour)
       → ReadsOf S (acts_in steps) (begun.engines S).input (engines S).input nothing_held (held S)
   pub written : (S : Colour) → WritesOf S (acts_in steps) (begun.engines S).output (engines S).output
-  pub moments : ClockReadings begun.coming coming (moments_shown (acts_in steps))
+  pub moments : ClockReadings begun.coming coming (moments_in steps)
   pub noted : NotedSince witness begun.noted (notes_in steps)
 
 -- which steps may have passed at the desk `d`. What contracts see of its devices is given by `input`, `output`, `shown`

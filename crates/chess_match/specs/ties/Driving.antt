@@ -6,7 +6,7 @@ use Rattle.chess_base.specs.declared.man.Colour.TheVariants.{White, Black}
 use Rattle.chess_base.specs.declared.man.Move.{Move}
 use Rattle.chess_base.specs.Men.{same_colour}
 use Rattle.text_lines.specs.Lines.{LineSeen}
-use Rattle.chess_match.specs.Acts.{Act, Block, Reads, ReadsEnd, ReadFails, ReadsClock, IsMatchFrom, is_over}
+use Rattle.chess_match.specs.Acts.{Act, Block, IsMatchFrom, Happens, is_over}
 use Rattle.chess_match.specs.ByDevice.{is_broken}
 use Rattle.chess_match.specs.Effects.{Match, Over}
 use Rattle.chess_match.specs.Events.{Event, Line, Opened, OutputEnds, FailsToRead, FailsToWrite}
@@ -14,7 +14,7 @@ use Rattle.chess_match.specs.Lines.{SentLine, bytes_of}
 use Rattle.chess_match.specs.Notes.{Happened, Gives}
 use Rattle.chess_match.specs.Rules.{Rules}
 use Rattle.chess_match.specs.Run.{text_read}
-use Rattle.chess_match.specs.Table.{Step, Does, Notes, Passing, Passes, sending, watched}
+use Rattle.chess_match.specs.Table.{Step, Does, ReadsLine, ReadsClock, Notes, Passing, Passes, sending, watched}
 use Rattle.chess_match.specs.declared.reason.Reason.{Reason}
 use Rattle.chess_match.specs.declared.state.MatchState.{MatchState}
 use Rattle.chess_match.specs.ties.Represents.{Represents}
@@ -25,10 +25,10 @@ use Rattle.chess_match.specs.ties.Sane.{IsSane}
 -- the steps of an event
 abbrev pub steps_of : Event → List Step
 steps_of (Line S text moment) =
-    Does (Reads S text) ∷ Does (ReadsClock S moment) ∷ Notes (Happened (Line S text moment)) ∷ []
-steps_of (Opened S moment) = Does (ReadsClock S moment) ∷ Notes (Happened (Opened S moment)) ∷ []
-steps_of (OutputEnds S) = Does (ReadsEnd S) ∷ Notes (Happened (OutputEnds S)) ∷ []
-steps_of (FailsToRead S) = Does (ReadFails S) ∷ Notes (Happened (FailsToRead S)) ∷ []
+    ReadsLine S text ∷ ReadsClock S moment ∷ Notes (Happened (Line S text moment)) ∷ []
+steps_of (Opened S moment) = ReadsClock S moment ∷ Notes (Happened (Opened S moment)) ∷ []
+steps_of (OutputEnds S) = Does (Happens (OutputEnds S)) ∷ Notes (Happened (OutputEnds S)) ∷ []
+steps_of (FailsToRead S) = Does (Happens (FailsToRead S)) ∷ Notes (Happened (FailsToRead S)) ∷ []
 steps_of (FailsToWrite S) = Notes (Happened (FailsToWrite S)) ∷ []
 
 -- the event of a line of the side `S` that ended with `\n` and came at this moment
@@ -37,7 +37,7 @@ line_event S line moment = Line S (text_read line) moment
 
 -- the steps after a line of the side `S` was read
 abbrev pub after_line : Colour → Option (List ℕ) → ℕ → List Step
-after_line S text moment = Does (ReadsClock S moment) ∷ Notes (Happened (Line S text moment)) ∷ []
+after_line S text moment = ReadsClock S moment ∷ Notes (Happened (Line S text moment)) ∷ []
 
 -- the steps of sending these lines to the side `S`, none if there are no lines; `failed` says whether a write failed
 abbrev pub giving : Bool → Colour → List SentLine → List Step

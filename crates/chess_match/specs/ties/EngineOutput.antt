@@ -7,7 +7,8 @@ use Rattle.chess_base.specs.declared.man.Colour.{Colour}
 use Rattle.chess_base.specs.Men.{same_colour}
 use Rattle.text_lines.specs.Lines.{LineSeen, Held, stream_lines, lines_held}
 use Rattle.text_lines.specs.Next.{GotLine, GotLast, GotNone, GotFault}
-use Rattle.chess_match.specs.Acts.{Act, Reads, ReadsEnd, ReadFails}
+use Rattle.chess_match.specs.Acts.{Act, Happens}
+use Rattle.chess_match.specs.Events.{Line, OutputEnds, FailsToRead}
 use Rattle.chess_match.specs.Run.{text_read}
 use Rattle.chess_match.specs.declared.run.TheConstants.{ENGINE_LINE_LEN}
 
@@ -31,15 +32,15 @@ pub record OutputEnded (old new : InputState) (given : List ℕ) (texts : List (
 
 -- what an act does to the output of the engine of the side `S`: nothing, where it reads none of it
 abbrev pub OutputAt : Colour → Act → InputState → InputState → Held → Held → Type 0
-OutputAt S (Reads c text) r r' held held' =
+OutputAt S (Happens (Line c text moment)) r r' held held' =
     MatchBool (same_colour c S) ((more : List ℕ) × Consumes r.known_bytes r'.known_bytes more
     × (line : LineSeen) × GotLine ENGINE_LINE_LEN r r' held held' more line × (text ≡ text_read line))
     ((r' ≡ r) × (held' ≡ held))
-OutputAt S (ReadsEnd c) r r' held held' =
+OutputAt S (Happens (OutputEnds c)) r r' held held' =
     MatchBool (same_colour c S) ((more : List ℕ) × Consumes r.known_bytes r'.known_bytes more
     × (((line : LineSeen) × GotLast ENGINE_LINE_LEN r r' held held' more line)
     ⊎ GotNone ENGINE_LINE_LEN r r' held held' more)) ((r' ≡ r) × (held' ≡ held))
-OutputAt S (ReadFails c) r r' held held' =
+OutputAt S (Happens (FailsToRead c)) r r' held held' =
     MatchBool (same_colour c S) ((more : List ℕ) × Consumes r.known_bytes r'.known_bytes more
     × GotFault ENGINE_LINE_LEN r r' held held' more) ((r' ≡ r) × (held' ≡ held))
 OutputAt S _ r r' held held' = (r' ≡ r) × (held' ≡ held)

@@ -4,5 +4,5 @@ use Rattle.chess_match.proofs.laws.acts_are_in_order.Goals as goal
 pub returns-clause-lines : goal.returns-clause-lines
 returns-clause-lines c = read_in_order
 
-pub returns-clause-others : goal.returns-clause-others
-returns-clause-others c = none_due
+pub returns-clause-events : goal.returns-clause-events
+returns-clause-events c = none_due

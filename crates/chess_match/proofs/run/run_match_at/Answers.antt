@@ -4,12 +4,12 @@ use Rattle.chess_base.specs.declared.man.Colour.{Colour}
 use Rattle.chess_base.specs.declared.man.Move.{Move}
 use Rattle.chess_base.specs.declared.setup.Setup.{Setup}
 use Rattle.chess_game.specs.Game as game
-use Rattle.chess_match.specs.Acts.{ReadsClock, awaits_line}
+use Rattle.chess_match.specs.Acts.{awaits_line}
 use Rattle.chess_match.specs.Effects.{Match, Phase, beginning}
 use Rattle.chess_match.specs.Events.{Opened}
 use Rattle.chess_match.specs.Notes.{Happened}
 use Rattle.chess_match.specs.Rules.{Rules, rules_of}
-use Rattle.chess_match.specs.Table.{Does, Notes}
+use Rattle.chess_match.specs.Table.{ReadsClock, Notes}
 use Rattle.chess_match.specs.ties.Represents.{Represents, nothing_said}
 use Rattle.chess_match.proofs.OnTheWay.{begins, begun, opened_less, opened_on, played_at, plays_anew, plays_on, rules_level, went_less, went_on}
 use Rattle.chess_match.proofs.Passings.{passed_more}
@@ -61,7 +61,7 @@ events-preserved-in-Moment g c =
     let k : ℕ = c.moment-moment.result in
     let opening = w.stands.phase ∙ c.in-Moment.ensures c.events.core.opened in (
       opened_on r _ _ _ _ _ _ _ i.0.0 i.0.1 S k w opening
-          (passed_more _ _ _ (Does (ReadsClock S k) ∷ []) (Notes (Happened (Opened S k)) ∷ [])
+          (passed_more _ _ _ (ReadsClock S k ∷ []) (Notes (Happened (Opened S k)) ∷ [])
           c.moment-moment.ensures.passes c.note_opened.ensures.passes) (c.open.ensures r _ i.0.0 opening w.stands),
       i.1,
       i.2,

@@ -1,11 +1,10 @@
 -- The clock is read, the line is noted, and the core takes over what the line says.
 use Rattle.std.proofs.Common.{◌∷◌, [], ap, sym, ◌∙◌}
 use Rattle.cecp_engine.specs.Seen.{seen}
-use Rattle.chess_match.specs.Acts.{ReadsClock}
 use Rattle.chess_match.specs.Events.{Line}
 use Rattle.chess_match.specs.Notes.{Happened}
 use Rattle.chess_match.specs.Run.{text_read}
-use Rattle.chess_match.specs.Table.{Does, Notes}
+use Rattle.chess_match.specs.Table.{ReadsClock, Notes}
 use Rattle.chess_match.specs.ties.Represents.{items_in}
 use Rattle.chess_match.specs.Acts.{awaits_line}
 use Rattle.chess_match.specs.Effects.{Phase}
@@ -19,7 +18,7 @@ returns-clause-taken g c =
     let awaits = ap (λ (p : Phase). awaits_line p c.args.side) (sym q.3.phase) ∙ q.5 in (
       c.moment-moment.result,
       items_in c.args.core.now.phase (seen c.said.result),
-      passed_more _ _ _ (Does (ReadsClock c.args.side c.moment-moment.result) ∷ [])
+      passed_more _ _ _ (ReadsClock c.args.side c.moment-moment.result ∷ [])
           (Notes (Happened (Line c.args.side (text_read c.args.line.now) c.moment-moment.result)) ∷ [])
           c.moment-moment.ensures.passes c.note_line.ensures.passes,
       c.line.ensures.answers c.args.side awaits,
