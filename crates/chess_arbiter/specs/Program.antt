@@ -142,9 +142,9 @@ PlaysMatch plan d d' status = (result : Result (Unit {0}) GamesFault) × (logged
 abbrev pub outputs_of : World → Outputs
 outputs_of d = record { output = d.devices.output; log = d.log }
 
--- the program did what its arguments ask for (the plan), or reported why they ask for nothing (the fault), and `status`
--- is its exit status. `d` and `d'` are its world before and after. What happens to the error output is said only for a
--- match
+-- the program did what its plan says; or there is no plan (`Err`): the arguments ask for help or for the version, are
+-- invalid, or memory ran out. `d` and `d'` are its world before and after; `status` is its exit status. What happens to
+-- the error output is said only for a match
 abbrev pub Does : Result Plan WordsFault → World → World → ℕ → Type 0
 Does (Ok Session) d d' status = RunsSession d.devices d'.devices status
 Does (Ok (Verify plan)) d d' status = VerifiesInput plan d.devices d'.devices status
@@ -152,6 +152,7 @@ Does (Ok (Verify plan)) d d' status = VerifiesInput plan d.devices d'.devices st
 Does (Ok (Stub arguments)) d d' status = Serves stub_response (waiting arguments.items) d.devices d'.devices status
 Does (Ok (Match plan)) d d' status =
     (d'.devices.input ≡ d.devices.input) × PlaysMatch plan (outputs_of d) (outputs_of d') status
+-- no plan: nothing of the input is read; help or the version is written, else the output stays as it is
 Does (Err fault) d d' status = (d'.devices.input ≡ d.devices.input)
     × ReportsArguments fault d.devices.output d'.devices.output status
 
