@@ -344,7 +344,8 @@ impl<B: Board> Session<B> {
     }
 
     // Obeys a line whose first word is no command's name: plays it as a move, if it has the form of one; else refuses
-    // it as an unknown command.
+    // it as an unknown command. `read_command` and `obey` would do the same, but would take the text apart twice: once
+    // for its form, and once to read the move.
     fn obey_unnamed(&mut self, text: &[u8], answer: &mut Answer)
         requires short { length text.now ≤ COMMAND_LEN }
         requires empty { answer.old.items ≡ [] }
