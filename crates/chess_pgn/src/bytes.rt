@@ -20,7 +20,8 @@ static CLASSES: [u8; 256] = *b"\
     --------------------------------\
     --------------------------------";
 
-// Which bytes a tag's name may have: `n` if it may have the byte, `-` if not.
+// Which bytes a tag's name may have: `n` if it may have the byte, `-` if not. Testing with `is_ascii_alphanumeric` and
+// `_` instead takes 1.2 % more instructions for the whole workload `puzzles` and 0.2 % more for `collections`.
 static NAMES: [u8; 256] = *b"\
     --------------------------------\
     ----------------nnnnnnnnnn------\

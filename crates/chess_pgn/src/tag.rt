@@ -33,8 +33,8 @@ pub fn split_name(text: &[u8]) -> (&[u8], &[u8])
 
 // Skips any white space and `%` lines at the text's front (`after_gap`), and then the byte `byte`. Returns the text
 // after that byte: for `"` and the text ` "a"]` the text `a"]`. `None` if another byte comes there, or the text ends.
-// The first test is a short cut for a byte with no white space before it. That is mostly so for a tag's `]`; before the
-// quote there often is a space.
+// The first test is a short cut for a byte with no white space before it, as a tag's `]` mostly is. The `match` alone
+// gives the same, with 0.7 % more instructions for the whole workload `puzzles` and 0.1 % more for `collections`.
 fn after_next(byte: u8, text: &[u8]) -> Option<&[u8]>
     requires { is_white_space byte ≡ false }
     ensures { option_map (λ r. r.now) result ≡ after_next byte text.now }
