@@ -334,11 +334,12 @@ fn tagged_variant(text: &[u8], at: usize) -> Variant
     variant_of(last_tag(text, at, b"Variant"))
 }
 
-// Reads the tags from the offset `at` on in one pass, for a game of normal chess. Returns what is known after the tags,
-// and the offset after them: that of the first number, move or outcome mark, or of the text's end. Reading on from
-// there gives the same as reading from `at` (`IsReadOn`). Returns `None` if a tag names Chess960, or there is a fault
-// among the tags or right after them: `begin_game` then restarts the game. The loop is not that of `read_pgn`: it stops
-// before the first number or move, and leaves tags with a fault to be read anew, where that one reports the fault.
+// Sets the game to the initial position of normal chess and reads the tags from the offset `at` on in one pass. Returns
+// what is known after the tags, and the offset after them: that of the first number or outcome mark, or of any other
+// word but marks, be it a legal move or not; or that of the text's end. Reading on from there gives the same as reading
+// from `at` (`IsReadOn`). Returns `None` if a tag names Chess960, if a FEN is bad, or if a token before that word can't
+// be read: `begin_game` then restarts the game. The loop is not that of `read_pgn`: it stops before the first number or
+// move, and leaves tags with a fault to be read anew, where that one reports the fault.
 fn read_normal_tags<B: Board>(
     text: &[u8],
     at: usize,
@@ -380,9 +381,9 @@ fn read_normal_tags<B: Board>(
 // there gives the same as reading from `at` (`IsReadOn`).
 //
 // The variant must be known before a FEN is read, and the tag `Variant` may come after the tag `FEN`. Most games are
-// of normal chess, so the tags are first read as such; the offset is then after them. If a tag names Chess960, or there
-// is a fault among the tags or right after them, the game is set to the initial position of its variant, and the offset
-// is `at`: the caller then reads the tags.
+// of normal chess, so the tags are first read as such; the offset is then after them. If that gives `None` (a tag names
+// Chess960, or the tags can't be read to their end), the game is set to the initial position of its variant, and the
+// offset is `at`: the caller then reads the tags.
 #[tactic(auto, using(crate::proofs::GameReads::first))]
 fn begin_game<B: Board>(text: &[u8], at: usize, game: &mut Game<B>) -> (Progress, usize)
     requires { at ≤ length text.now }

@@ -308,7 +308,7 @@ fn put_move<B: Board, W: Output>(
     // This law is called only for the prover: the SAN of a legal move has some bytes, and is short enough for a line.
     san_is_a_word();
     put_number(lines, board.setup(), is_first)?;
-    // `make_san` consumes `m`, so a second variable has the move, to take it back.
+    // The prover wants two variables: one has the move for `make_san`, the other for `take_back`.
     let again = m;
     let (text, saved) = make_san(board, m);
     match lines.put_token(text.as_slice()) {
