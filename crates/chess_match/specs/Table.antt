@@ -1,5 +1,6 @@
 -- What passes at the table of a match, in order: acts at its devices, and notes that its witness is given. A table has
--- both engines, the clock and a witness, such as the log; each call of it is one step.
+-- both engines, the clock and a witness, such as the log; each call of it is one step. A line and the clock read after
+-- it are one act and two steps.
 use Rattle.std.specs.Prelude.{ℕ, Bool, if◌then◌else◌, List, [], ◌∷◌, ◌++◌, Option, None, Some, Result, Ok, Err}
 use Rattle.byte_devices.specs.Transfers.{Devices}
 use Rattle.chess_base.specs.declared.man.Colour.{Colour}
@@ -30,8 +31,8 @@ reads (Line S text moment) = ReadsLine S text ∷ ReadsClock S moment ∷ []
 reads (Opened S moment) = ReadsClock S moment ∷ []
 reads event = Does (Happens event) ∷ []
 
--- the steps of a match that ended for this reason: its acts, in order, each with its note (the notes are those of
--- `notes_given`)
+-- the steps of a match that ended for this reason: those of its acts, in order, and the note of each (the notes are
+-- those of `notes_given`)
 abbrev pub watched : Reason → List Act → List Step
 watched reason [] = []
 -- the bytes of a block are noted before it is sent
