@@ -38,8 +38,8 @@ match_after r m (Happens event ∷ H) = match_after r (effect r m event).after H
 abbrev pub InEachMatch : (Rules → List Act → Match → Type 0) → Type 0
 InEachMatch P = (r : Rules) (H : List Act) (final : Match) → IsMatch r H final → P r H final
 
--- after any number of acts of every match `P` holds of the rules, of these acts (`before`), and of the match after them;
--- a line and the clock read after it are one act
+-- after any number of acts of every match `P` holds of the rules, of these acts (`before`), and of the match after
+-- them; a line and the clock read after it are one act
 abbrev pub AtEachMoment : (Rules → List Act → Match → Type 0) → Type 0
 AtEachMoment P = (r : Rules) (before after : List Act) (final : Match) → IsMatch r (before ++ after) final
     → P r before (match_after r beginning.after before)
