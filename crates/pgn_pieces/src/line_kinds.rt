@@ -59,7 +59,7 @@ pub(crate) fn kind_of(line: &[u8]) -> Kind
 
 // The text after the byte order mark (the bytes EF BB BF of UTF-8) at its front; all of the text, if it has none. Each
 // line's mark is left out, so that files with marks can be joined to one collection. chess_pgn has a function for the
-// mark too, `after_byte_order_mark`, but this crate uses only byte_devices.
+// mark too, `after_byte_order_mark`, but of this repository's crates this one uses only byte_devices.
 #[inline(always)]
 fn without_mark(text: &[u8]) -> &[u8]
     ensures { result.now ≡ without_mark text.now }
@@ -89,8 +89,8 @@ fn front_of(line: &[u8]) -> &[u8]
     without_mark(first_bytes(line))
 }
 
-// Whether a byte may be part of a tag's name: a letter, a digit or `_`. chess_pgn has this test too, but this crate
-// uses only byte_devices.
+// Whether a byte may be part of a tag's name: a letter, a digit or `_`. chess_pgn has this test too, but of this
+// repository's crates this one uses only byte_devices.
 #[inline(always)]
 fn is_name_byte(byte: u8) -> bool
     ensures { result ≡ is_name_byte byte }
@@ -98,7 +98,8 @@ fn is_name_byte(byte: u8) -> bool
     byte.is_ascii_alphanumeric() || byte == b'_'
 }
 
-// Whether a byte is a space or a tab. text_lines has this test too, but this crate uses only byte_devices.
+// Whether a byte is a space or a tab. text_lines has this test too, but of this repository's crates this one uses only
+// byte_devices.
 #[inline(always)]
 fn is_blank(byte: u8) -> bool
     ensures { result ≡ is_blank byte }
