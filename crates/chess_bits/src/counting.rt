@@ -177,7 +177,7 @@ impl Bits<'_> {
         ensures { result ≡ true → nat_lt 0 (length (moves self.now)) ≡ true }
     {
         let men = self.sets.of(self.setup.side);
-        let ordinary = self.without_special_pawns(self.surely_unpinned());
+        let ordinary = self.without_special_pawns(self.pins().free);
         let knights = men.of(Kind::Knight).intersection(ordinary);
         let pawns = men.of(Kind::Pawn).intersection(ordinary);
         if any(knights, |from| self.count_officer(Kind::Knight, from) > 0) {
