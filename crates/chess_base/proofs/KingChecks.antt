@@ -1,14 +1,14 @@
 -- Where a colour has one king, the attacks on his square decide whether it is in check.
-use Rattle.std.proofs.Common.{◌≡◌, ℕ, ◌<◌, Some, None, length, true, false, ◌&&◌, sym, ap, ◌∙◌}
-use Rattle.std.proofs.lemmas.Bool.{false_from_ne_true}
+use Rattle.std.proofs.Common.{◌≡◌, ℕ, ◌<◌, ◌≤◌, ◌-◌, None, length, true, false, ◌&&◌, sym, ap, ◌∙◌, arith}
 use Rattle.chess_base.specs.declared.man.Colour.{Colour}
+use Rattle.chess_base.specs.declared.man.Colour.TheVariants.{White, Black}
 use Rattle.chess_base.specs.declared.man.Kind.TheVariants.{King}
 use Rattle.chess_base.specs.Men.{Men, man_at, is_man, other}
 use Rattle.chess_base.specs.Attacks.{is_attacked, is_in_check}
-use Rattle.chess_base.specs.Castling.{king_square}
 use Rattle.chess_base.specs.Sound.{has_one_king}
+use Rattle.chess_base.specs.ties.Lines.{square_from_side}
 use Rattle.chess_base.proofs.shared.Squares.{some_square-none, one_decides}
-use Rattle.chess_base.proofs.shared.Kings.{one_king, king_square-at}
+use Rattle.chess_base.proofs.shared.Kings.{one_king}
 
 pub check_at_king : (men : Men) (c : Colour) (s : ℕ) → s < 64 → length men ≡ 64 → has_one_king men c ≡ true
     → is_man c King (man_at men s) ≡ true → is_attacked men s (other c) ≡ is_in_check men c
@@ -17,13 +17,19 @@ check_at_king men c s low all one there =
     one_decides (λ k. is_man c King (man_at men k)) (λ k. is_attacked men k (other c)) s low there
     (λ k _ e fails. ap (λ t. is_attacked men t (other c)) (one_king men c k s all one e there) ∙ fails)
 
-pub no_check_without_king : (men : Men) (c : Colour) → length men ≡ 64 → has_one_king men c ≡ true
-    → king_square men c ≡ None → false ≡ is_in_check men c
+pub no_check_without_king : (men : Men) (c : Colour)
+    → ((k : ℕ) → k < 64 → is_man c King (man_at men k) ≡ false) → false ≡ is_in_check men c
 unfolding is_in_check
-no_check_without_king men c all one nowhere =
+no_check_without_king men c none =
     sym (some_square-none (λ k. is_man c King (man_at men k) && is_attacked men k (other c))
-    (λ k low. ap (λ v. v && is_attacked men k (other c)) (no_king k)))
-  where
-    no_king : (k : ℕ) → is_man c King (man_at men k) ≡ false
-    no_king k = false_from_ne_true _
-        (λ here. let at : Some k ≡ None = sym (king_square-at men c k all one here) ∙ nowhere in cc)
+    (λ k low. ap (λ v. v && is_attacked men k (other c)) (none k low)))
+
+from_h8 : (k : ℕ) → k < 64 → 63 - (63 - k) ≡ k
+from_h8 k low = omega arith
+
+-- a search from either side of the board looks at each square
+pub none_from_side : (men : Men) (c : Colour)
+    → ((k : ℕ) → k < 64 → is_man c King (man_at men (square_from_side c k)) ≡ false)
+    → (k : ℕ) → k < 64 → is_man c King (man_at men k) ≡ false
+none_from_side men White h k low = h k low
+none_from_side men Black h k low = rw (from_h8 k low) at (h (63 - k) (omega arith))

@@ -95,3 +95,11 @@ attacked_from_above men b c =
     attacked_by_knight_from_above men c b || attacked_along_from_above men Rank c b
     || attacked_along_from_above men Antidiagonal c b || attacked_along_from_above men File c b
     || attacked_along_from_above men Diagonal c b
+
+-- ---- the search for a king
+
+-- the square that comes after k others, counted from colour c's side of the board: from a1 on for White, from h8 back
+-- for Black
+abbrev pub square_from_side : Colour → ℕ → ℕ
+square_from_side White k = k
+square_from_side Black k = 63 - k

@@ -1,0 +1,18 @@
+-- The search from the king's own side of the board looks at each square (KingChecks).
+use Rattle.std.proofs.Common.{arith, ◌≡◌, true}
+use Rattle.std.proofs.lemmas.Grind.{common_steps}
+use Rattle.chess_base.specs.declared.man.Kind.TheVariants.{King}
+use Rattle.chess_base.specs.Men.{man_at, is_man}
+use Rattle.chess_base.proofs.KingChecks.{none_from_side}
+use Rattle.chess_base.proofs.attack.nearest_king.Goals as goal
+
+pub returns-then-is_man-clause-found : goal.returns-then-is_man-clause-found
+returns-then-is_man-clause-found c s e =
+    let there : is_man c.args.colour King (man_at c.args.men.now c.square_from_side-square.result) ≡ true =
+    grind (arith, common_steps) in
+    let same : c.square_from_side-square.result ≡ s = cc in
+    rw same at there
+
+pub returns-clause-none : goal.returns-clause-none
+returns-clause-none c e =
+    none_from_side c.args.men.now c.args.colour (λ k low. c.loop-number.invariant k (omega arith))

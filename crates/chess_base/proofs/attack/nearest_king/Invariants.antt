@@ -1,0 +1,9 @@
+use Rattle.std.proofs.Common.{◌≡◌, ℕ, ◌<◌, false}
+use Rattle.chess_base.specs.declared.man.Kind.TheVariants.{King}
+use Rattle.chess_base.specs.Men.{man_at, is_man}
+use Rattle.chess_base.specs.ties.Lines.{square_from_side}
+use Rattle.chess_base.proofs.attack.nearest_king.Given as goal
+
+abbrev pub invariant-loop-number : goal.invariant-loop-number
+invariant-loop-number l = (k : ℕ) → k < l.number
+    → is_man l.colour King (man_at l.men (square_from_side l.colour k)) ≡ false
