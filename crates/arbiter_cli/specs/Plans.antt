@@ -39,8 +39,8 @@ pub record Said : Type 0 where
 abbrev pub text_or : Text → Values → Text → Text
 text_or name value default = unwrap_or (value name) default
 
--- how many games `--games` asks for, in decimal, where a `+` may come first; 1 without `--games`. That its value is a
--- number is not checked here, but by the grammar (`games_rule`)
+-- how many games `--games` asks for; 1 without `--games`. Its value is a decimal number, perhaps with a `+` in front:
+-- the grammar takes no other (`games_rule`)
 abbrev pub games_in : Values → ℕ
 games_in value = option_map_or (λ t. digits_value 10 (without_leading_plus t)) (value (codes "games")) 1
 
@@ -98,8 +98,8 @@ pub record IsMatchPlan (value : Values) (plan : MatchPlan) : Type 0 where
   pub date : plan.date.now ≡ date_asked value
   pub log : plan.log ≡ is_set (codes "log") value
 
--- the plan is the one that the arguments, which say `said`, ask for: that of their subcommand, with fields as the
--- options say; the plan of `stub` contains the arguments after `stub`, in order
+-- the plan is what the arguments ask for; `said` is their subcommand, its options, and the words after `stub`. The
+-- fields of the plan are as the options say; the plan of `stub` has these words, in order
 abbrev pub IsPlanOf : Said → Plan → Type 0
 IsPlanOf said Session = said.command ≡ codes "session"
 IsPlanOf said (Verify v) = (said.command ≡ codes "verify") × (v ≡ verify_plan_of said.value)

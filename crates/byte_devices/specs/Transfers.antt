@@ -1,4 +1,4 @@
--- What a run (a call of a function that reads and writes, such as a session) reads from an input and writes to an
+-- What a run (a call of a function that reads and writes, such as `run_session`) reads from an input and writes to an
 -- output, no matter by how many reads and writes. Contracts describe it by two values, a `FromInput` and a `ToOutput`;
 -- the relations here say how the devices' states before and after the run agree with them.
 use Rattle.std.specs.Prelude.{◌≡◌, ℕ, ◌-◌, ◌^◌, min, Bool, true, false, if◌then◌else◌, List, [], ◌++◌, length, take}
@@ -42,9 +42,9 @@ pub record InputGave (r r' : InputState) (i : FromInput) : Type 0 where
   pub early : i.early ≡ take (length i.text - r'.last_len) i.text
   -- if the end was reported, no known byte is left
   pub at_end : i.ended ≡ true → IsAtEnd r'.known_bytes
-  -- one more report of the end was counted if the end was reported, else none
+  -- if the end was reported, one more report of it was counted; otherwise the count stayed
   pub ends : r'.end_count ≡ saturating_increment_if i.ended r.end_count
-  -- one more failure was counted if a read failed, else none
+  -- if a read failed, one more failure was counted; otherwise the count stayed
   pub failures : r'.failure_count ≡ saturating_increment_if i.failed r.failure_count
 
 -- from its state `w` to `w'` the output took just what `o` says
@@ -53,7 +53,7 @@ pub record OutputTook (w w' : OutputState) (o : ToOutput) : Type 0 where
   pub bytes : Appends w.known_bytes w'.known_bytes (o.flushed ++ o.left)
   -- if no byte is unflushed in `w`, as many are in `w'` as `o.left` has (the count stops at 2 ^ 64 - 1)
   pub unflushed : w.unflushed ≡ 0 → w'.unflushed ≡ min (length o.left) (2 ^ 64 - 1)
-  -- one more failure was counted if a write or a flush failed, else none
+  -- if a write or a flush failed, one more failure was counted; otherwise the count stayed
   pub failures : w'.failure_count ≡ saturating_increment_if o.failed w.failure_count
 
 -- there are an `i` and an `o` for which `P i o` holds, and from the devices' states `d` to `d'` the input gave just

@@ -227,8 +227,9 @@ pub fn castling(setup: &Setup, m: &Move) -> Option<CastlingSide>
     }
 }
 
-/// The four squares of this colour's castling to this side: the king starts on `king`, the rook on `rook`. For White's
-/// on the king's side from `e1` and `h1` the ends are `g1` and `f1`. Whether king and rook are there is not asked.
+/// Where the king and the rook start and end when this colour castles to this side with the king on `king` and the rook
+/// on `rook`: for White's king side, from `e1` and `h1`, they end on `g1` and `f1`. Whether they are there is not looked
+/// at.
 pub fn castle_from(
     colour: Colour,
     castling_side: CastlingSide,

@@ -42,10 +42,10 @@ fn behind(colour: Colour, squares: SquareSet) -> SquareSet
     ahead(colour.other(), squares)
 }
 
-// The squares from which a pawn of this colour attacks a square of the set by a capture towards the a-file: a white
-// pawn attacks d5 so from e4. The set is moved one file right, then one rank back. A square of the h-file would arrive
-// on the a-file (for White h5 on a5), so the a-file is taken out. (Nothing is said of squares of rank 1, nor of White's
-// last rank: no pawn is there.)
+// The squares from which a pawn of this colour attacks a square of the set towards the a-file: for White and {d5} it is
+// e4. The set is moved one file right and one rank back. By that a square of the h-file comes onto the a-file (for White
+// h5 onto a5), so the a-file is taken out. The contract says nothing of pawns on rank 1, or of White's on rank 8: there
+// are none.
 #[inline(always)]
 fn attacking_left(colour: Colour, squares: SquareSet) -> SquareSet
     ensures { (k : ℕ) → k < 64 → 8 ≤ k → forward colour k < 64
@@ -55,9 +55,9 @@ fn attacking_left(colour: Colour, squares: SquareSet) -> SquareSet
     starts.without(SquareSet::of_file(0))
 }
 
-// The squares from which a pawn of this colour attacks a square of the set by a capture towards the h-file: a white
-// pawn attacks d5 so from c4. The set is moved one file left, then one rank back. A square of the a-file would arrive
-// on the h-file (for White a5 on h3), so the h-file is taken out.
+// The squares from which a pawn of this colour attacks a square of the set towards the h-file: for White and {d5} it is
+// c4. The set is moved one file left and one rank back. By that a square of the a-file comes onto the h-file (for White
+// a5 onto h3), so the h-file is taken out.
 #[inline(always)]
 fn attacking_right(colour: Colour, squares: SquareSet) -> SquareSet
     ensures { (k : ℕ) → k < 64 → 8 ≤ k

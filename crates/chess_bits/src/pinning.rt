@@ -16,7 +16,7 @@ use chess_base::{Kind, Square};
 use chess_moves::{Board, SquareSet};
 
 // The effect of pins and checks on the pieces of the side on move, but the king: which may go anywhere, and where the
-// others may go. It is found once, before the moves are listed or counted.
+// others may go. It is found once, before the moves are listed or counted, or one is looked for (`has_easy_move`).
 #[derive(Clone, Copy)]
 pub(crate) struct Pins {
     // Pieces whose king is safe wherever they go (except perhaps by en passant): it is not in check, and they are not

@@ -31,8 +31,8 @@ right_letter Fischerandom c w s = first_letter c + file s
 
 -- ---- normal chess
 
--- normal chess: the castling right with this letter, given as its rook's square: `corner`, if the letter is in the
--- castling field `letters`; else none
+-- normal chess: the castling right with this letter, given as its rook's square: `corner` if the letter is in the
+-- castling field `letters`, otherwise `None`
 abbrev pub right_named : List ℕ → ℕ → ℕ → Option ℕ
 right_named letters letter corner = if occurs letter letters then Some corner else None
 
@@ -65,9 +65,9 @@ rook_named men c w letter =
     if letter == side_letter c w then find (λ s. is_man c Rook (man_at men s)) (from_edge c w)
     else Some (home_square c (letter - first_letter c))
 
--- a castling right, by what `rook_named` gives for each letter that names it: its rook's square, or `Some None`, that
--- it is not there, if no letter names it. `None` if it is named wrongly: by several letters, or by one for which there
--- is no rook
+-- one castling right, from what `rook_named` gives for each letter that names it. No letter: the right is not there
+-- (`Some None`). One letter, for which there is a rook: the right is there, given as the rook's square. Several letters,
+-- or one for which there is no rook: the right is named wrongly (`None`)
 abbrev pub right_by : List (Option ℕ) → Option (Option ℕ)
 right_by [] = Some None
 right_by (Some s ∷ []) = Some (Some s)

@@ -157,8 +157,8 @@ fn outer_rook(men: &[Option<Man>; 64], colour: Colour, castling_side: CastlingSi
     nowhere()
 }
 
-// Whether square `s` is on that side of the king, both on one rank: on the queen's side if it is nearer to the a-file
-// than he is, else on the king's, where each square is without a king.
+// Whether square `s`, which is on the king's rank, is on that side of him: for the queen's side, whether it is nearer to
+// the a-file than he is; for the king's side, whether it is not. Without a king each square is on the king's side.
 fn is_towards(castling_side: CastlingSide, king: Option<Square>, s: Square) -> bool
     ensures { result ≡ is_towards castling_side king s }
 {

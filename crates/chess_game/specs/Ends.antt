@@ -50,10 +50,10 @@ abbrev pub mate_by : Colour → Verdict
 mate_by White = WhiteMates
 mate_by Black = BlackMates
 
--- why the game from `start` by the moves ms is over by its present position, the first that holds of: no legal move
--- (mate if in check, otherwise stalemate); insufficient material; the position is there at least for the fifth time;
--- the halfmove clock, which continues from that of `start`, is at least 150, 75 moves of each side without a pawn move
--- or capture. `None` if none holds
+-- why the game from `start` by the moves ms is over without a declared result. It is the first of these that holds: no
+-- legal move (mate if in check, otherwise stalemate); insufficient material; the present position is there at least for
+-- the fifth time; the halfmove clock, which continues from that of `start`, is at least 150, 75 moves of each side
+-- without a pawn move or capture. `None` if none holds
 unfoldable pub verdict : Setup → List Move → Option Verdict
 verdict start ms =
     let p = position_after start ms in
@@ -82,10 +82,10 @@ verdict_comment SeventyFiveMoves = codes "75-move rule"
 abbrev pub verdict_result : Verdict → List ℕ
 verdict_result v = result_text (verdict_outcome v) (verdict_comment v)
 
--- what the player on move may claim a draw by, after the moves ms from `start`: the position is there at least for the
--- third time (9.2.2); the halfmove clock, which continues from that of `start`, is at least 100, 50 moves of each side
--- without a pawn move or capture (9.3.2). Claims with a move yet to be made (9.2.1, 9.3.1) are not included. Whether
--- the game is over is not asked
+-- which draws the player on move may claim after the moves ms from `start`. Threefold repetition: the position is there
+-- at least for the third time (9.2.2). 50 moves: the halfmove clock, which continues from that of `start`, is at least
+-- 100, 50 moves of each side without a pawn move or capture (9.3.2). Claims with a move yet to be made (9.2.1, 9.3.1)
+-- are not included. It makes no difference here whether the game is over
 abbrev pub claims : Setup → List Move → Claims
 claims start ms = record {
   threefold = nat_le 3 (repetition_count start ms);

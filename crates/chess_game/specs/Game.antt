@@ -119,7 +119,7 @@ abbrev pub after_declare : Seen → Declared → Seen
 after_declare g d = if contradicts_verdict (verdict_now g.state) d.outcome then g
     else with_state g (with_declared g.state (Some d))
 
--- the error for declaring a result with outcome o, if a verdict has another outcome; else none
+-- the error for declaring a result with outcome o: there is one if a verdict has another outcome
 abbrev pub declare_refusal : Seen → Outcome → Option BoardSaysOtherwise
 declare_refusal g o = if contradicts_verdict (verdict_now g.state) o then Some (record {}) else None
 

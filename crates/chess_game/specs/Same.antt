@@ -33,8 +33,8 @@ same_colour_rights r q = same_square r.king_side q.king_side && same_square r.qu
 unfoldable pub same_rights : Rights → Rights → Bool
 same_rights r q = same_colour_rights r.white q.white && same_colour_rights r.black q.black
 
--- the en passant target of p, if some legal move captures en passant; else none, even if p has a target: positions
--- differ by a capture en passant only if it can be played (9.2.3.1)
+-- the en passant target of p if some legal move captures en passant, otherwise `None`: positions differ by a capture en
+-- passant only if it can be played (9.2.3.1)
 unfoldable pub legal_en_passant_square : Setup → Option ℕ
 legal_en_passant_square p = if list_any (λ m. is_en_passant p m) (moves p) then p.target else None
 

@@ -15,14 +15,16 @@ pub record Block : Type 0 where
   pub to : Colour
   pub lines : List SentLine
 
--- one act of the arbiter, at an engine's input, at an engine's output or at the clock
+-- one act of the arbiter: it sends an engine a block, or fails to send it, or reads: from an engine's output, from the
+-- clock, or from both
 pub data Act : Type 0 where
   -- a block was written and flushed
   Sends : (block : Block) → Act
   -- a write or a flush failed while this block was sent; a beginning of it, or all of it, may have been written
   SendFails : (block : Block) → Act
-  -- this event was read: a line and right after it the clock (`Line`), the clock once the lines that open a turn were
-  -- sent (`Opened`), the end of an output (what follows its last `\n` is no line), or a failure to read
+  -- an event was read: a line, and right after it the clock (`Line`); the clock, when the lines that open a turn had
+  -- been sent (`Opened`); the end of an engine's output (`OutputEnds`; bytes after its last `\n` are no line); or a
+  -- failure to read (`FailsToRead`)
   Happens : (event : Event) → Act
 
 -- ---- what is due

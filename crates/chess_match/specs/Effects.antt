@@ -134,7 +134,7 @@ sends_nothing m = record { after = m; to = λ S. [] }
 abbrev pub sends_to : Colour → List SentLine → Match → Effect
 sends_to side lines m = record { after = m; to = λ S. list_if (same_colour side S) lines }
 
--- the match `m` once it has gone on to this phase, in which no line was counted yet
+-- the match `m` at the beginning of this phase: no line was counted in it yet
 abbrev pub enter : Phase → Match → Match
 enter phase m = record m { phase = phase; count = 0 }
 

@@ -105,8 +105,8 @@ PlayedNoting noted setup end w w' =
     (H : List Act) × (reason : Reason) × noted (notes_given reason H) × PlayedBy H reason setup end w w'
 
 -- a match was played at a table as `setup` says, and reported as `end`. From the state `old` of the table to `new`
--- there passed just the acts of this match, in order, each with its note (`watched`). The game was `g` before. It is
--- `g'` after: it has this start, the moves of the match, and the result as in `PlayedBy`
+-- just the steps of the match's acts passed, in order, and its notes (`watched`). The game was `g` before. It is `g'`
+-- after: it has this start, the moves of the match, and the result as in `PlayedBy`
 abbrev pub PlayedAt : Setup → MatchEnd → Passing → Passing → game.Seen → game.Seen → Type 0
 PlayedAt setup end old new g g' =
     let r = rules_of setup.start setup.level g.limit in

@@ -22,7 +22,7 @@ use Rattle.cecp_engine.specs.Levels.{LevelSeen}
 use Rattle.chess_base.specs.declared.man.Variant.{Variant}
 
 -- what a match needs to know of its game: first what is fixed when it begins, then functions of the moves played so
--- far, from which alone a match learns what moves mean. The type allows any values; the comments describe those that
+-- far. From these alone a match learns what a move means. The type allows any values; the comments describe those that
 -- `rules_of`, below, gives for chess
 pub record Rules : Type 0 where
   -- normal chess or Chess960

@@ -1,6 +1,6 @@
--- What passes at the table of a match, in order: acts at its devices, and notes that its witness is given. A table has
--- both engines, the clock and a witness, such as the log; each call of it is one step. A line and the clock read after
--- it are one act and two steps.
+-- What passes at the table of a match, step by step: what is sent, read and noted. A table has both engines, the clock
+-- and a witness, such as the log, which is given the notes; each call of it is one step. An act of the match may be
+-- several steps: to read a line, to read the clock, and to note the line is one act.
 use Rattle.std.specs.Prelude.{ℕ, Bool, if◌then◌else◌, List, [], ◌∷◌, ◌++◌, Option, None, Some, Result, Ok, Err}
 use Rattle.byte_devices.specs.Transfers.{Devices}
 use Rattle.chess_base.specs.declared.man.Colour.{Colour}

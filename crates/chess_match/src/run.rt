@@ -167,8 +167,9 @@ pub fn run_match_watched<R: Input, W: Output, M: Moments, B: Board, L: Witness>(
 
 /// Plays one game at a table, as [`run_match`] does between two engines.
 ///
-/// The contract says which steps passed at the table, in their order: the acts of a match, each with its note. What an
-/// engine is sent is noted before it is written, and a line when the clock was read after it, before anything else.
+/// The contract says which steps passed at the table, in their order: those of the acts of a match, with their notes.
+/// What an engine is sent is noted before it is written, and a line when the clock was read after it, before anything
+/// else.
 #[tactic(auto, using(crate::proofs::OnTheWay::reported_outcome))]
 pub fn run_match_at<T: MatchTable, B: Board>(
     table: &mut T,

@@ -103,7 +103,7 @@ string_at (c ∷ d ∷ rest) =
     else (if c == byte "\\" then (if d == new_line then None else onto (c ∷ d ∷ []) (string_at rest))
     else onto (c ∷ []) (string_at (d ∷ rest))))
 
--- the text after its first byte, if that byte is `b`; else none
+-- the text after its first byte if that byte is `b`, otherwise `None`
 abbrev pub after_byte : ℕ → List ℕ → Option (List ℕ)
 after_byte b [] = None
 after_byte b (c ∷ rest) = if c == b then Some rest else None

@@ -60,8 +60,8 @@ abbrev pub is_empty_line : List ℕ → Bool
 is_empty_line line = bytes_eq (take 1 (front_of line)) (codes "%") || bytes_eq (take 1 (front_of line)) (codes ";")
     || list_all is_white (front_of line)
 
--- whether a line counts as one of moves: any line that is neither a tag line nor empty, so also one of a comment, or of
--- a tag that `is_tag_line` doesn't take
+-- whether a line counts as one of moves: any line that is neither a tag line nor empty. So a line of a comment does, and
+-- a tag that `is_tag_line` does not take
 abbrev pub is_moves_line : List ℕ → Bool
 is_moves_line line = not (is_tag_line line || is_empty_line line)
 
@@ -113,14 +113,14 @@ abbrev pub with_offsets : ℕ → List (List ℕ) → List Piece
 with_offsets offset [] = []
 with_offsets offset (bytes ∷ rest) = piece_at offset bytes ∷ with_offsets (offset + length bytes) rest
 
--- the pieces from this offset of an input on, where a piece begins, as far as they are known by this text, which
--- follows there. If the input ends after the text (`ended`), all are known; else all but the last, which may go on
+-- the pieces of an input that are known if this text follows at this offset, where a piece begins: all pieces of the
+-- text if the input ends after it (`ended`), otherwise all but the last, which may go on
 abbrev pub pieces_from : Bool → ℕ → List ℕ → List Piece
 pieces_from ended offset text =
     let all = cut text in with_offsets offset (if ended then all else take (length all - 1) all)
 
--- the pieces that are known of an input whose first bytes are this text: all, if it has no more bytes (`ended`), else
--- all but the last, which may go on
+-- the pieces that are known of an input whose first bytes are this text: all, if it has no more bytes (`ended`),
+-- otherwise all but the last, which may go on
 unfoldable pub pieces : Bool → List ℕ → List Piece
 pieces ended text = pieces_from ended 0 text
 

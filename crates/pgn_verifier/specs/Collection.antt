@@ -11,9 +11,9 @@ use Rattle.pgn_verifier.specs.declared.tally.Verified.{Verified}
 use Rattle.pgn_verifier.specs.Reports.{Report, AreReportsIn, report_lines, counts_line, counts_of, verified}
 
 -- `reports` are those on the games of a collection of which `text` was read, piece after piece: on all pieces of the
--- text if the collection ends after it (`ended`), else on all but the last piece, which may be incomplete. `strict`: an
--- outcome mark, such as `1-0`, that contradicts the tag Result or the board's verdict is a fault. `by_piece` gives the
--- reports on each piece
+-- text if the collection ends after it (`ended`), otherwise on all but the last piece, which may be incomplete.
+-- `strict`: an outcome mark, such as `1-0`, that contradicts the tag Result or the board's verdict is a fault.
+-- `by_piece` gives the reports on any one piece
 abbrev pub AreCollectionReports : Bool → Bool → List ℕ → List Report → Type 0
 AreCollectionReports strict ended text reports = (by_piece : Piece → List Report)
     × ((piece : Piece) → AreReportsIn strict piece (by_piece piece)) × (reports ≡ flat_map by_piece (pieces ended text))

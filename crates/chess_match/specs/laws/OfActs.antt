@@ -71,8 +71,8 @@ LinesAreReadInOrder = (reason : Reason) (H : List Act) (before after : List Step
     → (moment : ℕ) × (rest : List Step)
     × (after ≡ ReadsClock S moment ∷ Notes (Happened (Line S text moment)) ∷ rest)
 
--- wherever acts follow in a match, whatever it is and whatever is due (`IsMatchFrom`): nothing is due if an event comes
--- first: if a line is read, the clock is read, an output ends or a read fails
+-- in a match from any state on (`IsMatchFrom`): if the next act is an event (a line or the clock is read, an output
+-- ends, or a read fails), nothing is due
 abbrev pub NothingIsDueAtEvents : Type 0
 NothingIsDueAtEvents = (r : Rules) (m final : Match) (due : List Block) (event : Event) (H : List Act)
     → IsMatchFrom r m due (Happens event ∷ H) final → due ≡ []
@@ -138,8 +138,8 @@ only_sends (Sends block ∷ H) = only_sends H
 only_sends (SendFails block ∷ H) = only_sends H
 only_sends (_ ∷ H) = false
 
--- in every match that ended for what a line of the side `S` did, such as an illegal move: the last line read is of `S`,
--- and after it only blocks were sent
+-- in every match that ended by a line of the side `S`, such as one with an illegal move: the last line read is one of
+-- `S`, and after it only blocks were sent
 abbrev pub LastLineIsTheirs : Type 0
 LastLineIsTheirs = (r : Rules) (reason : Reason) (S : Colour) (H : List Act) (final : Match) → IsMatch r H final
     → final.phase ≡ Over reason → whose_line reason ≡ Some S
