@@ -26,7 +26,8 @@ pub struct Item<'a> {
     pub value: Value<'a>,
 }
 
-// Whether a byte may be in an item's name: letters, digits and `_`.
+// Whether a byte may be in an item's name: letters, digits and `_`. Tags have names of the same bytes, so chess_pgn and
+// pgn_pieces have this test too; but an engine's lines are read without these crates.
 fn is_name_byte(byte: u8) -> bool
     ensures { result ≡ is_name_byte byte }
 {
@@ -95,7 +96,7 @@ fn read_value(text: &[u8]) -> Option<(Value<'_>, &[u8])>
 }
 
 // Whether an item may end before this text: it is empty, or begins with a space or tab.
-fn is_apart(text: &[u8]) -> bool
+fn may_follow_item(text: &[u8]) -> bool
     ensures { result ≡ may_follow_item text.now }
 {
     match text {
@@ -124,7 +125,7 @@ pub fn next_item(text: &[u8]) -> Option<(Item<'_>, &[u8])>
             match read_value(tail) {
                 None => None,
                 Some((value, rest)) => {
-                    if is_apart(rest) {
+                    if may_follow_item(rest) {
                         Some((Item { name, value }, trim_start(rest)))
                     } else {
                         None

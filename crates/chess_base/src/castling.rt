@@ -117,7 +117,12 @@ fn is_to_side(castling_side: CastlingSide, k: Square, s: Square) -> bool
 
 // Whether the king's square and s are on the colour's first rank, and s lies on that side of the king; false if there
 // is no king.
-fn is_beside(colour: Colour, castling_side: CastlingSide, king: Option<Square>, s: Square) -> bool
+fn is_on_side_of_king(
+    colour: Colour,
+    castling_side: CastlingSide,
+    king: Option<Square>,
+    s: Square,
+) -> bool
     ensures { result ≡ is_on_side_of_king colour castling_side king s }
 {
     match king {
@@ -153,7 +158,7 @@ fn are_placed_for_castling(
         }
         Variant::Fischerandom => {
             let man = men[rook.index()];
-            is_beside(colour, castling_side, king_square(men, colour), rook)
+            is_on_side_of_king(colour, castling_side, king_square(men, colour), rook)
                 && is_man(colour, Kind::Rook, man)
         }
     }
@@ -329,7 +334,7 @@ fn is_on_way(a: Square, b: Square, x: Square) -> bool
 // Whether by this castling king or rook crosses x or ends there, and neither of the two starts there: x must then be
 // empty. For White's castling on the king's side in normal chess these are f1 and g1.
 #[tactic(auto, unfolding(crate::specs::Castling::castling_needs_empty))]
-fn castling_crosses(castle: &Castle, x: Square) -> bool
+fn castling_needs_empty(castle: &Castle, x: Square) -> bool
     ensures { result ≡ castling_needs_empty castle.now x }
 {
     (is_on_way(castle.king_from, castle.king_to, x)
@@ -339,14 +344,15 @@ fn castling_crosses(castle: &Castle, x: Square) -> bool
 }
 
 // Whether each square that king or rook crosses or ends on is empty (Laws of Chess 2023, article 3.8.2.2.2). The two
-// squares where they start are left out, by `castling_crosses`: in Chess960 one piece may cross or end on the other's.
+// squares where they start are left out, by `castling_needs_empty`: in Chess960 one piece may cross or end on the
+// other's.
 #[tactic(auto, unfolding(crate::specs::Castling::castling_way_is_empty))]
 fn castling_way_is_empty(men: &[Option<Man>; 64], castle: &Castle) -> bool
     ensures { result ≡ castling_way_is_empty men.now castle.now }
 {
     for number in 0..64 {
         let x = Square::new(number);
-        if castling_crosses(castle, x) && men[x.index()].is_some() {
+        if castling_needs_empty(castle, x) && men[x.index()].is_some() {
             return false;
         }
     }

@@ -87,7 +87,8 @@ impl Kinds {
     }
 
     /// Moves a piece of this kind from one square to another, which is empty: in the set of its kind, and in the set of
-    /// all. `lift` and then `put` would give the same sets, but write each of them twice.
+    /// all. `lift` and then `put` would give the same sets, but write each of them twice. It is part of the fast way to
+    /// make a move: `shift` of placing.rt says what that gained.
     #[inline(always)]
     pub fn shift(&mut self, kind: Kind, from: Square, to: Square)
         ensures kinds { (men : Men) → (c : Side) → length men ≡ 64

@@ -117,7 +117,8 @@ impl Bits<'_> {
 
     // Whether the move `m` is neither the king's nor a pawn's to the en passant target: then only what is on its two
     // squares changes, and the king stays where it is. `goes_plainly` of placing.rt also accepts the king's moves, if
-    // there are no castling rights.
+    // there are no castling rights: they too change only two squares, but the king has to be safe where it goes, not
+    // where it is.
     #[inline(always)]
     fn steps_plainly(&self, m: &Move) -> bool
         ensures { result ≡ (not (is_man (self.now).side King (man_at (self.now).men m.now.from))

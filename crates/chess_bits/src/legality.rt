@@ -98,7 +98,7 @@ impl Bits<'_> {
 
     // Those of the squares `men` from which the piece there may legally go to `to`; each move gets the general test.
     // The caller knows that all these moves are pseudo-legal and name no promotion. It is called for pawns that may
-    // take en passant, which is rare, so it is not inlined.
+    // take en passant, by which a third square changes. That is rare, so it is not inlined.
     #[inline(never)]
     fn tried_starts(&self, men: SquareSet, to: Square) -> SquareSet
         requires { (k : ℕ) → k < 64 → contains men k ≡ true → is_pseudo_legal self.now (move_of k to None) ≡ true }
@@ -115,7 +115,8 @@ impl Bits<'_> {
 
     // Those of the squares `men` from which the piece there may legally go to `to`; each move gets the short test. The
     // caller knows that all these moves are pseudo-legal and name no promotion, and that none is the king's or en
-    // passant (`StepsPlainly`).
+    // passant (`StepsPlainly`). `tried_starts` would give the same squares, but its test would ask of each move again
+    // whether it is the king's or en passant.
     #[inline(always)]
     fn safe_starts(&self, men: SquareSet, to: Square) -> SquareSet
         requires { (k : ℕ) → k < 64 → contains men k ≡ true → StepsPlainly self.now (move_of k to None) }

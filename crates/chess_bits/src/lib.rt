@@ -12,6 +12,8 @@
 // of them became calls, and walks that list, count, make and take back moves (as the workload boards does) took 4 %
 // more instructions. A function with a reason of its own for it says so.
 //
+// A loop over a set calls its `take_first` and not its iterator; `Squares` of chess_moves says why.
+//
 // Some words of the comments. A set of squares is a word of 64 bits, a1's the lowest and h8's the highest. An officer
 // is a queen, rook, bishop or knight. A piece of the side on move is free if its king is safe wherever it goes, except
 // perhaps by a capture en passant: it is not the king and not pinned, and the king is not in check. It is ordinary if

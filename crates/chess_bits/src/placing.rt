@@ -212,7 +212,8 @@ fn halfmove_left(setup: &Setup, man: Man, taken: Option<Man>) -> u32
 }
 
 // Changes in `setup` all that a move changes besides the pieces: the other side is on move, and the fullmove number
-// rises after Black's move. Castling rights, en passant target and halfmove clock become the given ones.
+// rises after Black's move. Castling rights, en passant target and halfmove clock become the given ones. `move_on` of
+// chess_moves ends with the same lines, but is private there, and changes the pieces without the sets.
 #[inline(always)]
 fn end_turn(setup: &mut Setup, rights: Rights, target: Option<Square>, halfmove: u32)
     ensures { setup.new ≡ record {
@@ -322,7 +323,9 @@ pub(crate) fn move_back(
 {
     let steps = steps_back(setup, m, saved);
     take_steps(&mut setup.men, sets, keys, &steps);
-    // As in chess_moves' `move_back`, which is private there and keeps no sets.
+    // `move_back` of chess_moves ends with the same lines, but is private there, and keeps no sets. A public function
+    // for these lines alone would take a setup that is no position: its pieces are those before the move, all else is
+    // as after it.
     setup.side = setup.side.other();
     setup.rights = saved.rights;
     setup.target = saved.target;

@@ -37,7 +37,9 @@ pub(crate) fn is_pawn(kind: Kind) -> bool
 }
 
 // The end square of the move that is this castling: in normal chess the square where the king ends, in Chess960 the one
-// where the rook starts. chess_base's `names_castling` knows it too, but only tests a move's squares.
+// where the rook starts. chess_base's `names_castling` knows it too, but only tests a move's squares. chess_text has a
+// function for it, `castling_end`, which also answers where there is no right, and so no `Castle`; neither of the two
+// crates uses the other.
 fn named_square(variant: Variant, castle: &Castle) -> Square
     ensures { result ≡ named_square variant castle.now }
 {

@@ -21,7 +21,7 @@ use crate::iter::{Moves, Positions};
 use crate::packed::PackedPosition;
 use crate::repetition::Hashed;
 use crate::results::{Comment, Declared, Outcome};
-use crate::verdicts::{Claims, Verdict, has_insufficient_material, mates};
+use crate::verdicts::{Claims, Verdict, has_insufficient_material, mate_by};
 use chess_base::{Colour, Man, Move, Position, Variant};
 use chess_moves::Board;
 use std::alloc::{AllocError, Global};
@@ -153,7 +153,7 @@ fn verdict_on<B: Board>(board: &B, played_moves: &[PlayedMove]) -> Option<Verdic
     if board.has_legal_move() {
         verdict_of_moving(board, played_moves)
     } else if board.in_check() {
-        Some(mates(board.setup().side.other()))
+        Some(mate_by(board.setup().side.other()))
     } else {
         Some(Verdict::Stalemate)
     }

@@ -126,7 +126,7 @@ impl DrawClaim {
 }
 
 // The verdict that the side of this colour has mated the other.
-pub(crate) fn mates(colour: Colour) -> Verdict
+pub(crate) fn mate_by(colour: Colour) -> Verdict
     ensures { result ≡ mate_by colour }
 {
     match colour {

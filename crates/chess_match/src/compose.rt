@@ -150,7 +150,7 @@ fn add_end_lines(block: &mut Block, core: &MatchState, side: Colour, reason: Rea
 }
 
 // Whether this reason is that writing to this side failed.
-fn is_unwritten(reason: Reason, side: Colour) -> bool
+fn is_write_fault_of(reason: Reason, side: Colour) -> bool
     ensures { result ≡ is_write_fault_of reason side }
 {
     match reason {
@@ -189,7 +189,7 @@ fn add_entry<G: MatchGame>(block: &mut Block, core: &MatchState, game: &G, side:
             }
         }
         Phase::Over(reason) => {
-            if is_unwritten(reason, side) {
+            if is_write_fault_of(reason, side) {
                 return;
             }
             add_end_lines(block, core, side, reason);

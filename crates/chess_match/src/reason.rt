@@ -163,9 +163,9 @@ impl Reason {
     }
 }
 
-// The first fault of a match that ended for this reason, and whose it is: the one that ended it, if one did; else a
-// write of the last lines that failed (`failed` says to which side), White's before Black's.
-pub(crate) fn first_fault(reason: Reason, failed: ByColour<bool>) -> Option<(Colour, MatchFault)>
+// The fault that is reported of a match that ended for this reason, and whose it is: the one that ended it, if one did;
+// otherwise a write of the last lines that failed (`failed` says to which side), White's before Black's.
+pub(crate) fn reported_fault(reason: Reason, failed: ByColour<bool>) -> Option<(Colour, MatchFault)>
     ensures { result ≡ reported_fault reason (of_colour failed) }
 {
     if let Reason::Faulted(side, fault) = reason {

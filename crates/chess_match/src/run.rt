@@ -33,7 +33,7 @@ use crate::desk::Desk;
 use crate::match_game::MatchGame;
 use crate::moments::Moments;
 use crate::phase::Phase;
-use crate::reason::{MatchFault, Reason, first_fault};
+use crate::reason::{MatchFault, Reason, reported_fault};
 use crate::send::note_and_send;
 use crate::state::{Actions, ENTRY, MatchState};
 use crate::table::MatchTable;
@@ -487,6 +487,6 @@ fn end_of<B: Board>(
         ended: reason.ended(),
         white_name: core.players.white.name,
         black_name: core.players.black.name,
-        fault: first_fault(reason, failed),
+        fault: reported_fault(reason, failed),
     }
 }

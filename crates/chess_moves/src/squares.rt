@@ -15,6 +15,8 @@ use std::ops::{BitAnd, BitOr};
 
 /// The squares of a set from the lowest to the highest, as a loop over the set gives them. In contracts it is the list
 /// of those that are left.
+// The loops of chess_bits, chess_text and chess_game don't use it: they call `SquareSet::take_first`. So the set that
+// is left is a variable, and invariants can say which squares are in it, where the iterator is known only as a list.
 #[derive(Drop)]
 pub struct Squares {
     left: SquareSet,

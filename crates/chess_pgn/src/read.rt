@@ -334,7 +334,8 @@ fn tagged_variant(text: &[u8], at: usize) -> Variant
     variant_of(last_tag(text, at, b"Variant"))
 }
 
-// Sets the game to the initial position of normal chess and reads the tags from the offset `at` on in one pass. Returns
+// Sets the game to the initial position of normal chess and reads the tags from the offset `at` on in one pass. Without
+// it the tags of each game would be read twice: first for the variant (`tagged_variant`), then by `read_pgn`. Returns
 // what is known after the tags, and the offset after them: that of the first number or outcome mark, or of any other
 // word but marks, be it a legal move or not; or that of the text's end. Reading on from there gives the same as reading
 // from `at` (`IsReadOn`). Returns `None` if a tag names Chess960, if a FEN is bad, or if a token before that word can't

@@ -44,7 +44,8 @@ pub fn has_move_shape(text: &[u8]) -> bool
 
 // The end square of the move by which `side` castles to this side: in normal chess the king's end square, in Chess960
 // the square of the rook of the right (`right`; if there is none, no such move is legal). chess_base exports no
-// function for it: its `names_castling` is a test of a whole move.
+// function for it: its `names_castling` is a test of a whole move. chess_bits has one for a right that is there
+// (`named_square`), but neither of the two crates uses the other.
 fn castling_end(
     variant: Variant,
     side: Colour,
@@ -156,7 +157,8 @@ fn with_denoted<B: Board>(
 
 // The reading of a text of this form after one more start square: the reading so far (`found`), and with it the legal
 // moves from `from` to `to`, as far as the text denotes them. One move in all is `Move`, several are `Ambiguous`.
-// chess_moves makes the same choice in a private function, which appends all legal moves to a list.
+// `add_moves_between` of chess_moves makes the same choice by the same test, but appends all legal moves to a list.
+// Here no list is made, and whether a move is legal is asked only if the text denotes it.
 #[tactic(auto, using(crate::proofs::Promoting::all_promote, crate::proofs::Promoting::none_promotes))]
 fn with_denoted_between<B: Board>(
     board: &B,

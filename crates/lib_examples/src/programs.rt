@@ -37,14 +37,13 @@ fn features_and_clock() -> Result<(bool, u64)> {
 // chess_match
 fn match_between<R: Input + Drop, W: Output + Drop, M: Moments + Drop>(
     rt: &HostRuntime,
-    alloc: Global,
     white_output: R,
     white_input: W,
     black_output: R,
     black_input: W,
     mut moments: M,
 ) -> Result<()> {
-    let mut game = Game::open(alloc, Plain::new(), 300)?;
+    let mut game = Game::open(rt.alloc(), Plain::new(), 300)?;
     let setup = Setup {
         start: Position::initial(),
         level: "40 5 0".parse()?,
@@ -139,7 +138,6 @@ pub(crate) fn run(rt: &HostRuntime) -> Result<()> {
     let black_input = Counted::writing(Vec::<u8>::new(alloc));
     match_between(
         rt,
-        alloc,
         Counted::reading(b"".as_slice()),
         Counted::writing(Vec::<u8>::new(alloc)),
         Counted::reading(b"".as_slice()),

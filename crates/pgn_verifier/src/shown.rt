@@ -47,7 +47,7 @@ fn first_word(text: &[u8]) -> &[u8]
 }
 
 // A byte as it is shown: `?` in place of one that is no visible character.
-fn shown_byte(byte: u8) -> u8
+fn visible_byte(byte: u8) -> u8
     ensures { result ≡ visible_byte byte }
 {
     if byte.is_ascii_graphic() { byte } else { b'?' }
@@ -61,7 +61,7 @@ fn shown_bytes(word: &[u8]) -> Shown
 {
     let mut shown = Shown::new();
     for byte in word {
-        shown.push(shown_byte(*byte));
+        shown.push(visible_byte(*byte));
     }
     shown
 }
