@@ -2,7 +2,7 @@
 use Rattle.std.proofs.Common.{◌≡◌, ℕ, ◌<◌, ◌≤◌, Bool, true, false, cond, eqb, List, [], ◌∷◌, ◌++◌, length, map, Option, Some, None, refl, ap, subst, ◌∙◌, append_assoc, arith}
 use Rattle.std.specs.List.{list_all, AllByRecursion}
 use Rattle.std.specs.Option.{option_map, option_or}
-use Rattle.std.specs.Prelude.{codes, decimal}
+use Rattle.std.specs.Prelude.{codes, decimal, not}
 use Rattle.std.specs.Str.{bytes_eq}
 use Rattle.std.proofs.lemmas.Bool.{leb-true}
 use Rattle.chess_base.specs.declared.man.Colour.{Colour}
@@ -12,6 +12,7 @@ use Rattle.chess_base.specs.declared.man.Variant.{Variant}
 use Rattle.chess_base.specs.declared.man.Variant.TheVariants.{Normal, Fischerandom}
 use Rattle.chess_base.specs.declared.setup.Setup.{Setup}
 use Rattle.chess_base.specs.Moves.{after}
+use Rattle.chess_base.specs.Options.{list_if}
 use Rattle.chess_base.specs.Sound.{IsSound}
 use Rattle.chess_fen.specs.Writing.{fen, is_initial}
 use Rattle.chess_game.specs.Game.{State, outcome_now}
@@ -21,7 +22,8 @@ use Rattle.chess_game.specs.declared.results.Outcome.TheVariants.{WhiteWins, Bla
 use Rattle.chess_pgn.specs.declared.tags.Tags.{Tags}
 use Rattle.chess_pgn.specs.declared.termination.Termination.{Termination}
 use Rattle.chess_pgn.specs.declared.word_kind.WordKind.TheVariants.{Number}
-use Rattle.chess_pgn.specs.GameText.{fen_lines, start_lines_in, last_lines, tag_lines, game_tokens}
+use Rattle.chess_pgn.specs.GameText.{tag_lines, game_tokens}
+use Rattle.chess_pgn.specs.ties.TagGroups.{fen_lines, start_lines_in, last_lines}
 use Rattle.chess_pgn.specs.ties.NumberedMoves.{number_if_due, numbered_moves}
 use Rattle.chess_pgn.specs.LastTags.{is_marks, may_precede_tags, named_tag}
 use Rattle.chess_pgn.specs.laws.PgnLaw.{AreTagTexts}
@@ -82,7 +84,7 @@ lines_are t s =
     (by_variant s.start.variant (termination_of t.ended (outcome_now s)))
   where
     by_test : (b : Bool) (u : Termination)
-        → cond b [] (fen_lines s.start) ++ last_lines Normal u
+        → list_if (not b) (fen_lines s.start) ++ last_lines Normal u
         ≡ lines_of (cond b [] (fen_tags s.start) ++ last_tags Normal u)
     by_test true u = refl
     by_test false u = refl

@@ -1,57 +1,33 @@
 -- A game's text as it is written (PGN standard of 1994, sections 3.2, 8 and 9.7).
-use Rattle.std.specs.Prelude.{ℕ, if◌then◌else◌, List, [], ◌∷◌, ◌++◌, codes, decimal}
+use Rattle.std.specs.Prelude.{ℕ, not, ◌||◌, List, [], ◌∷◌, ◌++◌, codes, decimal}
 use Rattle.chess_base.specs.declared.man.Colour.{Colour}
 use Rattle.chess_base.specs.declared.man.Colour.TheVariants.{White, Black}
 use Rattle.chess_base.specs.declared.man.Move.{Move}
-use Rattle.chess_base.specs.declared.man.Variant.{Variant}
-use Rattle.chess_base.specs.declared.man.Variant.TheVariants.{Normal, Fischerandom}
 use Rattle.chess_base.specs.declared.setup.Setup.{Setup}
 use Rattle.chess_base.specs.Moves.{after}
+use Rattle.chess_base.specs.Options.{list_if}
 use Rattle.chess_fen.specs.Writing.{fen, is_initial}
 use Rattle.chess_game.specs.Game.{State, outcome_now}
 use Rattle.chess_game.specs.Results.{outcome_text}
-use Rattle.chess_game.specs.declared.results.Outcome.{Outcome}
 use Rattle.chess_pgn.specs.declared.tags.Tags.{Tags}
-use Rattle.chess_pgn.specs.declared.termination.Termination.{Termination}
-use Rattle.chess_text.specs.San.{san}
+use Rattle.chess_text.specs.San.{is_fischerandom, san}
 use Rattle.chess_pgn.specs.Terminations.{termination_text, termination_of}
 use Rattle.chess_pgn.specs.Written.{tag_line, ended, lines_of}
 
 -- ---- tags
 
--- the lines of the seven tags that each game has, in their order (section 8.1.1), for a game with outcome `o`
-abbrev pub roster_lines : Tags → Outcome → List (List ℕ)
-roster_lines t o =
+-- the lines of the tags of the game `s`: the seven that each game has, in their order (section 8.1.1); then, sorted by
+-- name, FEN and SetUp (section 9.7), where the game does not begin from the initial position of normal chess,
+-- Termination, and in Chess960 Variant. The outcome comes from the game, not from `t`
+abbrev pub tag_lines : Tags → State → List (List ℕ)
+tag_lines t s =
     tag_line (codes "Event") t.event ∷ tag_line (codes "Site") t.site ∷ tag_line (codes "Date") t.date
     ∷ tag_line (codes "Round") t.round ∷ tag_line (codes "White") t.white ∷ tag_line (codes "Black") t.black
-    ∷ tag_line (codes "Result") (outcome_text o) ∷ []
-
--- the lines of the tags FEN and SetUp (section 9.7) for a game from this start
-abbrev pub fen_lines : Setup → List (List ℕ)
-fen_lines start = tag_line (codes "FEN") (fen start) ∷ tag_line (codes "SetUp") (codes "1") ∷ []
-
--- the lines of the tags that give a game's start in variant v: none for the initial position of normal chess, else FEN
--- and SetUp
-abbrev pub start_lines_in : Variant → Setup → List (List ℕ)
-start_lines_in Normal start = if is_initial start then [] else fen_lines start
-start_lines_in Fischerandom start = fen_lines start
-
--- the line of the tag Variant, for Chess960 only
-abbrev pub variant_lines : Variant → List (List ℕ)
-variant_lines Normal = []
-variant_lines Fischerandom = tag_line (codes "Variant") (codes "fischerandom") ∷ []
-
--- the line of the tag Termination, and for Chess960 that of Variant
-abbrev pub last_lines : Variant → Termination → List (List ℕ)
-last_lines v termination = tag_line (codes "Termination") (termination_text termination) ∷ variant_lines v
-
--- the lines of the tags after the seven of each game, sorted by name: FEN, SetUp, Termination, Variant
-abbrev pub further_lines : Setup → Termination → List (List ℕ)
-further_lines start termination = start_lines_in start.variant start ++ last_lines start.variant termination
-
--- the lines of all tags of the game `s`; its outcome comes from the game, not from `t`
-abbrev pub tag_lines : Tags → State → List (List ℕ)
-tag_lines t s = roster_lines t (outcome_now s) ++ further_lines s.start (termination_of t.ended (outcome_now s))
+    ∷ tag_line (codes "Result") (outcome_text (outcome_now s))
+    ∷ list_if (is_fischerandom s.start.variant || not (is_initial s.start))
+    (tag_line (codes "FEN") (fen s.start) ∷ tag_line (codes "SetUp") (codes "1") ∷ [])
+    ++ tag_line (codes "Termination") (termination_text (termination_of t.ended (outcome_now s)))
+    ∷ list_if (is_fischerandom s.start.variant) (tag_line (codes "Variant") (codes "fischerandom") ∷ [])
 
 -- ---- the tokens of the moves
 
