@@ -25,12 +25,12 @@ use Rattle.chess_pgn.specs.declared.word_kind.WordKind.TheVariants.{Number}
 use Rattle.chess_pgn.specs.GameText.{tag_lines, game_tokens}
 use Rattle.chess_pgn.specs.ties.TagGroups.{fen_lines, start_lines_in, last_lines}
 use Rattle.chess_pgn.specs.ties.NumberedMoves.{number_if_due, numbered_moves}
-use Rattle.chess_pgn.specs.LastTags.{is_marks, may_precede_tags, named_tag}
+use Rattle.chess_pgn.specs.LastTags.{may_precede_tags, named_tag}
 use Rattle.chess_pgn.specs.laws.PgnLaw.{AreTagTexts}
 use Rattle.chess_pgn.specs.Terminations.{termination_text, termination_of}
 use Rattle.chess_pgn.specs.ties.Lines.{next_column}
 use Rattle.chess_pgn.specs.Tokens.{Token, Skip, Tag, Word, is_word_byte, token_at, tokens_of}
-use Rattle.chess_pgn.specs.Words.{word_kind}
+use Rattle.chess_pgn.specs.laws.WordKinds.{word_kind}
 use Rattle.chess_pgn.specs.Written.{escaped, tag_line, ended}
 use Rattle.chess_text.specs.San.{san}
 use Rattle.chess_pgn.proofs.NumberedMoves.{game_numbered}
@@ -38,7 +38,7 @@ use Rattle.chess_pgn.proofs.FilledLines.{filled_from}
 use Rattle.chess_pgn.proofs.PgnFen.{fen_bare}
 use Rattle.chess_pgn.proofs.PgnPieces.{termination_bare}
 use Rattle.chess_pgn.proofs.PgnTags.{is_in_line, bare_in_line, is_tag_name, tag_token, tag_line_bytes, tag_text_in_line}
-use Rattle.chess_pgn.proofs.PgnWords.{word_token, number_kind, decimal_digits, decimal_some, number_bytes}
+use Rattle.chess_pgn.proofs.PgnWords.{are_marks, marks_by_kind, word_token, number_kind, decimal_digits, decimal_some, number_bytes}
 use Rattle.chess_pgn.proofs.TagScans.{text_from}
 use Rattle.chess_pgn.proofs.Walk.{enough, shorter}
 
@@ -263,7 +263,7 @@ module _ (name : List ℕ) where
       → list_all is_word_byte word ≡ true → word_kind word ≡ Number → said_on v begins (word ++ 46 ∷ rest) ≡ v
   digits_stop v [] begins rest some all kind = absurd (omega arith)
   digits_stop v (c ∷ cs) begins rest some all kind = token_stops v begins c (cs ++ 46 ∷ rest) (Word (c ∷ cs))
-      (46 ∷ rest) (word_token begins c cs 46 rest all refl) (ap is_marks kind)
+      (46 ∷ rest) (word_token begins c cs 46 rest all refl) (marks_by_kind (c ∷ cs) ∙ ap are_marks kind)
 
   number_stops : (v : Option (List ℕ)) (n : ℕ) (begins : Bool) (rest : List ℕ) → n ≤ 999999
       → said_on v begins (decimal n ++ 46 ∷ rest) ≡ v
