@@ -1,11 +1,12 @@
 -- In a game of normal chess each position is of normal chess, so what is said of the game and its text is what is said
 -- for normal chess alone.
 use Rattle.std.proofs.Common.{◌≡◌, ℕ, ◌+◌, ◌==◌, cond, nat_le, Bool, ◌&&◌, ◌||◌, List, [], ◌∷◌, ◌++◌, length, codes, Option, None, Some, is_some, refl, sym, ap, ◌∙◌, if◌then◌else◌}
-use Rattle.std.specs.Prelude.{count_by, not}
+use Rattle.std.specs.Prelude.{count_by, decimal, not}
 use Rattle.std.specs.List.{list_any}
 use Rattle.std.specs.Option.{option_map_or}
 use Rattle.std.specs.Str.{bytes_eq}
 use Rattle.std.proofs.lemmas.List.Sums.{sum_by-cons}
+use Rattle.chess_base.specs.declared.man.Colour.TheVariants.{White, Black}
 use Rattle.chess_base.specs.declared.man.Move.{Move}
 use Rattle.chess_base.specs.declared.man.Variant.{Variant}
 use Rattle.chess_base.specs.declared.man.Variant.TheVariants.{Normal}
@@ -34,7 +35,7 @@ use Rattle.chess_game.specs.Line.{positions_of, position_after}
 use Rattle.chess_game.specs.Results.{outcome_text}
 use Rattle.chess_game.specs.Same.{legal_en_passant_square, is_same_position, same_men, same_rights, same_square, repetition_count}
 use Rattle.chess_pgn.specs.declared.tags.Tags.{Tags}
-use Rattle.chess_pgn.specs.GameText.{tag_lines, number_token, move_tokens, first_number, game_tokens, pgn}
+use Rattle.chess_pgn.specs.GameText.{tag_lines, move_tokens, game_tokens, pgn}
 use Rattle.chess_pgn.specs.Terminations.{termination_text, termination_of}
 use Rattle.chess_pgn.specs.Written.{tag_line, ended, lines_of}
 use Rattle.chess_cecp.specs.laws.NormalGame.{normal_initial, normal_line, normal_last, normal_legal_en_passant_square, normal_same, normal_rep, normal_verdict, normal_claims, normal_is_over, normal_outcome_now}
@@ -167,13 +168,15 @@ tags_kept t s e =
 moves_kept : (p : Setup) → p.variant ≡ Normal → (ms : List Move) → move_tokens p ms ≡ normal_move_tokens p ms
 moves_kept p e [] = refl
 moves_kept p e (m ∷ ms) =
-    ap (λ text. (number_token p.side p.fullmove ++ text ∷ []) ++ move_tokens (after p m) ms) ((texts_kept p e).san m)
-    ∙ ap (λ tokens. (number_token p.side p.fullmove ++ normal_san p m ∷ []) ++ tokens)
+    let number : List (List ℕ) = list_if (same_colour p.side White) ((decimal p.fullmove ++ codes ".") ∷ []) in
+    ap (λ text. number ++ text ∷ move_tokens (after p m) ms) ((texts_kept p e).san m)
+    ∙ ap (λ tokens. number ++ normal_san p m ∷ tokens)
     (moves_kept (after p m) (stays p m ∙ e) ms ∙ ap (λ q. normal_move_tokens q ms) ((rules_kept p e).after m))
 
 tokens_kept : (s : State) → s.start.variant ≡ Normal → game_tokens s ≡ normal_game_tokens s
 tokens_kept s e =
-    let first : List (List ℕ) = first_number s.start.side s.start.fullmove s.moves in
+    let first : List (List ℕ) = list_if (same_colour s.start.side Black && not (length s.moves == 0))
+    ((decimal s.start.fullmove ++ codes "...") ∷ []) in
     ap (λ tokens. first ++ (tokens ++ outcome_text (outcome_now s) ∷ [])) (moves_kept s.start e s.moves)
     ∙ ap (λ o. first ++ (normal_move_tokens s.start s.moves ++ outcome_text o ∷ [])) (outcome_kept s e)
 

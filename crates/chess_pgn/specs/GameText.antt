@@ -1,9 +1,9 @@
 -- A game's text as it is written (PGN standard of 1994, sections 3.2, 8 and 9.7).
-use Rattle.std.specs.Prelude.{ℕ, not, ◌||◌, List, [], ◌∷◌, ◌++◌, codes, decimal}
-use Rattle.chess_base.specs.declared.man.Colour.{Colour}
+use Rattle.std.specs.Prelude.{ℕ, not, ◌&&◌, ◌||◌, List, [], ◌∷◌, ◌++◌, length, codes, decimal, ◌==◌}
 use Rattle.chess_base.specs.declared.man.Colour.TheVariants.{White, Black}
 use Rattle.chess_base.specs.declared.man.Move.{Move}
 use Rattle.chess_base.specs.declared.setup.Setup.{Setup}
+use Rattle.chess_base.specs.Men.{same_colour}
 use Rattle.chess_base.specs.Moves.{after}
 use Rattle.chess_base.specs.Options.{list_if}
 use Rattle.chess_fen.specs.Writing.{fen, is_initial}
@@ -31,30 +31,19 @@ tag_lines t s =
 
 -- ---- the tokens of the moves
 
--- the number before a move by this side: `12.` before each move of White, none before Black's (but see `first_number`)
-abbrev pub number_token : Colour → ℕ → List (List ℕ)
-number_token White number = (decimal number ++ codes ".") ∷ []
-number_token Black number = []
-
--- the tokens of move m in position p: its number, if White makes it, and its SAN
-abbrev pub tokens_of_move : Setup → Move → List (List ℕ)
-tokens_of_move p m = number_token p.side p.fullmove ++ san p m ∷ []
-
--- the tokens of moves made one after another from the position `p` on (section 8.2)
+-- the tokens of moves made one after another from the position `p` on (section 8.2): the SAN of each move, and before
+-- each move of White its number, such as `12.`
 abbrev pub move_tokens : Setup → List Move → List (List ℕ)
 move_tokens p [] = []
-move_tokens p (m ∷ ms) = tokens_of_move p m ++ move_tokens (after p m) ms
+move_tokens p (m ∷ ms) =
+    list_if (same_colour p.side White) ((decimal p.fullmove ++ codes ".") ∷ []) ++ san p m ∷ move_tokens (after p m) ms
 
--- the number before a game's first move if Black makes it, such as `12...`; none if White makes it, or if there are no
--- moves. The first argument is the side to move at the game's start, the second the number there
-abbrev pub first_number : Colour → ℕ → List Move → List (List ℕ)
-first_number White number ms = []
-first_number Black number [] = []
-first_number Black number (m ∷ ms) = (decimal number ++ codes "...") ∷ []
-
--- the tokens of a game: numbers, moves in SAN, and the outcome last
+-- the tokens of a game: its moves with their numbers, and the outcome last. If Black makes the game's first move, that
+-- move has a number too, such as `12...`
 abbrev pub game_tokens : State → List (List ℕ)
-game_tokens s = first_number s.start.side s.start.fullmove s.moves
+game_tokens s =
+    list_if (same_colour s.start.side Black && not (length s.moves == 0))
+    ((decimal s.start.fullmove ++ codes "...") ∷ [])
     ++ (move_tokens s.start s.moves ++ outcome_text (outcome_now s) ∷ [])
 
 -- ---- the whole text: tags, an empty line, the moves in filled lines, an empty line; each line after a prefix

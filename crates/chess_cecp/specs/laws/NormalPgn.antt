@@ -1,9 +1,11 @@
 -- A game's text as it is defined for normal chess alone: each of these is the definition of the same name without
 -- `normal_`. Nothing here takes a variant, and no tag names one.
-use Rattle.std.specs.Prelude.{ℕ, Bool, not, List, [], ◌∷◌, ◌++◌, codes}
+use Rattle.std.specs.Prelude.{ℕ, Bool, not, ◌&&◌, List, [], ◌∷◌, ◌++◌, length, codes, decimal, ◌==◌}
 use Rattle.std.specs.Str.{bytes_eq}
+use Rattle.chess_base.specs.declared.man.Colour.TheVariants.{White, Black}
 use Rattle.chess_base.specs.declared.man.Move.{Move}
 use Rattle.chess_base.specs.declared.setup.Setup.{Setup}
+use Rattle.chess_base.specs.Men.{same_colour}
 use Rattle.chess_base.specs.Options.{list_if}
 use Rattle.chess_base.specs.laws.Normal.{normal_after}
 use Rattle.chess_fen.specs.laws.Normal.{normal_fen}
@@ -11,7 +13,6 @@ use Rattle.chess_text.specs.laws.Normal.{normal_san}
 use Rattle.chess_game.specs.Game.{State}
 use Rattle.chess_game.specs.Results.{outcome_text}
 use Rattle.chess_pgn.specs.declared.tags.Tags.{Tags}
-use Rattle.chess_pgn.specs.GameText.{number_token, first_number}
 use Rattle.chess_pgn.specs.Terminations.{termination_text, termination_of}
 use Rattle.chess_pgn.specs.Written.{tag_line, ended, lines_of}
 use Rattle.chess_cecp.specs.laws.NormalGame.{normal_initial, normal_outcome_now}
@@ -30,18 +31,18 @@ normal_tag_lines t s =
     (tag_line (codes "FEN") (normal_fen s.start) ∷ tag_line (codes "SetUp") (codes "1") ∷ [])
     ++ tag_line (codes "Termination") (termination_text (termination_of t.ended (normal_outcome_now s))) ∷ []
 
--- the tokens of the move `m` from the position `p`: its number, if White makes it, and its SAN; for normal chess alone
-abbrev pub normal_tokens_of_move : Setup → Move → List (List ℕ)
-normal_tokens_of_move p m = number_token p.side p.fullmove ++ normal_san p m ∷ []
-
 -- the tokens of moves made one after another from the position `p` on; for normal chess alone
 abbrev pub normal_move_tokens : Setup → List Move → List (List ℕ)
 normal_move_tokens p [] = []
-normal_move_tokens p (m ∷ ms) = normal_tokens_of_move p m ++ normal_move_tokens (normal_after p m) ms
+normal_move_tokens p (m ∷ ms) =
+    list_if (same_colour p.side White) ((decimal p.fullmove ++ codes ".") ∷ [])
+    ++ normal_san p m ∷ normal_move_tokens (normal_after p m) ms
 
--- the tokens of a game: numbers, moves in SAN, and the outcome last; for normal chess alone
+-- the tokens of a game: its moves with their numbers, and the outcome last; for normal chess alone
 abbrev pub normal_game_tokens : State → List (List ℕ)
-normal_game_tokens s = first_number s.start.side s.start.fullmove s.moves
+normal_game_tokens s =
+    list_if (same_colour s.start.side Black && not (length s.moves == 0))
+    ((decimal s.start.fullmove ++ codes "...") ∷ [])
     ++ (normal_move_tokens s.start s.moves ++ outcome_text (normal_outcome_now s) ∷ [])
 
 -- a game's text: tags, an empty line, the moves, an empty line; each line after `prefix`; for normal chess alone
