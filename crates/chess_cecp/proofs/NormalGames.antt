@@ -1,28 +1,33 @@
 -- In a game of normal chess each position is of normal chess, so what is said of the game and its text is what is said
 -- for normal chess alone.
 use Rattle.std.proofs.Common.{◌≡◌, ℕ, ◌+◌, ◌==◌, cond, nat_le, Bool, ◌&&◌, ◌||◌, List, [], ◌∷◌, ◌++◌, length, codes, Option, None, Some, is_some, refl, sym, ap, ◌∙◌, if◌then◌else◌}
-use Rattle.std.specs.Prelude.{count_by}
+use Rattle.std.specs.Prelude.{count_by, decimal, not}
 use Rattle.std.specs.List.{list_any}
 use Rattle.std.specs.Option.{option_map_or}
 use Rattle.std.specs.Str.{bytes_eq}
 use Rattle.std.proofs.lemmas.List.Sums.{sum_by-cons}
+use Rattle.chess_base.specs.declared.man.Colour.TheVariants.{White, Black}
 use Rattle.chess_base.specs.declared.man.Move.{Move}
+use Rattle.chess_base.specs.declared.man.Variant.{Variant}
 use Rattle.chess_base.specs.declared.man.Variant.TheVariants.{Normal}
 use Rattle.chess_base.specs.declared.setup.Setup.{Setup}
 use Rattle.chess_base.specs.Attacks.{is_in_check}
 use Rattle.chess_base.specs.Initial.{initial_setup, initial_setup_of}
 use Rattle.chess_base.specs.Men.{other, same_colour}
 use Rattle.chess_base.specs.Moves.{after, is_en_passant}
+use Rattle.chess_base.specs.Options.{list_if}
 use Rattle.chess_base.specs.laws.Normal.{normal_after}
 use Rattle.chess_base.proofs.shared.Normal.{normal_kept as rules_kept}
 use Rattle.chess_fen.specs.Writing.{fen, is_initial}
 use Rattle.chess_fen.specs.laws.Normal.{normal_fen}
 use Rattle.chess_fen.proofs.shared.Normal.{fen_kept}
+use Rattle.chess_text.specs.San.{is_fischerandom}
 use Rattle.chess_text.specs.laws.Normal.{normal_moves, normal_san}
 use Rattle.chess_text.proofs.shared.Normal.{normal_kept as texts_kept}
 use Rattle.chess_game.specs.declared.verdicts.Verdict.{Verdict}
 use Rattle.chess_game.specs.declared.verdicts.Verdict.TheVariants.{Stalemate, InsufficientMaterial, FivefoldRepetition, SeventyFiveMoves}
 use Rattle.chess_game.specs.declared.results.Declared.{Declared}
+use Rattle.chess_game.specs.declared.results.Outcome.{Outcome}
 use Rattle.chess_game.specs.declared.results.Outcome.TheVariants.{Unfinished}
 use Rattle.chess_game.specs.Ends.{has_insufficient_material, mate_by, verdict, verdict_outcome, claims}
 use Rattle.chess_game.specs.Game.{State, is_over, outcome_now}
@@ -30,12 +35,11 @@ use Rattle.chess_game.specs.Line.{positions_of, position_after}
 use Rattle.chess_game.specs.Results.{outcome_text}
 use Rattle.chess_game.specs.Same.{legal_en_passant_square, is_same_position, same_men, same_rights, same_square, repetition_count}
 use Rattle.chess_pgn.specs.declared.tags.Tags.{Tags}
-use Rattle.chess_pgn.specs.declared.termination.Termination.{Termination}
-use Rattle.chess_pgn.specs.GameText.{start_lines_in, last_lines, further_lines, roster_lines, tag_lines, number_token, move_tokens, first_number, game_tokens, pgn}
+use Rattle.chess_pgn.specs.GameText.{tag_lines, move_tokens, game_tokens, pgn}
 use Rattle.chess_pgn.specs.Terminations.{termination_text, termination_of}
 use Rattle.chess_pgn.specs.Written.{tag_line, ended, lines_of}
 use Rattle.chess_cecp.specs.laws.NormalGame.{normal_initial, normal_line, normal_last, normal_legal_en_passant_square, normal_same, normal_rep, normal_verdict, normal_claims, normal_is_over, normal_outcome_now}
-use Rattle.chess_cecp.specs.laws.NormalPgn.{normal_is_initial, normal_start_lines, normal_further_lines, normal_tag_lines, normal_move_tokens, normal_game_tokens, normal_pgn}
+use Rattle.chess_cecp.specs.laws.NormalPgn.{normal_is_initial, normal_tag_lines, normal_move_tokens, normal_game_tokens, normal_pgn}
 
 pub initial_kept : initial_setup ≡ normal_initial
 unfolding initial_setup initial_setup_of normal_initial
@@ -142,34 +146,37 @@ is_initial_kept p e =
     ap (λ text. bytes_eq text (fen initial_setup)) (fen_kept p e)
     ∙ ap (bytes_eq (normal_fen p)) (fen_kept initial_setup initial_is_normal ∙ ap normal_fen initial_kept)
 
-start_kept : (p : Setup) → p.variant ≡ Normal → start_lines_in Normal p ≡ normal_start_lines p
-start_kept p e =
-    ap (λ (b : Bool). if b then [] else tag_line (codes "FEN") (fen p) ∷ tag_line (codes "SetUp") (codes "1") ∷ [])
-    (is_initial_kept p e)
-    ∙ ap (λ text. if normal_is_initial p then [] else tag_line (codes "FEN") text ∷ tag_line (codes "SetUp") (codes "1")
-    ∷ []) (fen_kept p e)
-
-further_kept : (p : Setup) → p.variant ≡ Normal → (t : Termination) → further_lines p t ≡ normal_further_lines p t
-further_kept p e t =
-    ap (λ v. start_lines_in v p ++ last_lines v t) e
-    ∙ ap (λ front. front ++ tag_line (codes "Termination") (termination_text t) ∷ []) (start_kept p e)
+-- the lines of a game's tags by what they depend on: its outcome, and its start's variant and FEN, and whether the start
+-- is the initial position
+abbrev tag_lines_by : Tags → Outcome → Variant → Bool → List ℕ → List (List ℕ)
+tag_lines_by t o v starts_initial start =
+    tag_line (codes "Event") t.event ∷ tag_line (codes "Site") t.site ∷ tag_line (codes "Date") t.date
+    ∷ tag_line (codes "Round") t.round ∷ tag_line (codes "White") t.white ∷ tag_line (codes "Black") t.black
+    ∷ tag_line (codes "Result") (outcome_text o)
+    ∷ list_if (is_fischerandom v || not starts_initial)
+    (tag_line (codes "FEN") start ∷ tag_line (codes "SetUp") (codes "1") ∷ [])
+    ++ tag_line (codes "Termination") (termination_text (termination_of t.ended o))
+    ∷ list_if (is_fischerandom v) (tag_line (codes "Variant") (codes "fischerandom") ∷ [])
 
 tags_kept : (t : Tags) (s : State) → s.start.variant ≡ Normal → tag_lines t s ≡ normal_tag_lines t s
 tags_kept t s e =
-    ap (λ o. roster_lines t o ++ further_lines s.start (termination_of t.ended o)) (outcome_kept s e)
-    ∙ ap (λ lines. roster_lines t (normal_outcome_now s) ++ lines)
-    (further_kept s.start e (termination_of t.ended (normal_outcome_now s)))
+    ap (λ o. tag_lines_by t o s.start.variant (is_initial s.start) (fen s.start)) (outcome_kept s e)
+    ∙ ap (λ v. tag_lines_by t (normal_outcome_now s) v (is_initial s.start) (fen s.start)) e
+    ∙ ap (λ b. tag_lines_by t (normal_outcome_now s) Normal b (fen s.start)) (is_initial_kept s.start e)
+    ∙ ap (tag_lines_by t (normal_outcome_now s) Normal (normal_is_initial s.start)) (fen_kept s.start e)
 
 moves_kept : (p : Setup) → p.variant ≡ Normal → (ms : List Move) → move_tokens p ms ≡ normal_move_tokens p ms
 moves_kept p e [] = refl
 moves_kept p e (m ∷ ms) =
-    ap (λ text. (number_token p.side p.fullmove ++ text ∷ []) ++ move_tokens (after p m) ms) ((texts_kept p e).san m)
-    ∙ ap (λ tokens. (number_token p.side p.fullmove ++ normal_san p m ∷ []) ++ tokens)
+    let number : List (List ℕ) = list_if (same_colour p.side White) ((decimal p.fullmove ++ codes ".") ∷ []) in
+    ap (λ text. number ++ text ∷ move_tokens (after p m) ms) ((texts_kept p e).san m)
+    ∙ ap (λ tokens. number ++ normal_san p m ∷ tokens)
     (moves_kept (after p m) (stays p m ∙ e) ms ∙ ap (λ q. normal_move_tokens q ms) ((rules_kept p e).after m))
 
 tokens_kept : (s : State) → s.start.variant ≡ Normal → game_tokens s ≡ normal_game_tokens s
 tokens_kept s e =
-    let first : List (List ℕ) = first_number s.start.side s.start.fullmove s.moves in
+    let first : List (List ℕ) = list_if (same_colour s.start.side Black && not (length s.moves == 0))
+    ((decimal s.start.fullmove ++ codes "...") ∷ []) in
     ap (λ tokens. first ++ (tokens ++ outcome_text (outcome_now s) ∷ [])) (moves_kept s.start e s.moves)
     ∙ ap (λ o. first ++ (normal_move_tokens s.start s.moves ++ outcome_text o ∷ [])) (outcome_kept s e)
 

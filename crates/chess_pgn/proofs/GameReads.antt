@@ -10,7 +10,7 @@ use Rattle.chess_game.specs.Game.{with_state as left_at}
 use Rattle.chess_pgn.specs.declared.read.PgnEnd.{PgnEnd}
 use Rattle.chess_pgn.specs.declared.read.PgnFault.{PgnFault}
 use Rattle.chess_pgn.specs.declared.progress.Progress.{Progress}
-use Rattle.chess_pgn.specs.Words.{word_kind}
+use Rattle.chess_pgn.specs.laws.WordKinds.{word_kind}
 use Rattle.chess_pgn.specs.Tokens.{Token, Skip, Word, after_byte_order_mark, after_brace, token_at, begins_line, tokens_from}
 use Rattle.chess_pgn.specs.GameRead.{tagged_variant, pgn_read}
 use Rattle.chess_pgn.specs.laws.TokenByToken.{SoFar, Step, On, Stop, word_step, step, read_rest_with, game_of, nothing_read, tokens_read}

@@ -16,7 +16,8 @@ use Rattle.chess_game.specs.Line.{position_after, IsLine}
 use Rattle.chess_pgn.specs.declared.tags.Tags.{Tags}
 use Rattle.chess_pgn.specs.declared.termination.Termination.{Termination}
 use Rattle.chess_pgn.specs.Terminations.{termination_of}
-use Rattle.chess_pgn.specs.GameText.{roster_lines, start_lines_in, last_lines, further_lines, tag_lines, game_tokens, pgn}
+use Rattle.chess_pgn.specs.GameText.{tag_lines, game_tokens, pgn}
+use Rattle.chess_pgn.specs.ties.TagGroups.{roster_lines, start_lines_in, last_lines, further_lines}
 use Rattle.chess_pgn.specs.ties.NumberedMoves.{number_if_due, numbered_move, numbered_moves}
 use Rattle.chess_pgn.specs.ties.Lines.{wrapped_token, next_column, line_close, placed_all, column_after_all}
 use Rattle.chess_text.specs.San.{san}

@@ -1,6 +1,6 @@
 -- What is read of a game by its tags and moves is what is read token by token.
 use Rattle.std.proofs.Common.{◌≡◌, ℕ, suc, ◌+◌, ◌-◌, Bool, true, false, cond, List, [], ◌∷◌, ◌++◌, length, take, drop, Option, Some, None, Result, Ok, Err, refl, sym, ap, ◌∙◌, arith}
-use Rattle.std.specs.Prelude.{◌||◌, ◌==◌, nat_lt, is_some, codes, option_and_then}
+use Rattle.std.specs.Prelude.{◌||◌, nat_lt, is_some, codes, option_and_then}
 use Rattle.std.specs.List.{list_all, list_any, prefix_len, take_while, filter_map, cons_option, last_or}
 use Rattle.std.specs.Option.{option_map_or, unwrap_or}
 use Rattle.std.specs.Result.{is_ok, result_ok}
@@ -12,7 +12,7 @@ use Rattle.std.proofs.lemmas.Slice.Eq.{bytes_eq-Decides}
 use Rattle.chess_base.specs.declared.fen_fault.FenFault.{FenFault}
 use Rattle.chess_base.specs.declared.man.Variant.{Variant}
 use Rattle.chess_base.specs.declared.setup.Setup.{Setup}
-use Rattle.chess_base.specs.Letters.{byte, is_digit}
+use Rattle.chess_base.specs.Letters.{is_digit}
 use Rattle.chess_base.specs.Initial.{initial_setup_of}
 use Rattle.chess_fen.specs.Reading.{fen_reading_as}
 use Rattle.chess_game.specs.Game.{Seen, State, from_start, played, current, verdict_now}
@@ -29,11 +29,13 @@ use Rattle.chess_pgn.specs.Terminations.{termination_named}
 use Rattle.chess_pgn.specs.GameRead.{GameRead, tagged_variant, pgn_read, Passes, Ends, failed, move_row, row, after_row, moves_read, is_tag, fens, last_start, last_termination, first_bad_fen, read_after_tags, read_of_split}
 use Rattle.chess_pgn.specs.laws.TokenByToken.{SoFar, Step, On, word_step, move_step, fen_step, step, read_rest_with, game_of, termination_after, tokens_read}
 use Rattle.chess_pgn.specs.GameRead.{IsRead}
-use Rattle.chess_pgn.specs.LastTags.{may_precede_tags, is_marks, tag_section, tags_named}
+use Rattle.chess_pgn.specs.LastTags.{may_precede_tags, tag_section, tags_named}
 use Rattle.chess_pgn.specs.declared.word_kind.WordKind.{WordKind}
 use Rattle.chess_pgn.specs.declared.word_kind.WordKind.TheVariants.{End, Number, Marks, Move}
-use Rattle.chess_pgn.specs.Words.{outcome_of, word_kind}
+use Rattle.chess_pgn.specs.Words.{outcome_of, is_marks}
+use Rattle.chess_pgn.specs.laws.WordKinds.{word_kind}
 use Rattle.chess_pgn.specs.Tokens.{Token, Skip, Tag, Word, Bad_tag, Unclosed_comment, Unclosed_variation, Bad, tokens_from, after_byte_order_mark}
+use Rattle.chess_pgn.proofs.PgnWords.{are_marks, marks_by_kind}
 use Rattle.chess_pgn.proofs.ByteRuns.{run_passes}
 use Rattle.chess_pgn.proofs.FenVariants.{initial_variant, read_variant}
 use Rattle.chess_pgn.proofs.TokenSplits.{read_split, split_read}
@@ -76,7 +78,7 @@ module _ (limit total : ℕ) (termination : Option Termination) (met begun : Boo
       ≡ after_row total termination s (left, Word word) (move_row limit s (reading (current s) word)) next
       → read_rest_with (steps (option_map_or end o (cond is_number number (cond is_mark marks move)))) later
       ≡ after_row total termination s (left, Word word) (option_map_or (λ k. Ends k (length word)) o
-      (cond is_number Passes (cond is_mark Passes (move_row limit s (reading (current s) word))))) next
+      (cond (is_number || is_mark) Passes (move_row limit s (reading (current s) word)))) next
   by_kind left word end number marks move steps (Some o) is_number is_mark e n m r = e o
   by_kind left word end number marks move steps None true is_mark e n m r = n
   by_kind left word end number marks move steps None false true e n m r = m refl
@@ -89,7 +91,7 @@ module _ (limit total : ℕ) (termination : Option Termination) (met begun : Boo
   by_word left word marks =
       by_kind left word End Number Marks Move
       (λ k. word_step limit (so_far met begun termination s) (total - left) word k) (outcome_of word)
-      (list_all is_digit word) (list_all (λ c. c == byte "!" || c == byte "?") word) (λ o. refl) (same s) marks
+      (list_all is_digit word) (is_marks word) (λ o. refl) (same s) marks
       (by_reading left word (is_some (verdict_now s)) (nat_lt (length s.moves) limit)
       (reading (current s) word) refl refl)
 
@@ -158,7 +160,7 @@ first_token limit total met termination s ts left (Tag name string at_string) h 
 first_token limit total met termination s ts left (Word word) h =
     by_word limit total termination met false s (λ g. game_of limit total g ts)
     (λ r. moves_read limit total termination r ts) (λ r. moves_are limit total termination r ts) left word
-    (λ e. let no : true ≡ false = sym (ap is_marks e) ∙ h in absurd (cc))
+    (λ e. let no : true ≡ false = sym (ap are_marks e) ∙ sym (marks_by_kind word) ∙ h in absurd (cc))
 first_token limit total met termination s ts left Bad_tag h = refl
 first_token limit total met termination s ts left (Unclosed_comment brace) h = refl
 first_token limit total met termination s ts left Unclosed_variation h = refl
@@ -277,7 +279,7 @@ module _ (limit total : ℕ) (v : Variant) (rest : List (ℕ × Token)) (stops :
           ∙ later (termination_after before name string) p of
           ∙ rw (e, or_true met (list_any is_tag tags), termination_step before left at_string name string tags) refl
 
-  marks_are : (k : WordKind) → is_marks k ≡ true → k ≡ Marks
+  marks_are : (k : WordKind) → are_marks k ≡ true → k ≡ Marks
   marks_are (End o) h = absurd (cc)
   marks_are Number h = absurd (cc)
   marks_are Marks h = refl
@@ -292,7 +294,7 @@ module _ (limit total : ℕ) (v : Variant) (rest : List (ℕ × Token)) (stops :
       one_tag met before p left at_string name string tags of (λ t q k. later true t q k)
   one_token met before p left (Word word) tags of h later =
       ap (λ k. read_rest_with (word_step limit (opened met before p) (total - left) word k)
-      (λ g. game_of limit total g (tags ++ rest))) (marks_are (word_kind word) h)
+      (λ g. game_of limit total g (tags ++ rest))) (marks_are (word_kind word) (sym (marks_by_kind word) ∙ h))
       ∙ later met before p of
   one_token met before p left Bad_tag tags of h later = absurd (cc)
   one_token met before p left (Unclosed_comment brace) tags of h later = absurd (cc)

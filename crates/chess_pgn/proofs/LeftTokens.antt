@@ -6,11 +6,12 @@ use Rattle.std.proofs.lemmas.List.{take_rest}
 use Rattle.chess_game.specs.Game.{Seen}
 use Rattle.chess_pgn.specs.declared.word_kind.WordKind.{WordKind}
 use Rattle.chess_pgn.specs.declared.word_kind.WordKind.TheVariants.{End, Number, Marks, Move}
-use Rattle.chess_pgn.specs.LastTags.{may_precede_tags, is_marks}
+use Rattle.chess_pgn.specs.LastTags.{may_precede_tags}
 use Rattle.chess_pgn.specs.Tokens.{Token, Skip, Tag, Word, Bad_tag, Unclosed_comment, Unclosed_variation, Bad, is_word_byte, token_at, begins_line, tokens_from}
-use Rattle.chess_pgn.specs.Words.{word_kind}
+use Rattle.chess_pgn.specs.laws.WordKinds.{word_kind}
 use Rattle.chess_pgn.specs.Split.{Kind, Blank, Line, Comment, Nag, Variation, Tag_pair, Asterisk, Symbol, IsOf, token_of}
 use Rattle.chess_pgn.specs.ties.GameSteps.{IsNoMove, IsLeft, StopsAt}
+use Rattle.chess_pgn.proofs.PgnWords.{are_marks, marks_by_kind}
 use Rattle.chess_pgn.proofs.TokenKinds.{begins_word, TokenSays, known, faulty, is_fault, token_says}
 use Rattle.chess_pgn.proofs.Walk.{no_token, token_more}
 
@@ -20,7 +21,7 @@ move_has_bytes (c ∷ word) h = omega arith
 
 -- ---- a token after which more tags may come
 
-marks_left : (game : Seen) (word : List ℕ) (kind : WordKind) → is_marks kind ≡ true → IsNoMove game word kind
+marks_left : (game : Seen) (word : List ℕ) (kind : WordKind) → are_marks kind ≡ true → IsNoMove game word kind
 marks_left game word (End o) h = tt
 marks_left game word Number h = tt
 marks_left game word Marks h = tt
@@ -29,7 +30,7 @@ marks_left game word Move h = absurd (cc)
 pub tags_left : (game : Seen) (t : Token) → may_precede_tags t ≡ true → IsLeft game t
 tags_left game Skip h = tt
 tags_left game (Tag name text string) h = tt
-tags_left game (Word word) h = marks_left game word (word_kind word) h
+tags_left game (Word word) h = marks_left game word (word_kind word) (sym (marks_by_kind word) ∙ h)
 tags_left game Bad_tag h = tt
 tags_left game (Unclosed_comment brace) h = tt
 tags_left game Unclosed_variation h = tt

@@ -6,11 +6,12 @@ use Rattle.chess_base.specs.declared.man.Variant.{Variant}
 use Rattle.chess_base.specs.declared.man.Variant.TheVariants.{Normal}
 use Rattle.chess_base.specs.declared.setup.Setup.{Setup}
 use Rattle.chess_base.specs.Initial.{initial_setup, initial_setup_of}
-use Rattle.chess_game.specs.Game.{from_start}
+use Rattle.chess_game.specs.Game.{from_start, outcome_now}
 use Rattle.chess_pgn.specs.GameRead.{GameRead, failed, fens, first_bad_fen, last_start, variant_named, read_after_tags, pgn_read}
-use Rattle.chess_pgn.specs.GameText.{start_lines_in, last_lines}
+use Rattle.chess_pgn.specs.ties.TagGroups.{roster_lines, start_lines_in, last_lines}
 use Rattle.chess_pgn.specs.LastTags.{tag_section, last_tag}
 use Rattle.chess_pgn.specs.laws.Normal.{normal_read, NormalIsKept}
+use Rattle.chess_pgn.specs.Terminations.{termination_of}
 use Rattle.chess_pgn.specs.Tokens.{Token, after_byte_order_mark, tokens_from}
 
 initial_is : initial_setup_of Normal ≡ initial_setup
@@ -32,4 +33,8 @@ read_so limit text at none =
     ∙ ap (read Normal) initial_is
 
 pub normal_kept : NormalIsKept
-normal_kept = record { written = λ start t is. ap (λ v. start_lines_in v start ++ last_lines v t) is; read = read_so }
+normal_kept = record {
+  written = λ t s is. ap (λ v. roster_lines t (outcome_now s)
+      ++ (start_lines_in v s.start ++ last_lines v (termination_of t.ended (outcome_now s)))) is;
+  read = read_so;
+}

@@ -1,6 +1,6 @@
 -- The whole text of a game: what is written is read back.
-use Rattle.std.proofs.Common.{◌≡◌, ℕ, suc, ◌+◌, ◌-◌, ◌<◌, ◌≤◌, Bool, true, false, cond, eqb, List, [], ◌∷◌, ◌++◌, length, drop, Option, Some, None, refl, sym, ap, subst, ◌∙◌, append_assoc, arith}
-use Rattle.std.specs.Prelude.{codes, Ok, is_some, option_and_then}
+use Rattle.std.proofs.Common.{◌≡◌, ℕ, suc, ◌+◌, ◌-◌, ◌<◌, ◌≤◌, Bool, true, false, eqb, List, [], ◌∷◌, ◌++◌, length, drop, Option, Some, None, refl, sym, ap, subst, ◌∙◌, append_assoc, arith}
+use Rattle.std.specs.Prelude.{codes, not, Ok, is_some, option_and_then}
 use Rattle.std.proofs.lemmas.Bool.Decides.{nat_tests}
 use Rattle.std.proofs.lemmas.List.{length-append, drop_at}
 use Rattle.std.proofs.lemmas.Slice.Eq.{bytes_eq-Decides}
@@ -8,6 +8,7 @@ use Rattle.chess_base.specs.declared.man.Variant.{Variant}
 use Rattle.chess_base.specs.declared.man.Variant.TheVariants.{Normal, Fischerandom}
 use Rattle.chess_base.specs.declared.setup.Setup.{Setup}
 use Rattle.chess_base.specs.Initial.{initial_setup, initial_setup_of}
+use Rattle.chess_base.specs.Options.{list_if}
 use Rattle.chess_base.specs.laws.Laws.{AfterIsSound}
 use Rattle.chess_fen.specs.laws.Laws.{WrittenIsReadBack}
 use Rattle.chess_fen.specs.Reading.{fen_reading_as}
@@ -28,7 +29,8 @@ use Rattle.chess_pgn.specs.GameRead.{GameRead, declared_after, variant_named, ta
 use Rattle.chess_pgn.specs.LastTags.{tag_section, last_tag}
 use Rattle.chess_pgn.specs.Words.{outcome_of}
 use Rattle.chess_pgn.specs.laws.TokenByToken.{SoFar, game_of, nothing_read, tokens_read}
-use Rattle.chess_pgn.specs.GameText.{fen_lines, start_lines_in, last_lines, further_lines, tag_lines, game_tokens, pgn}
+use Rattle.chess_pgn.specs.GameText.{tag_lines, game_tokens, pgn}
+use Rattle.chess_pgn.specs.ties.TagGroups.{fen_lines, start_lines_in, last_lines, further_lines}
 use Rattle.chess_pgn.specs.ties.NumberedMoves.{numbered_moves}
 use Rattle.chess_pgn.specs.laws.PgnLaw.{AreTagTexts, IsReadBack, PgnIsReadBack, ResultIsWritten}
 use Rattle.chess_pgn.specs.Tokens.{Token, after_byte_order_mark, begins_line, tokens_of, tokens_from}
@@ -103,7 +105,7 @@ module _ (limit total : ℕ) where
 
       by_test : start.variant ≡ Normal → (b : Bool) → is_initial start ≡ b
           → read_on limit total (tagged true t (from_start (initial_setup_of Normal))) true
-          (ended [] (cond b [] (fen_lines start) ++ last) ++ rest) ≡ read_on limit total (tagged true t s) true
+          (ended [] (list_if (not b) (fen_lines start) ++ last) ++ rest) ≡ read_on limit total (tagged true t s) true
           (ended [] last ++ rest)
       by_test is true e = ap (λ p. read_on limit total (tagged true t (from_start p)) true (ended [] last ++ rest))
           (sym (initial_is law initial start is sound e))

@@ -1,5 +1,5 @@
 -- Words as they are written in a game: each is one token where a byte of no word follows, and of its own kind.
-use Rattle.std.proofs.Common.{◌≡◌, ℕ, ◌<◌, ◌≤◌, Bool, true, false, ◌&&◌, ◌||◌, eqb, List, [], ◌∷◌, ◌++◌, length, get_or, take, drop, Option, None, refl, sym, ap, subst, ◌-◌, ◌∙◌, inl, inr, arith}
+use Rattle.std.proofs.Common.{◌≡◌, ℕ, ◌<◌, ◌≤◌, Bool, true, false, cond, ◌&&◌, ◌||◌, eqb, List, [], ◌∷◌, ◌++◌, length, get_or, take, drop, Option, None, refl, sym, ap, subst, ◌-◌, ◌∙◌, inl, inr, arith}
 use Rattle.std.proofs.lemmas.Bool.{and_parts, and_from, or_cases}
 use Rattle.std.proofs.lemmas.Bool.Decides.{nat_tests}
 use Rattle.std.proofs.lemmas.Fmt.{decimal_is_IsNumeral}
@@ -9,7 +9,7 @@ use Rattle.std.proofs.lemmas.Str.Parse.{digit_from_value}
 use Rattle.std.specs.Fmt.{decimal}
 use Rattle.std.specs.List.{list_all, prefix_len, take_while}
 use Rattle.std.specs.Option.{option_map_or}
-use Rattle.std.specs.Prelude.{nat_le, if◌then◌else◌, Some, Result, Ok, Err}
+use Rattle.std.specs.Prelude.{nat_le, not, if◌then◌else◌, Some, Result, Ok, Err}
 use Rattle.std.specs.Result.{result_ok}
 use Rattle.std.specs.Str.{bytes_eq}
 use Rattle.std.specs.Str.Parse.{AllDigits}
@@ -22,7 +22,8 @@ use Rattle.chess_text.specs.laws.Laws.{is_san_byte, begins_with_letter}
 use Rattle.chess_pgn.specs.Tokens.{Word, is_word_byte, token_at, begins_line}
 use Rattle.chess_pgn.specs.ties.Begins.{begins_as_move}
 use Rattle.chess_base.specs.Letters.{is_digit, is_letter}
-use Rattle.chess_pgn.specs.Words.{outcome_of, word_kind}
+use Rattle.chess_pgn.specs.Words.{outcome_of, is_marks}
+use Rattle.chess_pgn.specs.laws.WordKinds.{word_kind}
 use Rattle.chess_pgn.proofs.ByteRuns.{run_drop, run_take}
 use Rattle.chess_pgn.proofs.TokenKinds.{begins_word}
 use Rattle.chess_pgn.proofs.Walk.{NextToken, next_token}
@@ -91,7 +92,7 @@ word_token begins c cs d rest all ends =
 abbrev kind_by : List ℕ → Option Outcome → WordKind
 kind_by word o = option_map_or End o
     (if list_all is_digit word then Number
-    else (if list_all (λ c. eqb c 33 || eqb c 63) word then Marks else Move))
+    else (if is_marks word then Marks else Move))
 
 -- an outcome's text that fails a test is not a text that passes it
 other_text : (p : List ℕ → Bool) (text word : List ℕ) → p text ≡ false → p word ≡ true → bytes_eq text word ≡ false
@@ -139,6 +140,48 @@ no_digits Unfinished = refl
 pub number_kind : (word : List ℕ) → list_all is_digit word ≡ true → word_kind word ≡ Number
 number_kind word h = ap (kind_by word) (no_outcome (list_all is_digit) word no_digits h) ∙ rw h refl
 
+-- ---- marks
+
+-- whether a word of this kind is marks
+abbrev pub are_marks : WordKind → Bool
+are_marks Marks = true
+are_marks _ = false
+
+no_marks : (o : Outcome) → is_marks (outcome_text o) ≡ false
+no_marks WhiteWins = refl
+no_marks BlackWins = refl
+no_marks Draw = refl
+no_marks Unfinished = refl
+
+marks_kind : (word : List ℕ) → is_marks word ≡ true → word_kind word ≡ Marks
+marks_kind [] h = absurd (cc)
+marks_kind (c ∷ cs) h =
+    let all : list_all (λ d. eqb d 33 || eqb d 63) (c ∷ cs) ≡ true =
+    (and_parts (not (eqb (length (c ∷ cs)) 0)) (list_all (λ d. eqb d 33 || eqb d 63) (c ∷ cs)) h).1 in
+    let first : (eqb c 33 || eqb c 63) ≡ true =
+    (and_parts (eqb c 33 || eqb c 63) (list_all (λ d. eqb d 33 || eqb d 63) cs) all).0 in
+    let digit : is_digit c ≡ false = elim (or_cases (eqb c 33) (eqb c 63) first) [
+      | inl e ↦ (let is : c ≡ 33 = grind (arith, nat_tests) in ap is_digit is)
+      | inr e ↦ (let is : c ≡ 63 = grind (arith, nat_tests) in ap is_digit is)
+    ] in
+    ap (kind_by (c ∷ cs)) (no_outcome is_marks (c ∷ cs) no_marks h)
+    ∙ ap (λ n. cond (n && list_all is_digit cs) Number (cond (is_marks (c ∷ cs)) Marks Move)) digit
+    ∙ ap (λ m. cond m Marks Move) h
+
+pub marks_by_kind : (word : List ℕ) → is_marks word ≡ are_marks (word_kind word)
+marks_by_kind word = by_test (is_marks word) refl
+  where
+    none : (o : Option Outcome) (is_number : Bool) → are_marks (option_map_or End o (cond is_number Number Move)) ≡ false
+    none (Some o) is_number = refl
+    none None true = refl
+    none None false = refl
+
+    by_test : (b : Bool) → is_marks word ≡ b → is_marks word ≡ are_marks (word_kind word)
+    by_test true e = e ∙ sym (ap are_marks (marks_kind word e))
+    by_test false e = e ∙ sym (ap (λ m. are_marks (option_map_or End (outcome_of word)
+        (cond (list_all is_digit word) Number (cond m Marks Move)))) e
+        ∙ none (outcome_of word) (list_all is_digit word))
+
 -- ---- words that begin with `A` or a byte after it
 
 from_a_no_outcome : (o : Outcome) → begins_as_move (outcome_text o) ≡ false
@@ -146,6 +189,10 @@ from_a_no_outcome WhiteWins = refl
 from_a_no_outcome BlackWins = refl
 from_a_no_outcome Draw = refl
 from_a_no_outcome Unfinished = refl
+
+and_false : (b : Bool) → (b && false) ≡ false
+and_false true = refl
+and_false false = refl
 
 pub begins_as_move_kind : (word : List ℕ) → begins_as_move word ≡ true → word_kind word ≡ Move
 begins_as_move_kind [] h = absurd (cc)
@@ -155,7 +202,12 @@ begins_as_move_kind (c ∷ cs) h =
     let stroke : eqb c 33 ≡ false = grind (arith, nat_tests) in
     let query : eqb c 63 ≡ false = grind (arith, nat_tests) in
     let low : nat_le 48 c ≡ true = grind (arith, nat_tests) in
-    ap (kind_by (c ∷ cs)) (no_outcome begins_as_move (c ∷ cs) from_a_no_outcome h) ∙ rw (low, digit, stroke, query) refl
+    let number : list_all is_digit (c ∷ cs) ≡ false = rw (low, digit) refl in
+    let mark : list_all (λ d. eqb d 33 || eqb d 63) (c ∷ cs) ≡ false = rw (stroke, query) refl in
+    let marks : is_marks (c ∷ cs) ≡ false =
+    ap (λ b. not (eqb (length (c ∷ cs)) 0) && b) mark ∙ and_false (not (eqb (length (c ∷ cs)) 0)) in
+    ap (kind_by (c ∷ cs)) (no_outcome begins_as_move (c ∷ cs) from_a_no_outcome h)
+    ∙ ap (λ n. cond n Number (cond (is_marks (c ∷ cs)) Marks Move)) number ∙ ap (λ m. cond m Marks Move) marks
 
 pub move_kind : (word : List ℕ) → begins_with_letter word ≡ true → word_kind word ≡ Move
 move_kind [] h = absurd (cc)

@@ -1,13 +1,13 @@
 -- The words of a game that was read: each denotes a move where a move may be played, and these are the game's moves.
 use Rattle.std.proofs.Common.{◌≡◌, ℕ, Bool, true, false, cond, not, List, [], ◌∷◌, ◌++◌, length, drop, Option, Some, None, is_some, Result, Ok, Err, refl, sym, ap, subst, ◌∙◌, append_assoc, append-nil}
-use Rattle.std.specs.Prelude.{◌||◌, ◌==◌, nat_lt}
+use Rattle.std.specs.Prelude.{◌||◌, nat_lt}
 use Rattle.std.specs.List.{list_all, list_any}
 use Rattle.std.specs.Option.{option_map_or}
 use Rattle.chess_base.specs.declared.man.Move.{Move}
 use Rattle.chess_base.specs.declared.man.Variant.{Variant}
 use Rattle.chess_base.specs.declared.setup.Setup.{Setup}
 use Rattle.chess_base.specs.Initial.{initial_setup_of}
-use Rattle.chess_base.specs.Letters.{byte, is_digit}
+use Rattle.chess_base.specs.Letters.{is_digit}
 use Rattle.chess_game.specs.Game.{State, from_start, played, current, verdict_now}
 use Rattle.chess_game.specs.declared.results.Outcome.{Outcome}
 use Rattle.chess_game.specs.declared.verdicts.Verdict.{Verdict}
@@ -21,7 +21,7 @@ use Rattle.chess_pgn.specs.declared.termination.Termination.{Termination}
 use Rattle.chess_pgn.specs.GameRead.{GameRead, Row, Passes, Plays, Ends, Fails, failed, move_row, row, after_row, moves_read, is_tag, fens, last_start, last_termination, first_bad_fen, tagged_variant, read_after_tags, pgn_read}
 use Rattle.chess_pgn.specs.LastTags.{tag_section}
 use Rattle.chess_pgn.specs.Tokens.{Token, Skip, Tag, Word, Bad_tag, Unclosed_comment, Unclosed_variation, Bad, after_byte_order_mark, tokens_from}
-use Rattle.chess_pgn.specs.Words.{outcome_of}
+use Rattle.chess_pgn.specs.Words.{outcome_of, is_marks}
 
 -- from the game `s` on each word denotes the move at its index, where the game has no verdict and fewer than `limit`
 -- moves
@@ -79,12 +79,11 @@ word_plays limit s word m reads.NoSuch is e =
 token_plays : (limit : ℕ) (s : State) (t : Token) (m : Move) → row limit s t ≡ Plays m → IsPlayed limit s m
 token_plays limit s Skip m e = absurd (cc)
 token_plays limit s (Tag name string left) m e = absurd (cc)
-token_plays limit s (Word word) m e = by_kind (outcome_of word) (list_all is_digit word)
-    (list_all (λ c. c == byte "!" || c == byte "?") word) e
+token_plays limit s (Word word) m e = by_kind (outcome_of word) (list_all is_digit word) (is_marks word) e
   where
     by_kind : (o : Option Outcome) (is_number is_mark : Bool)
         → option_map_or (λ k. Ends k (length word)) o
-        (cond is_number Passes (cond is_mark Passes (move_row limit s (reading (current s) word)))) ≡ Plays m
+        (cond (is_number || is_mark) Passes (move_row limit s (reading (current s) word))) ≡ Plays m
         → IsPlayed limit s m
     by_kind (Some o) is_number is_mark e = absurd (cc)
     by_kind None true is_mark e = absurd (cc)

@@ -1,5 +1,5 @@
 -- What a step of reading may do, and where it stops.
-use Rattle.std.proofs.Common.{◌≡◌, ℕ, ◌+◌, ◌-◌, ◌≤◌, ◌<◌, Bool, true, false, List, [], ◌∷◌, length, Option, Result, Ok, Err, refl, arith, rules}
+use Rattle.std.proofs.Common.{◌≡◌, ℕ, ◌+◌, ◌-◌, ◌≤◌, ◌<◌, Bool, true, false, List, [], ◌∷◌, length, Option, Result, Ok, Err, refl, sym, subst, arith, rules}
 use Rattle.std.specs.Prelude.{codes, is_some, nat_lt, if◌then◌else◌}
 use Rattle.std.specs.Str.{bytes_eq}
 use Rattle.chess_base.specs.declared.fen_fault.FenFault.{FenFault}
@@ -16,12 +16,13 @@ use Rattle.chess_pgn.specs.declared.read.PgnFaultKind.TheVariants.{BadTag, BadFe
 use Rattle.chess_pgn.specs.declared.termination.Termination.{Termination}
 use Rattle.chess_pgn.specs.declared.word_kind.WordKind.{WordKind}
 use Rattle.chess_pgn.specs.declared.word_kind.WordKind.TheVariants.{End, Number, Marks, Move}
-use Rattle.chess_pgn.specs.LastTags.{is_marks, may_precede_tags}
+use Rattle.chess_pgn.specs.LastTags.{may_precede_tags}
 use Rattle.chess_pgn.specs.laws.TokenByToken.{SoFar, Step, On, fails, ends, unless_full, move_step, word_step, fen_step, tag_step, termination_after, step}
 use Rattle.chess_pgn.specs.ties.GameSteps.{IsWithin}
 use Rattle.chess_pgn.specs.Tokens.{Token, Skip, Tag, Word, Bad_tag, Unclosed_comment, Unclosed_variation, Bad}
-use Rattle.chess_pgn.specs.Words.{word_kind}
+use Rattle.chess_pgn.specs.laws.WordKinds.{word_kind}
 use Rattle.chess_pgn.proofs.ByteRuns.{pick}
+use Rattle.chess_pgn.proofs.PgnWords.{are_marks, marks_by_kind}
 
 -- a step from the game `g` on, at a token from which `left` of `total` bytes are left: it leaves the game, plays a move,
 -- sets the start, stops at a fault, whose offset is not before the token, or ends the game after `len` bytes of it
@@ -97,9 +98,11 @@ pub word_cases : (P : (SoFar → ℕ → Step) → Bool → Type 0) (limit : ℕ
     → P (λ g offset. On (record g { is_met = true; is_begun = true })) false → P (λ g offset. On g) true
     → P (λ g offset. move_step limit g offset (reading (current g.state) word)) false
     → P (λ g offset. word_step limit g offset word (word_kind word)) (may_precede_tags (Word word))
-word_cases P limit word end number marks move = by_kind (word_kind word)
+word_cases P limit word end number marks move =
+    subst (P (λ g offset. word_step limit g offset word (word_kind word))) (sym (marks_by_kind word))
+    (by_kind (word_kind word))
   where
-    by_kind : (k : WordKind) → P (λ g offset. word_step limit g offset word k) (is_marks k)
+    by_kind : (k : WordKind) → P (λ g offset. word_step limit g offset word k) (are_marks k)
     by_kind (End o) = end o
     by_kind Number = number
     by_kind Marks = marks

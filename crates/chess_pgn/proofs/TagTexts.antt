@@ -2,7 +2,7 @@
 use Rattle.std.proofs.Common.{◌≡◌, ℕ, ◌<◌, ◌≤◌, Bool, true, false, cond, eqb, List, [], ◌∷◌, ◌++◌, length, map, Option, Some, None, refl, ap, subst, ◌∙◌, append_assoc, arith}
 use Rattle.std.specs.List.{list_all, AllByRecursion}
 use Rattle.std.specs.Option.{option_map, option_or}
-use Rattle.std.specs.Prelude.{codes, decimal}
+use Rattle.std.specs.Prelude.{codes, decimal, not}
 use Rattle.std.specs.Str.{bytes_eq}
 use Rattle.std.proofs.lemmas.Bool.{leb-true}
 use Rattle.chess_base.specs.declared.man.Colour.{Colour}
@@ -12,6 +12,7 @@ use Rattle.chess_base.specs.declared.man.Variant.{Variant}
 use Rattle.chess_base.specs.declared.man.Variant.TheVariants.{Normal, Fischerandom}
 use Rattle.chess_base.specs.declared.setup.Setup.{Setup}
 use Rattle.chess_base.specs.Moves.{after}
+use Rattle.chess_base.specs.Options.{list_if}
 use Rattle.chess_base.specs.Sound.{IsSound}
 use Rattle.chess_fen.specs.Writing.{fen, is_initial}
 use Rattle.chess_game.specs.Game.{State, outcome_now}
@@ -21,14 +22,15 @@ use Rattle.chess_game.specs.declared.results.Outcome.TheVariants.{WhiteWins, Bla
 use Rattle.chess_pgn.specs.declared.tags.Tags.{Tags}
 use Rattle.chess_pgn.specs.declared.termination.Termination.{Termination}
 use Rattle.chess_pgn.specs.declared.word_kind.WordKind.TheVariants.{Number}
-use Rattle.chess_pgn.specs.GameText.{fen_lines, start_lines_in, last_lines, tag_lines, game_tokens}
+use Rattle.chess_pgn.specs.GameText.{tag_lines, game_tokens}
+use Rattle.chess_pgn.specs.ties.TagGroups.{fen_lines, start_lines_in, last_lines}
 use Rattle.chess_pgn.specs.ties.NumberedMoves.{number_if_due, numbered_moves}
-use Rattle.chess_pgn.specs.LastTags.{is_marks, may_precede_tags, named_tag}
+use Rattle.chess_pgn.specs.LastTags.{may_precede_tags, named_tag}
 use Rattle.chess_pgn.specs.laws.PgnLaw.{AreTagTexts}
 use Rattle.chess_pgn.specs.Terminations.{termination_text, termination_of}
 use Rattle.chess_pgn.specs.ties.Lines.{next_column}
 use Rattle.chess_pgn.specs.Tokens.{Token, Skip, Tag, Word, is_word_byte, token_at, tokens_of}
-use Rattle.chess_pgn.specs.Words.{word_kind}
+use Rattle.chess_pgn.specs.laws.WordKinds.{word_kind}
 use Rattle.chess_pgn.specs.Written.{escaped, tag_line, ended}
 use Rattle.chess_text.specs.San.{san}
 use Rattle.chess_pgn.proofs.NumberedMoves.{game_numbered}
@@ -36,7 +38,7 @@ use Rattle.chess_pgn.proofs.FilledLines.{filled_from}
 use Rattle.chess_pgn.proofs.PgnFen.{fen_bare}
 use Rattle.chess_pgn.proofs.PgnPieces.{termination_bare}
 use Rattle.chess_pgn.proofs.PgnTags.{is_in_line, bare_in_line, is_tag_name, tag_token, tag_line_bytes, tag_text_in_line}
-use Rattle.chess_pgn.proofs.PgnWords.{word_token, number_kind, decimal_digits, decimal_some, number_bytes}
+use Rattle.chess_pgn.proofs.PgnWords.{are_marks, marks_by_kind, word_token, number_kind, decimal_digits, decimal_some, number_bytes}
 use Rattle.chess_pgn.proofs.TagScans.{text_from}
 use Rattle.chess_pgn.proofs.Walk.{enough, shorter}
 
@@ -82,7 +84,7 @@ lines_are t s =
     (by_variant s.start.variant (termination_of t.ended (outcome_now s)))
   where
     by_test : (b : Bool) (u : Termination)
-        → cond b [] (fen_lines s.start) ++ last_lines Normal u
+        → list_if (not b) (fen_lines s.start) ++ last_lines Normal u
         ≡ lines_of (cond b [] (fen_tags s.start) ++ last_tags Normal u)
     by_test true u = refl
     by_test false u = refl
@@ -261,7 +263,7 @@ module _ (name : List ℕ) where
       → list_all is_word_byte word ≡ true → word_kind word ≡ Number → said_on v begins (word ++ 46 ∷ rest) ≡ v
   digits_stop v [] begins rest some all kind = absurd (omega arith)
   digits_stop v (c ∷ cs) begins rest some all kind = token_stops v begins c (cs ++ 46 ∷ rest) (Word (c ∷ cs))
-      (46 ∷ rest) (word_token begins c cs 46 rest all refl) (ap is_marks kind)
+      (46 ∷ rest) (word_token begins c cs 46 rest all refl) (marks_by_kind (c ∷ cs) ∙ ap are_marks kind)
 
   number_stops : (v : Option (List ℕ)) (n : ℕ) (begins : Bool) (rest : List ℕ) → n ≤ 999999
       → said_on v begins (decimal n ++ 46 ∷ rest) ≡ v

@@ -1,7 +1,7 @@
 -- What is read of a game's text (PGN standard of 1994, sections 7 to 9; which words are taken is this project's own): a
 -- game's tokens are its tags, and then its moves. The tags give the start, and each move's word denotes a move in the
 -- position reached by then. The first token that can't be taken is the fault.
-use Rattle.std.specs.Prelude.{◌≡◌, ℕ, ◌+◌, ◌-◌, nat_lt, Bool, true, false, not, ◌||◌, if◌then◌else◌, List, [], ◌∷◌, length, drop, map, codes, slice_get, Option, Some, None, is_some, Result, Ok, Err, option_and_then, ◌==◌}
+use Rattle.std.specs.Prelude.{◌≡◌, ℕ, ◌+◌, ◌-◌, nat_lt, Bool, true, false, not, ◌||◌, if◌then◌else◌, List, [], ◌∷◌, length, drop, map, codes, slice_get, Option, Some, None, is_some, Result, Ok, Err, option_and_then}
 use Rattle.std.specs.List.{list_all, list_any, filter_map, last_or, take_while}
 use Rattle.std.specs.Option.{option_map_or, unwrap_or}
 use Rattle.std.specs.Result.{is_ok, result_ok}
@@ -12,7 +12,7 @@ use Rattle.chess_base.specs.declared.man.Variant.{Variant}
 use Rattle.chess_base.specs.declared.man.Variant.TheVariants.{Normal, Fischerandom}
 use Rattle.chess_base.specs.declared.setup.Setup.{Setup}
 use Rattle.chess_base.specs.Initial.{initial_setup_of}
-use Rattle.chess_base.specs.Letters.{byte, is_digit}
+use Rattle.chess_base.specs.Letters.{is_digit}
 use Rattle.chess_fen.specs.Reading.{fen_reading_as}
 use Rattle.chess_game.specs.Game.{State, from_start, played, with_declared, current, verdict_now}
 use Rattle.chess_game.specs.declared.results.Declared.{Declared}
@@ -31,7 +31,7 @@ use Rattle.chess_pgn.specs.Terminations.{termination_named}
 use Rattle.chess_pgn.specs.LastTags.{tag_section, tags_named, last_tag}
 use Rattle.chess_pgn.specs.Tokens.{Token, Skip, Tag, Word, Bad_tag, Unclosed_comment, Unclosed_variation, Bad, after_byte_order_mark, tokens_from}
 use Rattle.chess_pgn.specs.Split.{IsSplit}
-use Rattle.chess_pgn.specs.Words.{outcome_of}
+use Rattle.chess_pgn.specs.Words.{outcome_of, is_marks}
 
 -- ---- what is read in the end
 
@@ -89,12 +89,10 @@ move_row limit s denoted =
     else denoted_row denoted
 
 -- what a word does in the game `s` of at most `limit` half-moves: an outcome such as `1-0` ends the game; a number
--- (digits alone) and marks (`!` and `?` alone) are passed over; any other word is taken as a move (see `move_row`)
+-- (digits alone) and marks such as `!?` are passed over; any other word is taken as a move (see `move_row`)
 abbrev pub word_row : ℕ → State → List ℕ → Row
 word_row limit s word = option_map_or (λ o. Ends o (length word)) (outcome_of word)
-    (if list_all is_digit word then Passes
-    else if list_all (λ c. c == byte "!" || c == byte "?") word then Passes
-    else move_row limit s (reading (current s) word))
+    (if list_all is_digit word || is_marks word then Passes else move_row limit s (reading (current s) word))
 
 -- what a token does after the tags, in the game `s` of at most `limit` half-moves (for a word see `word_row`). A tag
 -- here, even a bad one, is the next game's, so this game has no outcome, which is a fault

@@ -1,84 +1,49 @@
 -- A game's text as it is written (PGN standard of 1994, sections 3.2, 8 and 9.7).
-use Rattle.std.specs.Prelude.{ℕ, if◌then◌else◌, List, [], ◌∷◌, ◌++◌, codes, decimal}
-use Rattle.chess_base.specs.declared.man.Colour.{Colour}
+use Rattle.std.specs.Prelude.{ℕ, not, ◌&&◌, ◌||◌, List, [], ◌∷◌, ◌++◌, length, codes, decimal, ◌==◌}
 use Rattle.chess_base.specs.declared.man.Colour.TheVariants.{White, Black}
 use Rattle.chess_base.specs.declared.man.Move.{Move}
-use Rattle.chess_base.specs.declared.man.Variant.{Variant}
-use Rattle.chess_base.specs.declared.man.Variant.TheVariants.{Normal, Fischerandom}
 use Rattle.chess_base.specs.declared.setup.Setup.{Setup}
+use Rattle.chess_base.specs.Men.{same_colour}
 use Rattle.chess_base.specs.Moves.{after}
+use Rattle.chess_base.specs.Options.{list_if}
 use Rattle.chess_fen.specs.Writing.{fen, is_initial}
 use Rattle.chess_game.specs.Game.{State, outcome_now}
 use Rattle.chess_game.specs.Results.{outcome_text}
-use Rattle.chess_game.specs.declared.results.Outcome.{Outcome}
 use Rattle.chess_pgn.specs.declared.tags.Tags.{Tags}
-use Rattle.chess_pgn.specs.declared.termination.Termination.{Termination}
-use Rattle.chess_text.specs.San.{san}
+use Rattle.chess_text.specs.San.{is_fischerandom, san}
 use Rattle.chess_pgn.specs.Terminations.{termination_text, termination_of}
 use Rattle.chess_pgn.specs.Written.{tag_line, ended, lines_of}
 
 -- ---- tags
 
--- the lines of the seven tags that each game has, in their order (section 8.1.1), for a game with outcome `o`
-abbrev pub roster_lines : Tags → Outcome → List (List ℕ)
-roster_lines t o =
+-- the lines of the tags of the game `s`: the seven that each game has, in their order (section 8.1.1); then, sorted by
+-- name, FEN and SetUp (section 9.7), where the game does not begin from the initial position of normal chess,
+-- Termination, and in Chess960 Variant. The outcome comes from the game, not from `t`
+abbrev pub tag_lines : Tags → State → List (List ℕ)
+tag_lines t s =
     tag_line (codes "Event") t.event ∷ tag_line (codes "Site") t.site ∷ tag_line (codes "Date") t.date
     ∷ tag_line (codes "Round") t.round ∷ tag_line (codes "White") t.white ∷ tag_line (codes "Black") t.black
-    ∷ tag_line (codes "Result") (outcome_text o) ∷ []
-
--- the lines of the tags FEN and SetUp (section 9.7) for a game from this start
-abbrev pub fen_lines : Setup → List (List ℕ)
-fen_lines start = tag_line (codes "FEN") (fen start) ∷ tag_line (codes "SetUp") (codes "1") ∷ []
-
--- the lines of the tags that give a game's start in variant v: none for the initial position of normal chess, else FEN
--- and SetUp
-abbrev pub start_lines_in : Variant → Setup → List (List ℕ)
-start_lines_in Normal start = if is_initial start then [] else fen_lines start
-start_lines_in Fischerandom start = fen_lines start
-
--- the line of the tag Variant, for Chess960 only
-abbrev pub variant_lines : Variant → List (List ℕ)
-variant_lines Normal = []
-variant_lines Fischerandom = tag_line (codes "Variant") (codes "fischerandom") ∷ []
-
--- the line of the tag Termination, and for Chess960 that of Variant
-abbrev pub last_lines : Variant → Termination → List (List ℕ)
-last_lines v termination = tag_line (codes "Termination") (termination_text termination) ∷ variant_lines v
-
--- the lines of the tags after the seven of each game, sorted by name: FEN, SetUp, Termination, Variant
-abbrev pub further_lines : Setup → Termination → List (List ℕ)
-further_lines start termination = start_lines_in start.variant start ++ last_lines start.variant termination
-
--- the lines of all tags of the game `s`; its outcome comes from the game, not from `t`
-abbrev pub tag_lines : Tags → State → List (List ℕ)
-tag_lines t s = roster_lines t (outcome_now s) ++ further_lines s.start (termination_of t.ended (outcome_now s))
+    ∷ tag_line (codes "Result") (outcome_text (outcome_now s))
+    ∷ list_if (is_fischerandom s.start.variant || not (is_initial s.start))
+    (tag_line (codes "FEN") (fen s.start) ∷ tag_line (codes "SetUp") (codes "1") ∷ [])
+    ++ tag_line (codes "Termination") (termination_text (termination_of t.ended (outcome_now s)))
+    ∷ list_if (is_fischerandom s.start.variant) (tag_line (codes "Variant") (codes "fischerandom") ∷ [])
 
 -- ---- the tokens of the moves
 
--- the number before a move by this side: `12.` before each move of White, none before Black's (but see `first_number`)
-abbrev pub number_token : Colour → ℕ → List (List ℕ)
-number_token White number = (decimal number ++ codes ".") ∷ []
-number_token Black number = []
-
--- the tokens of move m in position p: its number, if White makes it, and its SAN
-abbrev pub tokens_of_move : Setup → Move → List (List ℕ)
-tokens_of_move p m = number_token p.side p.fullmove ++ san p m ∷ []
-
--- the tokens of moves made one after another from the position `p` on (section 8.2)
+-- the tokens of moves made one after another from the position `p` on (section 8.2): the SAN of each move, and before
+-- each move of White its number, such as `12.`
 abbrev pub move_tokens : Setup → List Move → List (List ℕ)
 move_tokens p [] = []
-move_tokens p (m ∷ ms) = tokens_of_move p m ++ move_tokens (after p m) ms
+move_tokens p (m ∷ ms) =
+    list_if (same_colour p.side White) ((decimal p.fullmove ++ codes ".") ∷ []) ++ san p m ∷ move_tokens (after p m) ms
 
--- the number before a game's first move if Black makes it, such as `12...`; none if White makes it, or if there are no
--- moves. The first argument is the side to move at the game's start, the second the number there
-abbrev pub first_number : Colour → ℕ → List Move → List (List ℕ)
-first_number White number ms = []
-first_number Black number [] = []
-first_number Black number (m ∷ ms) = (decimal number ++ codes "...") ∷ []
-
--- the tokens of a game: numbers, moves in SAN, and the outcome last
+-- the tokens of a game: its moves with their numbers, and the outcome last. If Black makes the game's first move, that
+-- move has a number too, such as `12...`
 abbrev pub game_tokens : State → List (List ℕ)
-game_tokens s = first_number s.start.side s.start.fullmove s.moves
+game_tokens s =
+    list_if (same_colour s.start.side Black && not (length s.moves == 0))
+    ((decimal s.start.fullmove ++ codes "...") ∷ [])
     ++ (move_tokens s.start s.moves ++ outcome_text (outcome_now s) ∷ [])
 
 -- ---- the whole text: tags, an empty line, the moves in filled lines, an empty line; each line after a prefix

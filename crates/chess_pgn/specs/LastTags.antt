@@ -5,21 +5,14 @@ use Rattle.std.specs.List.{filter_map, last_or, take_while}
 use Rattle.std.specs.Option.{option_map}
 use Rattle.std.specs.Str.{bytes_eq}
 use Rattle.chess_pgn.specs.declared.tagged_result.ResultTag.{ResultTag}
-use Rattle.chess_pgn.specs.declared.word_kind.WordKind.{WordKind}
-use Rattle.chess_pgn.specs.declared.word_kind.WordKind.TheVariants.{Marks}
 use Rattle.chess_pgn.specs.Tokens.{Token, Skip, Tag, Word}
-use Rattle.chess_pgn.specs.Words.{outcome_of, word_kind}
-
--- a word of this kind is marks alone, such as `!?`
-abbrev pub is_marks : WordKind → Bool
-is_marks Marks = true
-is_marks _ = false
+use Rattle.chess_pgn.specs.Words.{outcome_of, is_marks}
 
 -- after this token more tags of the same game may come: it is skipped, a tag, or marks such as `!?`
 abbrev pub may_precede_tags : Token → Bool
 may_precede_tags Skip = true
 may_precede_tags (Tag name text to_end) = true
-may_precede_tags (Word word) = is_marks (word_kind word)
+may_precede_tags (Word word) = is_marks word
 may_precede_tags _ = false
 
 -- the text of a token that is a tag with the given name, and how many bytes of the game's text are left where that text

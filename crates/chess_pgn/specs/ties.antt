@@ -8,3 +8,4 @@ pub mod Begins
 pub mod Gaps
 pub mod Lines
 pub mod NumberedMoves
+pub mod TagGroups

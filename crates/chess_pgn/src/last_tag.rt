@@ -8,7 +8,7 @@ ghost use Rattle.chess_pgn.specs.ties.Seen.{found_seen, token_seen};
 
 use crate::tag::Tag;
 use crate::token::{Token, after_blanks, next_token};
-use crate::word_kind::{WordKind, word_kind};
+use crate::word_kind::is_marks;
 
 /// Whether more tags of the same game may come after this token. They may after a token that is skipped, a tag, or
 /// marks such as `!?`; after a number, a move or an outcome no tag belongs to this game.
@@ -17,10 +17,7 @@ pub(crate) fn may_precede_tags(token: &Token<'_>) -> bool
 {
     match token {
         Token::Skip | Token::Tag(_) => true,
-        Token::Word(word) => match word_kind(word) {
-            WordKind::Marks => true,
-            _ => false,
-        },
+        Token::Word(word) => is_marks(word),
     }
 }
 

@@ -10,7 +10,7 @@ ghost use Rattle.std.specs.Option.{IfSome, option_map_or};
 ghost use Rattle.chess_game.specs.Game.{State, with_state, with_declared, current, verdict_now, refusal_now};
 ghost use Rattle.chess_base.specs.declared.man.Variant.TheVariants.{Normal};
 ghost use Rattle.chess_text.specs.Moves.{reading};
-ghost use Rattle.chess_pgn.specs.Words.{word_kind};
+ghost use Rattle.chess_pgn.specs.laws.WordKinds.{word_kind};
 ghost use Rattle.chess_pgn.specs.ties.Seen.{found_seen, token_seen, fault_seen};
 ghost use Rattle.chess_pgn.specs.GameRead.{GameRead, IsRead, declared_after, variant_named, tagged_variant, pgn_read};
 ghost use Rattle.chess_pgn.specs.laws.TokenByToken.{move_step, word_step, tag_step, step};

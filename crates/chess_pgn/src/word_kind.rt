@@ -3,7 +3,8 @@
 ghost use Rattle.std.specs.Prelude.{◌≡◌, ◌||◌, ◌==◌, false};
 ghost use Rattle.std.specs.List.{list_all};
 ghost use Rattle.chess_base.specs.Letters.{byte, is_digit};
-ghost use Rattle.chess_pgn.specs.Words.{outcome_of, word_kind};
+ghost use Rattle.chess_pgn.specs.Words.{outcome_of, is_marks};
+ghost use Rattle.chess_pgn.specs.laws.WordKinds.{word_kind};
 ghost use Rattle.chess_pgn.specs.ties.Begins.{begins_as_move};
 
 use crate::bytes::is_digit;
@@ -45,6 +46,13 @@ fn has_marks_alone(word: &[u8]) -> bool
     word.iter().all(|byte| *byte == b'!' || *byte == b'?')
 }
 
+/// Whether a word is marks such as `!?`: one or more `!` and `?`.
+pub(crate) fn is_marks(word: &[u8]) -> bool
+    ensures { result ≡ is_marks word.now }
+{
+    !word.is_empty() && has_marks_alone(word)
+}
+
 // Whether a word begins with a letter or `_`, as `Nf3` does. Of the bytes that a word may have, these are the ones from
 // `A` (0x41) on. The kind of such a word is `Move`, since outcomes, numbers and marks begin with `*`, a digit, `!` or
 // `?`.
@@ -66,7 +74,7 @@ fn other_word_kind(word: &[u8]) -> WordKind
 {
     if let Some(outcome) = outcome_of(word) {
         WordKind::End(outcome)
-    } else if has_marks_alone(word) {
+    } else if is_marks(word) {
         WordKind::Marks
     } else {
         WordKind::Move

@@ -5,7 +5,7 @@ ghost use Rattle.std.specs.Prelude.{◌≡◌, ◌≤◌, ◌<◌, true, false, 
 ghost use Rattle.std.specs.Option.{IfSome};
 ghost use Rattle.chess_game.specs.Game.{current};
 ghost use Rattle.chess_text.specs.Moves.{reading};
-ghost use Rattle.chess_pgn.specs.Words.{word_kind};
+ghost use Rattle.chess_pgn.specs.laws.WordKinds.{word_kind};
 ghost use Rattle.chess_pgn.specs.laws.TokenByToken.{move_step, word_step};
 ghost use Rattle.chess_pgn.specs.Tokens.{tokens_from};
 ghost use Rattle.chess_pgn.specs.ties.GameSteps.{ReadsAlike, is_played, IsNoMove, StopsAt, IsTaken, GoesOn};

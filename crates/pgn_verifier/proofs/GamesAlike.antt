@@ -7,7 +7,7 @@ use Rattle.chess_pgn.specs.GameRead.{GameRead, declared_after}
 use Rattle.chess_pgn.specs.LastTags.{may_precede_tags}
 use Rattle.chess_pgn.specs.Split.{IsSplit, IsOf, IsLongest, Kind, token_of, Blank, Line, Comment, Nag, Variation, Tag_pair, Asterisk, Symbol, ended, token, stopped}
 use Rattle.chess_pgn.specs.Tokens.{Token, Word, begins_line, tokens_from}
-use Rattle.chess_pgn.specs.Words.{word_kind}
+use Rattle.chess_pgn.specs.laws.WordKinds.{word_kind}
 use Rattle.chess_pgn.specs.declared.read.PgnEnd.{PgnEnd}
 use Rattle.chess_pgn.specs.declared.read.PgnFaultKind.TheVariants.{NoResult}
 use Rattle.chess_pgn.specs.laws.TokenByToken.{SoFar, word_step, step, read_rest_with, game_of}

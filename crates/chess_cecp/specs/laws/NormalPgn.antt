@@ -1,17 +1,18 @@
 -- A game's text as it is defined for normal chess alone: each of these is the definition of the same name without
 -- `normal_`. Nothing here takes a variant, and no tag names one.
-use Rattle.std.specs.Prelude.{ℕ, Bool, if◌then◌else◌, List, [], ◌∷◌, ◌++◌, codes}
+use Rattle.std.specs.Prelude.{ℕ, Bool, not, ◌&&◌, List, [], ◌∷◌, ◌++◌, length, codes, decimal, ◌==◌}
 use Rattle.std.specs.Str.{bytes_eq}
+use Rattle.chess_base.specs.declared.man.Colour.TheVariants.{White, Black}
 use Rattle.chess_base.specs.declared.man.Move.{Move}
 use Rattle.chess_base.specs.declared.setup.Setup.{Setup}
+use Rattle.chess_base.specs.Men.{same_colour}
+use Rattle.chess_base.specs.Options.{list_if}
 use Rattle.chess_base.specs.laws.Normal.{normal_after}
 use Rattle.chess_fen.specs.laws.Normal.{normal_fen}
 use Rattle.chess_text.specs.laws.Normal.{normal_san}
 use Rattle.chess_game.specs.Game.{State}
 use Rattle.chess_game.specs.Results.{outcome_text}
 use Rattle.chess_pgn.specs.declared.tags.Tags.{Tags}
-use Rattle.chess_pgn.specs.declared.termination.Termination.{Termination}
-use Rattle.chess_pgn.specs.GameText.{roster_lines, number_token, first_number}
 use Rattle.chess_pgn.specs.Terminations.{termination_text, termination_of}
 use Rattle.chess_pgn.specs.Written.{tag_line, ended, lines_of}
 use Rattle.chess_cecp.specs.laws.NormalGame.{normal_initial, normal_outcome_now}
@@ -20,36 +21,28 @@ use Rattle.chess_cecp.specs.laws.NormalGame.{normal_initial, normal_outcome_now}
 abbrev pub normal_is_initial : Setup → Bool
 normal_is_initial start = bytes_eq (normal_fen start) (normal_fen normal_initial)
 
--- the lines of the tags FEN and SetUp, if `start` is not the initial position, else none; for normal chess alone
-abbrev pub normal_start_lines : Setup → List (List ℕ)
-normal_start_lines start =
-    if normal_is_initial start then []
-    else tag_line (codes "FEN") (normal_fen start) ∷ tag_line (codes "SetUp") (codes "1") ∷ []
-
--- the lines of the tags after the seven that each game has: FEN and SetUp, if needed, and Termination; for normal chess
--- alone
-abbrev pub normal_further_lines : Setup → Termination → List (List ℕ)
-normal_further_lines start termination =
-    normal_start_lines start ++ tag_line (codes "Termination") (termination_text termination) ∷ []
-
--- the lines of all tags of the game `s`, of which `t` gives the names, date and so on; for normal chess alone
+-- the lines of the tags of the game `s`, of which `t` gives the names, date and so on; for normal chess alone
 abbrev pub normal_tag_lines : Tags → State → List (List ℕ)
 normal_tag_lines t s =
-    roster_lines t (normal_outcome_now s)
-    ++ normal_further_lines s.start (termination_of t.ended (normal_outcome_now s))
-
--- the tokens of the move `m` from the position `p`: its number, if White makes it, and its SAN; for normal chess alone
-abbrev pub normal_tokens_of_move : Setup → Move → List (List ℕ)
-normal_tokens_of_move p m = number_token p.side p.fullmove ++ normal_san p m ∷ []
+    tag_line (codes "Event") t.event ∷ tag_line (codes "Site") t.site ∷ tag_line (codes "Date") t.date
+    ∷ tag_line (codes "Round") t.round ∷ tag_line (codes "White") t.white ∷ tag_line (codes "Black") t.black
+    ∷ tag_line (codes "Result") (outcome_text (normal_outcome_now s))
+    ∷ list_if (not (normal_is_initial s.start))
+    (tag_line (codes "FEN") (normal_fen s.start) ∷ tag_line (codes "SetUp") (codes "1") ∷ [])
+    ++ tag_line (codes "Termination") (termination_text (termination_of t.ended (normal_outcome_now s))) ∷ []
 
 -- the tokens of moves made one after another from the position `p` on; for normal chess alone
 abbrev pub normal_move_tokens : Setup → List Move → List (List ℕ)
 normal_move_tokens p [] = []
-normal_move_tokens p (m ∷ ms) = normal_tokens_of_move p m ++ normal_move_tokens (normal_after p m) ms
+normal_move_tokens p (m ∷ ms) =
+    list_if (same_colour p.side White) ((decimal p.fullmove ++ codes ".") ∷ [])
+    ++ normal_san p m ∷ normal_move_tokens (normal_after p m) ms
 
--- the tokens of a game: numbers, moves in SAN, and the outcome last; for normal chess alone
+-- the tokens of a game: its moves with their numbers, and the outcome last; for normal chess alone
 abbrev pub normal_game_tokens : State → List (List ℕ)
-normal_game_tokens s = first_number s.start.side s.start.fullmove s.moves
+normal_game_tokens s =
+    list_if (same_colour s.start.side Black && not (length s.moves == 0))
+    ((decimal s.start.fullmove ++ codes "...") ∷ [])
     ++ (normal_move_tokens s.start s.moves ++ outcome_text (normal_outcome_now s) ∷ [])
 
 -- a game's text: tags, an empty line, the moves, an empty line; each line after `prefix`; for normal chess alone

@@ -28,7 +28,7 @@ use Rattle.chess_pgn.specs.GameRead.{GameRead, IsRead, declared_after, tagged_va
 use Rattle.chess_pgn.specs.LastTags.{tag_section}
 use Rattle.chess_pgn.specs.laws.TokenByToken.{termination_after}
 use Rattle.chess_pgn.specs.Tokens.{Token, Skip, Tag, Word, Bad_tag, Unclosed_comment, Unclosed_variation, Bad}
-use Rattle.chess_pgn.specs.Words.{word_kind}
+use Rattle.chess_pgn.specs.laws.WordKinds.{word_kind}
 
 -- ---- kinds of tokens
 

@@ -1,25 +1,30 @@
 -- The definitions that Chess960 widened, as they are for normal chess alone.
-use Rattle.std.specs.Prelude.{◌≡◌, ℕ, if◌then◌else◌, List, [], ◌∷◌, ◌++◌, length, drop, map, None, codes}
+use Rattle.std.specs.Prelude.{◌≡◌, ℕ, not, List, [], ◌∷◌, ◌++◌, length, drop, map, None, codes}
 use Rattle.std.specs.Option.{option_map_or}
 use Rattle.chess_base.specs.declared.man.Variant.TheVariants.{Normal}
-use Rattle.chess_base.specs.declared.setup.Setup.{Setup}
 use Rattle.chess_base.specs.Initial.{initial_setup}
+use Rattle.chess_base.specs.Options.{list_if}
 use Rattle.chess_fen.specs.Reading.{fen_reading}
-use Rattle.chess_fen.specs.Writing.{is_initial}
-use Rattle.chess_game.specs.Game.{from_start}
-use Rattle.chess_pgn.specs.declared.termination.Termination.{Termination}
+use Rattle.chess_fen.specs.Writing.{fen, is_initial}
+use Rattle.chess_game.specs.Game.{State, from_start, outcome_now}
+use Rattle.chess_game.specs.Results.{outcome_text}
+use Rattle.chess_pgn.specs.declared.tags.Tags.{Tags}
 use Rattle.chess_pgn.specs.GameRead.{GameRead, failed, first_bad_fen, last_start, read_after_tags, pgn_read}
-use Rattle.chess_pgn.specs.GameText.{fen_lines, further_lines}
+use Rattle.chess_pgn.specs.GameText.{tag_lines}
 use Rattle.chess_pgn.specs.LastTags.{tag_section, tags_named, last_tag}
-use Rattle.chess_pgn.specs.Terminations.{termination_text}
+use Rattle.chess_pgn.specs.Terminations.{termination_text, termination_of}
 use Rattle.chess_pgn.specs.Tokens.{Token, after_byte_order_mark, tokens_from}
 use Rattle.chess_pgn.specs.Written.{tag_line}
 
--- the lines of the tags after the seven, for a game of normal chess: no tag Variant
-abbrev pub normal_further_lines : Setup → Termination → List (List ℕ)
-normal_further_lines start termination =
-    (if is_initial start then [] else fen_lines start)
-    ++ tag_line (codes "Termination") (termination_text termination) ∷ []
+-- the lines of the tags of the game `s`, for a game of normal chess: no tag Variant
+abbrev pub normal_tag_lines : Tags → State → List (List ℕ)
+normal_tag_lines t s =
+    tag_line (codes "Event") t.event ∷ tag_line (codes "Site") t.site ∷ tag_line (codes "Date") t.date
+    ∷ tag_line (codes "Round") t.round ∷ tag_line (codes "White") t.white ∷ tag_line (codes "Black") t.black
+    ∷ tag_line (codes "Result") (outcome_text (outcome_now s))
+    ∷ list_if (not (is_initial s.start))
+    (tag_line (codes "FEN") (fen s.start) ∷ tag_line (codes "SetUp") (codes "1") ∷ [])
+    ++ tag_line (codes "Termination") (termination_text (termination_of t.ended (outcome_now s))) ∷ []
 
 -- what is read of these tokens, in a text of `total` bytes, if there were no Chess960: FEN is read as one of normal
 -- chess, and without it the game begins at the initial position. `limit` is the most half-moves of a game
@@ -34,8 +39,7 @@ normal_read limit total tokens =
 -- a game of normal chess is written, and a text with no tag Variant among the game's own tags is read, as if there were
 -- no Chess960
 pub record NormalIsKept : Type 0 where
-  pub written : (start : Setup) (termination : Termination) → start.variant ≡ Normal
-      → further_lines start termination ≡ normal_further_lines start termination
+  pub written : (t : Tags) (s : State) → s.start.variant ≡ Normal → tag_lines t s ≡ normal_tag_lines t s
   pub read : (limit : ℕ) (text : List ℕ) (at : ℕ)
       → last_tag (codes "Variant") (tag_section (tokens_from text (after_byte_order_mark text at))) ≡ None
       → pgn_read limit text at ≡ normal_read limit (length text) (tokens_from text (after_byte_order_mark text at))

@@ -20,7 +20,7 @@ use Rattle.chess_text.specs.Moves.{reading}
 use Rattle.chess_pgn.specs.Terminations.{termination_named}
 use Rattle.chess_pgn.specs.LastTags.{tag_section}
 use Rattle.chess_pgn.specs.Tokens.{Token, Skip, Tag, Word, Bad_tag, Unclosed_comment, Unclosed_variation, Bad}
-use Rattle.chess_pgn.specs.Words.{word_kind}
+use Rattle.chess_pgn.specs.laws.WordKinds.{word_kind}
 use Rattle.chess_pgn.specs.GameRead.{GameRead, declared_after, tagged_variant}
 
 -- what reading has found so far in a game's text: the game; whether there was a tag, number or move (`is_met`);

@@ -14,7 +14,7 @@ use Rattle.chess_pgn.specs.declared.read.Step as code
 use Rattle.chess_pgn.specs.declared.read.Step.TheVariants as does
 use Rattle.chess_pgn.specs.declared.word_kind.WordKind.{WordKind}
 use Rattle.chess_pgn.specs.declared.word_kind.WordKind.TheVariants.{Move}
-use Rattle.chess_pgn.specs.Words.{word_kind}
+use Rattle.chess_pgn.specs.laws.WordKinds.{word_kind}
 use Rattle.chess_pgn.specs.Tokens.{Token, Skip, Tag, Word, Bad_tag, Unclosed_comment, Unclosed_variation, Bad, tokens_from}
 use Rattle.chess_pgn.specs.laws.TokenByToken.{SoFar, Step, On, Stop, game_of, tokens_read}
 

@@ -1,6 +1,6 @@
 -- In each variant the tags of the array are those of the definition, whose termination is named by its text.
 use Rattle.std.proofs.Common.{sym, subst, codes, [], ◌∷◌}
-use Rattle.chess_pgn.specs.GameText.{last_lines}
+use Rattle.chess_pgn.specs.ties.TagGroups.{last_lines}
 use Rattle.chess_pgn.specs.ties.Waiting.{Adds}
 use Rattle.chess_pgn.specs.Written.{tag_line, ended}
 use Rattle.chess_pgn.proofs.write.put_last.Goals as goal
