@@ -40,7 +40,7 @@ abbrev pub text_or : Text → Values → Text → Text
 text_or name value default = unwrap_or (value name) default
 
 -- how many games `--games` asks for, in decimal, where a `+` may come first; 1 without `--games`. That its value is a
--- number is not checked here, but by the grammar (`games_rule`)
+-- number is not checked here, but by the grammar (`match_app`)
 abbrev pub games_in : Values → ℕ
 games_in value = option_map_or (λ t. digits_value 10 (without_leading_plus t)) (value (codes "games")) 1
 
