@@ -40,7 +40,7 @@ abbrev pub text_or : Text → Values → Text → Text
 text_or name value default = unwrap_or (value name) default
 
 -- how many games `--games` asks for; 1 without `--games`. Its value is a decimal number, perhaps with a `+` in front:
--- the grammar takes no other (`games_rule`)
+-- the grammar takes no other (`match_app`)
 abbrev pub games_in : Values → ℕ
 games_in value = option_map_or (λ t. digits_value 10 (without_leading_plus t)) (value (codes "games")) 1
 

@@ -16,16 +16,8 @@ option_rule name = record (new_rule name) { long = Some name; value_names = 1 }
 abbrev pub flag_rule : Text → Rule
 flag_rule name = record (new_rule name) { long = Some name; action = Some SetTrue }
 
--- the option `r`, but it must be given
-abbrev pub needed : Rule → Rule
-needed r = record r { required = true }
-
--- the option `--games N`, where N is a number from 1 to 1,000
-abbrev pub games_rule : Rule
-games_rule = record (option_rule (codes "games")) { parser = Some (Unsigned 1 1000) }
-
--- a reference to a list of names, as the rule of `--variant` holds it for those that it takes; where the list is in
--- memory is left open, and `AreVariants` says which names it has
+-- a reference to the list of the names that `--variant` takes; `AreVariants` says which these are. The list and the
+-- names may be anywhere in memory
 abbrev pub VariantNames : Type 0
 VariantNames = Bor (List (Bor Text))
 
@@ -33,21 +25,19 @@ VariantNames = Bor (List (Bor Text))
 abbrev pub AreVariants : VariantNames → Type 0
 AreVariants names = map (λ n. n.now) names.now ≡ codes "normal" ∷ codes "fischerandom" ∷ []
 
--- the option `--variant NAME`, where NAME is one of these names
-abbrev pub variant_rule : VariantNames → Rule
-variant_rule names = record (option_rule (codes "variant")) { parser = Some (Names names) }
-
--- the subcommand `session`, which has no options
-abbrev pub session_app : App
-session_app = new_app (codes "session")
-
--- the subcommand `match` with its options; `--white` and `--black` are required. `names` are those that `--variant`
--- takes
+-- the subcommand `match` with its options: `--white` and `--black` are required, `--games` takes a number from 1 to
+-- 1,000, and `--variant` one of `names`
 abbrev pub match_app : VariantNames → App
 match_app names = fold with_rule (new_app (codes "match")) (
-    needed (option_rule (codes "white")) ∷ needed (option_rule (codes "black")) ∷ option_rule (codes "level")
-    ∷ option_rule (codes "fen") ∷ games_rule ∷ option_rule (codes "date") ∷ variant_rule names
-    ∷ flag_rule (codes "log") ∷ [])
+    record (option_rule (codes "white")) { required = true }
+    ∷ record (option_rule (codes "black")) { required = true }
+    ∷ option_rule (codes "level")
+    ∷ option_rule (codes "fen")
+    ∷ record (option_rule (codes "games")) { parser = Some (Unsigned 1 1000) }
+    ∷ option_rule (codes "date")
+    ∷ record (option_rule (codes "variant")) { parser = Some (Names names) }
+    ∷ flag_rule (codes "log")
+    ∷ [])
 
 -- the subcommand `verify` with its flags `--keep-going`, `--quiet`, `--strict` and `--explain`
 abbrev pub verify_app : App
@@ -55,13 +45,10 @@ verify_app = fold with_rule (new_app (codes "verify"))
     (flag_rule (codes "keep-going") ∷ flag_rule (codes "quiet") ∷ flag_rule (codes "strict")
     ∷ flag_rule (codes "explain") ∷ [])
 
--- the positional arguments of `stub`, any number of them; `clap` knows them by the name `words`
-abbrev pub words_rule : Rule
-words_rule = record (new_rule (codes "words")) { action = Some Append; value_names = 1 }
-
--- the subcommand `stub`, which takes any number of arguments
+-- the subcommand `stub`, which takes any number of positional arguments; `clap` knows them by the name `words`
 abbrev pub stub_app : App
-stub_app = with_rule (new_app (codes "stub")) words_rule
+stub_app =
+    with_rule (new_app (codes "stub")) (record (new_rule (codes "words")) { action = Some Append; value_names = 1 })
 
 -- `arbiter` without its subcommands: it has `--version` but no subcommand `help`, and its arguments don't begin with
 -- the program's name
@@ -69,11 +56,11 @@ abbrev pub bare_app : App
 bare_app = let a = new_app (codes "arbiter") in
     record a { top = record a.top { has_version = true; no_binary_name = true; disable_help_subcommand = true } }
 
--- the whole grammar: `arbiter` with the subcommands `session`, `verify`, `stub` and `match`. `names` are those that
--- `--variant` takes
+-- the whole grammar: `arbiter` with the subcommands `session` (which has no options), `verify`, `stub` and `match`.
+-- `names` are those that `--variant` takes
 abbrev pub arbiter_app : VariantNames → App
 arbiter_app names = fold with_subcommand bare_app
-    (session_app.top ∷ verify_app.top ∷ stub_app.top ∷ (match_app names).top ∷ [])
+    ((new_app (codes "session")).top ∷ verify_app.top ∷ stub_app.top ∷ (match_app names).top ∷ [])
 
 -- what the arguments (`words`) ask for if they have no fault (see `faults_in`): the subcommand's name and its options,
 -- as `clap` matches them; `session` without options if there is no subcommand. `names` are those that `--variant` takes

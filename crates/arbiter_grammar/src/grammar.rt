@@ -1,10 +1,11 @@
 //! The grammar of the command line, and its texts of help.
 
-ghost use Rattle.std.specs.Prelude.{◌≡◌, IfOk, Some, codes, false};
+ghost use Rattle.std.specs.Prelude.{◌≡◌, IfOk, Some, codes, false, true};
 ghost use Rattle.clap.specs.Words.{app_of, new_app, rule_of};
 ghost use Rattle.clap.specs.declared.builder.texts.Texts.TheVariants.{One};
+ghost use Rattle.clap.specs.declared.builder.value_parser.ValueParser.TheVariants.{Names, Unsigned};
 ghost use Rattle.clap.specs.declared.builder.command.Command.TheViews.{out-Command as fields_of};
-ghost use Rattle.arbiter_grammar.specs.Grammar.{AreVariants, bare_app, flag_rule, games_rule, needed, option_rule, session_app, stub_app, variant_rule, verify_app};
+ghost use Rattle.arbiter_grammar.specs.Grammar.{AreVariants, bare_app, flag_rule, option_rule, stub_app, verify_app};
 ghost use Rattle.arbiter_grammar.specs.ties.Grammars.{GivesMatchApp, GivesArbiterApp};
 
 use clap::builder::ValueParser;
@@ -133,7 +134,7 @@ fn flag<'a>(alloc: Global, name: &'a str, help: &'a str) -> Arg<'a>
 // An option `--NAME VALUE` that must be given; `value` is what its help calls the value, and `help` is its line in the
 // help.
 fn needed_option<'a>(alloc: Global, name: &'a str, value: &'a str, help: &'a str) -> Arg<'a>
-    ensures rule { rule_of result ≡ needed (option_rule name.entry.now) }
+    ensures rule { rule_of result ≡ record (option_rule name.entry.now) { required = true } }
     ensures value { result.val_names ≡ One value.entry }
     ensures help { result.help ≡ Some help.entry }
     ensures local { result.global ≡ false }
@@ -143,7 +144,7 @@ fn needed_option<'a>(alloc: Global, name: &'a str, value: &'a str, help: &'a str
 
 // The option `--games N`, with N from 1 to 1,000.
 fn games_option<'a>(alloc: Global) -> Arg<'a>
-    ensures rule { rule_of result ≡ games_rule }
+    ensures rule { rule_of result ≡ record (option_rule (codes "games")) { parser = Some (Unsigned 1 1000) } }
     ensures local { result.global ≡ false }
 {
     option(
@@ -157,7 +158,8 @@ fn games_option<'a>(alloc: Global) -> Arg<'a>
 
 // The option `--variant NAME`, where NAME is `normal` or `fischerandom`.
 fn variant_option<'a>(alloc: Global) -> Arg<'a>
-    ensures rule { (names : _) × AreVariants names × (rule_of result ≡ variant_rule names) }
+    ensures rule { (names : _) × AreVariants names
+        × (rule_of result ≡ record (option_rule (codes "variant")) { parser = Some (Names names) }) }
     ensures local { result.global ≡ false }
 {
     option(
@@ -285,7 +287,7 @@ fn bare_command<'a>(alloc: Global) -> Result<Command<'a>, AllocError>
 
 // The subcommand `session`.
 fn session_command<'a>(alloc: Global) -> Command<'a>
-    ensures app { app_of result ≡ session_app }
+    ensures app { app_of result ≡ new_app (codes "session") }
     ensures local { (fields_of result).has_globals ≡ false }
 {
     command(

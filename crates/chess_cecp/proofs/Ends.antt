@@ -1,7 +1,6 @@
 -- A session ends with `quit` and with no other line.
 use Rattle.std.proofs.Common.{◌≡◌, ℕ, Bool, true, false, ◌&&◌, List, [], codes, refl, sym, ap, ◌∙◌, if◌then◌else◌, length, Option, None, Some}
 use Rattle.std.specs.Prelude.{nat_le, nat_lt, not, Result, Ok, Err}
-use Rattle.std.specs.Option.{option_map_or}
 use Rattle.std.specs.Str.{bytes_eq}
 use Rattle.chess_base.specs.declared.fen_fault.FenFault.{FenFault}
 use Rattle.chess_base.specs.declared.man.Variant.TheVariants.{Fischerandom}
@@ -12,9 +11,8 @@ use Rattle.chess_text.specs.Moves.{reading}
 use Rattle.chess_text.specs.San.{is_fischerandom}
 use Rattle.chess_text.specs.declared.reading.Reading.{Reading}
 use Rattle.chess_text.specs.declared.reading.Reading.TheVariants as reads
-use Rattle.chess_game.specs.Ends.{claims, draw_claim, claim_comment}
+use Rattle.chess_game.specs.Ends.{claims, draw_claim}
 use Rattle.chess_game.specs.Game.{State, from_start, taken_back, with_declared, current, verdict_now, is_over, contradicts_verdict}
-use Rattle.chess_game.specs.declared.verdicts.Claims.{Claims}
 use Rattle.chess_game.specs.declared.verdicts.DrawClaim.{DrawClaim}
 use Rattle.chess_game.specs.declared.results.Declared.{Declared}
 use Rattle.chess_pgn.specs.declared.tags.Tags.{Tags}
@@ -28,8 +26,9 @@ use Rattle.chess_cecp.specs.Commands.{command_of}
 use Rattle.chess_cecp.specs.Declaring.{read_result}
 use Rattle.chess_cecp.specs.Held.{SessionSeen}
 use Rattle.text_lines.specs.Lines.{LineSeen}
-use Rattle.chess_cecp.specs.Serving.{Response}
-use Rattle.chess_cecp.specs.Session.{row, says, refuses, becomes, result_row, declares_draw, draw_claim_row, setboard_row, features_line, reading_row, move_row, session_response}
+use Rattle.chess_cecp.specs.Serving.{Response, says, becomes}
+use Rattle.chess_cecp.specs.Session.{row, refuses, result_row, setboard_row, features_line, reading_row, move_row, session_response}
+use Rattle.chess_cecp.proofs.Claims.{claimed_row}
 use Rattle.chess_cecp.specs.ties.Replies.{is_quit, is_quit_command, reply_to, asks_for_moves, asks_for_pgn}
 
 -- the session goes on
@@ -65,13 +64,9 @@ result_on s text (Some d) =
     (refuses s (codes "Error (the board says otherwise): ") text)
     (becomes (with_declared s (Some d))) refl refl
 
-claimed_on : (s : State) (c : Claims) → GoesOn (draw_claim_row s c)
-claimed_on s c = at (draw_claim c)
-  where
-    at : (claim : Option DrawClaim) → GoesOn (option_map_or (λ claim. declares_draw s (claim_comment claim)) claim
-        (refuses s (codes "Error (no claim): ") (codes "claim")))
-    at (Some claim) = refl
-    at None = refl
+claimed_on : (s : State) (claim : Option DrawClaim) → GoesOn (claimed_row s claim)
+claimed_on s (Some claim) = refl
+claimed_on s None = refl
 
 row_ends : (tags : Tags) (limit : ℕ) (s : State) (text argument : List ℕ) (command : Command)
     → (row tags limit s text argument command).ends ≡ is_quit_command command
@@ -88,7 +83,8 @@ row_ends tags limit s text argument Remove =
 row_ends tags limit s text argument Declare = result_on s text (read_result argument)
 row_ends tags limit s text argument Claim =
     by_test (is_over s) (refuses s (codes "Error (command not legal now): ") (codes "claim"))
-    (draw_claim_row s (claims s.start s.moves)) refl (claimed_on s (claims s.start s.moves))
+    (claimed_row s (draw_claim (claims s.start s.moves))) refl
+    (claimed_on s (draw_claim (claims s.start s.moves)))
 row_ends tags limit s text argument (Ping n) = refl
 row_ends tags limit s text argument (Protover n) =
     by_test (nat_lt n 2) (becomes s) (says s features_line) refl refl

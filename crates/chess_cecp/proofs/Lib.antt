@@ -1,5 +1,6 @@
 mod Words
 mod Comments
+mod Claims
 mod Responses
 mod LinesOn
 mod RunLemmas

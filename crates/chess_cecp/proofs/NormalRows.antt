@@ -2,6 +2,7 @@
 use Rattle.std.proofs.Common.{◌≡◌, ℕ, nat_le, true, List, [], ◌∷◌, ◌++◌, length, codes, decimal, Option, None, Some, Result, Ok, Err, refl, ap, ◌∙◌, if◌then◌else◌}
 use Rattle.std.specs.Prelude.{IfOk}
 use Rattle.std.specs.List.{flat_map}
+use Rattle.std.specs.Option.{option_map_or}
 use Rattle.chess_base.specs.declared.fen_fault.FenFault.{FenFault}
 use Rattle.chess_base.specs.declared.man.Move.{Move}
 use Rattle.chess_base.specs.declared.man.Variant.TheVariants.{Normal}
@@ -21,19 +22,23 @@ use Rattle.chess_text.proofs.shared.Normal.{normal_kept as texts_kept}
 use Rattle.chess_game.specs.declared.verdicts.Claims.{Claims}
 use Rattle.chess_game.specs.declared.verdicts.Verdict.{Verdict}
 use Rattle.chess_game.specs.declared.results.Declared.{Declared}
-use Rattle.chess_game.specs.Ends.{claims}
+use Rattle.chess_game.specs.Ends.{claims, draw_claim, verdict_outcome, verdict_comment}
 use Rattle.chess_game.specs.Game.{State, from_start, played, with_declared, current, verdict_now, contradicts_verdict}
 use Rattle.chess_pgn.specs.declared.tags.Tags.{Tags}
 use Rattle.chess_cecp.specs.declared.command.Command.{Command}
 use Rattle.chess_cecp.specs.declared.command.Command.TheVariants.{New, SetBoard, UserMove, BareMove, Undo, Remove, Declare, Claim, Ping, Protover, Variant, Go, ShowFen, ShowMoves, ShowState, ShowPgn, Quit, Silent, BadNumber, Unknown}
 use Rattle.chess_cecp.specs.Declaring.{read_result, claims_text, verdict_text, declared_text, state_text}
-use Rattle.chess_cecp.specs.Session.{row, says, refuses, becomes, becomes_judged, verdict_line, setboard_row, reading_row, move_row, result_row, draw_claim_row, claim_row, moves_line, joined_line}
+use Rattle.chess_cecp.specs.Session.{row, refuses, becomes_judged, result_line, setboard_row, reading_row, move_row, result_row, claim_row, moves_line, joined_line}
+use Rattle.chess_cecp.specs.Serving.{says, becomes}
+use Rattle.chess_cecp.proofs.Claims.{claimed_row}
 use Rattle.chess_cecp.specs.laws.Normal.{normal_becomes_judged, normal_setboard_row, normal_reading_row, normal_move_row, normal_result_row, normal_claim_row, normal_moves_line, normal_state_text, normal_row_of, has_normal_row}
 use Rattle.chess_cecp.specs.laws.NormalGame.{normal_current, normal_rep, normal_claims, normal_is_over}
 use Rattle.chess_cecp.proofs.NormalGames.{initial_kept, last_stays, last_kept, rep_kept, verdict_kept, claims_kept, over_kept, pgn_kept}
 
 judged_kept : (s : State) → s.start.variant ≡ Normal → becomes_judged s ≡ normal_becomes_judged s
-judged_kept s e = ap (λ (v : Option Verdict). says s (verdict_line v)) (verdict_kept s.start e s.moves)
+judged_kept s e =
+    ap (λ (o : Option Verdict). says s (option_map_or (λ v. result_line (verdict_outcome v) (verdict_comment v)) o []))
+    (verdict_kept s.start e s.moves)
 
 -- ---- setboard
 
@@ -87,9 +92,9 @@ result_kept s e text (Some d) =
 claim_kept : (s : State) → s.start.variant ≡ Normal → claim_row s ≡ normal_claim_row s
 claim_kept s e =
     ap (λ b. if b then refuses s (codes "Error (command not legal now): ") (codes "claim")
-    else draw_claim_row s (claims s.start s.moves)) (over_kept s e)
+    else claimed_row s (draw_claim (claims s.start s.moves))) (over_kept s e)
     ∙ ap (λ c. if normal_is_over s then refuses s (codes "Error (command not legal now): ") (codes "claim")
-    else draw_claim_row s c) (claims_kept s.start e s.moves)
+    else claimed_row s (draw_claim c)) (claims_kept s.start e s.moves)
 
 -- ---- what is shown
 

@@ -7,8 +7,8 @@ use Rattle.chess_cecp.specs.Commands.{command_of}
 use Rattle.text_lines.specs.Words.{argument_of}
 use Rattle.chess_cecp.specs.Held.{SessionSeen}
 use Rattle.text_lines.specs.Lines.{LineSeen}
-use Rattle.chess_cecp.specs.Serving.{Response}
-use Rattle.chess_cecp.specs.Session.{row, game_response, says, moves_line, session_response}
+use Rattle.chess_cecp.specs.Serving.{Response, says}
+use Rattle.chess_cecp.specs.Session.{row, game_response, moves_line, session_response}
 use Rattle.chess_cecp.specs.ties.Replies.{after_row, is_quit, reply_to, shows_moves, shows_pgn, asks_for_moves, asks_for_pgn}
 use Rattle.chess_game.specs.Game.{State, current}
 use Rattle.chess_cecp.specs.declared.session.Go.{Go as Further}
@@ -61,15 +61,11 @@ is_show_pgn Unknown e = cc
 is_show_pgn (Ping n) e = cc
 is_show_pgn (Protover n) e = cc
 
--- a text is answered, nothing changes, and the session goes on
-abbrev saying : SessionSeen → List ℕ → Response SessionSeen
-saying seen text = record { text = text; state = seen; ends = false }
-
 -- the response to a line that is not too long and is this command, if its row says only a text
 said : (seen : SessionSeen) (line : LineSeen) (command : Command) (text : List ℕ) → line.too_long ≡ false
     → command_of line.text ≡ command
     → row seen.tags seen.limit seen.state line.text (argument_of line.text) command ≡ says seen.state text
-    → session_response seen line ≡ saying seen text
+    → session_response seen line ≡ says seen text
 unfolding session_response
 said seen line command text short is says_it =
     let at : game_response seen line ≡ says seen.state text =
@@ -78,7 +74,7 @@ said seen line command text short is says_it =
 
 -- the legal moves are answered, and nothing changes
 moves_row : (seen : SessionSeen) (line : LineSeen) → asks_for_moves line ≡ true
-    → session_response seen line ≡ saying seen (moves_line (current seen.state) (moves (current seen.state)))
+    → session_response seen line ≡ says seen (moves_line (current seen.state) (moves (current seen.state)))
 unfolding asks_for_moves
 moves_row seen line asks =
     let both = and_parts (not line.too_long) (shows_moves (command_of line.text)) asks in
@@ -87,7 +83,7 @@ moves_row seen line asks =
 
 -- the game's text is answered, and nothing changes
 pgn_row : (seen : SessionSeen) (line : LineSeen) → asks_for_pgn line ≡ true
-    → session_response seen line ≡ saying seen (pgn (codes "# ") seen.tags seen.state)
+    → session_response seen line ≡ says seen (pgn (codes "# ") seen.tags seen.state)
 unfolding asks_for_pgn
 pgn_row seen line asks =
     let both = and_parts (not line.too_long) (shows_pgn (command_of line.text)) asks in
@@ -100,7 +96,7 @@ pub record IsOwnReply (text_of : SessionSeen → List ℕ) (seen obeyed : Sessio
   pub goes_on : (session_response seen line).ends ≡ false
 
 by_row : (text_of : SessionSeen → List ℕ) (seen obeyed : SessionSeen) (line : LineSeen)
-    → session_response seen line ≡ saying seen (text_of seen)
+    → session_response seen line ≡ says seen (text_of seen)
     → obeyed ≡ (session_response seen line).state → IsOwnReply text_of seen obeyed line
 by_row text_of seen obeyed line row is =
     let same : obeyed ≡ seen = is ∙ ap (λ (r : Response SessionSeen). r.state) row in

@@ -23,14 +23,14 @@ use Rattle.chess_game.specs.declared.verdicts.Verdict.{Verdict}
 use Rattle.chess_game.specs.declared.results.Declared.{Declared}
 use Rattle.chess_game.specs.declared.results.Outcome.{Outcome}
 use Rattle.chess_game.specs.declared.results.Outcome.TheVariants.{WhiteWins, BlackWins, Draw, Unfinished}
-use Rattle.chess_game.specs.declared.verdicts.Claims.{Claims}
 use Rattle.chess_game.specs.declared.verdicts.DrawClaim.{DrawClaim}
 use Rattle.chess_cecp.specs.Declaring.{read_result}
 use Rattle.chess_game.specs.Results.{result_text}
 use Rattle.chess_cecp.specs.declared.command.Command.{Command}
 use Rattle.chess_cecp.specs.declared.command.Command.TheVariants.{New, SetBoard, UserMove, BareMove, Undo, Remove, Declare, Claim, Ping, Protover, Variant, Go, ShowFen, ShowMoves, ShowState, ShowPgn, Quit, Silent, BadNumber, Unknown}
-use Rattle.chess_cecp.specs.Serving.{Response}
-use Rattle.chess_cecp.specs.Session.{row, says, refuses, becomes, becomes_judged, result_line, verdict_line, result_row, declares_draw, draw_claim_row, setboard_row, features_line, reading_row, move_row, IsRefusal, session_response}
+use Rattle.chess_cecp.specs.Serving.{Response, says, becomes}
+use Rattle.chess_cecp.specs.Session.{row, refuses, becomes_judged, result_line, result_row, declares_draw, setboard_row, features_line, reading_row, move_row, IsRefusal, session_response}
+use Rattle.chess_cecp.proofs.Claims.{claimed_row}
 
 -- the first bytes of refusals: E, I and t
 abbrev pub begins_refusal : List ℕ → Bool
@@ -61,7 +61,8 @@ result_begins BlackWins comment = refl
 result_begins Draw comment = refl
 result_begins Unfinished comment = refl
 
-verdict_begins : (o : Option Verdict) → begins_refusal (verdict_line o) ≡ false
+verdict_begins : (o : Option Verdict)
+    → begins_refusal (option_map_or (λ v. result_line (verdict_outcome v) (verdict_comment v)) o []) ≡ false
 verdict_begins None = refl
 verdict_begins (Some v) = result_begins (verdict_outcome v) (verdict_comment v)
 
@@ -101,13 +102,9 @@ result_keeps s text (Some d) =
 draws_keeps : (s : State) (comment : List ℕ) → KeepsRefused s (declares_draw s comment)
 draws_keeps s comment = accepted s (declares_draw s comment) (result_begins Draw comment)
 
-claimed_keeps : (s : State) (c : Claims) → KeepsRefused s (draw_claim_row s c)
-claimed_keeps s c = at (draw_claim c)
-  where
-    at : (claim : Option DrawClaim) → KeepsRefused s (option_map_or (λ claim. declares_draw s (claim_comment claim)) claim
-        (refuses s (codes "Error (no claim): ") (codes "claim")))
-    at (Some claim) = draws_keeps s (claim_comment claim)
-    at None = λ h. refl
+claimed_keeps : (s : State) (claim : Option DrawClaim) → KeepsRefused s (claimed_row s claim)
+claimed_keeps s (Some claim) = draws_keeps s (claim_comment claim)
+claimed_keeps s None = λ h. refl
 
 row_keeps : (tags : Tags) (limit : ℕ) (s : State) (text argument : List ℕ) (command : Command)
     → KeepsRefused s (row tags limit s text argument command)
@@ -128,7 +125,8 @@ row_keeps tags limit s text argument Remove =
 row_keeps tags limit s text argument Declare = result_keeps s text (read_result argument)
 row_keeps tags limit s text argument Claim =
     by_test (is_over s) s (refuses s (codes "Error (command not legal now): ") (codes "claim"))
-    (draw_claim_row s (claims s.start s.moves)) (λ h. refl) (claimed_keeps s (claims s.start s.moves))
+    (claimed_row s (draw_claim (claims s.start s.moves))) (λ h. refl)
+    (claimed_keeps s (draw_claim (claims s.start s.moves)))
 row_keeps tags limit s text argument (Ping n) = λ h. refl
 row_keeps tags limit s text argument (Protover n) =
     by_test (nat_lt n 2) s (becomes s) (says s features_line) (λ h. refl) (λ h. refl)

@@ -9,6 +9,14 @@ pub record Response (S : Type 0) : Type 0 where
   pub state : S
   pub ends : Bool
 
+-- this text is written, and the server goes on; `s` is its state after that
+abbrev pub says : {S : Type 0} → S → List ℕ → Response S
+says s text = record { text = text; state = s; ends = false }
+
+-- nothing is written, and the server goes on; `s` is its state after that
+abbrev pub becomes : {S : Type 0} → S → Response S
+becomes s = says s []
+
 -- a server: how it responds to a line, from the state that it is in. `S` is the type of its states
 abbrev pub Server : Type 0 → Type 0
 Server S = S → LineSeen → Response S
@@ -23,5 +31,5 @@ and_then first next = if first.ends then first else record next { text = first.t
 -- texts, the last state, and whether the server ends with one of the lines. Lines after the one that ends it get no
 -- response. For no lines the text is empty and the state is `s`
 abbrev pub responses : {S : Type 0} → Server S → S → List LineSeen → Response S
-responses respond s [] = record { text = []; state = s; ends = false }
+responses respond s [] = becomes s
 responses respond s (line ∷ rest) = and_then (respond s line) (responses respond (respond s line).state rest)

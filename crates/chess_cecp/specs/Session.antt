@@ -1,6 +1,6 @@
 -- What a session answers: the table of commands, a row for each kind of command. From one line to the next only the
 -- game changes.
-use Rattle.std.specs.Prelude.{◌⊎◌, ℕ, nat_le, nat_lt, if◌then◌else◌, true, false, List, [], ◌∷◌, ◌++◌, length, codes, decimal, Option, None, Some, Result, Ok, Err}
+use Rattle.std.specs.Prelude.{◌⊎◌, ℕ, nat_le, nat_lt, if◌then◌else◌, true, List, [], ◌∷◌, ◌++◌, length, codes, decimal, Option, None, Some, Result, Ok, Err}
 use Rattle.chess_base.specs.Letters.{new_line, space}
 use Rattle.std.specs.Str.{bytes_eq}
 use Rattle.byte_devices.specs.Devices.{Begins}
@@ -17,7 +17,7 @@ use Rattle.chess_base.specs.MoveList.{moves}
 use Rattle.chess_fen.specs.Reading.{fen_reading_as}
 use Rattle.chess_fen.specs.Writing.{fen}
 use Rattle.text_lines.specs.Lines.{LineSeen}
-use Rattle.chess_cecp.specs.Serving.{Response}
+use Rattle.chess_cecp.specs.Serving.{Response, says, becomes}
 use Rattle.chess_cecp.specs.Held.{SessionSeen}
 use Rattle.chess_pgn.specs.GameText.{pgn}
 use Rattle.chess_pgn.specs.declared.tags.Tags.{Tags}
@@ -31,8 +31,6 @@ use Rattle.chess_game.specs.Results.{result_text}
 use Rattle.chess_cecp.specs.Declaring.{read_result, state_text}
 use Rattle.chess_game.specs.Ends.{verdict_outcome, verdict_comment, claims, draw_claim, claim_comment}
 use Rattle.chess_game.specs.Game.{State, from_start, played, taken_back, with_declared, current, verdict_now, is_over, contradicts_verdict}
-use Rattle.chess_game.specs.declared.verdicts.Claims.{Claims}
-use Rattle.chess_game.specs.declared.verdicts.Verdict.{Verdict}
 use Rattle.chess_game.specs.declared.results.Declared.{Declared}
 use Rattle.chess_game.specs.declared.results.Outcome.TheVariants.{Draw}
 use Rattle.chess_cecp.specs.declared.command.Command.{Command}
@@ -42,30 +40,18 @@ use Rattle.chess_cecp.specs.declared.command.Command.TheVariants.{New, SetBoard,
 abbrev pub joined_line : List ℕ → List ℕ → List ℕ
 joined_line front text = front ++ (text ++ new_line ∷ [])
 
--- this text is answered, and the session goes on; `s` is the state of its game after that
-abbrev pub says : State → List ℕ → Response State
-says s text = record { text = text; state = s; ends = false }
-
 -- the line made of `front` and `text` is answered, such as `Illegal move: e5`, and the game `s` does not change
 abbrev pub refuses : State → List ℕ → List ℕ → Response State
 refuses s front text = says s (joined_line front text)
-
--- nothing is answered, and the session goes on; `s` is the state of its game after that
-abbrev pub becomes : State → Response State
-becomes s = says s []
 
 -- the line of a result with its comment, such as `1-0 {White mates}`, with `\n` at its end
 unfoldable pub result_line : Outcome → List ℕ → List ℕ
 result_line o comment = result_text o comment ++ new_line ∷ []
 
--- the line of the board's verdict, such as `1-0 {White mates}`, with `\n` at its end; the empty text if there is no
--- verdict
-abbrev pub verdict_line : Option Verdict → List ℕ
-verdict_line verdict = option_map_or (λ v. result_line (verdict_outcome v) (verdict_comment v)) verdict []
-
 -- the game becomes `s`, and the answer is the line of the board's verdict on it; nothing is answered if there is none
 abbrev pub becomes_judged : State → Response State
-becomes_judged s = says s (verdict_line (verdict_now s))
+becomes_judged s =
+    says s (option_map_or (λ v. result_line (verdict_outcome v) (verdict_comment v)) (verdict_now s) [])
 
 -- the line that lists these moves of the position `p`, in this order, after their number: `# moves 20 b1a3 b1c3 ..`,
 -- with `\n` at its end. Castling is written by the king's squares, such as `e1g1`, in normal chess, and as `O-O` or
@@ -125,19 +111,13 @@ abbrev pub declares_draw : State → List ℕ → Response State
 declares_draw s comment =
     says (with_declared s (Some (record { outcome = Draw; comment = comment }))) (result_line Draw comment)
 
--- the answer to a claim of a draw in the game `s`, where `c` are the draws that can be claimed: a draw by threefold
--- repetition is declared if `c` has it, else one by the 50-move rule if `c` has that, else the claim is refused
-abbrev pub draw_claim_row : State → Claims → Response State
-draw_claim_row s c =
-    option_map_or (λ claim. declares_draw s (claim_comment claim)) (draw_claim c)
-    (refuses s (codes "Error (no claim): ") (codes "claim"))
-
 -- the answer to `claim` in the game `s`: if the game is not over and a draw can be claimed by threefold repetition or
--- 50 moves (Laws, articles 9.2 and 9.3), the draw is declared; else the claim is refused
+-- 50 moves (Laws, articles 9.2 and 9.3), the draw is declared; otherwise the claim is refused
 abbrev pub claim_row : State → Response State
 claim_row s =
-    if is_over s then refuses s (codes "Error (command not legal now): ") (codes "claim") else draw_claim_row s
-    (claims s.start s.moves)
+    if is_over s then refuses s (codes "Error (command not legal now): ") (codes "claim")
+    else option_map_or (λ claim. declares_draw s (claim_comment claim)) (draw_claim (claims s.start s.moves))
+    (refuses s (codes "Error (no claim): ") (codes "claim"))
 
 -- the answer to `variant` in the game `s`, by its argument (`text` is the whole line): `fischerandom` starts a new game
 -- of Chess960 at the initial position of normal chess; `normal` starts one of normal chess if `s` is of Chess960, and

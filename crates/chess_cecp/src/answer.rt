@@ -4,13 +4,14 @@ ghost use Rattle.chess_cecp.specs.declared.answer.TheConstants.{ANSWER_LEN, MOVE
 ghost use Rattle.std.specs.List.{flat_map};
 ghost use Rattle.std.specs.Prelude.{◌≡◌, ◌+◌, ◌*◌, ◌≤◌, ◌++◌, ◌∷◌, [], if◌then◌else◌, length, codes, decimal};
 ghost use Rattle.arrayvec.specs.ArrayVec.{array_vec_len};
-ghost use Rattle.std.specs.Option.{option_map};
+ghost use Rattle.std.specs.Option.{option_map, option_map_or};
 ghost use Rattle.chess_base.specs.Letters.{space};
 ghost use Rattle.chess_text.specs.San.{shown_move};
 ghost use Rattle.chess_base.specs.Faults.{fen_fault_name};
+ghost use Rattle.chess_game.specs.Ends.{verdict_outcome, verdict_comment};
 ghost use Rattle.chess_game.specs.Results.{result_text};
 ghost use Rattle.chess_cecp.specs.Declaring.{verdict_text, declared_text, claims_text, state_text};
-ghost use Rattle.chess_cecp.specs.Session.{moves_line, result_line, verdict_line, features_line, joined_line};
+ghost use Rattle.chess_cecp.specs.Session.{moves_line, result_line, features_line, joined_line};
 
 use arrayvec::ArrayVec;
 use byte_devices::{append, append_number};
@@ -79,7 +80,8 @@ pub(crate) fn write_illegal_position(answer: &mut Answer, fault: FenFault)
 // Appends the line of the board's verdict to the answer, such as `1-0 {White mates}`; nothing without a verdict.
 pub(crate) fn write_verdict(answer: &mut Answer, verdict: Option<Verdict>)
     requires { array_vec_len answer.old ≤ 1000 }
-    ensures { answer.new.items ≡ answer.old.items ++ verdict_line verdict }
+    ensures { answer.new.items ≡ answer.old.items
+        ++ option_map_or (λ v. result_line (verdict_outcome v) (verdict_comment v)) verdict [] }
 {
     if let Some(verdict) = verdict {
         write_result(answer, verdict.outcome(), verdict.comment());

@@ -14,7 +14,8 @@ ghost use Rattle.chess_text.specs.Moves.{reading, has_shape, shape, IsLegalReadi
 ghost use Rattle.chess_text.specs.San.{is_fischerandom};
 ghost use Rattle.text_lines.specs.Words.{argument_of};
 ghost use Rattle.chess_cecp.specs.Declaring.{read_result};
-ghost use Rattle.chess_cecp.specs.Session.{becomes, row, move_row, take_back_row, result_row, declares_draw, claim_row, setboard_row, variant_row, session_response, joined_line, moves_line, IsRefusal};
+ghost use Rattle.chess_cecp.specs.Serving.{becomes};
+ghost use Rattle.chess_cecp.specs.Session.{row, move_row, take_back_row, result_row, declares_draw, claim_row, setboard_row, variant_row, session_response, joined_line, moves_line, IsRefusal};
 ghost use Rattle.chess_cecp.specs.ties.Replies.{after_row, unnamed_command, reply_of, reply_to, shows_moves, shows_pgn, asks_for_moves, asks_for_pgn};
 ghost use Rattle.chess_game.specs.declared.game.TheConstants.{MOST_MOVES};
 ghost use Rattle.chess_cecp.specs.declared.session.TheConstants.{COMMAND_LEN};

@@ -1,5 +1,5 @@
 -- An engine that plays the arguments that it is given.
-use Rattle.std.specs.Prelude.{Bool, true, false, if◌then◌else◌, List, [], ◌∷◌, ◌++◌, drop, flat_map, take_while, codes, decimal, ℕ, Option, Some, None, is_some, unwrap_or}
+use Rattle.std.specs.Prelude.{Bool, true, false, if◌then◌else◌, ◌&&◌, List, [], ◌∷◌, ◌++◌, drop, flat_map, take_while, codes, decimal, ℕ, Option, Some, None, is_some, unwrap_or}
 use Rattle.std.specs.List.{prefix_len}
 use Rattle.chess_base.specs.Letters.{new_line}
 use Rattle.std.specs.Borrow.{Bor}
@@ -7,7 +7,7 @@ use Rattle.std.specs.Str.{bytes_eq}
 use Rattle.chess_cecp.specs.Commands.{command_of}
 use Rattle.text_lines.specs.Words.{word_of}
 use Rattle.text_lines.specs.Lines.{LineSeen}
-use Rattle.chess_cecp.specs.Serving.{Response}
+use Rattle.chess_cecp.specs.Serving.{Response, says, becomes}
 use Rattle.chess_cecp.specs.declared.command.Command.{Command}
 use Rattle.chess_cecp.specs.declared.command.Command.TheVariants.{New, UserMove, Ping, Protover, Go, Quit, Silent, Unknown}
 
@@ -29,18 +29,14 @@ waiting arguments = record { arguments = arguments; plays = false }
 abbrev pub playing : Arguments → StubState
 playing arguments = record { arguments = arguments; plays = true }
 
--- the stub sends this text, goes on, and is then in the state `s`
-abbrev pub stub_says : StubState → List ℕ → Response StubState
-stub_says s text = record { text = text; state = s; ends = false }
-
 -- ---- a turn
 
 -- the line that the stub sends for the argument `offer` (`offer draw`) or `claim` (a claim of a draw), which may follow
 -- a move; `None` for any other argument
 abbrev pub remark : List ℕ → Option (List ℕ)
 remark argument =
-    if bytes_eq argument (codes "offer") then Some (codes "offer draw" ++ new_line ∷ [])
-    else if bytes_eq argument (codes "claim") then Some (codes "1/2-1/2 {Draw by repetition}" ++ new_line ∷ [])
+    if bytes_eq argument (codes "offer") then Some (codes "offer draw\n")
+    else if bytes_eq argument (codes "claim") then Some (codes "1/2-1/2 {Draw by repetition}\n")
     else None
 
 -- whether an argument is `offer` or `claim`, for each of which the stub sends a line after a move
@@ -64,42 +60,35 @@ played_text argument = (if bytes_eq argument (codes "resign") then [] else codes
 -- from then on
 abbrev pub turn : Arguments → Response StubState
 -- none is left: it resigns
-turn [] = stub_says (playing []) (codes "resign" ++ new_line ∷ [])
+turn [] = says (playing []) (codes "resign\n")
 -- `end` makes it end in the middle of a line, after `mov`. Any other first argument is played, even an `offer` or
 -- `claim` (as `move offer`); the lines for the `offer`s and `claim`s right after it are sent, too
 turn (argument ∷ arguments) =
-    if bytes_eq argument.now (codes "end") then record (stub_says (playing arguments) (codes "mov")) { ends = true }
-    else stub_says (playing (after_remarks arguments)) (played_text argument.now ++ remarks arguments)
+    if bytes_eq argument.now (codes "end") then record (says (playing arguments) (codes "mov")) { ends = true }
+    else says (playing (after_remarks arguments)) (played_text argument.now ++ remarks arguments)
 
 -- ---- a line
-
--- the line that the stub sends in reply to `protover`: its features
-abbrev pub features : List ℕ
-features = codes "feature ping=1 setboard=1 usermove=1 myname=\"stub\" done=1" ++ new_line ∷ []
-
--- what the stub does when its opponent moved: if it plays, it takes its turn; else nothing
-abbrev pub after_opponent_move : StubState → Response StubState
-after_opponent_move s = if s.plays then turn s.arguments else stub_says s []
 
 -- what a stub (an engine that plays the arguments that it is given) in the state `s` does at a command; `text` is the
 -- whole line
 abbrev pub stub_row : StubState → List ℕ → Command → Response StubState
-stub_row s text (Protover n) = stub_says s features
-stub_row s text (Ping n) = stub_says s (codes "pong " ++ (decimal n ++ new_line ∷ []))
+stub_row s text (Protover n) = says s (codes "feature ping=1 setboard=1 usermove=1 myname=\"stub\" done=1\n")
+stub_row s text (Ping n) = says s (codes "pong " ++ (decimal n ++ new_line ∷ []))
 -- it plays no side until `go`, and does not use again the arguments that it has used
-stub_row s text New = stub_says (waiting s.arguments) []
+stub_row s text New = becomes (waiting s.arguments)
 stub_row s text Go = turn s.arguments
--- which move the opponent made is ignored; `usermove` without a move, which is read as `Unknown`, counts as a move too
-stub_row s text UserMove = after_opponent_move s
-stub_row s text Unknown = if bytes_eq (word_of text) (codes "usermove") then after_opponent_move s else stub_says s []
-stub_row s text Quit = record (stub_says s []) { ends = true }
+-- after a move of the opponent, whatever it is, it takes its turn if it plays a side. `usermove` without a move, which
+-- is read as `Unknown`, counts as a move too
+stub_row s text UserMove = if s.plays then turn s.arguments else becomes s
+stub_row s text Unknown =
+    if bytes_eq (word_of text) (codes "usermove") && s.plays then turn s.arguments else becomes s
+stub_row s text Quit = record (becomes s) { ends = true }
 -- of the commands that an arbiter ignores (`Silent`), the stub obeys only `force`: it plays no side until `go`
-stub_row s text Silent = if bytes_eq (word_of text) (codes "force") then stub_says (waiting s.arguments) []
-    else stub_says s []
+stub_row s text Silent = becomes (if bytes_eq (word_of text) (codes "force") then waiting s.arguments else s)
 -- all other commands are ignored, even a move without `usermove`
-stub_row s text _ = stub_says s []
+stub_row s text _ = becomes s
 
 -- what a stub (an engine that plays the arguments that it is given) in the state `s` does with a line: it obeys the
 -- line's command; a line that is too long is ignored
 unfoldable pub stub_response : StubState → LineSeen → Response StubState
-stub_response s line = if line.too_long then stub_says s [] else stub_row s line.text (command_of line.text)
+stub_response s line = if line.too_long then becomes s else stub_row s line.text (command_of line.text)

@@ -5,7 +5,8 @@ ghost use Rattle.std.specs.Str.{bytes_eq};
 ghost use Rattle.byte_devices.specs.Devices.{Puts};
 ghost use Rattle.chess_base.specs.Letters.{new_line};
 ghost use Rattle.chess_cecp.specs.Commands.{command_of};
-ghost use Rattle.stub_engine.specs.Stub.{after_remarks, after_opponent_move, played_text, remark, remarks, stub_row, stub_response, turn, waiting};
+ghost use Rattle.chess_cecp.specs.Serving.{becomes};
+ghost use Rattle.stub_engine.specs.Stub.{after_remarks, played_text, remark, remarks, stub_row, stub_response, turn, waiting};
 
 use arrayvec::ArrayVec;
 use byte_devices::{Output, WriteFault, append, append_number, put, put_parts};
@@ -206,9 +207,11 @@ impl<'a> Stub<'a> {
     // Takes a move of the opponent: if the stub plays, it is its turn, else nothing happens. Returns whether the stub
     // goes on.
     fn moved<W: Output>(&mut self, writer: &mut W) -> Result<Go, WriteFault>
-        ensures next { self.new ≡ (after_opponent_move self.old).state }
-        ensures written { Puts (W.seen writer.old) (W.seen writer.new) result (after_opponent_move self.old).text }
-        ensures go { IfOk result (λ go. go ≡ (if (after_opponent_move self.old).ends then Go.Quit else Go.On)) }
+        ensures next { self.new ≡ (if self.old.plays then turn self.old.arguments else becomes self.old).state }
+        ensures written { Puts (W.seen writer.old) (W.seen writer.new) result
+            (if self.old.plays then turn self.old.arguments else becomes self.old).text }
+        ensures go { IfOk result (λ go. go
+            ≡ (if (if self.old.plays then turn self.old.arguments else becomes self.old).ends then Go.Quit else Go.On)) }
     {
         if self.plays {
             self.play(writer)

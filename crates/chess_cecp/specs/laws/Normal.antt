@@ -4,6 +4,7 @@
 -- the same.
 use Rattle.std.specs.Prelude.{ℕ, nat_le, nat_lt, Bool, true, false, if◌then◌else◌, List, [], ◌∷◌, ◌++◌, length, codes, decimal, Option, None, Some, Result, Ok, Err}
 use Rattle.std.specs.List.{flat_map}
+use Rattle.std.specs.Option.{option_map_or}
 use Rattle.std.specs.Str.{bytes_eq}
 use Rattle.chess_base.specs.declared.fen_fault.FenFault.{FenFault}
 use Rattle.chess_base.specs.declared.man.Move.{Move}
@@ -15,20 +16,22 @@ use Rattle.chess_text.specs.declared.reading.Reading.{Reading}
 use Rattle.chess_text.specs.declared.reading.Reading.TheVariants as reads
 use Rattle.chess_text.specs.laws.Normal.{normal_moves, normal_reading}
 use Rattle.chess_game.specs.declared.results.Declared.{Declared}
+use Rattle.chess_game.specs.Ends.{verdict_outcome, verdict_comment, draw_claim, claim_comment}
 use Rattle.chess_game.specs.Game.{State, from_start, played, with_declared, contradicts_verdict}
 use Rattle.chess_pgn.specs.declared.tags.Tags.{Tags}
 use Rattle.chess_cecp.specs.declared.command.Command.{Command}
 use Rattle.chess_cecp.specs.declared.command.Command.TheVariants.{New, SetBoard, UserMove, BareMove, Undo, Remove, Declare, Claim, Ping, Protover, Variant, Go, ShowFen, ShowMoves, ShowState, ShowPgn, Quit, Silent, BadNumber, Unknown}
 use Rattle.chess_cecp.specs.Declaring.{read_result, claims_text, verdict_text, declared_text}
-use Rattle.chess_cecp.specs.Serving.{Response}
+use Rattle.chess_cecp.specs.Serving.{Response, says, becomes}
 use Rattle.chess_base.specs.Faults.{fen_fault_name}
-use Rattle.chess_cecp.specs.Session.{says, refuses, becomes, verdict_line, draw_claim_row, joined_line, take_back_row}
+use Rattle.chess_cecp.specs.Session.{refuses, result_line, declares_draw, joined_line, take_back_row}
 use Rattle.chess_cecp.specs.laws.NormalGame.{normal_initial, normal_current, normal_rep, normal_claims, normal_verdict_now, normal_is_over}
 use Rattle.chess_cecp.specs.laws.NormalPgn.{normal_pgn}
 
 -- the game becomes `s`, and the answer is the board's verdict on it, if there is one; for normal chess alone
 abbrev pub normal_becomes_judged : State → Response State
-normal_becomes_judged s = says s (verdict_line (normal_verdict_now s))
+normal_becomes_judged s =
+    says s (option_map_or (λ v. result_line (verdict_outcome v) (verdict_comment v)) (normal_verdict_now s) [])
 
 -- the answer to `setboard`, by how its FEN was read: the game starts anew from that position, and the answer is the
 -- verdict on it, if there is one; or the FEN's fault is; for normal chess alone
@@ -66,7 +69,8 @@ normal_result_row s text (Some d) =
 abbrev pub normal_claim_row : State → Response State
 normal_claim_row s =
     if normal_is_over s then refuses s (codes "Error (command not legal now): ") (codes "claim")
-    else draw_claim_row s (normal_claims s.start s.moves)
+    else option_map_or (λ claim. declares_draw s (claim_comment claim)) (draw_claim (normal_claims s.start s.moves))
+    (refuses s (codes "Error (no claim): ") (codes "claim"))
 
 -- the answer to `variant` by its argument (`text` is the whole line), for normal chess alone: only `normal` is
 -- accepted, and changes nothing

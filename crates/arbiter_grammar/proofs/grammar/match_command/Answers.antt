@@ -1,9 +1,9 @@
 -- The command is built in the order of `match_app`: an argument that isn't global is added as `with_rule` adds it, and
 -- adds no global one to those before it.
-use Rattle.std.proofs.Common.{rules, ◌≡◌, ◌∙◌, ap₂, codes, Bool, ◌||◌}
+use Rattle.std.proofs.Common.{rules, ◌≡◌, ◌∙◌, ap₂, codes, Bool, true, ◌||◌}
 use Rattle.std.proofs.lemmas.Result.{IfOk-weaker}
 use Rattle.clap.specs.Words.{rule_of, with_rule}
-use Rattle.arbiter_grammar.specs.Grammar.{option_rule, flag_rule, needed}
+use Rattle.arbiter_grammar.specs.Grammar.{option_rule, flag_rule}
 use Rattle.arbiter_grammar.proofs.grammar.match_command.Goals as goal
 
 pub returns-clause-app : goal.returns-clause-app
@@ -11,8 +11,10 @@ returns-clause-app c =
     let level : rule_of c.option.result ≡ option_rule (codes "level") = search rules in
     let fen : rule_of c.option-2.result ≡ option_rule (codes "fen") = search rules in
     let date : rule_of c.option-3.result ≡ option_rule (codes "date") = search rules in
-    let white : rule_of c.needed_option.result ≡ needed (option_rule (codes "white")) = search rules in
-    let black : rule_of c.needed_option-2.result ≡ needed (option_rule (codes "black")) = search rules in
+    let white : rule_of c.needed_option.result ≡ record (option_rule (codes "white")) { required = true } =
+    search rules in
+    let black : rule_of c.needed_option-2.result ≡ record (option_rule (codes "black")) { required = true } =
+    search rules in
     let variant = c.variant_option.ensures.rule in
     let e1 = c.in_ok-arg.ensures.shape c.needed_option.ensures.local ∙ ap₂ with_rule c.command.ensures.app white in
     let e2 = c.in_ok-arg-2.ensures.shape c.needed_option-2.ensures.local ∙ ap₂ with_rule e1 black in
