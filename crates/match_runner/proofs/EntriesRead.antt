@@ -1,17 +1,23 @@
 -- The lines of a log are read back from its text.
-use Rattle.std.proofs.Common.{◌≡◌, ◌∙◌, ℕ, Bool, true, false, List, [], ◌∷◌, ◌++◌, map, refl, sym, ap, append_assoc, arith, rules}
-use Rattle.std.specs.Prelude.{◌==◌, codes, decimal}
+use Rattle.std.proofs.Common.{◌≡◌, ◌∙◌, ℕ, Bool, true, false, List, [], ◌∷◌, ◌++◌, map, refl, sym, ap, append_assoc, append-nil, Some, None, arith, rules}
+use Rattle.std.specs.Prelude.{◌==◌, codes, decimal, flat_map}
 use Rattle.std.proofs.lemmas.Bool.{and_parts}
 use Rattle.std.proofs.lemmas.Bool.Decides.{nat_tests}
 use Rattle.std.specs.Str.Parse.{digits_value}
 use Rattle.std.specs.List.{AllByRecursion, list_all}
 use Rattle.std.proofs.lemmas.List.{append_cancel_left}
+use Rattle.std.proofs.lemmas.List.Concat.{flat_map-append}
 use Rattle.std.proofs.lemmas.Fmt.{decimal_injective, digits_decimal}
 use Rattle.std.proofs.lemmas.Str.Parse.{IsNumeralModel, numerals_by_value}
-use Rattle.chess_base.specs.Letters.{is_digit, new_line}
+use Rattle.chess_base.specs.Letters.{byte, is_digit, new_line}
+use Rattle.chess_base.specs.Men.{same_colour}
+use Rattle.chess_base.specs.declared.man.Colour.{Colour}
 use Rattle.chess_game.specs.Results.{shown_byte}
-use Rattle.match_runner.specs.Log.{Entry, engine_text, entries_text, log_line}
-use Rattle.match_runner.specs.laws.Entries.{IsShown, LogsHaveOneReading, is_printable}
+use Rattle.chess_match.specs.Events.{Line, Opened, OutputEnds, FailsToRead, FailsToWrite}
+use Rattle.chess_match.specs.Notes.{Note, Happened, Gives}
+use Rattle.match_runner.specs.Log.{lines_in, log_from, log_line, moment_after, note_text}
+use Rattle.match_runner.specs.laws.Entries.{Entry, IsShown, LogsHaveOneReading, entries_from, entries_text, is_printable, note_entries}
+use Rattle.match_runner.specs.ties.Logging.{engine_text}
 
 -- no byte is `c`
 abbrev Without : ℕ → List ℕ → Type 0
@@ -54,15 +60,19 @@ shown_text (c ∷ cs) h =
     (ap (λ (d : ℕ). d ∷ map shown_byte cs) b.0 ∙ ap (λ (l : List ℕ). c ∷ l) r.0, (b.1, r.1))
 
 -- a line and what follows, from left to right
-spread : (moment mark : ℕ) (is_first : Bool) (text shows rest : List ℕ) → map shown_byte text ≡ shows
-    → log_line moment mark is_first text ++ rest
-    ≡ decimal moment ++ 32 ∷ mark ∷ (engine_text is_first ++ (shows ++ new_line ∷ rest))
-spread moment mark is_first text shows rest e =
-    let a : List ℕ = 32 ∷ mark ∷ engine_text is_first in
-    append_assoc (decimal moment ++ a) (map shown_byte text ++ new_line ∷ []) rest
-    ∙ ap (λ (l : List ℕ). (decimal moment ++ a) ++ l) (append_assoc (map shown_byte text) (new_line ∷ []) rest)
-    ∙ ap (λ (l : List ℕ). (decimal moment ++ a) ++ (l ++ new_line ∷ rest)) e
-    ∙ append_assoc (decimal moment) a (shows ++ new_line ∷ rest)
+spread : (first : Colour) (moment mark : ℕ) (side : Colour) (text shows rest : List ℕ) → map shown_byte text ≡ shows
+    → log_line first moment mark side text ++ rest
+    ≡ decimal moment ++ 32 ∷ mark ∷ (engine_text (same_colour side first) ++ (shows ++ new_line ∷ rest))
+spread first moment mark side text shows rest e =
+    let number : List ℕ = decimal moment in
+    let engine : List ℕ = engine_text (same_colour side first) in
+    let head : List ℕ = (number ++ 32 ∷ mark ∷ []) ++ engine in
+    let shown : List ℕ = map shown_byte text in
+    append_assoc (head ++ shown) (new_line ∷ []) rest
+    ∙ append_assoc head shown (new_line ∷ rest)
+    ∙ ap (λ (l : List ℕ). head ++ (l ++ new_line ∷ rest)) e
+    ∙ append_assoc (number ++ 32 ∷ mark ∷ []) engine (shows ++ new_line ∷ rest)
+    ∙ append_assoc number (32 ∷ mark ∷ []) (engine ++ (shows ++ new_line ∷ rest))
 
 head_is : (x y : ℕ) (xs ys : List ℕ) → x ∷ xs ≡ y ∷ ys → x ≡ y
 head_is x y xs ys e = cc
@@ -76,28 +86,33 @@ engine_cut false false xs ys e = (refl, append_cancel_left (codes "second: ") xs
 engine_cut true false xs ys e = let same = head_is 102 115 _ _ e in absurd (omega (arith, same))
 engine_cut false true xs ys e = let same = head_is 115 102 _ _ e in absurd (omega (arith, same))
 
-abbrev entry : ℕ → ℕ → Bool → List ℕ → Entry
-entry m k i t = record { moment = m; mark = k; is_first = i; text = t }
+side_is : (a b first : Colour) → same_colour a first ≡ same_colour b first → a ≡ b
+side_is a b first e = grind (arith, e)
 
-entry_is : (m n k l : ℕ) (i j : Bool) (t u : List ℕ) → m ≡ n → k ≡ l → i ≡ j → t ≡ u → entry m k i t ≡ entry n l j u
-entry_is m n k l i j t u e f g h =
-    ap (λ v. entry v k i t) e ∙ ap (λ v. entry n v i t) f ∙ ap (λ v. entry n l v t) g ∙ ap (λ v. entry n l j v) h
+abbrev entry : ℕ → ℕ → Colour → List ℕ → Entry
+entry m k s t = record { moment = m; mark = k; side = s; text = t }
 
-line_cut : (e f : Entry) (xs ys : List ℕ) → IsShown e → IsShown f
-    → log_line e.moment e.mark e.is_first e.text ++ xs ≡ log_line f.moment f.mark f.is_first f.text ++ ys
+entry_is : (m n k l : ℕ) (a b : Colour) (t u : List ℕ) → m ≡ n → k ≡ l → a ≡ b → t ≡ u → entry m k a t ≡ entry n l b u
+entry_is m n k l a b t u e f g h =
+    ap (λ v. entry v k a t) e ∙ ap (λ v. entry n v a t) f ∙ ap (λ v. entry n l v t) g ∙ ap (λ v. entry n l b v) h
+
+line_cut : (first : Colour) (e f : Entry) (xs ys : List ℕ) → IsShown e → IsShown f
+    → log_line first e.moment e.mark e.side e.text ++ xs ≡ log_line first f.moment f.mark f.side f.text ++ ys
     → (e ≡ f) × (xs ≡ ys)
-line_cut e f xs ys (small, plain) (small', plain') same =
+line_cut first e f xs ys (small, plain) (small', plain') same =
     let s = shown_text e.text plain in
     let s' = shown_text f.text plain' in
-    let apart = sym (spread e.moment e.mark e.is_first e.text e.text xs s.0) ∙ same
-    ∙ spread f.moment f.mark f.is_first f.text f.text ys s'.0 in
+    let apart = sym (spread first e.moment e.mark e.side e.text e.text xs s.0) ∙ same
+    ∙ spread first f.moment f.mark f.side f.text f.text ys s'.0 in
     let number = cut 32 (decimal e.moment) (decimal f.moment) _ _
     (digits_without _ (digits_decimal numeral e.moment small))
     (digits_without _ (digits_decimal numeral f.moment small')) apart in
     let mark = head_is e.mark f.mark _ _ number.1 in
-    let engine = engine_cut e.is_first f.is_first _ _ (tail_is e.mark f.mark _ _ number.1) in
+    let engine = engine_cut (same_colour e.side first) (same_colour f.side first) _ _
+    (tail_is e.mark f.mark _ _ number.1) in
     let text = cut new_line e.text f.text xs ys s.1 s'.1 engine.1 in (
-      entry_is _ _ _ _ _ _ _ _ (decimal_injective e.moment f.moment small small' number.0) mark engine.0 text.0,
+      entry_is _ _ _ _ _ _ _ _ (decimal_injective e.moment f.moment small small' number.0) mark
+          (side_is e.side f.side first engine.0) text.0,
       text.1,
     )
 
@@ -105,17 +120,51 @@ never_empty : (xs : List ℕ) (y : ℕ) (ys : List ℕ) → xs ++ y ∷ ys ≡ [
 never_empty [] y ys e = cc
 never_empty (x ∷ xs) y ys e = cc
 
-not_empty : (e : Entry) (rest : List ℕ) → IsShown e
-    → log_line e.moment e.mark e.is_first e.text ++ rest ≡ [] → ⊥
-not_empty e rest (small, plain) h =
+not_empty : (first : Colour) (e : Entry) (rest : List ℕ) → IsShown e
+    → log_line first e.moment e.mark e.side e.text ++ rest ≡ [] → ⊥
+not_empty first e rest (small, plain) h =
     never_empty (decimal e.moment) _ _
-    (sym (spread e.moment e.mark e.is_first e.text e.text rest (shown_text e.text plain).0) ∙ h)
+    (sym (spread first e.moment e.mark e.side e.text e.text rest (shown_text e.text plain).0) ∙ h)
 
 pub logs_have_one_reading : LogsHaveOneReading
-logs_have_one_reading [] [] h k e = refl
-logs_have_one_reading [] (y ∷ ys) h (s, k) e = absurd (not_empty y (entries_text ys) s (sym e))
-logs_have_one_reading (x ∷ xs) [] (s, h) k e = absurd (not_empty x (entries_text xs) s e)
-logs_have_one_reading (x ∷ xs) (y ∷ ys) (s, h) (t, k) e =
-    let p = line_cut x y (entries_text xs) (entries_text ys) s t e in
-    let q = logs_have_one_reading xs ys h k p.1 in
+logs_have_one_reading first [] [] h k e = refl
+logs_have_one_reading first [] (y ∷ ys) h (s, k) e = absurd (not_empty first y (entries_text first ys) s (sym e))
+logs_have_one_reading first (x ∷ xs) [] (s, h) k e = absurd (not_empty first x (entries_text first xs) s e)
+logs_have_one_reading first (x ∷ xs) (y ∷ ys) (s, h) (t, k) e =
+    let p = line_cut first x y (entries_text first xs) (entries_text first ys) s t e in
+    let q = logs_have_one_reading first xs ys h k p.1 in
     ap (λ (v : Entry). v ∷ xs) p.0 ∙ ap (λ (l : List Entry). y ∷ l) q
+
+-- ---- the lines of notes
+
+sent_are : (first : Colour) (moment : ℕ) (c : Colour) (texts : List (List ℕ))
+    → flat_map (log_line first moment (byte ">") c) texts
+    ≡ entries_text first (map (λ text. record { moment = moment; mark = byte ">"; side = c; text = text }) texts)
+sent_are first moment c [] = refl
+sent_are first moment c (t ∷ ts) =
+    ap (λ (l : List ℕ). log_line first moment (byte ">") c t ++ l) (sent_are first moment c ts)
+
+note_is : (first : Colour) (moment : ℕ) (n : Note)
+    → note_text first moment n ≡ entries_text first (note_entries moment n)
+note_is first moment (Happened (Line c (Some text) now)) = sym (append-nil (log_line first now (byte "<") c text))
+note_is first moment (Happened (Line c None now)) =
+    sym (append-nil (log_line first now (byte "!") c (codes "line too long")))
+note_is first moment (Happened (Opened c now)) = refl
+note_is first moment (Happened (OutputEnds c)) =
+    sym (append-nil (log_line first moment (byte "!") c (codes "output ended")))
+note_is first moment (Happened (FailsToRead c)) =
+    sym (append-nil (log_line first moment (byte "!") c (codes "read failed")))
+note_is first moment (Happened (FailsToWrite c)) =
+    sym (append-nil (log_line first moment (byte "!") c (codes "write failed")))
+note_is first moment (Gives c bytes) = sent_are first moment c (lines_in bytes)
+
+-- a log is the text of its lines
+pub log_is : (first : Colour) (moment : ℕ) (notes : List Note)
+    → log_from first moment notes ≡ entries_text first (entries_from moment notes)
+log_is first moment [] = refl
+log_is first moment (n ∷ notes) =
+    ap (λ (l : List ℕ). l ++ log_from first (moment_after moment n) notes) (note_is first moment n)
+    ∙ ap (λ (l : List ℕ). entries_text first (note_entries moment n) ++ l)
+    (log_is first (moment_after moment n) notes)
+    ∙ sym (flat_map-append (λ (e : Entry). log_line first e.moment e.mark e.side e.text) (note_entries moment n)
+    (entries_from (moment_after moment n) notes))

@@ -1,21 +1,20 @@
 -- What was logged, put together.
-use Rattle.std.proofs.Common.{◌≡◌, ℕ, suc, ◌+◌, ◌<◌, min, length, drop, take, get_or, map, not, Bool, true, false, List, [], ◌∷◌, ◌++◌, refl, ap, sym, ◌∙◌, subst, append_assoc, append-nil, Option, Some, None, Result, Ok, Err, arith}
+use Rattle.std.proofs.Common.{◌≡◌, ℕ, suc, ◌+◌, ◌<◌, min, length, drop, take, get_or, not, Bool, true, false, List, [], ◌∷◌, ◌++◌, refl, ap, sym, ◌∙◌, subst, append_assoc, append-nil, Option, Some, None, Result, Ok, Err, arith}
 use native.Mathlib.Numerals.{unary_clauses}
-use Rattle.std.specs.Prelude.{◌==◌, if◌then◌else◌}
+use Rattle.std.specs.Prelude.{◌==◌, flat_map, if◌then◌else◌}
 use Rattle.std.specs.List.{onto_first, position_or_len}
 use Rattle.std.specs.Result.{is_err}
 use Rattle.std.proofs.lemmas.Bool.Decides.{nat_tests}
 use Rattle.std.proofs.lemmas.List.{drop_min, drop_more}
-use Rattle.std.proofs.lemmas.List.Concat.{flat_map-append}
 use Rattle.chess_base.specs.Letters.{byte, new_line}
 use Rattle.chess_base.specs.declared.man.Colour.{Colour}
 use Rattle.chess_base.specs.declared.man.Colour.TheVariants.{White, Black}
-use Rattle.chess_base.specs.Men.{same_colour}
 use Rattle.byte_devices.specs.Devices.{OutputState, Sends}
 use Rattle.byte_devices.specs.Transfers.{OutputTook, all_of}
 use Rattle.byte_devices.proofs.shared.Transfers.{broke, took_all, took_more, took_nothing, took_some}
-use Rattle.chess_match.specs.Notes.{Note, Gives, WasNoted}
-use Rattle.match_runner.specs.Log.{Entry, LogSeen, Logged, LogsNote, entries_from, entries_text, lines_in, log_line, log_seen, log_text, moment_after, note_entries}
+use Rattle.chess_match.specs.Events.{Line}
+use Rattle.chess_match.specs.Notes.{Note, Gives, Happened, WasNoted}
+use Rattle.match_runner.specs.Log.{LogSeen, Logged, LogsNote, lines_in, log_from, log_line, log_seen, log_text, moment_after, note_text}
 use Rattle.match_runner.specs.ties.Logging.{Adds, IsLog, LogsPending, first_of_text, log_of_text, moment_from, noted_by, text_of_log}
 use Rattle.match_runner.specs.declared.log.Log.{Log}
 use Rattle.match_runner.specs.declared.log.Pending.{Pending}
@@ -203,46 +202,29 @@ line_split (c ∷ cs) len rest some is end =
 -- a line more of what an engine is sent
 pub given_more : (first side : Colour) (moment : ℕ) (text line rest all done : List ℕ)
     → lines_in text ≡ line ∷ lines_in rest
-    → done ++ entries_text (note_entries first moment (Gives side text)) ≡ all
-    → (done ++ log_line moment (byte ">") (same_colour side first) line)
-    ++ entries_text (note_entries first moment (Gives side rest)) ≡ all
+    → done ++ note_text first moment (Gives side text) ≡ all
+    → (done ++ log_line first moment (byte ">") side line) ++ note_text first moment (Gives side rest) ≡ all
 given_more first side moment text line rest all done is h =
-    let entries : List (List ℕ) → List ℕ = λ ls.
-    entries_text (map (λ t. record { moment = moment; mark = byte ">"; is_first = same_colour side first; text = t })
-    ls)
-    in
-    append_assoc done (log_line moment (byte ">") (same_colour side first) line) (entries (lines_in rest))
-    ∙ ap (λ ls. done ++ entries ls) (sym is) ∙ h
+    let sent : List (List ℕ) → List ℕ = λ ls. flat_map (log_line first moment (byte ">") side) ls in
+    append_assoc done (log_line first moment (byte ">") side line) (sent (lines_in rest))
+    ∙ ap (λ ls. done ++ sent ls) (sym is) ∙ h
 
 -- nothing is left of what an engine is sent
 pub given_all : (first side : Colour) (moment : ℕ) (rest all done : List ℕ) → (length rest == 0) ≡ true
-    → done ++ entries_text (note_entries first moment (Gives side rest)) ≡ all → done ≡ all
+    → done ++ note_text first moment (Gives side rest) ≡ all → done ≡ all
 given_all first side moment [] all done none h = sym (append-nil done) ∙ h
 given_all first side moment (x ∷ xs) all done none h = absurd (grind (arith, nat_tests))
 
 -- ---- notes
 
--- the lines of two lists, one after the other
-entries_more : (xs ys : List Entry) → entries_text (xs ++ ys) ≡ entries_text xs ++ entries_text ys
-entries_more = flat_map-append (λ e. log_line e.moment e.mark e.is_first e.text)
-
--- a single line
-one_entry : (e : Entry) → log_line e.moment e.mark e.is_first e.text ≡ entries_text (e ∷ [])
-one_entry e = sym (append-nil (log_line e.moment e.mark e.is_first e.text))
-
 log_more : (first : Colour) (moment : ℕ) (notes : List Note) (n : Note)
-    → entries_text (entries_from first moment (notes ++ n ∷ []))
-    ≡ entries_text (entries_from first moment notes) ++ entries_text (note_entries first (moment_from moment notes) n)
-log_more first moment [] n = ap entries_text (append-nil (note_entries first moment n))
+    → log_from first moment (notes ++ n ∷ [])
+    ≡ log_from first moment notes ++ note_text first (moment_from moment notes) n
+log_more first moment [] n = append-nil (note_text first moment n)
 log_more first moment (x ∷ notes) n =
-    entries_more (note_entries first moment x) (entries_from first (moment_after moment x) (notes ++ n ∷ []))
-    ∙ ap (λ (l : List ℕ). entries_text (note_entries first moment x) ++ l)
-    (log_more first (moment_after moment x) notes n)
-    ∙ sym (append_assoc (entries_text (note_entries first moment x))
-    (entries_text (entries_from first (moment_after moment x) notes))
-    (entries_text (note_entries first (moment_from (moment_after moment x) notes) n)))
-    ∙ ap (λ (l : List ℕ). l ++ entries_text (note_entries first (moment_from (moment_after moment x) notes) n))
-    (sym (entries_more (note_entries first moment x) (entries_from first (moment_after moment x) notes)))
+    ap (λ (l : List ℕ). note_text first moment x ++ l) (log_more first (moment_after moment x) notes n)
+    ∙ sym (append_assoc (note_text first moment x) (log_from first (moment_after moment x) notes)
+    (note_text first (moment_from (moment_after moment x) notes) n))
 
 moment_more : (moment : ℕ) (notes : List Note) (n : Note) → moment_from moment (notes ++ n ∷ [])
     ≡ moment_after (moment_from moment notes) n
@@ -267,29 +249,27 @@ noted seen l l' n (logged, same, after) = record {
       let from = log_of_text before in
       let now = log_seen (seen l.output) l.broken in
       let after_it = log_seen (seen l'.output) l'.broken in
-      let entries : List ℕ = entries_text (note_entries l.first l.moment n) in
+      let text : List ℕ = note_text l.first l.moment n in
       record {
         sided = same ∙ was.sided;
         written = subst (λ (t : List ℕ). Logged from after_it t)
-            (ap (λ (c : Colour). log_text first notes ++ entries_text (note_entries c l.moment n)) was.sided
-            ∙ ap (λ (m : ℕ). log_text first notes ++ entries_text (note_entries first m n)) was.reached
+            (ap (λ (c : Colour). log_text first notes ++ note_text c l.moment n) was.sided
+            ∙ ap (λ (m : ℕ). log_text first notes ++ note_text first m n) was.reached
             ∙ sym (log_more first 0 notes n))
-            (logged_more from now after_it (log_text first notes) entries was.written logged);
+            (logged_more from now after_it (log_text first notes) text was.written logged);
         reached = after ∙ ap (λ (m : ℕ). moment_after m n) was.reached ∙ sym (moment_more 0 notes n);
       };
 }
 
--- a note of a single line was logged
-pub line_logs : {E : Type 0} (seen : E → OutputState) (l l' : Log E) (c : Colour) (at mark : ℕ) (text : List ℕ)
-    (n : Note) → note_entries l.first l.moment n
-    ≡ record { moment = at; mark = mark; is_first = same_colour c l.first; text = text } ∷ []
+-- a line of an engine was logged, or that it was too long
+pub line_logs : {E : Type 0} (seen : E → OutputState) (l l' : Log E) (c : Colour) (now : ℕ)
+    (read known : Option (List ℕ)) → read ≡ known
     → Logged (log_seen (seen l.output) l.broken) (log_seen (seen l'.output) l'.broken)
-    (log_line at mark (same_colour c l.first) text)
-    → l'.first ≡ l.first → l'.moment ≡ moment_after l.moment n → LogsNote seen l l' n
-line_logs seen l l' c at mark text n is logged same after = (
-  subst (λ (t : List ℕ). Logged (log_seen (seen l.output) l.broken) (log_seen (seen l'.output) l'.broken) t)
-      (one_entry (record { moment = at; mark = mark; is_first = same_colour c l.first; text = text })
-      ∙ ap entries_text (sym is)) logged,
+    (note_text l.first l.moment (Happened (Line c known now)))
+    → l'.first ≡ l.first → l'.moment ≡ now → LogsNote seen l l' (Happened (Line c read now))
+line_logs seen l l' c now read known is logged same after = (
+  subst (λ (t : Option (List ℕ)). Logged (log_seen (seen l.output) l.broken) (log_seen (seen l'.output) l'.broken)
+      (note_text l.first l.moment (Happened (Line c t now)))) (sym is) logged,
   same,
   after,
 )

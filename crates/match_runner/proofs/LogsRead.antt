@@ -9,7 +9,7 @@ use Rattle.std.proofs.lemmas.Bool.Decides.{nat_tests}
 use Rattle.chess_base.specs.Letters.{byte, new_line}
 use Rattle.chess_base.specs.Options.{list_if}
 use Rattle.chess_base.specs.declared.man.Colour.{Colour}
-use Rattle.chess_base.specs.Men.{other, same_colour}
+use Rattle.chess_base.specs.Men.{same_colour}
 use Rattle.chess_match.specs.Acts.{Act, Sends, SendFails, Happens}
 use Rattle.chess_match.specs.ByDevice.{notes_given}
 use Rattle.chess_match.specs.Effects.{Match, beginning}
@@ -20,51 +20,42 @@ use Rattle.chess_match.specs.Reasons.{is_write_fault_of}
 use Rattle.chess_match.specs.laws.Laws.{events_in}
 use Rattle.chess_match.specs.laws.OfActs.{lines_given}
 use Rattle.chess_match.specs.declared.reason.Reason.{Reason}
-use Rattle.match_runner.specs.Log.{Entry, entries_from, lines_in, moment_after, note_entries}
+use Rattle.match_runner.specs.Log.{lines_in, moment_after}
+use Rattle.match_runner.specs.laws.Entries.{Entry, entries_from, note_entries}
 use Rattle.match_runner.specs.laws.ReadBack.{LogsGiveTheGame, LogsShow, entry_event, entry_given, events_shown, result_line, text_of_result}
-use Rattle.match_runner.proofs.EntriesRead.{logs_have_one_reading}
+use Rattle.match_runner.proofs.EntriesRead.{log_is, logs_have_one_reading}
 use Rattle.match_runner.proofs.PlayedAgain.{again, last_lines}
 use Rattle.match_runner.proofs.Replays.{EndsAs, match_goes, replayed}
 use Rattle.match_runner.proofs.ResultLines.{reason_of, reason_read, result_plain}
 
 -- ---- events
 
-side_is : (c first : Colour) → (if same_colour c first then first else other first) ≡ c
-side_is c first = grind arith
+abbrev sent_entry : ℕ → Colour → List ℕ → Entry
+sent_entry moment side text = record { moment = moment; mark = byte ">"; side = side; text = text }
 
-abbrev sent_entry : ℕ → Bool → List ℕ → Entry
-sent_entry moment is_first text = record { moment = moment; mark = byte ">"; is_first = is_first; text = text }
+no_event : (moment : ℕ) (side : Colour) (texts : List (List ℕ))
+    → flat_map entry_event (map (sent_entry moment side) texts) ≡ []
+no_event moment side [] = refl
+no_event moment side (t ∷ ts) = no_event moment side ts
 
-no_event : (first : Colour) (moment : ℕ) (is_first : Bool) (texts : List (List ℕ))
-    → flat_map (entry_event first) (map (sent_entry moment is_first) texts) ≡ []
-no_event first moment is_first [] = refl
-no_event first moment is_first (t ∷ ts) = no_event first moment is_first ts
+event_more : (event : Event) (shown rest : List Event) → shown ≡ rest → event ∷ shown ≡ event ∷ rest
+event_more event shown rest e = ap (λ (l : List Event). event ∷ l) e
 
-event_more : (first c : Colour) (event : Colour → Event) (shown rest : List Event) → shown ≡ rest
-    → event (if same_colour c first then first else other first) ∷ shown ≡ event c ∷ rest
-event_more first c event shown rest e =
-    ap (λ (s : Colour). event s ∷ shown) (side_is c first) ∙ ap (λ (l : List Event). event c ∷ l) e
-
-events_read : (first : Colour) (moment : ℕ) (notes : List Note)
-    → flat_map (entry_event first) (entries_from first moment notes) ≡ events_shown (events_in notes)
-events_read first moment [] = refl
-events_read first moment (Happened (Line c (Some text) now) ∷ notes) =
-    event_more first c (λ s. Line s (Some text) now) _ _ (events_read first now notes)
-events_read first moment (Happened (Line c None now) ∷ notes) =
-    event_more first c (λ s. Line s None now) _ _ (events_read first now notes)
-events_read first moment (Happened (Opened c now) ∷ notes) = events_read first now notes
-events_read first moment (Happened (OutputEnds c) ∷ notes) =
-    event_more first c (λ s. OutputEnds s) _ _ (events_read first moment notes)
-events_read first moment (Happened (FailsToRead c) ∷ notes) =
-    event_more first c (λ s. FailsToRead s) _ _ (events_read first moment notes)
-events_read first moment (Happened (FailsToWrite c) ∷ notes) =
-    event_more first c (λ s. FailsToWrite s) _ _ (events_read first moment notes)
-events_read first moment (Gives c bytes ∷ notes) =
-    flat_map-append (entry_event first) (map (sent_entry moment (same_colour c first)) (lines_in bytes))
-    (entries_from first moment notes)
-    ∙ ap (λ (l : List Event). l ++ flat_map (entry_event first) (entries_from first moment notes))
-    (no_event first moment (same_colour c first) (lines_in bytes))
-    ∙ events_read first moment notes
+events_read : (moment : ℕ) (notes : List Note)
+    → flat_map entry_event (entries_from moment notes) ≡ events_shown (events_in notes)
+events_read moment [] = refl
+events_read moment (Happened (Line c (Some text) now) ∷ notes) =
+    event_more (Line c (Some text) now) _ _ (events_read now notes)
+events_read moment (Happened (Line c None now) ∷ notes) = event_more (Line c None now) _ _ (events_read now notes)
+events_read moment (Happened (Opened c now) ∷ notes) = events_read now notes
+events_read moment (Happened (OutputEnds c) ∷ notes) = event_more (OutputEnds c) _ _ (events_read moment notes)
+events_read moment (Happened (FailsToRead c) ∷ notes) = event_more (FailsToRead c) _ _ (events_read moment notes)
+events_read moment (Happened (FailsToWrite c) ∷ notes) = event_more (FailsToWrite c) _ _ (events_read moment notes)
+events_read moment (Gives c bytes ∷ notes) =
+    flat_map-append entry_event (map (sent_entry moment c) (lines_in bytes)) (entries_from moment notes)
+    ∙ ap (λ (l : List Event). l ++ flat_map entry_event (entries_from moment notes))
+    (no_event moment c (lines_in bytes))
+    ∙ events_read moment notes
 
 -- ---- the lines of a block
 
@@ -137,14 +128,11 @@ plain_line (b ∷ bs) rest h =
 
 -- ---- bytes that are sent
 
-given_entries : (first S c : Colour) (moment : ℕ) (texts : List (List ℕ))
-    → flat_map (entry_given first S) (map (sent_entry moment (same_colour c first)) texts)
-    ≡ list_if (same_colour c S) (joined texts)
-given_entries first S c moment [] = grind arith
-given_entries first S c moment (t ∷ ts) =
-    ap (λ (s : Colour). list_if (same_colour s S) (t ++ new_line ∷ [])
-    ++ flat_map (entry_given first S) (map (sent_entry moment (same_colour c first)) ts)) (side_is c first)
-    ∙ ap (λ (l : List ℕ). list_if (same_colour c S) (t ++ new_line ∷ []) ++ l) (given_entries first S c moment ts)
+given_entries : (S c : Colour) (moment : ℕ) (texts : List (List ℕ))
+    → flat_map (entry_given S) (map (sent_entry moment c) texts) ≡ list_if (same_colour c S) (joined texts)
+given_entries S c moment [] = grind arith
+given_entries S c moment (t ∷ ts) =
+    ap (λ (l : List ℕ). list_if (same_colour c S) (t ++ new_line ∷ []) ++ l) (given_entries S c moment ts)
     ∙ at (same_colour c S)
   where
     at : (b : Bool) → list_if b (t ++ new_line ∷ []) ++ list_if b (joined ts) ≡ list_if b (joined (t ∷ ts))
@@ -158,17 +146,17 @@ bytes-append (l ∷ ls) more = ap (λ (t : List ℕ). text_of l ++ new_line ∷ 
     ∙ sym (append_assoc (text_of l) (new_line ∷ bytes_of ls) (bytes_of more))
 
 -- all bytes that S is sent by these lines of a log
-abbrev given_by : Colour → Colour → List Entry → List ℕ
-given_by first S entries = flat_map (entry_given first S) entries
+abbrev given_by : Colour → List Entry → List ℕ
+given_by S entries = flat_map (entry_given S) entries
 
-given_block : (first S c : Colour) (moment : ℕ) (lines more : List SentLine) (entries : List Entry)
-    → given_by first S entries ≡ bytes_of more
-    → given_by first S (note_entries first moment (Gives c (bytes_of lines)) ++ entries)
+given_block : (S c : Colour) (moment : ℕ) (lines more : List SentLine) (entries : List Entry)
+    → given_by S entries ≡ bytes_of more
+    → given_by S (note_entries moment (Gives c (bytes_of lines)) ++ entries)
     ≡ bytes_of (list_if (same_colour c S) lines ++ more)
-given_block first S c moment lines more entries e =
-    flat_map-append (entry_given first S) (note_entries first moment (Gives c (bytes_of lines))) entries
-    ∙ ap (λ (l : List ℕ). l ++ given_by first S entries) (given_entries first S c moment (lines_in (bytes_of lines)))
-    ∙ ap (λ (l : List ℕ). list_if (same_colour c S) l ++ given_by first S entries) (block_joined lines)
+given_block S c moment lines more entries e =
+    flat_map-append (entry_given S) (note_entries moment (Gives c (bytes_of lines))) entries
+    ∙ ap (λ (l : List ℕ). l ++ given_by S entries) (given_entries S c moment (lines_in (bytes_of lines)))
+    ∙ ap (λ (l : List ℕ). list_if (same_colour c S) l ++ given_by S entries) (block_joined lines)
     ∙ ap (λ (l : List ℕ). list_if (same_colour c S) (bytes_of lines) ++ l) e
     ∙ at (same_colour c S)
   where
@@ -177,28 +165,28 @@ given_block first S c moment lines more entries e =
     at false = refl
 
 -- a failed write is noted, or not
-given_failure : (first S c : Colour) (moment : ℕ) (notes : List Note) (noted : Bool)
-    → given_by first S (entries_from first moment (list_if noted (Happened (FailsToWrite c) ∷ []) ++ notes))
-    ≡ given_by first S (entries_from first moment notes)
-given_failure first S c moment notes true = refl
-given_failure first S c moment notes false = refl
+given_failure : (S c : Colour) (moment : ℕ) (notes : List Note) (noted : Bool)
+    → given_by S (entries_from moment (list_if noted (Happened (FailsToWrite c) ∷ []) ++ notes))
+    ≡ given_by S (entries_from moment notes)
+given_failure S c moment notes true = refl
+given_failure S c moment notes false = refl
 
-given_read : (first S : Colour) (moment : ℕ) (reason : Reason) (H : List Act)
-    → given_by first S (entries_from first moment (notes_given reason H)) ≡ bytes_of (lines_given S H)
+given_read : (S : Colour) (moment : ℕ) (reason : Reason) (H : List Act)
+    → given_by S (entries_from moment (notes_given reason H)) ≡ bytes_of (lines_given S H)
 unfolding bytes_of
-given_read first S moment reason [] = refl
-given_read first S moment reason (Sends b ∷ H) =
-    given_block first S b.to moment b.lines (lines_given S H) _ (given_read first S moment reason H)
-given_read first S moment reason (SendFails b ∷ H) =
-    given_block first S b.to moment b.lines (lines_given S H) _
-    (given_failure first S b.to moment (notes_given reason H) (is_write_fault_of reason b.to)
-    ∙ given_read first S moment reason H)
-given_read first S moment reason (Happens (Line c (Some t) now) ∷ H) = given_read first S now reason H
-given_read first S moment reason (Happens (Line c None now) ∷ H) = given_read first S now reason H
-given_read first S moment reason (Happens (Opened c now) ∷ H) = given_read first S now reason H
-given_read first S moment reason (Happens (OutputEnds c) ∷ H) = given_read first S moment reason H
-given_read first S moment reason (Happens (FailsToRead c) ∷ H) = given_read first S moment reason H
-given_read first S moment reason (Happens (FailsToWrite c) ∷ H) = given_read first S moment reason H
+given_read S moment reason [] = refl
+given_read S moment reason (Sends b ∷ H) =
+    given_block S b.to moment b.lines (lines_given S H) _ (given_read S moment reason H)
+given_read S moment reason (SendFails b ∷ H) =
+    given_block S b.to moment b.lines (lines_given S H) _
+    (given_failure S b.to moment (notes_given reason H) (is_write_fault_of reason b.to)
+    ∙ given_read S moment reason H)
+given_read S moment reason (Happens (Line c (Some t) now) ∷ H) = given_read S now reason H
+given_read S moment reason (Happens (Line c None now) ∷ H) = given_read S now reason H
+given_read S moment reason (Happens (Opened c now) ∷ H) = given_read S now reason H
+given_read S moment reason (Happens (OutputEnds c) ∷ H) = given_read S moment reason H
+given_read S moment reason (Happens (FailsToRead c) ∷ H) = given_read S moment reason H
+given_read S moment reason (Happens (FailsToWrite c) ∷ H) = given_read S moment reason H
 
 -- ---- the result
 
@@ -209,16 +197,16 @@ result_is (a ∷ b ∷ []) e f = refl
 result_is (a ∷ b ∷ c ∷ before) e f = result_is (b ∷ c ∷ before) e f
 
 -- the lines of the last note come last
-last_note : (first : Colour) (moment : ℕ) (before : List Note) (n : Note)
+last_note : (moment : ℕ) (before : List Note) (n : Note)
     → (lines : List Entry) × (now : ℕ)
-    × (entries_from first moment (before ++ n ∷ []) ≡ lines ++ note_entries first now n)
-last_note first moment [] n = ([], moment, append-nil (note_entries first moment n))
-last_note first moment (x ∷ before) n =
-    let (lines, now, e) = last_note first (moment_after moment x) before n in (
-      note_entries first moment x ++ lines,
+    × (entries_from moment (before ++ n ∷ []) ≡ lines ++ note_entries now n)
+last_note moment [] n = ([], moment, append-nil (note_entries moment n))
+last_note moment (x ∷ before) n =
+    let (lines, now, e) = last_note (moment_after moment x) before n in (
+      note_entries moment x ++ lines,
       now,
-      ap (λ (l : List Entry). note_entries first moment x ++ l) e
-          ∙ sym (append_assoc (note_entries first moment x) lines (note_entries first now n)),
+      ap (λ (l : List Entry). note_entries moment x ++ l) e
+          ∙ sym (append_assoc (note_entries moment x) lines (note_entries now n)),
     )
 
 last_two : (reason : Reason) → lines_in (bytes_of (last_lines reason)) ≡ text_of_result reason ∷ codes "quit" ∷ []
@@ -226,12 +214,12 @@ unfolding bytes_of
 last_two reason = plain_line (text_of_result reason) _ (result_plain reason)
 
 -- the lines of the last block
-block_result : (first S : Colour) (now : ℕ) (lines : List SentLine) (reason : Reason)
+block_result : (S : Colour) (now : ℕ) (lines : List SentLine) (reason : Reason)
     → (before : List Entry) × (e : Entry) × (f : Entry) × (e.text ≡ text_of_result reason)
-    × (note_entries first now (Gives S (bytes_of (lines ++ last_lines reason))) ≡ before ++ e ∷ f ∷ [])
-block_result first S now lines reason =
+    × (note_entries now (Gives S (bytes_of (lines ++ last_lines reason))) ≡ before ++ e ∷ f ∷ [])
+block_result S now lines reason =
     let (before, is) = block_lines lines (last_lines reason) in
-    let mark : List ℕ → Entry = sent_entry now (same_colour S first) in (
+    let mark : List ℕ → Entry = sent_entry now S in (
       map mark before,
       mark (text_of_result reason),
       mark (codes "quit"),
@@ -241,13 +229,13 @@ block_result first S now lines reason =
           ∙ map-append mark before (text_of_result reason ∷ codes "quit" ∷ []),
     )
 
-result_read : (first : Colour) (notes : List Note) (reason : Reason) → EndsAs reason notes
-    → result_line (entries_from first 0 notes) ≡ text_of_result reason
-result_read first notes reason (before, S, lines, is) =
+result_read : (notes : List Note) (reason : Reason) → EndsAs reason notes
+    → result_line (entries_from 0 notes) ≡ text_of_result reason
+result_read notes reason (before, S, lines, is) =
     let n : Note = Gives S (bytes_of (lines ++ last_lines reason)) in
-    let (entries, now, e) = last_note first 0 before n in
-    let (more, a, b, text, f) = block_result first S now lines reason in
-    ap (λ (l : List Note). result_line (entries_from first 0 l)) is
+    let (entries, now, e) = last_note 0 before n in
+    let (more, a, b, text, f) = block_result S now lines reason in
+    ap (λ (l : List Note). result_line (entries_from 0 l)) is
     ∙ ap (λ (l : List Entry). result_line l)
     (e ∙ ap (λ (l : List Entry). entries ++ l) f ∙ sym (append_assoc entries more (a ∷ b ∷ [])))
     ∙ result_is (entries ++ more) a b ∙ text
@@ -256,23 +244,24 @@ result_read first notes reason (before, S, lines, is) =
 
 pub logs_show : LogsShow
 logs_show r first reason H final h over = (
-  events_read first 0 (notes_given reason H),
-  λ S. given_read first S 0 reason H,
-  result_read first (notes_given reason H) reason (match_goes r reason H final h over).last,
+  log_is first 0 (notes_given reason H),
+  events_read 0 (notes_given reason H),
+  λ S. given_read S 0 reason H,
+  result_read (notes_given reason H) reason (match_goes r reason H final h over).last,
 )
 
 pub logs_give_the_game : LogsGiveTheGame
 logs_give_the_game r first reason reason' H K final final' h k over over' plain plain' same =
-    let xs : List Entry = entries_from first 0 (notes_given reason H) in
-    let ys : List Entry = entries_from first 0 (notes_given reason' K) in
-    let entries : xs ≡ ys = logs_have_one_reading xs ys plain plain' same in
+    let xs : List Entry = entries_from 0 (notes_given reason H) in
+    let ys : List Entry = entries_from 0 (notes_given reason' K) in
     let a = logs_show r first reason H final h over in
     let b = logs_show r first reason' K final' k over' in
+    let entries : xs ≡ ys = logs_have_one_reading first xs ys plain plain' (sym a.0 ∙ same ∙ b.0) in
     let reasons : reason ≡ reason' = sym (reason_read reason)
-    ∙ ap (λ (t : List ℕ). reason_of t) (sym a.2 ∙ ap (λ (l : List Entry). result_line l) entries ∙ b.2)
+    ∙ ap (λ (t : List ℕ). reason_of t) (sym a.3 ∙ ap (λ (l : List Entry). result_line l) entries ∙ b.3)
     ∙ reason_read reason' in
     let events : events_shown (events_in (notes_given reason H)) ≡ events_shown (events_in (notes_given reason' K)) =
-    sym a.0 ∙ ap (λ (l : List Entry). flat_map (entry_event first) l) entries ∙ b.0 in
+    sym a.1 ∙ ap (λ (l : List Entry). flat_map entry_event l) entries ∙ b.1 in
     let games = ap (λ (x : Reason).
     replayed r x (again beginning.after) (events_shown (events_in (notes_given reason H)))) reasons
     ∙ ap (λ (es : List Event). replayed r reason' (again beginning.after) es) events in
@@ -282,6 +271,6 @@ logs_give_the_game r first reason reason' H K final final' h k over over' plain 
       reasons = reasons;
       moves = c.0 ∙ ap (λ (m : Match). m.played) games ∙ sym d.0;
       items = λ S. c.1 S ∙ ap (λ (m : Match). (m.seat S).items) games ∙ sym (d.1 S);
-      sent = λ S. sym (a.1 S) ∙ ap (λ (l : List Entry). flat_map (entry_given first S) l) entries ∙ b.1 S;
+      sent = λ S. sym (a.2 S) ∙ ap (λ (l : List Entry). flat_map (entry_given S) l) entries ∙ b.2 S;
       events = events;
     }

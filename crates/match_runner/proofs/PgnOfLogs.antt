@@ -24,8 +24,8 @@ use Rattle.chess_pgn.specs.GameText.{pgn}
 use Rattle.match_runner.specs.declared.plan.GamesPlan.{GamesPlan}
 use Rattle.match_runner.specs.declared.score.Score.{Score}
 use Rattle.match_runner.specs.Games.{GameRecord, IsOfPlan, count_of, engine_command, first_side, game_text, game_texts, player_name, score_line, score_of}
-use Rattle.match_runner.specs.Log.{entries_from, log_text}
-use Rattle.match_runner.specs.laws.Entries.{IsShown}
+use Rattle.match_runner.specs.Log.{log_text}
+use Rattle.match_runner.specs.laws.Entries.{IsShown, entries_from}
 use Rattle.match_runner.specs.laws.ReadBack.{AreAlike, LogsGiveTheOutput, LogsGiveThePgn}
 use Rattle.match_runner.proofs.LogsRead.{logs_give_the_game}
 
@@ -100,10 +100,10 @@ logs_give_the_pgn plan number one two h k plain plain' same =
     let first : Colour = first_side number in
     let (H, reason, final, p) = is_played plan one h in
     let (K, reason', final', q) = is_played plan two k in
-    let shown : AllByRecursion IsShown (entries_from first 0 (notes_given reason H)) =
-    subst (λ (l : List Note). AllByRecursion IsShown (entries_from first 0 l)) (sym p.notes) plain in
-    let shown' : AllByRecursion IsShown (entries_from first 0 (notes_given reason' K)) =
-    subst (λ (l : List Note). AllByRecursion IsShown (entries_from first 0 l)) (sym q.notes) plain' in
+    let shown : AllByRecursion IsShown (entries_from 0 (notes_given reason H)) =
+    subst (λ (l : List Note). AllByRecursion IsShown (entries_from 0 l)) (sym p.notes) plain in
+    let shown' : AllByRecursion IsShown (entries_from 0 (notes_given reason' K)) =
+    subst (λ (l : List Note). AllByRecursion IsShown (entries_from 0 l)) (sym q.notes) plain' in
     let a : AreAlike reason reason' H K final final' =
     logs_give_the_game (rules plan) first reason reason' H K final final' p.is_match q.is_match
     p.over q.over shown shown'
@@ -132,7 +132,7 @@ Alike plan (g ∷ gs) (h ∷ hs) = AreAsOne plan g h × Alike plan gs hs
 Alike plan _ _ = ⊥
 
 abbrev IsOfLog : GamesPlan → ℕ × GameRecord → Type 0
-IsOfLog plan g = IsOfPlan plan g.1 × AllByRecursion IsShown (entries_from (first_side g.0) 0 g.1.notes)
+IsOfLog plan g = IsOfPlan plan g.1 × AllByRecursion IsShown (entries_from 0 g.1.notes)
 
 abbrev log_of : ℕ × GameRecord → List ℕ
 log_of g = log_text (first_side g.0) g.1.notes

@@ -1,6 +1,6 @@
 -- What a log of a match holds: a line for each line that an engine sends or is sent, as XBoard's debug file has them,
 -- and one for each end of an engine's output, each failure to read or write, and each line that is too long.
-use Rattle.std.specs.Prelude.{◌≡◌, ℕ, ◌==◌, Bool, true, false, if◌then◌else◌, List, [], ◌∷◌, ◌++◌, flat_map, map, codes, decimal, Some, None}
+use Rattle.std.specs.Prelude.{◌≡◌, ℕ, ◌==◌, if◌then◌else◌, List, [], ◌∷◌, ◌++◌, flat_map, map, codes, decimal, Bool, true, false, Some, None}
 use Rattle.std.specs.List.{onto_first}
 use Rattle.chess_base.specs.Letters.{byte, new_line}
 use Rattle.chess_base.specs.declared.man.Colour.{Colour}
@@ -14,34 +14,15 @@ use Rattle.match_runner.specs.declared.log.Log.{Log}
 
 -- ---- one line
 
--- a line of a log
-pub record Entry : Type 0 where
-  -- a reading of the clock in milliseconds, or 0 if it was not yet read; `note_entries` says which reading
-  pub moment : ℕ
-  -- the byte `<`: an engine sent the line; `>`: it was sent the line, or sending it failed; `!`: the engine's output
-  -- ended, reading from it or writing to it failed, or it sent a line that was too long
-  pub mark : ℕ
-  -- whether the engine is that of `--white`
-  pub is_first : Bool
-  -- the line that was sent, without its `\n`; with the mark `!` what happened, such as `read failed`
-  pub text : List ℕ
-
--- how the log names an engine: that of `--white` (`is_first`) is `first`, the other `second`, whichever side they have
-abbrev pub engine_text : Bool → List ℕ
-engine_text is_first = if is_first then codes "first : " else codes "second: "
-
--- what a line of the log begins with, such as `312 <first : `: its moment, its mark, and which engine
-abbrev pub line_head : ℕ → ℕ → Bool → List ℕ
-line_head moment mark is_first = decimal moment ++ ((32 ∷ mark ∷ []) ++ engine_text is_first)
-
--- a line of the log as it is written, such as `312 <first : move e2e4`, with `\n` at its end. The arguments are the
--- fields of an `Entry`. In the text, `?` stands for each byte that is no printable ASCII
-abbrev pub log_line : ℕ → ℕ → Bool → List ℕ → List ℕ
-log_line moment mark is_first text = line_head moment mark is_first ++ (map shown_byte text ++ new_line ∷ [])
-
--- these lines as they are written, one after another
-abbrev pub entries_text : List Entry → List ℕ
-entries_text entries = flat_map (λ e. log_line e.moment e.mark e.is_first e.text) entries
+-- a line of a log as it is written, such as `312 <first : move e2e4`, with `\n` at its end: a reading of the clock in
+-- milliseconds (`moment`), a mark, the engine, and a text. The mark is the byte `<` if the engine sent the text; `>` if
+-- it was sent the text, even if sending it failed; `!` if the text says what happened. The engine has the side `side`.
+-- It is called `first` if it is that of `--white`, whose side is `first`, and `second` if it is the other. In the text,
+-- `?` stands for each byte that is no printable ASCII
+abbrev pub log_line : Colour → ℕ → ℕ → Colour → List ℕ → List ℕ
+log_line first moment mark side text =
+    decimal moment ++ (byte " " ∷ mark ∷ []) ++ (if same_colour side first then codes "first : " else codes "second: ")
+    ++ map shown_byte text ++ new_line ∷ []
 
 -- ---- the lines of notes
 
@@ -50,48 +31,36 @@ abbrev pub lines_in : List ℕ → List (List ℕ)
 lines_in [] = []
 lines_in (b ∷ bs) = if b == new_line then [] ∷ lines_in bs else onto_first b (lines_in bs)
 
--- the log's lines for a note. `first` is the side of the engine of `--white`. The events `Line` and `Opened` have a
--- moment of their own (`now`), the clock's reading in milliseconds; any other note is logged with `moment`, that of the
--- last `Line` or `Opened` before it, or 0 if there was none. `c` is the side of the engine
-abbrev pub note_entries : Colour → ℕ → Note → List Entry
--- an engine sent this line
-note_entries first moment (Happened (Line c (Some text) now)) =
-    record { moment = now; mark = byte "<"; is_first = same_colour c first; text = text } ∷ []
--- an engine sent a line that was too long: its text is not logged
-note_entries first moment (Happened (Line c None now)) =
-    record { moment = now; mark = byte "!"; is_first = same_colour c first; text = codes "line too long" } ∷ []
--- the lines that open a turn were sent: they are logged by their own note (`Gives`), and nothing is logged here
-note_entries first moment (Happened (Opened c now)) = []
--- an engine ended its output, or reading from it or writing to it failed
-note_entries first moment (Happened (OutputEnds c)) =
-    record { moment = moment; mark = byte "!"; is_first = same_colour c first; text = codes "output ended" } ∷ []
-note_entries first moment (Happened (FailsToRead c)) =
-    record { moment = moment; mark = byte "!"; is_first = same_colour c first; text = codes "read failed" } ∷ []
-note_entries first moment (Happened (FailsToWrite c)) =
-    record { moment = moment; mark = byte "!"; is_first = same_colour c first; text = codes "write failed" } ∷ []
--- an engine is sent lines, even if sending them then fails: one line of the log for each
-note_entries first moment (Gives c bytes) =
-    map (λ text. record { moment = moment; mark = byte ">"; is_first = same_colour c first; text = text })
-    (lines_in bytes)
+-- what the log has for a note: one line, but for `Gives` one for each line that the engine is sent, and for `Opened`
+-- none, as a `Gives` has the lines that open the turn. `first` is the side of the engine of `--white`; `moment` is the
+-- clock's reading at the last `Line` or `Opened` before this note, or 0 if there was none
+abbrev pub note_text : Colour → ℕ → Note → List ℕ
+note_text first moment (Happened (Line c (Some text) now)) = log_line first now (byte "<") c text
+note_text first moment (Happened (Line c None now)) = log_line first now (byte "!") c (codes "line too long")
+note_text first moment (Happened (Opened c now)) = []
+note_text first moment (Happened (OutputEnds c)) = log_line first moment (byte "!") c (codes "output ended")
+note_text first moment (Happened (FailsToRead c)) = log_line first moment (byte "!") c (codes "read failed")
+note_text first moment (Happened (FailsToWrite c)) = log_line first moment (byte "!") c (codes "write failed")
+note_text first moment (Gives c bytes) = flat_map (log_line first moment (byte ">") c) (lines_in bytes)
 
--- the `moment` that `note_entries` takes for the note after this one; `moment` is the one that it takes for this note.
--- Both are equal unless this note is a `Line` or `Opened`, whose own moment (`now`) it is then
+-- the clock's reading at the last `Line` or `Opened` up to this note: its own (`now`) if it is one of these, and
+-- otherwise that of the last one before it (`moment`)
 abbrev pub moment_after : ℕ → Note → ℕ
 moment_after moment (Happened (Line c text now)) = now
 moment_after moment (Happened (Opened c now)) = now
 moment_after moment _ = moment
 
--- the log's lines for these notes, one note after another. `first` is the side of the engine of `--white`; `moment` is
--- the moment of the last `Line` or `Opened` before these notes, or 0 if there was none
-abbrev pub entries_from : Colour → ℕ → List Note → List Entry
-entries_from first moment [] = []
-entries_from first moment (n ∷ notes) = note_entries first moment n ++ entries_from first (moment_after moment n) notes
+-- what the log has for these notes, one after another. `first` is the side of the engine of `--white`; `moment` is the
+-- clock's reading at the last `Line` or `Opened` before these notes, or 0 if there was none
+abbrev pub log_from : Colour → ℕ → List Note → List ℕ
+log_from first moment [] = []
+log_from first moment (n ∷ notes) = note_text first moment n ++ log_from first (moment_after moment n) notes
 
 -- the whole log of a game with these notes, in which the engine of `--white` has the side `first`. Its lines before the
 -- first event `Line` or `Opened` have the moment 0, as the clock was not yet read in this game: the lines that engines
 -- are sent before any line is read, and perhaps an engine's end or failure
 abbrev pub log_text : Colour → List Note → List ℕ
-log_text first notes = entries_text (entries_from first 0 notes)
+log_text first notes = log_from first 0 notes
 
 -- ---- the output
 
@@ -123,5 +92,5 @@ Logged l l' text = (l.broken ≡ true → l' ≡ l)
 abbrev pub LogsNote : {E : Type 0} → (E → OutputState) → Log E → Log E → Note → Type 0
 LogsNote seen l l' note =
     Logged (log_seen (seen l.output) l.broken) (log_seen (seen l'.output) l'.broken)
-    (entries_text (note_entries l.first l.moment note))
+    (note_text l.first l.moment note)
     × (l'.first ≡ l.first) × (l'.moment ≡ moment_after l.moment note)

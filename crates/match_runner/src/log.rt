@@ -1,17 +1,16 @@
 //! The log of a match: what the engines send and are sent.
 
-ghost use Rattle.std.specs.Prelude.{◌≡◌, ◌<◌, ◌∷◌, [], decimal, false, length, map};
+ghost use Rattle.std.specs.Prelude.{◌≡◌, ◌<◌, ◌∷◌, ◌++◌, [], decimal, false, length, map};
 ghost use Rattle.arrayvec.specs.ArrayVec.{array_vec_len};
 ghost use Rattle.chess_base.specs.Letters.{new_line};
-ghost use Rattle.chess_base.specs.Men.{same_colour};
 ghost use Rattle.chess_game.specs.Results.{shown_byte};
 ghost use Rattle.chess_match.specs.Events as events;
 ghost use Rattle.chess_match.specs.Notes.{Gives, Happened};
 ghost use Rattle.chess_match.specs.Played.{PlayedNoting};
 ghost use Rattle.chess_match.specs.Run.{engines_of, text_read};
 ghost use Rattle.match_runner.specs.Log.{Logged, LogsNote};
-ghost use Rattle.match_runner.specs.Log.{engine_text, line_head, lines_in, log_line, log_seen, log_text};
-ghost use Rattle.match_runner.specs.ties.Logging.{Adds, IsLog, noted_by};
+ghost use Rattle.match_runner.specs.Log.{lines_in, log_line, log_seen, log_text};
+ghost use Rattle.match_runner.specs.ties.Logging.{Adds, IsLog, engine_text, line_head, noted_by};
 
 use arrayvec::ArrayVec;
 use byte_devices::{Input, Output, len_before, send};
@@ -151,7 +150,7 @@ impl Pending {
         text: &[u8],
     )
         ensures adds { Adds (E.seen output.old) (E.seen output.new) self.old self.new
-            (log_line moment mark is_first text.now) }
+            (line_head moment mark is_first ++ map shown_byte text.now ++ new_line ∷ []) }
         ensures nothing { self.new.bytes.items ≡ [] }
     {
         self.add_head(output, moment, mark, is_first);
@@ -235,7 +234,7 @@ impl<E: Output> Log<E> {
     fn add_line(&mut self, side: Colour, mark: u8, text: &[u8])
         ensures logged { Logged (log_seen (E.seen self.old.output) self.old.broken)
             (log_seen (E.seen self.new.output) self.new.broken)
-            (log_line self.old.moment mark (same_colour side self.old.first) text.now) }
+            (log_line self.old.first self.old.moment mark side text.now) }
         ensures first { self.new.first ≡ self.old.first }
         ensures moment { self.new.moment ≡ self.old.moment }
     {

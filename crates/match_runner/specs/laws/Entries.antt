@@ -1,7 +1,52 @@
 -- Laws of the log of a match: its text can be read in only one way.
-use Rattle.std.specs.Prelude.{◌≡◌, ◌<◌, ◌^◌, ◌&&◌, ℕ, Bool, true, nat_le, List}
+use Rattle.std.specs.Prelude.{◌≡◌, ◌<◌, ◌^◌, ◌&&◌, ℕ, Bool, true, nat_le, List, [], ◌∷◌, ◌++◌, flat_map, map, codes, Some, None}
 use Rattle.std.specs.List.{AllByRecursion, list_all}
-use Rattle.match_runner.specs.Log.{Entry, entries_text}
+use Rattle.chess_base.specs.Letters.{byte}
+use Rattle.chess_base.specs.declared.man.Colour.{Colour}
+use Rattle.chess_match.specs.Events.{Line, Opened, OutputEnds, FailsToRead, FailsToWrite}
+use Rattle.chess_match.specs.Notes.{Note, Happened, Gives}
+use Rattle.match_runner.specs.Log.{lines_in, log_line, moment_after}
+
+-- ---- the lines of a log as records
+
+-- a line of a log: what `log_line` writes
+pub record Entry : Type 0 where
+  -- a reading of the clock in milliseconds, or 0 if it was not yet read
+  pub moment : ℕ
+  -- the byte `<`, `>` or `!`
+  pub mark : ℕ
+  -- the side of the engine
+  pub side : Colour
+  -- the line that was sent, without its `\n`; with the mark `!` what happened, such as `read failed`
+  pub text : List ℕ
+
+-- these lines as they are written, one after another. `first` is the side of the engine of `--white`
+abbrev pub entries_text : Colour → List Entry → List ℕ
+entries_text first entries = flat_map (λ e. log_line first e.moment e.mark e.side e.text) entries
+
+-- the log's lines for a note: those of `note_text`
+abbrev pub note_entries : ℕ → Note → List Entry
+note_entries moment (Happened (Line c (Some text) now)) =
+    record { moment = now; mark = byte "<"; side = c; text = text } ∷ []
+note_entries moment (Happened (Line c None now)) =
+    record { moment = now; mark = byte "!"; side = c; text = codes "line too long" } ∷ []
+note_entries moment (Happened (Opened c now)) = []
+note_entries moment (Happened (OutputEnds c)) =
+    record { moment = moment; mark = byte "!"; side = c; text = codes "output ended" } ∷ []
+note_entries moment (Happened (FailsToRead c)) =
+    record { moment = moment; mark = byte "!"; side = c; text = codes "read failed" } ∷ []
+note_entries moment (Happened (FailsToWrite c)) =
+    record { moment = moment; mark = byte "!"; side = c; text = codes "write failed" } ∷ []
+note_entries moment (Gives c bytes) =
+    map (λ text. record { moment = moment; mark = byte ">"; side = c; text = text }) (lines_in bytes)
+
+-- the log's lines for these notes, one note after another. `moment` is the clock's reading at the last `Line` or
+-- `Opened` before these notes, or 0 if there was none
+abbrev pub entries_from : ℕ → List Note → List Entry
+entries_from moment [] = []
+entries_from moment (n ∷ notes) = note_entries moment n ++ entries_from (moment_after moment n) notes
+
+-- ---- one reading
 
 -- whether a byte is printable ASCII
 abbrev pub is_printable : ℕ → Bool
@@ -11,7 +56,7 @@ is_printable b = nat_le 32 b && nat_le b 126
 abbrev pub IsShown : Entry → Type 0
 IsShown e = (e.moment < 2 ^ 64) × (list_all is_printable e.text ≡ true)
 
--- lines that the log shows as they are have a text of their own
+-- lines that the log shows as they are have a text of their own, whichever side the engine of `--white` has (`first`)
 abbrev pub LogsHaveOneReading : Type 0
-LogsHaveOneReading = (xs ys : List Entry) → AllByRecursion IsShown xs → AllByRecursion IsShown ys
-    → entries_text xs ≡ entries_text ys → xs ≡ ys
+LogsHaveOneReading = (first : Colour) (xs ys : List Entry) → AllByRecursion IsShown xs → AllByRecursion IsShown ys
+    → entries_text first xs ≡ entries_text first ys → xs ≡ ys

@@ -4,7 +4,7 @@ use Rattle.std.specs.Prelude.{◌≡◌, ◌==◌, ◌&&◌, ℕ, if◌then◌el
 use Rattle.std.specs.List.{AllByRecursion, enumerate_from}
 use Rattle.std.specs.Str.{bytes_eq}
 use Rattle.chess_base.specs.Letters.{byte, new_line}
-use Rattle.chess_base.specs.Men.{other, same_colour}
+use Rattle.chess_base.specs.Men.{same_colour}
 use Rattle.chess_base.specs.Options.{list_if}
 use Rattle.chess_base.specs.declared.man.Colour.{Colour}
 use Rattle.chess_match.specs.Acts.{Act, IsMatch}
@@ -15,8 +15,8 @@ use Rattle.chess_match.specs.laws.Laws.{events_in}
 use Rattle.chess_match.specs.laws.OfActs.{lines_given}
 use Rattle.match_runner.specs.declared.plan.GamesPlan.{GamesPlan}
 use Rattle.match_runner.specs.Games.{GameRecord, IsOfPlan, first_side, game_text, match_text}
-use Rattle.match_runner.specs.Log.{Entry, entries_from, log_text}
-use Rattle.match_runner.specs.laws.Entries.{IsShown}
+use Rattle.match_runner.specs.Log.{log_text}
+use Rattle.match_runner.specs.laws.Entries.{Entry, IsShown, entries_from, entries_text}
 use Rattle.chess_match.specs.Lines.{bytes_of}
 use Rattle.chess_match.specs.Reasons.{comment_of, outcome_by_reason}
 use Rattle.chess_match.specs.Rules.{Rules}
@@ -35,10 +35,6 @@ events_shown (e ∷ es) = e ∷ events_shown es
 abbrev pub text_of_result : Reason → List ℕ
 text_of_result reason = codes "result " ++ result_text (outcome_by_reason reason) (comment_of reason)
 
--- the side of a line's engine; `first` is that of the engine of `--white`
-abbrev pub side_of : Colour → Entry → Colour
-side_of first e = if e.is_first then first else other first
-
 -- the event of a line of a log whose mark is `!`, of an engine of this side
 abbrev pub other_event : Colour → ℕ → List ℕ → Event
 other_event side moment text =
@@ -48,15 +44,15 @@ other_event side moment text =
     else FailsToWrite side
 
 -- the event that a line of a log shows, as a list of one; empty for a line that an engine is sent (`>`)
-abbrev pub entry_event : Colour → Entry → List Event
-entry_event first e =
-    if e.mark == byte "<" then Line (side_of first e) (Some e.text) e.moment ∷ []
-    else if e.mark == byte "!" then other_event (side_of first e) e.moment e.text ∷ []
+abbrev pub entry_event : Entry → List Event
+entry_event e =
+    if e.mark == byte "<" then Line e.side (Some e.text) e.moment ∷ []
+    else if e.mark == byte "!" then other_event e.side e.moment e.text ∷ []
     else []
 
 -- the bytes that the side `S` is sent by a line of a log; none by a line with another mark or of the other engine
-abbrev pub entry_given : Colour → Colour → Entry → List ℕ
-entry_given first S e = list_if (e.mark == byte ">" && same_colour (side_of first e) S) (e.text ++ new_line ∷ [])
+abbrev pub entry_given : Colour → Entry → List ℕ
+entry_given S e = list_if (e.mark == byte ">" && same_colour e.side S) (e.text ++ new_line ∷ [])
 
 -- the text of the last line but one, which is `result ..`
 abbrev pub result_line : List Entry → List ℕ
@@ -64,14 +60,15 @@ result_line (e ∷ f ∷ g ∷ es) = result_line (f ∷ g ∷ es)
 result_line (e ∷ f ∷ []) = e.text
 result_line _ = []
 
--- in the log of every match: its lines show the events but for the openings of turns, all bytes that each engine is
--- sent, and the result
+-- the log of every match has these lines (`lines`), which show the events but for the openings of turns, all bytes that
+-- each engine is sent, and the result
 abbrev pub LogsShow : Type 0
 LogsShow = (r : Rules) (first : Colour) (reason : Reason) (H : List Act) (final : Match) → IsMatch r H final
     → final.phase ≡ Over reason
-    → let lines = entries_from first 0 (notes_given reason H) in
-    (flat_map (entry_event first) lines ≡ events_shown (events_in (notes_given reason H)))
-    × ((S : Colour) → flat_map (entry_given first S) lines ≡ bytes_of (lines_given S H))
+    → let lines = entries_from 0 (notes_given reason H) in
+    (log_text first (notes_given reason H) ≡ entries_text first lines)
+    × (flat_map entry_event lines ≡ events_shown (events_in (notes_given reason H)))
+    × ((S : Colour) → flat_map (entry_given S) lines ≡ bytes_of (lines_given S H))
     × (result_line lines ≡ text_of_result reason)
 
 -- two matches are alike, those of the acts `H` and `K`: they ended for the same reason, so with the same result; they
@@ -91,8 +88,8 @@ pub record AreAlike (reason reason' : Reason) (H K : List Act) (final final' : M
 abbrev pub LogsGiveTheGame : Type 0
 LogsGiveTheGame = (r : Rules) (first : Colour) (reason reason' : Reason) (H K : List Act) (final final' : Match)
     → IsMatch r H final → IsMatch r K final' → final.phase ≡ Over reason → final'.phase ≡ Over reason'
-    → AllByRecursion IsShown (entries_from first 0 (notes_given reason H))
-    → AllByRecursion IsShown (entries_from first 0 (notes_given reason' K))
+    → AllByRecursion IsShown (entries_from 0 (notes_given reason H))
+    → AllByRecursion IsShown (entries_from 0 (notes_given reason' K))
     → log_text first (notes_given reason H) ≡ log_text first (notes_given reason' K)
     → AreAlike reason reason' H K final final'
 
@@ -100,8 +97,8 @@ LogsGiveTheGame = (r : Rules) (first : Colour) (reason reason' : Reason) (H K : 
 -- their lines as they are, have the same PGN and the same outcome
 abbrev pub LogsGiveThePgn : Type 0
 LogsGiveThePgn = (plan : GamesPlan) (number : ℕ) (one two : GameRecord) → IsOfPlan plan one → IsOfPlan plan two
-    → AllByRecursion IsShown (entries_from (first_side number) 0 one.notes)
-    → AllByRecursion IsShown (entries_from (first_side number) 0 two.notes)
+    → AllByRecursion IsShown (entries_from 0 one.notes)
+    → AllByRecursion IsShown (entries_from 0 two.notes)
     → log_text (first_side number) one.notes ≡ log_text (first_side number) two.notes
     → (game_text plan number one ≡ game_text plan number two) × (one.end.outcome ≡ two.end.outcome)
 
@@ -112,7 +109,7 @@ logs_of games = map (λ g. log_text (first_side g.0) g.1.notes) (enumerate_from 
 -- these games, numbered from 1, were played by the plan, and their logs show their lines as they are
 abbrev pub AreOfLogs : GamesPlan → List GameRecord → Type 0
 AreOfLogs plan games = AllByRecursion
-    (λ g. IsOfPlan plan g.1 × AllByRecursion IsShown (entries_from (first_side g.0) 0 g.1.notes))
+    (λ g. IsOfPlan plan g.1 × AllByRecursion IsShown (entries_from 0 g.1.notes))
     (enumerate_from 1 games)
 
 -- what a match writes to the output, the PGN of its games and the score, follows from the logs of its games and the

@@ -1,5 +1,6 @@
 -- What code adds to a log, and a log before as a text.
-use Rattle.std.specs.Prelude.{◌≡◌, ℕ, ◌==◌, Bool, true, false, if◌then◌else◌, List, [], ◌∷◌, ◌++◌, Option, Some, None}
+use Rattle.std.specs.Prelude.{◌≡◌, ℕ, ◌==◌, Bool, true, false, if◌then◌else◌, List, [], ◌∷◌, ◌++◌, codes, decimal, Option, Some, None}
+use Rattle.chess_base.specs.Letters.{byte}
 use Rattle.chess_base.specs.declared.man.Colour.{Colour}
 use Rattle.chess_base.specs.declared.man.Colour.TheVariants.{White, Black}
 use Rattle.chess_base.specs.Men.{same_colour}
@@ -9,6 +10,14 @@ use Rattle.chess_match.specs.Notes.{Note}
 use Rattle.match_runner.specs.declared.log.Log.{Log}
 use Rattle.match_runner.specs.declared.log.Pending.{Pending}
 use Rattle.match_runner.specs.Log.{log_seen, log_text, moment_after, LogSeen, Logged, LogsText}
+
+-- how the log names an engine: that of `--white` (`is_first`) is `first`, the other `second`, whichever side they have
+abbrev pub engine_text : Bool → List ℕ
+engine_text is_first = if is_first then codes "first : " else codes "second: "
+
+-- what a line of the log begins with, such as `312 <first : `: its moment, its mark, and which engine
+abbrev pub line_head : ℕ → ℕ → Bool → List ℕ
+line_head moment mark is_first = decimal moment ++ (byte " " ∷ mark ∷ []) ++ engine_text is_first
 
 -- what logging `text` did, as `Logged` has it, but that the bytes `pending` at its end still wait to be written. The
 -- flags say whether the log was broken before and is now; `o` and `o'` are the output before and after

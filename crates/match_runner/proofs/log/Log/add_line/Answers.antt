@@ -1,6 +1,9 @@
 -- The line was logged, and nothing of it waits.
-use Rattle.std.proofs.Common.{Bool, subst}
-use Rattle.match_runner.specs.Log.{Logged, log_line, log_seen}
+use Rattle.std.proofs.Common.{Bool, [], ◌∷◌, ◌++◌, map, subst}
+use Rattle.chess_base.specs.Letters.{new_line}
+use Rattle.chess_game.specs.Results.{shown_byte}
+use Rattle.match_runner.specs.Log.{Logged, log_seen}
+use Rattle.match_runner.specs.ties.Logging.{line_head}
 use Rattle.match_runner.proofs.Logged.{line_logged}
 use Rattle.match_runner.proofs.log.Log.add_line.Goals as goal
 
@@ -8,6 +11,7 @@ pub returns-clause-logged : goal.returns-clause-logged
 returns-clause-logged g c =
     subst (λ (first : Bool). Logged (log_seen (g.E.Output.seen c.args.self.now.output) c.args.self.now.broken)
     (log_seen (g.E.Output.seen c.add_line.new.output) c.add_line.new.self.broken)
-    (log_line c.args.self.now.moment c.args.mark first c.args.text.now)) c.same_colour-is_first.ensures
+    (line_head c.args.self.now.moment c.args.mark first ++ map shown_byte c.args.text.now ++ new_line ∷ []))
+    c.same_colour-is_first.ensures
     (line_logged _ _ _ _ _ _ c.new-line.ensures.broken c.new-line.ensures.bytes c.add_line.ensures.nothing
     c.add_line.ensures.adds)

@@ -2,7 +2,6 @@
 use Rattle.std.proofs.Common.{◌≡◌, ℕ, List, [], ◌++◌, ◌∙◌, length, refl, subst, sym, true}
 use Rattle.std.specs.Prelude.{◌==◌}
 use Rattle.chess_base.specs.Letters.{byte}
-use Rattle.chess_base.specs.Men.{same_colour}
 use Rattle.chess_base.specs.declared.man.Colour.{Colour}
 use Rattle.match_runner.specs.Log.{Logged, log_line, log_seen}
 use Rattle.match_runner.proofs.Logged.{given_all, given_more, logged_more, logs_none}
@@ -24,7 +23,7 @@ loop-rest-preserved g c =
     let old = log_seen (g.E.Output.seen c.args.self.now.output) c.args.self.now.broken in
     let mid = log_seen (g.E.Output.seen c.loop-rest.self.output) c.loop-rest.self.broken in
     let new = log_seen (g.E.Output.seen c.add_line.new.self.output) c.add_line.new.self.broken in
-    let text = λ (m : ℕ) (f : Colour). log_line m (byte ">") (same_colour c.args.side f) line in (
+    let text = λ (m : ℕ) (f : Colour). log_line f m (byte ">") c.args.side line in (
       done ++ text c.args.self.now.moment c.args.self.now.first,
       logged_more old mid new done (text c.args.self.now.moment c.args.self.now.first) logged
           (subst (λ (m : ℕ). Logged mid new (text m c.args.self.now.first)) moment

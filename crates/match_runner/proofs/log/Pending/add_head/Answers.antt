@@ -1,5 +1,5 @@
 -- The number, the mark, and which engine.
-use Rattle.std.proofs.Common.{ℕ, List, [], ◌∷◌, ◌++◌, ap, ◌∙◌, append_assoc}
+use Rattle.std.proofs.Common.{ℕ, List, [], ◌∷◌, ◌++◌, ap}
 use Rattle.std.specs.Prelude.{decimal}
 use Rattle.match_runner.proofs.Logged.{adds_as, adds_more}
 use Rattle.match_runner.proofs.log.Pending.add_head.Goals as goal
@@ -8,7 +8,6 @@ pub returns : goal.returns
 returns g c =
     let number : List ℕ = decimal c.args.moment in
     let mark : List ℕ = 32 ∷ c.args.mark ∷ [] in
-    adds_as _ _ _ _ _ _ (append_assoc number mark c.engine_text.result.now
-    ∙ ap (λ (t : List ℕ). number ++ (mark ++ t)) c.engine_text.ensures)
+    adds_as _ _ _ _ _ _ (ap (λ (t : List ℕ). (number ++ mark) ++ t) c.engine_text.ensures)
     (adds_more _ _ _ _ _ _ (number ++ mark) c.engine_text.result.now
     (adds_more _ _ _ _ _ _ number mark c.add_number.ensures c.add_text.ensures) c.add_text-2.ensures)

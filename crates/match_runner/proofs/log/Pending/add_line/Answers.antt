@@ -1,14 +1,13 @@
 -- The head, the text, and the end.
-use Rattle.std.proofs.Common.{ℕ, List, [], ◌∷◌, ◌++◌, append_assoc, map}
+use Rattle.std.proofs.Common.{ℕ, List, [], ◌∷◌, ◌++◌, map}
 use Rattle.chess_game.specs.Results.{shown_byte}
-use Rattle.match_runner.specs.Log.{line_head}
-use Rattle.match_runner.proofs.Logged.{adds_as, adds_more}
+use Rattle.match_runner.specs.ties.Logging.{line_head}
+use Rattle.match_runner.proofs.Logged.{adds_more}
 use Rattle.match_runner.proofs.log.Pending.add_line.Goals as goal
 
 pub returns-clause-adds : goal.returns-clause-adds
 returns-clause-adds g c =
     let front : List ℕ = line_head c.args.moment c.args.mark c.args.is_first in
     let text : List ℕ = map shown_byte c.args.text.now in
-    adds_as _ _ _ _ _ _ (append_assoc front text (10 ∷ []))
-    (adds_more _ _ _ _ _ _ (front ++ text) (10 ∷ [])
-    (adds_more _ _ _ _ _ _ front text c.add_head.ensures c.add_shown.ensures) c.add.ensures.adds)
+    adds_more _ _ _ _ _ _ (front ++ text) (10 ∷ [])
+    (adds_more _ _ _ _ _ _ front text c.add_head.ensures c.add_shown.ensures) c.add.ensures.adds
