@@ -52,7 +52,7 @@ wrong_field fault fen = field_at (field_number fault fen) fen
 abbrev pub field_offset : FenFault → List ℕ → ℕ
 field_offset fault fen = length fen - length (from_field (field_number fault fen) fen)
 
--- ---- tags, from their `[` on
+-- ---- tags
 
 -- the text begins with `[`, a gap, and a name's first byte
 abbrev pub HasName : List ℕ → Type 0
@@ -63,11 +63,12 @@ HasName text = (gap : List ℕ) × (c : ℕ) × (rest : List ℕ) × IsGap false
 abbrev pub HasOpening : List ℕ → List ℕ → Type 0
 HasOpening text rest = (name opening : List ℕ) × OpensTag name opening × (text ≡ opening ++ rest)
 
--- the text begins with a tag's string and the quote that closes it, such as `a"`
+-- the text begins with the string of a tag and the quote after it, such as `a"`
 abbrev pub HasString : List ℕ → Type 0
 HasString text = (string rest : List ℕ) × IsString string × (text ≡ string ++ byte "\"" ∷ rest)
 
--- why a text is no tag, if no tag can be read there: the first part of a tag that it lacks
+-- the reason for a bad tag; `text` is the text from its `[` on. It is the first part that is missing: a name, a quote
+-- after the name, a quote that ends the value, or `]`. That no tag can be read there is not claimed here
 pub data IsTagReason (text : List ℕ) : Option (List ℕ) → Type 0 where
   no_name : (HasName text → ⊥) → IsTagReason text (Some (codes "no name"))
   no_value : HasName text → ((rest : List ℕ) → HasOpening text rest → ⊥) → IsTagReason text (Some (codes "no value"))
