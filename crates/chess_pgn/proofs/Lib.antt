@@ -35,6 +35,7 @@ mod Walk
 mod ByteRuns
 mod VariationInsides
 mod TagSplits
+mod TagFronts
 mod TokenKinds
 mod TokenSplits
 mod GamesByTags

@@ -159,7 +159,8 @@ name_no_blank c e =
     let f : eqb c 13 ≡ false = differs is_name_byte c 13 e refl in
     rw (a, b, d, f) refl
 
-name_stops : {b : Bool} {gap : List ℕ} → IsGap b gap → (rest : List ℕ) → prefix_len is_name_byte (gap ++ 34 ∷ rest) ≡ 0
+pub name_stops : {b : Bool} {gap : List ℕ} → IsGap b gap → (rest : List ℕ)
+    → prefix_len is_name_byte (gap ++ 34 ∷ rest) ≡ 0
 name_stops nothing rest = refl
 name_stops (blank {c} {more} h r) rest = rw (blank_no_name c h) refl
 name_stops (line text lack r) rest = refl
@@ -179,7 +180,7 @@ named_read (n ∷ ns) middle string last_gap r some h s k =
     ∙ ap (with_text (n ∷ ns) (length inside)) (string_read s (last_gap ++ 93 ∷ r))
     ∙ ap (closed (n ∷ ns) (length inside) string) (next_read k 93 r refl refl refl)
 
-from_gap : (gap name tail : List ℕ) → IsGap false gap → 0 < length name → list_all is_name_byte name ≡ true
+pub from_gap : (gap name tail : List ℕ) → IsGap false gap → 0 < length name → list_all is_name_byte name ≡ true
     → after_gap (gap ++ (name ++ tail)) ≡ name ++ tail
 from_gap gap [] tail h some named = absurd (omega (arith, some))
 from_gap gap (n ∷ ns) tail h some named =

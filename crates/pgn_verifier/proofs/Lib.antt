@@ -10,6 +10,7 @@ mod PartsAlike
 mod PartsRead
 mod Placed
 mod ReportsAre
+mod TagReasons
 mod TextVerified
 mod Verifying
 mod WrittenGames

@@ -1,12 +1,12 @@
 -- What explains a fault: where it is, the text there, the position and the reason.
-use Rattle.std.specs.Prelude.{ℕ, ◌+◌, ◌==◌, nat_le, ◌&&◌, Bool, true, false, not, if◌then◌else◌, List, [], ◌∷◌, ◌++◌, length, take, take_while, drop, map, codes, decimal, Option, Some, None}
+use Rattle.std.specs.Prelude.{◌≡◌, ℕ, ◌+◌, ◌==◌, nat_le, ◌&&◌, Bool, true, false, not, if◌then◌else◌, List, [], ◌∷◌, ◌++◌, length, take, take_while, drop, map, codes, decimal, Option, Some, None}
 use Rattle.std.specs.Option.{option_map, option_map_or}
 use Rattle.chess_base.specs.Faults.{fen_fault_name}
 use Rattle.chess_base.specs.Letters.{byte, new_line}
 use Rattle.chess_base.specs.declared.setup.Setup.{Setup}
 use Rattle.chess_fen.specs.Writing.{fen}
 use Rattle.chess_game.specs.Ends.{verdict_result}
-use Rattle.chess_game.specs.Game.{State, current, verdict_now}
+use Rattle.chess_game.specs.Game.{State, current}
 use Rattle.chess_game.specs.Results.{outcome_text}
 use Rattle.chess_game.specs.declared.verdicts.Verdict.{Verdict}
 use Rattle.chess_pgn.specs.Tokens.{is_white_space}
@@ -14,7 +14,7 @@ use Rattle.chess_pgn.specs.declared.read.PgnFaultKind.TheVariants.{BadTag, BadFe
 use Rattle.pgn_pieces.specs.Places.{line_of, column_of}
 use Rattle.pgn_verifier.specs.declared.game_fault.FaultKind.{FaultKind}
 use Rattle.pgn_verifier.specs.declared.game_fault.FaultKind.TheVariants.{Pgn, ResultDiffers, BoardSaysOtherwise}
-use Rattle.pgn_verifier.specs.WrongParts.{fen_text, wrong_field, field_offset, tag_reason, token_reason}
+use Rattle.pgn_verifier.specs.WrongParts.{fen_text, wrong_field, field_offset, IsTagReason, token_reason}
 
 -- ---- the text at a fault
 
@@ -52,21 +52,21 @@ shown_part _ text = shown text
 
 -- the reason for a fault, or `None` if none is given. `text` is the text from the fault's byte on, and `verdict` is the
 -- board's where reading stopped
-abbrev pub reason : FaultKind → List ℕ → Option Verdict → Option (List ℕ)
+abbrev pub IsReason : FaultKind → List ℕ → Option Verdict → Option (List ℕ) → Type 0
 -- what a bad tag lacks, and what is wrong with a bad FEN or token
-reason (Pgn BadTag) text verdict = Some (tag_reason (drop 1 text))
-reason (Pgn (BadFen fault)) text verdict = Some (fen_fault_name fault)
-reason (Pgn BadToken) text verdict = Some (token_reason text)
+IsReason (Pgn BadTag) text verdict reason = IsTagReason text reason
+IsReason (Pgn (BadFen fault)) text verdict reason = reason ≡ Some (fen_fault_name fault)
+IsReason (Pgn BadToken) text verdict reason = reason ≡ Some (token_reason text)
 -- a move after the end: the verdict that ended the game
-reason (Pgn AfterEnd) text verdict = option_map verdict_result verdict
+IsReason (Pgn AfterEnd) text verdict reason = reason ≡ option_map verdict_result verdict
 -- `result differs`: the first word of the tag Result, which has `tag_len` bytes between its quotes, and the outcome of
 -- the game's outcome mark, as in `Result 1-0, ended 0-1`
-reason (ResultDiffers tag_len outcome) text verdict =
-    Some (codes "Result " ++ (shown (take tag_len text) ++ (codes ", ended " ++ outcome_text outcome)))
+IsReason (ResultDiffers tag_len outcome) text verdict reason =
+    reason ≡ Some (codes "Result " ++ (shown (take tag_len text) ++ (codes ", ended " ++ outcome_text outcome)))
 -- `board says otherwise`: the board's verdict
-reason BoardSaysOtherwise text verdict = option_map verdict_result verdict
+IsReason BoardSaysOtherwise text verdict reason = reason ≡ option_map verdict_result verdict
 -- any other fault
-reason _ text verdict = None
+IsReason _ text verdict reason = reason ≡ None
 
 -- ---- the explanation
 
@@ -87,14 +87,14 @@ pub record Explanation : Type 0 where
   -- the reason; `None` if none is given
   pub reason : Option (List ℕ)
 
--- what explains a fault of this kind; `s` is the game as far as it was read, and `text` is the text from the fault's
--- byte on
-abbrev pub explained : State → List ℕ → FaultKind → Explanation
-explained s text kind = record {
+-- what explains a fault of this kind, with this reason; `s` is the game as far as it was read, and `text` is the text
+-- from the fault's byte on
+abbrev pub explained : State → List ℕ → FaultKind → Option (List ℕ) → Explanation
+explained s text kind reason = record {
   offset = part_offset kind text;
   text = shown_part kind text;
   position = if has_position kind then Some (current s) else None;
-  reason = reason kind text (verdict_now s);
+  reason = reason;
 }
 
 -- what explains that a piece which begins with these bytes is too long

@@ -3,7 +3,7 @@ use Rattle.std.specs.Prelude.{◌≡◌, ℕ, ◌+◌, ◌==◌, Bool, true, fal
 use Rattle.std.specs.List.{count_by, sum_by}
 use Rattle.std.specs.Option.{option_map_or}
 use Rattle.chess_base.specs.Letters.{new_line}
-use Rattle.chess_game.specs.Game.{State}
+use Rattle.chess_game.specs.Game.{State, verdict_now}
 use Rattle.chess_game.specs.Results.{outcome_text}
 use Rattle.chess_game.specs.declared.results.Outcome.{Outcome}
 use Rattle.chess_pgn.specs.declared.read.PgnEnd.{PgnEnd}
@@ -11,7 +11,7 @@ use Rattle.chess_pgn.specs.declared.read.PgnFaultKind.TheVariants.{TooLong}
 use Rattle.chess_pgn.specs.declared.termination.Termination.{Termination}
 use Rattle.chess_pgn.specs.Terminations.{termination_text}
 use Rattle.pgn_pieces.specs.Pieces.{Piece}
-use Rattle.pgn_verifier.specs.Explanations.{Explanation, explained, too_long_explained, explanation_line}
+use Rattle.pgn_verifier.specs.Explanations.{IsReason, Explanation, explained, too_long_explained, explanation_line}
 use Rattle.pgn_verifier.specs.GameFaults.{IsJudged, fault_name}
 use Rattle.pgn_verifier.specs.declared.game_fault.FaultKind.TheVariants.{Pgn}
 use Rattle.pgn_verifier.specs.declared.game_fault.GameFault.{GameFault}
@@ -44,9 +44,10 @@ pub data AreReports (strict : Bool) (start : ℕ) (text : List ℕ) : ℕ → Li
       → AreReports strict start text at (Game (length s.moves) end.outcome end.termination ∷ reports)
   -- the next game has a fault, and the games after it are not reported. The fault's offset in the text becomes its
   -- offset in the input
-  last_fault : {at : ℕ} {s : State} {fault : GameFault} → IsJudged strict text at s (Err fault)
+  last_fault : {at : ℕ} {s : State} {fault : GameFault} {reason : Option (List ℕ)}
+      → IsJudged strict text at s (Err fault) → IsReason fault.kind (drop fault.offset text) (verdict_now s) reason
       → AreReports strict start text at (Faulty (record fault { offset = start + fault.offset })
-      (explained s (drop fault.offset text) fault.kind) ∷ [])
+      (explained s (drop fault.offset text) fault.kind reason) ∷ [])
 
 -- ---- the reports on the games of pieces
 

@@ -1,13 +1,13 @@
 -- Which part of a game's text a fault is about, and what is wrong there (PGN standard of 1994): the field of a FEN
 -- (section 16.1.3), what a tag lacks (8.1.1), and what begins no token or is no move (7 and 8.2).
-use Rattle.std.specs.Prelude.{ℕ, zero, suc, ◌-◌, ◌==◌, Bool, false, not, List, [], ◌∷◌, length, take_while, drop, codes, is_some, if◌then◌else◌}
+use Rattle.std.specs.Prelude.{◌≡◌, ℕ, zero, suc, ◌-◌, ◌==◌, Bool, true, false, not, List, [], ◌∷◌, ◌++◌, length, take_while, drop, Option, Some, codes, is_some, if◌then◌else◌}
 use Rattle.std.specs.List.{prefix_len}
-use Rattle.std.specs.Option.{option_map_or}
 use Rattle.chess_base.specs.Letters.{byte, space}
 use Rattle.chess_base.specs.declared.fen_fault.FenFault.{FenFault}
 use Rattle.chess_base.specs.declared.fen_fault.FenFault.TheVariants.{Side, Castling, EnPassant, Counters}
-use Rattle.text_lines.specs.Words.{short_number}
-use Rattle.chess_pgn.specs.Tokens.{is_word_byte, after_gap, name_at, after_next, string_at}
+use Rattle.text_lines.specs.Words.{is_name_byte, short_number}
+use Rattle.chess_pgn.specs.Split.{IsGap, OpensTag, IsString}
+use Rattle.chess_pgn.specs.Tokens.{is_word_byte}
 
 -- ---- the fields of a FEN
 
@@ -54,21 +54,28 @@ field_offset fault fen = length fen - length (from_field (field_number fault fen
 
 -- ---- tags
 
--- what a bad tag lacks, from the text after its opening quote on: the closing quote on the same line; or if that is
--- there, the tag's `]`, since nothing else can be missing
-abbrev pub string_reason : List ℕ → List ℕ
-string_reason string =
-    if is_some (string_at string) then codes "no bracket after the value" else codes "string not closed"
+-- the text begins with `[`, a gap, and a name's first byte
+abbrev pub HasName : List ℕ → Type 0
+HasName text = (gap : List ℕ) × (c : ℕ) × (rest : List ℕ) × IsGap false gap × (is_name_byte c ≡ true)
+    × (text ≡ byte "[" ∷ (gap ++ c ∷ rest))
 
--- what a bad tag lacks, from the text after its name on: a value, if no quote comes next, or else what `string_reason`
--- says
-abbrev pub value_reason : List ℕ → List ℕ
-value_reason text = option_map_or string_reason (after_next (byte "\"") text) (codes "no value")
+-- the text begins with the opening of a tag, such as `[Event "`, and `rest` comes after it
+abbrev pub HasOpening : List ℕ → List ℕ → Type 0
+HasOpening text rest = (name opening : List ℕ) × OpensTag name opening × (text ≡ opening ++ rest)
 
--- what a bad tag lacks, from the text after its `[` on: a tag is `[`, a name, a string and `]`, and the first of these
--- that is missing is the reason
-abbrev pub tag_reason : List ℕ → List ℕ
-tag_reason text = option_map_or (λ name. value_reason name.1) (name_at (after_gap text)) (codes "no name")
+-- the text begins with the string of a tag and the quote after it, such as `a"`
+abbrev pub HasString : List ℕ → Type 0
+HasString text = (string rest : List ℕ) × IsString string × (text ≡ string ++ byte "\"" ∷ rest)
+
+-- the reason for a bad tag; `text` is the text from its `[` on. It is the first part that is missing: a name, a quote
+-- after the name, a quote that ends the value, or `]`. That no tag can be read there is not claimed here
+pub data IsTagReason (text : List ℕ) : Option (List ℕ) → Type 0 where
+  no_name : (HasName text → ⊥) → IsTagReason text (Some (codes "no name"))
+  no_value : HasName text → ((rest : List ℕ) → HasOpening text rest → ⊥) → IsTagReason text (Some (codes "no value"))
+  not_closed : {rest : List ℕ} → HasOpening text rest → (HasString rest → ⊥)
+      → IsTagReason text (Some (codes "string not closed"))
+  no_bracket : {rest : List ℕ} → HasOpening text rest → HasString rest
+      → IsTagReason text (Some (codes "no bracket after the value"))
 
 -- ---- tokens
 

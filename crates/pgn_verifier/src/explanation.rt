@@ -10,10 +10,11 @@ ghost use Rattle.chess_game.specs.Ends.{verdict_result};
 ghost use Rattle.chess_game.specs.Game.{current, verdict_now};
 ghost use Rattle.chess_pgn.specs.declared.read.PgnFaultKind.TheVariants.{TooLong};
 ghost use Rattle.pgn_pieces.specs.Places.{line_ends, last_line_len, line_of, column_of};
-ghost use Rattle.pgn_verifier.specs.Explanations.{part_offset, shown_part, has_position, reason, optional_part, explained, explanation_line, too_long_explained, shown};
+ghost use Rattle.pgn_verifier.specs.Explanations.{part_offset, shown_part, has_position, optional_part, explanation_line, too_long_explained, shown};
 ghost use Rattle.chess_game.specs.Results.{outcome_text};
 ghost use Rattle.pgn_verifier.specs.Reports.{fault_line};
 ghost use Rattle.pgn_verifier.specs.declared.game_fault.FaultKind.TheVariants.{Pgn};
+ghost use Rattle.pgn_verifier.specs.laws.Reasons.{reason, explanation_of};
 ghost use Rattle.pgn_verifier.specs.ties.OnTheWay.{StandsIf, moved};
 ghost use Rattle.pgn_verifier.specs.declared.explanation.TheConstants.{FAULT_LINES_LEN};
 
@@ -226,7 +227,8 @@ fn append_explanation<B: Board>(
     requires { array_vec_len lines.old ≤ 100 }
     ensures { (input : List ℕ) (offset : ℕ) → line ≡ line_of input (offset + part_offset kind text.now)
         → column ≡ column_of input (offset + part_offset kind text.now)
-        → lines.new.items ≡ lines.old.items ++ explanation_line input offset (explained game.now.state text.now kind) }
+        → lines.new.items ≡ lines.old.items
+        ++ explanation_line input offset (explanation_of game.now.state text.now kind) }
 {
     append_place(lines, line, column);
     append(lines, shown_part(kind, text).as_slice());
@@ -251,7 +253,7 @@ pub(crate) fn fault_lines<B: Board>(
     ensures { (input : List ℕ) → StandsIf explain start input text.now
         → result.items ≡ fault_line number (moved start.offset fault)
         ++ (if explain then explanation_line input (start.offset + fault.offset)
-        (explained game.now.state (drop fault.offset text.now) fault.kind) else []) }
+        (explanation_of game.now.state (drop fault.offset text.now) fault.kind) else []) }
 {
     let mut lines = fault_line(number, fault.moved(start.offset));
     if explain {

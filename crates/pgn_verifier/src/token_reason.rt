@@ -1,9 +1,10 @@
 //! What is wrong with a tag or another token.
 
-ghost use Rattle.std.specs.Prelude.{◌≡◌, ◌≤◌, length, drop, Option};
+ghost use Rattle.std.specs.Prelude.{◌≡◌, ◌≤◌, length, Option};
 ghost use Rattle.std.specs.Option.{option_map};
 ghost use Rattle.chess_pgn.specs.Tokens.{name_at};
-ghost use Rattle.pgn_verifier.specs.WrongParts.{string_reason, value_reason, tag_reason, begins_word, token_reason};
+ghost use Rattle.pgn_verifier.specs.WrongParts.{begins_word, token_reason};
+ghost use Rattle.pgn_verifier.specs.laws.Reasons.{string_reason, value_reason, name_reason, tag_reason};
 
 use chess_pgn::token_parts::{after_gap, is_word_byte, split_name, split_string};
 
@@ -42,9 +43,9 @@ fn value_reason(text: &[u8]) -> &'static [u8]
     }
 }
 
-// What a bad tag lacks, from the text after its `[` on: the first of a name, a string and a `]` that is missing.
-fn tag_reason(text: &[u8]) -> &'static [u8]
-    ensures value { result.now ≡ tag_reason text.now }
+// What a bad tag lacks, from the text after its `[` on: a name, or what comes after it.
+fn name_reason(text: &[u8]) -> &'static [u8]
+    ensures value { result.now ≡ name_reason text.now }
     ensures short { length result.now ≤ 26 }
 {
     match after_name(after_gap(text)) {
@@ -55,12 +56,12 @@ fn tag_reason(text: &[u8]) -> &'static [u8]
 
 /// What a bad tag lacks, from its `[` on: the first of a name, a string and a `]` that is missing.
 pub(crate) fn bad_tag_reason(text: &[u8]) -> &'static [u8]
-    ensures value { result.now ≡ tag_reason (drop 1 text.now) }
+    ensures value { result.now ≡ tag_reason text.now }
     ensures short { length result.now ≤ 26 }
 {
     match text {
-        [_, rest @ ..] => tag_reason(rest),
-        [] => tag_reason(text),
+        [b'[', rest @ ..] => name_reason(rest),
+        _ => b"no name",
     }
 }
 

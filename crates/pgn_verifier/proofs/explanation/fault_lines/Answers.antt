@@ -3,8 +3,9 @@ use Rattle.std.proofs.Common.{◌≡◌, ◌≤◌, ◌+◌, ◌-◌, ◌++◌, 
 use Rattle.std.specs.Prelude.{if◌then◌else◌}
 use Rattle.std.proofs.Math.Path.{ap₂}
 use Rattle.pgn_pieces.specs.Places.{line_of, column_of}
-use Rattle.pgn_verifier.specs.Explanations.{part_offset, explained, explanation_line}
+use Rattle.pgn_verifier.specs.Explanations.{part_offset, explanation_line}
 use Rattle.pgn_verifier.specs.Reports.{fault_line}
+use Rattle.pgn_verifier.specs.laws.Reasons.{explanation_of}
 use Rattle.pgn_verifier.specs.ties.OnTheWay.{moved}
 use Rattle.pgn_verifier.proofs.Placed.{line_there, column_there, rest_is}
 use Rattle.pgn_verifier.proofs.explanation.fault_lines.Goals as goal
@@ -33,6 +34,6 @@ returns-then-explain g c input stands =
     let column = c.column_after-column.ensures
     ∙ sym (column_there start input text (at + c.part_offset.result) within here) ∙ ap (column_of input) place in
     c.append_explanation.ensures input (start.offset + at) line column
-    ∙ ap₂ (λ xs t. xs ++ explanation_line input (start.offset + at) (explained s t kind)) first (rest_is at text)
-    ∙ sym (ap (λ b. own ++ (if b then explanation_line input (start.offset + at) (explained s rest kind) else []))
+    ∙ ap₂ (λ xs t. xs ++ explanation_line input (start.offset + at) (explanation_of s t kind)) first (rest_is at text)
+    ∙ sym (ap (λ b. own ++ (if b then explanation_line input (start.offset + at) (explanation_of s rest kind) else []))
     c.if-explain.true)

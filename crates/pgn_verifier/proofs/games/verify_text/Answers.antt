@@ -5,8 +5,9 @@ use Rattle.std.specs.Prelude.{if◌then◌else◌}
 use Rattle.byte_devices.specs.Devices.{Took, CutShort}
 use Rattle.byte_devices.specs.declared.traits.WriteFault.{WriteFault}
 use Rattle.pgn_verifier.specs.declared.tally.Tally.{Tally}
-use Rattle.pgn_verifier.specs.Explanations.{explained, explanation_line}
+use Rattle.pgn_verifier.specs.Explanations.{explanation_line}
 use Rattle.pgn_verifier.specs.Reports.{Game, game_line, fault_line}
+use Rattle.pgn_verifier.specs.laws.Reasons.{explanation_of}
 use Rattle.pgn_verifier.specs.laws.Reported.{reports_on}
 use Rattle.pgn_verifier.specs.ties.OnTheWay.{Writes, moved}
 use Rattle.pgn_verifier.proofs.TextVerified.{SoFar, begun, all_written, game_written, game_broke, fault_written, fault_broke}
@@ -96,7 +97,7 @@ returns-in-Err-clause-written g c input stands =
     let fault = c.in-Err.fault in
     let s = c.judge_game.new.game.state in
     let more = if c.args.options.explain then explanation_line input (start + fault.offset)
-    (explained s (drop fault.offset text) fault.kind) else [] in
+    (explanation_of s (drop fault.offset text) fault.kind) else [] in
     let lines = c.as_slice.ensures.value ∙ c.fault_lines-lines.ensures input stands
     ∙ ap (λ n. fault_line n (moved start fault) ++ more) c.next_number-number.ensures in
     subst (λ (t : Tally). Writes {E = WriteFault} c.args.options input c.args.before w w'' (Ok t)
@@ -115,7 +116,7 @@ returns-in_err-put-in-Err-clause-written g c input stands =
     let fault = c.in-Err.fault in
     let s = c.judge_game.new.game.state in
     let more = if c.args.options.explain then explanation_line input (start + fault.offset)
-    (explained s (drop fault.offset text) fault.kind) else [] in
+    (explanation_of s (drop fault.offset text) fault.kind) else [] in
     let lines = c.as_slice.ensures.value ∙ c.fault_lines-lines.ensures input stands
     ∙ ap (λ n. fault_line n (moved start fault) ++ more) c.next_number-number.ensures in
     let p = err_from_is_err_and c.from_residual-in_err-put-in-Err.result c.from_residual-in_err-put-in-Err.ensures.1 in

@@ -1,0 +1,57 @@
+-- The reason for a fault as a function, which asks for the parts of a bad tag one after another. The law
+-- `reports_are_the_only_ones` says that a fault has just this reason.
+use Rattle.std.specs.Prelude.{ℕ, ◌++◌, if◌then◌else◌, List, take, codes, is_some, Option, Some, None}
+use Rattle.std.specs.Option.{option_map, option_map_or}
+use Rattle.chess_base.specs.Faults.{fen_fault_name}
+use Rattle.chess_base.specs.Letters.{byte}
+use Rattle.chess_game.specs.Ends.{verdict_result}
+use Rattle.chess_game.specs.Game.{State, verdict_now}
+use Rattle.chess_game.specs.Results.{outcome_text}
+use Rattle.chess_game.specs.declared.verdicts.Verdict.{Verdict}
+use Rattle.chess_pgn.specs.Tokens.{after_byte, after_gap, after_next, name_at, string_at}
+use Rattle.chess_pgn.specs.declared.read.PgnFaultKind.TheVariants.{BadTag, BadFen, BadToken, AfterEnd}
+use Rattle.pgn_verifier.specs.Explanations.{Explanation, explained, shown}
+use Rattle.pgn_verifier.specs.WrongParts.{token_reason}
+use Rattle.pgn_verifier.specs.declared.game_fault.FaultKind.{FaultKind}
+use Rattle.pgn_verifier.specs.declared.game_fault.FaultKind.TheVariants.{Pgn, ResultDiffers, BoardSaysOtherwise}
+
+-- ---- tags
+
+-- what a bad tag lacks, from the text after its opening quote on: the closing quote on the same line; or if that is
+-- there, the tag's `]`, since nothing else can be missing
+abbrev pub string_reason : List ℕ → List ℕ
+string_reason string =
+    if is_some (string_at string) then codes "no bracket after the value" else codes "string not closed"
+
+-- what a bad tag lacks, from the text after its name on: a value, if no quote comes next, or else what `string_reason`
+-- says
+abbrev pub value_reason : List ℕ → List ℕ
+value_reason text = option_map_or string_reason (after_next (byte "\"") text) (codes "no value")
+
+-- what a bad tag lacks, from the text after its `[` on: a name, or what `value_reason` says
+abbrev pub name_reason : List ℕ → List ℕ
+name_reason text = option_map_or (λ name. value_reason name.1) (name_at (after_gap text)) (codes "no name")
+
+-- what a bad tag lacks, from its `[` on: a tag is `[`, a name, a string and `]`, and the first of these that is missing
+-- is the reason. A text without a `[` at its front has no tag, and so no name
+abbrev pub tag_reason : List ℕ → List ℕ
+tag_reason text = option_map_or name_reason (after_byte (byte "[") text) (codes "no name")
+
+-- ---- faults
+
+-- the reason for a fault (see `IsReason`), or `None` if none is given. `text` is the text from the fault's byte on, and
+-- `verdict` is the board's where reading stopped
+abbrev pub reason : FaultKind → List ℕ → Option Verdict → Option (List ℕ)
+reason (Pgn BadTag) text verdict = Some (tag_reason text)
+reason (Pgn (BadFen fault)) text verdict = Some (fen_fault_name fault)
+reason (Pgn BadToken) text verdict = Some (token_reason text)
+reason (Pgn AfterEnd) text verdict = option_map verdict_result verdict
+reason (ResultDiffers tag_len outcome) text verdict =
+    Some (codes "Result " ++ (shown (take tag_len text) ++ (codes ", ended " ++ outcome_text outcome)))
+reason BoardSaysOtherwise text verdict = option_map verdict_result verdict
+reason _ text verdict = None
+
+-- what explains a fault of this kind, with its reason; `s` is the game as far as it was read, and `text` is the text
+-- from the fault's byte on
+abbrev pub explanation_of : State → List ℕ → FaultKind → Explanation
+explanation_of s text kind = explained s text kind (reason kind text (verdict_now s))
