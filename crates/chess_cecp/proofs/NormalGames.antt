@@ -146,8 +146,8 @@ is_initial_kept p e =
     ap (λ text. bytes_eq text (fen initial_setup)) (fen_kept p e)
     ∙ ap (bytes_eq (normal_fen p)) (fen_kept initial_setup initial_is_normal ∙ ap normal_fen initial_kept)
 
--- the lines of a game's tags by what they depend on: its outcome, and its start's variant and FEN, and whether the start
--- is the initial position
+-- the lines of a game's tags by what they depend on: its outcome, its start's variant, whether the start is the
+-- initial position, and the start's FEN
 abbrev tag_lines_by : Tags → Outcome → Variant → Bool → List ℕ → List (List ℕ)
 tag_lines_by t o v starts_initial start =
     tag_line (codes "Event") t.event ∷ tag_line (codes "Site") t.site ∷ tag_line (codes "Date") t.date

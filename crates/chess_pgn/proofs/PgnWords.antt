@@ -171,8 +171,8 @@ marks_kind (c ∷ cs) h =
 pub marks_by_kind : (word : List ℕ) → is_marks word ≡ are_marks (word_kind word)
 marks_by_kind word = by_test (is_marks word) refl
   where
-    none : (o : Option Outcome) (is_number : Bool) → are_marks (option_map_or End o (cond is_number Number Move)) ≡ false
-    none (Some o) is_number = refl
+    none : (o : Option Outcome) (number : Bool) → are_marks (option_map_or End o (cond number Number Move)) ≡ false
+    none (Some o) number = refl
     none None true = refl
     none None false = refl
 

@@ -7,7 +7,7 @@ use Rattle.chess_pgn.specs.declared.word_kind.WordKind.{WordKind}
 use Rattle.chess_pgn.specs.declared.word_kind.WordKind.TheVariants.{End, Number, Marks, Move}
 use Rattle.chess_pgn.specs.Words.{outcome_of, is_marks}
 
--- what a word is: an outcome such as `1-0`, a number (digits alone), marks such as `!?`, or otherwise what may be a move
+-- what a word is: an outcome such as `1-0`, a number (digits alone) or marks such as `!?`; any other word may be a move
 abbrev pub word_kind : List ℕ → WordKind
 word_kind word = option_map_or End (outcome_of word)
     (if list_all is_digit word then Number
