@@ -1,4 +1,5 @@
-//! How many legal moves there are, and whether there is one: piece by piece, with no list.
+//! How many legal moves there are, and whether there is one: piece by piece. No list is made, since its 3,592 bytes
+//! would be cleared and filled only to see how long it is.
 
 ghost use Rattle.std.specs.Prelude.{◌≡◌, ◌+◌, ◌≤◌, ◌<◌, ◌||◌, ℕ, length, nat_lt, true, false};
 ghost use Rattle.std.specs.List.{flat_map};

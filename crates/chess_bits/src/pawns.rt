@@ -159,8 +159,9 @@ impl Bits<'_> {
 
     // Counts the legal moves of these pawns of the side on move. Their king is safe wherever they go, and none may
     // promote or take en passant, so each step, double step and capture counts once. The whole set is moved each of
-    // these ways at once, in place of `pawn_targets` for each pawn. The squares `blocked` have a piece right ahead;
-    // moved back one more rank, they are the squares with a piece two steps ahead.
+    // these ways at once: eight pawns take as long as one, where `pawn_targets` would be called for each (the gain was
+    // not measured apart). The squares `blocked` have a piece right ahead; moved back one more rank, they are the
+    // squares with a piece two steps ahead.
     #[tactic(auto, using(crate::proofs::PawnsCounted::members_fit))]
     pub(crate) fn count_ordinary_pawns(&self, pawns: SquareSet) -> usize
         requires free { AreFree self.now Pawn pawns }

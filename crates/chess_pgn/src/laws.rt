@@ -41,8 +41,8 @@ pub fn pgn_is_read_back()
 }
 
 /// States a law and does nothing: the support for Chess960 changes nothing for normal chess. Definitions without
-/// Chess960 give the same for the tags that are written after the first seven of a game of normal chess, and for what
-/// is read of a text whose game has no tag `Variant`.
+/// Chess960 give the same for the tags that are written of a game of normal chess, and for what is read of a text whose
+/// game has no tag `Variant`.
 pub fn normal_is_kept()
     ensures { NormalIsKept }
 {}

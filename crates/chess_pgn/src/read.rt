@@ -1,6 +1,6 @@
 //! Reads a game's tags, moves and outcome mark. The outcome mark is the token `1-0`, `0-1`, `1/2-1/2` or `*` that ends
 //! a game's text; "termination" means only the tag of this name, but in the text of `BadToken` it means this mark.
-//! Functions that the loops over tokens call are inlined for the reason at the head of token.rt.
+//! Small functions that the loops over tokens call for most tokens are inlined, for the reason at the head of token.rt.
 //!
 //! Contracts here compare results with the definitions of TokenByToken, such as `word_step`. `so_far` and `step_seen`
 //! give the code's values in the form of these definitions.

@@ -1,6 +1,6 @@
 //! The tokens of a game's text. The functions that read the most common ones are inlined into the loops over a game's
-//! tokens, in words.rt, read.rt and last_tag.rt, for speed in the workload `collections`. The gain was not measured
-//! apart.
+//! tokens, in words.rt, read.rt and last_tag.rt, for speed in the workload `collections`; the others are kept out of
+//! these loops by `inline(never)`. The gain was not measured apart.
 
 ghost use Rattle.std.specs.Prelude.{◌≡◌, ◌≤◌, ◌∷◌, length, drop, false, [], None};
 ghost use Rattle.std.specs.List.{prefix_len, take_while};
