@@ -17,7 +17,7 @@ use Rattle.chess_pgn.specs.Written.{tag_line, ended, lines_of}
 -- ---- tags
 
 -- the lines of the tags of the game `s`: the seven that each game has, in their order (section 8.1.1); then, sorted by
--- name, FEN and SetUp (section 9.7), where the game does not begin from the initial position of normal chess,
+-- name, FEN and SetUp (section 9.7), which only a game of normal chess from the initial position doesn't have,
 -- Termination, and in Chess960 Variant. The outcome comes from the game, not from `t`
 abbrev pub tag_lines : Tags → State → List (List ℕ)
 tag_lines t s =

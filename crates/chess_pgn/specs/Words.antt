@@ -1,4 +1,4 @@
--- What a word of a game's text is (PGN standard of 1994, sections 8.2.2, 8.2.3.8 and 8.2.6).
+-- What a word of a game's text is (PGN standard of 1994, sections 8.2.3.8 and 8.2.6).
 use Rattle.std.specs.Prelude.{ℕ, Bool, not, ◌&&◌, ◌||◌, List, [], ◌∷◌, length, Option, find, ◌==◌}
 use Rattle.chess_base.specs.Letters.{byte}
 use Rattle.std.specs.List.{list_all}

@@ -11,7 +11,7 @@ pub fn only_last_games_have_failed_writes()
 {}
 
 /// States a law and does nothing: a log whose lines' texts are printable ASCII can be read in only one way, as these
-/// lines with their moments, marks and engines.
+/// lines with their moments, marks and engines (`first`, the engine of `--white`, or `second`).
 pub fn logs_have_one_reading()
     ensures { LogsHaveOneReading }
 {}

@@ -23,7 +23,7 @@ roster_lines t o =
 abbrev pub fen_lines : Setup → List (List ℕ)
 fen_lines start = tag_line (codes "FEN") (fen start) ∷ tag_line (codes "SetUp") (codes "1") ∷ []
 
--- the lines of the tags that give a game's start in variant `v`: none for the initial position of normal chess
+-- the lines of the tags that give a game's start in variant `v`: none for normal chess from the initial position
 abbrev pub start_lines_in : Variant → Setup → List (List ℕ)
 start_lines_in v start = list_if (is_fischerandom v || not (is_initial start)) (fen_lines start)
 

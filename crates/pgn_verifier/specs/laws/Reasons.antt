@@ -1,5 +1,5 @@
 -- The reason for a fault as a function, which asks for the parts of a bad tag one after another. The law
--- `reports_are_the_only_ones` says that a fault has just this reason.
+-- `reports_are_the_only_ones` says that each fault that is reported has just this reason.
 use Rattle.std.specs.Prelude.{ℕ, ◌++◌, if◌then◌else◌, List, take, codes, is_some, Option, Some, None}
 use Rattle.std.specs.Option.{option_map, option_map_or}
 use Rattle.chess_base.specs.Faults.{fen_fault_name}
