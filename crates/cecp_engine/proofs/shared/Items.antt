@@ -6,12 +6,12 @@ use Rattle.std.proofs.lemmas.List.Sums.{prefix_len-le-length}
 use Rattle.std.specs.Prelude.{if◌then◌else◌, ◌==◌, ◌&&◌, ◌||◌, not, nat_lt, option_and_then}
 use Rattle.std.specs.Option.{option_map_or}
 use Rattle.std.specs.Str.{bytes_eq}
-use Rattle.chess_base.specs.Letters.{is_digit}
-use Rattle.text_lines.specs.Lines.{without_front_blanks}
+use Rattle.chess_base.specs.Letters.{byte, is_digit}
+use Rattle.text_lines.specs.Lines.{is_blank, without_front_blanks}
 use Rattle.text_lines.proofs.shared.Lines.{without_front_blanks-short}
 use Rattle.text_lines.specs.Words.{is_name_byte}
-use Rattle.std.specs.List.{prefix_len, take_while}
-use Rattle.cecp_engine.specs.Items.{Item, Value, Digits, Quoted, quote_at, value_of, may_follow_item, item_of, ends_handshake, first_items, items_of, has_done, last_said}
+use Rattle.std.specs.List.{list_all, position_or_len, prefix_len, take_while}
+use Rattle.cecp_engine.specs.Items.{Item, Value, Digits, Quoted, value_of, item_of, ends_handshake, first_items, items_of, has_done, last_said}
 
 -- ---- the last value
 
@@ -23,6 +23,10 @@ last_said-snoc f default name (j ∷ items) i =
     last_said-snoc f (if bytes_eq j.name name then f j.value else default) name items i
 
 -- ---- an item takes a byte
+
+-- the index of the first double quote; the text's length if there is none
+abbrev quote_at : List ℕ → ℕ
+quote_at text = position_or_len (λ c. c == byte "\"") text
 
 value_shorter : (text : List ℕ) (p : Value × List ℕ) → value_of text ≡ Some p → length p.1 < length text
 value_shorter [] p e = cc
@@ -54,7 +58,8 @@ unfolding after_first
 after_first-is c cs = take_all (length (c ∷ cs) - 1) cs (omega arith)
 
 -- a quote with no other after it is no value
-pub unclosed : (text : List ℕ) (at : ℕ) → get_or text 0 0 ≡ 34 → at ≡ quote_at (take (length text - 1) (drop 1 text))
+pub unclosed : (text : List ℕ) (at : ℕ) → get_or text 0 0 ≡ 34
+    → at ≡ position_or_len (λ c. c == byte "\"") (take (length text - 1) (drop 1 text))
     → length (take (length text - 1) (drop 1 text)) ≤ at → None ≡ value_of text
 unfolding after_first
 unclosed [] at h e k = refl
@@ -71,7 +76,7 @@ unclosed (c ∷ cs) at h e k =
 -- front. `None` if `rest` begins with no value, or anything but a space, a tab or the end comes right after the value
 abbrev with_value : List ℕ → List ℕ → Option (Item × List ℕ)
 with_value name rest =
-    option_and_then (λ (p : Value × List ℕ). if may_follow_item p.1 then Some
+    option_and_then (λ (p : Value × List ℕ). if list_all is_blank (take 1 p.1) then Some
     (record { name = name; value = p.0 }, without_front_blanks p.1) else None) (value_of rest)
 
 -- the item whose name is the first text, and whose `=` and value the second text begins with; and what follows these,
@@ -85,7 +90,7 @@ with_name _ _ = None
 abbrev item_after : List ℕ → List ℕ → Option (Item × List ℕ)
 item_after name rest =
     if length name == 0 || not (bytes_eq (take 1 rest) (61 ∷ [])) then None
-    else option_and_then (λ (p : Value × List ℕ). if may_follow_item p.1 then
+    else option_and_then (λ (p : Value × List ℕ). if list_all is_blank (take 1 p.1) then
     Some (record { name = name; value = p.0 }, without_front_blanks p.1) else None) (value_of (drop 1 rest))
 
 item_after-is : (name rest : List ℕ) → item_after name rest ≡ with_name name rest
@@ -119,11 +124,11 @@ name_or default None = default
 name_or default (Some p) = p.0.name
 
 with_value_shorter : (name rest : List ℕ) (v : Option (Value × List ℕ)) (p : Item × List ℕ) → value_of rest ≡ v
-    → option_and_then (λ (p : Value × List ℕ). if may_follow_item p.1 then
+    → option_and_then (λ (p : Value × List ℕ). if list_all is_blank (take 1 p.1) then
     Some (record { name = name; value = p.0 }, without_front_blanks p.1) else None) v ≡ Some p
     → (p.0.name ≡ name) × (length p.1 < length rest)
 with_value_shorter name rest None p is e = cc
-with_value_shorter name rest (Some q) p is e = by_test (may_follow_item q.1) e
+with_value_shorter name rest (Some q) p is e = by_test (list_all is_blank (take 1 q.1)) e
   where
     by_test : (b : Bool) → (if b then Some (record { name = name; value = q.0 }, without_front_blanks q.1) else None)
         ≡ Some p → (p.0.name ≡ name) × (length p.1 < length rest)
