@@ -65,10 +65,6 @@ first_items (suc n) text =
 unfoldable pub items_of : List ℕ → List Item
 items_of text = first_items (length text) text
 
--- whether `done=1`, which ends the handshake, is among these items
-unfoldable pub has_done : List Item → Bool
-has_done items = list_any ends_handshake items
-
 -- ---- what an engine says by its items
 
 -- what `f` gives for the value of the last of these items that has this name; `default` if none has it
@@ -85,11 +81,6 @@ takes name items = last_said is_one (bytes_eq name (codes "time") || bytes_eq na
 abbrev pub value_text : Value → List ℕ
 value_text (Digits ds) = ds
 value_text (Quoted cs) = cs
-
--- the text of the value of the last of these items that has this name, such as `myname`, without quotes; empty if none
--- has it
-unfoldable pub last_value : List ℕ → List Item → List ℕ
-last_value name items = last_said value_text [] name items
 
 -- whether `text`, a list with commas, spaces or tabs between, such as `normal,fischerandom`, has this word
 unfoldable pub has_word : List ℕ → List ℕ → Bool

@@ -10,8 +10,8 @@ use Rattle.chess_base.specs.Letters.{byte, is_digit}
 use Rattle.text_lines.specs.Lines.{is_blank, without_front_blanks}
 use Rattle.text_lines.proofs.shared.Lines.{without_front_blanks-short}
 use Rattle.text_lines.specs.Words.{is_name_byte}
-use Rattle.std.specs.List.{list_all, position_or_len, prefix_len, take_while}
-use Rattle.cecp_engine.specs.Items.{Item, Value, Digits, Quoted, value_of, item_of, ends_handshake, first_items, items_of, has_done, last_said}
+use Rattle.std.specs.List.{list_all, position_or_len, prefix_len, take_while, list_any}
+use Rattle.cecp_engine.specs.Items.{Item, Value, Digits, Quoted, value_of, item_of, ends_handshake, first_items, items_of, last_said}
 
 -- ---- the last value
 
@@ -229,7 +229,7 @@ items_of-step text = at (length text) refl
 -- so far these were read of a text, and this is left
 pub record SoFar (text rest : List ℕ) (read : List Item) : Type 0 where
   pub items : items_of text ≡ read ++ items_of rest
-  pub going : has_done (items_of text) ≡ has_done (items_of rest)
+  pub going : list_any ends_handshake (items_of text) ≡ list_any ends_handshake (items_of rest)
 
 some_at : (rest : List ℕ) (p : Item × List ℕ) → item_of rest ≡ Some p → ends_handshake p.0 ≡ false
     → items_of rest ≡ p.0 ∷ items_of p.1
@@ -244,27 +244,24 @@ none_at rest e = items_of-step rest ∙ ap (items_by items_of) e
 
 pub so_far_more : (text rest : List ℕ) (items : List Item) (p : Item × List ℕ) → SoFar text rest items
     → item_of rest ≡ Some p → ends_handshake p.0 ≡ false → SoFar text p.1 (items ++ p.0 ∷ [])
-unfolding has_done
 so_far_more text rest items p s e f = record {
   items = s.items ∙ ap (λ (is : List Item). items ++ is) (some_at rest p e f)
       ∙ sym (append_assoc items (p.0 ∷ []) (items_of p.1));
-  going = s.going ∙ ap has_done (some_at rest p e f) ∙ rw f refl;
+  going = s.going ∙ ap (list_any ends_handshake) (some_at rest p e f) ∙ rw f refl;
 }
 
 pub so_far_done : (text rest : List ℕ) (items : List Item) (p : Item × List ℕ) → SoFar text rest items
     → item_of rest ≡ Some p → ends_handshake p.0 ≡ true
-    → (items_of text ≡ items ++ p.0 ∷ []) × (has_done (items_of text) ≡ true)
-unfolding has_done
+    → (items_of text ≡ items ++ p.0 ∷ []) × (list_any ends_handshake (items_of text) ≡ true)
 so_far_done text rest items p s e f = (
   s.items ∙ ap (λ (is : List Item). items ++ is) (last_at rest p e f),
-  s.going ∙ ap has_done (last_at rest p e f) ∙ rw f refl,
+  s.going ∙ ap (list_any ends_handshake) (last_at rest p e f) ∙ rw f refl,
 )
 
 pub so_far_none : (text rest : List ℕ) (items : List Item) → SoFar text rest items → item_of rest ≡ None
-    → (items_of text ≡ items) × (has_done (items_of text) ≡ false)
-unfolding has_done
+    → (items_of text ≡ items) × (list_any ends_handshake (items_of text) ≡ false)
 so_far_none text rest items s e = (
   s.items ∙ ap (λ (is : List Item). items ++ is) (none_at rest e) ∙ append-nil items,
   s.going
-      ∙ ap has_done (none_at rest e),
+      ∙ ap (list_any ends_handshake) (none_at rest e),
 )
