@@ -40,7 +40,7 @@ item_of text =
     if length name == 0 || not (bytes_eq (take 1 rest) (codes "=")) then None else do
       (value, after) ← value_of (drop 1 rest)
       if list_all is_blank (take 1 after) then Some (record { name = name; value = value }, without_front_blanks after)
-      else None
+          else None
 
 -- ---- the items of a line
 
@@ -93,9 +93,8 @@ plays_fischerandom items = last_said (λ v. has_word (codes "fischerandom") (val
 
 -- ---- the answer to an item
 
--- whether a feature of this name is answered by `accepted`, else by `rejected`
+-- whether a feature of this name is answered by `accepted`, else by `rejected`: first those that an arbiter uses, then
+-- others that it accepts and doesn't use
 unfoldable pub is_known : List ℕ → Bool
-is_known name = list_any (bytes_eq name)
-    (codes "ping" ∷ codes "setboard" ∷ codes "playother" ∷ codes "san" ∷ codes "usermove" ∷ codes "time" ∷ codes "draw"
-    ∷ codes "sigint" ∷ codes "sigterm" ∷ codes "reuse" ∷ codes "analyze" ∷ codes "myname" ∷ codes "variants"
-    ∷ codes "colors" ∷ codes "debug" ∷ codes "done" ∷ [])
+is_known name = has_word name (codes "ping setboard san usermove time draw myname variants done")
+    || has_word name (codes "playother sigint sigterm reuse analyze colors debug")

@@ -222,20 +222,8 @@ fn has_word(text: &[u8], word: &[u8]) -> bool
 pub fn is_known(name: &[u8]) -> bool
     ensures { result ≡ is_known name.now }
 {
-    name == b"ping".as_slice()
-        || name == b"setboard".as_slice()
-        || name == b"playother".as_slice()
-        || name == b"san".as_slice()
-        || name == b"usermove".as_slice()
-        || name == b"time".as_slice()
-        || name == b"draw".as_slice()
-        || name == b"sigint".as_slice()
-        || name == b"sigterm".as_slice()
-        || name == b"reuse".as_slice()
-        || name == b"analyze".as_slice()
-        || name == b"myname".as_slice()
-        || name == b"variants".as_slice()
-        || name == b"colors".as_slice()
-        || name == b"debug".as_slice()
-        || name == b"done".as_slice()
+    has_word(
+        b"ping setboard san usermove time draw myname variants done",
+        name,
+    ) || has_word(b"playother sigint sigterm reuse analyze colors debug", name)
 }
