@@ -1,5 +1,5 @@
 -- Levels of time, their denotation, and the time that a level gives (CECP, version 2: command `level`).
-use Rattle.std.specs.Prelude.{ℕ, ◌+◌, ◌-◌, ◌*◌, ◌/◌, ◌%◌, ◌==◌, nat_lt, if◌then◌else◌, List, [], ◌∷◌, ◌++◌, length, take, drop, codes, decimal, Option, None, Some}
+use Rattle.std.specs.Prelude.{ℕ, ◌+◌, ◌*◌, ◌/◌, ◌%◌, ◌==◌, nat_lt, if◌then◌else◌, List, [], ◌∷◌, ◌++◌, length, take, drop, codes, decimal, Option, None, Some}
 use Rattle.std.specs.List.{position_or_len}
 use Rattle.chess_base.specs.Letters.{byte}
 use Rattle.text_lines.specs.Words.{short_number, word_of, argument_of}
@@ -60,7 +60,3 @@ level_text level =
 -- 79; it is always 1 if one session lasts for the whole game
 unfoldable pub allotted : LevelSeen → ℕ → ℕ
 allotted level k = 1000 * (level.base * (if level.moves == 0 then 1 else 1 + k / level.moves) + level.increment * k)
-
--- the milliseconds that a side has left after `k` moves that took `used` milliseconds in all; at least 0
-unfoldable pub time_left : LevelSeen → ℕ → ℕ → ℕ
-time_left level k used = allotted level k - used

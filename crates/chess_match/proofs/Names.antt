@@ -3,7 +3,7 @@ use Rattle.std.proofs.Common.{◌≡◌, true, false, List, [], ◌∷◌, ◌++
 use Rattle.std.specs.Prelude.{codes}
 use Rattle.std.specs.Str.{bytes_eq}
 use Rattle.chess_game.specs.Results.{cut_tag}
-use Rattle.cecp_engine.specs.Items.{Item, last_said, value_text}
+use Rattle.cecp_engine.specs.Items.{Item, value_text}
 use Rattle.cecp_engine.proofs.shared.Items.{last_said-snoc}
 use Rattle.chess_match.specs.ties.Represents.{name_by}
 

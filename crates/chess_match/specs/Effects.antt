@@ -10,7 +10,7 @@ use Rattle.chess_base.specs.Men.{other, same_colour}
 use Rattle.chess_game.specs.Results.{result_text}
 use Rattle.cecp_engine.specs.EngineLines.{LineKind, Features, Moves, Resigns, OffersDraw, ClaimsDraw, ClaimsWin, Rejects, Answers, line_kind}
 use Rattle.cecp_engine.specs.Items.{Item, items_of, ends_handshake, takes, plays_fischerandom}
-use Rattle.cecp_engine.specs.Levels.{time_left}
+use Rattle.cecp_engine.specs.Levels.{allotted}
 use Rattle.chess_match.specs.Events.{Event, Line, Opened, OutputEnds, FailsToRead, FailsToWrite, Seat}
 use Rattle.chess_match.specs.Reasons.{outcome_by_reason, comment_of}
 use Rattle.chess_match.specs.Rules.{Rules}
@@ -59,10 +59,10 @@ pub record Effect : Type 0 where
 
 -- ---- what is asked of a match
 
--- the milliseconds that the side `S` has left after the moves that it has made; the time of a turn in progress is not
--- deducted
+-- the milliseconds that the side `S` has left after the moves that it has made, at least 0; the time of a turn in
+-- progress is not deducted
 abbrev pub clock : Rules → Match → Colour → ℕ
-clock r m S = time_left r.level (length (m.seat S).used) (sum (m.seat S).used)
+clock r m S = allotted r.level (length (m.seat S).used) - sum (m.seat S).used
 
 -- the number of the `ping` that the side `S` is sent after the latest of its moves: n + 1 after the n-th; 1, the `ping`
 -- of its setup, if it has not moved yet. Its moves are counted by their times in `used`
