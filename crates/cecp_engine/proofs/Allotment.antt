@@ -1,21 +1,19 @@
 -- The time that a level gives grows with the moves.
-use Rattle.std.proofs.Common.{ℕ, ◌+◌, ◌≤◌, ◌<◌, arith}
-use Rattle.cecp_engine.specs.Levels.{LevelSeen, allotted, time_left}
+use Rattle.std.proofs.Common.{ℕ, ◌+◌, ◌-◌, ◌≤◌, ◌<◌, arith}
+use Rattle.cecp_engine.specs.Levels.{LevelSeen, allotted}
 use Rattle.cecp_engine.specs.Clocks.{Spent, spent_more}
 use Rattle.cecp_engine.specs.ties.Bounds.{IsWithin}
 use Rattle.chess_base.specs.declared.setup.TheConstants.{MOST_MOVES}
 use Rattle.cecp_engine.proofs.shared.Levels.{allotted_grows}
 
-pub within_more : (l : LevelSeen) (s : Spent) (used : ℕ) → IsWithin l s → used ≤ time_left l s.moves s.used
+pub within_more : (l : LevelSeen) (s : Spent) (used : ℕ) → IsWithin l s → used ≤ allotted l s.moves - s.used
     → s.moves < MOST_MOVES
     → IsWithin l (spent_more s used)
-unfolding time_left
 within_more l s used w in_time few =
     let g = allotted_grows l s.moves in
     let u = w.used in
     record { moves = omega (arith, few); used = omega (arith, g, u, in_time) }
 
-pub room_more : (l : LevelSeen) (k used more : ℕ) → used ≤ allotted l k → more ≤ time_left l k used
+pub room_more : (l : LevelSeen) (k used more : ℕ) → used ≤ allotted l k → more ≤ allotted l k - used
     → allotted l k ≤ 4611686018427387904 → used + more < 18446744073709551616
-unfolding time_left
 room_more l k used more u t b = omega (arith, u, t, b)

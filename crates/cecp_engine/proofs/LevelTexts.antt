@@ -1,11 +1,11 @@
 -- What is written of a level is parsed as that level: its three words have neither spaces nor tabs, and each is parsed as
 -- the number that it was written for.
 use Rattle.std.proofs.Common.{◌≡◌, ℕ, suc, ◌+◌, ◌-◌, ◌*◌, ◌/◌, ◌%◌, ◌<◌, ◌≤◌, Bool, true, false, eqb, ltb, leb, List, [], ◌∷◌, ◌++◌, length, take, drop, Some, refl, sym, ap, ◌∙◌, arith, rules}
-use Rattle.std.specs.Prelude.{decimal}
-use Rattle.std.specs.List.{list_all}
+use Rattle.std.specs.Prelude.{decimal, ◌==◌}
+use Rattle.std.specs.List.{list_all, position_or_len}
 use Rattle.std.proofs.lemmas.Bool.{and_parts}
 use Rattle.std.proofs.lemmas.Bool.Decides.{nat_tests}
-use Rattle.std.proofs.lemmas.List.{append-nil, length-append}
+use Rattle.std.proofs.lemmas.List.{append-nil, length-append, take_all}
 use Rattle.std.proofs.lemmas.Fmt.{digits_decimal, digits_value-decimal, length-decimal-le, decimal_nonempty}
 use Rattle.std.proofs.lemmas.Str.Parse.{IsNumeralModel, numerals_by_value}
 use Rattle.std.specs.Char.{digit_value}
@@ -14,7 +14,7 @@ use Rattle.std.proofs.lemmas.Str.{digit_value_digit}
 use Rattle.chess_base.specs.Letters.{byte, is_digit}
 use Rattle.text_lines.specs.Lines.{is_blank, without_front_blanks}
 use Rattle.text_lines.specs.Words.{short_number, word_of, argument_of}
-use Rattle.cecp_engine.specs.Levels.{level_of, level_text, base_of, base_text, colon_at, two_digits}
+use Rattle.cecp_engine.specs.Levels.{level_of, level_text, base_of, base_text, two_digits}
 
 -- ---- words
 
@@ -122,6 +122,10 @@ two_digits_solid n h =
 digit_before_colon : (c : ℕ) → is_digit c ≡ true → eqb c 58 ≡ false
 digit_before_colon c h = grind (arith, nat_tests)
 
+-- the index of the first colon; the text's length if there is none
+abbrev colon_at : List ℕ → ℕ
+colon_at text = position_or_len (λ c. c == byte ":") text
+
 one_more : {a b : ℕ} → a ≡ b → 1 + a ≡ suc b
 one_more h = omega (arith, h)
 
@@ -157,8 +161,16 @@ base_back base h = by_seconds (eqb (base % 60) 0) refl
     by_seconds true e =
         let none : seconds ≡ 0 = grind (arith, nat_tests) in
         let same : eqb (length ds) (length ds) ≡ true = grind (arith, nat_tests) in
-        let is : 60 * minutes ≡ base = omega (arith, none) in
-        rw (e, no_colon ds (are_digits minutes few), same, number_back minutes few) (ap Some is)
+        let all : take (length ds) ds ≡ ds = take_all (length ds) ds (omega arith) in
+        let is : 60 * minutes + 0 ≡ base = omega (arith, none) in
+        rw (
+          e,
+          append-nil ds,
+          no_colon ds (are_digits minutes few),
+          same,
+          all,
+          number_back minutes few,
+        ) (ap Some is)
     by_seconds false e =
         let some : 0 < length ds = decimal_nonempty minutes (omega arith) in
         let more : length (ds ++ byte ":" ∷ two_digits seconds) ≡ length ds + 3 = length-append ds (byte ":" ∷ two_digits seconds) in
@@ -186,7 +198,7 @@ base_solid base h = by_seconds (eqb (base % 60) 0) refl
     few = omega arith
 
     by_seconds : (whole : Bool) → eqb (base % 60) 0 ≡ whole → Solid (base_text base)
-    by_seconds true e = rw e (decimal_solid (base / 60) few)
+    by_seconds true e = rw (e, append-nil (decimal (base / 60))) (decimal_solid (base / 60) few)
     by_seconds false e = rw e (solid_append (decimal (base / 60)) (byte ":" ∷ two_digits (base % 60))
         (decimal_solid (base / 60) few) (refl, two_digits_solid (base % 60) (omega arith)))
 
@@ -197,7 +209,7 @@ base_some base h = by_seconds (eqb (base % 60) 0) refl
     some = decimal_nonempty (base / 60) (omega arith)
 
     by_seconds : (whole : Bool) → eqb (base % 60) 0 ≡ whole → 0 < length (base_text base)
-    by_seconds true e = rw e some
+    by_seconds true e = rw (e, append-nil (decimal (base / 60))) some
     by_seconds false e = rw e (omega (arith, some, length-append (decimal (base / 60)) (byte ":" ∷ two_digits (base % 60))))
 
 -- ---- the level

@@ -2,11 +2,16 @@
 use Rattle.std.proofs.Common.{◌≡◌, ℕ, zero, suc, ◌+◌, ◌-◌, ◌<◌, ◌≤◌, Bool, true, false, ◌||◌, List, [], ◌∷◌, ◌++◌, length, take, drop, get_or, refl, ap, sym, ◌∙◌, arith, append_assoc, append-nil, cond}
 use mathlib.Core.Bool.{or-false}
 use Rattle.std.specs.List.{list_any, slice_split, onto_first}
-use Rattle.std.specs.Prelude.{if◌then◌else◌}
+use Rattle.std.specs.Prelude.{if◌then◌else◌, ◌==◌}
 use Rattle.std.specs.Str.{bytes_eq}
 use Rattle.std.proofs.Math.Seq.{take-suc}
 use Rattle.std.proofs.lemmas.List.{drop_more}
-use Rattle.cecp_engine.specs.Items.{is_comma_or_blank}
+use Rattle.chess_base.specs.Letters.{byte}
+use Rattle.text_lines.specs.Lines.{is_blank}
+
+-- whether a byte separates the names in the value of `variants`: a comma, space or tab
+abbrev pub is_comma_or_blank : ℕ → Bool
+is_comma_or_blank c = is_blank c || (c == byte ",")
 
 -- the rest of a text after a piece is cut at commas, spaces and tabs, and one of the pieces is this word
 abbrev pub has_word_after : List ℕ → List ℕ → List ℕ → Bool

@@ -1,8 +1,8 @@
 -- The clocks of a game: of each side the number of its moves, and the sum of the times that they used.
-use Rattle.std.specs.Prelude.{ℕ, ◌+◌}
+use Rattle.std.specs.Prelude.{ℕ, ◌+◌, ◌-◌}
 use Rattle.chess_base.specs.declared.man.Colour.{Colour}
 use Rattle.chess_base.specs.declared.man.Colour.TheVariants.{White, Black}
-use Rattle.cecp_engine.specs.Levels.{LevelSeen, time_left}
+use Rattle.cecp_engine.specs.Levels.{LevelSeen, allotted}
 
 -- what a side used so far: how many moves it made, and the time that they took
 pub record Spent : Type 0 where
@@ -29,9 +29,9 @@ abbrev pub spent_by : ClocksSeen → Colour → Spent
 spent_by clocks White = clocks.white
 spent_by clocks Black = clocks.black
 
--- the milliseconds that the side `c` has left
+-- the milliseconds that the side `c` has left; at least 0
 abbrev pub remaining : ClocksSeen → Colour → ℕ
-remaining clocks c = time_left clocks.level (spent_by clocks c).moves (spent_by clocks c).used
+remaining clocks c = allotted clocks.level (spent_by clocks c).moves - (spent_by clocks c).used
 
 -- what a side used after one more move, which took `used` milliseconds
 abbrev pub spent_more : Spent → ℕ → Spent

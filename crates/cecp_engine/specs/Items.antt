@@ -1,6 +1,6 @@
 -- The items of a `feature` line (CECP, version 2: section 9), and what an engine says by them.
 use Rattle.std.specs.Prelude.{ℕ, zero, suc, ◌+◌, ◌==◌, ◌&&◌, ◌||◌, nat_lt, Bool, true, false, not, if◌then◌else◌, List, [], ◌∷◌, length, take, drop, codes, Option, None, Some}
-use Rattle.std.specs.List.{fold, list_any, position_or_len, prefix_len, slice_split, take_while}
+use Rattle.std.specs.List.{fold, list_all, list_any, position_or_len, prefix_len, slice_split, take_while}
 use Rattle.std.specs.Option.{option_map_or}
 use Rattle.std.specs.Str.{bytes_eq}
 use Rattle.chess_base.specs.Letters.{byte, is_digit}
@@ -20,24 +20,15 @@ pub record Item : Type 0 where
   pub name : List ℕ
   pub value : Value
 
--- the index of the first double quote; the text's length if there is none
-abbrev pub quote_at : List ℕ → ℕ
-quote_at text = position_or_len (λ c. c == byte "\"") text
-
 -- the value that a text begins with, and the text after it. The value is in double quotes, and may be empty, or it is a
 -- run of digits; `None` if there is neither, or an opening quote without a closing one
 abbrev pub value_of : List ℕ → Option (Value × List ℕ)
 value_of [] = None
 value_of (c ∷ cs) =
-    if (c == byte "\"") && nat_lt (quote_at cs) (length cs)
-    then Some (Quoted (take (quote_at cs) cs), drop (quote_at cs + 1) cs)
+    let closing = position_or_len (λ b. b == byte "\"") cs in
+    if c == byte "\"" && nat_lt closing (length cs) then Some (Quoted (take closing cs), drop (closing + 1) cs)
     else if is_digit c then Some (Digits (take_while is_digit (c ∷ cs)), drop (prefix_len is_digit (c ∷ cs)) (c ∷ cs))
     else None
-
--- whether an item may end right before this text: the text is empty, or begins with a space or tab
-abbrev pub may_follow_item : List ℕ → Bool
-may_follow_item [] = true
-may_follow_item (c ∷ cs) = is_blank c
 
 -- the item that a text begins with, such as `ping=1` or `myname="Sjeng"`, and the text after it, without spaces and
 -- tabs at its front. An item is a name of one or more letters, digits or `_`, then `=`, then a value (`value_of`), and
@@ -48,7 +39,8 @@ item_of text =
     let rest = drop (length name) text in
     if length name == 0 || not (bytes_eq (take 1 rest) (codes "=")) then None else do
       (value, after) ← value_of (drop 1 rest)
-      if may_follow_item after then Some (record { name = name; value = value }, without_front_blanks after) else None
+      if list_all is_blank (take 1 after) then Some (record { name = name; value = value }, without_front_blanks after)
+          else None
 
 -- ---- the items of a line
 
@@ -73,10 +65,6 @@ first_items (suc n) text =
 unfoldable pub items_of : List ℕ → List Item
 items_of text = first_items (length text) text
 
--- whether `done=1`, which ends the handshake, is among these items
-unfoldable pub has_done : List Item → Bool
-has_done items = list_any ends_handshake items
-
 -- ---- what an engine says by its items
 
 -- what `f` gives for the value of the last of these items that has this name; `default` if none has it
@@ -94,18 +82,9 @@ abbrev pub value_text : Value → List ℕ
 value_text (Digits ds) = ds
 value_text (Quoted cs) = cs
 
--- the text of the value of the last of these items that has this name, such as `myname`, without quotes; empty if none
--- has it
-unfoldable pub last_value : List ℕ → List Item → List ℕ
-last_value name items = last_said value_text [] name items
-
--- whether a byte separates the names in the value of `variants`: a comma, space or tab
-abbrev pub is_comma_or_blank : ℕ → Bool
-is_comma_or_blank c = is_blank c || (c == byte ",")
-
 -- whether `text`, a list with commas, spaces or tabs between, such as `normal,fischerandom`, has this word
 unfoldable pub has_word : List ℕ → List ℕ → Bool
-has_word word text = list_any (λ piece. bytes_eq piece word) (slice_split is_comma_or_blank text)
+has_word word text = list_any (λ piece. bytes_eq piece word) (slice_split (λ c. is_blank c || (c == byte ",")) text)
 
 -- whether an engine that sent these items plays Chess960: its last item `variants` names `fischerandom`, or there is no
 -- item `variants` (CECP then assumes that it plays all variants)
@@ -114,9 +93,8 @@ plays_fischerandom items = last_said (λ v. has_word (codes "fischerandom") (val
 
 -- ---- the answer to an item
 
--- whether a feature of this name is answered by `accepted`, else by `rejected`
+-- whether a feature of this name is answered by `accepted`, else by `rejected`: first those that an arbiter uses, then
+-- others that it accepts and doesn't use
 unfoldable pub is_known : List ℕ → Bool
-is_known name = list_any (bytes_eq name)
-    (codes "ping" ∷ codes "setboard" ∷ codes "playother" ∷ codes "san" ∷ codes "usermove" ∷ codes "time" ∷ codes "draw"
-    ∷ codes "sigint" ∷ codes "sigterm" ∷ codes "reuse" ∷ codes "analyze" ∷ codes "myname" ∷ codes "variants"
-    ∷ codes "colors" ∷ codes "debug" ∷ codes "done" ∷ [])
+is_known name = has_word name (codes "ping setboard san usermove time draw myname variants done")
+    || has_word name (codes "playother sigint sigterm reuse analyze colors debug")

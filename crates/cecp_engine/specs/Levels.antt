@@ -1,7 +1,6 @@
 -- Levels of time, their denotation, and the time that a level gives (CECP, version 2: command `level`).
-use Rattle.std.specs.Prelude.{ℕ, ◌+◌, ◌-◌, ◌*◌, ◌/◌, ◌%◌, ◌==◌, nat_lt, if◌then◌else◌, List, [], ◌∷◌, ◌++◌, length, take, drop, codes, decimal, Option, None, Some}
+use Rattle.std.specs.Prelude.{ℕ, ◌+◌, ◌*◌, ◌/◌, ◌%◌, ◌==◌, nat_lt, if◌then◌else◌, List, [], ◌∷◌, ◌++◌, length, take, drop, codes, decimal, Option, None, Some}
 use Rattle.std.specs.List.{position_or_len}
-use Rattle.std.specs.Option.{option_map}
 use Rattle.chess_base.specs.Letters.{byte}
 use Rattle.text_lines.specs.Words.{short_number, word_of, argument_of}
 use Rattle.text_lines.specs.Lines.{without_front_blanks}
@@ -16,21 +15,14 @@ pub record LevelSeen : Type 0 where
 
 -- ---- denotation
 
--- the index of the first colon; the text's length if there is none
-abbrev pub colon_at : List ℕ → ℕ
-colon_at text = position_or_len (λ c. c == byte ":") text
-
--- m minutes and s seconds in seconds; `None` if one of the two could not be read (is `None`), or if s is not below 60
-abbrev pub in_seconds : Option ℕ → Option ℕ → Option ℕ
-in_seconds (Some m) (Some s) = if nat_lt s 60 then Some (60 * m + s) else None
-in_seconds _ _ = None
-
 -- the base time that a text denotes, in seconds: minutes of 1 to 3 digits (`5` is 300), or these with a colon and
 -- seconds of 1 or 2 digits, below 60 (`0:30` is 30, `1:5` is 65); `None` for any other text
 unfoldable pub base_of : List ℕ → Option ℕ
 base_of text =
-    if colon_at text == length text then option_map (λ m. 60 * m) (short_number 3 text)
-    else in_seconds (short_number 3 (take (colon_at text) text)) (short_number 2 (drop (colon_at text + 1) text))
+    let colon = position_or_len (λ c. c == byte ":") text in do
+      minutes ← short_number 3 (take colon text)
+      seconds ← if colon == length text then Some 0 else short_number 2 (drop (colon + 1) text)
+      if nat_lt seconds 60 then Some (60 * minutes + seconds) else None
 
 -- the time control that a text of three words denotes, such as `40 5 0`: moves per session (1 to 3 digits), base time,
 -- and increment in seconds (1 to 3 digits). Spaces and tabs before and after each word are ignored; `None` for any
@@ -54,8 +46,7 @@ two_digits n = (byte "0" + n / 10) ∷ (byte "0" + n % 10) ∷ []
 
 -- a base time, given in seconds, as it is written: minutes, and seconds if there are any, such as `5` or `0:30`
 abbrev pub base_text : ℕ → List ℕ
-base_text base = if base % 60 == 0 then decimal (base / 60) else decimal (base / 60)
-    ++ (codes ":" ++ two_digits (base % 60))
+base_text base = decimal (base / 60) ++ (if base % 60 == 0 then [] else byte ":" ∷ two_digits (base % 60))
 
 -- a time control as it is written after `level`, such as `40 5 0`
 unfoldable pub level_text : LevelSeen → List ℕ
@@ -64,16 +55,8 @@ level_text level =
 
 -- ---- time
 
--- how many sessions of the time control a side has begun when it has made `k` moves: with 40 moves per session 1 for k
--- from 0 to 39, 2 from 40 to 79; always 1 if one session lasts for the whole game
-unfoldable pub sessions : LevelSeen → ℕ → ℕ
-sessions level k = if level.moves == 0 then 1 else 1 + k / level.moves
-
 -- the milliseconds that a side was given in all, after `k` moves: the base time for each session begun, and the
--- increment for each move
+-- increment for each move. With 40 moves per session the number of sessions begun is 1 for k from 0 to 39, 2 from 40 to
+-- 79; it is always 1 if one session lasts for the whole game
 unfoldable pub allotted : LevelSeen → ℕ → ℕ
-allotted level k = 1000 * (level.base * sessions level k + level.increment * k)
-
--- the milliseconds that a side has left after `k` moves that took `used` milliseconds in all; at least 0
-unfoldable pub time_left : LevelSeen → ℕ → ℕ → ℕ
-time_left level k used = allotted level k - used
+allotted level k = 1000 * (level.base * (if level.moves == 0 then 1 else 1 + k / level.moves) + level.increment * k)

@@ -1,7 +1,6 @@
 //! The clocks of a game.
 
 ghost use Rattle.std.specs.Prelude.{◌≡◌, ◌≤◌, ◌<◌};
-ghost use Rattle.cecp_engine.specs.Levels.{time_left};
 ghost use Rattle.cecp_engine.specs.Clocks.{new_clocks, spent_by, remaining, charged};
 ghost use Rattle.chess_base.specs.declared.setup.TheConstants.{MOST_MOVES};
 
@@ -77,7 +76,6 @@ impl Clocks {
     }
 
     /// The milliseconds that this side has left.
-    #[tactic(auto, unfolding(crate::specs::Levels::time_left))]
     pub fn remaining(&self, side: Colour) -> u64
         ensures { result ≡ remaining self.now side }
     {

@@ -1,12 +1,13 @@
 //! The items of a `feature` line.
 
-ghost use Rattle.std.specs.Prelude.{◌≡◌, ◌≤◌, ◌<◌, ◌++◌, ◌∷◌, [], length, drop, take, List, ℕ};
-ghost use Rattle.chess_base.specs.Letters.{is_digit};
-ghost use Rattle.cecp_engine.specs.Items.{value_of, item_of, may_follow_item, is_one, ends_handshake, quote_at, items_of, has_done, is_known, has_word, value_text, is_comma_or_blank};
+ghost use Rattle.std.specs.Prelude.{◌≡◌, ◌≤◌, ◌<◌, ◌++◌, ◌∷◌, ◌==◌, ◌||◌, [], length, drop, take, List, ℕ};
+ghost use Rattle.chess_base.specs.Letters.{byte, is_digit};
+ghost use Rattle.cecp_engine.specs.Items.{value_of, item_of, is_one, ends_handshake, items_of, is_known, has_word, value_text};
 ghost use Rattle.cecp_engine.specs.ties.Taken.{said_again, fischerandom_again, value_read};
 ghost use Rattle.cecp_engine.specs.Seen.{value_seen, item_seen, item_read};
+ghost use Rattle.text_lines.specs.Lines.{is_blank};
 ghost use Rattle.text_lines.specs.Words.{is_name_byte};
-ghost use Rattle.std.specs.List.{prefix_len};
+ghost use Rattle.std.specs.List.{list_all, position_or_len, prefix_len};
 
 use text_lines::{is_blank, trim_start};
 
@@ -60,7 +61,7 @@ fn digits_len(text: &[u8]) -> usize
 
 // The index of the first double quote; the text's length if there is none.
 fn quote_at(text: &[u8]) -> usize
-    ensures value { result ≡ quote_at text.now }
+    ensures value { result ≡ position_or_len (λ c. c == byte "\"") text.now }
     ensures in_range { result ≤ length text.now }
 {
     let mut at = 0;
@@ -97,7 +98,7 @@ fn read_value(text: &[u8]) -> Option<(Value<'_>, &[u8])>
 
 // Whether an item may end before this text: it is empty, or begins with a space or tab.
 fn may_follow_item(text: &[u8]) -> bool
-    ensures { result ≡ may_follow_item text.now }
+    ensures { result ≡ list_all is_blank (take 1 text.now) }
 {
     match text {
         [] => true,
@@ -192,10 +193,10 @@ impl Item<'_> {
 }
 
 // Whether a byte separates the names in the value of `variants`: a comma, space or tab.
-fn is_comma_or_blank(byte: u8) -> bool
-    ensures { result ≡ is_comma_or_blank byte }
+fn is_comma_or_blank(next: u8) -> bool
+    ensures { result ≡ (is_blank next || (next == byte ",")) }
 {
-    is_blank(byte) || byte == b','
+    is_blank(next) || next == b','
 }
 
 // Whether `text`, a list with commas, spaces or tabs between, such as `normal,fischerandom`, has this word.
@@ -222,20 +223,8 @@ fn has_word(text: &[u8], word: &[u8]) -> bool
 pub fn is_known(name: &[u8]) -> bool
     ensures { result ≡ is_known name.now }
 {
-    name == b"ping".as_slice()
-        || name == b"setboard".as_slice()
-        || name == b"playother".as_slice()
-        || name == b"san".as_slice()
-        || name == b"usermove".as_slice()
-        || name == b"time".as_slice()
-        || name == b"draw".as_slice()
-        || name == b"sigint".as_slice()
-        || name == b"sigterm".as_slice()
-        || name == b"reuse".as_slice()
-        || name == b"analyze".as_slice()
-        || name == b"myname".as_slice()
-        || name == b"variants".as_slice()
-        || name == b"colors".as_slice()
-        || name == b"debug".as_slice()
-        || name == b"done".as_slice()
+    has_word(
+        b"ping setboard san usermove time draw myname variants done",
+        name,
+    ) || has_word(b"playother sigint sigterm reuse analyze colors debug", name)
 }

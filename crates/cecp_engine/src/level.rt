@@ -1,7 +1,9 @@
 //! Levels of time.
 
 ghost use Rattle.std.specs.Prelude.{◌≡◌, ◌≤◌, ◌<◌, ◌==◌, ◌^◌, IfSome, length};
-ghost use Rattle.cecp_engine.specs.Levels.{level_of, base_of, in_seconds, colon_at, allotted, sessions};
+ghost use Rattle.std.specs.List.{position_or_len};
+ghost use Rattle.chess_base.specs.Letters.{byte};
+ghost use Rattle.cecp_engine.specs.Levels.{level_of, base_of, allotted};
 ghost use Rattle.chess_base.specs.declared.setup.TheConstants.{MOST_MOVES};
 
 use std::marker::Model;
@@ -40,7 +42,7 @@ impl Model for Level {
 
 // The index of the first colon; the text's length if there is none.
 fn colon_at(text: &[u8]) -> usize
-    ensures value { result ≡ colon_at text.now }
+    ensures value { result ≡ position_or_len (λ c. c == byte ":") text.now }
     ensures in_range { result ≤ length text.now }
 {
     let mut at = 0;
@@ -50,25 +52,6 @@ fn colon_at(text: &[u8]) -> usize
     at
 }
 
-// Minutes and seconds, if both were read and the seconds are below 60, as seconds; else `None`.
-fn in_seconds(minutes: Option<u32>, seconds: Option<u32>) -> Option<u32>
-    requires { IfSome minutes (λ n. n ≤ 999) }
-    ensures value { result ≡ in_seconds minutes seconds }
-    ensures small { IfSome result (λ n. n ≤ 59999) }
-{
-    match (minutes, seconds) {
-        (Some(minutes), Some(seconds)) => {
-            if seconds < 60 {
-                Some(60 * minutes + seconds)
-            } else {
-                None
-            }
-        }
-        (None, _) => None,
-        (Some(_), None) => None,
-    }
-}
-
 // The base time that a text denotes, in seconds: minutes (`5`), or minutes and seconds (`0:30`); `None` for any other
 // text.
 #[tactic(auto, unfolding(crate::specs::Levels::base_of))]
@@ -76,17 +59,17 @@ fn base(text: &[u8]) -> Option<u32>
     ensures value { result ≡ base_of text.now }
     ensures small { IfSome result (λ n. n ≤ 59999) }
 {
-    let at = colon_at(text);
-    if at == text.len() {
-        match short_number(text, 3) {
-            None => None,
-            Some(minutes) => Some(60 * minutes),
-        }
+    let colon = colon_at(text);
+    let minutes = short_number(&text[..colon], 3)?;
+    let seconds = if colon == text.len() {
+        0
     } else {
-        in_seconds(
-            short_number(&text[..at], 3),
-            short_number(&text[at + 1..], 2),
-        )
+        short_number(&text[colon + 1..], 2)?
+    };
+    if seconds < 60 {
+        Some(60 * minutes + seconds)
+    } else {
+        None
     }
 }
 
@@ -140,7 +123,7 @@ impl Level {
 
     /// The milliseconds that a side was given in all, after `moves` moves: the base time for each session begun, and
     /// the increment for each move.
-    #[tactic(auto, unfolding(crate::specs::Levels::allotted, crate::specs::Levels::sessions))]
+    #[tactic(auto, unfolding(crate::specs::Levels::allotted))]
     pub(crate) fn allotted(self, moves: u32) -> u64
         requires { moves ≤ MOST_MOVES }
         ensures value { result ≡ allotted self moves }

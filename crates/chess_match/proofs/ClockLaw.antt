@@ -6,7 +6,7 @@ use Rattle.chess_base.specs.declared.man.Move.{Move}
 use Rattle.chess_base.specs.Men.{same_colour}
 use Rattle.chess_base.proofs.shared.Men.{same_colour-true}
 use Rattle.cecp_engine.specs.EngineLines.{LineKind, line_kind}
-use Rattle.cecp_engine.specs.Levels.{LevelSeen, allotted, time_left}
+use Rattle.cecp_engine.specs.Levels.{LevelSeen, allotted}
 use Rattle.cecp_engine.proofs.shared.Levels.{allotted_grows}
 use Rattle.chess_match.specs.Acts.{awaits_line}
 use Rattle.chess_match.specs.Effects.{Match, beginning, clock, line_row, moved}
@@ -27,8 +27,7 @@ abbrev AreInTime : Rules → Match → Type 0
 AreInTime r m = (C : Colour) → InTime r.level (m.seat C).used
 
 used_more : (level : LevelSeen) (xs : List ℕ) (x : ℕ) → InTime level xs
-    → x ≤ time_left level (length xs) (sum xs) → InTime level (xs ++ x ∷ [])
-unfolding time_left
+    → x ≤ allotted level (length xs) - sum xs → InTime level (xs ++ x ∷ [])
 used_more level xs x w timely =
     let grows : allotted level (length xs) ≤ allotted level (length xs + 1) = allotted_grows level (length xs) in
     rw (sum-snoc xs x, length-append xs (x ∷ [])) (omega (arith, grows, w, timely))
@@ -66,7 +65,6 @@ line_in_time r S kind moment m aw w = line_cases r S kind moment m (λ e. AreInT
     said C = rw (said_used S C kind m) (w C)
 
 pub clocks_do_not_underflow : AtEachMoment ClocksDoNotUnderflow
-unfolding time_left
 clocks_do_not_underflow r H K final g S =
     let m : Match = match_after r beginning.after H in
     let w : AreInTime r m = by_points r (λ m due H n. AreInTime r m → AreInTime r n) (record {

@@ -1,5 +1,6 @@
 -- What a line can do to a match, whatever it says: what holds of each of these effects holds of the line's.
 use native.Mathlib.Omega.{arith}
+use Rattle.std.specs.List.{list_any}
 use Rattle.std.proofs.Common.{◌≡◌, ℕ, ◌+◌, ◌-◌, ◌≤◌, ◌<◌, Bool, true, false, not, ◌&&◌, List, [], ◌∷◌, ◌++◌, length, refl, sym, ap, ◌∙◌, subst, Option, None, Some}
 use Rattle.std.specs.Option.{option_map_or}
 use Rattle.std.specs.Prelude.{if◌then◌else◌, nat_lt, nat_le, ◌==◌, codes, is_some}
@@ -12,7 +13,7 @@ use Rattle.chess_base.specs.Options.{list_if}
 use Rattle.chess_base.proofs.shared.Men.{same_colour-true}
 use Rattle.chess_game.specs.declared.verdicts.Verdict.{Verdict}
 use Rattle.cecp_engine.specs.EngineLines.{LineKind, Features, Moves, Resigns, OffersDraw, ClaimsDraw, ClaimsWin, Rejects, Answers, SaysElse}
-use Rattle.cecp_engine.specs.Items.{Item, has_done, plays_fischerandom, takes}
+use Rattle.cecp_engine.specs.Items.{Item, ends_handshake, plays_fischerandom, takes}
 use Rattle.chess_match.specs.Acts.{awaits_line}
 use Rattle.chess_match.specs.Effects.{Match, Phase, Handshake, Setup, Opening, BeforeMove, AfterMove, Over, Effect, after_move, before_move, begins_turn, clock, ends, enter, flag_row, handshake_done, handshake_lines, handshake_row, ignores, items_said, judged, line_row, missing, move_row, moved, offer_row, ping_number, sends_nothing, sends_to, setup_done, setup_row, turn_row, was_sent_move, with_answers, with_seat}
 use Rattle.chess_match.specs.Lines.{Says, ping, setup_lines}
@@ -75,12 +76,13 @@ pub record LineCases (r : Rules) (S : Colour) (kind : LineKind) (moment : ℕ) (
     -- in its handshake
     pub handshake_stops : m.phase ≡ Handshake S → (reason : Reason) (k : ℕ) → k ≤ m.count → MayStop S reason
         → Q (with_answers S (items_said kind) (ends r reason (record (said_by S kind m) { count = k })))
-    pub handshake_counts : m.phase ≡ Handshake S → has_done (items_said kind) ≡ false → m.count + 1 < 1000
+    pub handshake_counts : m.phase ≡ Handshake S → list_any ends_handshake (items_said kind) ≡ false
+        → m.count + 1 < 1000
         → Q (with_answers S (items_said kind) (sends_nothing (record (said_by S kind m) { count = m.count + 1 })))
-    pub handshake_next : m.phase ≡ Handshake S → S ≡ White → has_done (items_said kind) ≡ true
+    pub handshake_next : m.phase ≡ Handshake S → S ≡ White → list_any ends_handshake (items_said kind) ≡ true
         → Q (with_answers S (items_said kind)
         (sends_to Black handshake_lines (enter (Handshake Black) (said_by S kind m))))
-    pub handshake_last : m.phase ≡ Handshake S → S ≡ Black → has_done (items_said kind) ≡ true
+    pub handshake_last : m.phase ≡ Handshake S → S ≡ Black → list_any ends_handshake (items_said kind) ≡ true
         → Q (with_answers S (items_said kind) (sends_to White (setup_lines r) (enter (Setup White) (said_by S kind m))))
     -- in its setup
     pub setup_counts : m.phase ≡ Setup S → is_pong 1 kind ≡ false → m.count + 1 < 10000 → Q (counting m)
@@ -225,7 +227,7 @@ module _ (r : Rules) (S : Colour) (kind : LineKind) (moment : ℕ) (m : Match) (
       (by_test Q (is_pong 1 kind) (set_up S refl p) (λ h. ignored (ap handshakes_done p) (l.setup_counts p h)))
 
   -- in its handshake
-  shaken : (c : Colour) → S ≡ c → m.phase ≡ Handshake S → has_done (items_said kind) ≡ true
+  shaken : (c : Colour) → S ≡ c → m.phase ≡ Handshake S → list_any ends_handshake (items_said kind) ≡ true
       → Q (with_answers S (items_said kind) (handshake_done r c (said_by S kind m)))
   shaken White e p d = l.handshake_next p e d
   shaken Black e p d =
@@ -239,7 +241,8 @@ module _ (r : Rules) (S : Colour) (kind : LineKind) (moment : ℕ) (m : Match) (
       at None None x y = l.handshake_last p e d
 
   handshake : m.phase ≡ Handshake S → Q (handshake_row r S (items_said kind) m)
-  handshake p = by_test (λ (e : Effect). Q (with_answers S (items_said kind) e)) (has_done (items_said kind))
+  handshake p = by_test (λ (e : Effect). Q (with_answers S (items_said kind) e))
+      (list_any ends_handshake (items_said kind))
       (shaken S refl p)
       (λ d. by_test (λ (e : Effect). Q (with_answers S (items_said kind) e)) (nat_le 1000 (m.count + 1))
       (λ h. l.handshake_stops p (Faulted S NoDone) m.count (omega arith) ((λ O. refl), (λ c e. cc), refl))

@@ -1,5 +1,6 @@
 -- The moves of a match are read off the two engines' lines.
 use Rattle.std.proofs.Common.{◌≡◌, ℕ, ◌+◌, ◌-◌, ◌≤◌, true, false, List, [], ◌∷◌, ◌++◌, length, refl, ap, sym, subst, ◌∙◌, append-nil, append_assoc, Option, Some, arith}
+use Rattle.std.specs.List.{list_any}
 use Rattle.chess_base.specs.declared.man.Colour.{Colour}
 use Rattle.chess_base.specs.declared.man.Colour.TheVariants.{White, Black}
 use Rattle.chess_base.specs.declared.man.Move.{Move}
@@ -7,7 +8,7 @@ use Rattle.chess_base.specs.Men.{other, same_colour}
 use Rattle.chess_base.specs.Options.{list_if}
 use Rattle.chess_base.proofs.shared.Men.{other-other}
 use Rattle.cecp_engine.specs.EngineLines.{line_kind, Moves}
-use Rattle.cecp_engine.specs.Items.{has_done}
+use Rattle.cecp_engine.specs.Items.{ends_handshake}
 use Rattle.chess_match.specs.Acts.{Act, Sends, SendFails, Happens, awaits_line, is_over}
 use Rattle.chess_match.specs.ByDevice.{lines_read}
 use Rattle.chess_match.specs.Effects.{Match, Phase, Handshake, Setup, Opening, BeforeMove, AfterMove, Over, ends, enter, items_said, line_row, moved}
@@ -135,7 +136,7 @@ Steps r d t m m' = (final : Match) (lines : Streamed)
     → ReadsOff r m final (with_line d t lines)
 
 handshake_same : (d : Colour) (t : Option (List ℕ)) (lines : Streamed) (S : Colour)
-    → has_done (items_said (line_kind t)) ≡ false
+    → list_any ends_handshake (items_said (line_kind t)) ≡ false
     → ahead (Handshake d) S (with_line d t lines S) ≡ ahead (Handshake d) S (lines S)
 handshake_same d t lines S h1 = grind arith
 
@@ -144,12 +145,12 @@ setup_same : (d : Colour) (t : Option (List ℕ)) (lines : Streamed) (S : Colour
 setup_same d t lines S h1 = grind arith
 
 handshake_next : (d : Colour) (t : Option (List ℕ)) (lines : Streamed) (S : Colour) → d ≡ White
-    → has_done (items_said (line_kind t)) ≡ true
+    → list_any ends_handshake (items_said (line_kind t)) ≡ true
     → ahead (Handshake d) S (with_line d t lines S) ≡ ahead (Handshake Black) S (lines S)
 handshake_next d t lines S h1 h2 = grind arith
 
 handshake_last : (d : Colour) (t : Option (List ℕ)) (lines : Streamed) (S : Colour) → d ≡ Black
-    → has_done (items_said (line_kind t)) ≡ true
+    → list_any ends_handshake (items_said (line_kind t)) ≡ true
     → ahead (Handshake d) S (with_line d t lines S) ≡ ahead (Setup White) S (lines S)
 handshake_last d t lines S h1 h2 = grind arith
 

@@ -1,11 +1,12 @@
 -- The two engines' lines alone say which moves each engine is sent.
 use Rattle.std.proofs.Common.{◌≡◌, ℕ, ◌+◌, ◌-◌, ◌≤◌, Bool, true, false, List, [], ◌∷◌, ◌++◌, length, refl, ap, sym, ◌∙◌, append-nil, append_assoc, Option, arith}
+use Rattle.std.specs.List.{list_any}
 use Rattle.std.specs.Prelude.{if◌then◌else◌}
 use Rattle.chess_base.specs.declared.man.Colour.{Colour}
 use Rattle.chess_base.specs.declared.man.Colour.TheVariants.{White, Black}
 use Rattle.chess_base.specs.Men.{other, same_colour}
 use Rattle.cecp_engine.specs.EngineLines.{line_kind}
-use Rattle.cecp_engine.specs.Items.{Item, has_done}
+use Rattle.cecp_engine.specs.Items.{Item, ends_handshake}
 use Rattle.chess_match.specs.Acts.{Act, awaits_line, is_over}
 use Rattle.chess_match.specs.ByDevice.{is_broken, lines_read}
 use Rattle.chess_match.specs.Effects as effects
@@ -71,19 +72,19 @@ handshake_says d t m S ls p rest e h =
     items = grind (arith, append-nil)
 
 ahead_on : (d : Colour) (t : Option (List ℕ)) (S : Colour) (ls : List (Option (List ℕ)))
-    → has_done (effects.items_said (line_kind t)) ≡ false
+    → list_any ends_handshake (effects.items_said (line_kind t)) ≡ false
     → said_ahead (Handshake d) S (if same_colour d S then t ∷ ls else ls)
     ≡ (if same_colour d S then effects.items_said (line_kind t) else []) ++ said_ahead (Handshake d) S ls
 ahead_on d t S ls h1 = grind arith
 
 ahead_next : (d : Colour) (t : Option (List ℕ)) (S : Colour) (ls : List (Option (List ℕ))) → d ≡ White
-    → has_done (effects.items_said (line_kind t)) ≡ true
+    → list_any ends_handshake (effects.items_said (line_kind t)) ≡ true
     → said_ahead (Handshake d) S (if same_colour d S then t ∷ ls else ls)
     ≡ (if same_colour d S then effects.items_said (line_kind t) else []) ++ said_ahead (Handshake Black) S ls
 ahead_next d t S ls h1 h2 = grind arith
 
 ahead_last : (d : Colour) (t : Option (List ℕ)) (S : Colour) (ls : List (Option (List ℕ))) → d ≡ Black
-    → has_done (effects.items_said (line_kind t)) ≡ true
+    → list_any ends_handshake (effects.items_said (line_kind t)) ≡ true
     → said_ahead (Handshake d) S (if same_colour d S then t ∷ ls else ls)
     ≡ (if same_colour d S then effects.items_said (line_kind t) else []) ++ []
 ahead_last d t S ls h1 h2 = grind arith

@@ -1,5 +1,5 @@
 -- The times that an engine is sent are the clocks.
-use Rattle.std.proofs.Common.{◌≡◌, ℕ, ◌+◌, ◌/◌, ◌≤◌, Bool, true, false, ◌||◌, List, [], ◌∷◌, ◌++◌, length, length-append, drop, refl, ap, sym, subst, ◌∙◌, append-nil, arith}
+use Rattle.std.proofs.Common.{◌≡◌, ℕ, ◌+◌, ◌-◌, ◌/◌, ◌≤◌, Bool, true, false, ◌||◌, List, [], ◌∷◌, ◌++◌, length, length-append, drop, refl, ap, sym, subst, ◌∙◌, append-nil, arith}
 use Rattle.std.specs.Prelude.{if◌then◌else◌, codes, sum}
 use Rattle.std.specs.List.{flat_map}
 use Rattle.std.proofs.lemmas.Grind.{flat_map-append}
@@ -11,7 +11,7 @@ use Rattle.chess_base.specs.Men.{other, same_colour}
 use Rattle.chess_base.specs.Options.{list_if}
 use Rattle.chess_base.proofs.shared.Men.{same_colour-true}
 use Rattle.cecp_engine.specs.Items.{takes}
-use Rattle.cecp_engine.specs.Levels.{LevelSeen, time_left}
+use Rattle.cecp_engine.specs.Levels.{LevelSeen, allotted}
 use Rattle.chess_match.specs.Acts.{Act, IsMatch, is_over}
 use Rattle.chess_match.specs.Effects.{Match, Phase, Handshake, Setup, Opening, BeforeMove, AfterMove, Over, begins_turn, beginning, ends, enter, moved, opening}
 use Rattle.chess_match.specs.Lines.{SentLine, Says}
@@ -41,7 +41,7 @@ no_text false text = refl
 
 -- the clock that is sent in an opening, where the engine takes `time`
 abbrev last_shown : Rules → Bool → List ℕ → List ℕ
-last_shown r takes used = if takes then time_left r.level (length used) (sum used) / 10 ∷ [] else []
+last_shown r takes used = if takes then (allotted r.level (length used) - sum used) / 10 ∷ [] else []
 
 opening_times : (own : Bool) (r : Rules) (m : Match) (S : Colour) → flat_map (numbers own) (opening r m S)
     ≡ last_shown r (takes (codes "time") (m.seat S).items) (m.seat (whose own S)).used
@@ -56,14 +56,14 @@ end_times own r m reason S = grind arith
 
 centiseconds-snoc : (level : LevelSeen) (k spent : ℕ) (us : List ℕ) (u n t : ℕ) → n ≡ k + length us + 1 → t
     ≡ spent + sum us + u
-    → centiseconds level k spent (us ++ u ∷ []) ≡ centiseconds level k spent us ++ time_left level n t / 10 ∷ []
+    → centiseconds level k spent (us ++ u ∷ []) ≡ centiseconds level k spent us ++ (allotted level n - t) / 10 ∷ []
 centiseconds-snoc level k spent [] u n t e f =
     let a : n ≡ k + 1 = omega (arith, e) in
     let b : t ≡ spent + u = omega (arith, f) in
     rw (a, b) refl
 centiseconds-snoc level k spent (x ∷ us) u n t e f =
     let s : sum (x ∷ us) ≡ x + sum us = sum_by-cons (λ (y : ℕ). y) x us in
-    ap (λ (l : List ℕ). time_left level k spent / 10 ∷ l)
+    ap (λ (l : List ℕ). (allotted level k - spent) / 10 ∷ l)
     (centiseconds-snoc level (k + 1) (spent + x) us u n t (omega (arith, e)) (omega (arith, f, s)))
 
 -- all of a list, or all but its first
@@ -145,7 +145,7 @@ all_more whole r true used u =
     let s : sum (used ++ u ∷ []) ≡ sum used + u = sum-snoc used u in
     ap (λ (xs : List ℕ). from whole xs) (centiseconds-snoc r.level 0 0 used u (length (used ++ u ∷ []))
     (sum (used ++ u ∷ [])) (omega (arith, l)) (omega (arith, s)))
-    ∙ from-append whole r.level used (time_left r.level (length (used ++ u ∷ [])) (sum (used ++ u ∷ [])) / 10 ∷ [])
+    ∙ from-append whole r.level used ((allotted r.level (length (used ++ u ∷ [])) - sum (used ++ u ∷ [])) / 10 ∷ [])
 
 -- where S's clock that is shown to O changes, all was sent before, and the last is to be sent after; else it is as it
 -- was

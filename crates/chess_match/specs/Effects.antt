@@ -1,6 +1,7 @@
 -- What each event of a match does: the match after it, and the lines that each side is then sent. A definition with the
 -- name `.._row` is the effect of a line, or of one kind of line.
 use Rattle.std.specs.Prelude.{ℕ, ◌+◌, ◌-◌, ◌/◌, ◌==◌, ◌&&◌, nat_le, nat_lt, Bool, true, false, not, if◌then◌else◌, List, [], ◌∷◌, ◌++◌, length, codes, sum, Option, None, Some, is_some}
+use Rattle.std.specs.List.{list_any}
 use Rattle.std.specs.Option.{option_map_or}
 use Rattle.chess_base.specs.declared.man.Colour.{Colour}
 use Rattle.chess_base.specs.declared.man.Colour.TheVariants.{White, Black}
@@ -8,8 +9,8 @@ use Rattle.chess_base.specs.declared.man.Move.{Move}
 use Rattle.chess_base.specs.Men.{other, same_colour}
 use Rattle.chess_game.specs.Results.{result_text}
 use Rattle.cecp_engine.specs.EngineLines.{LineKind, Features, Moves, Resigns, OffersDraw, ClaimsDraw, ClaimsWin, Rejects, Answers, line_kind}
-use Rattle.cecp_engine.specs.Items.{Item, items_of, has_done, takes, plays_fischerandom}
-use Rattle.cecp_engine.specs.Levels.{time_left}
+use Rattle.cecp_engine.specs.Items.{Item, items_of, ends_handshake, takes, plays_fischerandom}
+use Rattle.cecp_engine.specs.Levels.{allotted}
 use Rattle.chess_match.specs.Events.{Event, Line, Opened, OutputEnds, FailsToRead, FailsToWrite, Seat}
 use Rattle.chess_match.specs.Reasons.{outcome_by_reason, comment_of}
 use Rattle.chess_match.specs.Rules.{Rules}
@@ -58,10 +59,10 @@ pub record Effect : Type 0 where
 
 -- ---- what is asked of a match
 
--- the milliseconds that the side `S` has left after the moves that it has made; the time of a turn in progress is not
--- deducted
+-- the milliseconds that the side `S` has left after the moves that it has made, at least 0; the time of a turn in
+-- progress is not deducted
 abbrev pub clock : Rules → Match → Colour → ℕ
-clock r m S = time_left r.level (length (m.seat S).used) (sum (m.seat S).used)
+clock r m S = allotted r.level (length (m.seat S).used) - sum (m.seat S).used
 
 -- the number of the `ping` that the side `S` is sent after the latest of its moves: n + 1 after the n-th; 1, the `ping`
 -- of its setup, if it has not moved yet. Its moves are counted by their times in `used`
@@ -261,7 +262,7 @@ with_answers side items e = record e { to = λ S. list_if (same_colour side S) (
 abbrev pub handshake_row : Rules → Colour → List Item → Match → Effect
 handshake_row r S items m =
     let m' = with_seat S (λ s. record s { items = s.items ++ items }) m in
-    with_answers S items (if has_done items then handshake_done r S m'
+    with_answers S items (if list_any ends_handshake items then handshake_done r S m'
     else if nat_le 1000 (m.count + 1) then ends r (Faulted S NoDone) m'
     else sends_nothing (record m' { count = m.count + 1 }))
 

@@ -1,11 +1,12 @@
 //! The core of a match, without devices.
 
 ghost use Rattle.std.specs.Prelude.{◌≡◌, ◌++◌, ◌∷◌, [], List, false, ◌+◌, ◌*◌, ◌≤◌, length};
+ghost use Rattle.std.specs.List.{list_any};
 ghost use Rattle.arrayvec.specs.ArrayVec.{array_vec_len};
 ghost use Rattle.chess_match.specs.declared.block.TheConstants.{ANSWERS_LEN};
 ghost use Rattle.cecp_engine.specs.Seen.{item_seen, features_of};
 ghost use Rattle.cecp_engine.specs.Items as feature_items;
-ghost use Rattle.cecp_engine.specs.Items.{items_of, has_done};
+ghost use Rattle.cecp_engine.specs.Items.{items_of, ends_handshake};
 ghost use Rattle.chess_match.specs.ties.Represents.{name_by, Represents};
 ghost use Rattle.chess_match.specs.Effects.{beginning};
 ghost use Rattle.chess_match.specs.Rules.{Rules};
@@ -70,7 +71,7 @@ pub(crate) const ENTRY: Actions = Actions {
 
 impl Player {
     // What is kept of an engine of which nothing is known yet.
-    #[tactic(auto, unfolding(crate::specs::ties::Represents::name_by, cecp_engine::specs::Items::last_value))]
+    #[tactic(auto, unfolding(crate::specs::ties::Represents::name_by))]
     fn new() -> Self
         ensures features { result.features ≡ features_of [] }
         ensures name { result.name ≡ name_by [] }
@@ -92,7 +93,7 @@ impl Player {
         ensures name { (items : List feature_items.Item) → self.old.name ≡ name_by items
             → self.new.name ≡ name_by (items ++ items_of text.now) }
         ensures offers { self.new.offers ≡ self.old.offers }
-        ensures done { result ≡ has_done (items_of text.now) }
+        ensures done { result ≡ list_any ends_handshake (items_of text.now) }
         ensures answers { block.new.items ≡ block.old.items ++ bytes_of (answers_to (items_of text.now)) }
         ensures len { array_vec_len block.new ≤ array_vec_len block.old + 4 * length text.now }
     {

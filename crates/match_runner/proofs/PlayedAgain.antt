@@ -1,5 +1,6 @@
 -- What a line does to a match by a clock that stands still; and what is sent when it ends the match.
 use Rattle.std.proofs.Common.{◌≡◌, ◌⊎◌, ℕ, ◌+◌, ◌-◌, Bool, true, false, List, [], ◌∷◌, ◌++◌, length, map, refl, ap, sym, ◌∙◌, subst, append_assoc, Option, None, Some, inl, inr, arith}
+use Rattle.std.specs.List.{list_any}
 use Rattle.std.specs.Option.{option_map_or}
 use Rattle.std.specs.Prelude.{if◌then◌else◌, nat_le, nat_lt, ◌==◌, codes}
 use Rattle.std.proofs.lemmas.Bool.Decides.{nat_tests}
@@ -12,7 +13,7 @@ use Rattle.chess_base.specs.Men.{other, same_colour}
 use Rattle.chess_base.specs.Options.{list_if}
 use Rattle.chess_game.specs.declared.verdicts.Verdict.{Verdict}
 use Rattle.cecp_engine.specs.EngineLines.{LineKind, Moves, Resigns, OffersDraw, ClaimsDraw, ClaimsWin, Rejects, Answers}
-use Rattle.cecp_engine.specs.Items.{Item, has_done}
+use Rattle.cecp_engine.specs.Items.{Item, ends_handshake}
 use Rattle.chess_match.specs.Effects.{Match, Phase, Handshake, Setup, Opening, BeforeMove, AfterMove, Over, Effect, after_move, flag_row, before_move, clock, ends, farewell, handshake_done, handshake_row, ignores, is_owed_move, items_said, judged, line_row, missing, move_line, move_row, moved, offer_row, ping_number, sends_nothing, sends_to, setup_done, setup_row, turn_row, was_sent_move, with_answers, with_seat}
 use Rattle.chess_match.specs.Acts.{awaits_line, is_over}
 use Rattle.chess_match.specs.Events.{Seat}
@@ -212,10 +213,10 @@ module _ (r : Rules) (S : Colour) (m : Match) (on : is_over m.phase ≡ false) w
   handshake : (items : List Item) → Again (handshake_row r S items m) (handshake_row r S items (again m))
   handshake items =
       subst (λ (n : Match). Again (handshake_row r S items m)
-      (with_answers S items (if has_done items then handshake_done r S n
+      (with_answers S items (if list_any ends_handshake items then handshake_done r S n
       else if nat_le 1000 (m.count + 1) then ends r (over_by.Faulted S NoDone) n
       else sends_nothing (record n { count = m.count + 1 })))) (seated_again S added m (λ s. refl))
-      (at (has_done items) (nat_le 1000 (m.count + 1)))
+      (at (list_any ends_handshake items) (nat_le 1000 (m.count + 1)))
     where
       added : Seat → Seat
       added s = record s { items = s.items ++ items }

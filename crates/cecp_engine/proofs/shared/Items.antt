@@ -6,12 +6,12 @@ use Rattle.std.proofs.lemmas.List.Sums.{prefix_len-le-length}
 use Rattle.std.specs.Prelude.{if◌then◌else◌, ◌==◌, ◌&&◌, ◌||◌, not, nat_lt, option_and_then}
 use Rattle.std.specs.Option.{option_map_or}
 use Rattle.std.specs.Str.{bytes_eq}
-use Rattle.chess_base.specs.Letters.{is_digit}
-use Rattle.text_lines.specs.Lines.{without_front_blanks}
+use Rattle.chess_base.specs.Letters.{byte, is_digit}
+use Rattle.text_lines.specs.Lines.{is_blank, without_front_blanks}
 use Rattle.text_lines.proofs.shared.Lines.{without_front_blanks-short}
 use Rattle.text_lines.specs.Words.{is_name_byte}
-use Rattle.std.specs.List.{prefix_len, take_while}
-use Rattle.cecp_engine.specs.Items.{Item, Value, Digits, Quoted, quote_at, value_of, may_follow_item, item_of, ends_handshake, first_items, items_of, has_done, last_said}
+use Rattle.std.specs.List.{list_all, position_or_len, prefix_len, take_while, list_any}
+use Rattle.cecp_engine.specs.Items.{Item, Value, Digits, Quoted, value_of, item_of, ends_handshake, first_items, items_of, last_said}
 
 -- ---- the last value
 
@@ -23,6 +23,10 @@ last_said-snoc f default name (j ∷ items) i =
     last_said-snoc f (if bytes_eq j.name name then f j.value else default) name items i
 
 -- ---- an item takes a byte
+
+-- the index of the first double quote; the text's length if there is none
+abbrev quote_at : List ℕ → ℕ
+quote_at text = position_or_len (λ c. c == byte "\"") text
 
 value_shorter : (text : List ℕ) (p : Value × List ℕ) → value_of text ≡ Some p → length p.1 < length text
 value_shorter [] p e = cc
@@ -54,7 +58,8 @@ unfolding after_first
 after_first-is c cs = take_all (length (c ∷ cs) - 1) cs (omega arith)
 
 -- a quote with no other after it is no value
-pub unclosed : (text : List ℕ) (at : ℕ) → get_or text 0 0 ≡ 34 → at ≡ quote_at (take (length text - 1) (drop 1 text))
+pub unclosed : (text : List ℕ) (at : ℕ) → get_or text 0 0 ≡ 34
+    → at ≡ position_or_len (λ c. c == byte "\"") (take (length text - 1) (drop 1 text))
     → length (take (length text - 1) (drop 1 text)) ≤ at → None ≡ value_of text
 unfolding after_first
 unclosed [] at h e k = refl
@@ -71,7 +76,7 @@ unclosed (c ∷ cs) at h e k =
 -- front. `None` if `rest` begins with no value, or anything but a space, a tab or the end comes right after the value
 abbrev with_value : List ℕ → List ℕ → Option (Item × List ℕ)
 with_value name rest =
-    option_and_then (λ (p : Value × List ℕ). if may_follow_item p.1 then Some
+    option_and_then (λ (p : Value × List ℕ). if list_all is_blank (take 1 p.1) then Some
     (record { name = name; value = p.0 }, without_front_blanks p.1) else None) (value_of rest)
 
 -- the item whose name is the first text, and whose `=` and value the second text begins with; and what follows these,
@@ -85,7 +90,7 @@ with_name _ _ = None
 abbrev item_after : List ℕ → List ℕ → Option (Item × List ℕ)
 item_after name rest =
     if length name == 0 || not (bytes_eq (take 1 rest) (61 ∷ [])) then None
-    else option_and_then (λ (p : Value × List ℕ). if may_follow_item p.1 then
+    else option_and_then (λ (p : Value × List ℕ). if list_all is_blank (take 1 p.1) then
     Some (record { name = name; value = p.0 }, without_front_blanks p.1) else None) (value_of (drop 1 rest))
 
 item_after-is : (name rest : List ℕ) → item_after name rest ≡ with_name name rest
@@ -119,11 +124,11 @@ name_or default None = default
 name_or default (Some p) = p.0.name
 
 with_value_shorter : (name rest : List ℕ) (v : Option (Value × List ℕ)) (p : Item × List ℕ) → value_of rest ≡ v
-    → option_and_then (λ (p : Value × List ℕ). if may_follow_item p.1 then
+    → option_and_then (λ (p : Value × List ℕ). if list_all is_blank (take 1 p.1) then
     Some (record { name = name; value = p.0 }, without_front_blanks p.1) else None) v ≡ Some p
     → (p.0.name ≡ name) × (length p.1 < length rest)
 with_value_shorter name rest None p is e = cc
-with_value_shorter name rest (Some q) p is e = by_test (may_follow_item q.1) e
+with_value_shorter name rest (Some q) p is e = by_test (list_all is_blank (take 1 q.1)) e
   where
     by_test : (b : Bool) → (if b then Some (record { name = name; value = q.0 }, without_front_blanks q.1) else None)
         ≡ Some p → (p.0.name ≡ name) × (length p.1 < length rest)
@@ -224,7 +229,7 @@ items_of-step text = at (length text) refl
 -- so far these were read of a text, and this is left
 pub record SoFar (text rest : List ℕ) (read : List Item) : Type 0 where
   pub items : items_of text ≡ read ++ items_of rest
-  pub going : has_done (items_of text) ≡ has_done (items_of rest)
+  pub going : list_any ends_handshake (items_of text) ≡ list_any ends_handshake (items_of rest)
 
 some_at : (rest : List ℕ) (p : Item × List ℕ) → item_of rest ≡ Some p → ends_handshake p.0 ≡ false
     → items_of rest ≡ p.0 ∷ items_of p.1
@@ -239,27 +244,24 @@ none_at rest e = items_of-step rest ∙ ap (items_by items_of) e
 
 pub so_far_more : (text rest : List ℕ) (items : List Item) (p : Item × List ℕ) → SoFar text rest items
     → item_of rest ≡ Some p → ends_handshake p.0 ≡ false → SoFar text p.1 (items ++ p.0 ∷ [])
-unfolding has_done
 so_far_more text rest items p s e f = record {
   items = s.items ∙ ap (λ (is : List Item). items ++ is) (some_at rest p e f)
       ∙ sym (append_assoc items (p.0 ∷ []) (items_of p.1));
-  going = s.going ∙ ap has_done (some_at rest p e f) ∙ rw f refl;
+  going = s.going ∙ ap (list_any ends_handshake) (some_at rest p e f) ∙ rw f refl;
 }
 
 pub so_far_done : (text rest : List ℕ) (items : List Item) (p : Item × List ℕ) → SoFar text rest items
     → item_of rest ≡ Some p → ends_handshake p.0 ≡ true
-    → (items_of text ≡ items ++ p.0 ∷ []) × (has_done (items_of text) ≡ true)
-unfolding has_done
+    → (items_of text ≡ items ++ p.0 ∷ []) × (list_any ends_handshake (items_of text) ≡ true)
 so_far_done text rest items p s e f = (
   s.items ∙ ap (λ (is : List Item). items ++ is) (last_at rest p e f),
-  s.going ∙ ap has_done (last_at rest p e f) ∙ rw f refl,
+  s.going ∙ ap (list_any ends_handshake) (last_at rest p e f) ∙ rw f refl,
 )
 
 pub so_far_none : (text rest : List ℕ) (items : List Item) → SoFar text rest items → item_of rest ≡ None
-    → (items_of text ≡ items) × (has_done (items_of text) ≡ false)
-unfolding has_done
+    → (items_of text ≡ items) × (list_any ends_handshake (items_of text) ≡ false)
 so_far_none text rest items s e = (
   s.items ∙ ap (λ (is : List Item). items ++ is) (none_at rest e) ∙ append-nil items,
   s.going
-      ∙ ap has_done (none_at rest e),
+      ∙ ap (list_any ends_handshake) (none_at rest e),
 )

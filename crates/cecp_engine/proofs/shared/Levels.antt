@@ -3,7 +3,7 @@ use Rattle.std.proofs.Common.{◌≡◌, ℕ, zero, suc, ◌+◌, ◌*◌, ◌/�
 use Rattle.std.proofs.Math.Nat.{div-mul-le_self, mul-le-mul_left}
 use Rattle.std.proofs.lemmas.Nat.{le-div}
 use Rattle.std.specs.Prelude.{if◌then◌else◌, ◌==◌}
-use Rattle.cecp_engine.specs.Levels.{LevelSeen, sessions, allotted}
+use Rattle.cecp_engine.specs.Levels.{LevelSeen, allotted}
 
 div_grows : (m k : ℕ) → 0 < m → k / m ≤ (k + 1) / m
 div_grows m k some = let low : k / m * m ≤ k = div-mul-le_self k m in le-div (k / m) (k + 1) m some (omega arith)
@@ -17,7 +17,7 @@ sessions_grow (suc m) k =
     rw e (omega arith)
 
 pub allotted_grows : (l : LevelSeen) (k : ℕ) → allotted l k ≤ allotted l (k + 1)
-unfolding allotted sessions
+unfolding allotted
 allotted_grows l k =
     let s : l.base * (if l.moves == 0 then 1 else 1 + k / l.moves) ≤ l.base *
     (if l.moves == 0 then 1 else 1 + (k + 1) / l.moves) = mul-le-mul_left l.base (sessions_grow l.moves k) in

@@ -1,8 +1,7 @@
 use Rattle.std.proofs.Common.{length, drop, take, ◌-◌, ◌≡◌, ◌≤◌}
 use Rattle.std.specs.List.{list_any, slice_split}
 use Rattle.std.specs.Str.{bytes_eq}
-use Rattle.cecp_engine.specs.Items.{is_comma_or_blank}
-use Rattle.cecp_engine.proofs.Pieces.{has_word_after}
+use Rattle.cecp_engine.proofs.Pieces.{is_comma_or_blank, has_word_after}
 use Rattle.cecp_engine.proofs.item.has_word.Given as goal
 
 abbrev pub invariant-loop-at : goal.invariant-loop-at

@@ -1,14 +1,14 @@
 -- A move in time keeps the sum within what the level gives, which never falls with a move more (Allotment.within_more).
 -- That is 2 ^ 62 milliseconds at most, so the sum is no overflow (Allotment.room_more).
-use Rattle.std.proofs.Common.{arith, sym, ◌≤◌, ◌<◌, ◌+◌}
-use Rattle.cecp_engine.specs.Levels.{time_left, allotted}
+use Rattle.std.proofs.Common.{arith, sym, ◌≤◌, ◌<◌, ◌+◌, ◌-◌}
+use Rattle.cecp_engine.specs.Levels.{allotted}
 use Rattle.cecp_engine.proofs.Allotment.{within_more, room_more}
 use Rattle.cecp_engine.proofs.clocks.Clocks.charge.Goals as goal
 use Rattle.chess_base.specs.declared.setup.TheConstants.{MOST_MOVES}
 
 pub overflow_add-self-in-White : goal.overflow_add-self-in-White
 overflow_add-self-in-White c =
-    let t : c.args.used ≤ time_left c.self.inside.level c.self.inside.white.moves c.self.inside.white.used =
+    let t : c.args.used ≤ allotted c.self.inside.level c.self.inside.white.moves - c.self.inside.white.used =
     rw (sym c.self.view_is, c.in-White.is) at c.requires.in_time in
     let b : allotted c.self.inside.level c.self.inside.white.moves ≤ 4611686018427387904 =
     rw (← c.allotted-bound.ensures.value) c.allotted-bound.ensures.bound in
@@ -18,14 +18,14 @@ overflow_add-self-in-White c =
 
 pub invariant_of-self : goal.invariant_of-self
 invariant_of-self c =
-    let t : c.args.used ≤ time_left c.self.inside.level c.self.inside.white.moves c.self.inside.white.used =
+    let t : c.args.used ≤ allotted c.self.inside.level c.self.inside.white.moves - c.self.inside.white.used =
     rw (sym c.self.view_is, c.in-White.is) at c.requires.in_time in
     let f : c.self.inside.white.moves < MOST_MOVES = rw (sym c.self.view_is, c.in-White.is) at c.requires.few in
     (within_more c.self.inside.level _ c.args.used c.self.invariant.0 t f, c.self.invariant.1)
 
 pub overflow_add-self-in-Black-2 : goal.overflow_add-self-in-Black-2
 overflow_add-self-in-Black-2 c =
-    let t : c.args.used ≤ time_left c.self.inside.level c.self.inside.black.moves c.self.inside.black.used =
+    let t : c.args.used ≤ allotted c.self.inside.level c.self.inside.black.moves - c.self.inside.black.used =
     rw (sym c.self.view_is, c.in-Black.is) at c.requires.in_time in
     let b : allotted c.self.inside.level c.self.inside.black.moves ≤ 4611686018427387904 =
     rw (← c.allotted-bound-in-Black.ensures.value) c.allotted-bound-in-Black.ensures.bound in
@@ -35,7 +35,7 @@ overflow_add-self-in-Black-2 c =
 
 pub invariant_of-self-in-Black : goal.invariant_of-self-in-Black
 invariant_of-self-in-Black c =
-    let t : c.args.used ≤ time_left c.self.inside.level c.self.inside.black.moves c.self.inside.black.used =
+    let t : c.args.used ≤ allotted c.self.inside.level c.self.inside.black.moves - c.self.inside.black.used =
     rw (sym c.self.view_is, c.in-Black.is) at c.requires.in_time in
     let f : c.self.inside.black.moves < MOST_MOVES = rw (sym c.self.view_is, c.in-Black.is) at c.requires.few in
     (c.self.invariant.0, within_more c.self.inside.level _ c.args.used c.self.invariant.1 t f)
