@@ -113,16 +113,11 @@ abbrev pub with_offsets : ℕ → List (List ℕ) → List Piece
 with_offsets offset [] = []
 with_offsets offset (bytes ∷ rest) = piece_at offset bytes ∷ with_offsets (offset + length bytes) rest
 
--- the pieces of an input that are known if this text follows at this offset, where a piece begins: all pieces of the
--- text if the input ends after it (`ended`), otherwise all but the last, which may go on
-abbrev pub pieces_from : Bool → ℕ → List ℕ → List Piece
-pieces_from ended offset text =
+-- the pieces of an input that are known if this text follows at this offset, where a piece begins (at 0 its first): all
+-- pieces of the text if the input ends after it (`ended`), otherwise all but the last, which may go on
+unfoldable pub pieces : Bool → ℕ → List ℕ → List Piece
+pieces ended offset text =
     let all = cut text in with_offsets offset (if ended then all else take (length all - 1) all)
-
--- the pieces that are known of an input whose first bytes are this text: all, if it has no more bytes (`ended`),
--- otherwise all but the last, which may go on
-unfoldable pub pieces : Bool → List ℕ → List Piece
-pieces ended text = pieces_from ended 0 text
 
 -- ---- what was read of an input
 

@@ -2,7 +2,7 @@
 use Rattle.std.specs.Prelude.{◌≡◌, ℕ, ◌+◌, Bool, true, false, List, [], ◌∷◌, ◌++◌, length, Result, Ok, Err}
 use Rattle.byte_devices.specs.Devices.{InputState}
 use Rattle.pgn_pieces.specs.declared.pieces.PieceFault.{PieceFault}
-use Rattle.pgn_pieces.specs.Pieces.{Piece, piece_at, pieces_from, HasRead, IsCause}
+use Rattle.pgn_pieces.specs.Pieces.{Piece, piece_at, pieces, HasRead, IsCause}
 
 -- how far an input is cut: the offset at which the current piece begins, its bytes so far, the bytes that were read
 -- after these, and whether the input has ended. If the piece is too long, `part` is only some bytes with the same
@@ -28,7 +28,7 @@ current s = piece_at s.offset s.part
 -- the pieces that are still to come of a text: the first of them begins at that offset, `part` is what was read of it,
 -- and the last argument is the text after that part. `ended`: the input ends there; if not, the last piece is left out
 abbrev pub pieces_after_part : Bool → ℕ → List ℕ → List ℕ → List Piece
-pieces_after_part ended offset part text = pieces_from ended offset (part ++ text)
+pieces_after_part ended offset part text = pieces ended offset (part ++ text)
 
 -- the pieces that are still to come in the state `s`, the current one first, if the bytes `rest` follow those that were
 -- read. `ended`: the input ends after them; if not, the last piece may go on and is left out

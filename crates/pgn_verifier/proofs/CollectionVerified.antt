@@ -94,7 +94,7 @@ module _ (options : VerifyOptions) (r r' r'' : InputState) (w w' : OutputState) 
   known false = tt
 
   all_known : (law : PiecesAreCut) (next : Next s s' r r'' so.text (Ok true))
-      → pieces s'.ended (so.text ++ next.0) ≡ (so.done ++ current s' ∷ []) ++ pieces_held s'.ended (past_piece s') []
+      → pieces s'.ended 0 (so.text ++ next.0) ≡ (so.done ++ current s' ∷ []) ++ pieces_held s'.ended (past_piece s') []
   all_known law next =
       law s'.ended (so.text ++ next.0)
       ∙ ap (pieces_after_part s'.ended 0 []) (sym (append-nil (so.text ++ next.0)))

@@ -195,5 +195,5 @@ are_collection_reports strict ended text = (reports_in strict, reports_are_in st
 pub only_collection_reports : (strict ended : Bool) (text : List ℕ) (reports : List Report)
     → AreCollectionReports strict ended text reports → reports ≡ collection_reports strict ended text
 only_collection_reports strict ended text reports (by_piece, each, is) =
-    is ∙ ap (λ f. flat_map f (pieces ended text))
+    is ∙ ap (λ f. flat_map f (pieces ended 0 text))
     (fun_ext (λ piece. only_reports_in strict piece (by_piece piece) (each piece)))

@@ -16,7 +16,8 @@ use Rattle.pgn_verifier.specs.Reports.{Report, AreReportsIn, report_lines, count
 -- `by_piece` gives the reports on any one piece
 abbrev pub AreCollectionReports : Bool → Bool → List ℕ → List Report → Type 0
 AreCollectionReports strict ended text reports = (by_piece : Piece → List Report)
-    × ((piece : Piece) → AreReportsIn strict piece (by_piece piece)) × (reports ≡ flat_map by_piece (pieces ended text))
+    × ((piece : Piece) → AreReportsIn strict piece (by_piece piece))
+    × (reports ≡ flat_map by_piece (pieces ended 0 text))
 
 -- all that is written of a collection of which `text` was read, if its games have these reports: their lines, numbered
 -- from 1, and at the end the line of counts if the whole collection was read (`ended`)

@@ -14,4 +14,4 @@ pub record IsInPlace (text : List ℕ) (before : List Piece) (piece : Piece) : T
 -- each piece of a text is in its place; `ended`: the text is all of the input
 abbrev pub PiecesAreInPlace : Type 0
 PiecesAreInPlace = (ended : Bool) (text : List ℕ) (before : List Piece) (piece : Piece) (after : List Piece)
-    → pieces ended text ≡ before ++ piece ∷ after → IsInPlace text before piece
+    → pieces ended 0 text ≡ before ++ piece ∷ after → IsInPlace text before piece

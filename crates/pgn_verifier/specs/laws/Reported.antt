@@ -57,4 +57,4 @@ reports_in strict piece = option_map_or (reports_on strict piece.offset) piece.b
 -- the reports on the games of a collection of which this text was read: on all its pieces, if the text is all of it
 -- (`ended`), else on all but the last. `strict`: results are compared
 abbrev pub collection_reports : Bool → Bool → List ℕ → List Report
-collection_reports strict ended text = flat_map (reports_in strict) (pieces ended text)
+collection_reports strict ended text = flat_map (reports_in strict) (pieces ended 0 text)
