@@ -14,7 +14,7 @@ use Rattle.chess_game.specs.declared.verdicts.Verdict.{Verdict}
 use Rattle.cecp_engine.specs.EngineLines.{LineKind, Features, Moves, Resigns, OffersDraw, ClaimsDraw, ClaimsWin, Rejects, Answers, SaysElse}
 use Rattle.cecp_engine.specs.Items.{Item, has_done, plays_fischerandom, takes}
 use Rattle.chess_match.specs.Acts.{awaits_line}
-use Rattle.chess_match.specs.Effects.{Match, Phase, Handshake, Setup, Opening, BeforeMove, AfterMove, Over, Effect, after_move, before_move, begins_turn, clock, ends, enter, flag_row, handshake_done, handshake_lines, handshake_row, ignores, items_said, judged, line_row, missing, move_row, moved, offer_row, ping_number, sends_nothing, sends_to, setup_done, setup_row, turn_row, was_sent_move, with_answers, with_seat}
+use Rattle.chess_match.specs.Effects.{Match, Phase, Handshake, Setup, Opening, BeforeMove, AfterMove, Over, Effect, after_move, before_move, begins_turn, clock, ends, enter, flag_row, handshake_done, handshake_lines, handshake_row, ignores, items_said, judged, line_row, missing, move_row, moved, offer_row, ping_number, sends_nothing, sends_to, setup_done, setup_row, turn_row, with_answers, with_seat}
 use Rattle.chess_match.specs.Lines.{Says, ping, setup_lines}
 use Rattle.chess_match.specs.Reasons.{is_write_fault_of}
 use Rattle.chess_match.specs.Rules.{Rules}
@@ -153,7 +153,7 @@ module _ (r : Rules) (S : Colour) (kind : LineKind) (moment : ℕ) (m : Match) (
         at : (b : Bool) → Q (ends r (if b then ClaimsFalsely S else over_by.Resigns S) m)
         at true = l.stops (turn_done m.phase on) (ClaimsFalsely S) ((λ O. refl), (λ c e. cc), refl)
         at false = l.stops (turn_done m.phase on) (over_by.Resigns S) ((λ O. refl), (λ c e. cc), refl)
-    turn Rejects = by_test Q (was_sent_move m S) (λ h. l.stops (turn_done m.phase on) (RejectsLegalMove S)
+    turn Rejects = by_test Q (nat_lt 0 (length (m.seat (other S)).used)) (λ h. l.stops (turn_done m.phase on) (RejectsLegalMove S)
         ((λ O. refl), (λ c e. cc), refl))
         (λ h. ignored (turn_done m.phase on) (l.counts on none))
     turn (Features t) = ignored (turn_done m.phase on) (l.counts on none)

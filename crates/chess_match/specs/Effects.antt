@@ -68,11 +68,6 @@ clock r m S = time_left r.level (length (m.seat S).used) (sum (m.seat S).used)
 abbrev pub ping_number : Match → Colour → ℕ
 ping_number m S = length (m.seat S).used + 1
 
--- whether the side `S` was ever sent a move. What is tested is whether the other side has made one (`used` has a time
--- for each). Both are the same in a turn of `S`, where this is asked: by then `S` was sent each move of the other side
-abbrev pub was_sent_move : Match → Colour → Bool
-was_sent_move m S = nat_lt 0 (length (m.seat (other S)).used)
-
 -- what an engine that sent these items lacks for the match, the first of: `ping=1`; `setboard=1`, if the start's FEN is
 -- to be sent; for Chess960, `fischerandom` in its last item `variants` (an engine without an item `variants` is taken
 -- to play it). `None` if it lacks nothing
@@ -189,8 +184,10 @@ turn_row r S ClaimsDraw m = option_map_or (λ claim. ends r (Claimed claim) m) (
 -- `1-0` or `0-1`: `S` loses, by a false claim if it names itself the winner (a mate ends the match without a claim),
 -- else by resigning
 turn_row r S (ClaimsWin winner) m = ends r (if same_colour winner S then ClaimsFalsely S else over_by.Resigns S) m
--- `Illegal move`: `S` loses, but if it was never sent a move, the line is ignored
-turn_row r S Rejects m = if was_sent_move m S then ends r (RejectsLegalMove S) m else ignores r S m
+-- `Illegal move`: `S` loses, but if it was never sent a move, the line is ignored. What is tested is whether the other
+-- side has made a move (`used` has a time for each): in its turn `S` was sent each of these
+turn_row r S Rejects m =
+    if nat_lt 0 (length (m.seat (other S)).used) then ends r (RejectsLegalMove S) m else ignores r S m
 -- any other line is ignored
 turn_row r S _ m = ignores r S m
 

@@ -13,7 +13,7 @@ use Rattle.chess_base.specs.Options.{list_if}
 use Rattle.chess_game.specs.declared.verdicts.Verdict.{Verdict}
 use Rattle.cecp_engine.specs.EngineLines.{LineKind, Moves, Resigns, OffersDraw, ClaimsDraw, ClaimsWin, Rejects, Answers}
 use Rattle.cecp_engine.specs.Items.{Item, has_done}
-use Rattle.chess_match.specs.Effects.{Match, Phase, Handshake, Setup, Opening, BeforeMove, AfterMove, Over, Effect, after_move, flag_row, before_move, clock, ends, farewell, handshake_done, handshake_row, ignores, is_owed_move, items_said, judged, line_row, missing, move_line, move_row, moved, offer_row, ping_number, sends_nothing, sends_to, setup_done, setup_row, turn_row, was_sent_move, with_answers, with_seat}
+use Rattle.chess_match.specs.Effects.{Match, Phase, Handshake, Setup, Opening, BeforeMove, AfterMove, Over, Effect, after_move, flag_row, before_move, clock, ends, farewell, handshake_done, handshake_row, ignores, is_owed_move, items_said, judged, line_row, missing, move_line, move_row, moved, offer_row, ping_number, sends_nothing, sends_to, setup_done, setup_row, turn_row, with_answers, with_seat}
 use Rattle.chess_match.specs.Acts.{awaits_line, is_over}
 use Rattle.chess_match.specs.Events.{Seat}
 use Rattle.chess_match.specs.Rules.{Rules}
@@ -164,7 +164,7 @@ module _ (r : Rules) (S : Colour) (m : Match) (on : is_over m.phase ≡ false) w
       at false = over_again r (over_by.Resigns S) m (refl, λ c. refl)
   in_turn Rejects =
       rw (length-map {B = ℕ} (m.seat (other S)).used (λ u. 0))
-      (test_again (was_sent_move m S) _ _ _ _ (over_again r (over_by.RejectsLegalMove S) m (refl, λ c. refl)) ignored)
+      (test_again (nat_lt 0 (length (m.seat (other S)).used)) _ _ _ _ (over_again r (over_by.RejectsLegalMove S) m (refl, λ c. refl)) ignored)
   in_turn _ = ignored
 
   -- the match after a move
