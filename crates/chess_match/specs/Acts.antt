@@ -77,7 +77,7 @@ IsMatchFrom r m (block ∷ due) (Sends sent ∷ H) final = (block ≡ sent) × I
 -- is the one that reports the end to the other side (its `farewell`). `next` is the new state, and the blocks then due
 IsMatchFrom r m (block ∷ due) (SendFails sent ∷ H) final =
     let done = effect r m (FailsToWrite sent.to) in
-    let next = if is_over m.phase then (m, due) else (done.after, blocks_from White done.to) in
+    let next : Match × List Block = if is_over m.phase then (m, due) else (done.after, blocks_from White done.to) in
     (block ≡ sent) × IsMatchFrom r next.0 next.1 H final
 -- no block is due: an event that may come in this phase happens. Its effect gives the new state and the blocks that are
 -- then due
