@@ -43,7 +43,7 @@ ping n = Says (codes "ping " ++ decimal n)
 
 -- the lines that set an engine up for a game by the rules `r`, in this order: `new`, `variant fischerandom` if the game
 -- is of Chess960, `level` with the time control, as in `level 40 5 0`, `nopost`, `easy`, `force`, `setboard FEN` except
--- for the initial position of normal chess, which `new` sets up, `ping 1`
+-- for the initial position of normal chess (which `new` sets up), `ping 1`
 unfoldable pub setup_lines : Rules → List SentLine
 setup_lines r = Says (codes "new") ∷ (list_if (is_fischerandom r.variant) (Says (codes "variant fischerandom") ∷ [])
     ++ (Says (codes "level " ++ level_text r.level) ∷ Says (codes "nopost") ∷ Says (codes "easy") ∷ Says (codes "force")
