@@ -82,8 +82,8 @@ setup_of plan = record { start = plan.start; level = plan.level }
 -- those of the same acts `H`, which ended for the same reason. Which engines played it is not said here
 abbrev pub IsOfPlan : GamesPlan → GameRecord → Type 0
 IsOfPlan plan played = (played.before.game.limit ≡ MOST_MOVES)
-    × (H : List Act) × (reason : Reason) × (notes_given reason H ≡ played.notes)
-    × PlayedBy H reason (setup_of plan) played.end played.before played.after
+    × ((H : List Act) × (reason : Reason) × (notes_given reason H ≡ played.notes)
+    × PlayedBy H reason (setup_of plan) played.end played.before played.after)
 
 -- the PGN of the game `played`, which has this number: its tags, and its moves and result. `[]`: no line has a prefix
 abbrev pub game_text : GamesPlan → ℕ → GameRecord → List ℕ
