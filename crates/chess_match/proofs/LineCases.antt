@@ -15,7 +15,7 @@ use Rattle.chess_game.specs.declared.verdicts.Verdict.{Verdict}
 use Rattle.cecp_engine.specs.EngineLines.{LineKind, Features, Moves, Resigns, OffersDraw, ClaimsDraw, ClaimsWin, Rejects, Answers, SaysElse}
 use Rattle.cecp_engine.specs.Items.{Item, ends_handshake, plays_fischerandom, takes}
 use Rattle.chess_match.specs.Acts.{awaits_line}
-use Rattle.chess_match.specs.Effects.{Match, Phase, Handshake, Setup, Opening, BeforeMove, AfterMove, Over, Effect, after_move, before_move, begins_turn, clock, ends, enter, flag_row, handshake_done, handshake_lines, handshake_row, ignores, items_said, judged, line_row, missing, move_row, moved, offer_row, ping_number, sends_nothing, sends_to, setup_done, setup_row, turn_row, was_sent_move, with_answers, with_seat}
+use Rattle.chess_match.specs.Effects.{Match, Phase, Handshake, Setup, Opening, BeforeMove, AfterMove, Over, Effect, before_move, begins_turn, clock, ends, enter, flag_row, handshake_done, handshake_lines, handshake_row, ignores, items_said, judged, line_row, missing, move_row, moved, offer_row, ping_number, sends_nothing, sends_to, setup_done, turn_row, with_answers, with_seat}
 use Rattle.chess_match.specs.Lines.{Says, ping, setup_lines}
 use Rattle.chess_match.specs.Reasons.{is_write_fault_of}
 use Rattle.chess_match.specs.Rules.{Rules}
@@ -124,9 +124,9 @@ misses r items = if_fault (not (takes (codes "ping") items)) (Some NoPing) _ (λ
     (if_fault (is_some r.start_fen && not (takes (codes "setboard") items)) (Some NoSetboard) _ (λ c O. refl)
     (if_fault (is_fischerandom r.variant && not (plays_fischerandom items)) (Some NoVariant) None (λ c O. refl) tt))
 
-setup_by_pong : (r : Rules) (S : Colour) (kind : LineKind) (m : Match)
-    → setup_row r S kind m ≡ (if is_pong 1 kind then setup_done r S m else ignores r S m)
-setup_by_pong r S kind m = grind arith
+setup_by_pong : (r : Rules) (S : Colour) (kind : LineKind) (moment : ℕ) (m : Match)
+    → line_row r (Setup S) kind moment m ≡ (if is_pong 1 kind then setup_done r S m else ignores r S m)
+setup_by_pong r S kind moment m = grind arith
 
 module _ (r : Rules) (S : Colour) (kind : LineKind) (moment : ℕ) (m : Match) (Q : Effect → Type 0)
     (l : LineCases r S kind moment m Q) where
@@ -155,7 +155,7 @@ module _ (r : Rules) (S : Colour) (kind : LineKind) (moment : ℕ) (m : Match) (
         at : (b : Bool) → Q (ends r (if b then ClaimsFalsely S else over_by.Resigns S) m)
         at true = l.stops (turn_done m.phase on) (ClaimsFalsely S) ((λ O. refl), (λ c e. cc), refl)
         at false = l.stops (turn_done m.phase on) (over_by.Resigns S) ((λ O. refl), (λ c e. cc), refl)
-    turn Rejects = by_test Q (was_sent_move m S) (λ h. l.stops (turn_done m.phase on) (RejectsLegalMove S)
+    turn Rejects = by_test Q (nat_lt 0 (length (m.seat (other S)).used)) (λ h. l.stops (turn_done m.phase on) (RejectsLegalMove S)
         ((λ O. refl), (λ c e. cc), refl))
         (λ h. ignored (turn_done m.phase on) (l.counts on none))
     turn (Features t) = ignored (turn_done m.phase on) (l.counts on none)
@@ -200,7 +200,7 @@ module _ (r : Rules) (S : Colour) (kind : LineKind) (moment : ℕ) (m : Match) (
       at false = l.stops done (Forfeits S) ((λ O. refl), (λ c e. cc), refl)
 
   -- after its move
-  after : m.phase ≡ AfterMove S → (k : LineKind) → kind ≡ k → Q (after_move r S k m)
+  after : m.phase ≡ AfterMove S → (k : LineKind) → kind ≡ k → Q (line_row r (AfterMove S) k moment m)
   after p (Moves t) e = l.stops (ap handshakes_done p) (MovesOutOfTurn S) ((λ O. refl), (λ c e. cc), refl)
   after p (Answers n) e = by_test Q (n == ping_number m S) (λ h. l.passes p (said_none (Answers n) e refl))
       (λ h. ignored (ap handshakes_done p) (l.counts (ap in_turn p) (said_none (Answers n) e refl)))
@@ -222,8 +222,8 @@ module _ (r : Rules) (S : Colour) (kind : LineKind) (moment : ℕ) (m : Match) (
       at (Some v) h = l.setup_decides p v h
       at None h = l.setup_last p e pong h
 
-  setup : m.phase ≡ Setup S → Q (setup_row r S kind m)
-  setup p = subst Q (sym (setup_by_pong r S kind m))
+  setup : m.phase ≡ Setup S → Q (line_row r (Setup S) kind moment m)
+  setup p = subst Q (sym (setup_by_pong r S kind moment m))
       (by_test Q (is_pong 1 kind) (set_up S refl p) (λ h. ignored (ap handshakes_done p) (l.setup_counts p h)))
 
   -- in its handshake
@@ -259,7 +259,7 @@ line_cases r S kind moment m Q aw l = at m.phase refl aw
     at : (p : Phase) → m.phase ≡ p → awaits_line p S ≡ true → Q (line_row r p kind moment m)
     at (Handshake c) e h = subst (λ (x : Colour). Q (handshake_row r x (items_said kind) m))
         (sym (same_colour-true c S h)) (handshake r S kind moment m Q l (here m.phase c Handshake e h))
-    at (Setup c) e h = subst (λ (x : Colour). Q (setup_row r x kind m)) (sym (same_colour-true c S h))
+    at (Setup c) e h = subst (λ (x : Colour). Q (line_row r (Setup x) kind moment m)) (sym (same_colour-true c S h))
         (setup r S kind moment m Q l (here m.phase c Setup e h))
     at (BeforeMove c opened) e h = subst (λ (x : Colour). Q (line_row r (BeforeMove x opened) kind moment m))
         (sym (same_colour-true c S h))
@@ -267,7 +267,7 @@ line_cases r S kind moment m Q aw l = at m.phase refl aw
         (λ late. flagged r S kind moment m Q l (ap handshakes_done e))
         (λ timely. before r S kind moment m Q l opened (here m.phase c (λ x. BeforeMove x opened) e h)
         (ltb-false (clock r m S) (moment - opened) timely) kind refl))
-    at (AfterMove c) e h = subst (λ (x : Colour). Q (after_move r x kind m)) (sym (same_colour-true c S h))
+    at (AfterMove c) e h = subst (λ (x : Colour). Q (line_row r (AfterMove x) kind moment m)) (sym (same_colour-true c S h))
         (after r S kind moment m Q l (here m.phase c AfterMove e h) kind refl)
     at (Opening c) e h = absurd cc
     at (Over reason) e h = absurd cc

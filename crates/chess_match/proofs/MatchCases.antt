@@ -41,10 +41,7 @@ module _ (r : Rules) (P : Match → List Block → List Act → Match → Type 0
   by_acts m (b ∷ due) (Sends s ∷ H) (q, g) = subst (λ (x : Block). P m (b ∷ due) (Sends x ∷ H) (match_after r m H)) q
       (k.sends m (match_after r m H) b due H (by_acts m due H g))
   by_acts m (b ∷ due) (SendFails s ∷ H) (q, g) = subst (λ (x : Block). P m (b ∷ due) (SendFails x ∷ H)
-      (let n : Match × List Block = if is_over m.phase then (m, []) else (
-        (effect r m (FailsToWrite x.to)).after,
-        blocks_from White (effect r m (FailsToWrite x.to)).to,
-      ) in match_after r n.0 H)) q
+      (match_after r (if is_over m.phase then m else (effect r m (FailsToWrite x.to)).after) H)) q
       (at (is_over m.phase) refl (λ m' due' h. by_acts m' due' H h)
       (subst (λ (x : Block). let n : Match × List Block = if is_over m.phase then (m, due) else (
         (effect r m (FailsToWrite x.to)).after,
@@ -58,10 +55,8 @@ module _ (r : Rules) (P : Match → List Block → List Act → Match → Type 0
             (effect r m (FailsToWrite b.to)).after,
             blocks_from White (effect r m (FailsToWrite b.to)).to,
           ) in IsMatchFrom r n.0 n.1 (H ++ K) final)
-          → (let n : Match × List Block = if x then (m, []) else (
-            (effect r m (FailsToWrite b.to)).after,
-            blocks_from White (effect r m (FailsToWrite b.to)).to,
-          ) in P m (b ∷ due) (SendFails b ∷ H) (match_after r n.0 H))
+          → P m (b ∷ due) (SendFails b ∷ H)
+          (match_after r (if x then m else (effect r m (FailsToWrite b.to)).after) H)
       at true o more h = k.fails_late m (match_after r m H) b due H o (more m due h)
       at false o more h = k.fails m (match_after r (effect r m (FailsToWrite b.to)).after H) b due H o
           (more (effect r m (FailsToWrite b.to)).after (blocks_from White (effect r m (FailsToWrite b.to)).to) h)

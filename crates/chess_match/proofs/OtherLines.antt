@@ -6,7 +6,7 @@ use Rattle.chess_base.specs.declared.man.Colour.{Colour}
 use Rattle.cecp_engine.specs.Seen.{seen}
 use Rattle.cecp_engine.specs.declared.engine_line.EngineLine.{EngineLine}
 use Rattle.cecp_engine.specs.declared.engine_line.EngineLine.TheVariants.{Features, Move, Resign, Offer, Draw, Win, Rejection, Pong}
-use Rattle.chess_match.specs.Effects.{Match, after_move, before_move, ignores, items_said, setup_row, turn_row}
+use Rattle.chess_match.specs.Effects.{Match, Setup, AfterMove, before_move, ignores, items_said, line_row, turn_row}
 use Rattle.chess_match.specs.Rules.{Rules}
 
 -- only a `feature` line has items
@@ -15,9 +15,9 @@ pub no_items_said : (line : EngineLine) → ((text : Bor (List ℕ)) → line �
 no_items_said line h1 = grind arith
 
 -- in a setup, a line that is no answer to a ping
-pub setup_other : (r : Rules) (S : Colour) (line : EngineLine) (n : Match) → ((k : ℕ) → line ≡ Pong k → ⊥)
-    → setup_row r S (seen line) n ≡ ignores r S n
-setup_other r S line n h1 = grind arith
+pub setup_other : (r : Rules) (S : Colour) (line : EngineLine) (moment : ℕ) (n : Match) → ((k : ℕ) → line ≡ Pong k → ⊥)
+    → line_row r (Setup S) (seen line) moment n ≡ ignores r S n
+setup_other r S line moment n h1 = grind arith
 
 -- before its move, a side's line that is no move is one that means the same after it
 pub before_other : (r : Rules) (S : Colour) (line : EngineLine) (used : ℕ) (n : Match)
@@ -26,10 +26,10 @@ pub before_other : (r : Rules) (S : Colour) (line : EngineLine) (used : ℕ) (n 
 before_other r S line used n h1 = grind arith
 
 -- after its move, a line that is neither a move nor an answer to a ping
-pub after_other : (r : Rules) (S : Colour) (line : EngineLine) (n : Match)
+pub after_other : (r : Rules) (S : Colour) (line : EngineLine) (moment : ℕ) (n : Match)
     → ((text : Bor (List ℕ)) → line ≡ Move text → ⊥) → ((k : ℕ) → line ≡ Pong k → ⊥)
-    → after_move r S (seen line) n ≡ turn_row r S (seen line) n
-after_other r S line n h1 h2 = grind arith
+    → line_row r (AfterMove S) (seen line) moment n ≡ turn_row r S (seen line) n
+after_other r S line moment n h1 h2 = grind arith
 
 -- a line that means nothing in a turn
 pub ignored_other : (r : Rules) (S : Colour) (line : EngineLine) (n : Match) → (line ≡ Resign → ⊥)

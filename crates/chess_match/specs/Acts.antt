@@ -67,15 +67,6 @@ is_over _ = false
 abbrev pub blocks_after : Colour → Effect → List Block
 blocks_after S done = blocks_from (if is_over done.after.phase then White else S) done.to
 
--- what follows when a block for the side `S` could not be sent: the state of the match then, and the blocks that are
--- then due. Before the failure the state was `m`, and `due` were the blocks after the one that failed. If the match was
--- already over, its state stays, and `due` is still sent. Otherwise the failure ends the match: nothing of `due` is
--- sent, and the only block due is the one that reports the end to the other side (its `farewell`)
-abbrev pub after_failed_send : Rules → Match → List Block → Colour → Match × List Block
-after_failed_send r m due S =
-    let done = effect r m (FailsToWrite S) in
-    if is_over m.phase then (m, due) else (done.after, blocks_from White done.to)
-
 -- these acts, in order, are the rest of a match by the rules `r`: before them its state is `m`, and the blocks `due`
 -- are still to be sent; after them it is over, in the state `final`. Each of the first three equations is about the
 -- first act: it says when it may come, and from which state and with which blocks due the acts `H` after it are then
@@ -83,10 +74,13 @@ after_failed_send r m due S =
 abbrev pub IsMatchFrom : Rules → Match → List Block → List Act → Match → Type 0
 -- a block is due: the first one due is sent. The state stays, and the other blocks are still due
 IsMatchFrom r m (block ∷ due) (Sends sent ∷ H) final = (block ≡ sent) × IsMatchFrom r m due H final
--- a block is due, and sending the first one due fails: `after_failed_send` gives the new state (`next.0`) and the
--- blocks that are then due (`next.1`)
+-- a block is due, and sending the first one due fails. If the match was already over, its state stays, and the other
+-- blocks (`due`) are still sent. Otherwise the failure ends the match: nothing of `due` is sent, and the only block due
+-- is the one that reports the end to the other side (its `farewell`). `next` is the new state, and the blocks then due
 IsMatchFrom r m (block ∷ due) (SendFails sent ∷ H) final =
-    let next = after_failed_send r m due sent.to in (block ≡ sent) × IsMatchFrom r next.0 next.1 H final
+    let done = effect r m (FailsToWrite sent.to) in
+    let next : Match × List Block = if is_over m.phase then (m, due) else (done.after, blocks_from White done.to) in
+    (block ≡ sent) × IsMatchFrom r next.0 next.1 H final
 -- no block is due: an event that may come in this phase happens. Its effect gives the new state and the blocks that are
 -- then due
 IsMatchFrom r m [] (Happens event ∷ H) final =

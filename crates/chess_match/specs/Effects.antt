@@ -69,11 +69,6 @@ clock r m S = allotted r.level (length (m.seat S).used) - sum (m.seat S).used
 abbrev pub ping_number : Match → Colour → ℕ
 ping_number m S = length (m.seat S).used + 1
 
--- whether the side `S` was ever sent a move. What is tested is whether the other side has made one (`used` has a time
--- for each). Both are the same in a turn of `S`, where this is asked: by then `S` was sent each move of the other side
-abbrev pub was_sent_move : Match → Colour → Bool
-was_sent_move m S = nat_lt 0 (length (m.seat (other S)).used)
-
 -- what an engine that sent these items lacks for the match, the first of: `ping=1`; `setboard=1`, if the start's FEN is
 -- to be sent; for Chess960, `fischerandom` in its last item `variants` (an engine without an item `variants` is taken
 -- to play it). `None` if it lacks nothing
@@ -179,7 +174,7 @@ offer_row r S m =
     (with_seat S (λ s. record s { offers = true }) m)
 
 -- what a line of this kind of the side `S` does in the turn of `S`, except where `before_move` (for `move`) and
--- `after_move` (for `move` and `pong`) say otherwise
+-- `line_row` (for `move` and `pong` after the move) say otherwise
 abbrev pub turn_row : Rules → Colour → LineKind → Match → Effect
 -- `resign`: `S` loses
 turn_row r S Resigns m = ends r (over_by.Resigns S) m
@@ -190,8 +185,10 @@ turn_row r S ClaimsDraw m = option_map_or (λ claim. ends r (Claimed claim) m) (
 -- `1-0` or `0-1`: `S` loses, by a false claim if it names itself the winner (a mate ends the match without a claim),
 -- else by resigning
 turn_row r S (ClaimsWin winner) m = ends r (if same_colour winner S then ClaimsFalsely S else over_by.Resigns S) m
--- `Illegal move`: `S` loses, but if it was never sent a move, the line is ignored
-turn_row r S Rejects m = if was_sent_move m S then ends r (RejectsLegalMove S) m else ignores r S m
+-- `Illegal move`: `S` loses, but if it was never sent a move, the line is ignored. What is tested is whether the other
+-- side has made a move (`used` has a time for each): in its turn `S` was sent each of these
+turn_row r S Rejects m =
+    if nat_lt 0 (length (m.seat (other S)).used) then ends r (RejectsLegalMove S) m else ignores r S m
 -- any other line is ignored
 turn_row r S _ m = ignores r S m
 
@@ -224,15 +221,6 @@ before_move r S used kind m = turn_row r S kind m
 -- 6.9 of the Laws of Chess 2023 has further draws on time; they are not judged here
 abbrev pub flag_row : Rules → Colour → Match → Effect
 flag_row r S m = ends r (if r.has_bare_king m.played (other S) then ForfeitsToBareKing else Forfeits S) m
-
--- what a line of this kind of the side `S` does, if `S` has moved and is to answer the `ping`
-abbrev pub after_move : Rules → Colour → LineKind → Match → Effect
--- another move: `S` loses
-after_move r S (Moves text) m = ends r (MovesOutOfTurn S) m
--- `pong N`: with the number of the latest `ping` it gives the other side its turn, with any other it is ignored
-after_move r S (Answers n) m = if n == ping_number m S then begins_turn r (other S) m else ignores r S m
--- any other line: see `turn_row`
-after_move r S kind m = turn_row r S kind m
 
 -- ---- a line before the game
 
@@ -272,11 +260,6 @@ abbrev pub setup_done : Rules → Colour → Match → Effect
 setup_done r White m = sends_to Black (setup_lines r) (enter (Setup Black) m)
 setup_done r Black m = unless_decided r m (begins_turn r r.first m)
 
--- a line of the side `S` in its setup: `pong 1` ends the setup; any other is ignored, even `feature` or `move`
-abbrev pub setup_row : Rules → Colour → LineKind → Match → Effect
-setup_row r S (Answers n) m = if n == 1 then setup_done r S m else ignores r S m
-setup_row r S _ m = ignores r S m
-
 -- ---- one event
 
 -- the items of a line of this kind: those of a `feature` line, none of any other
@@ -287,15 +270,22 @@ items_said _ = []
 -- what a line of this kind does in the phase given; it was sent by the side that this phase waits for, and came at
 -- `moment`, in milliseconds by the clock
 abbrev pub line_row : Rules → Phase → LineKind → ℕ → Match → Effect
-line_row r (Handshake S) kind moment m = handshake_row r S (items_said kind) m
-line_row r (Setup S) kind moment m = setup_row r S kind m
+line_row r (Handshake S) kind _ m = handshake_row r S (items_said kind) m
+-- in a setup: `pong 1` ends it; any other line is ignored, even `feature` or `move`
+line_row r (Setup S) (Answers n) _ m = if n == 1 then setup_done r S m else ignores r S m
+line_row r (Setup S) kind _ m = ignores r S m
 -- before a move: the time used is `moment - opened`, or 0 if that is negative. If it is more than `S` has left, the
 -- flag has fallen, whatever the line says
 line_row r (BeforeMove S opened) kind moment m =
     if nat_lt (clock r m S) (moment - opened) then flag_row r S m else before_move r S (moment - opened) kind m
-line_row r (AfterMove S) kind moment m = after_move r S kind m
+-- after a move, when the `ping` is to be answered. Another move: `S` loses
+line_row r (AfterMove S) (Moves text) _ m = ends r (MovesOutOfTurn S) m
+-- `pong N`: with the number of the latest `ping` it gives the other side its turn, with any other it is ignored
+line_row r (AfterMove S) (Answers n) _ m = if n == ping_number m S then begins_turn r (other S) m else ignores r S m
+-- any other line: see `turn_row`
+line_row r (AfterMove S) kind _ m = turn_row r S kind m
 -- in the other phases no line is awaited; one would change nothing
-line_row r _ kind moment m = sends_nothing m
+line_row r _ _ _ m = sends_nothing m
 
 -- what an event does to the match `m`
 abbrev pub effect : Rules → Match → Event → Effect

@@ -1,5 +1,5 @@
 -- The lines that engines are sent.
-use Rattle.std.specs.Prelude.{ℕ, Bool, if◌then◌else◌, List, [], ◌∷◌, ◌++◌, map, codes, decimal, Option}
+use Rattle.std.specs.Prelude.{ℕ, Bool, if◌then◌else◌, List, [], ◌∷◌, ◌++◌, map, codes, decimal}
 use Rattle.std.specs.Option.{option_map_or}
 use Rattle.chess_base.specs.Letters.{new_line}
 use Rattle.chess_base.specs.Options.{list_if}
@@ -7,7 +7,6 @@ use Rattle.cecp_engine.specs.Items.{Item, is_known}
 use Rattle.cecp_engine.specs.Levels.{level_text}
 use Rattle.chess_match.specs.Rules.{Rules}
 use Rattle.chess_text.specs.San.{is_fischerandom}
-use Rattle.chess_base.specs.declared.man.Variant.{Variant}
 
 -- a line that is sent to an engine
 pub data SentLine : Type 0 where
@@ -19,11 +18,6 @@ pub data SentLine : Type 0 where
   Time : (centiseconds : ℕ) → SentLine
   -- `otim N`: the centiseconds that its opponent has left
   Otim : (centiseconds : ℕ) → SentLine
-
--- the answer to an item of this name in a `feature` line, whatever the item's value: `accepted` and the name, such as
--- `accepted ping`, for the names that the arbiter knows (`is_known`); `rejected` and the name for any other
-abbrev pub answer_text : List ℕ → List ℕ
-answer_text name = (if is_known name then codes "accepted " else codes "rejected ") ++ name
 
 -- the text of a line without `\n`, such as `usermove e2e4` or `time 30000`
 abbrev pub text_of : SentLine → List ℕ
@@ -37,18 +31,11 @@ unfoldable pub bytes_of : List SentLine → List ℕ
 bytes_of [] = []
 bytes_of (l ∷ ls) = text_of l ++ new_line ∷ bytes_of ls
 
--- the lines that answer these items of `feature` lines, one for each, in their order
+-- the lines that answer these items of `feature` lines, one for each, in their order, whatever the item's value:
+-- `accepted` and its name, such as `accepted ping`, if the arbiter knows the name (`is_known`); otherwise `rejected` and
+-- the name
 abbrev pub answers_to : List Item → List SentLine
-answers_to items = map (λ i. Says (answer_text i.name)) items
-
--- the line `setboard FEN` with this FEN of the start position, as a list of one; empty for `None`: the start position
--- is then the one that `new` sets up
-abbrev pub start_lines : Option (List ℕ) → List SentLine
-start_lines start = option_map_or (λ fen. Says (codes "setboard " ++ fen) ∷ []) start []
-
--- the line `variant fischerandom` if the game is of Chess960, as a list of one; else empty
-abbrev pub variant_command : Variant → List SentLine
-variant_command v = list_if (is_fischerandom v) (Says (codes "variant fischerandom") ∷ [])
+answers_to items = map (λ i. Says ((if is_known i.name then codes "accepted " else codes "rejected ") ++ i.name)) items
 
 -- the line `ping N` with this number
 abbrev pub ping : ℕ → SentLine
@@ -56,8 +43,8 @@ ping n = Says (codes "ping " ++ decimal n)
 
 -- the lines that set an engine up for a game by the rules `r`, in this order: `new`, `variant fischerandom` if the game
 -- is of Chess960, `level` with the time control, as in `level 40 5 0`, `nopost`, `easy`, `force`, `setboard FEN` except
--- for the initial position of normal chess, `ping 1`
+-- for the initial position of normal chess (which `new` sets up), `ping 1`
 unfoldable pub setup_lines : Rules → List SentLine
-setup_lines r =
-    Says (codes "new") ∷ (variant_command r.variant ++ (Says (codes "level " ++ level_text r.level)
-    ∷ Says (codes "nopost") ∷ Says (codes "easy") ∷ Says (codes "force") ∷ (start_lines r.start_fen ++ ping 1 ∷ [])))
+setup_lines r = Says (codes "new") ∷ (list_if (is_fischerandom r.variant) (Says (codes "variant fischerandom") ∷ [])
+    ++ (Says (codes "level " ++ level_text r.level) ∷ Says (codes "nopost") ∷ Says (codes "easy") ∷ Says (codes "force")
+    ∷ (option_map_or (λ fen. Says (codes "setboard " ++ fen) ∷ []) r.start_fen [] ++ ping 1 ∷ [])))

@@ -1,13 +1,11 @@
 -- What a match needs of its game, and how chess gives it.
 use Rattle.std.specs.Prelude.{ℕ, Bool, true, false, ◌||◌, ◌&&◌, not, if◌then◌else◌, List, [], ◌∷◌, Option, None, Some}
 use Rattle.std.specs.List.{list_all}
-use Rattle.std.specs.Option.{option_map_or}
 use Rattle.chess_base.specs.declared.man.Colour.{Colour}
 use Rattle.chess_base.specs.declared.man.Kind.TheVariants.{King}
-use Rattle.chess_base.specs.declared.man.Man.{Man}
 use Rattle.chess_base.specs.declared.man.Move.{Move}
 use Rattle.chess_base.specs.declared.setup.Setup.{Setup}
-use Rattle.chess_base.specs.Men.{Men, same_colour, same_kind}
+use Rattle.chess_base.specs.Men.{Men, is_of, is_man}
 use Rattle.chess_base.specs.Moves.{after}
 use Rattle.chess_fen.specs.Writing.{fen, is_initial}
 use Rattle.chess_game.specs.Ends.{verdict, claims, draw_claim}
@@ -61,26 +59,18 @@ text_of_last as_san p [] = []
 text_of_last as_san p (m ∷ []) = if as_san then san p m else shown_move p m
 text_of_last as_san p (m ∷ n ∷ ms) = text_of_last as_san (after p m) (n ∷ ms)
 
--- whether the content `man` of a square is nothing, a king of either colour, or any piece of the opponent of `c`
-abbrev pub is_king_or_other : Colour → Option Man → Bool
-is_king_or_other c man = option_map_or (λ (x : Man). not (same_colour x.colour c) || same_kind x.kind King) man true
-
 -- whether the side `c` has no piece but its king; `men` are the 64 squares. That it has a king is not tested here
 unfoldable pub has_bare_king : Colour → Men → Bool
-has_bare_king c men = list_all (is_king_or_other c) men
-
--- the FEN that `setboard` sends to the engines for this start; `None` for the initial position of normal chess, which
--- `new` sets up. In Chess960 one is always sent
-abbrev pub fen_sent : Setup → Option (List ℕ)
-fen_sent start = if is_initial start && not (is_fischerandom start.variant) then None else Some (fen start)
+has_bare_king c men = list_all (λ man. not (is_of c man) || is_man c King man) men
 
 -- the rules of chess for a game from the position `start`, with this time control, of at most `limit` half-moves. Texts
 -- are read, and bare kings looked for, in the position after the moves played; the verdict, the claim and the text of
--- the last move depend on the start and all moves
+-- the last move depend on the start and all moves. `setboard` sends the FEN of any start but the initial position of
+-- normal chess, which `new` sets up; in Chess960 one is always sent
 unfoldable pub rules_of : Setup → LevelSeen → ℕ → Rules
 rules_of start level limit = record {
   variant = start.variant;
-  start_fen = fen_sent start;
+  start_fen = if is_initial start && not (is_fischerandom start.variant) then None else Some (fen start);
   first = start.side;
   level = level;
   limit = limit;

@@ -1,15 +1,18 @@
 //! A game of chess, as a match sees it.
 
-ghost use Rattle.std.specs.Prelude.{◌≡◌, ◌≤◌, ◌<◌, ◌++◌, ◌∷◌, [], length, nat_le, is_some, false, IfSome};
+ghost use Rattle.std.specs.Prelude.{◌≡◌, ◌≤◌, ◌<◌, ◌++◌, ◌∷◌, ◌&&◌, ◌||◌, not, if◌then◌else◌, [], length, nat_le, is_some, false, IfSome, None, Some};
 ghost use Rattle.std.specs.Option.{option_map};
 ghost use Rattle.arrayvec.specs.ArrayVec.{array_vec_len};
 ghost use Rattle.std.specs.List.{list_all};
-ghost use Rattle.chess_fen.specs.Writing.{fen};
+ghost use Rattle.chess_fen.specs.Writing.{fen, is_initial};
+ghost use Rattle.chess_text.specs.San.{is_fischerandom};
+ghost use Rattle.chess_base.specs.Men.{is_of, is_man};
+ghost use Rattle.chess_base.specs.declared.man.Kind.TheVariants.{King};
 ghost use Rattle.chess_base.specs.Initial.{initial_setup};
 ghost use Rattle.chess_game.specs.Game.{current, verdict_now, State};
 ghost use Rattle.chess_game.specs.Ends.{verdict, claims};
 ghost use Rattle.chess_text.specs.Moves.{reading};
-ghost use Rattle.chess_match.specs.Rules.{rules_of, has_bare_king, is_king_or_other, move_read, fen_sent};
+ghost use Rattle.chess_match.specs.Rules.{rules_of, has_bare_king, move_read};
 
 use crate::block::Block;
 use crate::match_game::MatchGame;
@@ -24,8 +27,9 @@ use chess_text::{
 };
 
 // Whether a square (`man` is what is on it) is empty, or has a king or a piece of the other colour than `colour`.
+#[tactic(auto, unfolding(chess_base::specs::Men::is_of, chess_base::specs::Men::is_man))]
 fn is_king_or_other(colour: Colour, man: Option<Man>) -> bool
-    ensures { result ≡ is_king_or_other colour man }
+    ensures { result ≡ (not (is_of colour man) || is_man colour King man) }
 {
     match man {
         None => true,
@@ -44,7 +48,8 @@ fn has_bare_king(colour: Colour, men: &[Option<Man>; 64]) -> bool
 // The FEN that `setboard` sends to the engines for this start; `None` for the initial position of normal chess, in
 // which `new` starts anyway.
 fn start_text(start: &Position) -> Option<FenText>
-    ensures text { option_map (λ t. t.items) result ≡ fen_sent start.now }
+    ensures text { option_map (λ t. t.items) result
+        ≡ (if is_initial start.now && not (is_fischerandom start.now.variant) then None else Some (fen start.now)) }
     ensures short { IfSome result (λ t. array_vec_len t ≤ 100) }
 {
     match start.variant() {

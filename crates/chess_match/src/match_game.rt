@@ -4,7 +4,8 @@ ghost use Rattle.chess_match.specs.declared.block.TheConstants.{BLOCK_LEN};
 ghost use Rattle.std.specs.Prelude.{◌≡◌, ◌<◌, ◌≤◌, ◌+◌, ◌++◌, ◌∷◌, [], List, ℕ, length, nat_le, is_some, Some, None, false};
 ghost use Rattle.arrayvec.specs.ArrayVec.{array_vec_len};
 ghost use Rattle.chess_match.specs.Rules.{Rules};
-ghost use Rattle.chess_match.specs.Lines.{bytes_of, start_lines};
+ghost use Rattle.chess_match.specs.Lines.{bytes_of};
+ghost use Rattle.chess_match.specs.ties.Delivering.{start_lines};
 ghost use Rattle.chess_match.specs.ties.Texts.{AreTexts};
 ghost use Rattle.chess_game.specs.declared.game.TheConstants.{MOST_MOVES};
 

@@ -14,7 +14,7 @@ use Rattle.chess_base.specs.Options.{list_if}
 use Rattle.chess_game.specs.declared.verdicts.Verdict.{Verdict}
 use Rattle.cecp_engine.specs.EngineLines.{LineKind, Moves, Resigns, OffersDraw, ClaimsDraw, ClaimsWin, Rejects, Answers}
 use Rattle.cecp_engine.specs.Items.{Item, ends_handshake}
-use Rattle.chess_match.specs.Effects.{Match, Phase, Handshake, Setup, Opening, BeforeMove, AfterMove, Over, Effect, after_move, flag_row, before_move, clock, ends, farewell, handshake_done, handshake_row, ignores, is_owed_move, items_said, judged, line_row, missing, move_line, move_row, moved, offer_row, ping_number, sends_nothing, sends_to, setup_done, setup_row, turn_row, was_sent_move, with_answers, with_seat}
+use Rattle.chess_match.specs.Effects.{Match, Phase, Handshake, Setup, Opening, BeforeMove, AfterMove, Over, Effect, flag_row, before_move, clock, ends, farewell, handshake_done, handshake_row, ignores, is_owed_move, items_said, judged, line_row, missing, move_line, move_row, moved, offer_row, ping_number, sends_nothing, sends_to, setup_done, turn_row, with_answers, with_seat}
 use Rattle.chess_match.specs.Acts.{awaits_line, is_over}
 use Rattle.chess_match.specs.Events.{Seat}
 use Rattle.chess_match.specs.Rules.{Rules}
@@ -165,7 +165,7 @@ module _ (r : Rules) (S : Colour) (m : Match) (on : is_over m.phase ≡ false) w
       at false = over_again r (over_by.Resigns S) m (refl, λ c. refl)
   in_turn Rejects =
       rw (length-map {B = ℕ} (m.seat (other S)).used (λ u. 0))
-      (test_again (was_sent_move m S) _ _ _ _ (over_again r (over_by.RejectsLegalMove S) m (refl, λ c. refl)) ignored)
+      (test_again (nat_lt 0 (length (m.seat (other S)).used)) _ _ _ _ (over_again r (over_by.RejectsLegalMove S) m (refl, λ c. refl)) ignored)
   in_turn _ = ignored
 
   -- the match after a move
@@ -195,20 +195,22 @@ module _ (r : Rules) (S : Colour) (m : Match) (on : is_over m.phase ≡ false) w
           (decided_again (r.verdict (m.played ++ move ∷ [])) (moved S move used m) _ _ (on_again _ _ refl refl))
   before used kind = in_turn kind
 
-  after : (kind : LineKind) → Again (after_move r S kind m) (after_move r S kind (again m))
-  after (Moves t) = over_again r (over_by.MovesOutOfTurn S) m (refl, λ c. refl)
-  after (Answers n) =
+  after : (moment : ℕ) (kind : LineKind)
+      → Again (line_row r (AfterMove S) kind moment m) (line_row r (AfterMove S) kind 0 (again m))
+  after moment (Moves t) = over_again r (over_by.MovesOutOfTurn S) m (refl, λ c. refl)
+  after moment (Answers n) =
       rw (length-map {B = ℕ} (m.seat S).used (λ u. 0))
       (test_again (n == ping_number m S) _ _ _ _ (on_again _ _ refl refl) ignored)
-  after kind = in_turn kind
+  after moment kind = in_turn kind
 
-  setup : (kind : LineKind) → Again (setup_row r S kind m) (setup_row r S kind (again m))
-  setup (Answers n) = test_again (n == 1) _ _ _ _ (ready S) ignored
+  setup : (moment : ℕ) (kind : LineKind)
+      → Again (line_row r (Setup S) kind moment m) (line_row r (Setup S) kind 0 (again m))
+  setup moment (Answers n) = test_again (n == 1) _ _ _ _ (ready S) ignored
     where
       ready : (side : Colour) → Again (setup_done r side m) (setup_done r side (again m))
       ready White = on_again _ _ refl refl
       ready Black = decided_again (r.verdict m.played) m _ _ (on_again _ _ refl refl)
-  setup _ = ignored
+  setup moment _ = ignored
 
   handshake : (items : List Item) → Again (handshake_row r S items m) (handshake_row r S items (again m))
   handshake items =
@@ -297,9 +299,9 @@ pub line_again : (r : Rules) (S : Colour) (kind : LineKind) (moment : ℕ) (m : 
     → Falls m (line_row r p kind moment m)
     ⊎ Again (line_row r p kind moment m) (line_row r (waits p) kind 0 (again m))
 line_again r S kind moment m (Handshake c) aw on = inr (handshake r c m on (items_said kind))
-line_again r S kind moment m (Setup c) aw on = inr (setup r c m on kind)
+line_again r S kind moment m (Setup c) aw on = inr (setup r c m on moment kind)
 line_again r S kind moment m (BeforeMove c opened) aw on =
     timed r c (moment - opened) kind m on (nat_lt (clock r m c) (moment - opened))
-line_again r S kind moment m (AfterMove c) aw on = inr (after r c m on kind)
+line_again r S kind moment m (AfterMove c) aw on = inr (after r c m on moment kind)
 line_again r S kind moment m (Opening c) aw on = absurd cc
 line_again r S kind moment m (Over reason) aw on = absurd cc

@@ -12,10 +12,13 @@ use Rattle.chess_base.specs.declared.man.Colour.{Colour}
 use Rattle.chess_base.specs.declared.man.Colour.TheVariants.{White, Black}
 use Rattle.byte_devices.specs.Devices.{OutputState}
 use Rattle.byte_devices.specs.Transfers.{ToOutput, OutputTook, all_of, BreaksOffIn}
+use Rattle.chess_match.specs.Acts.{Act}
+use Rattle.chess_match.specs.ByDevice.{notes_given}
 use Rattle.chess_match.specs.Reasons.{comment_of, win_of}
 use Rattle.chess_match.specs.Notes.{Note}
-use Rattle.chess_match.specs.Played.{World, PlayedNoting}
+use Rattle.chess_match.specs.Played.{World, PlayedBy}
 use Rattle.chess_match.specs.declared.reason.MatchFault.{MatchFault}
+use Rattle.chess_match.specs.declared.reason.Reason.{Reason}
 use Rattle.chess_match.specs.declared.reason.Reason.TheVariants.{Faulted}
 use Rattle.chess_match.specs.declared.run.MatchEnd.{MatchEnd}
 use Rattle.chess_match.specs.declared.run.Setup.{Setup}
@@ -75,11 +78,12 @@ abbrev pub setup_of : GamesPlan → Setup
 setup_of plan = record { start = plan.start; level = plan.level }
 
 -- the game `played` was played from the start of `plan`, with its time control and with at most 20,000 half-moves
--- (`MOST_MOVES`). What `played` has before and after, its end and its notes are of one and the same game
--- (`PlayedNoting`). Which engines played it is not said here
+-- (`MOST_MOVES`). What `played` has before and after, its end and its notes are of one and the same game: they are
+-- those of the same acts `H`, which ended for the same reason. Which engines played it is not said here
 abbrev pub IsOfPlan : GamesPlan → GameRecord → Type 0
 IsOfPlan plan played = (played.before.game.limit ≡ MOST_MOVES)
-    × PlayedNoting (λ notes. notes ≡ played.notes) (setup_of plan) played.end played.before played.after
+    × ((H : List Act) × (reason : Reason) × (notes_given reason H ≡ played.notes)
+    × PlayedBy H reason (setup_of plan) played.end played.before played.after)
 
 -- the PGN of the game `played`, which has this number: its tags, and its moves and result. `[]`: no line has a prefix
 abbrev pub game_text : GamesPlan → ℕ → GameRecord → List ℕ

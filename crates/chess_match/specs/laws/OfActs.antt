@@ -15,9 +15,9 @@ use Rattle.chess_match.specs.ByDevice.{lines_read, has_ended, has_failed_read, m
 use Rattle.chess_base.specs.Options.{list_if}
 use Rattle.chess_match.specs.Lines.{SentLine, bytes_of}
 use Rattle.chess_match.specs.laws.Laws.{Streams, AreRead, events_in, given_in, lines_noted, moments_noted, is_move, moves_of, items_said, moves_sent, texts_from, time_sent, otim_sent, centiseconds}
-use Rattle.chess_match.specs.Acts.{Act, Block, Sends, SendFails, Happens, IsMatch, IsMatchFrom, after_failed_send, is_over}
-use Rattle.chess_match.specs.Effects.{Match, Over, beginning, clock, effect, was_sent_move}
-use Rattle.chess_match.specs.Events.{Event, Line, Opened}
+use Rattle.chess_match.specs.Acts.{Act, Block, Sends, SendFails, Happens, IsMatch, IsMatchFrom, is_over}
+use Rattle.chess_match.specs.Effects.{Match, Over, beginning, clock, effect}
+use Rattle.chess_match.specs.Events.{Event, Line, Opened, FailsToWrite}
 use Rattle.chess_match.specs.Notes.{Happened}
 use Rattle.chess_match.specs.Played.{World, Passed}
 use Rattle.chess_match.specs.Rules.{Rules, rules_of}
@@ -31,7 +31,8 @@ use Rattle.chess_match.specs.declared.reason.Reason.TheVariants.{Decided, Resign
 abbrev pub match_after : Rules → Match → List Act → Match
 match_after r m [] = m
 match_after r m (Sends block ∷ H) = match_after r m H
-match_after r m (SendFails block ∷ H) = match_after r (after_failed_send r m [] block.to).0 H
+match_after r m (SendFails block ∷ H) =
+    match_after r (if is_over m.phase then m else (effect r m (FailsToWrite block.to)).after) H
 match_after r m (Happens event ∷ H) = match_after r (effect r m event).after H
 
 -- in every match `P` holds of the rules, of all acts, and of the match at its end
@@ -197,9 +198,11 @@ AllMovesAreSent r H m = (O : Colour) → is_broken H O ≡ false
 abbrev pub IsSentAllMoves : Rules → Colour → List Act → Match → Type 0
 IsSentAllMoves r S H m = moves_sent (lines_sent S H) ≡ others_moves r S (m.seat S).items m.played
 
--- the side `S` was sent a move if and only if `was_sent_move` says so
+-- the side `S` was sent a move if and only if the other side has made one (`used` has a time for each), as is tested
+-- when `S` sends `Illegal move` (`turn_row`)
 abbrev pub MovesSentAreKnown : Rules → Colour → List Act → Match → Type 0
-MovesSentAreKnown r S H m = was_sent_move m S ≡ nat_lt 0 (length (moves_sent (lines_sent S H)))
+MovesSentAreKnown r S H m =
+    nat_lt 0 (length (m.seat (other S)).used) ≡ nat_lt 0 (length (moves_sent (lines_sent S H)))
 
 -- in every match of chess: each move played is legal in the position in which it is made, from the start on
 abbrev pub GamesAreLines : Type 0

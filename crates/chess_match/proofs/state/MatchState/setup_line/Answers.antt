@@ -6,11 +6,11 @@ use Rattle.chess_match.proofs.OtherLines.{setup_other}
 use Rattle.chess_match.proofs.state.MatchState.setup_line.Goals as goal
 
 pub returns-else-number-eq1 : goal.returns-else-number-eq1
-returns-else-number-eq1 g c r m p at s =
+returns-else-number-eq1 g c r m moment p at s =
     let unanswered : (c.in-Pong.number == 1) ≡ false = ne_eqb c.in-Pong.number 1 c.if-number-eq1.false in
     rw (c.in-Pong.is, unanswered) (c.ignore.ensures r _ m (ap is_over at) s)
 
 pub returns-in_default : goal.returns-in_default
-returns-in_default g c r m p at s =
-    rw (setup_other r c.args.side c.args.line m c.in_default.not-Pong)
+returns-in_default g c r m moment p at s =
+    rw (setup_other r c.args.side c.args.line moment m c.in_default.not-Pong)
     (c.ignore-in_default.ensures r _ m (ap is_over at) s)

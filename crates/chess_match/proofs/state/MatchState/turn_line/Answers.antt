@@ -1,8 +1,8 @@
 -- The game's claim, the offers and the count of moves are those of the match that core and game stand for, so each
 -- kind of line has here the row that it has there.
 use Rattle.std.proofs.Common.{◌≡◌, true, false, sym, ◌∙◌, Some, None, arith, length, lt-ltb, le-ltb}
+use Rattle.std.specs.Prelude.{nat_lt}
 use Rattle.chess_base.specs.Men.{other, same_colour}
-use Rattle.chess_match.specs.Effects.{was_sent_move}
 use Rattle.chess_match.proofs.CoreSteps.{clocks_moves}
 use Rattle.chess_match.proofs.OtherLines.{ignored_other}
 use Rattle.chess_match.proofs.state.MatchState.turn_line.Goals as goal
@@ -37,14 +37,14 @@ pub returns-then-moves-gt0 : goal.returns-then-moves-gt0
 returns-then-moves-gt0 g c r m p on s =
     let moved : c.moves.result ≡ length (m.seat (other c.args.side)).used = c.moves.ensures.value
     ∙ rw c.other.ensures (clocks_moves r _ _ m s (other c.args.side)) in
-    let known : was_sent_move m c.args.side ≡ true = lt-ltb 0 _ (omega (arith, moved)) in
+    let known : nat_lt 0 (length (m.seat (other c.args.side)).used) ≡ true = lt-ltb 0 _ (omega (arith, moved)) in
     rw (c.in-Rejection.is, known) (c.finish-then-moves-gt0.ensures r _ m on s)
 
 pub returns-else-moves-gt0 : goal.returns-else-moves-gt0
 returns-else-moves-gt0 g c r m p on s =
     let moved : c.moves.result ≡ length (m.seat (other c.args.side)).used = c.moves.ensures.value
     ∙ rw c.other.ensures (clocks_moves r _ _ m s (other c.args.side)) in
-    let known : was_sent_move m c.args.side ≡ false = le-ltb 0 _ (omega (arith, moved)) in
+    let known : nat_lt 0 (length (m.seat (other c.args.side)).used) ≡ false = le-ltb 0 _ (omega (arith, moved)) in
     rw (c.in-Rejection.is, known) (c.ignore.ensures r _ m on s)
 
 pub returns-in_default : goal.returns-in_default
