@@ -35,7 +35,7 @@ pub record Said : Type 0 where
   pub value : Values
   pub replies : List Text
 
--- the value that the option `name` was given, else `default`
+-- the value that the option `name` was given, otherwise `default`
 abbrev pub text_or : Text → Values → Text → Text
 text_or name value default = unwrap_or (value name) default
 
@@ -70,9 +70,9 @@ start_asked value = let v = variant_in value in
 abbrev pub is_date : Text → Bool
 is_date text = nat_le (length text) 60 && list_all (λ b. nat_le 32 b && nat_le b 126) text
 
--- the time control of a match, the position in which its games start, and their date as a text; or if level, FEN or date
--- is invalid, the fault of the first that is. Without `--level` the time control is `40 5 0`, 40 moves in 5 minutes
--- without an increment; without `--date` the date is `????.??.??`
+-- the time control of a match, the position in which its games start, and their date as a text; or if level, FEN or
+-- date is invalid, the fault of the first that is. Without `--level` the time control is `40 5 0`, 40 moves in 5
+-- minutes without an increment; without `--date` the date is `????.??.??`
 abbrev pub level_start_and_date : Values → Result (LevelSeen × Setup × Text) WordsFault
 level_start_and_date value = let date = text_or (codes "date") value (codes "????.??.??") in do
   level ← ok_or (level_of (text_or (codes "level") value (codes "40 5 0"))) BadLevel
@@ -114,9 +114,9 @@ IsReadAs kinds said (Err f) = (kinds ≡ []) × (said.command ≡ codes "match")
 
 -- ---- by the grammar
 
--- what arguments say; `p` is the subcommand's name and its options as `clap` matched them. The value of an option is the
--- first that was matched for its name; a flag has `true` if it was given, else `false`. `words` is the name by which
--- `clap` knows the arguments after `stub`; without these, as for any other subcommand, `replies` is `[]`
+-- what arguments say; `p` is the subcommand's name and its options as `clap` matched them. The value of an option is
+-- the first that was matched for its name; a flag has `true` if it was given, otherwise `false`. `words` is the name by
+-- which `clap` knows the arguments after `stub`; without these, as for any other subcommand, `replies` is `[]`
 abbrev pub said_by : Text × List Row → Said
 said_by p =
     record { command = p.0; value = λ name. first_of name p.1; replies = unwrap_or (all_of (codes "words") p.1) [] }

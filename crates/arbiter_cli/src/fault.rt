@@ -36,7 +36,7 @@ impl From<FenFault> for WordsFault {
     }
 }
 
-// How an error of `clap` is reported: as out of memory if it is that, else as the error itself.
+// How an error of `clap` is reported: as out of memory if it is that, otherwise as the error itself.
 pub(crate) fn refusal(error: Error) -> WordsFault
     ensures { Refuses error result }
 {

@@ -80,8 +80,8 @@ fn start_of(variant: Variant, fen: Option<&str>) -> Result<Position, FenFault>
     }
 }
 
-// The plan of the match that `request` asks for, if its level, FEN and date are valid; else the fault of the first of
-// them that is not.
+// The plan of the match that `request` asks for, if its level, FEN and date are valid; otherwise the fault of the first
+// of them that is not.
 fn validate<'a>(request: &MatchRequest<'a>) -> Result<MatchPlan<'a>, WordsFault>
     ensures plan { IfOk result (IsJudged request.now) }
     ensures fault { IfErr result (IsJudgedFault request.now) }
@@ -104,8 +104,8 @@ fn validate<'a>(request: &MatchRequest<'a>) -> Result<MatchPlan<'a>, WordsFault>
     })
 }
 
-// The plan of what the request asks for; of a match only if level, FEN and date are valid, else the fault of the first
-// of them that is not.
+// The plan of what the request asks for; of a match only if level, FEN and date are valid, otherwise the fault of the
+// first of them that is not.
 pub(crate) fn planned<'a>(request: Request<'a>) -> Result<Plan<'a>, WordsFault>
     ensures plan { IfOk result (IsPlanned request.entry) }
     ensures fault { IfErr result (IsPlanFault request.entry) }

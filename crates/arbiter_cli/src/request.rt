@@ -33,7 +33,7 @@ pub(crate) enum Request<'a> {
     Match(MatchRequest<'a>),
 }
 
-// The value that the option `name` was given, else its default; `found` are the options as matched.
+// The value that the option `name` was given, otherwise its default; `found` are the options as matched.
 fn text_or<'a>(found: &ArgMatches<'a>, name: &str, default: &'a str) -> &'a str
     ensures { result.now ≡ text_or name.now (matched (rows_of (found_of found.now))) default.entry.now }
 {

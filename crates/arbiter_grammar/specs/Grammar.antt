@@ -72,8 +72,8 @@ asked names words = unwrap_or (subcommand_of (arbiter_app names) words) (codes "
 abbrev pub faults_in : VariantNames → List Text → Kinds
 faults_in names words = fault_of (arbiter_app names) words
 
--- the result of parsing the arguments `words` is right: their subcommand and options if they have no fault, else an
--- error of one of the kinds of fault that they have. `names` are those that `--variant` takes
+-- the result of parsing the arguments `words` is right: their subcommand and options if they have no fault, otherwise
+-- an error of one of the kinds of fault that they have. `names` are those that `--variant` takes
 abbrev pub IsParsedBy : VariantNames → List Text → Result ArgMatches Error → Type 0
 IsParsedBy names words (Ok m) = (faults_in names words ≡ [])
     × (subcommand_rows_of m ≡ subcommand_of (arbiter_app names) words)

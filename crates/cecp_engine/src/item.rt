@@ -161,7 +161,7 @@ impl<'a> Value<'a> {
 
 impl Item<'_> {
     /// Whether the engine has the feature `name` on after this item; `before` says whether it had it on so far: the
-    /// item decides if it has that name, else that stays.
+    /// item decides if it has that name, otherwise that stays.
     pub(crate) fn says_or(&self, name: &[u8], before: bool) -> bool
         ensures { result ≡ said_again name.now (item_seen self.now) before }
     {
@@ -173,7 +173,7 @@ impl Item<'_> {
     }
 
     /// Whether the engine plays Chess960 after this item; `before` says whether it did so far: the item decides if it
-    /// is `variants`, else that stays.
+    /// is `variants`, otherwise that stays.
     pub(crate) fn names_fischerandom_or(&self, before: bool) -> bool
         ensures { result ≡ fischerandom_again (item_seen self.now) before }
     {
@@ -218,7 +218,7 @@ fn has_word(text: &[u8], word: &[u8]) -> bool
     &text[from..] == word
 }
 
-/// Whether a feature of this name is answered by `accepted`, else by `rejected`.
+/// Whether a feature of this name is answered by `accepted`, otherwise by `rejected`.
 #[tactic(auto, unfolding(crate::specs::Items::is_known))]
 pub fn is_known(name: &[u8]) -> bool
     ensures { result ≡ is_known name.now }

@@ -35,11 +35,11 @@ use Rattle.stub_engine.specs.Stub.{stub_response, waiting}
 use Rattle.chess_arbiter.specs.declared.fault.ProgramFault.TheVariants.{InvalidArguments}
 use Rattle.chess_game.specs.declared.game.TheConstants.{MOST_MOVES}
 
--- the exit status after something that may fail: 1 if the result is an error, else 0
+-- the exit status after something that may fail: 1 if the result is an error, otherwise 0
 abbrev pub status_of : {A E : Type 0} → Result A E → ℕ
 status_of result = if is_ok result then 0 else 1
 
--- the exit status of a fault: 2 for invalid arguments, else 1
+-- the exit status of a fault: 2 for invalid arguments, otherwise 1
 abbrev pub fault_status : ProgramFault → ℕ
 fault_status InvalidArguments = 2
 fault_status _ = 1
@@ -130,9 +130,9 @@ games_plan plan = record {
 }
 
 -- from `d` to `d'` the games of the plan's match were played, written and logged as `PlaysGames` says. The exit status
--- `status` is 0 if all were played without a fault and were written, and the score too; else 1. `logged` is the error
--- output, to which the log goes, after the games. With status 0 it stays so; with status 1 more may be written to it,
--- and of its state in `d'` (`d'.log`) nothing is said
+-- `status` is 0 if all were played without a fault and were written, and the score too; otherwise 1. `logged` is the
+-- error output, to which the log goes, after the games. With status 0 it stays so; with status 1 more may be written to
+-- it, and of its state in `d'` (`d'.log`) nothing is said
 abbrev pub PlaysMatch : MatchPlan → Outputs → Outputs → ℕ → Type 0
 PlaysMatch plan d d' status = (result : Result (Unit {0}) GamesFault) × (logged : LogSeen)
     × PlaysGames (games_plan plan) result d (record d' { log = logged }) × (status ≡ status_of result)
@@ -152,7 +152,7 @@ Does (Ok (Verify plan)) d d' status = VerifiesInput plan d.devices d'.devices st
 Does (Ok (Stub arguments)) d d' status = Serves stub_response (waiting arguments.items) d.devices d'.devices status
 Does (Ok (Match plan)) d d' status =
     (d'.devices.input ≡ d.devices.input) × PlaysMatch plan (outputs_of d) (outputs_of d') status
--- no plan: nothing of the input is read; help or the version is written, else the output stays as it is
+-- no plan: nothing of the input is read; help or the version is written, otherwise the output stays as it is
 Does (Err fault) d d' status = (d'.devices.input ≡ d.devices.input)
     × ReportsArguments fault d.devices.output d'.devices.output status
 

@@ -77,7 +77,7 @@ fn stub<R: Input, W: Output>(
     Ok(())
 }
 
-// The exit status after games were verified: 0 if none has a fault, else 1.
+// The exit status after games were verified: 0 if none has a fault, otherwise 1.
 fn verified_status(verified: Verified) -> u8
     ensures { result ≡ verify_status (Ok verified) }
 {
@@ -98,8 +98,8 @@ fn options_of(plan: VerifyPlan) -> VerifyOptions
     }
 }
 
-// Verifies the input's games: with `--keep-going` piece by piece, so that a fault ends only its piece; else as one text
-// up to its first fault.
+// Verifies the input's games: with `--keep-going` piece by piece, so that a fault ends only its piece; otherwise as one
+// text up to its first fault.
 fn verify_as<R: Input, W: Output>(
     alloc: Global,
     plan: VerifyPlan,

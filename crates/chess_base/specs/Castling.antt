@@ -164,8 +164,8 @@ castles p m k = is_none m.promotion && castling_way_is_empty p.men k && castling
 
 -- ---- where mover and castling rook end, for the steps in which boards change the pieces
 
--- the mover's square after the move: the king's after castling, else m.to. In normal chess it is always m.to, since
--- the king's squares name castling
+-- the mover's square after the move: the king's after castling, otherwise m.to. In normal chess it is always m.to,
+-- since the king's squares name castling
 unfoldable pub mover_end : Setup → Move → ℕ
 mover_end p m = option_map_or (λ k. k.king_to) (castle_of p m) m.to
 

@@ -4,7 +4,7 @@ use Rattle.chess_base.specs.declared.man.Kind.{Kind}
 use Rattle.chess_base.specs.declared.man.Move.{Move}
 use Rattle.chess_base.specs.Letters.{white_letter, square_text}
 
--- f of the value if there is one, else the empty text
+-- f of the value if there is one, otherwise the empty text
 abbrev pub optional : {A : Type 0} → (A → List ℕ) → Option A → List ℕ
 optional f None = []
 optional f (Some x) = f x

@@ -61,8 +61,8 @@ unfoldable pub man_moves : Setup → Move → Bool
 man_moves p m = is_none m.promotion && attacks p.men m.from m.to && not (is_of p.side (man_at p.men m.to))
 
 -- the content of m's start square (the last argument) is a piece of the side on move that can make move m: a pawn by
--- `pawn_moves`, another piece by `castles` if m is castling, else by `man_moves`. False for an enemy piece and for an
--- empty square (`None`)
+-- `pawn_moves`, another piece by `castles` if m is castling, otherwise by `man_moves`. False for an enemy piece and for
+-- an empty square (`None`)
 abbrev pub moves_as : Setup → Move → Option Man → Bool
 moves_as p m None = false
 moves_as p m (Some x) =
@@ -113,7 +113,8 @@ after_moving p m s =
     else if (s == m.from) || is_at (captured_square p m) s then None
     else man_at p.men s
 
--- the pieces on all 64 squares after move m of position p: by `after_castling` if m is castling, else by `after_moving`
+-- the pieces on all 64 squares after move m of position p: by `after_castling` if m is castling, otherwise by
+-- `after_moving`
 unfoldable pub men_after : Setup → Move → Men
 men_after p m = from_below 64 (λ s. option_map_or (λ k. after_castling p m k s) (castle_of p m) (after_moving p m s))
 
@@ -138,7 +139,8 @@ target_after p m = if is_double_advance p m then Some (forward p.side m.from) el
 unfoldable pub resets_clock : Setup → Move → Bool
 resets_clock p m = is_man p.side Pawn (man_at p.men m.from) || is_some (captured_square p m)
 
--- the halfmove clock after a move: 0 after a pawn move or a capture, else one more than before, but at most 999,999
+-- the halfmove clock after a move: 0 after a pawn move or a capture, otherwise one more than before, but at most
+-- 999,999
 unfoldable pub halfmove_after : Setup → Move → ℕ
 halfmove_after p m = if resets_clock p m then 0 else min (p.halfmove + 1) COUNTER_LIMIT
 

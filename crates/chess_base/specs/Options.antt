@@ -6,6 +6,6 @@ infixl 10 ◌>>=◌
 abbrev pub ◌>>=◌ : {A B : Type 0} → Option A → (A → Option B) → Option B
 o >>= f = option_and_then f o
 
--- the list `xs` if `b` is true, else the empty list
+-- the list `xs` if `b` is true, otherwise the empty list
 abbrev pub list_if : {A : Type 0} → Bool → List A → List A
 list_if b xs = if b then xs else []

@@ -8,7 +8,7 @@ use Rattle.chess_base.specs.Squares.{from_below, is_at}
 use Rattle.chess_base.specs.Men.{Men, man_at}
 
 -- the piece on square s after the steps t, or none; `men` are the pieces before. Where one arrives it is that one,
--- where one only left there is none, and else it is what was there before
+-- where one only left there is none, and otherwise it is what was there before
 abbrev pub man_stepped : Men → Steps → ℕ → Option Man
 man_stepped men t s =
     if t.to == s then t.mover

@@ -131,7 +131,7 @@ fn resets_clock(setup: &Setup, m: &Move) -> bool
         || is_of(setup.side.other(), setup.men[m.to.index()])
 }
 
-/// The halfmove clock after the move: 0 after a capture or a pawn move, else one more, up to `COUNTER_LIMIT`.
+/// The halfmove clock after the move: 0 after a capture or a pawn move, otherwise one more, up to `COUNTER_LIMIT`.
 #[tactic(auto, unfolding(crate::specs::Moves::halfmove_after))]
 pub fn halfmove_after(setup: &Setup, m: &Move) -> u32
     ensures { result ≡ halfmove_after setup.now m.now }

@@ -233,8 +233,8 @@ pub fn castling(setup: &Setup, m: &Move) -> Option<CastlingSide>
 }
 
 /// Where the king and the rook start and end when this colour castles to this side with the king on `king` and the rook
-/// on `rook`: for White's king side, from `e1` and `h1`, they end on `g1` and `f1`. Whether they are there is not looked
-/// at.
+/// on `rook`: for White's king side, from `e1` and `h1`, they end on `g1` and `f1`. Whether they are there is not
+/// looked at.
 pub fn castle_from(
     colour: Colour,
     castling_side: CastlingSide,

@@ -41,7 +41,7 @@ impl Model for Position {
 }
 
 impl Position {
-    /// The setup as a position, if it is sound; else the first condition that fails, in the order counters, kings,
+    /// The setup as a position, if it is sound; otherwise the first condition that fails, in the order counters, kings,
     /// pawns, pieces, castling, target, check.
     pub fn new(setup: Setup) -> Result<Self, FenFault>
         ensures sound { IsOk result ↔ IsSound setup }

@@ -143,8 +143,8 @@ impl Board for Bits<'_> {
     }
 
     // The squares from which a piece of this kind, of the side on move, may legally move to `to` without a promotion.
-    // Unlike `origins`, it names no other square. SAN needs it: for Nd2, whether one knight can go there or two. So does
-    // the comparison of positions: for the en passant target, whether a pawn can legally capture there.
+    // Unlike `origins`, it names no other square. SAN needs it: for Nd2, whether one knight can go there or two. So
+    // does the comparison of positions: for the en passant target, whether a pawn can legally capture there.
     #[inline(always)]
     fn legal_starts(&self, kind: Kind, to: Square) -> SquareSet {
         self.starts_of(kind, to)

@@ -43,9 +43,9 @@ fn behind(colour: Colour, squares: SquareSet) -> SquareSet
 }
 
 // The squares from which a pawn of this colour attacks a square of the set towards the a-file: for White and {d5} it is
-// e4. The set is moved one file right and one rank back. By that a square of the h-file comes onto the a-file (for White
-// h5 onto a5), so the a-file is taken out. The contract says nothing of pawns on rank 1, or of White's on rank 8: there
-// are none.
+// e4. The set is moved one file right and one rank back. By that a square of the h-file comes onto the a-file (for
+// White h5 onto a5), so the a-file is taken out. The contract says nothing of pawns on rank 1, or of White's on rank 8:
+// there are none.
 #[inline(always)]
 fn attacking_left(colour: Colour, squares: SquareSet) -> SquareSet
     ensures { (k : ℕ) → k < 64 → 8 ≤ k → forward colour k < 64

@@ -65,8 +65,8 @@ impl Bits<'_> {
     }
 
     // The end square of the move that castles to this side with the king on `king`, as a set; the empty set if that
-    // move is not legal. The right to it is there, with the rook on `rook`. Most positions of a game have no such right,
-    // so only the test for the right (`legal_castling_end`) is inlined, and this is not.
+    // move is not legal. The right to it is there, with the rook on `rook`. Most positions of a game have no such
+    // right, so only the test for the right (`legal_castling_end`) is inlined, and this is not.
     #[inline(never)]
     fn legal_castling_end_with_rook(
         &self,

@@ -44,7 +44,7 @@ named_command word argument =
     else option_map (λ c. c.1) (find (λ c. bytes_eq word c.0) (commands argument))
 
 -- the command of a line with this text: the one that its first word names; if that word is no command's name, a move
--- (`BareMove`) if the whole text has the shape of one, such as `e2e4`, else `Unknown`
+-- (`BareMove`) if the whole text has the shape of one, such as `e2e4`, otherwise `Unknown`
 unfoldable pub command_of : List ℕ → Command
 command_of text =
     unwrap_or (named_command (word_of text) (argument_of text)) (if shape text then BareMove else Unknown)

@@ -20,7 +20,7 @@ lines_read i = stream_lines COMMAND_LEN i.ended i.text
 abbrev pub early_lines : FromInput → List LineSeen
 early_lines i = complete_lines COMMAND_LEN i.early
 
--- the server `respond` answered the lines that were read: all of them if it ends with none (`ends` is false), else
+-- the server `respond` answered the lines that were read: all of them if it ends with none (`ends` is false), otherwise
 -- those up to and including the first with which it ends. The answers, and nothing else, were written and flushed, and
 -- no write or flush failed. `s` and `s'` are the server's states before and after
 abbrev pub AnswersAll : {S : Type 0} → Server S → S → S → Bool → FromInput → ToOutput → Type 0

@@ -81,7 +81,7 @@ reading_row s text reads.Ambiguous = refuses s (codes "Error (ambiguous move): "
 reading_row s text _ = refuses s (codes "Illegal move: ") text
 
 -- the answer to a move's text in the game `s`, such as `e4` in `usermove e4`: refused if the game is over, by a verdict
--- or by a declared result, or has `limit` half-moves or more; else by what the text denotes (`reading_row`)
+-- or by a declared result, or has `limit` half-moves or more; otherwise by what the text denotes (`reading_row`)
 abbrev pub move_row : ℕ → State → List ℕ → Response State
 move_row limit s text =
     if is_over s then refuses s (codes "Illegal move (game over): ") text
@@ -121,7 +121,7 @@ claim_row s =
 
 -- the answer to `variant` in the game `s`, by its argument (`text` is the whole line): `fischerandom` starts a new game
 -- of Chess960 at the initial position of normal chess; `normal` starts one of normal chess if `s` is of Chess960, and
--- else does nothing. Neither has an answer. Any other argument is refused
+-- otherwise does nothing. Neither has an answer. Any other argument is refused
 abbrev pub variant_row : State → List ℕ → List ℕ → Response State
 variant_row s text argument =
     if bytes_eq argument (codes "fischerandom") then becomes (from_start (initial_setup_of Fischerandom))

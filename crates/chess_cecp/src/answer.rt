@@ -54,7 +54,8 @@ pub(crate) fn write_pong(answer: &mut Answer, number: u32)
     answer.push(b'\n');
 }
 
-// The line of the features that an arbiter has: it takes `setboard`, answers `ping`, and knows normal chess and Chess960.
+// The line of the features that an arbiter has: it takes `setboard`, answers `ping`, and knows normal chess and
+// Chess960.
 const FEATURES: &[u8] =
     b"feature ping=1 setboard=1 playother=0 san=0 usermove=1 time=1 draw=1 sigint=0 sigterm=0 reuse=1 analyze=0 colors=0 debug=1 myname=\"CECP arbiter\" variants=\"normal,fischerandom\" done=1\n";
 

@@ -281,7 +281,7 @@ impl<B: Board> Session<B> {
         write_result(answer, Outcome::Draw, comment);
     }
 
-    // Obeys `claim`: declares a draw, if the game is not over and one can be claimed in the current position; else
+    // Obeys `claim`: declares a draw, if the game is not over and one can be claimed in the current position; otherwise
     // refuses.
     #[tactic(auto, using(crate::proofs::Comments::kept_whole))]
     fn claim(&mut self, answer: &mut Answer)
@@ -344,9 +344,9 @@ impl<B: Board> Session<B> {
         }
     }
 
-    // Obeys a line whose first word is no command's name: plays it as a move, if it has the form of one; else refuses
-    // it as an unknown command. `read_command` and `obey` would do the same, but would take the text apart twice: once
-    // for its form, and once to read the move.
+    // Obeys a line whose first word is no command's name: plays it as a move, if it has the form of one; otherwise
+    // refuses it as an unknown command. `read_command` and `obey` would do the same, but would take the text apart
+    // twice: once for its form, and once to read the move.
     fn obey_unnamed(&mut self, text: &[u8], answer: &mut Answer)
         requires short { length text.now ≤ COMMAND_LEN }
         requires empty { answer.old.items ≡ [] }

@@ -32,8 +32,8 @@ abbrev pub DenotesPlacement : List ℕ → List (Option Man) → Type 0
 DenotesPlacement text men = (rows : List (List (Option Man))) × (length rows ≡ 8)
     × AllZip DenotesRank (slice_split (λ c. c == byte "/") text) rows × (men ≡ from_top rows)
 
--- the text, a FEN's fourth field, denotes this en passant target: a dash for none, else the name of a square on rank 3
--- or 6
+-- the text, a FEN's fourth field, denotes this en passant target: a dash for none, otherwise the name of a square on
+-- rank 3 or 6
 abbrev pub DenotesTarget : List ℕ → Option ℕ → Type 0
 DenotesTarget text target = (text ≡ target_text target)
     × IfSome target (λ square. (rank square ≡ 2) ⊎ (rank square ≡ 5))

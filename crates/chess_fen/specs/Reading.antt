@@ -54,7 +54,7 @@ abbrev pub conditions_of : List ℕ → Setup → List (FenFault × Bool)
 conditions_of letters p =
     take 4 (conditions p) ++ ((faults.Castling, names_rights_well p.variant p.men letters) ∷ drop 4 (conditions p))
 
--- `Ok p` if the optional fault is none, else that fault as an error
+-- `Ok p` if the optional fault is none, otherwise that fault as an error
 abbrev pub unless_fault : Setup → Option FenFault → Result Setup FenFault
 unless_fault p fault = option_map_or Err fault (Ok p)
 

@@ -66,8 +66,8 @@ rook_named men c w letter =
     else Some (home_square c (letter - first_letter c))
 
 -- one castling right, from what `rook_named` gives for each letter that names it. No letter: the right is not there
--- (`Some None`). One letter, for which there is a rook: the right is there, given as the rook's square. Several letters,
--- or one for which there is no rook: the right is named wrongly (`None`)
+-- (`Some None`). One letter, for which there is a rook: the right is there, given as the rook's square. Several
+-- letters, or one for which there is no rook: the right is named wrongly (`None`)
 abbrev pub right_by : List (Option ℕ) → Option (Option ℕ)
 right_by [] = Some None
 right_by (Some s ∷ []) = Some (Some s)

@@ -110,7 +110,7 @@ pub(crate) fn right_letter(
 }
 
 // Normal chess: a colour's castling right on a side, as its rook's square: the corner on that side, if the right's
-// letter is in the castling field `letters`; else `None`.
+// letter is in the castling field `letters`; otherwise `None`.
 fn right_named(letters: &[u8], colour: Colour, castling_side: CastlingSide) -> Option<Square>
     ensures { result ≡ right_named letters.now (side_letter colour castling_side)
         (home_square colour (rook_file castling_side)) }
@@ -157,8 +157,8 @@ fn outer_rook(men: &[Option<Man>; 64], colour: Colour, castling_side: CastlingSi
     nowhere()
 }
 
-// Whether square `s`, which is on the king's rank, is on that side of him: for the queen's side, whether it is nearer to
-// the a-file than he is; for the king's side, whether it is not. Without a king each square is on the king's side.
+// Whether square `s`, which is on the king's rank, is on that side of him: for the queen's side, whether it is nearer
+// to the a-file than he is; for the king's side, whether it is not. Without a king each square is on the king's side.
 fn is_towards(castling_side: CastlingSide, king: Option<Square>, s: Square) -> bool
     ensures { result ≡ is_towards castling_side king s }
 {

@@ -86,14 +86,14 @@ refusal_now g = if is_over g.state then Some Over else if is_full g then Some To
 abbrev pub play_refusal : Seen → Move → Option PlayRefusal
 play_refusal g m = option_or (refusal_now g) (if is_legal (current g.state) m then None else Some Illegal)
 
--- what a call returns, from the reason to refuse it, if there is one: `Ok` if there is none, else the reason as an
+-- what a call returns, from the reason to refuse it, if there is one: `Ok` if there is none, otherwise the reason as an
 -- error
 abbrev pub unless_refused : {E : Type 0} → Option E → Result (Unit {0}) E
 unless_refused None = Ok tt
 unless_refused (Some e) = Err e
 
 -- the game g after it was asked to play move m: with the move if there is no reason to refuse it (the last argument),
--- else unchanged
+-- otherwise unchanged
 abbrev pub after_play : Seen → Move → Option PlayRefusal → Seen
 after_play g m None = with_state g (played g.state m)
 after_play g m (Some e) = g

@@ -469,7 +469,7 @@ impl<B: Board> Game<B> {
         self.declared.as_ref()
     }
 
-    /// The outcome of the verdict, else of the declared result, else `Unfinished`.
+    /// The outcome of the verdict, otherwise of the declared result, otherwise `Unfinished`.
     pub fn outcome(&self) -> Outcome
         ensures { result ≡ outcome_now self.now.state }
     {

@@ -70,7 +70,8 @@ impl Hashed {
             && same_square(self.legal_en_passant_square, other.legal_en_passant_square)
     }
 
-    // `is_same` as a number to add up: 1 if the two positions are the same (Laws of Chess 2023, article 9.2.3), else 0.
+    // `is_same` as a number to add up: 1 if the two positions are the same (Laws of Chess 2023, article 9.2.3),
+    // otherwise 0.
     pub(crate) fn times_same(&self, other: &Hashed) -> u32
         requires this { IsKnown self.now }
         requires other { IsKnown other.now }
@@ -81,7 +82,7 @@ impl Hashed {
     }
 }
 
-// The en passant target, if some legal move captures on it; else none. After `1. e4` the target is e3, but no pawn
+// The en passant target, if some legal move captures on it; otherwise none. After `1. e4` the target is e3, but no pawn
 // captures there, so this is none.
 #[inline(always)]
 #[tactic(auto, unfolding(crate::specs::Same::legal_en_passant_square))]

@@ -157,7 +157,7 @@ ignores r S m =
 abbrev pub begins_turn : Rules → Colour → Match → Effect
 begins_turn r S m = let m' = enter (Opening S) m in sends_to S (opening r m' S) m'
 
--- the end of the match `m`, if the board has a verdict after its moves; else the effect `otherwise`
+-- the end of the match `m`, if the board has a verdict after its moves; otherwise the effect `otherwise`
 abbrev pub unless_decided : Rules → Match → Effect → Effect
 unless_decided r m otherwise = option_map_or (λ verdict. ends r (Decided verdict) m) (r.verdict m.played) otherwise
 
@@ -180,10 +180,10 @@ abbrev pub turn_row : Rules → Colour → LineKind → Match → Effect
 turn_row r S Resigns m = ends r (over_by.Resigns S) m
 -- `offer draw`: see `offer_row`
 turn_row r S OffersDraw m = offer_row r S m
--- `1/2-1/2`: a draw, if one may be claimed; else an offer of a draw
+-- `1/2-1/2`: a draw, if one may be claimed; otherwise an offer of a draw
 turn_row r S ClaimsDraw m = option_map_or (λ claim. ends r (Claimed claim) m) (r.claim m.played) (offer_row r S m)
 -- `1-0` or `0-1`: `S` loses, by a false claim if it names itself the winner (a mate ends the match without a claim),
--- else by resigning
+-- otherwise by resigning
 turn_row r S (ClaimsWin winner) m = ends r (if same_colour winner S then ClaimsFalsely S else over_by.Resigns S) m
 -- `Illegal move`: `S` loses, but if it was never sent a move, the line is ignored. What is tested is whether the other
 -- side has made a move (`used` has a time for each): in its turn `S` was sent each of these
@@ -204,7 +204,7 @@ moved S move used m =
 abbrev pub move_row : Rules → Colour → ℕ → Option Move → Match → Effect
 -- M denotes no legal move, or several: `S` loses
 move_row r S used None m = ends r (MovesIllegally S) m
--- the move is made. The board's verdict then ends the match, if there is one; else `S` is sent the next `ping`
+-- the move is made. The board's verdict then ends the match, if there is one; otherwise `S` is sent the next `ping`
 move_row r S used (Some move) m =
     let m' = moved S move used m in unless_decided r m' (sends_to S (ping (ping_number m' S) ∷ []) m')
 

@@ -32,8 +32,8 @@ bytes_of [] = []
 bytes_of (l ∷ ls) = text_of l ++ new_line ∷ bytes_of ls
 
 -- the lines that answer these items of `feature` lines, one for each, in their order, whatever the item's value:
--- `accepted` and its name, such as `accepted ping`, if the arbiter knows the name (`is_known`); otherwise `rejected` and
--- the name
+-- `accepted` and its name, such as `accepted ping`, if the arbiter knows the name (`is_known`); otherwise `rejected`
+-- and the name
 abbrev pub answers_to : List Item → List SentLine
 answers_to items = map (λ i. Says ((if is_known i.name then codes "accepted " else codes "rejected ") ++ i.name)) items
 

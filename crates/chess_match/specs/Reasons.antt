@@ -67,8 +67,8 @@ abbrev pub ended_by : Reason → HowEnded
 ended_by reason = (reported reason).2
 
 -- the fault that is reported of a match that ended for this reason, and its side: the fault that is the reason itself;
--- else `Write`, if writing the last lines to a side failed (`failed`), and White's if it did for both. `None` if there
--- was no fault
+-- otherwise `Write`, if writing the last lines to a side failed (`failed`), and White's if it did for both. `None` if
+-- there was no fault
 abbrev pub reported_fault : Reason → (Colour → Bool) → Option (Colour × MatchFault)
 reported_fault (Faulted c f) failed = Some (c, f)
 reported_fault _ failed =

@@ -39,8 +39,8 @@ pub record Rules : Type 0 where
   pub verdict : List Move → Option Verdict
   -- the draw that may be claimed after these moves (threefold repetition or 50 moves); `None` if none may be
   pub claim : List Move → Option DrawClaim
-  -- the text of the last of these moves: in SAN if the first argument is `true`, else by its squares (`e2e4`), where
-  -- castling in Chess960 is `O-O` or `O-O-O`. Empty if there is no move
+  -- the text of the last of these moves: in SAN if the first argument is `true`, otherwise by its squares (`e2e4`),
+  -- where castling in Chess960 is `O-O` or `O-O-O`. Empty if there is no move
   pub move_text : Bool → List Move → List ℕ
   -- whether after these moves that side has no piece but its king
   pub has_bare_king : List Move → Colour → Bool
@@ -53,7 +53,7 @@ move_read (reads.Move m) = Some m
 move_read _ = None
 
 -- the text of the last of these moves, which are made one after another from the position `p` on: in SAN, if `as_san`;
--- else by squares (`e2e4`), where castling in Chess960 is `O-O` or `O-O-O`. Empty if there is no move
+-- otherwise by squares (`e2e4`), where castling in Chess960 is `O-O` or `O-O-O`. Empty if there is no move
 abbrev pub text_of_last : Bool → Setup → List Move → List ℕ
 text_of_last as_san p [] = []
 text_of_last as_san p (m ∷ []) = if as_san then san p m else shown_move p m

@@ -1,6 +1,6 @@
 -- What passes at the table of a match, step by step: what is sent, read and noted. A table has both engines, the clock
--- and a witness, such as the log, which is given the notes; each call of the table is one step. One act of the match can
--- be two steps: a line is read, and right after it the clock.
+-- and a witness, such as the log, which is given the notes; each call of the table is one step. One act of the match
+-- can be two steps: a line is read, and right after it the clock.
 use Rattle.std.specs.Prelude.{ℕ, Bool, if◌then◌else◌, List, [], ◌∷◌, ◌++◌, Option, None, Some, Result, Ok, Err}
 use Rattle.byte_devices.specs.Transfers.{Devices}
 use Rattle.chess_base.specs.declared.man.Colour.{Colour}

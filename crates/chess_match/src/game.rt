@@ -64,7 +64,7 @@ fn start_text(start: &Position) -> Option<FenText>
     }
 }
 
-// The move that a text was read as, if it denotes exactly one legal move; else `None`.
+// The move that a text was read as, if it denotes exactly one legal move; otherwise `None`.
 fn move_read(reading: Reading) -> Option<Move>
     ensures { result ≡ move_read reading }
 {

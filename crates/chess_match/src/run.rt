@@ -407,8 +407,8 @@ fn take_line<T: MatchTable, G: MatchGame>(
     core.line(game, said(line), moment, block)
 }
 
-// Reads the next line of this side's engine into `line` and takes it, if there is one and `\n` ended it; else the end
-// of its output, or a fault, ends the match. Returns what is to be sent; the answers to the line's items go to
+// Reads the next line of this side's engine into `line` and takes it, if there is one and `\n` ended it; otherwise the
+// end of its output, or a fault, ends the match. Returns what is to be sent; the answers to the line's items go to
 // `block`, which must be empty.
 fn take_next<T: MatchTable, G: MatchGame>(
     table: &mut T,

@@ -54,7 +54,8 @@ fn note_and_put<T: MatchTable>(table: &mut T, text: &[u8], side: Colour) -> bool
 }
 
 /// Appends to the answers in `block` what else this side is sent (`given` says what), notes it all, sends it with one
-/// call of the table, and empties `block`. If there is nothing, nothing is noted or sent. Returns whether sending failed.
+/// call of the table, and empties `block`. If there is nothing, nothing is noted or sent. Returns whether sending
+/// failed.
 pub(crate) fn note_and_send<T: MatchTable, G: MatchGame>(
     table: &mut T,
     core: &MatchState,

@@ -141,7 +141,7 @@ impl MatchState {
     }
 }
 
-// If the item is `myname`, sets `name` to its value, cut so that a PGN tag can hold it; else leaves it.
+// If the item is `myname`, sets `name` to its value, cut so that a PGN tag can hold it; otherwise leaves it.
 #[tactic(auto, using(crate::proofs::Names::name_said, crate::proofs::Names::name_kept))]
 fn note_name(name: &mut TagText, item: &Item<'_>)
     ensures { (items : List feature_items.Item) → name.old ≡ name_by items

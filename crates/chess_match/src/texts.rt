@@ -21,7 +21,7 @@ pub(crate) struct LastMove {
 }
 
 impl MoveTexts {
-    /// Of the two texts of the move the one in SAN, if `as_san`; else the one by squares (`e2e4`).
+    /// Of the two texts of the move the one in SAN, if `as_san`; otherwise the one by squares (`e2e4`).
     pub(crate) fn text(&self, as_san: bool) -> &[u8]
         ensures text { result.now ≡ text_in self.now as_san }
         ensures short { length result.now ≤ 7 }

@@ -35,10 +35,10 @@ use Rattle.chess_pgn.specs.Words.{outcome_of, is_marks}
 
 -- ---- what is read in the end
 
--- what is read of a game's text. `state`: the game as far as it was read. After a fault that is the moves before it, and
--- after a bad FEN the start by the FENs before it; where there is no game it is the initial position. `answer`: `Ok (Some
--- end)` with the outcome of the game's outcome mark, what its last tag Termination names, and the offset after the mark;
--- `Ok None` if the text has no more games; `Err` with the first fault
+-- what is read of a game's text. `state`: the game as far as it was read. After a fault that is the moves before it,
+-- and after a bad FEN the start by the FENs before it; where there is no game it is the initial position. `answer`: `Ok
+-- (Some end)` with the outcome of the game's outcome mark, what its last tag Termination names, and the offset after
+-- the mark; `Ok None` if the text has no more games; `Err` with the first fault
 pub record GameRead : Type 0 where
   pub state : State
   pub answer : Result (Option PgnEnd) PgnFault
@@ -80,7 +80,7 @@ denoted_row reads.NotAMove = Fails BadToken
 
 -- what a word does that is no outcome, number or marks, in the game `s` of at most `limit` half-moves, by what it
 -- denotes in the current position. The first of: without a move's shape it is a bad token; where the board has a
--- verdict, a move after the end; where the game is full, too long; else see `denoted_row`
+-- verdict, a move after the end; where the game is full, too long; otherwise see `denoted_row`
 abbrev pub move_row : ℕ → State → Reading → Row
 move_row limit s reads.NotAMove = Fails BadToken
 move_row limit s denoted =
@@ -149,8 +149,8 @@ abbrev pub last_start : Setup → List (Result Setup FenFault × ℕ) → Setup
 last_start start fs =
     unwrap_or (last_or None (filter_map (λ f. result_ok f.0) (take_while (λ f. is_ok f.0) fs))) start
 
--- the fault of a FEN as it was read (see `fens`), in a text of `total` bytes: none if it denotes a position; else what
--- is wrong with it, at the FEN's first byte, where `to_end` bytes are left
+-- the fault of a FEN as it was read (see `fens`), in a text of `total` bytes: none if it denotes a position; otherwise
+-- what is wrong with it, at the FEN's first byte, where `to_end` bytes are left
 abbrev pub bad_fen : ℕ → Result Setup FenFault × ℕ → Option PgnFault
 bad_fen total (Ok start, to_end) = None
 bad_fen total (Err fault, to_end) = Some (record { kind = BadFen fault; offset = total - to_end })
@@ -177,8 +177,8 @@ tagged_variant tags = option_map_or (λ tag. variant_named tag.0) (last_tag (cod
 
 -- what is read of a game after `tags`, the tokens before its first number, move, outcome or fault, if each of their
 -- FENs denotes a position; the last argument is the tokens from that one on. If that is a bad tag, its fault. If no
--- token is left: no game if there is no tag either, else the fault that the game has no outcome. Else the moves. `s` is
--- the game at its start, and the text has `total` bytes
+-- token is left: no game if there is no tag either, otherwise the fault that the game has no outcome. Else the moves.
+-- `s` is the game at its start, and the text has `total` bytes
 abbrev pub read_after_tags : ℕ → ℕ → State → List (ℕ × Token) → List (ℕ × Token) → GameRead
 read_after_tags limit total s tags ((to_end, Bad_tag) ∷ rest) =
     failed s (record { kind = BadTag; offset = total - to_end })
@@ -189,7 +189,7 @@ read_after_tags limit total s tags rest = moves_read limit total (last_terminati
 
 -- what is read of the game at the front of these tokens, of at most `limit` half-moves, in a text of `total` bytes.
 -- `tags` are the tokens before its first number, move, outcome or fault; its tags, which are all among them, give the
--- variant and the start. The first of their FENs that denotes no position is the fault; else see `read_after_tags`
+-- variant and the start. The first of their FENs that denotes no position is the fault; otherwise see `read_after_tags`
 abbrev pub read_of_split : ℕ → ℕ → List (ℕ × Token) → GameRead
 read_of_split limit total tokens =
     let tags = tag_section tokens in

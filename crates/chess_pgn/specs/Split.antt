@@ -153,7 +153,7 @@ HasUnclosedComment text to_end =
     ⊎ ((inner : List ℕ) × (text ≡ byte "(" ∷ inner) × HasOpenComment false inner to_end)
 
 -- this token is the fault of a text that begins with no token (`HasNoToken`, which is not claimed here), by the text's
--- first byte. If that is `(`, the fault is an unclosed comment in the variation if there is one, else the unclosed
+-- first byte. If that is `(`, the fault is an unclosed comment in the variation if there is one, otherwise the unclosed
 -- variation
 abbrev pub IsFaultOf : List ℕ → Token → Type 0
 IsFaultOf text (Unclosed_comment to_end) = HasUnclosedComment text to_end

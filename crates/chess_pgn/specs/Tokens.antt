@@ -163,7 +163,8 @@ tokens_of (suc most) line_begins (c ∷ rest) =
 
 -- ---- a text from an offset on
 
--- where reading begins: at 3 if `at` is 0 and the text begins with a UTF-8 byte order mark (EF BB BF), else at `at`
+-- where reading begins: at 3 if `at` is 0 and the text begins with a UTF-8 byte order mark (EF BB BF), otherwise at
+-- `at`
 abbrev pub after_byte_order_mark : List ℕ → ℕ → ℕ
 after_byte_order_mark text at = if (at == 0) && bytes_eq (take 3 text) (239 ∷ 187 ∷ 191 ∷ []) then 3 else at
 

@@ -7,7 +7,7 @@ use Rattle.std.specs.List.{flat_map}
 -- ---- tokens in lines
 
 -- these lines, the last one first, with one token more: the last line takes it, after a space, if the line then has at
--- most 79 characters; else it is a new line
+-- most 79 characters; otherwise it is a new line
 abbrev pub with_token : List ℕ → List (List ℕ) → List (List ℕ)
 with_token token [] = token ∷ []
 with_token token (line ∷ earlier) =

@@ -31,10 +31,10 @@ pub fn split_name(text: &[u8]) -> (&[u8], &[u8])
     split_while(text, |byte| is_name_byte(byte))
 }
 
-// The text after any white space and `%` lines at its front (`after_gap`), and then the byte `byte`: for the byte `"` and
-// the text ` "a"]` it is `a"]`. `None` if another byte comes there, or the text ends.
-// The first test is a short cut for a byte with no white space before it, as a tag's `]` mostly is. The `match` alone
-// gives the same, with 0.7 % more instructions for the whole workload `puzzles` and 0.1 % more for `collections`.
+// The text after any white space and `%` lines at its front (`after_gap`), and then the byte `byte`: for the byte `"`
+// and the text ` "a"]` it is `a"]`. `None` if another byte comes there, or the text ends. The first test is a short cut
+// for a byte with no white space before it, as a tag's `]` mostly is. The `match` alone gives the same, with 0.7 % more
+// instructions for the whole workload `puzzles` and 0.1 % more for `collections`.
 fn after_next(byte: u8, text: &[u8]) -> Option<&[u8]>
     requires { is_white_space byte ≡ false }
     ensures { option_map (λ r. r.now) result ≡ after_next byte text.now }

@@ -138,8 +138,8 @@ one_of [] = reads.NoSuch
 one_of (m ∷ []) = reads.Move m
 one_of (m ∷ n ∷ ms) = reads.Ambiguous
 
--- what the text is read as in position p: `NotAMove` if it doesn't have a move's shape; else the legal move that it
--- denotes if there is only one, `Ambiguous` if it denotes several legal moves, `NoSuch` if it denotes none
+-- what the text is read as in position p: `NotAMove` if it doesn't have a move's shape; otherwise the legal move that
+-- it denotes if there is only one, `Ambiguous` if it denotes several legal moves, `NoSuch` if it denotes none
 unfoldable pub reading : Setup → List ℕ → Reading
 reading p text = if shape text then one_of (filter (λ m. denotes p text m) (moves p)) else reads.NotAMove
 

@@ -1,7 +1,7 @@
 -- The text that is written for a move (PGN standard of 1994, section 8.2.3). Castling is `O-O` or `O-O-O`. A pawn's
 -- move is for a capture its file and `x`, the end square, and for a promotion `=` and a letter; another piece's its
 -- letter, what distinguishes its start square from those of its rivals, `x` for a capture, and the end square. Last
--- comes `#` for mate, else `+` for check.
+-- comes `#` for mate, otherwise `+` for check.
 use Rattle.std.specs.Prelude.{ℕ, Bool, true, false, not, ◌&&◌, ◌==◌, if◌then◌else◌, List, [], ◌∷◌, ◌++◌, length, map, Option, codes}
 use Rattle.std.specs.List.{list_any, filter}
 use Rattle.std.specs.Option.{option_map_or}
@@ -41,7 +41,8 @@ unfoldable pub rival_starts : Setup → List Move → Described → List ℕ
 rival_starts p ms d = map (λ m. m.from) (filter (λ m. is_rival p d m) ms)
 
 -- what SAN writes of the start square `from` to distinguish it from the list of the rivals' start squares (8.2.3.4):
--- nothing if the list is empty; the file if no rival starts on it; else the rank if no rival starts on it; else both
+-- nothing if the list is empty; the file if no rival starts on it; otherwise the rank if no rival starts on it;
+-- otherwise both
 abbrev pub start_text : ℕ → List ℕ → List ℕ
 start_text from [] = []
 start_text from (rival ∷ rivals) =
@@ -63,7 +64,7 @@ piece_text rivals d =
 abbrev pub unmarked_san : List ℕ → Described → List ℕ
 unmarked_san rivals d = option_map_or castling_text d.castles (piece_text rivals d)
 
--- the mark for the position p that a move leads to: `#` for mate (5.1.1), `+` for check (3.9.1), else nothing
+-- the mark for the position p that a move leads to: `#` for mate (5.1.1), `+` for check (3.9.1), otherwise nothing
 unfoldable pub check_mark : Setup → List ℕ
 check_mark p = list_if (is_in_check p.men p.side) (if length (moves p) == 0 then codes "#" else codes "+")
 

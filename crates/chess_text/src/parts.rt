@@ -109,7 +109,7 @@ fn read_promotion(text: &[u8]) -> Option<Option<Promotion>>
     }
 }
 
-// The end square and promotion that a text denotes, if it has just these, as `e4` or `e8=Q`; else `None`.
+// The end square and promotion that a text denotes, if it has just these, as `e4` or `e8=Q`; otherwise `None`.
 fn read_end(text: &[u8]) -> Option<End>
     ensures { result ≡ end_at text.now }
 {
@@ -150,7 +150,7 @@ fn read_rank(text: &[u8]) -> Option<(Option<u8>, bool, End)>
 }
 
 // The parts of the text after the piece's letter, which is given. Its first file letter belongs to the end square if
-// the text can be read so (`e4`), else it is the start file (`exd5`).
+// the text can be read so (`e4`), otherwise it is the start file (`exd5`).
 fn read_file(letter: Option<Kind>, text: &[u8]) -> Option<Parts>
     ensures { result ≡ file_at letter text.now }
 {

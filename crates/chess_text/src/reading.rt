@@ -76,7 +76,7 @@ fn end_square(form: &Form, setup: &Setup) -> Square
     }
 }
 
-// The square on this file and rank, from 0 on, if both are given and below 8; else `None`.
+// The square on this file and rank, from 0 on, if both are given and below 8; otherwise `None`.
 #[inline(always)]
 fn named_square(file: Option<u8>, rank: Option<u8>) -> Option<Square>
     ensures { result ≡ named_square file rank }
@@ -206,7 +206,7 @@ fn is_denoted_by_letter(parts: &Parts, setup: &Setup, kind: Kind, m: &Move) -> b
 }
 
 // Whether the parts, which have no letter, denote `m`, a pawn's legal move to their end square without a promotion:
-// straight ahead if they name no file (`e4`), else from that file, and a capture if they have `x` (`exd5`).
+// straight ahead if they name no file (`e4`), otherwise from that file, and a capture if they have `x` (`exd5`).
 // `is_straight` and `is_by_file` test a move that was described in full.
 #[inline(always)]
 fn is_denoted_by_pawn(parts: &Parts, setup: &Setup, m: &Move) -> bool
@@ -378,10 +378,10 @@ fn read_any_move<B: Board>(board: &B, text: &[u8]) -> Reading
     denoted(board, &form)
 }
 
-/// Reads a text as a move of the board's position: a legal move if the text denotes exactly one, else why it doesn't.
-/// The texts are those of [`has_move_shape`]: coordinates (`g1f3`), castling (`O-O`) and SAN (`Nf3`). An `x` may be
-/// left out, and may be there only if the move captures (en passant does). The marks `+`, `#`, `!` and `?` at the end
-/// are skipped: whether the move gives check or mate is not compared with them.
+/// Reads a text as a move of the board's position: a legal move if the text denotes exactly one, otherwise why it
+/// doesn't. The texts are those of [`has_move_shape`]: coordinates (`g1f3`), castling (`O-O`) and SAN (`Nf3`). An `x`
+/// may be left out, and may be there only if the move captures (en passant does). The marks `+`, `#`, `!` and `?` at
+/// the end are skipped: whether the move gives check or mate is not compared with them.
 #[inline(always)]
 pub fn read_move<B: Board>(board: &B, text: &[u8]) -> Reading
     ensures value { result ≡ reading (B.position board.now) text.now }

@@ -54,7 +54,7 @@ fn distinction(file: bool, rank: bool) -> Disambiguation
 }
 
 // What SAN writes of the start square `from` beside rivals (pieces of the kind that could go to the same square) on
-// `others`: nothing if there are none; its file if none is on it; else its rank if none is on it; else both.
+// `others`: nothing if there are none; its file if none is on it; otherwise its rank if none is on it; otherwise both.
 #[tactic(auto, using(crate::proofs::Rivals::alone, crate::proofs::Rivals::beside_others))]
 fn disambiguate(from: Square, others: SquareSet) -> Disambiguation
     ensures { result ≡ disambiguate from (members others) }
@@ -80,7 +80,7 @@ fn rival_starts<B: Board>(board: &B, d: &Described) -> SquareSet
     starts.without(SquareSet::single(d.from))
 }
 
-// Appends a byte to the text if `is_written`, else nothing.
+// Appends a byte to the text if `is_written`, otherwise nothing.
 fn push_if(text: &mut SanText, is_written: bool, byte: u8)
     requires room { array_vec_len text.old < 7 }
     ensures text { text.new.items ≡ text.old.items ++ list_if is_written (byte ∷ []) }
@@ -178,7 +178,7 @@ pub fn unmarked_san<B: Board>(board: &B, m: &Move) -> SanText
     described_text(board, &d)
 }
 
-/// Appends the mark for the board's position, which is the one after the move: `#` for mate, `+` for check, else
+/// Appends the mark for the board's position, which is the one after the move: `#` for mate, `+` for check, otherwise
 /// nothing.
 #[tactic(auto, unfolding(crate::specs::San::check_mark))]
 pub fn add_check_mark<B: Board>(board: &B, text: &mut SanText)

@@ -89,7 +89,7 @@ fn tags_of(plan: &GamesPlan<'_>, number: u32, end: &MatchEnd) -> Tags
     }
 }
 
-// The side that the engine of `--white` has in the game of this number, if the plan asks for a log; else `None`.
+// The side that the engine of `--white` has in the game of this number, if the plan asks for a log; otherwise `None`.
 fn logged_side(plan: &GamesPlan<'_>, number: u32) -> Option<Colour>
     ensures { result ≡ logged_side plan.now number }
 {

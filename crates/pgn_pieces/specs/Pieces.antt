@@ -60,8 +60,8 @@ abbrev pub is_empty_line : List ℕ → Bool
 is_empty_line line = bytes_eq (take 1 (front_of line)) (codes "%") || bytes_eq (take 1 (front_of line)) (codes ";")
     || list_all is_white (front_of line)
 
--- whether a line counts as one of moves: any line that is neither a tag line nor empty. So a line of a `{` comment does,
--- and a tag that `is_tag_line` does not take
+-- whether a line counts as one of moves: any line that is neither a tag line nor empty. So a line of a `{` comment
+-- does, and a tag that `is_tag_line` does not take
 abbrev pub is_moves_line : List ℕ → Bool
 is_moves_line line = not (is_tag_line line || is_empty_line line)
 

@@ -38,7 +38,7 @@ WritesPart options i o = (i.ended ≡ false)
 -- a line; with `explain` a second line explains each fault
 abbrev pub VerifiesCollection : VerifyOptions → Result Verified VerifyFault → FromInput → ToOutput → Type 0
 -- the whole input was read; the lines of its reports and the line of counts were written and flushed; `summary` is
--- `FaultReported` if there was a fault, else `EachGame`
+-- `FaultReported` if there was a fault, otherwise `EachGame`
 VerifiesCollection options (Ok summary) i o = IsWhole i
     × ((reports : List Report) × AreCollectionReports options.strict true i.text reports
     × (o ≡ all_of (collection_text options true i.text reports)) × (summary ≡ verified (counts_of reports)))

@@ -14,7 +14,8 @@ use Rattle.pgn_verifier.specs.Reports.{Report, AreReports, report_lines, counts_
 -- the text begins at offset 0 of the input, and its games from its own offset 0 on are reported
 abbrev pub Verifies : VerifyOptions → Result Verified VerifyFault → FromInput → ToOutput → Type 0
 -- the whole input was read, and has at most `PIECE_LEN` bytes; the lines of its games up to and including the first
--- fault, numbered from 1, were written and flushed; `summary` is `FaultReported` if there was a fault, else `EachGame`
+-- fault, numbered from 1, were written and flushed; `summary` is `FaultReported` if there was a fault, otherwise
+-- `EachGame`
 Verifies options (Ok summary) i o = IsWhole i × (length i.text ≤ PIECE_LEN)
     × ((reports : List Report) × AreReports options.strict 0 i.text 0 reports
     × (o ≡ all_of (report_lines options i.text 1 reports)) × (summary ≡ verified (counts_of reports)))

@@ -35,7 +35,7 @@ abbrev pub field_at : ℕ → List ℕ → List ℕ
 field_at number fen = take_while (λ c. not (c == space)) (from_field number fen)
 
 -- the number of the field that is shown for this fault of a FEN, 0 for the first field. For a counter it is 5 (the
--- fullmove number) if field 4 (the halfmove clock) is a number of one to six digits, else 4. For a wrong number of
+-- fullmove number) if field 4 (the halfmove clock) is a number of one to six digits, otherwise 4. For a wrong number of
 -- fields, and for a fault of the pieces together, such as two kings of a colour, the first field is shown
 abbrev pub field_number : FenFault → List ℕ → ℕ
 field_number Side fen = 1

@@ -78,7 +78,7 @@ fn column_after(before: &[u8]) -> usize
 }
 
 // How many bytes after a fault's byte the part begins that is wrong: of a FEN the field that is shown for its fault,
-// else the byte itself. `text` is the text from the byte on.
+// otherwise the byte itself. `text` is the text from the byte on.
 fn part_offset(kind: FaultKind, text: &[u8]) -> usize
     ensures value { result ≡ part_offset kind text.now }
     ensures within { result ≤ length text.now }

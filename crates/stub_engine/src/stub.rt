@@ -204,8 +204,8 @@ impl<'a> Stub<'a> {
         say_turn(self.arguments, at, writer)
     }
 
-    // Takes a move of the opponent: if the stub plays, it is its turn, else nothing happens. Returns whether the stub
-    // goes on.
+    // Takes a move of the opponent: if the stub plays, it is its turn, otherwise nothing happens. Returns whether the
+    // stub goes on.
     fn moved<W: Output>(&mut self, writer: &mut W) -> Result<Go, WriteFault>
         ensures next { self.new ≡ (if self.old.plays then turn self.old.arguments else becomes self.old).state }
         ensures written { Puts (W.seen writer.old) (W.seen writer.new) result

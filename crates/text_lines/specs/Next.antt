@@ -76,7 +76,7 @@ NextLine n r r' held held' result =
     (given : List ℕ) × Consumes r.known_bytes r'.known_bytes given × Waits n r r' held given
     × Got n r r' held held' given result
 
--- the line, if the flag is true; else `None`
+-- the line, if the flag is true; otherwise `None`
 abbrev pub line_if : Bool → LineSeen → Option LineSeen
 line_if true line = Some line
 line_if false line = None

@@ -59,7 +59,7 @@ impl<const N: usize> Line<N> {
         self.too_long
     }
 
-    /// Whether `\n` ended the line; else the input's end did.
+    /// Whether `\n` ended the line; otherwise the input's end did.
     pub fn is_ended(&self) -> bool
         ensures { result ≡ self.now.ended }
     {
@@ -120,7 +120,7 @@ impl<const N: usize> Part<N> {
     }
 
     // Ends the line: puts it into `line`, in place of what that held, and begins the next one. `is_ended`: `\n` came
-    // after its bytes, else the end of the stream.
+    // after its bytes, otherwise the end of the stream.
     fn finish(&mut self, is_ended: bool, line: &mut Line<N>)
         ensures line { line.new ≡ line_of N is_ended self.old }
         ensures empty { self.new ≡ [] }
@@ -157,7 +157,7 @@ fn beginning(text: &[u8]) -> &[u8]
 }
 
 // Puts the text of a line of these bytes into `text`, in place of what that held: if it is too long its first 64 bytes,
-// else all without one `\r` at the end and then without spaces and tabs at both ends.
+// otherwise all without one `\r` at the end and then without spaces and tabs at both ends.
 fn put_text<const N: usize>(bytes: &[u8], is_too_long: bool, text: &mut ArrayVec<u8, N>)
     requires { length bytes.now ≤ N }
     ensures long { is_too_long ≡ true → text.new.items ≡ take 64 bytes.now }

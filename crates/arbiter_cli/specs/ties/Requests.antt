@@ -89,7 +89,8 @@ abbrev pub IsPlanFault : Request → WordsFault → Type 0
 IsPlanFault (request.Match m) f = IsJudgedFault m f
 IsPlanFault _ f = ⊥
 
--- the second fault is how this error of `clap` is reported: as out of memory if it is that, else as the error itself
+-- the second fault is how this error of `clap` is reported: as out of memory if it is that, otherwise as the error
+-- itself
 abbrev pub Refuses : Error → WordsFault → Type 0
 Refuses e (Words e') = (kind_of e ≢ OutOfMemory) × (e' ≡ e)
 Refuses e NoMemory = kind_of e ≡ OutOfMemory

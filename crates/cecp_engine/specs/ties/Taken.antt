@@ -8,12 +8,12 @@ use Rattle.cecp_engine.specs.declared.item.Value.{Value}
 use Rattle.cecp_engine.specs.Seen.{value_seen}
 
 -- whether an engine has the feature `name` on after the item `i`; `before` says whether it had it on so far: the item
--- decides if it has that name, else that stays
+-- decides if it has that name, otherwise that stays
 abbrev pub said_again : List ℕ → Item → Bool → Bool
 said_again name i before = if bytes_eq i.name name then is_one i.value else before
 
 -- whether an engine plays Chess960 after the item `i`; `before` says whether it did so far: the item decides if it is
--- `variants`, else that stays
+-- `variants`, otherwise that stays
 abbrev pub fischerandom_again : Item → Bool → Bool
 fischerandom_again i before = if bytes_eq i.name (codes "variants") then has_word (codes "fischerandom")
     (value_text i.value) else before

@@ -40,6 +40,7 @@ rook_from o = option_map (λ k. k.rook_from) o
 abbrev pub rook_to : Option Castle → Option ℕ
 rook_to o = option_map (λ k. k.rook_to) o
 
--- a piece other than a pawn can make move m: by the castling `o`, if m is one and nothing prevents it, else as it moves
+-- a piece other than a pawn can make move m: by the castling `o`, if m is one and nothing prevents it, otherwise as it
+-- moves
 abbrev pub castles_or_moves : Setup → Move → Option Castle → Bool
 castles_or_moves p m o = option_map_or (castles p m) o (man_moves p m)

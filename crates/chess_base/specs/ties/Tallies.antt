@@ -6,7 +6,7 @@ use Rattle.chess_base.specs.declared.man.Man.{Man}
 use Rattle.chess_base.specs.declared.sound.Tally.{Tally}
 use Rattle.chess_base.specs.Men.{Men, is_of, is_man}
 
--- 1 if a test passes, else 0
+-- 1 if a test passes, otherwise 0
 abbrev pub one_if : Bool → ℕ
 one_if b = if b then 1 else 0
 

@@ -58,7 +58,7 @@ goes_plainly p m Pawn = not (is_at p.target m.to)
 abbrev pub shifts : Setup → Move → Kind → Bool
 shifts p m k = is_none m.promotion && goes_plainly p m k
 
--- the given piece, if move m of it takes it from one square to the other and changes no more; else none
+-- the given piece, if move m of it takes it from one square to the other and changes no more; otherwise none
 abbrev pub shifted : Setup → Move → Option Man → Option Man
 shifted p m None = None
 shifted p m (Some x) = if shifts p m x.kind then Some x else None

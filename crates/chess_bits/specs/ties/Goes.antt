@@ -24,7 +24,7 @@ use Rattle.chess_moves.specs.Promoting.{would_promote}
 use Rattle.chess_moves.specs.Sets.{contains}
 
 -- the promotion with which a move from a to b is tried: to a queen, as one of the four kinds, if a pawn of the side on
--- move would reach its last rank; else none
+-- move would reach its last rank; otherwise none
 abbrev pub tried_promotion : Setup → ℕ → ℕ → Option Kind
 tried_promotion p a b = if would_promote p a b then Some Queen else None
 

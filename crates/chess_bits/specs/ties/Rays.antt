@@ -5,7 +5,7 @@ use Rattle.chess_base.specs.declared.line.Line.{Line}
 use Rattle.chess_base.specs.shared.Lines.{same_line}
 use Rattle.chess_moves.specs.Sets.{contains, is_beyond}
 
--- x is on a's line of kind l, with a greater number than a if `up`, else with a smaller one
+-- x is on a's line of kind l, with a greater number than a if `up`, otherwise with a smaller one
 abbrev pub is_on_ray : Line → Bool → ℕ → ℕ → Bool
 is_on_ray l up a x = same_line l a x && is_beyond up a x
 

@@ -47,8 +47,8 @@ normal_reading_row s text (reads.Move m) = normal_becomes_judged (played s m)
 normal_reading_row s text reads.Ambiguous = refuses s (codes "Error (ambiguous move): ") text
 normal_reading_row s text _ = refuses s (codes "Illegal move: ") text
 
--- the answer to a move's text in the game `s`: refused if the game is over or has `limit` half-moves, else played or
--- refused by what it denotes; for normal chess alone
+-- the answer to a move's text in the game `s`: refused if the game is over or has `limit` half-moves, otherwise played
+-- or refused by what it denotes; for normal chess alone
 abbrev pub normal_move_row : ℕ → State → List ℕ → Response State
 normal_move_row limit s text =
     if normal_is_over s then refuses s (codes "Illegal move (game over): ") text

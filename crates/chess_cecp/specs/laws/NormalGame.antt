@@ -102,8 +102,8 @@ normal_verdict_now s = normal_verdict s.start s.moves
 abbrev pub normal_is_over : State → Bool
 normal_is_over s = is_some (normal_verdict_now s) || is_some s.declared
 
--- the outcome of a game: that of the board's verdict, else of the declared result, else `Unfinished`; for normal chess
--- alone
+-- the outcome of a game: that of the board's verdict, otherwise of the declared result, otherwise `Unfinished`; for
+-- normal chess alone
 abbrev pub normal_outcome_now : State → Outcome
 normal_outcome_now s =
     option_map_or verdict_outcome (normal_verdict_now s) (option_map_or (λ d. d.outcome) s.declared Unfinished)

@@ -25,7 +25,7 @@ use Rattle.chess_fen.specs.Writing.{placement_text, side_text, target_text, or_d
 
 -- ---- written
 
--- the letter c as text if the castling right (a rook's square, or none) is there, else nothing
+-- the letter c as text if the castling right (a rook's square, or none) is there, otherwise nothing
 abbrev pub letter_if : Option ℕ → ℕ → List ℕ
 letter_if None c = []
 letter_if (Some corner) c = c ∷ []
@@ -118,7 +118,7 @@ normal_fault p =
     ∷ (faults.Check, not (is_in_check p.men (other p.side)))
     ∷ [])
 
--- `Ok p` if position p of normal chess is sound, else the fault of the first condition of soundness that it fails
+-- `Ok p` if position p of normal chess is sound, otherwise the fault of the first condition of soundness that it fails
 abbrev pub normal_sound : Setup → Result Setup FenFault
 normal_sound p = unless_fault p (normal_fault p)
 

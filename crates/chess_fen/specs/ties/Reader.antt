@@ -1,5 +1,5 @@
--- How code reads the castling rights of a FEN, letter by letter. A right that is named wrongly is kept as one whose rook
--- is on a square where no rook can have it, so that the position is refused as unsound.
+-- How code reads the castling rights of a FEN, letter by letter. A right that is named wrongly is kept as one whose
+-- rook is on a square where no rook can have it, so that the position is refused as unsound.
 use Rattle.std.specs.Prelude.{ℕ, max, codes, ◌-◌, ◌==◌, Bool, ◌&&◌, List, [], ◌∷◌, map, find, Option, Some, None, Result, Ok, Err, unwrap_or, if◌then◌else◌}
 use Rattle.std.specs.List.{fold}
 use Rattle.std.specs.Option.{ok_or}

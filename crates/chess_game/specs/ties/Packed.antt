@@ -22,8 +22,8 @@ kind_in p s =
     else if contains p.pawns s then Some Pawn
     else None
 
--- the colour of the piece on square s, as the packed sets p say: White if White's set has s, else Black (also for an
--- empty square)
+-- the colour of the piece on square s, as the packed sets p say: White if White's set has s, otherwise Black (also for
+-- an empty square)
 abbrev pub colour_in : PackedMen → ℕ → Colour
 colour_in p s = if contains p.white s then White else Black
 

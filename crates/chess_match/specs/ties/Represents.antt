@@ -83,12 +83,12 @@ player core S = of_colour core.players S
 
 -- ---- what the core gives to send
 
--- the lines `text` if `S` is the side that the option names, else no lines
+-- the lines `text` if `S` is the side that the option names, otherwise no lines
 abbrev pub lines_if_to : Option Colour → Colour → List SentLine → List SentLine
 lines_if_to None S text = []
 lines_if_to (Some c) S text = if same_colour c S then text else []
 
--- what items the side `S` is to be sent answers to: these, if `S` is the side `c`, else none
+-- what items the side `S` is to be sent answers to: these, if `S` is the side `c`, otherwise none
 abbrev pub items_to : Colour → List Item → Colour → List Item
 items_to c items S = if same_colour c S then items else []
 

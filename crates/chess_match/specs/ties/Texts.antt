@@ -6,7 +6,7 @@ use Rattle.chess_match.specs.Rules.{Rules}
 use Rattle.chess_match.specs.declared.texts.LastMove.{LastMove}
 use Rattle.chess_match.specs.declared.texts.MoveTexts.{MoveTexts}
 
--- of the two texts of a move that are kept, the one in SAN if `as_san`, else the one by squares (`e2e4`)
+-- of the two texts of a move that are kept, the one in SAN if `as_san`, otherwise the one by squares (`e2e4`)
 abbrev pub text_in : MoveTexts → Bool → List ℕ
 text_in t as_san = if as_san then t.san.items else t.squares.items
 

@@ -77,12 +77,12 @@ can_all_be_taken v begun (t ∷ ts) = can_be_taken v begun t.1 && can_all_be_tak
 
 -- ---- what they say
 
--- the word as a list of one, if its kind says that it may be a move, else the empty list
+-- the word as a list of one, if its kind says that it may be a move, otherwise the empty list
 abbrev pub if_move : List ℕ → WordKind → List (List ℕ)
 if_move word Move = word ∷ []
 if_move word _ = []
 
--- the token's word as a list of one, if it may be a move, else the empty list
+-- the token's word as a list of one, if it may be a move, otherwise the empty list
 abbrev pub move_words_of : Token → List (List ℕ)
 move_words_of (Word word) = if_move word (word_kind word)
 move_words_of _ = []
@@ -97,8 +97,8 @@ abbrev pub if_read : Setup → Result Setup FenFault → Setup
 if_read p (Ok start) = start
 if_read p (Err fault) = p
 
--- the game's start after one more token: what a tag FEN denotes, read as one of the variant `v`; else `p`, the start so
--- far
+-- the game's start after one more token: what a tag FEN denotes, read as one of the variant `v`; otherwise `p`, the
+-- start so far
 abbrev pub start_by : Variant → Setup → Token → Setup
 start_by v p (Tag name text to_end) = if is_fen name then if_read p (fen_reading_as v text) else p
 start_by v p _ = p
@@ -109,7 +109,7 @@ abbrev pub tagged_start : Variant → Setup → List (ℕ × Token) → Setup
 tagged_start v p [] = p
 tagged_start v p (t ∷ ts) = tagged_start v (start_by v p t.1) ts
 
--- what is known of Termination after one more token: what a tag Termination names; else `o`, what was known so far
+-- what is known of Termination after one more token: what a tag Termination names; otherwise `o`, what was known so far
 abbrev pub termination_by_token : Option Termination → Token → Option Termination
 termination_by_token o (Tag name text to_end) = termination_after o name text
 termination_by_token o _ = o
@@ -131,8 +131,8 @@ AreReadAs limit start done (w ∷ ws) (m ∷ ms) =
 
 -- ---- why a token is not taken
 
--- why a move is not played in the game `s`: AfterEnd if it has a verdict, TooLong if it has `limit` half-moves, else
--- `kind`, the fault of the move itself (or none)
+-- why a move is not played in the game `s`: AfterEnd if it has a verdict, TooLong if it has `limit` half-moves,
+-- otherwise `kind`, the fault of the move itself (or none)
 abbrev pub unless_closed : ℕ → State → Option PgnFaultKind → Option PgnFaultKind
 unless_closed limit s kind = if is_some (verdict_now s) then Some AfterEnd else
     (if nat_lt (length s.moves) limit then kind else Some TooLong)
@@ -193,9 +193,9 @@ StopsAt limit total v taken (t ∷ ts) s (Ok (Some e)) =
 StopsAt limit total v taken (t ∷ ts) s (Err f) =
     (s.declared ≡ None) × (token_fault limit total v (list_any (λ u. begins u.1) taken) s t.0 t.1 ≡ Some f)
 
--- the game read (`r`) is that of a first part of the tokens, `taken`: its start is what their last FEN denotes, else
--- the initial position of variant `v`, its moves are those of their words, and reading stopped rightly after them.
--- `limit` is the most half-moves of a game, `total` the text's length
+-- the game read (`r`) is that of a first part of the tokens, `taken`: its start is what their last FEN denotes,
+-- otherwise the initial position of variant `v`, its moves are those of their words, and reading stopped rightly after
+-- them. `limit` is the most half-moves of a game, `total` the text's length
 pub record IsOfTokens (limit total : ℕ) (v : Variant) (tokens : List (ℕ × Token)) (r : GameRead) : Type 0 where
   pub taken : List (ℕ × Token)
   pub others : List (ℕ × Token)

@@ -52,8 +52,8 @@ ends g o offset = Stop (record {
   answer = Ok (Some (record { outcome = o; termination = g.termination; offset = offset }));
 })
 
--- `next`, if one more move may be played in the game so far (`g`); else a fault at `offset`, that of the move's word:
--- AfterEnd if the board has a verdict, TooLong if the game has `limit` moves
+-- `next`, if one more move may be played in the game so far (`g`); otherwise a fault at `offset`, that of the move's
+-- word: AfterEnd if the board has a verdict, TooLong if the game has `limit` moves
 abbrev pub unless_full : ℕ → SoFar → ℕ → Step → Step
 unless_full limit g offset next =
     if is_some (verdict_now g.state) then fails g AfterEnd offset
@@ -85,7 +85,7 @@ fen_step g offset (Ok start) = On (record g { state = from_start start; is_met =
 fen_step g offset (Err fault) = fails g (BadFen fault) offset
 
 -- what the last tag Termination read so far says, once a tag with this name and text is read: what that tag says, if
--- its name is Termination, else `before`, what was known before it
+-- its name is Termination, otherwise `before`, what was known before it
 abbrev pub termination_after : Option Termination → List ℕ → List ℕ → Option Termination
 termination_after before name text = if bytes_eq name (codes "Termination") then termination_named text else before
 
@@ -116,8 +116,8 @@ abbrev pub at_text_end : ℕ → SoFar → GameRead
 at_text_end total g =
     record { state = g.state; answer = if g.is_met then Err (record { kind = NoResult; offset = total }) else Ok None }
 
--- what was read in the end: if the step says that reading goes on, what `later` gives for the game so far; else what
--- the step stopped with
+-- what was read in the end: if the step says that reading goes on, what `later` gives for the game so far; otherwise
+-- what the step stopped with
 abbrev pub read_rest_with : Step → (SoFar → GameRead) → GameRead
 read_rest_with (On g) later = later g
 read_rest_with (Stop read) later = read

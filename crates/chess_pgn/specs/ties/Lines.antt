@@ -11,7 +11,7 @@ tag_lines_of pairs = map (λ p. tag_line p.name.now p.text.now) pairs
 -- ---- tokens in lines, from left to right
 
 -- the line that is begun with the text `line`, and the lines after it: each token goes on the line, after a space, if
--- the line then has at most 79 characters; else it begins the next one
+-- the line then has at most 79 characters; otherwise it begins the next one
 abbrev pub lines_from : List ℕ → List (List ℕ) → List (List ℕ)
 lines_from line [] = line ∷ []
 lines_from line (t ∷ ts) =
@@ -33,7 +33,7 @@ fits_line column token = not (column == 0) && nat_le (column + 1 + length token)
 abbrev pub line_close : ℕ → List ℕ
 line_close column = if column == 0 then [] else new_line ∷ []
 
--- a token as it is added to a line with `column` bytes so far: after a space if it fits, else on a new line after
+-- a token as it is added to a line with `column` bytes so far: after a space if it fits, otherwise on a new line after
 -- `prefix`. Column 0: no line is begun
 abbrev pub wrapped_token : List ℕ → ℕ → List ℕ → List ℕ
 wrapped_token prefix column token =

@@ -40,7 +40,7 @@ normal_described p m =
 unfoldable pub normal_denotes : Setup → List ℕ → Move → Bool
 normal_denotes p text m = passes (denotes_described text) (normal_described p m)
 
--- what a text is read as in position p: `NotAMove` if it hasn't the shape of a move; else the legal move that it
+-- what a text is read as in position p: `NotAMove` if it hasn't the shape of a move; otherwise the legal move that it
 -- denotes, `Ambiguous` if it denotes several, `NoSuch` if it denotes none
 unfoldable pub normal_reading : Setup → List ℕ → Reading
 normal_reading p text = if shape text then one_of (filter (λ m. normal_denotes p text m) (normal_moves p)) else NotAMove
@@ -58,7 +58,7 @@ normal_is_rival p d m =
 unfoldable pub normal_rival_starts : Setup → Described → List ℕ
 normal_rival_starts p d = map (λ m. m.from) (filter (λ m. normal_is_rival p d m) (normal_moves p))
 
--- the mark for the position p that a move leads to: `#` for mate, `+` for check, else nothing
+-- the mark for the position p that a move leads to: `#` for mate, `+` for check, otherwise nothing
 unfoldable pub normal_check_mark : Setup → List ℕ
 normal_check_mark p =
     list_if (is_in_check p.men p.side) (if length (normal_moves p) == 0 then codes "#" else codes "+")

@@ -41,8 +41,8 @@ abbrev pub form_of_parts : Option Parts → Option Form
 form_of_parts None = None
 form_of_parts (Some q) = if is_form q then Some (Piece q) else None
 
--- what a text is read as: castling to side w if it denotes that (`Some w`), else its parts, if they can be those of a
--- move's text; else `None`
+-- what a text is read as: castling to side w if it denotes that (`Some w`), otherwise its parts, if they can be those
+-- of a move's text; otherwise `None`
 abbrev pub form_at : Option CastlingSide → List ℕ → Option Form
 form_at (Some w) text = Some (Castling w)
 form_at None text = form_of_parts (parts_at text)
@@ -97,7 +97,7 @@ abbrev pub with_moves : Reading → List Move → Reading
 with_moves found [] = found
 with_moves found (m ∷ ms) = with_moves (with_move found m) ms
 
--- the square on this file and rank, from 0 on, if both are given and below 8; else none
+-- the square on this file and rank, from 0 on, if both are given and below 8; otherwise none
 abbrev pub named_square : Option ℕ → Option ℕ → Option ℕ
 named_square None rank = None
 named_square (Some f) None = None
@@ -130,7 +130,7 @@ is_denoted_by_letter q p k m = admits q.file (file m.from) && admits q.rank (ran
     && (not q.takes || captures p m) && not (same_kind King k && is_some (castling p m))
 
 -- the parts q, which have no letter, denote m, a pawn's legal move to their end square without a promotion: straight
--- ahead if they name no file (e4), else from that file, and a capture if they have `x` (exd5)
+-- ahead if they name no file (e4), otherwise from that file, and a capture if they have `x` (exd5)
 abbrev pub is_denoted_by_pawn : Parts → Setup → Move → Bool
 is_denoted_by_pawn q p m =
     if is_none q.file then is_none q.rank && not q.takes && (file m.from == file m.to)
@@ -141,8 +141,8 @@ is_denoted_by_pawn q p m =
 abbrev pub is_denoted_of : Parts → Setup → Kind → Move → Bool
 is_denoted_of q p k m = if is_some q.letter then is_denoted_by_letter q p k m else is_denoted_by_pawn q p m
 
--- the move from square a to the end square of the parts q, as a list of one, if q denotes it; else the empty list. It
--- is known that this move is legal, no promotion, and of a piece of kind k
+-- the move from square a to the end square of the parts q, as a list of one, if q denotes it; otherwise the empty list.
+-- It is known that this move is legal, no promotion, and of a piece of kind k
 abbrev pub denoted_start : Parts → Setup → Kind → ℕ → List Move
 denoted_start q p k a = if is_denoted_of q p k (move_of a q.end.to None) then move_of a q.end.to None ∷ [] else []
 

@@ -24,7 +24,7 @@ promoted = Queen ∷ Rook ∷ Bishop ∷ Knight ∷ []
 abbrev pub kind_from : List Kind → ℕ → Option Kind
 kind_from kinds c = find (λ k. white_letter k == c) kinds
 
--- the first value if it is there, else the second
+-- the first value if it is there, otherwise the second
 abbrev pub or_else : {A : Type 0} → Option A → Option A → Option A
 or_else (Some x) o = Some x
 or_else None o = o
@@ -50,7 +50,7 @@ promotion_at (c ∷ []) = option_map Some (promotion_by false c)
 promotion_at (c ∷ d ∷ []) = if c == byte "=" then option_map Some (promotion_by true d) else None
 promotion_at (c ∷ d ∷ e ∷ cs) = None
 
--- the end square and promotion that a text denotes, if it has just these, as e4 or e8=Q; else none
+-- the end square and promotion that a text denotes, if it has just these, as e4 or e8=Q; otherwise none
 abbrev pub end_at : List ℕ → Option End
 end_at [] = None
 end_at (f ∷ []) = None
@@ -80,7 +80,7 @@ abbrev pub with_parts : Option Kind → Option ℕ → Option ℕ × Bool × End
 with_parts letter file x = record { letter = letter; file = file; rank = x.0; takes = x.1; end = x.2 }
 
 -- the parts of the text after the piece's letter, which is given. Its first file letter belongs to the end square if
--- the text can be read so (e4), else it is the start file (exd5)
+-- the text can be read so (e4), otherwise it is the start file (exd5)
 abbrev pub file_at : Option Kind → List ℕ → Option Parts
 file_at letter [] = None
 file_at letter (c ∷ rest) =

@@ -23,14 +23,14 @@ abbrev pub distinction : Bool → Bool → Disambiguation
 distinction f r = record { file = f; rank = r }
 
 -- what SAN writes of the start square `from` beside rivals on other squares: nothing if there are none; its file if no
--- rival is on it; else its rank if no rival is on it; else both
+-- rival is on it; otherwise its rank if no rival is on it; otherwise both
 abbrev pub disambiguate : ℕ → List ℕ → Disambiguation
 disambiguate from [] = distinction false false
 disambiguate from (other ∷ others) =
     if not (some_on_file (file from) (other ∷ others)) then distinction true false
     else (if not (some_on_rank (rank from) (other ∷ others)) then distinction false true else distinction true true)
 
--- the number n if b says that it is written, else none
+-- the number n if b says that it is written, otherwise none
 abbrev pub if_written : Bool → ℕ → Option ℕ
 if_written b n = if b then Some n else None
 

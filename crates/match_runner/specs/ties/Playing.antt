@@ -41,7 +41,7 @@ score_after first outcome s = record {
 
 -- ---- a game
 
--- the side that the engine of `--white` has in the game of this number, if the plan asks for a log; else `None`
+-- the side that the engine of `--white` has in the game of this number, if the plan asks for a log; otherwise `None`
 abbrev pub logged_side : GamesPlan → ℕ → Option Colour
 logged_side plan number = if plan.log then Some (first_side number) else None
 

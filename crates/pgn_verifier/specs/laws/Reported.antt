@@ -55,6 +55,6 @@ abbrev pub reports_in : Bool → Piece → List Report
 reports_in strict piece = option_map_or (reports_on strict piece.offset) piece.bytes (too_long_report piece ∷ [])
 
 -- the reports on the games of a collection of which this text was read: on all its pieces, if the text is all of it
--- (`ended`), else on all but the last. `strict`: results are compared
+-- (`ended`), otherwise on all but the last. `strict`: results are compared
 abbrev pub collection_reports : Bool → Bool → List ℕ → List Report
 collection_reports strict ended text = flat_map (reports_in strict) (pieces ended 0 text)
