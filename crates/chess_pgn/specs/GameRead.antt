@@ -177,8 +177,8 @@ tagged_variant tags = option_map_or (λ tag. variant_named tag.0) (last_tag (cod
 
 -- what is read of a game after `tags`, the tokens before its first number, move, outcome or fault, if each of their
 -- FENs denotes a position; the last argument is the tokens from that one on. If that is a bad tag, its fault. If no
--- token is left: no game if there is no tag either, otherwise the fault that the game has no outcome. Else the moves.
--- `s` is the game at its start, and the text has `total` bytes
+-- token is left: no game if there is no tag either, otherwise the fault that the game has no outcome. In all other
+-- cases the moves are read. `s` is the game at its start, and the text has `total` bytes
 abbrev pub read_after_tags : ℕ → ℕ → State → List (ℕ × Token) → List (ℕ × Token) → GameRead
 read_after_tags limit total s tags ((to_end, Bad_tag) ∷ rest) =
     failed s (record { kind = BadTag; offset = total - to_end })
