@@ -4,9 +4,9 @@ ghost use Rattle.std.specs.Prelude.{◌≡◌, ◌≤◌};
 ghost use Rattle.byte_devices.specs.Devices.{Sends};
 ghost use Rattle.chess_match.specs.Reasons.{comment_of};
 ghost use Rattle.chess_match.specs.declared.reason.Reason.TheVariants.{Faulted};
-ghost use Rattle.match_runner.specs.Games.{PlaysGames, engine_command, first_side, player_name, score_line, tags_of};
+ghost use Rattle.match_runner.specs.Games.{PlaysGames, engine_command, first_side, player_name, tags_of};
 ghost use Rattle.match_runner.specs.GamesTable.{PlaysGamesAt};
-ghost use Rattle.match_runner.specs.ties.Playing.{HasPlayed, PlayedGame, logged_side};
+ghost use Rattle.match_runner.specs.ties.Playing.{HasPlayed, PlayedGame, logged_side, score_text};
 ghost use Rattle.match_runner.specs.Log.{log_seen};
 ghost use Rattle.chess_game.specs.declared.game.TheConstants.{MOST_MOVES};
 
@@ -102,7 +102,7 @@ fn logged_side(plan: &GamesPlan<'_>, number: u32) -> Option<Colour>
 
 // Writes the line `score first 1 second 0 ..` of the match so far to the output, and flushes.
 fn write_score<W: Output>(score: Score, output: &mut W) -> Result<(), WriteFault>
-    ensures { Sends (W.seen output.old) (W.seen output.new) result (score_line score) }
+    ensures { Sends (W.seen output.old) (W.seen output.new) result (score_text score) }
 {
     send(output, score.line().as_slice())
 }
@@ -204,8 +204,8 @@ pub fn play_games_at<'a, T: GamesTable, W: Output, E: Output>(
 ) -> Result<(), GamesFault<'a>>
     requires { (T.game table.old).limit ≡ MOST_MOVES }
     ensures plays { PlaysGamesAt plan.now result (T.passed table.old) (T.passed table.new)
-        (record { output = W.seen output.old; log = log_seen (E.seen log.old.output) log.old.broken })
-        (record { output = W.seen output.new; log = log_seen (E.seen log.new.output) log.new.broken }) }
+        (W.seen output.old) (W.seen output.new)
+        (log_seen (E.seen log.old.output) log.old.broken) (log_seen (E.seen log.new.output) log.new.broken) }
 {
     let played = play_each(table, plan, output, log)?;
     write_score(played.score, output)?;
@@ -231,9 +231,8 @@ pub fn play_games<'a, P: Processes + Clock, W: Output, E: Output>(
     output: &mut W,
     log: &mut Log<E>,
 ) -> Result<(), GamesFault<'a>>
-    ensures { PlaysGames plan.now result
-        (record { output = W.seen output.old; log = log_seen (E.seen log.old.output) log.old.broken })
-        (record { output = W.seen output.new; log = log_seen (E.seen log.new.output) log.new.broken }) }
+    ensures { PlaysGames plan.now result (W.seen output.old) (W.seen output.new)
+        (log_seen (E.seen log.old.output) log.old.broken) (log_seen (E.seen log.new.output) log.new.broken) }
 {
     let tables = AttackTables::open(alloc)?;
     let game = Game::open(alloc, Bits::new(&tables), MOST_MOVES)?;
