@@ -4,8 +4,8 @@ use Rattle.clap.specs.Words.{HasKind, IsAmong, Kinds, Row, Text, found_of, kind_
 use Rattle.clap.specs.declared.error.Error.{Error}
 use Rattle.clap.specs.declared.parser.matches.ArgMatches.{ArgMatches}
 use Rattle.arbiter_grammar.specs.Grammar.{AreVariants, IsComplete, IsParsed, VariantNames, arbiter_app, asked, faults_in}
-use Rattle.arbiter_cli.specs.Plans.{IsMatchPlan, IsPlanOf, IsReadBy, IsReading, Said, Values, date_asked, is_date, level_and_start, matched, said_by, start_asked, text_or}
-use Rattle.arbiter_cli.specs.ties.Requests.{IsJudged, IsJudgedFault, IsMatchOf, IsPlanFault, IsPlanned, IsRequestOf, Refuses, start_of}
+use Rattle.arbiter_cli.specs.Plans.{IsMatchPlan, IsPlanOf, IsReadAs, IsReading, Said, Values, is_date, level_start_and_date, said_by, start_asked, text_or}
+use Rattle.arbiter_cli.specs.ties.Requests.{IsJudged, IsJudgedFault, IsMatchOf, IsPlanFault, IsPlanned, IsRequestOf, Refuses, matched, start_of}
 use Rattle.cecp_engine.specs.Levels.{level_of}
 use Rattle.arbiter_cli.specs.declared.plan.MatchPlan.{MatchPlan}
 use Rattle.arbiter_cli.specs.declared.fault.WordsFault.{WordsFault}
@@ -31,18 +31,17 @@ refusal_by kinds e BadLevel h fits = absurd fits
 refusal_by kinds e (BadFen x) h fits = absurd fits
 refusal_by kinds e BadDate h fits = absurd fits
 
-refused_by : (names : VariantNames) (texts : List Text) (f : WordsFault) → IsRefusalBy (faults_in names texts) f
-    → IsReadBy names texts (Err f)
-refused_by names texts (Words x) h = h
-refused_by names texts NoMemory h = h
-refused_by names texts BadLevel h = absurd h
-refused_by names texts (BadFen x) h = absurd h
-refused_by names texts BadDate h = absurd h
+refused_by : (kinds : Kinds) (said : Said) (f : WordsFault) → IsRefusalBy kinds f → IsReadAs kinds said (Err f)
+refused_by kinds said (Words x) h = h
+refused_by kinds said NoMemory h = h
+refused_by kinds said BadLevel h = absurd h
+refused_by kinds said (BadFen x) h = absurd h
+refused_by kinds said BadDate h = absurd h
 
 pub refused_reading : (texts : List Text) (e : Error) (f : WordsFault) → IsParsed texts (Err e) → Refuses e f
     → IsReading texts (Err f)
 refused_reading texts e f p fits =
-    (p.0, p.1, refused_by p.0 texts f (refusal_by (faults_in p.0 texts) e f p.2 fits))
+    (p.0, p.1, refused_by (faults_in p.0 texts) (said_by (asked p.0 texts)) f (refusal_by (faults_in p.0 texts) e f p.2 fits))
 
 -- a match that was taken as written and then judged is played by what its options denote
 module _ (value : Values) (m : MatchRequest) (is : IsMatchOf value m) where
@@ -56,31 +55,32 @@ module _ (value : Values) (m : MatchRequest) (is : IsMatchOf value m) where
   match_judged plan validate = record {
     white = is.white ∙ ap (λ (t : Bor Text). Some t.now) (sym validate.white);
     black = is.black ∙ ap (λ (t : Bor Text). Some t.now) (sym validate.black);
-    read = read_as value (Some plan.level) (Ok plan.start) true (level_is ∙ validate.level) (start_is ∙ validate.start)
-        (ap is_date (sym is.date) ∙ validate.good_date);
+    read = read_as value (Some plan.level) (Ok plan.start) plan.date.now true (level_is ∙ validate.level)
+        (start_is ∙ validate.start) (sym is.date ∙ ap (λ (t : Bor Text). t.now) (sym validate.date))
+        (ap (λ (t : Bor Text). is_date t.now) validate.date ∙ validate.good_date);
     games = validate.games ∙ is.games;
     games_range = subst (λ n. (1 ≤ n) × (n ≤ 1000)) (sym validate.games) is.games_range;
-    date = ap (λ (t : Bor Text). t.now) validate.date ∙ is.date;
     log = validate.log ∙ is.log;
   }
 
-  judged_fault : (f : WordsFault) → IsJudgedFault m f → level_and_start value ≡ Err f
+  judged_fault : (f : WordsFault) → IsJudgedFault m f → level_start_and_date value ≡ Err f
   judged_fault (Words x) h = absurd h
   judged_fault NoMemory h = absurd h
-  judged_fault BadLevel h = read_as value None (start_asked value) (is_date (date_asked value)) (level_is ∙ h) refl refl
+  judged_fault BadLevel h =
+      read_as value None (start_asked value) m.date.now (is_date m.date.now) (level_is ∙ h) refl (sym is.date) refl
   judged_fault (BadFen x) (l, level, start) =
-      read_as value (Some l) (Err x) (is_date (date_asked value)) (level_is ∙ level) (start_is ∙ start) refl
+      read_as value (Some l) (Err x) m.date.now (is_date m.date.now) (level_is ∙ level) (start_is ∙ start)
+      (sym is.date) refl
   judged_fault BadDate (l, p, level, start, date) =
-      read_as value (Some l) (Ok p) false (level_is ∙ level) (start_is ∙ start) (ap is_date (sym is.date) ∙ date)
+      read_as value (Some l) (Ok p) m.date.now false (level_is ∙ level) (start_is ∙ start) (sym is.date) date
 
-match_fault : (names : VariantNames) (texts : List Text) (f : WordsFault) → faults_in names texts ≡ []
-    → (asked names texts).0 ≡ codes "match" → (m : MatchRequest) → IsMatchOf (matched (asked names texts).1) m
-    → IsJudgedFault m f → IsReadBy names texts (Err f)
-match_fault names texts (Words x) none name m is h = absurd h
-match_fault names texts NoMemory none name m is h = absurd h
-match_fault names texts BadLevel none name m is h = (none, (name, judged_fault _ m is BadLevel h))
-match_fault names texts (BadFen x) none name m is h = (none, (name, judged_fault _ m is (BadFen x) h))
-match_fault names texts BadDate none name m is h = (none, (name, judged_fault _ m is BadDate h))
+match_fault : (kinds : Kinds) (said : Said) (f : WordsFault) → kinds ≡ [] → said.command ≡ codes "match"
+    → (m : MatchRequest) → IsMatchOf said.value m → IsJudgedFault m f → IsReadAs kinds said (Err f)
+match_fault kinds said (Words x) none name m is h = absurd h
+match_fault kinds said NoMemory none name m is h = absurd h
+match_fault kinds said BadLevel none name m is h = (none, name, judged_fault _ m is BadLevel h)
+match_fault kinds said (BadFen x) none name m is h = (none, name, judged_fault _ m is (BadFen x) h)
+match_fault kinds said BadDate none name m is h = (none, name, judged_fault _ m is BadDate h)
 
 planned_plan : (said : Said) (s : Request) (plan : Plan) → IsRequestOf said s → IsPlanned s plan → IsPlanOf said plan
 planned_plan said request.Session plan is e = subst (IsPlanOf said) (sym e) is
@@ -89,13 +89,12 @@ planned_plan said (request.Stub arguments) plan is e = subst (IsPlanOf said) (sy
 planned_plan said (request.Match m) plan is e =
     subst (IsPlanOf said) (sym e.1) (is.0, match_judged said.value m is.1 e.0 e.2)
 
-plan_fault : (names : VariantNames) (texts : List Text) (s : Request) (f : WordsFault) → faults_in names texts ≡ []
-    → IsRequestOf (said_by (asked names texts)) s → IsPlanFault s f → IsReadBy names texts (Err f)
-plan_fault names texts request.Session f none is h = absurd h
-plan_fault names texts (request.Verify v) f none is h = absurd h
-plan_fault names texts (request.Stub arguments) f none is h = absurd h
-plan_fault names texts (request.Match m) f none is h =
-    match_fault names texts f none is.0 m is.1 h
+plan_fault : (kinds : Kinds) (said : Said) (s : Request) (f : WordsFault) → kinds ≡ [] → IsRequestOf said s
+    → IsPlanFault s f → IsReadAs kinds said (Err f)
+plan_fault kinds said request.Session f none is h = absurd h
+plan_fault kinds said (request.Verify v) f none is h = absurd h
+plan_fault kinds said (request.Stub arguments) f none is h = absurd h
+plan_fault kinds said (request.Match m) f none is h = match_fault kinds said f none is.0 m is.1 h
 
 -- what was taken as written was planned
 pub planned_reading : (names : VariantNames) (texts : List Text) → AreVariants names → faults_in names texts ≡ []
@@ -103,7 +102,7 @@ pub planned_reading : (names : VariantNames) (texts : List Text) → AreVariants
     → (r : Result Plan WordsFault) → IfOk r (IsPlanned s) → IfErr r (IsPlanFault s) → IsReading texts r
 planned_reading names texts are none s is (Ok plan) p f =
     (names, are, (none, planned_plan (said_by (asked names texts)) s plan is p))
-planned_reading names texts are none s is (Err e) p f = (names, are, plan_fault names texts s e none is f)
+planned_reading names texts are none s is (Err e) p f = (names, are, plan_fault (faults_in names texts) (said_by (asked names texts)) s e none is f)
 
 -- ---- the command that was entered
 

@@ -5,7 +5,7 @@ use Rattle.std.specs.Option.{option_map_or}
 use Rattle.std.specs.Result.{result_map_both}
 use Rattle.std.specs.Str.{bytes_eq}
 use Rattle.std.specs.Str.Parse.{digits_value, without_leading_plus}
-use Rattle.clap.specs.Words.{IsAmong, Row, Text, all_of, first_of, kind_of}
+use Rattle.clap.specs.Words.{IsAmong, Kinds, Row, Text, all_of, first_of, kind_of}
 use Rattle.arbiter_grammar.specs.Grammar.{AreVariants, VariantNames, asked, faults_in}
 use Rattle.arbiter_cli.specs.declared.plan.Plan.{Plan}
 use Rattle.arbiter_cli.specs.declared.plan.Plan.TheVariants.{Session, Verify, Stub, Match}
@@ -39,11 +39,6 @@ pub record Said : Type 0 where
 abbrev pub text_or : Text → Values → Text → Text
 text_or name value default = unwrap_or (value name) default
 
--- how many games `--games` asks for, in decimal, where a `+` may come first; 1 without `--games`. That its value is a
--- number is not checked here, but by the grammar (`games_rule`)
-abbrev pub games_in : Values → ℕ
-games_in value = option_map_or (λ t. digits_value 10 (without_leading_plus t)) (value (codes "games")) 1
-
 -- the variant that `--variant` asks for: Chess960 for `fischerandom`, normal chess for any other name or none
 abbrev pub variant_in : Values → Variant
 variant_in value =
@@ -64,10 +59,6 @@ verify_plan_of value = record {
 
 -- ---- what they mean
 
--- the value of `--date`, `????.??.??` if it was not given
-abbrev pub date_asked : Values → Text
-date_asked value = text_or (codes "date") value (codes "????.??.??")
-
 -- the position in which each game of a match starts: the one that the value of `--fen` denotes as a FEN of the variant
 -- that `--variant` asks for, or the FEN's fault; without `--fen` that variant's initial position
 abbrev pub start_asked : Values → Result Setup FenFault
@@ -79,23 +70,25 @@ start_asked value = let v = variant_in value in
 abbrev pub is_date : Text → Bool
 is_date text = nat_le (length text) 60 && list_all (λ b. nat_le 32 b && nat_le b 126) text
 
--- the time control of a match and the position in which its games start; or if level, FEN or date is invalid, the fault
--- of the first that is. Without `--level` the time control is `40 5 0`, 40 moves in 5 minutes without an increment
-abbrev pub level_and_start : Values → Result (LevelSeen × Setup) WordsFault
-level_and_start value = do
+-- the time control of a match, the position in which its games start, and their date as a text; or if level, FEN or date
+-- is invalid, the fault of the first that is. Without `--level` the time control is `40 5 0`, 40 moves in 5 minutes
+-- without an increment; without `--date` the date is `????.??.??`
+abbrev pub level_start_and_date : Values → Result (LevelSeen × Setup × Text) WordsFault
+level_start_and_date value = let date = text_or (codes "date") value (codes "????.??.??") in do
   level ← ok_or (level_of (text_or (codes "level") value (codes "40 5 0"))) BadLevel
   start ← result_map_both (λ setup. setup) BadFen (start_asked value)
-  if is_date (date_asked value) then Ok (level, start) else Err BadDate
+  if is_date date then Ok (level, start, date) else Err BadDate
 
 -- `plan` is the plan of a match with these options, each as given or by default: `--white` and `--black`, which have no
 -- default, are the commands of its engines; level, FEN and date are valid (`read`); and it has 1 to 1,000 games
 pub record IsMatchPlan (value : Values) (plan : MatchPlan) : Type 0 where
   pub white : value (codes "white") ≡ Some plan.white.now
   pub black : value (codes "black") ≡ Some plan.black.now
-  pub read : level_and_start value ≡ Ok (plan.level, plan.start)
-  pub games : plan.games ≡ games_in value
+  pub read : level_start_and_date value ≡ Ok (plan.level, plan.start, plan.date.now)
+  -- as many games as `--games` asks for, in decimal, where a `+` may come first; 1 without `--games`. That its value is
+  -- a number is not checked here, but by the grammar (`games_rule`)
+  pub games : plan.games ≡ option_map_or (λ t. digits_value 10 (without_leading_plus t)) (value (codes "games")) 1
   pub games_range : (1 ≤ plan.games) × (plan.games ≤ 1000)
-  pub date : plan.date.now ≡ date_asked value
   pub log : plan.log ≡ is_set (codes "log") value
 
 -- the plan is the one that the arguments, which say `said`, ask for: that of their subcommand, with fields as the
@@ -106,44 +99,31 @@ IsPlanOf said (Verify v) = (said.command ≡ codes "verify") × (v ≡ verify_pl
 IsPlanOf said (Stub arguments) = (said.command ≡ codes "stub") × (map (λ w. w.now) arguments.items ≡ said.replies)
 IsPlanOf said (Match plan) = (said.command ≡ codes "match") × IsMatchPlan said.value plan
 
--- the result of reading arguments that `clap`, the parser of arguments, accepts is right; `said` is what they say
-abbrev pub IsReadAs : Said → Result Plan WordsFault → Type 0
--- the plan that they ask for
-IsReadAs said (Ok plan) = IsPlanOf said plan
--- a fault of `clap` is never right, since it accepts them
-IsReadAs said (Err (Words e)) = ⊥
+-- the result of reading arguments is right. `kinds` are the kinds of fault that `clap`, the parser of arguments, may
+-- report for them, empty if it accepts them; `said` is what they say
+abbrev pub IsReadAs : Kinds → Said → Result Plan WordsFault → Type 0
+-- the plan that they ask for; `clap` accepts them
+IsReadAs kinds said (Ok plan) = (kinds ≡ []) × IsPlanOf said plan
+-- an error of `clap`, of one of these kinds. A request for help or for the version counts as an error too
+IsReadAs kinds said (Err (Words e)) = IsAmong (kind_of e) kinds
 -- out of memory may be reported for any arguments
-IsReadAs said (Err NoMemory) = ⊤
--- `BadLevel`, `BadFen` or `BadDate`: the level, FEN or date of a match is invalid, and this is the fault of the first
--- that is
-IsReadAs said (Err f) = (said.command ≡ codes "match") × (level_and_start said.value ≡ Err f)
+IsReadAs kinds said (Err NoMemory) = ⊤
+-- `BadLevel`, `BadFen` or `BadDate`: `clap` accepts them, but the level, FEN or date of a match is invalid, and this is
+-- the fault of the first that is
+IsReadAs kinds said (Err f) = (kinds ≡ []) × (said.command ≡ codes "match") × (level_start_and_date said.value ≡ Err f)
 
 -- ---- by the grammar
 
--- the values of options by their names, without `--`, from the options as `clap` matched them (`rows`): the first value
--- of each; `None` for an option without one. A flag has `true` if it was given, else `false`
-abbrev pub matched : List Row → Values
-matched rows = λ name. first_of name rows
-
--- what arguments say; `p` is the subcommand's name and its options as `clap` matched them. `words` is the name by which
+-- what arguments say; `p` is the subcommand's name and its options as `clap` matched them. The value of an option is the
+-- first that was matched for its name; a flag has `true` if it was given, else `false`. `words` is the name by which
 -- `clap` knows the arguments after `stub`; without these, as for any other subcommand, `replies` is `[]`
 abbrev pub said_by : Text × List Row → Said
 said_by p =
-    record { command = p.0; value = matched p.1; replies = unwrap_or (all_of (codes "words") p.1) [] }
-
--- the result of reading these arguments is right by the grammar in which `--variant` takes the names `names`
-abbrev pub IsReadBy : VariantNames → List Text → Result Plan WordsFault → Type 0
--- an error of `clap`, of a kind that `clap` may report for these arguments. A request for help or for the version
--- counts as an error too
-IsReadBy names arguments (Err (Words e)) = IsAmong (kind_of e) (faults_in names arguments)
--- out of memory may be reported for any arguments
-IsReadBy names arguments (Err NoMemory) = ⊤
--- a plan, or an invalid level, FEN or date: `clap` finds no fault in the arguments, and the result is right by what
--- they say
-IsReadBy names arguments r = (faults_in names arguments ≡ []) × IsReadAs (said_by (asked names arguments)) r
+    record { command = p.0; value = λ name. first_of name p.1; replies = unwrap_or (all_of (codes "words") p.1) [] }
 
 -- the result of reading these arguments, which come without the program's name, is right by the grammar of the command
 -- line. The grammar contains a reference to the list of names that `--variant` takes; `names` is some reference to the
 -- list `normal`, `fischerandom`, and it does not matter where in memory that is
 abbrev pub IsReading : List Text → Result Plan WordsFault → Type 0
-IsReading arguments result = (names : VariantNames) × AreVariants names × IsReadBy names arguments result
+IsReading arguments result = (names : VariantNames) × AreVariants names
+    × IsReadAs (faults_in names arguments) (said_by (asked names arguments)) result

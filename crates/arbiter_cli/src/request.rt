@@ -3,8 +3,8 @@
 ghost use Rattle.std.specs.Prelude.{◌≡◌, ◌≤◌, [], IfOk, IfSome, IsSome, true, codes, is_some, map, option_map, unwrap_or};
 ghost use Rattle.clap.specs.Words.{all_of, first_of, found_of, rows_of, subcommand_rows_of};
 ghost use Rattle.arbiter_grammar.specs.Grammar.{HasGames, IsCommand, NamesBoth};
-ghost use Rattle.arbiter_cli.specs.Plans.{games_in, is_set, matched, said_by, text_or, variant_in, verify_plan_of};
-ghost use Rattle.arbiter_cli.specs.ties.Requests.{IsMatchOf, IsRequestOf};
+ghost use Rattle.arbiter_cli.specs.Plans.{is_set, said_by, text_or, variant_in, verify_plan_of};
+ghost use Rattle.arbiter_cli.specs.ties.Requests.{IsMatchOf, IsRequestOf, games_in, matched};
 
 use crate::plan::VerifyPlan;
 use chess_base::Variant;

@@ -43,11 +43,11 @@ refused_argument : (arguments : List Text) (name : Text) (fault : WordsFault) �
 refused_argument ws name (faults.Words e) a other (names, are, among) =
     absurd (subst (IsAmong (kind_of e)) (a.taken names) among)
 refused_argument ws name faults.NoMemory a other is = tt
-refused_argument ws name faults.BadLevel a other (names, are, (none, (named, h))) =
+refused_argument ws name faults.BadLevel a other (names, are, (none, named, h)) =
     absurd (other (sym (a.named names) ∙ named))
-refused_argument ws name (faults.BadFen f) a other (names, are, (none, (named, h))) =
+refused_argument ws name (faults.BadFen f) a other (names, are, (none, named, h)) =
     absurd (other (sym (a.named names) ∙ named))
-refused_argument ws name faults.BadDate a other (names, are, (none, (named, h))) =
+refused_argument ws name faults.BadDate a other (names, are, (none, named, h)) =
     absurd (other (sym (a.named names) ∙ named))
 
 no_match_by_session : codes "session" ≡ codes "match" → ⊥

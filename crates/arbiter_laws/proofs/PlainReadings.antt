@@ -3,7 +3,8 @@ use Rattle.std.proofs.Common.{◌≡◌, ◌∙◌, ◌<◌, ◌||◌, Bool, tru
 use Rattle.std.specs.Prelude.{if◌then◌else◌, unwrap_or}
 use Rattle.std.specs.Option.{option_map_or, option_or}
 use Rattle.std.specs.Str.{bytes_eq}
-use Rattle.clap.specs.Words.{IsAmong, Kinds, Row, Text, kind_of}
+use Rattle.std.specs.Str.Parse.{digits_value, without_leading_plus}
+use Rattle.clap.specs.Words.{Kinds, Row, Text, first_of}
 use Rattle.clap.specs.Faults.{check_fault, defaults_fault, entered_fault, level_fault, settle_fault, turn_fault, walk_fault}
 use Rattle.clap.specs.Kinds.{check_kinds, or_else}
 use Rattle.clap.specs.Simple.{App, Shape, built, entered, label_of, names_of, rows_at}
@@ -17,7 +18,7 @@ use Rattle.chess_base.specs.declared.setup.Setup.{Setup}
 use Rattle.chess_base.specs.Initial.{initial_setup_of}
 use Rattle.chess_fen.specs.Reading.{fen_reading_as}
 use Rattle.chess_base.specs.declared.man.Variant.TheVariants.{Normal, Fischerandom}
-use Rattle.arbiter_cli.specs.Plans.{IsMatchPlan, IsReadAs, IsReadBy, Said, Values, date_asked, games_in, is_date, is_set, level_and_start, matched, said_by, start_asked, text_or, variant_in, verify_plan_of}
+use Rattle.arbiter_cli.specs.Plans.{IsMatchPlan, IsReadAs, Said, Values, is_date, is_set, level_start_and_date, said_by, start_asked, text_or, variant_in, verify_plan_of}
 use Rattle.arbiter_cli.specs.declared.plan.Plan.{Plan}
 use Rattle.arbiter_cli.specs.declared.plan.Plan.TheVariants.{Session, Verify, Stub, Match}
 use Rattle.arbiter_cli.specs.declared.plan.MatchPlan.{MatchPlan}
@@ -31,7 +32,7 @@ use Rattle.arbiter_laws.proofs.PlainOptions.{match_shape, of_match, of_verify, s
 use Rattle.arbiter_laws.proofs.PlainRows.{default_in, value_found, value_given}
 use Rattle.arbiter_laws.proofs.PlainStub.{replies_are, replies_pass}
 use Rattle.arbiter_laws.proofs.PlainWalk.{all_known, rows_of_given, takes_options}
-use Rattle.arbiter_cli.proofs.shared.Turns.{read_as}
+use Rattle.arbiter_cli.proofs.shared.Turns.{date_asked, read_as}
 
 shorter : (xs ys : Text) → length xs < length ys → xs ≡ ys → ⊥
 shorter xs ys lt e = let same : length xs ≡ length ys = ap length e in absurd (omega arith)
@@ -106,23 +107,23 @@ record Agrees (v w : Values) : Type 0 where
 abbrev start_by : Variant → Option Text → Result Setup FenFault
 start_by v fen = option_map_or (fen_reading_as v) fen (Ok (initial_setup_of v))
 
-same_start : (v w : Values) → Agrees v w → level_and_start v ≡ level_and_start w
+same_start : (v w : Values) → Agrees v w → level_start_and_date v ≡ level_start_and_date w
 same_start v w a =
     let variant : variant_in v ≡ variant_in w = ap (λ (o : Option Text).
     if bytes_eq (unwrap_or o (codes "normal")) (codes "fischerandom") then Fischerandom else Normal) a.variant in
-    read_as v (level_of (text_or (codes "level") w (codes "40 5 0"))) (start_asked w) (is_date (date_asked w))
+    read_as v (level_of (text_or (codes "level") w (codes "40 5 0"))) (start_asked w) (date_asked w)
+    (is_date (date_asked w))
     (ap (λ (o : Option Text). level_of (unwrap_or o (codes "40 5 0"))) a.level)
     (ap₂ start_by variant a.fen)
-    (ap (λ (o : Option Text). is_date (unwrap_or o (codes "????.??.??"))) a.date)
+    (ap (λ (o : Option Text). unwrap_or o (codes "????.??.??")) a.date) refl
 
 same_match : (v w : Values) → Agrees v w → (plan : MatchPlan) → IsMatchPlan v plan → IsMatchPlan w plan
 same_match v w a plan is = record {
   white = sym a.white ∙ is.white;
   black = sym a.black ∙ is.black;
   read = sym (same_start v w a) ∙ is.read;
-  games = is.games ∙ ap (λ (o : Option Text). games_in (λ name. o)) a.games;
+  games = is.games ∙ ap (λ (o : Option Text). option_map_or (λ t. digits_value 10 (without_leading_plus t)) o 1) a.games;
   games_range = is.games_range;
-  date = is.date ∙ ap (λ (o : Option Text). unwrap_or o (codes "????.??.??")) a.date;
   log = is.log ∙ a.log;
 }
 
@@ -132,30 +133,20 @@ record SaysTheSame (a b : Said) : Type 0 where
   on_stub : a.command ≡ codes "stub" → a.replies ≡ b.replies
   on_match : a.command ≡ codes "match" → Agrees a.value b.value
 
-read_alike : (a b : Said) → SaysTheSame a b → (r : Result Plan WordsFault) → IsReadAs a r → IsReadAs b r
-read_alike a b s (Ok Session) is = sym s.command ∙ is
-read_alike a b s (Ok (Verify v)) is = (sym s.command ∙ is.0, is.1 ∙ s.on_verify is.0)
-read_alike a b s (Ok (Stub x)) is = (sym s.command ∙ is.0, is.1 ∙ s.on_stub is.0)
-read_alike a b s (Ok (Match plan)) is =
-    (sym s.command ∙ is.0, same_match a.value b.value (s.on_match is.0) plan is.1)
+read_alike : (a b : Said) → SaysTheSame a b → (r : Result Plan WordsFault) → IsReadAs [] a r → IsReadAs [] b r
+read_alike a b s (Ok Session) (none, is) = (none, sym s.command ∙ is)
+read_alike a b s (Ok (Verify v)) (none, is) = (none, (sym s.command ∙ is.0, is.1 ∙ s.on_verify is.0))
+read_alike a b s (Ok (Stub x)) (none, is) = (none, (sym s.command ∙ is.0, is.1 ∙ s.on_stub is.0))
+read_alike a b s (Ok (Match plan)) (none, is) =
+    (none, (sym s.command ∙ is.0, same_match a.value b.value (s.on_match is.0) plan is.1))
 read_alike a b s (Err (Words e)) is = is
 read_alike a b s (Err NoMemory) is = is
-read_alike a b s (Err BadLevel) is =
-    (sym s.command ∙ is.0, sym (same_start a.value b.value (s.on_match is.0)) ∙ is.1)
-read_alike a b s (Err (BadFen f)) is =
-    (sym s.command ∙ is.0, sym (same_start a.value b.value (s.on_match is.0)) ∙ is.1)
-read_alike a b s (Err BadDate) is =
-    (sym s.command ∙ is.0, sym (same_start a.value b.value (s.on_match is.0)) ∙ is.1)
-
--- arguments without a fault are read as what they say by the grammar
-read_as_asked : (names : VariantNames) (arguments : List Text) → faults_in names arguments ≡ [] → (r : Result Plan WordsFault)
-    → IsReadBy names arguments r → IsReadAs (said_by (asked names arguments)) r
-read_as_asked names arguments none (Ok plan) is = is.1
-read_as_asked names arguments none (Err (Words e)) among = subst (IsAmong (kind_of e)) none among
-read_as_asked names arguments none (Err NoMemory) is = tt
-read_as_asked names arguments none (Err BadLevel) is = is.1
-read_as_asked names arguments none (Err (BadFen f)) is = is.1
-read_as_asked names arguments none (Err BadDate) is = is.1
+read_alike a b s (Err BadLevel) (none, named, h) =
+    (none, sym s.command ∙ named, sym (same_start a.value b.value (s.on_match named)) ∙ h)
+read_alike a b s (Err (BadFen f)) (none, named, h) =
+    (none, sym s.command ∙ named, sym (same_start a.value b.value (s.on_match named)) ∙ h)
+read_alike a b s (Err BadDate) (none, named, h) =
+    (none, sym s.command ∙ named, sym (same_start a.value b.value (s.on_match named)) ∙ h)
 
 -- ---- each kind of line
 
@@ -171,6 +162,10 @@ is_session a b e f = record {
   on_stub = λ is. absurd (shorter (codes "stub") (codes "session") (lit< tt) (sym is ∙ e));
   on_match = λ is. absurd (shorter (codes "match") (codes "session") (lit< tt) (sym is ∙ e));
 }
+
+-- the values of the options in these rows
+abbrev matched : List Row → Values
+matched rows = λ name. first_of name rows
 
 or_default : (o : Option Text) → unwrap_or (option_or o (Some (codes "false"))) (codes "false")
     ≡ unwrap_or o (codes "false")
@@ -297,4 +292,4 @@ pub plain_read : PlainArgumentsAreRead
 plain_read line r plain (names, are, by) =
     let it = says_it names are line plain in
     read_alike (said_by (asked names (arguments_of line))) (said_in line) it.says r
-    (read_as_asked names (arguments_of line) it.passes r by)
+    (subst (λ (kinds : Kinds). IsReadAs kinds (said_by (asked names (arguments_of line))) r) it.passes by)

@@ -33,9 +33,9 @@ refusal : (ws : List Text) (k : ErrorKind) (fault : WordsFault) → AreRefused w
     → IsRefusal k fault
 refusal ws k (faults.Words e) one (names, are, among) = the_fault k (kind_of e) _ (one names) among
 refusal ws k faults.NoMemory one is = tt
-refusal ws k faults.BadLevel one (names, are, (none, is)) = absurd (no_fault k _ none (one names))
-refusal ws k (faults.BadFen f) one (names, are, (none, is)) = absurd (no_fault k _ none (one names))
-refusal ws k faults.BadDate one (names, are, (none, is)) = absurd (no_fault k _ none (one names))
+refusal ws k faults.BadLevel one (names, are, (none, named, h)) = absurd (no_fault k _ none (one names))
+refusal ws k (faults.BadFen f) one (names, are, (none, named, h)) = absurd (no_fault k _ none (one names))
+refusal ws k faults.BadDate one (names, are, (none, named, h)) = absurd (no_fault k _ none (one names))
 
 no_plan : (ws : List Text) (k : ErrorKind) (plan : Plan) → AreRefused ws (k ∷ []) → IsReading ws (Ok plan) → ⊥
 no_plan ws k plan one (names, are, (none, is)) = no_fault k _ none (one names)

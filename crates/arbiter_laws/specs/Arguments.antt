@@ -7,7 +7,7 @@ use Rattle.arbiter_grammar.specs.Grammar.{VariantNames, asked, faults_in}
 use Rattle.arbiter_cli.specs.declared.plan.Plan.{Plan}
 use Rattle.arbiter_cli.specs.declared.plan.Plan.TheVariants.{Session, Verify, Stub, Match}
 use Rattle.arbiter_cli.specs.declared.plan.VerifyPlan.{VerifyPlan}
-use Rattle.arbiter_cli.specs.Plans.{IsPlanOf, Said, matched, verify_plan_of}
+use Rattle.arbiter_cli.specs.Plans.{IsPlanOf, Said, said_by, verify_plan_of}
 
 -- the name of the subcommand that asks for this plan
 abbrev pub command_name : Plan → Text
@@ -40,4 +40,4 @@ bare_plan = record { keep_going = false; quiet = false; strict = false; explain 
 
 -- the options of these arguments make the plan of `verify` without flags
 abbrev pub VerifyAsBare : List Text → Type 0
-VerifyAsBare arguments = (names : VariantNames) → verify_plan_of (matched (asked names arguments).1) ≡ bare_plan
+VerifyAsBare arguments = (names : VariantNames) → verify_plan_of (said_by (asked names arguments)).value ≡ bare_plan

@@ -1,5 +1,5 @@
 -- What arguments do.
-use Rattle.std.specs.Prelude.{◌≡◌, ◌⊎◌, ℕ, List, Result}
+use Rattle.std.specs.Prelude.{◌≡◌, ◌⊎◌, ℕ, List, [], Result}
 use Rattle.clap.specs.Words.{Text}
 use Rattle.arbiter_cli.specs.Plans.{IsReadAs, Said}
 use Rattle.arbiter_cli.specs.declared.plan.Plan.{Plan}
@@ -9,9 +9,9 @@ use Rattle.arbiter_laws.specs.PlainArguments.{CommandLine, IsPlain, arguments_of
 use Rattle.chess_arbiter.specs.Program.{Does, World, RanProgram, RunsSession, VerifiesInput, WritesHelp}
 
 -- the program did what its arguments say, or reported a fault of a match's level, FEN or date, or that memory ran out;
--- `status` is its exit status
+-- `clap` has no fault to report (`[]`). `status` is the exit status
 abbrev pub DidAsSaid : Said → World → World → ℕ → Type 0
-DidAsSaid said d d' status = (read : Result Plan WordsFault) × IsReadAs said read × Does read d d' status
+DidAsSaid said d d' status = (read : Result Plan WordsFault) × IsReadAs [] said read × Does read d d' status
 
 -- whenever the program runs with plain arguments, it does what they say
 abbrev pub PlainArgumentsAreFollowed : Type 0

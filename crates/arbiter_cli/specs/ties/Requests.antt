@@ -1,7 +1,8 @@
 -- What the arguments ask for as they are written, on the way to a plan.
-use Rattle.std.specs.Prelude.{◌≡◌, ◌≤◌, codes, map, option_map, Option, Some, None, Result, Ok, Err, true, false, ◌≢◌}
+use Rattle.std.specs.Prelude.{◌≡◌, ◌≤◌, ℕ, List, codes, map, option_map, Option, Some, None, Result, Ok, Err, true, false, ◌≢◌}
 use Rattle.std.specs.Option.{option_map_or}
-use Rattle.clap.specs.Words.{Text, kind_of}
+use Rattle.std.specs.Str.Parse.{digits_value, without_leading_plus}
+use Rattle.clap.specs.Words.{Row, Text, first_of, kind_of}
 use Rattle.arbiter_cli.specs.declared.plan.Plan.{Plan}
 use Rattle.arbiter_cli.specs.declared.plan.Plan.TheVariants.{Session, Verify, Stub, Match}
 use Rattle.arbiter_cli.specs.declared.plan.MatchPlan.{MatchPlan}
@@ -16,9 +17,18 @@ use Rattle.chess_base.specs.declared.man.Variant.{Variant}
 use Rattle.chess_base.specs.declared.setup.Setup.{Setup}
 use Rattle.chess_fen.specs.Reading.{fen_reading_as}
 use Rattle.cecp_engine.specs.Levels.{LevelSeen, level_of}
-use Rattle.arbiter_cli.specs.Plans.{Said, Values, date_asked, games_in, is_date, is_set, text_or, variant_in, verify_plan_of}
+use Rattle.arbiter_cli.specs.Plans.{Said, Values, is_date, is_set, text_or, variant_in, verify_plan_of}
 use Rattle.clap.specs.declared.error.Error.{Error}
 use Rattle.clap.specs.declared.error.kind.ErrorKind.TheVariants.{OutOfMemory}
+
+-- the values of options by their names, without `--`, from the options as `clap` matched them (`rows`): the first value
+-- of each; `None` for an option without one
+abbrev pub matched : List Row → Values
+matched rows = λ name. first_of name rows
+
+-- how many games `--games` asks for, in decimal, where a `+` may come first; 1 without `--games`
+abbrev pub games_in : Values → ℕ
+games_in value = option_map_or (λ t. digits_value 10 (without_leading_plus t)) (value (codes "games")) 1
 
 -- the position that a match starts in: what the FEN denotes, or without one the initial position of the variant
 abbrev pub start_of : Variant → Option Text → Result Setup FenFault
@@ -32,7 +42,7 @@ pub record IsMatchOf (value : Values) (m : MatchRequest) : Type 0 where
   pub fen : option_map (λ t. t.now) m.fen ≡ value (codes "fen")
   pub games : m.games ≡ games_in value
   pub games_range : (1 ≤ m.games) × (m.games ≤ 1000)
-  pub date : m.date.now ≡ date_asked value
+  pub date : m.date.now ≡ text_or (codes "date") value (codes "????.??.??")
   pub variant : m.variant ≡ variant_in value
   pub log : m.log ≡ is_set (codes "log") value
 
