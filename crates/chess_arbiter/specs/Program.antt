@@ -26,7 +26,7 @@ use Rattle.pgn_verifier.specs.declared.tally.Verified.{Verified}
 use Rattle.pgn_verifier.specs.declared.tally.Verified.TheVariants.{EachGame}
 use Rattle.pgn_verifier.specs.Collection.{VerifiesCollection}
 use Rattle.pgn_verifier.specs.Verify.{Verifies}
-use Rattle.match_runner.specs.Games.{PlaysGames}
+use Rattle.match_runner.specs.Games.{Outputs, PlaysGames}
 use Rattle.match_runner.specs.declared.fault.GamesFault.{GamesFault}
 use Rattle.match_runner.specs.declared.plan.GamesPlan.{GamesPlan}
 use Rattle.match_runner.specs.Log.{LogSeen}
@@ -128,13 +128,18 @@ games_plan plan = record {
   log = plan.log;
 }
 
--- the games of the plan's match were played, written and logged as `PlaysGames` says: from the output's state `w` to
--- `w'`, and from the state `l` of the error output, to which the log goes, to `logged`. The exit status `status` is 0 if
--- all were played without a fault and were written, and the score too; else 1. With status 0 the error output stays as
--- it is after the games; with status 1 more may be written to it, and of its state at the end (`l'`) nothing is said
-abbrev pub PlaysMatch : MatchPlan → OutputState → OutputState → LogSeen → LogSeen → ℕ → Type 0
-PlaysMatch plan w w' l l' status = (result : Result (Unit {0}) GamesFault) × (logged : LogSeen)
-    × PlaysGames (games_plan plan) result w w' l logged × (status ≡ status_of result) × (status ≡ 0 → l' ≡ logged)
+-- from `d` to `d'` the games of the plan's match were played, written and logged as `PlaysGames` says. The exit status
+-- `status` is 0 if all were played without a fault and were written, and the score too; else 1. `logged` is the error
+-- output, to which the log goes, after the games. With status 0 it stays so; with status 1 more may be written to it,
+-- and of its state in `d'` (`d'.log`) nothing is said
+abbrev pub PlaysMatch : MatchPlan → Outputs → Outputs → ℕ → Type 0
+PlaysMatch plan d d' status = (result : Result (Unit {0}) GamesFault) × (logged : LogSeen)
+    × PlaysGames (games_plan plan) result d (record d' { log = logged }) × (status ≡ status_of result)
+    × (status ≡ 0 → d'.log ≡ logged)
+
+-- where a match writes: the output, and the error output, to which its log goes
+abbrev pub outputs_of : World → Outputs
+outputs_of d = record { output = d.devices.output; log = d.log }
 
 -- the program did what its plan says; or there is no plan (`Err`): the arguments ask for help or for the version, are
 -- invalid, or memory ran out. `d` and `d'` are its world before and after; `status` is its exit status. What happens to
@@ -144,8 +149,8 @@ Does (Ok Session) d d' status = RunsSession d.devices d'.devices status
 Does (Ok (Verify plan)) d d' status = VerifiesInput plan d.devices d'.devices status
 -- a stub engine, which plays the arguments that it is given, ran on input and output
 Does (Ok (Stub arguments)) d d' status = Serves stub_response (waiting arguments.items) d.devices d'.devices status
-Does (Ok (Match plan)) d d' status = (d'.devices.input ≡ d.devices.input)
-    × PlaysMatch plan d.devices.output d'.devices.output d.log d'.log status
+Does (Ok (Match plan)) d d' status =
+    (d'.devices.input ≡ d.devices.input) × PlaysMatch plan (outputs_of d) (outputs_of d') status
 -- no plan: nothing of the input is read; help or the version is written, else the output stays as it is
 Does (Err fault) d d' status = (d'.devices.input ≡ d.devices.input)
     × ReportsArguments fault d.devices.output d'.devices.output status

@@ -195,8 +195,9 @@ fn matched<P: Processes + Clock, W: Output, E: Output>(
     output: &mut W,
     log: &mut Log<E>,
 ) -> u8
-    ensures { PlaysMatch plan.now (W.seen output.old) (W.seen output.new)
-        (log_seen (E.seen log.old.output) log.old.broken) (log_seen (E.seen log.new.output) log.new.broken) result }
+    ensures { PlaysMatch plan.now
+        (record { output = W.seen output.old; log = log_seen (E.seen log.old.output) log.old.broken })
+        (record { output = W.seen output.new; log = log_seen (E.seen log.new.output) log.new.broken }) result }
 {
     let games = GamesPlan {
         white: plan.white,

@@ -25,7 +25,7 @@ use Rattle.chess_match.specs.declared.reason.Reason.TheVariants.{Faulted}
 use Rattle.chess_match.specs.declared.run.MatchEnd.{MatchEnd}
 use Rattle.chess_pgn.specs.GameText.{pgn}
 use Rattle.chess_pgn.specs.declared.tags.Tags.{Tags}
-use Rattle.match_runner.specs.Games.{AreAllGames, GameRecord, IsOfPlan, IsStartFault, LogsGame, LogsGames, PlaysGames, FaultlessGames, count_of, engine_command, first_side, game_text, game_texts, match_text, score_line, tags_of}
+use Rattle.match_runner.specs.Games.{AreAllGames, GameRecord, IsOfPlan, IsStartFault, LogsGame, LogsGames, Outputs, PlaysGames, FaultlessGames, count_of, engine_command, first_side, game_text, game_texts, match_text, score_line, tags_of}
 use Rattle.match_runner.specs.GamesTable.{Finishes, GamesPassing, GamesStep, Plays, StartFails, Starts, StepsPass, PlaysGamesAt, WriteFails, Writes, game_steps, games_steps, unstarted_steps, unwritten_steps}
 use Rattle.match_runner.specs.ties.Playing.{FailsToStart, HasPlayed, PlayedGame, logged_side, no_score, plus, score_after, score_of, score_text}
 use Rattle.match_runner.specs.Log.{LogSeen, Logged, log_text}
@@ -40,6 +40,10 @@ use Rattle.match_runner.specs.declared.score.Score.{Score}
 sent_more : (w w' w'' : OutputState) (x y : List ℕ) → OutputTook w w' (all_of x) → Sent w' w'' y
     → OutputTook w w'' (all_of (x ++ y))
 sent_more w w' w'' x y h k = took_more w w' w'' x (all_of y) h (took_all w' w'' y k)
+
+-- the outputs of a match
+abbrev pub outputs : OutputState → LogSeen → Outputs
+outputs w l = record { output = w; log = l }
 
 -- ---- one game
 
@@ -441,7 +445,7 @@ all_played plan p p' w w' l l' number score games s past =
 
 -- what broke off, at the table
 pub broke_at_table : (plan : GamesPlan) (p p' : GamesPassing) (w w' : OutputState) (l l' : LogSeen) (fault : GamesFault)
-    → HasPlayed plan p p' w w' l l' (Err fault) → PlaysGamesAt plan (Err fault) p p' w w' l l'
+    → HasPlayed plan p p' w w' l l' (Err fault) → PlaysGamesAt plan (Err fault) p p' (outputs w l) (outputs w' l')
 broke_at_table plan p p' w w' l l' WriteFailed (games, unwritten, these, steps) = (games, Some unwritten, these, steps)
 broke_at_table plan p p' w w' l l' NoMemory (games, is, these, steps) = (games, None, these, steps)
 broke_at_table plan p p' w w' l l' (CanNotStart command) (games, is, these, steps) = (games, None, these, steps)
@@ -466,7 +470,7 @@ module _ (plan : GamesPlan) (p p' : GamesPassing) (w w' w'' : OutputState) (l l'
   steps_all = subst (StepsPass p p') (sym (append-nil (games_steps plan h.0))) h.5
 
   pub all_written : Sent w' w'' (score_text played.score) → played.fault ≡ None
-      → PlaysGamesAt plan (Ok (tt {0})) p p' w w'' l l'
+      → PlaysGamesAt plan (Ok (tt {0})) p p' (outputs w l) (outputs w'' l')
   all_written sent none = (
     h.0,
     None,
@@ -477,7 +481,7 @@ module _ (plan : GamesPlan) (p p' : GamesPassing) (w w' w'' : OutputState) (l l'
   pub fault_written : (number : ℕ) (side : Colour) (fault : MatchFault) (text : Bor (List ℕ))
       → text.now ≡ comment_of (Faulted side fault)
       → Sent w' w'' (score_text played.score) → played.fault ≡ Some (number, side, fault)
-      → PlaysGamesAt plan (Err (Game number text)) p p' w w'' l l'
+      → PlaysGamesAt plan (Err (Game number text)) p p' (outputs w l) (outputs w'' l')
   fault_written number side fault text written sent is = (
     h.0,
     None,
@@ -491,7 +495,7 @@ module _ (plan : GamesPlan) (p p' : GamesPassing) (w w' w'' : OutputState) (l l'
   )
 
   pub score_broken : CutShort w' w'' (score_text played.score)
-      → PlaysGamesAt plan (Err WriteFailed) p p' w w'' l l'
+      → PlaysGamesAt plan (Err WriteFailed) p p' (outputs w l) (outputs w'' l')
   score_broken (begun, begins, failing) = (
     h.0,
     None,
@@ -507,6 +511,6 @@ module _ (plan : GamesPlan) (p p' : GamesPassing) (w w' w'' : OutputState) (l l'
 -- ---- without the steps
 
 -- a match at a table is a match: the steps are dropped
-pub plays_games : (plan : GamesPlan) (result : Result (Unit {0}) GamesFault) (p p' : GamesPassing) (w w' : OutputState)
-    (l l' : LogSeen) → PlaysGamesAt plan result p p' w w' l l' → PlaysGames plan result w w' l l'
-plays_games plan result p p' w w' l l' (games, unwritten, these, steps) = inl (games, unwritten, these)
+pub plays_games : (plan : GamesPlan) (result : Result (Unit {0}) GamesFault) (p p' : GamesPassing) (d d' : Outputs)
+    → PlaysGamesAt plan result p p' d d' → PlaysGames plan result d d'
+plays_games plan result p p' d d' (games, unwritten, these, steps) = inl (games, unwritten, these)

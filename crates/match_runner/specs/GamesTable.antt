@@ -2,12 +2,10 @@
 use Rattle.std.specs.Prelude.{ℕ, ◌+◌, Bool, if◌then◌else◌, List, [], ◌∷◌, ◌++◌, length, flat_map, Option, None, Some, Result, Err}
 use Rattle.std.specs.List.{enumerate_from}
 use Rattle.chess_base.specs.declared.man.Colour.TheVariants.{White, Black}
-use Rattle.byte_devices.specs.Devices.{OutputState}
-use Rattle.match_runner.specs.Log.{LogSeen}
 use Rattle.match_runner.specs.declared.fault.GamesFault.{GamesFault}
 use Rattle.match_runner.specs.declared.fault.GamesFault.TheVariants.{NoMemory, CanNotStart}
 use Rattle.match_runner.specs.declared.plan.GamesPlan.{GamesPlan}
-use Rattle.match_runner.specs.Games.{GameRecord, PlaysThese, engine_command, game_text}
+use Rattle.match_runner.specs.Games.{GameRecord, Outputs, PlaysThese, engine_command, game_text}
 
 -- one step of playing a match's games: one call of a method of the trait `GamesTable`. A table starts the engines,
 -- plays and writes the games, and waits for the engines
@@ -87,9 +85,9 @@ last_steps plan number _ None = []
 
 -- what playing a match at a table does, by its result: games were played, maybe none, as `PlaysThese` says, and just
 -- the steps of these games passed at the table, and after them those of `last_steps`. `p` is what may have passed there
--- before, `w` and `l` are the states of the output and of the log before; `p'`, `w'` and `l'` after
-abbrev pub PlaysGamesAt : GamesPlan → Result (Unit {0}) GamesFault → GamesPassing → GamesPassing → OutputState
-    → OutputState → LogSeen → LogSeen → Type 0
-PlaysGamesAt plan result p p' w w' l l' =
-    (games : List GameRecord) × (unwritten : Option GameRecord) × PlaysThese plan result games unwritten w w' l l'
+-- before, and `p'` after; `d` and `d'` are the output and the log before and after
+abbrev pub PlaysGamesAt : GamesPlan → Result (Unit {0}) GamesFault → GamesPassing → GamesPassing → Outputs → Outputs
+    → Type 0
+PlaysGamesAt plan result p p' d d' =
+    (games : List GameRecord) × (unwritten : Option GameRecord) × PlaysThese plan result games unwritten d d'
     × StepsPass p p' (games_steps plan games ++ last_steps plan (length games + 1) result unwritten)

@@ -93,9 +93,10 @@ HasPlayed plan p p' w w' l l' (Ok played) =
     × OutputTook w w' (all_of (game_texts plan games)) × LogsGames plan.log l l' games
     × StepsPass p p' (games_steps plan games)
 HasPlayed plan p p' w w' l l' (Err WriteFailed) = (games : List GameRecord) × (unwritten : GameRecord)
-    × PlaysThese plan (Err WriteFailed) games (Some unwritten) w w' l l'
+    × PlaysThese plan (Err WriteFailed) games (Some unwritten)
+    (record { output = w; log = l }) (record { output = w'; log = l' })
     × StepsPass p p' (games_steps plan games ++ unwritten_steps plan (length games + 1) unwritten)
 HasPlayed plan p p' w w' l l' (Err fault) =
     (games : List GameRecord) × IsStartFault plan.white.now plan.black.now fault
-    × PlaysThese plan (Err fault) games None w w' l l'
+    × PlaysThese plan (Err fault) games None (record { output = w; log = l }) (record { output = w'; log = l' })
     × StepsPass p p' (games_steps plan games ++ unstarted_steps plan (length games + 1))
