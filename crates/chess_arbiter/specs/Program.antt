@@ -10,7 +10,6 @@ use Rattle.arbiter_cli.specs.declared.fault.WordsFault.{WordsFault}
 use Rattle.arbiter_cli.specs.declared.fault.WordsFault.TheVariants as faults
 use Rattle.byte_devices.specs.Devices.{OutputState}
 use Rattle.byte_devices.specs.Transfers.{FromInput, ToOutput, Devices, OutputTook, Ran, all_of, BreaksOffIn}
-use Rattle.byte_devices.specs.declared.traits.WriteFault.{WriteFault}
 use Rattle.chess_cecp.specs.declared.run.End.{End}
 use Rattle.chess_cecp.specs.declared.run.Fault.{Fault}
 use Rattle.chess_cecp.specs.Held.{opened_session}

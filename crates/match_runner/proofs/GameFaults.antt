@@ -17,7 +17,6 @@ use Rattle.chess_match.specs.declared.reason.Reason.{Reason}
 use Rattle.chess_match.specs.declared.reason.Reason.TheVariants.{Decided, Claimed, Agreed, Resigns, MovesIllegally, MovesOutOfTurn, ClaimsFalsely, RejectsLegalMove, Forfeits, ForfeitsToBareKing, GameTooLong, Faulted}
 use Rattle.chess_match.specs.declared.run.MatchEnd.{MatchEnd}
 use Rattle.chess_match.specs.declared.run.Setup.{Setup}
-use Rattle.match_runner.specs.Games.{setup_of}
 use Rattle.match_runner.specs.laws.Faults.{OnlyLastGamesHaveFailedWrites}
 
 -- ---- a match without a fault
@@ -76,6 +75,6 @@ no_failures notes setup end w w' (H, reason, given, (final, run, reported, left)
 pub only_last_games_have_failed_writes : OnlyLastGamesHaveFailedWrites
 only_last_games_have_failed_writes plan [] h = tt
 only_last_games_have_failed_writes plan (g ∷ games) ((of, none), rest) = (
-  no_failures g.notes (setup_of plan) g.end g.before g.after of.1 none,
+  no_failures g.notes _ g.end g.before g.after of.1 none,
   only_last_games_have_failed_writes plan games rest,
 )

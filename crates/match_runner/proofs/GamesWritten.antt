@@ -25,9 +25,9 @@ use Rattle.chess_match.specs.declared.reason.Reason.TheVariants.{Faulted}
 use Rattle.chess_match.specs.declared.run.MatchEnd.{MatchEnd}
 use Rattle.chess_pgn.specs.GameText.{pgn}
 use Rattle.chess_pgn.specs.declared.tags.Tags.{Tags}
-use Rattle.match_runner.specs.Games.{AreAllGames, GameRecord, IsOfPlan, IsStartFault, LogsGame, LogsGames, Outputs, PlaysGames, FaultlessGames, count_of, engine_command, first_side, game_logs, game_text, game_texts, match_text, score_line, score_of, tags_of}
+use Rattle.match_runner.specs.Games.{AreAllGames, GameRecord, IsOfPlan, IsStartFault, LogsGame, LogsGames, Outputs, PlaysGames, FaultlessGames, count_of, engine_command, first_side, game_text, game_texts, match_text, score_line, tags_of}
 use Rattle.match_runner.specs.GamesTable.{Finishes, GamesPassing, GamesStep, Plays, StartFails, Starts, StepsPass, PlaysGamesAt, WriteFails, Writes, game_steps, games_steps, unstarted_steps, unwritten_steps}
-use Rattle.match_runner.specs.ties.Playing.{FailsToStart, HasPlayed, PlayedGame, logged_side, no_score, plus, score_after}
+use Rattle.match_runner.specs.ties.Playing.{FailsToStart, HasPlayed, PlayedGame, logged_side, no_score, plus, score_after, score_of, score_text}
 use Rattle.match_runner.specs.Log.{LogSeen, Logged, log_text}
 use Rattle.match_runner.proofs.Logged.{logged_more, logs_none}
 use Rattle.match_runner.specs.declared.fault.GamesFault.{GamesFault}
@@ -193,6 +193,10 @@ joined_more {A} f games g =
 
 -- ---- logs of games
 
+-- the logs of these games one after another
+abbrev game_logs : List GameRecord → List ℕ
+game_logs games = flat_map (λ g. log_text (first_side g.0) g.1.notes) (enumerate_from 1 games)
+
 logs_more : (games : List GameRecord) (g : GameRecord)
     → game_logs (games ++ g ∷ []) ≡ game_logs games ++ log_text (first_side (1 + length games)) g.notes
 logs_more games g = joined_more (λ x. log_text (first_side x.0) x.1.notes) games g
@@ -262,6 +266,11 @@ score_more games g few =
     scores_are _ _ _ _ _ _ _ _ (counted_one (λ n. win_of (first_side n)) games g few)
     (counted_one (λ n. win_of (other (first_side n))) games g few) (counted_one (λ n. Draw) games g few)
     (counted_one (λ n. Unfinished) games g few)
+
+-- the line of the score of these games
+pub score_text_is : (games : List GameRecord) → score_text (score_of games) ≡ score_line games
+unfolding score_text
+score_text_is games = refl
 
 -- ---- one game more
 
@@ -444,10 +453,13 @@ broke_at_table plan p p' w w' l l' (Game number text) (games, is, these, steps) 
 
 module _ (plan : GamesPlan) (p p' : GamesPassing) (w w' w'' : OutputState) (l l' : LogSeen) (played : GamesPlayed)
     (h : HasPlayed plan p p' w w' l l' (Ok played)) where
-  score_sent : Sent w' w'' (score_line played.score) → OutputTook w w'' (all_of (match_text plan h.0))
+  scored : score_text played.score ≡ score_line h.0
+  scored = ap score_text h.2 ∙ score_text_is h.0
+
+  score_sent : Sent w' w'' (score_text played.score) → OutputTook w w'' (all_of (match_text plan h.0))
   score_sent sent =
-      sent_more w w' w'' (game_texts plan h.0) (score_line (score_of h.0)) h.3
-      (subst (λ v. Sent w' w'' (score_line v)) h.2 sent)
+      sent_more w w' w'' (game_texts plan h.0) (score_line h.0) h.3
+      (subst (λ (line : List ℕ). Sent w' w'' line) scored sent)
 
   -- no game is unwritten
   logs_all : LogsGames plan.log l l' (h.0 ++ [])
@@ -457,7 +469,7 @@ module _ (plan : GamesPlan) (p p' : GamesPassing) (w w' w'' : OutputState) (l l'
   steps_all : StepsPass p p' (games_steps plan h.0 ++ [])
   steps_all = subst (StepsPass p p') (sym (append-nil (games_steps plan h.0))) h.5
 
-  pub all_written : Sent w' w'' (score_line played.score) → played.fault ≡ None
+  pub all_written : Sent w' w'' (score_text played.score) → played.fault ≡ None
       → PlaysGamesAt plan (Ok (tt {0})) p p' (outputs w l) (outputs w'' l')
   all_written sent none = (
     h.0,
@@ -468,7 +480,7 @@ module _ (plan : GamesPlan) (p p' : GamesPassing) (w w' w'' : OutputState) (l l'
 
   pub fault_written : (number : ℕ) (side : Colour) (fault : MatchFault) (text : Bor (List ℕ))
       → text.now ≡ comment_of (Faulted side fault)
-      → Sent w' w'' (score_line played.score) → played.fault ≡ Some (number, side, fault)
+      → Sent w' w'' (score_text played.score) → played.fault ≡ Some (number, side, fault)
       → PlaysGamesAt plan (Err (Game number text)) p p' (outputs w l) (outputs w'' l')
   fault_written number side fault text written sent is = (
     h.0,
@@ -482,14 +494,14 @@ module _ (plan : GamesPlan) (p p' : GamesPassing) (w w' w'' : OutputState) (l l'
     steps_all,
   )
 
-  pub score_broken : CutShort w' w'' (score_line played.score)
+  pub score_broken : CutShort w' w'' (score_text played.score)
       → PlaysGamesAt plan (Err WriteFailed) p p' (outputs w l) (outputs w'' l')
   score_broken (begun, begins, failing) = (
     h.0,
     None,
     (
       broke (game_texts plan h.0) begun,
-      (played.fault, h.1, (refl, subst (λ v. Begins begun (score_line v)) h.2 begins, refl)),
+      (played.fault, h.1, (refl, subst (λ (line : List ℕ). Begins begun line) scored begins, refl)),
       took_some_more w w' w'' (game_texts plan h.0) begun h.3 failing,
       logs_all,
     ),
@@ -502,8 +514,3 @@ module _ (plan : GamesPlan) (p p' : GamesPassing) (w w' w'' : OutputState) (l l'
 pub plays_games : (plan : GamesPlan) (result : Result (Unit {0}) GamesFault) (p p' : GamesPassing) (d d' : Outputs)
     → PlaysGamesAt plan result p p' d d' → PlaysGames plan result d d'
 plays_games plan result p p' d d' (games, unwritten, these, steps) = inl (games, unwritten, these)
-
--- memory ran out before
-pub none_played : (plan : GamesPlan) (result : Result (Unit {0}) GamesFault) (d : Outputs) → result ≡ Err NoMemory
-    → PlaysGames plan result d d
-none_played plan result d is = inr (is, refl)

@@ -23,10 +23,12 @@ use Rattle.chess_match.specs.declared.reason.Reason.{Reason}
 use Rattle.chess_pgn.specs.GameText.{pgn}
 use Rattle.match_runner.specs.declared.plan.GamesPlan.{GamesPlan}
 use Rattle.match_runner.specs.declared.score.Score.{Score}
-use Rattle.match_runner.specs.Games.{GameRecord, IsOfPlan, count_of, engine_command, first_side, game_text, game_texts, player_name, score_line, score_of}
+use Rattle.match_runner.specs.Games.{GameRecord, IsOfPlan, count_of, engine_command, first_side, game_text, game_texts, player_name, score_line}
+use Rattle.match_runner.specs.ties.Playing.{score_of, score_text}
 use Rattle.match_runner.specs.Log.{log_text}
 use Rattle.match_runner.specs.laws.Entries.{IsShown, entries_from}
 use Rattle.match_runner.specs.laws.ReadBack.{AreAlike, LogsGiveTheOutput, LogsGiveThePgn}
+use Rattle.match_runner.proofs.GamesWritten.{score_text_is}
 use Rattle.match_runner.proofs.LogsRead.{logs_give_the_game}
 
 abbrev rules : GamesPlan → Rules
@@ -183,9 +185,10 @@ logs_give_the_output plan games games' h k same =
     let score : score_of games ≡ score_of games' = score_is _ _ _ _ _ _ _ _
     (counts (λ number. win_of (first_side number))) (counts (λ number. win_of (other (first_side number))))
     (counts (λ number. Draw)) (counts (λ number. Unfinished)) in
-    ap (λ (l : List ℕ). l ++ score_line (score_of games))
+    ap (λ (l : List ℕ). l ++ score_line games)
     (texts_alike plan (enumerate_from 1 games) (enumerate_from 1 games') a)
-    ∙ ap (λ (s : Score). game_texts plan games' ++ score_line s) score
+    ∙ ap (λ (line : List ℕ). game_texts plan games' ++ line)
+    (sym (score_text_is games) ∙ ap score_text score ∙ score_text_is games')
   where
     score_is : (a a' b b' c c' d d' : ℕ) → a ≡ a' → b ≡ b' → c ≡ c' → d ≡ d'
         → (let s : Score = record { first = a; second = b; drawn = c; unfinished = d } in s)

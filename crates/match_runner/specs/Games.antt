@@ -21,13 +21,11 @@ use Rattle.chess_match.specs.declared.reason.MatchFault.{MatchFault}
 use Rattle.chess_match.specs.declared.reason.Reason.{Reason}
 use Rattle.chess_match.specs.declared.reason.Reason.TheVariants.{Faulted}
 use Rattle.chess_match.specs.declared.run.MatchEnd.{MatchEnd}
-use Rattle.chess_match.specs.declared.run.Setup.{Setup}
 use Rattle.chess_pgn.specs.GameText.{pgn}
 use Rattle.match_runner.specs.Log.{LogSeen, Logged, log_text}
 use Rattle.match_runner.specs.declared.fault.GamesFault.{GamesFault}
 use Rattle.match_runner.specs.declared.fault.GamesFault.TheVariants.{WriteFailed, NoMemory, CanNotStart, Game}
 use Rattle.chess_pgn.specs.declared.tags.Tags.{Tags}
-use Rattle.match_runner.specs.declared.score.Score.{Score}
 use Rattle.chess_game.specs.declared.game.TheConstants.{MOST_MOVES}
 
 -- the side that the first engine, that of `--white`, has in the game of this number: White in odd games, Black in even
@@ -73,17 +71,13 @@ pub record GameRecord : Type 0 where
   -- is made from these
   pub notes : List Note
 
--- what each game of `plan` begins from: the plan's start and time control
-abbrev pub setup_of : GamesPlan → Setup
-setup_of plan = record { start = plan.start; level = plan.level }
-
 -- the game `played` was played from the start of `plan`, with its time control and with at most 20,000 half-moves
 -- (`MOST_MOVES`). What `played` has before and after, its end and its notes are of one and the same game: they are
 -- those of the same acts `H`, which ended for the same reason. Which engines played it is not said here
 abbrev pub IsOfPlan : GamesPlan → GameRecord → Type 0
 IsOfPlan plan played = (played.before.game.limit ≡ MOST_MOVES)
     × ((H : List Act) × (reason : Reason) × (notes_given reason H ≡ played.notes)
-    × PlayedBy H reason (setup_of plan) played.end played.before played.after)
+    × PlayedBy H reason (record { start = plan.start; level = plan.level }) played.end played.before played.after)
 
 -- the PGN of the game `played`, which has this number: its tags, and its moves and result. `[]`: no line has a prefix
 abbrev pub game_text : GamesPlan → ℕ → GameRecord → List ℕ
@@ -112,36 +106,26 @@ FaultlessGames plan games = AllByRecursion (λ played. IsOfPlan plan played × (
 abbrev pub game_texts : GamesPlan → List GameRecord → List ℕ
 game_texts plan games = flat_map (λ g. game_text plan g.0 g.1) (enumerate_from 1 games)
 
--- the logs of these games one after another. They are numbered from 1: in the odd ones the engine of `--white` has
--- White
-abbrev pub game_logs : List GameRecord → List ℕ
-game_logs games = flat_map (λ g. log_text (first_side g.0) g.1.notes) (enumerate_from 1 games)
-
--- from the log's state `l` to `l'` these games were logged, if the flag is true (the plan asks for a log), though a
--- write of the log may have failed (`Logged`). If the flag is false, nothing was logged
+-- from the log's state `l` to `l'` these games were logged one after another, if the flag is true (the plan asks for a
+-- log), though a write of the log may have failed (`Logged`). They are numbered from 1: in the odd ones the engine of
+-- `--white` has White. If the flag is false, nothing was logged
 abbrev pub LogsGames : Bool → LogSeen → LogSeen → List GameRecord → Type 0
 LogsGames false l l' games = l' ≡ l
-LogsGames true l l' games = Logged l l' (game_logs games)
+LogsGames true l l' games = Logged l l' (flat_map (λ g. log_text (first_side g.0) g.1.notes) (enumerate_from 1 games))
 
 -- how many of these games, numbered from 1, have the outcome that `wanted` gives for their number
 abbrev pub count_of : (ℕ → Outcome) → List GameRecord → ℕ
 count_of wanted games = count_by (λ g. same_outcome g.1.end.outcome (wanted g.0)) (enumerate_from 1 games)
 
--- the score after all these games of a match: the wins of each engine, the draws, and the games that are unfinished.
--- They are numbered from 1: in the odd ones the first engine, that of `--white`, has White
-abbrev pub score_of : List GameRecord → Score
-score_of games = record {
-  first = count_of (λ number. win_of (first_side number)) games;
-  second = count_of (λ number. win_of (other (first_side number))) games;
-  drawn = count_of (λ number. Draw) games;
-  unfinished = count_of (λ number. Unfinished) games;
-}
-
--- the last line that a match writes to the output, such as `score first 1 second 0 drawn 2 unfinished 0`
-unfoldable pub score_line : Score → List ℕ
-score_line s =
-    codes "score first " ++ decimal s.first ++ codes " second " ++ decimal s.second
-    ++ codes " drawn " ++ decimal s.drawn ++ codes " unfinished " ++ decimal s.unfinished ++ new_line ∷ []
+-- the last line that a match of these games writes to the output, such as `score first 1 second 0 drawn 2 unfinished
+-- 0`: the wins of each engine, the draws, and the games that are unfinished. The games are numbered from 1: in the odd
+-- ones the first engine, that of `--white`, has White
+abbrev pub score_line : List GameRecord → List ℕ
+score_line games =
+    codes "score first " ++ decimal (count_of (λ number. win_of (first_side number)) games)
+    ++ codes " second " ++ decimal (count_of (λ number. win_of (other (first_side number))) games)
+    ++ codes " drawn " ++ decimal (count_of (λ number. Draw) games)
+    ++ codes " unfinished " ++ decimal (count_of (λ number. Unfinished) games) ++ new_line ∷ []
 
 -- `games` are all games of a match by this plan: as many as planned, or those up to and including the first in which an
 -- engine had a fault. Each was played as the plan says (`IsOfPlan`). The last argument is that fault (the number of the
@@ -159,7 +143,7 @@ AreAllGames plan games (Some (number, side, fault)) =
 
 -- all that a match writes to the output: the PGN of each of these games, and then the line of the score
 abbrev pub match_text : GamesPlan → List GameRecord → List ℕ
-match_text plan games = game_texts plan games ++ score_line (score_of games)
+match_text plan games = game_texts plan games ++ score_line games
 
 -- what playing a match writes to the output (`o`), by its result. `games` are the games whose PGN was written and
 -- flushed. `unwritten` is the game after them if it was played and its PGN could not be written, and otherwise `None`.
@@ -182,7 +166,7 @@ WritesGames plan (Err WriteFailed) games (Some unwritten) o =
 -- all games of the match were played as the plan says, and their PGN was written and flushed; then a write or flush
 -- failed in the score. In the last game an engine may have had a fault (`fault`; `None` if it had none)
 WritesGames plan (Err WriteFailed) games None o = (fault : Option (ℕ × Colour × MatchFault))
-    × AreAllGames plan games fault × BreaksOffIn (game_texts plan games) (score_line (score_of games)) o
+    × AreAllGames plan games fault × BreaksOffIn (game_texts plan games) (score_line games) o
 -- `CanNotStart` or `NoMemory`: the engines of the game after `games` could not be started. `games` are fewer than
 -- planned, and were played as the plan says and without a fault; their PGN was written and flushed, but no score
 WritesGames plan (Err fault) games None o = FaultlessGames plan games × (length games < plan.games)

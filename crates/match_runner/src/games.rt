@@ -4,9 +4,9 @@ ghost use Rattle.std.specs.Prelude.{◌≡◌, ◌≤◌};
 ghost use Rattle.byte_devices.specs.Devices.{Sends};
 ghost use Rattle.chess_match.specs.Reasons.{comment_of};
 ghost use Rattle.chess_match.specs.declared.reason.Reason.TheVariants.{Faulted};
-ghost use Rattle.match_runner.specs.Games.{PlaysGames, engine_command, first_side, player_name, score_line, tags_of};
+ghost use Rattle.match_runner.specs.Games.{PlaysGames, engine_command, first_side, player_name, tags_of};
 ghost use Rattle.match_runner.specs.GamesTable.{PlaysGamesAt};
-ghost use Rattle.match_runner.specs.ties.Playing.{HasPlayed, PlayedGame, logged_side};
+ghost use Rattle.match_runner.specs.ties.Playing.{HasPlayed, PlayedGame, logged_side, score_text};
 ghost use Rattle.match_runner.specs.Log.{log_seen};
 ghost use Rattle.chess_game.specs.declared.game.TheConstants.{MOST_MOVES};
 
@@ -102,7 +102,7 @@ fn logged_side(plan: &GamesPlan<'_>, number: u32) -> Option<Colour>
 
 // Writes the line `score first 1 second 0 ..` of the match so far to the output, and flushes.
 fn write_score<W: Output>(score: Score, output: &mut W) -> Result<(), WriteFault>
-    ensures { Sends (W.seen output.old) (W.seen output.new) result (score_line score) }
+    ensures { Sends (W.seen output.old) (W.seen output.new) result (score_text score) }
 {
     send(output, score.line().as_slice())
 }

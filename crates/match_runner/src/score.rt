@@ -4,8 +4,7 @@ ghost use Rattle.std.specs.Prelude.{◌≡◌, ◌+◌, ◌≤◌, ◌++◌, dec
 ghost use Rattle.arrayvec.specs.ArrayVec.{array_vec_len};
 ghost use Rattle.chess_game.specs.Results.{same_outcome};
 ghost use Rattle.chess_match.specs.Reasons.{win_of};
-ghost use Rattle.match_runner.specs.Games.{score_line};
-ghost use Rattle.match_runner.specs.ties.Playing.{no_score, plus, score_after};
+ghost use Rattle.match_runner.specs.ties.Playing.{no_score, plus, score_after, score_text};
 
 use arrayvec::ArrayVec;
 use byte_devices::{append, append_number};
@@ -72,9 +71,9 @@ impl Score {
     }
 
     /// The last line of a match, such as `score first 1 second 0 drawn 2 unfinished 0`.
-    #[tactic(auto, unfolding(crate::specs::Games::score_line))]
+    #[tactic(auto, unfolding(crate::specs::ties::Playing::score_text))]
     pub fn line(self) -> ScoreLine
-        ensures { result.items ≡ score_line self }
+        ensures { result.items ≡ score_text self }
     {
         let mut line = ScoreLine::new();
         append(&mut line, b"score first ");

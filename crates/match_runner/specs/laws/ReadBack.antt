@@ -102,7 +102,7 @@ LogsGiveThePgn = (plan : GamesPlan) (number : ℕ) (one two : GameRecord) → Is
     → log_text (first_side number) one.notes ≡ log_text (first_side number) two.notes
     → (game_text plan number one ≡ game_text plan number two) × (one.end.outcome ≡ two.end.outcome)
 
--- the log of each of these games by itself, where `game_logs` has them one after another
+-- the log of each of these games by itself, where the log of a match has them one after another
 abbrev pub logs_of : List GameRecord → List (List ℕ)
 logs_of games = map (λ g. log_text (first_side g.0) g.1.notes) (enumerate_from 1 games)
 

@@ -1,6 +1,7 @@
 -- What code does for one game of a match, and for all of them.
-use Rattle.std.specs.Prelude.{◌≡◌, ⊤, ℕ, ◌+◌, min, Bool, true, false, if◌then◌else◌, List, ◌++◌, length, Option, None, Some, Result, Ok, Err}
+use Rattle.std.specs.Prelude.{◌≡◌, ⊤, ℕ, ◌+◌, min, Bool, true, false, if◌then◌else◌, List, [], ◌∷◌, ◌++◌, length, codes, decimal, Option, None, Some, Result, Ok, Err}
 use Rattle.match_runner.specs.declared.plan.GamesPlan.{GamesPlan}
+use Rattle.chess_base.specs.Letters.{new_line}
 use Rattle.chess_base.specs.Men.{other}
 use Rattle.chess_base.specs.declared.man.Colour.{Colour}
 use Rattle.byte_devices.specs.Devices.{OutputState, CutShort, Sent}
@@ -15,7 +16,7 @@ use Rattle.match_runner.specs.declared.fault.GamesFault.{GamesFault}
 use Rattle.match_runner.specs.declared.fault.GamesFault.TheVariants.{WriteFailed, NoMemory, CanNotStart}
 use Rattle.match_runner.specs.declared.games.GamesPlayed.{GamesPlayed}
 use Rattle.match_runner.specs.declared.score.Score.{Score}
-use Rattle.match_runner.specs.Games.{first_side, GameRecord, IsOfPlan, game_text, IsStartFault, LogsGame, game_texts, LogsGames, score_of, AreAllGames, PlaysThese}
+use Rattle.match_runner.specs.Games.{first_side, GameRecord, IsOfPlan, game_text, IsStartFault, LogsGame, game_texts, LogsGames, count_of, AreAllGames, PlaysThese}
 use Rattle.match_runner.specs.GamesTable.{GamesPassing, StepsPass, game_steps, unwritten_steps, unstarted_steps, games_steps}
 
 -- ---- the score, as it is counted
@@ -38,6 +39,22 @@ score_after first outcome s = record {
   drawn = plus s.drawn (same_outcome outcome Draw);
   unfinished = plus s.unfinished (same_outcome outcome Unfinished);
 }
+
+-- the score after all these games of a match: the wins of each engine, the draws, and the games that are unfinished
+abbrev pub score_of : List GameRecord → Score
+score_of games = record {
+  first = count_of (λ number. win_of (first_side number)) games;
+  second = count_of (λ number. win_of (other (first_side number))) games;
+  drawn = count_of (λ number. Draw) games;
+  unfinished = count_of (λ number. Unfinished) games;
+}
+
+-- the line of this score, such as `score first 1 second 0 drawn 2 unfinished 0`; of `score_of games` it is
+-- `score_line games`
+unfoldable pub score_text : Score → List ℕ
+score_text s =
+    codes "score first " ++ decimal s.first ++ codes " second " ++ decimal s.second
+    ++ codes " drawn " ++ decimal s.drawn ++ codes " unfinished " ++ decimal s.unfinished ++ new_line ∷ []
 
 -- ---- a game
 

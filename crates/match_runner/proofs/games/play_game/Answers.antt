@@ -3,7 +3,6 @@
 use Rattle.std.proofs.Common.{◌∙◌, ap}
 use Rattle.chess_game.specs.Game.{Seen}
 use Rattle.chess_match.specs.Played.{World}
-use Rattle.match_runner.specs.Games.{setup_of}
 use Rattle.match_runner.proofs.GamesWritten.{limit_kept, was_not_started, was_not_written, was_written}
 use Rattle.std.proofs.lemmas.Result.{err_from_is_err_and}
 use Rattle.match_runner.proofs.games.play_game.Goals as goal
@@ -21,7 +20,7 @@ pub returns-in-Ok-clause-limit : goal.returns-in-Ok-clause-limit
 returns-in-Ok-clause-limit g c =
     let r = c.play-end.ensures.played in
     ap (λ (v : Seen). v.limit) (c.finish.ensures.game ∙ c.write_game-written.ensures.game)
-    ∙ limit_kept r.0 (setup_of c.args.plan.now) c.play-end.result _ _ r.2
+    ∙ limit_kept r.0 _ c.play-end.result _ _ r.2
     ∙ ap (λ (v : Seen). v.limit) c.start.ensures.game ∙ c.requires.limit
 
 pub returns-in-Ok-clause-played : goal.returns-in-Ok-clause-played
@@ -48,7 +47,7 @@ pub returns-in-Err-clause-limit : goal.returns-in-Err-clause-limit
 returns-in-Err-clause-limit g c =
     let r = c.play-end.ensures.played in
     ap (λ (v : Seen). v.limit) (c.finish.ensures.game ∙ c.write_game-written.ensures.game)
-    ∙ limit_kept r.0 (setup_of c.args.plan.now) c.play-end.result _ _ r.2
+    ∙ limit_kept r.0 _ c.play-end.result _ _ r.2
     ∙ ap (λ (v : Seen). v.limit) c.start.ensures.game ∙ c.requires.limit
 
 pub returns-in-Err-clause-played : goal.returns-in-Err-clause-played
