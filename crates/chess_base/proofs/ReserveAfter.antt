@@ -14,8 +14,8 @@ use Rattle.chess_base.specs.declared.castling.Castle.{Castle}
 use Rattle.chess_base.specs.declared.setup.Setup.{Setup}
 use Rattle.chess_base.specs.Squares.{rank, from_below}
 use Rattle.chess_base.specs.Men.{Men, man_at, other, is_of, is_man, same_colour, same_kind, forward, pawn_rank}
-use Rattle.chess_base.specs.Attacks.{is_rank_ahead}
-use Rattle.chess_base.specs.Sound.{IsSound, no_pawn_on_end_ranks, pawn_is_allowed}
+use Rattle.chess_base.specs.Sound.{IsSound, no_pawn_on_end_ranks}
+use Rattle.chess_base.specs.shared.Parts.{is_rank_ahead, pawn_is_allowed}
 use Rattle.chess_base.specs.Castling.{castle_from, mover_end, castles}
 use Rattle.chess_base.specs.Moves.{arriving_man, man_moves, is_legal, men_after, halfmove_after, resets_clock, after}
 use Rattle.chess_base.specs.laws.Reserve.{ranks_to_go, weight, reserve}
@@ -153,7 +153,6 @@ spends p m sound h = spends_by p m (counts_by reserve weight reserved p m sound.
 
 pawn_off_ends_at : (men : Men) (c : Colour) (s : ℕ) → is_man c Pawn (man_at men s) ≡ true → pawn_is_allowed men s ≡ true
     → (rank s ≢ 0) × (rank s ≢ 7)
-unfolding pawn_is_allowed
 pawn_off_ends_at men c s man e =
     let pawn : (is_man White Pawn (man_at men s) || is_man Black Pawn (man_at men s)) ≡ true = of_some_colour c man in
     let e' : ((rank s == 0) || (rank s == 7)) ≡ false = rw pawn at (not-true _ e) in (

@@ -2,4 +2,5 @@
 -- or parts of them.
 pub mod Lines
 pub mod OneSquare
+pub mod Parts
 pub mod Splits

@@ -12,7 +12,8 @@ use Rattle.chess_base.specs.declared.steps.Steps.{Steps}
 use Rattle.chess_base.specs.declared.setup.Saved.{Saved}
 use Rattle.chess_base.specs.Men.{Men, man_at, is_man, is_of, other}
 use Rattle.chess_base.specs.declared.setup.Setup.{Setup}
-use Rattle.chess_base.specs.Moves.{is_en_passant, one_rank_back, arriving_man, captured_square, after_castling, after_moving, second_square_emptied, steps_of, men_after}
+use Rattle.chess_base.specs.Moves.{is_en_passant, arriving_man, captured_square, after_castling, after_moving, second_square_emptied, steps_of, men_after}
+use Rattle.chess_base.specs.shared.Parts.{one_rank_back}
 use Rattle.chess_base.specs.Before.{castling_undone, before_castling, before_moving, steps_back_by, steps_back, men_before}
 use Rattle.chess_base.specs.Squares.{is_at}
 use Rattle.chess_base.specs.Castling.{castling, castle_of, castle_from, mover_end, castling_rook_to}
