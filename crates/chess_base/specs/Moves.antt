@@ -1,5 +1,5 @@
 -- The moves: their pattern, the position after one, and which are legal (Laws of Chess 2023, article 3).
-use Rattle.std.specs.Prelude.{ℕ, ◌+◌, ◌==◌, nat_lt, min, Bool, false, not, ◌&&◌, ◌||◌, Option, Some, None, is_none, is_some, if◌then◌else◌, option_and_then}
+use Rattle.std.specs.Prelude.{ℕ, ◌+◌, ◌==◌, nat_lt, min, Bool, false, not, ◌&&◌, ◌||◌, Option, Some, None, is_none, is_some, if◌then◌else◌, option_and_then, map}
 use Rattle.std.specs.Option.{option_map, option_map_or, unwrap_or}
 use Rattle.chess_base.specs.declared.castling.Castle.{Castle}
 use Rattle.chess_base.specs.declared.man.Colour.{Colour}
@@ -11,7 +11,7 @@ use Rattle.chess_base.specs.declared.man.Rights.{Rights}
 use Rattle.chess_base.specs.declared.setup.Setup.{Setup}
 use Rattle.chess_base.specs.declared.setup.TheConstants.{COUNTER_LIMIT}
 use Rattle.chess_base.specs.declared.steps.Steps.{Steps}
-use Rattle.chess_base.specs.Squares.{rank, is_at, from_below}
+use Rattle.chess_base.specs.Squares.{rank, is_at, squares}
 use Rattle.chess_base.specs.ByColour.{by_colour}
 use Rattle.chess_base.specs.Men.{Men, man_at, is_of, is_man, same_colour, same_kind, other, forward, first_rank, pawn_rank}
 use Rattle.chess_base.specs.Attacks.{attacks, is_in_check}
@@ -107,7 +107,7 @@ after_moving p m s =
 -- the pieces on all 64 squares after move m of position p: by `after_castling` if m is castling, otherwise by
 -- `after_moving`
 unfoldable pub men_after : Setup → Move → Men
-men_after p m = from_below 64 (λ s. option_map_or (λ k. after_castling p m k s) (castle_of p m) (after_moving p m s))
+men_after p m = map (λ s. option_map_or (λ k. after_castling p m k s) (castle_of p m) (after_moving p m s)) squares
 
 -- the four castling rights after move m: each as before, but lost if its king makes the move, or if m starts or ends on
 -- its rook's square (3.8.2.1)
