@@ -7,7 +7,8 @@ use Rattle.chess_base.specs.declared.man.Colour.TheVariants.{Black}
 use Rattle.chess_base.specs.declared.man.Kind.{Kind}
 use Rattle.chess_base.specs.declared.man.Kind.TheVariants.{Pawn, Knight, Bishop, Rook, Queen, King}
 use Rattle.chess_base.specs.declared.man.Move.{Move}
-use Rattle.chess_base.specs.Coordinates.{optional, small_letter_text, coordinate, ParsesSquare, ParsesMove}
+use Rattle.chess_base.specs.Coordinates.{small_letter_text, coordinate, ParsesSquare, ParsesMove}
+use Rattle.chess_base.specs.shared.Parts.{optional}
 use Rattle.chess_base.specs.Letters.{kinds, letter_by, kind_with_small_letter, is_file_letter, is_rank_digit, square_text, square_with_letters}
 use Rattle.chess_base.specs.MoveList.{move_of}
 use Rattle.chess_base.specs.ties.MoveTexts.{promotion_of_text, move_of_text}

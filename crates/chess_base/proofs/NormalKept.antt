@@ -1,5 +1,5 @@
 -- On positions of normal chess the rules of both variants are those of normal chess.
-use Rattle.std.proofs.Common.{◌≡◌, ℕ, Bool, true, false, ◌&&◌, cond, ◌==◌, nat_lt, Option, Some, None, is_some, refl, ap, ◌∙◌, arith}
+use Rattle.std.proofs.Common.{◌≡◌, ℕ, Bool, true, false, ◌&&◌, cond, ◌==◌, nat_lt, Option, Some, None, is_some, map, refl, ap, ◌∙◌, arith}
 use Rattle.chess_base.specs.declared.man.Colour.{Colour}
 use Rattle.chess_base.specs.declared.man.CastlingSide.{CastlingSide}
 use Rattle.chess_base.specs.declared.man.CastlingSide.TheVariants.{KingSide, QueenSide}
@@ -13,7 +13,7 @@ use Rattle.chess_base.specs.Moves.{moves_as, is_pseudo_legal, pawn_moves, after_
 use Rattle.chess_base.specs.shared.Splits.{castles_or_moves, names_castling, right_is_sound_at}
 use Rattle.chess_base.specs.Castling.{is_castling_to, castling, castle_of, castled_king_file, right_of, right_is_sound, home_square, king_home_file}
 use Rattle.chess_base.specs.Before.{castle_by}
-use Rattle.chess_base.specs.Squares.{from_below}
+use Rattle.chess_base.specs.Squares.{squares}
 use Rattle.std.specs.Option.{option_map_or}
 use Rattle.chess_base.specs.laws.Normal.{normal_right_is_sound_at, normal_says_castling, normal_castling, normal_castle_of, normal_moves_as, normal_has_pattern, normal_men_after, normal_after, normal_is_legal, NormalIsKept}
 
@@ -58,7 +58,7 @@ pattern_kept p e m = ap (λ b. nat_lt m.from 64 && nat_lt m.to 64 && b) (moves_k
 men_kept : (p : Setup) → p.variant ≡ Normal → (m : Move) → men_after p m ≡ normal_men_after p m
 unfolding men_after normal_men_after
 men_kept p e m =
-    ap (λ o. from_below 64 (λ s. option_map_or (λ k. after_castling p m k s) o (after_moving p m s))) (castle_kept p e m)
+    ap (λ o. map (λ s. option_map_or (λ k. after_castling p m k s) o (after_moving p m s)) squares) (castle_kept p e m)
 
 after_kept : (p : Setup) → p.variant ≡ Normal → (m : Move) → after p m ≡ normal_after p m
 unfolding after normal_after

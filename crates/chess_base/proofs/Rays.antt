@@ -11,11 +11,13 @@ use Rattle.chess_base.specs.declared.man.Colour.TheVariants.{White, Black}
 use Rattle.chess_base.specs.declared.man.Kind.{Kind}
 use Rattle.chess_base.specs.declared.man.Kind.TheVariants.{King, Queen, Rook, Bishop, Knight, Pawn}
 use Rattle.chess_base.specs.declared.man.Man.{Man}
-use Rattle.chess_base.specs.Squares.{file, rank, is_strictly_between, share_rank_or_file, share_diagonal, is_between, is_between_on_file, is_between_on_rank, is_between_on_diagonal, some_square}
+use Rattle.chess_base.specs.Squares.{file, rank, is_strictly_between, share_rank_or_file, share_diagonal, is_between, some_square}
 use Rattle.chess_base.specs.Men.{Men, man_at, is_of, is_man, same_kind}
-use Rattle.chess_base.specs.Attacks.{is_clear, is_rank_ahead, could_capture, attacks, is_attacked}
-use Rattle.chess_base.specs.shared.Lines.{same_line}
+use Rattle.chess_base.specs.Attacks.{is_clear, could_capture, attacks, is_attacked}
+use Rattle.chess_base.specs.shared.Parts.{is_rank_ahead}
+use Rattle.chess_base.specs.shared.Lines.{same_line, is_between_on_file, is_between_on_rank, is_between_on_diagonal}
 use Rattle.chess_base.specs.ties.Lines.{step_of, is_above, is_below, attacked_from, attacked_along_from_above, attacked_along_from_below, attacked_along, attacked_by_knight, attacked_by_knight_from_below, attacked_by_knight_from_above, attacked_from_below, attacked_from_above}
+use Rattle.chess_base.proofs.shared.Parts.{is_between_is}
 use Rattle.chess_base.proofs.shared.Squares.{each_square-fails, some_square_same, none_passes, one_decides, some_square-or}
 use Rattle.chess_base.proofs.shared.Geometry.{between_on_line, is_clear_back}
 use Rattle.chess_base.proofs.Knights.{attacked_by_knight_is}
@@ -64,9 +66,9 @@ no_knight_on_diagonal a b x e =
 no_knight_between : (a b x : ℕ) → is_between a b x ≡ true
     → (((abs_diff (file a) (file b) == 1) && (abs_diff (rank a) (rank b) == 2))
     || ((abs_diff (file a) (file b) == 2) && (abs_diff (rank a) (rank b) == 1))) ≡ false
-unfolding is_between
 no_knight_between a b x e =
-    elim (or_cases _ _ e) [
+    elim (or_cases (is_between_on_file a b x || is_between_on_rank a b x) (is_between_on_diagonal a b x)
+    (rw (is_between_is a b x) at e)) [
       | inl straight ↦
           elim (or_cases _ _ straight) [
             | inl on_file ↦ no_knight_on_file a b x on_file

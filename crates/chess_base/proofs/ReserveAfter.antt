@@ -12,14 +12,15 @@ use Rattle.chess_base.specs.declared.man.Man.{Man}
 use Rattle.chess_base.specs.declared.man.Move.{Move}
 use Rattle.chess_base.specs.declared.castling.Castle.{Castle}
 use Rattle.chess_base.specs.declared.setup.Setup.{Setup}
-use Rattle.chess_base.specs.Squares.{rank, from_below}
+use Rattle.chess_base.specs.Squares.{rank}
+use Rattle.chess_base.specs.shared.Below.{from_below}
 use Rattle.chess_base.specs.Men.{Men, man_at, other, is_of, is_man, same_colour, same_kind, forward, pawn_rank}
-use Rattle.chess_base.specs.Attacks.{is_rank_ahead}
-use Rattle.chess_base.specs.Sound.{IsSound, no_pawn_on_end_ranks, pawn_is_allowed}
+use Rattle.chess_base.specs.Sound.{IsSound, no_pawn_on_end_ranks}
+use Rattle.chess_base.specs.shared.Parts.{is_rank_ahead, pawn_is_allowed}
 use Rattle.chess_base.specs.Castling.{castle_from, mover_end, castles}
 use Rattle.chess_base.specs.Moves.{arriving_man, man_moves, is_legal, men_after, halfmove_after, resets_clock, after}
 use Rattle.chess_base.specs.laws.Reserve.{ranks_to_go, weight, reserve}
-use Rattle.chess_base.proofs.shared.Squares.{each_square-at, length-from_below, get_or-from_below}
+use Rattle.chess_base.proofs.shared.Squares.{each_square-at, length-from_below, get_or-from_below, map_squares}
 use Rattle.chess_base.proofs.shared.Men.{same_colour-true, is_of-from_is_man, is_man-kind, is_none-None}
 use Rattle.chess_base.proofs.shared.MoveKinds.{is_of-mover, Moves, MoveKind, ManMoves, Castles, PawnMoves, PawnKind, Advances, Captures, TakesEnPassant}
 use Rattle.chess_base.proofs.shared.Changes.{Change, pawn_attack, pawn_no_castling, rank_ahead_White, rank_ahead_Black, advance_goes}
@@ -67,7 +68,9 @@ weights_below-set n men s v l h =
 reserve-set : (men : Men) (s : ℕ) (v : Option Man) → length men ≡ 64 → s < 64
     → reserve (set men s v) + weight s (man_at men s) ≡ reserve men + weight s v
 unfolding reserve weights_below
-reserve-set men s v l h = weights_below-set 64 men s v l h
+reserve-set men s v l h =
+    rw (map_squares (λ k. weight k (man_at (set men s v) k)), map_squares (λ k. weight k (man_at men k)))
+    (weights_below-set 64 men s v l h)
 
 -- what a piece weighs
 
@@ -153,7 +156,6 @@ spends p m sound h = spends_by p m (counts_by reserve weight reserved p m sound.
 
 pawn_off_ends_at : (men : Men) (c : Colour) (s : ℕ) → is_man c Pawn (man_at men s) ≡ true → pawn_is_allowed men s ≡ true
     → (rank s ≢ 0) × (rank s ≢ 7)
-unfolding pawn_is_allowed
 pawn_off_ends_at men c s man e =
     let pawn : (is_man White Pawn (man_at men s) || is_man Black Pawn (man_at men s)) ≡ true = of_some_colour c man in
     let e' : ((rank s == 0) || (rank s == 7)) ≡ false = rw pawn at (not-true _ e) in (

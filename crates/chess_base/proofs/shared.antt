@@ -11,6 +11,7 @@ pub mod Men
 pub mod MenAfter
 pub mod MoveKinds
 pub mod Normal
+pub mod Parts
 pub mod Sound
 pub mod Squares
 pub mod Writes

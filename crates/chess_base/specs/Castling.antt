@@ -1,7 +1,7 @@
 -- Castling (Laws of Chess 2023, article 3.8.2): with which rook, between which squares, and when. In Chess960 (Laws of
 -- Chess 2023, Guidelines II) king and rooks begin anywhere on the first rank, the king between the rooks; they end on
 -- the same squares as in normal chess.
-use Rattle.std.specs.Prelude.{ℕ, ◌+◌, ◌*◌, ◌==◌, nat_lt, Bool, true, false, not, ◌&&◌, ◌||◌, Option, Some, None, is_none, position, if◌then◌else◌, option_and_then}
+use Rattle.std.specs.Prelude.{ℕ, ◌+◌, ◌*◌, ◌==◌, nat_lt, Bool, true, false, not, ◌&&◌, ◌||◌, Option, Some, None, is_none, List, [], ◌∷◌, find, position, option_and_then}
 use Rattle.std.specs.Option.{option_map, option_map_or}
 use Rattle.chess_base.specs.declared.castling.Castle.{Castle}
 use Rattle.chess_base.specs.declared.man.Colour.{Colour}
@@ -15,6 +15,7 @@ use Rattle.chess_base.specs.declared.man.Variant.{Variant}
 use Rattle.chess_base.specs.declared.man.Variant.TheVariants.{Normal, Fischerandom}
 use Rattle.chess_base.specs.declared.setup.Setup.{Setup}
 use Rattle.chess_base.specs.Squares.{rank, is_between, each_square}
+use Rattle.chess_base.specs.ByColour.{by_colour}
 use Rattle.chess_base.specs.Men.{Men, man_at, is_man, other, first_rank}
 use Rattle.chess_base.specs.Attacks.{is_attacked}
 
@@ -48,10 +49,8 @@ castled_rook_file QueenSide = 3
 -- in the rights r, colour c's castling right on the given side: the square of the rook with which c may castle there;
 -- none if c has no right on that side
 abbrev pub right_of : Rights → Colour → CastlingSide → Option ℕ
-right_of r White KingSide = r.white.king_side
-right_of r White QueenSide = r.white.queen_side
-right_of r Black KingSide = r.black.king_side
-right_of r Black QueenSide = r.black.queen_side
+right_of r c KingSide = (by_colour r.white r.black c).king_side
+right_of r c QueenSide = (by_colour r.white r.black c).queen_side
 
 -- the four castling rights, where colour c's right on side w is `f c w`: the square of the rook, or none
 abbrev pub rights_by : (Colour → CastlingSide → Option ℕ) → Rights
@@ -70,20 +69,16 @@ abbrev pub is_to_side : CastlingSide → ℕ → ℕ → Bool
 is_to_side KingSide king s = nat_lt king s
 is_to_side QueenSide king s = nat_lt s king
 
--- the king's square and square s are on colour c's first rank, and s lies on side w of the king, at any distance; false
--- if there is no king
-abbrev pub is_on_side_of_king : Colour → CastlingSide → Option ℕ → ℕ → Bool
-is_on_side_of_king c w None s = false
-is_on_side_of_king c w (Some king) s = (rank king == first_rank c) && (rank s == first_rank c) && is_to_side w king s
-
 -- colour c's king, and a rook of c on square s, are where castling on side w begins. Normal chess: both on their
--- initial squares, as e1 and h1. Chess960: both on c's first rank, the rook on side w of the king, at any distance
+-- initial squares, as e1 and h1. Chess960: both on c's first rank, the rook on side w of the king, at any distance;
+-- false if there is no king
 abbrev pub are_placed_for_castling : Variant → Men → Colour → CastlingSide → ℕ → Bool
 are_placed_for_castling Normal men c w s =
     (s == home_square c (rook_file w)) && is_man c King (man_at men (home_square c king_home_file))
     && is_man c Rook (man_at men s)
 are_placed_for_castling Fischerandom men c w s =
-    is_on_side_of_king c w (king_square men c) s && is_man c Rook (man_at men s)
+    option_map_or (λ king. (rank king == first_rank c) && (rank s == first_rank c) && is_to_side w king s)
+    (king_square men c) false && is_man c Rook (man_at men s)
 
 -- colour c has no castling right on side w; or c's king, and a rook of c on the square of that right, are where
 -- castling on side w begins
@@ -110,10 +105,7 @@ is_castling_to p m w = is_man p.side King (man_at p.men m.from)
 -- the side to which move m is written as castling, legal or not; none if m is not castling. If both rights have
 -- the same rook (in Chess960, and in no sound position), it is king side
 unfoldable pub castling : Setup → Move → Option CastlingSide
-castling p m =
-    if is_castling_to p m KingSide then Some KingSide
-    else if is_castling_to p m QueenSide then Some QueenSide
-    else None
+castling p m = find (is_castling_to p m) (KingSide ∷ QueenSide ∷ [])
 
 -- ---- the squares of a castling
 
@@ -138,17 +130,12 @@ castle_of p m =
 abbrev pub is_on_way : ℕ → ℕ → ℕ → Bool
 is_on_way a b x = (x == a) || (x == b) || is_between a b x
 
--- for castling k, square x has to be empty: the king or the rook crosses it or ends on it, and neither of the two
--- starts on it
-unfoldable pub castling_needs_empty : Castle → ℕ → Bool
-castling_needs_empty k x =
-    (is_on_way k.king_from k.king_to x || is_on_way k.rook_from k.rook_to x) && not (x == k.king_from)
-    && not (x == k.rook_from)
-
 -- for castling k, each square that king or rook crosses or ends on, other than the two where they start, is empty
 -- (3.8.2.2.2)
 unfoldable pub castling_way_is_empty : Men → Castle → Bool
-castling_way_is_empty men k = each_square (λ x. not (castling_needs_empty k x) || is_none (man_at men x))
+castling_way_is_empty men k = each_square
+    (λ x. not (is_on_way k.king_from k.king_to x || is_on_way k.rook_from k.rook_to x) || (x == k.king_from)
+    || (x == k.rook_from) || is_none (man_at men x))
 
 -- for castling k of colour c, no square that the king starts on, crosses or ends on is attacked by the other colour;
 -- `men` are the pieces before castling (3.8.2.2.1)

@@ -1,21 +1,18 @@
 -- The coordinate text of a move, as `e2e4` or `e7e8q`, by which it is shown and parsed.
-use Rattle.std.specs.Prelude.{◌≡◌, ◌≢◌, ℕ, ◌+◌, ◌<◌, List, [], ◌∷◌, ◌++◌, Option, Some, None, Result, MatchResult}
+use Rattle.std.specs.Prelude.{◌≡◌, ◌≢◌, ℕ, ◌<◌, List, [], ◌∷◌, ◌++◌, Result, MatchResult}
+use Rattle.std.specs.Option.{option_map_or}
+use Rattle.chess_base.specs.declared.man.Colour.TheVariants.{Black}
 use Rattle.chess_base.specs.declared.man.Kind.{Kind}
 use Rattle.chess_base.specs.declared.man.Move.{Move}
-use Rattle.chess_base.specs.Letters.{white_letter, square_text}
-
--- f of the value if there is one, otherwise the empty text
-abbrev pub optional : {A : Type 0} → (A → List ℕ) → Option A → List ℕ
-optional f None = []
-optional f (Some x) = f x
+use Rattle.chess_base.specs.Letters.{letter_by, square_text}
 
 -- the small letter of a kind of piece, as in the promotion of e7e8q: q for a queen
 abbrev pub small_letter_text : Kind → List ℕ
-small_letter_text k = (white_letter k + 32) ∷ []
+small_letter_text k = letter_by Black k ∷ []
 
 -- a move as text: its start square, its end square, and the small letter of its promotion, if it names one: e2e4, e7e8q
 abbrev pub coordinate : Move → List ℕ
-coordinate m = square_text m.from ++ (square_text m.to ++ optional small_letter_text m.promotion)
+coordinate m = square_text m.from ++ (square_text m.to ++ option_map_or small_letter_text m.promotion [])
 
 -- the text is parsed as r: a square with that name, or an error if none of the 64 squares has it. Not said here: that
 -- the square is below 64, and which error it is

@@ -6,6 +6,7 @@ use Rattle.chess_base.specs.declared.man.Colour.TheVariants.{White, Black}
 use Rattle.chess_base.specs.declared.man.Kind.{Kind}
 use Rattle.chess_base.specs.declared.man.Kind.TheVariants.{Pawn, Knight, Bishop, Rook, Queen, King}
 use Rattle.chess_base.specs.declared.man.Man.{Man}
+use Rattle.chess_base.specs.ByColour.{by_colour}
 use Rattle.chess_base.specs.Squares.{file, rank}
 
 -- the first number of a list; 0 for the empty list
@@ -58,8 +59,7 @@ white_letter King = byte "K"
 -- the letter of a kind of piece in a colour, as in FEN: White's are capital, Black's small (byte + 32): N and n for
 -- knights
 abbrev pub letter_by : Colour → Kind → ℕ
-letter_by White kind = white_letter kind
-letter_by Black kind = white_letter kind + 32
+letter_by c k = by_colour (white_letter k) (white_letter k + 32) c
 
 -- the letter of a piece in FEN: N for a white knight, n for a black one
 abbrev pub letter : Man → ℕ

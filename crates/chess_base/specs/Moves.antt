@@ -1,9 +1,8 @@
 -- The moves: their pattern, the position after one, and which are legal (Laws of Chess 2023, article 3).
-use Rattle.std.specs.Prelude.{ℕ, ◌+◌, ◌==◌, nat_lt, min, Bool, false, not, ◌&&◌, ◌||◌, Option, Some, None, is_none, is_some, if◌then◌else◌}
-use Rattle.std.specs.Option.{option_map, option_map_or}
+use Rattle.std.specs.Prelude.{ℕ, ◌+◌, ◌==◌, nat_lt, min, Bool, false, not, ◌&&◌, ◌||◌, Option, Some, None, is_none, is_some, if◌then◌else◌, option_and_then, map}
+use Rattle.std.specs.Option.{option_map, option_map_or, unwrap_or}
 use Rattle.chess_base.specs.declared.castling.Castle.{Castle}
 use Rattle.chess_base.specs.declared.man.Colour.{Colour}
-use Rattle.chess_base.specs.declared.man.Colour.TheVariants.{White, Black}
 use Rattle.chess_base.specs.declared.man.Kind.{Kind}
 use Rattle.chess_base.specs.declared.man.Kind.TheVariants.{King, Rook, Pawn}
 use Rattle.chess_base.specs.declared.man.Man.{Man}
@@ -12,7 +11,8 @@ use Rattle.chess_base.specs.declared.man.Rights.{Rights}
 use Rattle.chess_base.specs.declared.setup.Setup.{Setup}
 use Rattle.chess_base.specs.declared.setup.TheConstants.{COUNTER_LIMIT}
 use Rattle.chess_base.specs.declared.steps.Steps.{Steps}
-use Rattle.chess_base.specs.Squares.{rank, is_at, from_below}
+use Rattle.chess_base.specs.Squares.{rank, is_at, squares}
+use Rattle.chess_base.specs.ByColour.{by_colour}
 use Rattle.chess_base.specs.Men.{Men, man_at, is_of, is_man, same_colour, same_kind, other, forward, first_rank, pawn_rank}
 use Rattle.chess_base.specs.Attacks.{attacks, is_in_check}
 use Rattle.chess_base.specs.Castling.{right_of, rights_by, castle_of, castling_rook_to, castles, mover_end}
@@ -21,9 +21,7 @@ use Rattle.chess_base.specs.Castling.{right_of, rights_by, castle_of, castling_r
 -- last rank (`last` is true), and none (`None`) if it ends elsewhere (3.7.3.3)
 abbrev pub promotion_fits : Bool → Option Kind → Bool
 promotion_fits last None = not last
-promotion_fits last (Some King) = false
-promotion_fits last (Some Pawn) = false
-promotion_fits last (Some _) = last
+promotion_fits last (Some k) = not (same_kind k King) && not (same_kind k Pawn) && last
 
 -- a pawn of the side on move goes two squares straight ahead from its home rank, as e2e4 (3.7.2); whether the square
 -- that it crosses and the end square are empty is not asked here
@@ -78,20 +76,13 @@ is_pseudo_legal p m = nat_lt m.from 64 && nat_lt m.to 64 && moves_as p m (man_at
 -- the piece that arrives on a move's end square, from the content of its start square and from its promotion: the piece
 -- that left, or with a promotion one of the new kind in its colour; none if the start square was empty
 abbrev pub arriving_man : Option Man → Option Kind → Option Man
-arriving_man None k = None
-arriving_man (Some x) None = Some x
-arriving_man (Some x) (Some k) = Some (record { colour = x.colour; kind = k })
+arriving_man o k = option_map (λ (x : Man). record x { kind = unwrap_or k x.kind }) o
 
--- the square one step back from s for a pawn of colour c: when a black pawn takes en passant on e3, the pawn that it
--- takes is on e4, one step back from e3 for Black
-abbrev pub one_rank_back : Colour → ℕ → ℕ
-one_rank_back c s = forward (other c) s
-
--- the square of the piece that move m captures: m's end square, or by en passant the square one step back from it (e5
--- if White captures on e6); none if m captures nothing
+-- the square of the piece that move m captures: m's end square, or by en passant the square one step back from it, which
+-- is one step ahead for the other colour (e5 if White captures on e6); none if m captures nothing
 unfoldable pub captured_square : Setup → Move → Option ℕ
 captured_square p m =
-    if is_en_passant p m then Some (one_rank_back p.side m.to)
+    if is_en_passant p m then Some (forward (other p.side) m.to)
     else if is_of (other p.side) (man_at p.men m.to) then Some m.to
     else None
 
@@ -116,19 +107,14 @@ after_moving p m s =
 -- the pieces on all 64 squares after move m of position p: by `after_castling` if m is castling, otherwise by
 -- `after_moving`
 unfoldable pub men_after : Setup → Move → Men
-men_after p m = from_below 64 (λ s. option_map_or (λ k. after_castling p m k s) (castle_of p m) (after_moving p m s))
+men_after p m = map (λ s. option_map_or (λ k. after_castling p m k s) (castle_of p m) (after_moving p m s)) squares
 
--- colour c's castling right on one side after move m, from the right before: the rook's square, or none if there is no
--- right. It is lost if c's king makes the move, or if m starts or ends on the rook's square (3.8.2.1)
-abbrev pub right_after : Setup → Move → Colour → Option ℕ → Option ℕ
-right_after p m c None = None
-right_after p m c (Some rook) =
-    if is_man c King (man_at p.men m.from) || (m.from == rook) || (m.to == rook) then None else Some rook
-
--- the four castling rights after move m: each as before, unless its king moves, or m starts or ends on its rook's
--- square
+-- the four castling rights after move m: each as before, but lost if its king makes the move, or if m starts or ends on
+-- its rook's square (3.8.2.1)
 unfoldable pub rights_after : Setup → Move → Rights
-rights_after p m = rights_by (λ c w. right_after p m c (right_of p.rights c w))
+rights_after p m = rights_by (λ c w. option_and_then
+    (λ rook. if is_man c King (man_at p.men m.from) || (m.from == rook) || (m.to == rook) then None else Some rook)
+    (right_of p.rights c w))
 
 -- the en passant target after a move: the square that a double advance crosses (e3 after e2e4), even if no enemy pawn
 -- can capture there; none after other moves
@@ -147,8 +133,7 @@ halfmove_after p m = if resets_clock p m then 0 else min (p.halfmove + 1) COUNTE
 -- the fullmove number after a move of this colour, from the number n before it: n after White's, after Black's one
 -- more, but at most 999,999
 abbrev pub fullmove_after : Colour → ℕ → ℕ
-fullmove_after White n = n
-fullmove_after Black n = min (n + 1) COUNTER_LIMIT
+fullmove_after c n = by_colour n (min (n + 1) COUNTER_LIMIT) c
 
 -- the whole position after move m of position p, field by field: the variant stays, and the other side is on move.
 -- Whether m is legal is not asked here
@@ -174,7 +159,7 @@ is_legal p m = is_pseudo_legal p m && not (is_in_check (after p m).men p.side)
 -- square (in Chess960 the king may end there); none for any other move
 unfoldable pub second_square_emptied : Setup → Move → Option ℕ
 second_square_emptied p m =
-    if is_en_passant p m then Some (one_rank_back p.side m.to) else option_map (λ k. k.rook_from) (castle_of p m)
+    if is_en_passant p m then Some (forward (other p.side) m.to) else option_map (λ k. k.rook_from) (castle_of p m)
 
 -- what move m changes on the board: a piece leaves `from`, and `mover` arrives on `to`: in castling the king on its new
 -- square, after a promotion the new piece. In castling the rook `second` goes from `second_from` to `second_to`. A pawn

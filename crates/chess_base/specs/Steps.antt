@@ -1,10 +1,10 @@
 -- What changes on the board when a move is made, and when it is taken back: the mover and perhaps a second piece leave,
 -- and then perhaps a second piece and the mover arrive. All leave before one arrives: in Chess960 a castling king and
 -- rook may change places.
-use Rattle.std.specs.Prelude.{ℕ, ◌==◌, ◌||◌, Option, None, if◌then◌else◌}
+use Rattle.std.specs.Prelude.{ℕ, ◌==◌, ◌||◌, Option, None, if◌then◌else◌, map}
 use Rattle.chess_base.specs.declared.man.Man.{Man}
 use Rattle.chess_base.specs.declared.steps.Steps.{Steps}
-use Rattle.chess_base.specs.Squares.{from_below, is_at}
+use Rattle.chess_base.specs.Squares.{is_at, squares}
 use Rattle.chess_base.specs.Men.{Men, man_at}
 
 -- the piece on square s after the steps t, or none; `men` are the pieces before. Where one arrives it is that one,
@@ -18,4 +18,4 @@ man_stepped men t s =
 
 -- the pieces on all 64 squares after the steps t
 unfoldable pub men_stepped : Men → Steps → Men
-men_stepped men t = from_below 64 (man_stepped men t)
+men_stepped men t = map (man_stepped men t) squares

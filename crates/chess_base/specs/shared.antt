@@ -1,5 +1,7 @@
 -- Definitions for private contracts and proofs of this crate and of crates above: equal to those at the top of specs/,
 -- or parts of them.
+pub mod Below
 pub mod Lines
 pub mod OneSquare
+pub mod Parts
 pub mod Splits

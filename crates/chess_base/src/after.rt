@@ -3,7 +3,8 @@
 ghost use Rattle.std.specs.Prelude.{◌≡◌};
 ghost use Rattle.chess_base.specs.Castling.{right_of};
 ghost use Rattle.chess_base.specs.Sound.{IsSound};
-ghost use Rattle.chess_base.specs.Moves.{arriving_man, second_square_emptied, steps_of, men_after, right_after, rights_after, target_after, resets_clock, halfmove_after, fullmove_after};
+ghost use Rattle.chess_base.specs.Moves.{arriving_man, second_square_emptied, steps_of, men_after, rights_after, target_after, resets_clock, halfmove_after, fullmove_after};
+ghost use Rattle.chess_base.specs.shared.Parts.{right_after};
 
 use crate::attack::{is_man, is_of};
 use crate::castling::{castle_of, mover_to, right_of, rook_from, rook_to};

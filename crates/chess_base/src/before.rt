@@ -3,8 +3,8 @@
 
 ghost use Rattle.std.specs.Prelude.{◌≡◌, ◌<◌, IsTrue};
 ghost use Rattle.chess_base.specs.Squares.{is_at};
-ghost use Rattle.chess_base.specs.Men.{other};
-ghost use Rattle.chess_base.specs.Moves.{one_rank_back, captured_square};
+ghost use Rattle.chess_base.specs.Men.{other, forward};
+ghost use Rattle.chess_base.specs.Moves.{captured_square};
 ghost use Rattle.chess_base.specs.Sound.{IsSound};
 ghost use Rattle.chess_base.specs.Before.{saved_of, captured_from, was_castling, castling_side_undone, castling_undone, leaving_man, returning_square, returning_man, steps_back};
 
@@ -60,7 +60,7 @@ pub fn saved_of(setup: &Setup, m: &Move) -> Saved
 // be on the board.
 #[tactic(auto, unfolding(crate::specs::Before::captured_from))]
 fn captured_from(colour: Colour, m: &Move, saved: &Saved) -> Option<Square>
-    requires { IsTrue (is_at saved.now.target m.now.to) → one_rank_back colour m.now.to < 64 }
+    requires { IsTrue (is_at saved.now.target m.now.to) → forward (other colour) m.now.to < 64 }
     ensures { result ≡ captured_from colour m.now saved.now }
 {
     if saved.captured.is_none() {
@@ -154,7 +154,7 @@ fn returning_square(
     saved: &Saved,
     castle: Option<Castle>,
 ) -> Option<Square>
-    requires { IsTrue (is_at saved.now.target m.now.to) → one_rank_back colour m.now.to < 64 }
+    requires { IsTrue (is_at saved.now.target m.now.to) → forward (other colour) m.now.to < 64 }
     ensures { result ≡ returning_square colour m.now saved.now castle }
 {
     match castle {
@@ -185,7 +185,7 @@ fn returning_man(colour: Colour, saved: &Saved, castle: Option<Castle>) -> Optio
 /// target must be on the board. After a legal move it is.
 #[tactic(auto, unfolding(crate::specs::Before::steps_back))]
 pub fn steps_back(setup: &Setup, m: &Move, saved: &Saved) -> Steps
-    requires { IsTrue (is_at saved.now.target m.now.to) → one_rank_back (other setup.now.side) m.now.to < 64 }
+    requires { IsTrue (is_at saved.now.target m.now.to) → forward (other (other setup.now.side)) m.now.to < 64 }
     ensures { result ≡ steps_back setup.now m.now saved.now }
 {
     let colour = setup.side.other();

@@ -2,7 +2,8 @@
 
 ghost use Rattle.std.specs.Prelude.{◌≡◌, ◌+◌, ◌<◌, Option, Bool};
 ghost use Rattle.chess_base.specs.Men.{forward, pawn_rank};
-ghost use Rattle.chess_base.specs.Moves.{one_rank_back, promotion_fits, is_double_advance, is_en_passant, pawn_advances, pawn_captures, pawn_moves};
+ghost use Rattle.chess_base.specs.Moves.{promotion_fits, is_double_advance, is_en_passant, pawn_advances, pawn_captures, pawn_moves};
+ghost use Rattle.chess_base.specs.shared.Parts.{one_rank_back};
 
 use crate::attack::{attacks, is_man, is_of};
 use crate::legality::{first_rank, man_on};

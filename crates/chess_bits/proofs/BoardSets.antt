@@ -5,7 +5,8 @@ use Rattle.std.proofs.lemmas.Bool.{cases_eq, eq-eqb, ne_eqb}
 use Rattle.chess_base.specs.declared.man.Colour.{Colour}
 use Rattle.chess_base.specs.declared.man.Kind.{Kind}
 use Rattle.chess_base.specs.declared.man.Man.{Man}
-use Rattle.chess_base.specs.Men.{Men, man_at, is_of, is_man, other, kind_number}
+use Rattle.chess_base.specs.Men.{Men, man_at, is_of, is_man, other}
+use Rattle.chess_base.specs.shared.Parts.{kind_number}
 use Rattle.chess_moves.specs.Sets.{contains}
 use Rattle.std.proofs.lemmas.List.{set-get_or}
 use Rattle.chess_base.proofs.shared.Changes.{not_same_other}

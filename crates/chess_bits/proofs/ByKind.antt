@@ -12,7 +12,8 @@ use Rattle.chess_base.specs.declared.man.Move.{Move}
 use Rattle.chess_base.specs.declared.setup.Setup.{Setup}
 use Rattle.chess_base.specs.Attacks.{could_capture, is_in_check}
 use Rattle.chess_base.specs.Castling.{castle_of}
-use Rattle.chess_base.specs.Men.{man_at, is_of, is_man, kind_number, same_colour, same_kind}
+use Rattle.chess_base.specs.Men.{man_at, is_of, is_man, same_colour, same_kind}
+use Rattle.chess_base.specs.shared.Parts.{kind_number}
 use Rattle.chess_base.specs.MoveList.{move_of}
 use Rattle.chess_base.specs.Moves.{is_pseudo_legal, is_legal, after, man_moves, pawn_advances, pawn_captures, promotion_fits}
 use Rattle.chess_base.specs.shared.Splits.{castles_or_moves}

@@ -17,7 +17,8 @@ use Rattle.chess_base.specs.declared.man.Variant.TheVariants.{Normal, Fischerand
 use Rattle.chess_base.specs.declared.setup.Setup.{Setup}
 use Rattle.chess_base.specs.laws.Castles.{castling_on, is_castling_by, castling_named, named_square}
 use Rattle.chess_base.specs.shared.Splits.{right_is_sound_at}
-use Rattle.chess_base.specs.Castling.{home_square, king_home_file, rook_file, right_of, king_square, is_on_side_of_king, are_placed_for_castling, right_is_sound, castle_from, castle_of}
+use Rattle.chess_base.specs.Castling.{home_square, king_home_file, rook_file, right_of, king_square, are_placed_for_castling, right_is_sound, castle_from, castle_of}
+use Rattle.chess_base.specs.shared.Parts.{is_on_side_of_king}
 use Rattle.chess_base.specs.Men.{Men, man_at, is_man}
 use Rattle.chess_base.specs.MoveList.{move_of}
 use Rattle.chess_base.specs.Moves.{is_legal}

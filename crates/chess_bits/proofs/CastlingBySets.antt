@@ -15,13 +15,15 @@ use Rattle.chess_base.specs.declared.man.Variant.{Variant}
 use Rattle.chess_base.specs.declared.man.Variant.TheVariants.{Normal, Fischerandom}
 use Rattle.chess_base.specs.declared.setup.Setup.{Setup}
 use Rattle.chess_base.specs.Attacks.{is_attacked}
-use Rattle.chess_base.specs.Castling.{home_square, king_home_file, rook_file, castled_king_file, castled_rook_file, right_of, king_square, is_to_side, is_on_side_of_king, are_placed_for_castling, right_is_sound, names_castling_with, castling, castle_from, castle_of, castles, is_on_way, castling_needs_empty, castling_way_is_empty, castling_way_is_safe}
+use Rattle.chess_base.specs.Castling.{home_square, king_home_file, rook_file, castled_king_file, castled_rook_file, right_of, king_square, is_to_side, are_placed_for_castling, right_is_sound, names_castling_with, castling, castle_from, castle_of, castles, is_on_way, castling_way_is_empty, castling_way_is_safe}
+use Rattle.chess_base.specs.shared.Parts.{is_on_side_of_king, castling_needs_empty}
 use Rattle.chess_base.specs.Men.{Men, man_at, other, is_man, first_rank}
-use Rattle.chess_base.specs.MoveList.{move_of, squares}
+use Rattle.chess_base.specs.MoveList.{move_of}
 use Rattle.chess_base.specs.Moves.{is_pseudo_legal, is_legal, promotion_fits}
 use Rattle.chess_base.specs.shared.Splits.{castles_or_moves}
 use Rattle.chess_base.specs.Sound.{IsSound}
-use Rattle.chess_base.specs.Squares.{rank, each_square, some_below, some_square, from_below}
+use Rattle.chess_base.specs.Squares.{rank, each_square, some_square, squares}
+use Rattle.chess_base.specs.shared.Below.{some_below, from_below}
 use Rattle.chess_base.proofs.shared.Castling.{right_is_sound_of, placed_for_right, says_from_castling, castling_says, castle_there, no_castle}
 use Rattle.chess_base.proofs.shared.Men.{in_board}
 use Rattle.chess_moves.proofs.shared.AnyMove.{any-filter}

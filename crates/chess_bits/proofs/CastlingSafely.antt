@@ -18,7 +18,8 @@ use Rattle.chess_base.specs.Before.{mover_to}
 use Rattle.chess_base.specs.Men.{Men, man_at, other, is_of, is_man}
 use Rattle.chess_base.specs.Moves.{is_pseudo_legal, is_legal, arriving_man, men_after, second_square_emptied}
 use Rattle.chess_base.specs.Sound.{IsSound}
-use Rattle.chess_base.specs.Squares.{is_between, is_between_on_file, is_between_on_rank, is_between_on_diagonal}
+use Rattle.chess_base.specs.Squares.{is_between}
+use Rattle.chess_base.specs.shared.Lines.{is_between_on_file, is_between_on_rank, is_between_on_diagonal}
 use Rattle.chess_base.proofs.shared.Castling.{says_from_castling, castling_says, castle_there, no_castle}
 use Rattle.chess_base.proofs.shared.Changes.{no_en_passant}
 use Rattle.chess_base.proofs.shared.MenAfter.{man_after, man_at-men_after}

@@ -3,7 +3,8 @@ use Rattle.std.proofs.Common.{◌≡◌, ℕ, suc, ◌+◌, ◌≤◌, inl, inr,
 use Rattle.std.proofs.lemmas.Bool.{cases_Bool, lt-ltb, ltb-true}
 use Rattle.std.specs.List.{filter, flat_map, list_any}
 use Rattle.chess_base.specs.declared.setup.Setup.{Setup}
-use Rattle.chess_base.specs.MoveList.{squares, moves}
+use Rattle.chess_base.specs.MoveList.{moves}
+use Rattle.chess_base.specs.Squares.{squares}
 use Rattle.chess_base.specs.Sound.{IsSound}
 use Rattle.chess_moves.specs.shared.MovesBySquares.{moves_from}
 use Rattle.chess_moves.specs.Sets.{contains, members}

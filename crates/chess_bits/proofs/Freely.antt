@@ -8,7 +8,8 @@ use Rattle.chess_base.specs.declared.man.Kind.TheVariants.{King, Queen, Rook, Bi
 use Rattle.chess_base.specs.declared.man.Man.{Man}
 use Rattle.chess_base.specs.declared.man.Move.{Move}
 use Rattle.chess_base.specs.declared.setup.Setup.{Setup}
-use Rattle.chess_base.specs.Attacks.{attacks, is_in_check, is_attacked, is_rank_ahead, could_capture}
+use Rattle.chess_base.specs.Attacks.{attacks, is_in_check, is_attacked, could_capture}
+use Rattle.chess_base.specs.shared.Parts.{is_rank_ahead}
 use Rattle.chess_base.specs.shared.Splits.{could_capture_as}
 use Rattle.chess_base.specs.Castling.{castle_of}
 use Rattle.chess_base.specs.Men.{man_at, same_kind, other, is_of, is_man, forward, first_rank, pawn_rank}

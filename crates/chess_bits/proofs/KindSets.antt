@@ -8,7 +8,8 @@ use Rattle.chess_base.specs.declared.man.Kind.{Kind}
 use Rattle.chess_base.specs.declared.man.Kind.TheVariants.{King, Queen, Rook, Bishop, Knight, Pawn}
 use Rattle.chess_base.specs.declared.man.Man.{Man}
 use Rattle.chess_base.specs.Attacks.{attacks}
-use Rattle.chess_base.specs.Men.{Men, man_at, is_man, is_of, same_colour, kind_number}
+use Rattle.chess_base.specs.Men.{Men, man_at, is_man, is_of, same_colour}
+use Rattle.chess_base.specs.shared.Parts.{kind_number}
 use Rattle.chess_base.proofs.shared.Men.{same_colour-self, same_kind-self, is_man-none}
 use Rattle.chess_moves.specs.Sets.{contains}
 use Rattle.chess_bits.specs.ties.Occupancy.{IsLater}

@@ -7,7 +7,8 @@ use Rattle.chess_base.specs.declared.man.Kind.TheVariants.{King, Pawn}
 use Rattle.chess_base.specs.declared.setup.Setup.{Setup}
 use Rattle.chess_base.specs.Attacks.{could_capture}
 use Rattle.chess_base.specs.Men.{man_at, is_of, is_man, same_kind}
-use Rattle.chess_base.specs.MoveList.{move_of, squares}
+use Rattle.chess_base.specs.MoveList.{move_of}
+use Rattle.chess_base.specs.Squares.{squares}
 use Rattle.std.proofs.lemmas.List.{length-map}
 use Rattle.chess_base.specs.Sound.{IsSound}
 use Rattle.chess_base.proofs.shared.Men.{is_of-from_is_man, is_man-kind}

@@ -22,7 +22,8 @@ use Rattle.chess_base.specs.Men.{Men, man_at, other, is_of, is_man, same_colour,
 use Rattle.chess_base.specs.MoveList.{move_of}
 use Rattle.chess_base.specs.Moves.{is_pseudo_legal, is_legal, is_en_passant, man_moves, men_after}
 use Rattle.chess_base.specs.Sound.{IsSound}
-use Rattle.chess_base.specs.Squares.{file, rank, is_between, is_between_on_file, is_between_on_rank, is_between_on_diagonal}
+use Rattle.chess_base.specs.Squares.{file, rank, is_between}
+use Rattle.chess_base.specs.shared.Lines.{is_between_on_file, is_between_on_rank, is_between_on_diagonal}
 use Rattle.chess_base.proofs.shared.Castling.{right_is_sound_of, castling_rook_is_there}
 use Rattle.chess_base.proofs.shared.Men.{is_of-from_is_man, is_man-kind}
 use Rattle.chess_base.proofs.shared.Squares.{each_square_same, some_square_same}

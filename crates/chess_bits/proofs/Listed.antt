@@ -8,7 +8,8 @@ use Rattle.chess_base.specs.declared.man.Kind.TheVariants.{Queen, Rook, Bishop, 
 use Rattle.chess_base.specs.declared.man.Move.{Move}
 use Rattle.chess_base.specs.declared.setup.Setup.{Setup}
 use Rattle.chess_base.specs.Men.{man_at, is_of}
-use Rattle.chess_base.specs.MoveList.{move_of, squares, moves}
+use Rattle.chess_base.specs.MoveList.{move_of, moves}
+use Rattle.chess_base.specs.Squares.{squares}
 use Rattle.chess_base.specs.Moves.{is_pseudo_legal, is_legal, promotion_fits}
 use Rattle.chess_base.specs.Sound.{IsSound}
 use Rattle.chess_moves.specs.shared.MovesBySquares.{moves_between, moves_from}

@@ -21,7 +21,8 @@ use Rattle.chess_base.specs.Before.{man_on, saved_of}
 use Rattle.chess_base.specs.Castling.{castling_rook_to, mover_end, right_of, is_castling_to}
 use Rattle.chess_base.specs.Sound.{IsSound}
 use Rattle.chess_base.specs.Attacks.{is_in_check}
-use Rattle.chess_base.specs.Moves.{after, captured_square, fullmove_after, halfmove_after, is_pseudo_legal, is_double_advance, is_legal, arriving_man, men_after, right_after, rights_after, second_square_emptied, target_after}
+use Rattle.chess_base.specs.Moves.{after, captured_square, fullmove_after, halfmove_after, is_pseudo_legal, is_double_advance, is_legal, arriving_man, men_after, rights_after, second_square_emptied, target_after}
+use Rattle.chess_base.specs.shared.Parts.{right_after}
 use Rattle.chess_base.proofs.shared.Castling.{castling_rook_is_there, right_is_sound_of}
 use Rattle.chess_base.proofs.shared.LegalMoves.{change_of}
 use Rattle.chess_base.proofs.shared.Captures.{resets_clock_is}

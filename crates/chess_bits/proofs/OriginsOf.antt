@@ -12,7 +12,7 @@ use Rattle.chess_base.specs.Attacks.{could_capture}
 use Rattle.chess_base.specs.Men.{Men, man_at, is_of, is_man, same_kind, forward}
 use Rattle.chess_base.specs.MoveList.{move_of}
 use Rattle.chess_base.specs.Moves.{is_legal, pawn_advances, pawn_captures}
-use Rattle.chess_base.specs.Sound.{pawn_is_allowed}
+use Rattle.chess_base.specs.shared.Parts.{pawn_is_allowed}
 use Rattle.chess_base.specs.Squares.{file, rank}
 use Rattle.chess_base.proofs.shared.Changes.{pawn_from_same}
 use Rattle.chess_base.proofs.shared.Men.{is_of-from_is_man}
@@ -65,7 +65,6 @@ officer_origins p kind to w u no_pawn no_king reached men = λ m legal man there
 -- no pawn is on the lowest rank
 pub off_lowest : (men : Men) (c : Colour) (a : ℕ) → is_man c Pawn (man_at men a) ≡ true → pawn_is_allowed men a ≡ true
     → 8 ≤ a
-unfolding pawn_is_allowed
 off_lowest men White a man e = let f = not-true _ (rw man at e) in grind (arith, nat_tests, f)
 off_lowest men Black a man e = by (is_man White Pawn (man_at men a)) (rw man at e)
   where
@@ -76,7 +75,6 @@ off_lowest men Black a man e = by (is_man White Pawn (man_at men a)) (rw man at 
 -- and one square ahead of a pawn is on the board
 pub on_board : (men : Men) (c : Colour) (a : ℕ) → is_man c Pawn (man_at men a) ≡ true → pawn_is_allowed men a ≡ true
     → a < 64 → forward c a < 64
-unfolding pawn_is_allowed
 on_board men White a man e low = let f = not-true _ (rw man at e) in grind (arith, nat_tests, f, low)
 on_board men Black a man e low = omega (arith, low)
 

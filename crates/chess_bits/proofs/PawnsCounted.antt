@@ -11,10 +11,11 @@ use Rattle.chess_base.specs.declared.man.Kind.TheVariants.{King, Pawn}
 use Rattle.chess_base.specs.declared.setup.Setup.{Setup}
 use Rattle.chess_base.specs.Attacks.{could_capture}
 use Rattle.chess_base.specs.Men.{Men, man_at, is_of, is_man, other, forward, pawn_rank}
-use Rattle.chess_base.specs.MoveList.{move_of, squares}
+use Rattle.chess_base.specs.MoveList.{move_of}
 use Rattle.chess_base.specs.Moves.{is_legal, pawn_advances, pawn_captures}
-use Rattle.chess_base.specs.Sound.{IsSound, no_pawn_on_end_ranks, pawn_is_allowed}
-use Rattle.chess_base.specs.Squares.{file, rank, is_at}
+use Rattle.chess_base.specs.Sound.{IsSound, no_pawn_on_end_ranks}
+use Rattle.chess_base.specs.shared.Parts.{pawn_is_allowed}
+use Rattle.chess_base.specs.Squares.{file, rank, is_at, squares}
 use Rattle.chess_base.proofs.shared.Squares.{each_square-at}
 use Rattle.chess_moves.specs.shared.MovesBySquares.{moves_between, moves_from}
 use Rattle.chess_moves.specs.Sets.{contains, members}

@@ -15,10 +15,11 @@ use Rattle.chess_base.specs.declared.man.Move.{Move}
 use Rattle.chess_base.specs.declared.setup.Setup.{Setup}
 use Rattle.chess_base.specs.Attacks.{is_clear, could_capture, attacks, is_attacked, is_in_check}
 use Rattle.chess_base.specs.Castling.{castle_of, castle_from, mover_end, castling_rook_to}
-use Rattle.chess_base.specs.Men.{Men, man_at, other, is_man, is_of, same_kind, same_colour, first_rank, crossed_rank}
+use Rattle.chess_base.specs.Men.{Men, man_at, other, is_man, is_of, same_kind, same_colour, first_rank}
 use Rattle.chess_base.specs.Moves.{is_pseudo_legal, is_legal, after, arriving_man, man_moves, men_after, second_square_emptied, promotion_fits}
 use Rattle.chess_base.specs.Sound.{IsSound}
-use Rattle.chess_base.specs.Squares.{file, rank, is_between, is_between_on_file, is_between_on_rank, is_between_on_diagonal, is_strictly_between, is_at, share_rank_or_file, share_diagonal}
+use Rattle.chess_base.specs.Squares.{file, rank, is_between, is_strictly_between, is_at, share_rank_or_file, share_diagonal}
+use Rattle.chess_base.specs.shared.Parts.{crossed_rank}
 use Rattle.chess_base.specs.shared.Splits.{could_capture_as}
 use Rattle.chess_base.proofs.shared.Men.{is_none-None}
 use Rattle.chess_base.proofs.shared.MoveKinds.{Moves, MoveKind, ManMoves, Castles, PawnMoves, moves_from_pattern, castles_unpromoted}
@@ -29,7 +30,7 @@ use Rattle.chess_bits.specs.ties.Pins.{aims_from, IsShield}
 use Rattle.chess_bits.specs.ties.Goes.{lifted}
 use Rattle.chess_base.specs.declared.line.Line.{Line}
 use Rattle.chess_base.specs.declared.line.Line.TheVariants.{Rank, File, Diagonal, Antidiagonal}
-use Rattle.chess_base.specs.shared.Lines.{same_line}
+use Rattle.chess_base.specs.shared.Lines.{same_line, is_between_on_file, is_between_on_rank, is_between_on_diagonal}
 use Rattle.chess_bits.proofs.Attackers.{de_morgan, eq_back}
 use Rattle.chess_bits.proofs.BetweenSquares.{are_on_line}
 use Rattle.chess_bits.proofs.BoardSets.{theirs_of}

@@ -7,7 +7,8 @@ use Rattle.chess_base.specs.declared.man.Kind.{Kind}
 use Rattle.chess_base.specs.declared.man.Kind.TheVariants.{King, Queen, Rook, Bishop, Knight, Pawn}
 use Rattle.chess_base.specs.declared.man.Man.{Man}
 use Rattle.std.specs.Prelude.{slice_index, cond}
-use Rattle.chess_base.specs.Men.{Men, man_at, is_of, kind_number}
+use Rattle.chess_base.specs.Men.{Men, man_at, is_of}
+use Rattle.chess_base.specs.shared.Parts.{kind_number}
 use Rattle.chess_moves.specs.PositionHash.{xor_of}
 use Rattle.chess_moves.specs.Sets.{contains, members}
 use Rattle.chess_moves.proofs.shared.PositionHash.{no_men_keys}

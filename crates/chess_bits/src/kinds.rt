@@ -4,7 +4,8 @@ ghost use Rattle.std.specs.Prelude.{◌≡◌, ℕ, ◌<◌, ◌&&◌, ◌||◌,
 ghost use Rattle.chess_base.specs.declared.man.Colour.{Colour as Side};
 ghost use Rattle.chess_base.specs.declared.man.Kind.TheVariants.{Queen};
 ghost use Rattle.chess_base.specs.declared.man.Man.{Man as Piece};
-ghost use Rattle.chess_base.specs.Men.{Men, man_at, is_of, other, kind_number};
+ghost use Rattle.chess_base.specs.Men.{Men, man_at, is_of, other};
+ghost use Rattle.chess_base.specs.shared.Parts.{kind_number};
 ghost use Rattle.chess_base.specs.Attacks.{attacks, is_attacked};
 ghost use Rattle.chess_moves.specs.Sets.{contains};
 ghost use Rattle.chess_bits.specs.ties.Occupancy.{IsOccupied, IsLater};

@@ -21,8 +21,9 @@ use Rattle.chess_base.specs.declared.man.Variant.{Variant}
 use Rattle.chess_base.specs.declared.man.Variant.TheVariants.{Normal, Fischerandom}
 use Rattle.chess_base.specs.declared.setup.Setup.{Setup}
 use Rattle.chess_base.specs.Letters.{white_letter, letter, letter_by}
-use Rattle.chess_base.specs.Men.{Men, other, crossed_rank}
-use Rattle.chess_base.specs.Sound.{IsSound, target_is_sound_at, target_is_sound}
+use Rattle.chess_base.specs.Men.{Men, other}
+use Rattle.chess_base.specs.Sound.{IsSound, target_is_sound}
+use Rattle.chess_base.specs.shared.Parts.{crossed_rank, target_is_sound_at}
 use Rattle.chess_fen.specs.RightNames.{right_letter}
 use Rattle.chess_fen.specs.Writing.{fen_rank, placement_text, side_text, right_text, or_dash, rights_text, target_text, fen}
 use Rattle.chess_fen.specs.ties.Loops.{ranks_down, run_text, row_text}

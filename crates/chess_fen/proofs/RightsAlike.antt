@@ -16,7 +16,8 @@ use Rattle.chess_base.specs.declared.setup.Setup.{Setup}
 use Rattle.chess_base.specs.declared.fen_fault.FenFault.{FenFault}
 use Rattle.chess_base.specs.declared.fen_fault.FenFault.TheVariants as faults
 use Rattle.chess_base.specs.Men.{Men, man_at, is_man}
-use Rattle.chess_base.specs.Castling.{home_square, king_square, is_on_side_of_king, are_placed_for_castling, right_is_sound, rights_by}
+use Rattle.chess_base.specs.Castling.{home_square, king_square, are_placed_for_castling, right_is_sound, rights_by}
+use Rattle.chess_base.specs.shared.Parts.{is_on_side_of_king}
 use Rattle.chess_base.specs.Faults.{conditions, rights_are_sound, first_failing, setup_fault}
 use Rattle.chess_base.specs.Faults as base
 use Rattle.chess_base.specs.Sound.{IsSound}
@@ -145,7 +146,7 @@ module _ (men : Men) (colour : Colour) (target : Option ℕ) (halfmove fullmove 
 
   blocked_by : (v : Variant) (r t : Rights) → rights_are_sound (setup_with v t) ≡ false
       → said v r false ≡ read v t
-  unfolding setup_fault base.counters_fit
+  unfolding setup_fault
   blocked_by v r t e =
       blocked (setup_with v r) (setup_with v t) (take 4 (conditions (setup_with v t))) faults.Castling
       (drop 4 (conditions (setup_with v r))) (drop 5 (conditions (setup_with v t)))

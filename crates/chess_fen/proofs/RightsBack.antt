@@ -17,7 +17,8 @@ use Rattle.chess_base.specs.declared.man.Variant.{Variant}
 use Rattle.chess_base.specs.declared.man.Variant.TheVariants.{Fischerandom}
 use Rattle.chess_base.specs.Squares.{file, rank}
 use Rattle.chess_base.specs.Men.{Men, man_at, is_man, other, first_rank}
-use Rattle.chess_base.specs.Castling.{home_square, king_square, is_to_side, is_on_side_of_king, right_of}
+use Rattle.chess_base.specs.Castling.{home_square, king_square, is_to_side, right_of}
+use Rattle.chess_base.specs.shared.Parts.{is_on_side_of_king}
 use Rattle.chess_base.specs.shared.Splits.{right_is_sound_at}
 use Rattle.chess_fen.specs.Texts.{times, first_letter, names_file, may_name_right, is_castling_field}
 use Rattle.chess_fen.specs.RightNames.{side_letter, is_towards, names_right, rook_named, right_by, right_in}

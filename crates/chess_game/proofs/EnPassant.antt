@@ -9,10 +9,11 @@ use Rattle.chess_base.specs.declared.man.Kind.{Kind}
 use Rattle.chess_base.specs.declared.man.Kind.TheVariants.{Pawn}
 use Rattle.chess_base.specs.declared.man.Move.{Move}
 use Rattle.chess_base.specs.declared.setup.Setup.{Setup}
-use Rattle.chess_base.specs.Men.{man_at, is_man, other, first_rank, crossed_rank, forward, pawn_rank}
-use Rattle.chess_base.specs.MoveList.{squares, move_of, moves}
-use Rattle.chess_base.specs.Moves.{is_legal, is_en_passant, pawn_advances, one_rank_back}
-use Rattle.chess_base.specs.Squares.{rank, is_at, some_square}
+use Rattle.chess_base.specs.Men.{man_at, is_man, other, first_rank, forward, pawn_rank}
+use Rattle.chess_base.specs.MoveList.{move_of, moves}
+use Rattle.chess_base.specs.Moves.{is_legal, is_en_passant, pawn_advances}
+use Rattle.chess_base.specs.shared.Parts.{crossed_rank, one_rank_back}
+use Rattle.chess_base.specs.Squares.{rank, is_at, some_square, squares}
 use Rattle.chess_base.specs.Sound.{IsSound}
 use Rattle.chess_base.proofs.shared.Changes.{advance_goes, at_target, pawn_no_castling}
 use Rattle.chess_base.proofs.shared.Men.{is_man-colour}

@@ -11,7 +11,8 @@ use Rattle.chess_base.specs.declared.man.Man.{Man}
 use Rattle.chess_base.specs.declared.setup.Setup.{Setup}
 use Rattle.chess_base.specs.Men.{Men, man_at, is_man, same_colour, same_kind}
 use Rattle.chess_base.specs.Sound.{IsSound}
-use Rattle.chess_base.specs.Squares.{some_below, some_square}
+use Rattle.chess_base.specs.Squares.{some_square}
+use Rattle.chess_base.specs.shared.Below.{some_below}
 use Rattle.chess_base.proofs.shared.Squares.{some_square_same}
 use Rattle.chess_moves.specs.Sets.{contains}
 use Rattle.chess_game.specs.Ends.{is_kind}

@@ -10,8 +10,8 @@ use Rattle.chess_base.specs.declared.man.Kind.{Kind}
 use Rattle.chess_base.specs.declared.man.Kind.TheVariants.{King, Queen, Rook, Bishop, Knight, Pawn}
 use Rattle.chess_base.specs.declared.man.Man.{Man}
 use Rattle.chess_base.specs.Men.{Men, man_at}
-use Rattle.chess_base.specs.MoveList.{squares}
-use Rattle.chess_base.specs.Squares.{from_below}
+use Rattle.chess_base.specs.shared.Below.{from_below}
+use Rattle.chess_base.specs.Squares.{squares}
 use Rattle.chess_base.proofs.shared.Squares.{length-from_below, get_or-from_below}
 use Rattle.chess_moves.specs.Sets.{contains, members}
 use Rattle.chess_moves.proofs.shared.AnyMove.{any-filter, any-square}

@@ -9,9 +9,9 @@ use Rattle.chess_base.specs.declared.man.Move.{Move}
 use Rattle.chess_base.specs.declared.setup.Setup.{Setup}
 use Rattle.chess_base.specs.Castling.{castle_from}
 use Rattle.chess_base.specs.Men.{other, first_rank}
-use Rattle.chess_base.specs.MoveList.{promotions, move_of, squares, all_moves, moves}
+use Rattle.chess_base.specs.MoveList.{promotions, move_of, all_moves, moves}
 use Rattle.chess_base.specs.Moves.{is_legal, promotion_fits}
-use Rattle.chess_base.specs.Squares.{rank}
+use Rattle.chess_base.specs.Squares.{rank, squares}
 use Rattle.chess_base.proofs.shared.MoveKinds.{MoveKind, ManMoves, Castles, PawnMoves, promoted_by_kind, castles_unpromoted}
 use Rattle.chess_moves.proofs.Reach.{moves_of}
 use Rattle.chess_moves.proofs.shared.AnyMove.{any-flat_map, any-square}

@@ -8,9 +8,8 @@ use Rattle.chess_base.specs.declared.man.Kind.{Kind}
 use Rattle.chess_base.specs.declared.man.Kind.TheVariants.{King, Queen, Rook, Bishop, Knight, Pawn}
 use Rattle.chess_base.specs.declared.man.Man.{Man}
 use Rattle.chess_base.specs.declared.man.Rights.{Rights}
-use Rattle.chess_base.specs.Squares.{file}
+use Rattle.chess_base.specs.Squares.{file, squares}
 use Rattle.chess_base.specs.Men.{Men, man_at}
-use Rattle.chess_base.specs.MoveList.{squares}
 
 -- ---- keys: the numbers, from index 0, that the generator SplitMix64 gives when it starts at 0 (splitmix64.c by Vigna,
 -- 2015, after Steele, Lea and Flood, Fast Splittable Pseudorandom Number Generators, 2014)

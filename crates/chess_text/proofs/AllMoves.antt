@@ -9,8 +9,9 @@ use Rattle.chess_base.specs.declared.man.Kind.TheVariants.{King, Queen, Rook, Bi
 use Rattle.chess_base.specs.declared.man.Move.{Move}
 use Rattle.chess_base.specs.declared.setup.Setup.{Setup}
 use Rattle.chess_base.specs.Moves.{is_legal}
-use Rattle.chess_base.specs.Squares.{from_below}
-use Rattle.chess_base.specs.MoveList.{promotions, move_of, squares, all_moves, moves}
+use Rattle.chess_base.specs.MoveList.{promotions, move_of, all_moves, moves}
+use Rattle.chess_base.specs.Squares.{squares}
+use Rattle.chess_base.specs.shared.Below.{from_below}
 use Rattle.chess_moves.proofs.shared.MovesBySquares.{filter-flat_map}
 use Rattle.chess_moves.proofs.shared.AnyMove.{any-filter, any-flat_map, any-square}
 use Rattle.chess_text.specs.laws.Laws.{CanPromote}

@@ -9,7 +9,7 @@ use Rattle.std.proofs.lemmas.Slice.Eq.{bytes_eq-Decides}
 use Rattle.chess_base.specs.declared.man.CastlingSide.{CastlingSide}
 use Rattle.chess_base.specs.declared.man.Kind.{Kind}
 use Rattle.chess_base.specs.declared.man.Kind.TheVariants.{King, Queen, Rook, Bishop, Knight, Pawn}
-use Rattle.chess_base.specs.Coordinates.{optional}
+use Rattle.chess_base.specs.shared.Parts.{optional}
 use Rattle.chess_base.specs.Letters.{square_text}
 use Rattle.chess_base.specs.Men.{same_kind}
 use Rattle.chess_base.specs.Squares.{file, rank}

@@ -11,7 +11,8 @@ use Rattle.chess_base.specs.declared.man.Kind.TheVariants.{King, Queen, Rook, Bi
 use Rattle.chess_base.specs.declared.man.Man.{Man}
 use Rattle.chess_base.specs.declared.man.Move.{Move}
 use Rattle.chess_base.specs.declared.setup.Setup.{Setup}
-use Rattle.chess_base.specs.Men.{kind_number, man_at, is_man, same_colour, same_kind}
+use Rattle.chess_base.specs.Men.{man_at, is_man, same_colour, same_kind}
+use Rattle.chess_base.specs.shared.Parts.{kind_number}
 use Rattle.chess_base.specs.Moves.{is_legal}
 use Rattle.chess_base.specs.Castling.{castling}
 use Rattle.chess_base.proofs.shared.Men.{same_kind-true}

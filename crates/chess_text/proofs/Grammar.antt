@@ -5,7 +5,7 @@ use Rattle.std.specs.Option.{option_map}
 use Rattle.std.proofs.lemmas.Bool.Decides.{nat_tests}
 use Rattle.chess_base.specs.declared.man.Kind.{Kind}
 use Rattle.chess_base.specs.declared.man.Kind.TheVariants.{Pawn, Knight, Bishop, Rook, Queen, King}
-use Rattle.chess_base.specs.Coordinates.{optional}
+use Rattle.chess_base.specs.shared.Parts.{optional}
 use Rattle.chess_base.specs.Letters.{white_letter, square_text, is_file_letter, is_rank_digit}
 use Rattle.chess_base.proofs.shared.Choices.{chosen, mapped}
 use Rattle.chess_text.specs.declared.parts.Parts.{Parts}

@@ -6,7 +6,7 @@ use Rattle.std.proofs.lemmas.List.Folds.{list_any-append}
 use Rattle.std.specs.Prelude.{IfSome}
 use Rattle.chess_base.specs.declared.man.Kind.{Kind}
 use Rattle.chess_base.specs.MoveList.{promotions}
-use Rattle.chess_base.specs.Squares.{from_below}
+use Rattle.chess_base.specs.shared.Below.{from_below}
 use Rattle.chess_text.specs.laws.Laws.{CanPromote}
 use Rattle.chess_moves.proofs.shared.AnyMove.{any-flat_map}
 

@@ -8,7 +8,8 @@ use Rattle.chess_base.specs.declared.man.Move.{Move}
 use Rattle.chess_base.specs.declared.man.Variant.TheVariants.{Normal}
 use Rattle.chess_base.specs.declared.setup.Setup.{Setup}
 use Rattle.chess_base.specs.Attacks.{is_in_check}
-use Rattle.chess_base.specs.Coordinates.{coordinate, optional}
+use Rattle.chess_base.specs.Coordinates.{coordinate}
+use Rattle.chess_base.specs.shared.Parts.{optional}
 use Rattle.chess_base.specs.Castling.{castling}
 use Rattle.chess_base.specs.Men.{man_at, same_kind}
 use Rattle.chess_base.specs.Moves.{after}

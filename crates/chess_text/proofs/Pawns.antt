@@ -9,11 +9,12 @@ use Rattle.chess_base.specs.declared.man.Kind.TheVariants.{Pawn}
 use Rattle.chess_base.specs.declared.man.Man.{Man}
 use Rattle.chess_base.specs.declared.man.Move.{Move}
 use Rattle.chess_base.specs.declared.setup.Setup.{Setup}
-use Rattle.chess_base.specs.Attacks.{attacks, could_capture, is_rank_ahead}
+use Rattle.chess_base.specs.Attacks.{attacks, could_capture}
 use Rattle.chess_base.specs.Men.{Men, man_at, other, is_of, is_man, forward, pawn_rank}
 use Rattle.chess_base.specs.Moves.{is_double_advance, is_en_passant, pawn_advances, pawn_captures, pawn_moves}
 use Rattle.chess_base.specs.Squares.{file, rank, each_square}
-use Rattle.chess_base.specs.Sound.{IsSound, pawn_is_allowed, no_pawn_on_end_ranks}
+use Rattle.chess_base.specs.Sound.{IsSound, no_pawn_on_end_ranks}
+use Rattle.chess_base.specs.shared.Parts.{is_rank_ahead, pawn_is_allowed}
 use Rattle.chess_base.proofs.shared.Squares.{each_below-at}
 use Rattle.chess_base.proofs.shared.Men.{same_colour-self, is_none-None}
 use Rattle.chess_base.proofs.shared.Captures.{captures_is}
@@ -27,7 +28,7 @@ pawn_of c = record { colour = c; kind = Pawn }
 
 stands_off : (men : Men) (c : Colour) (s : ℕ) → man_at men s ≡ Some (pawn_of c) → pawn_is_allowed men s ≡ true
     → rank s ≢ 0
-unfolding pawn_is_allowed is_man
+unfolding is_man
 stands_off men White s at e zero_rank =
     let e' = rw (at, zero_rank) at e in
     cc

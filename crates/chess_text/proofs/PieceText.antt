@@ -4,7 +4,7 @@ use Rattle.std.specs.Prelude.{if◌then◌else◌}
 use Rattle.std.specs.Option.{option_map}
 use Rattle.chess_base.specs.declared.man.Kind.{Kind}
 use Rattle.chess_base.specs.declared.man.Kind.TheVariants.{Pawn}
-use Rattle.chess_base.specs.Coordinates.{optional}
+use Rattle.chess_base.specs.shared.Parts.{optional}
 use Rattle.chess_base.specs.Letters.{byte, square_text}
 use Rattle.chess_base.specs.Men.{same_kind}
 use Rattle.chess_base.specs.Squares.{file, rank}

@@ -9,11 +9,12 @@ use Rattle.chess_base.specs.declared.man.Kind.{Kind}
 use Rattle.chess_base.specs.declared.man.Kind.TheVariants.{Queen, Rook, Bishop, Knight, Pawn}
 use Rattle.chess_base.specs.declared.man.Move.{Move}
 use Rattle.chess_base.specs.declared.setup.Setup.{Setup}
-use Rattle.chess_base.specs.Squares.{file, rank, some_below, some_square, from_below}
+use Rattle.chess_base.specs.Squares.{file, rank, some_square, squares}
 use Rattle.chess_base.proofs.shared.Squares.{some_square_same}
 use Rattle.chess_base.specs.Men.{man_at, is_man, same_kind}
 use Rattle.chess_base.specs.Moves.{is_legal}
-use Rattle.chess_base.specs.MoveList.{promotions, move_of, squares, all_moves, moves}
+use Rattle.chess_base.specs.MoveList.{promotions, move_of, all_moves, moves}
+use Rattle.chess_base.specs.shared.Below.{some_below, from_below}
 use Rattle.chess_moves.specs.Sets.{contains, members, HasLegalStarts}
 use Rattle.chess_moves.proofs.shared.Members.{by_range, members_none, of_range}
 use Rattle.chess_moves.proofs.shared.MovesBySquares.{filter-flat_map}

@@ -12,8 +12,7 @@ use Rattle.chess_base.specs.declared.man.Kind.TheVariants.{King, Queen, Rook, Bi
 use Rattle.chess_base.specs.declared.man.Man.{Man}
 use Rattle.chess_base.specs.declared.man.Move.{Move}
 use Rattle.chess_base.specs.declared.setup.Setup.{Setup}
-use Rattle.chess_base.specs.Attacks.{is_rank_ahead}
-use Rattle.chess_base.specs.Coordinates.{optional}
+use Rattle.chess_base.specs.shared.Parts.{is_rank_ahead, optional}
 use Rattle.chess_base.specs.Men.{man_at, same_kind}
 use Rattle.chess_base.specs.Moves.{is_legal, after, pawn_moves}
 use Rattle.chess_base.specs.Castling.{castling, right_of}

@@ -16,8 +16,8 @@ use Rattle.chess_base.specs.Letters.{square_text}
 use Rattle.chess_base.specs.Men.{man_at, same_kind}
 use Rattle.chess_base.specs.Moves.{captured_square, is_legal}
 use Rattle.chess_base.specs.Castling.{castling}
-use Rattle.chess_base.specs.MoveList.{promotions, squares, moves}
-use Rattle.chess_base.specs.Squares.{file, rank}
+use Rattle.chess_base.specs.MoveList.{promotions, moves}
+use Rattle.chess_base.specs.Squares.{file, rank, squares}
 use Rattle.chess_text.specs.declared.described.Described.{Described}
 use Rattle.chess_text.specs.declared.reading.Reading.{Reading}
 use Rattle.chess_text.specs.declared.reading.Reading.TheVariants as reads

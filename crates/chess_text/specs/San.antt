@@ -13,7 +13,7 @@ use Rattle.chess_base.specs.declared.man.Variant.{Variant}
 use Rattle.chess_base.specs.declared.man.Variant.TheVariants.{Normal, Fischerandom}
 use Rattle.chess_base.specs.declared.setup.Setup.{Setup}
 use Rattle.chess_base.specs.Attacks.{is_in_check}
-use Rattle.chess_base.specs.Coordinates.{coordinate, optional}
+use Rattle.chess_base.specs.Coordinates.{coordinate}
 use Rattle.chess_base.specs.Letters.{byte, square_text}
 use Rattle.chess_base.specs.Men.{same_kind}
 use Rattle.chess_base.specs.Moves.{after}
@@ -57,7 +57,7 @@ abbrev pub piece_text : List ℕ → Described → List ℕ
 piece_text rivals d =
     (if same_kind d.man Pawn then list_if d.captures (file_text (file d.from))
     else kind_text d.man ++ start_text d.from rivals)
-    ++ (list_if d.captures (codes "x") ++ (square_text d.to ++ optional (λ k. byte "=" ∷ kind_text k) d.promotion))
+    ++ (list_if d.captures (codes "x") ++ (square_text d.to ++ option_map_or (λ k. byte "=" ∷ kind_text k) d.promotion []))
 
 -- the SAN of the described move without `+` or `#`; `rivals` are the start squares of other pieces of its kind that
 -- could legally move to its end square
@@ -71,7 +71,8 @@ check_mark p = list_if (is_in_check p.men p.side) (if length (moves p) == 0 then
 -- the SAN of legal move m in position p, with `+` or `#` at its end if it gives check or mate: Nf3, exd5, Qh4#. For a
 -- move from an empty square, which is not legal, the empty text
 unfoldable pub san : Setup → Move → List ℕ
-san p m = optional (λ d. unmarked_san (rival_starts p (moves p) d) d ++ check_mark (after p m)) (described p m)
+san p m =
+    option_map_or (λ d. unmarked_san (rival_starts p (moves p) d) d ++ check_mark (after p m)) (described p m) []
 
 -- whether a variant is Chess960
 abbrev pub is_fischerandom : Variant → Bool

@@ -7,7 +7,8 @@ use Rattle.chess_base.specs.declared.setup.Setup.{Setup}
 use Rattle.chess_base.specs.Squares.{is_at}
 use Rattle.chess_base.specs.Men.{man_at, is_of, is_man, other}
 use Rattle.chess_base.specs.Attacks.{attacks}
-use Rattle.chess_base.specs.Moves.{is_en_passant, one_rank_back, captured_square, resets_clock}
+use Rattle.chess_base.specs.Moves.{is_en_passant, captured_square, resets_clock}
+use Rattle.chess_base.specs.shared.Parts.{one_rank_back}
 
 some_by : (passes enemy : Bool) (x y : ℕ)
     → is_some (if passes then Some x else if enemy then Some y else None) ≡ (enemy || passes)

@@ -15,7 +15,8 @@ use Rattle.chess_base.specs.declared.setup.Setup.{Setup}
 use Rattle.chess_base.specs.Squares.{rank}
 use Rattle.chess_base.specs.Men.{Men, man_at, is_man}
 use Rattle.chess_base.specs.Sound.{IsSound, has_one_king}
-use Rattle.chess_base.specs.Castling.{right_of, king_square, castle_from, castle_of, are_placed_for_castling, right_is_sound, home_square, king_home_file, is_on_side_of_king, names_castling_with, castled_king_file, is_castling_to, castling}
+use Rattle.chess_base.specs.Castling.{right_of, king_square, castle_from, castle_of, are_placed_for_castling, right_is_sound, home_square, king_home_file, names_castling_with, castled_king_file, is_castling_to, castling}
+use Rattle.chess_base.specs.shared.Parts.{is_on_side_of_king}
 use Rattle.chess_base.specs.Before.{castle_by}
 use Rattle.chess_base.specs.shared.Splits.{right_is_sound_at, names_castling}
 use Rattle.chess_base.specs.laws.Castles.{castling_on, is_castling_by, castling_named}

@@ -11,13 +11,15 @@ use Rattle.chess_base.specs.declared.man.CastlingSide.TheVariants.{KingSide, Que
 use Rattle.chess_base.specs.declared.man.Man.{Man}
 use Rattle.chess_base.specs.declared.man.Move.{Move}
 use Rattle.chess_base.specs.Squares.{rank, file, is_at}
-use Rattle.chess_base.specs.Men.{Men, man_at, other, same_colour, same_kind, is_of, is_man, forward, first_rank, crossed_rank, pawn_rank}
-use Rattle.chess_base.specs.Attacks.{attacks, could_capture, is_rank_ahead}
+use Rattle.chess_base.specs.Men.{Men, man_at, other, same_colour, same_kind, is_of, is_man, forward, first_rank, pawn_rank}
+use Rattle.chess_base.specs.Attacks.{attacks, could_capture}
 use Rattle.chess_base.specs.shared.Splits.{could_capture_as}
 use Rattle.chess_base.specs.declared.setup.Setup.{Setup}
-use Rattle.chess_base.specs.Sound.{IsSound, target_is_sound, target_is_sound_at}
+use Rattle.chess_base.specs.Sound.{IsSound, target_is_sound}
 use Rattle.chess_base.specs.Castling.{castling_rook_to, castling, is_castling_to, mover_end}
-use Rattle.chess_base.specs.Moves.{arriving_man, second_square_emptied, one_rank_back, man_moves, pawn_advances, is_double_advance, promotion_fits, is_en_passant}
+use Rattle.chess_base.specs.Moves.{arriving_man, second_square_emptied, man_moves, pawn_advances, is_double_advance, promotion_fits, is_en_passant}
+use Rattle.chess_base.specs.shared.Parts.{crossed_rank, is_rank_ahead, target_is_sound_at, one_rank_back}
+use Rattle.chess_base.proofs.shared.Parts.{target_is_sound_is}
 use Rattle.chess_base.proofs.shared.Men.{same_colour-true, not_is_man, is_man-kind, is_of-none, is_man-none, is_of-other, colour_cases, is_none-None}
 use Rattle.chess_base.proofs.shared.Castling.{lands_on_to, no_castle}
 use Rattle.chess_base.proofs.shared.MoveKinds.{Moves, PawnKind, Advances, Captures, TakesEnPassant, is_of-mover, no_king_where_attacked}
@@ -119,8 +121,7 @@ pub at_target : (p : Setup) (s : ℕ) → target_is_sound p ≡ true → is_at p
     → (rank s ≡ crossed_rank (other p.side)) × (is_none (man_at p.men s) ≡ true)
     × (is_man (other p.side) Pawn (man_at p.men (one_rank_back p.side s)) ≡ true)
     × (is_none (man_at p.men (forward p.side s)) ≡ true)
-unfolding target_is_sound
-at_target p s t e = target_facts p.men p.side p.target s t e
+at_target p s t e = target_facts p.men p.side p.target s (rw (target_is_sound_is p) at t) e
 
 -- castling and en passant follow from the mover
 
@@ -255,7 +256,7 @@ promoted : (p : Setup) (m : Move) (x : Man) (k : Kind) → man_at p.men m.from �
     → same_kind Pawn k ≡ false → Arrival p m
 unfolding is_of is_man
 promoted p m x k at man e king pawn = record {
-  of = λ c. rw (at, e) refl;
+  of = λ c. rw at refl;
   king = λ c.
       let not_king : is_man c King (man_at p.men m.from) ≡ false =
       is_man-kind p.side c Pawn King (man_at p.men m.from) refl man in

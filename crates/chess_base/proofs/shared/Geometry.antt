@@ -3,12 +3,13 @@ use Rattle.std.proofs.Common.{◌≡◌, ℕ, ◌<◌, ◌*◌, ◌+◌, nat_lt,
 use Rattle.std.proofs.lemmas.Bool.Decides.{nat_tests}
 use Rattle.std.proofs.lemmas.Bool.{cases_order, eqb-true}
 use Rattle.std.specs.Int.{abs_diff}
-use Rattle.chess_base.specs.Squares.{file, rank, is_strictly_between, share_diagonal, is_between, is_between_on_file, is_between_on_rank, is_between_on_diagonal}
+use Rattle.chess_base.specs.Squares.{file, rank, is_strictly_between, share_diagonal, is_between}
 use Rattle.chess_base.specs.declared.line.Line.{Line}
 use Rattle.chess_base.specs.declared.line.Line.TheVariants.{Rank, File, Diagonal, Antidiagonal}
 use Rattle.chess_base.specs.Men.{Men, man_at}
 use Rattle.chess_base.specs.Attacks.{is_clear}
-use Rattle.chess_base.specs.shared.Lines.{same_line}
+use Rattle.chess_base.specs.shared.Lines.{same_line, is_between_on_file, is_between_on_rank, is_between_on_diagonal}
+use Rattle.chess_base.proofs.shared.Parts.{is_between_is}
 use Rattle.chess_base.proofs.shared.Squares.{each_square_same}
 
 -- ---- which squares are between two does not depend on their order
@@ -75,8 +76,8 @@ file_no_diagonal a b x e = grind (arith, nat_tests)
 
 pub between_file : (a b x : ℕ) → same_line File a b ≡ true
     → is_between a b x ≡ (same_line File a x && is_strictly_between a b x)
-unfolding is_between
-between_file a b x e = only_first _ _ _ _ (file_part a b x e) (file_no_rank a b x e) (file_no_diagonal a b x e)
+between_file a b x e =
+    is_between_is a b x ∙ only_first _ _ _ _ (file_part a b x e) (file_no_rank a b x e) (file_no_diagonal a b x e)
 
 inside_up : (m n x : ℕ) → m < n → is_strictly_between m n x ≡ (nat_lt m x && nat_lt x n)
 inside_up m n x h = grind (arith, nat_tests)
@@ -162,8 +163,8 @@ diagonal_no_rank a b x e = grind (arith, nat_tests)
 
 pub between_diagonal : (a b x : ℕ) → same_line Diagonal a b ≡ true
     → is_between a b x ≡ (same_line Diagonal a x && is_strictly_between a b x)
-unfolding is_between
-between_diagonal a b x e = only_last _ _ _ _ (diagonal_no_file a b x e) (diagonal_no_rank a b x e)
+between_diagonal a b x e =
+    is_between_is a b x ∙ only_last _ _ _ _ (diagonal_no_file a b x e) (diagonal_no_rank a b x e)
     (diagonal_part a b x e)
 
 antidiagonal_no_file : (a b x : ℕ) → same_line Antidiagonal a b ≡ true → is_between_on_file a b x ≡ false
@@ -176,8 +177,8 @@ antidiagonal_no_rank a b x e = grind (arith, nat_tests)
 
 pub between_antidiagonal : (a b x : ℕ) → same_line Antidiagonal a b ≡ true
     → is_between a b x ≡ (same_line Antidiagonal a x && is_strictly_between a b x)
-unfolding is_between
-between_antidiagonal a b x e = only_last _ _ _ _ (antidiagonal_no_file a b x e) (antidiagonal_no_rank a b x e)
+between_antidiagonal a b x e =
+    is_between_is a b x ∙ only_last _ _ _ _ (antidiagonal_no_file a b x e) (antidiagonal_no_rank a b x e)
     (antidiagonal_part a b x e)
 
 -- what lies between two squares of one line lies on the line, between them in number
@@ -189,8 +190,9 @@ between_on_line Diagonal a b x e = between_diagonal a b x e
 between_on_line Antidiagonal a b x e = between_antidiagonal a b x e
 
 pub between_back : (a b x : ℕ) → is_between a b x ≡ is_between b a x
-unfolding is_between
-between_back a b x = rw (back_on_file a b x, back_on_rank a b x, back_on_diagonal a b x) refl
+between_back a b x =
+    is_between_is a b x ∙ rw (back_on_file a b x, back_on_rank a b x, back_on_diagonal a b x) refl
+    ∙ sym (is_between_is b a x)
 
 pub is_clear_back : (men : Men) (a b : ℕ) → is_clear men a b ≡ is_clear men b a
 unfolding is_clear

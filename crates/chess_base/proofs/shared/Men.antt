@@ -1,14 +1,16 @@
 -- For proofs about pieces: what follows from the tests on the piece of a square, if there is one.
-use Rattle.std.proofs.Common.{◌≡◌, ℕ, ◌<◌, ◌⊎◌, inl, inr, true, false, Option, Some, None, is_none, length, get_or, refl, sym, ap, ◌∙◌, arith}
+use Rattle.std.proofs.Common.{◌≡◌, ℕ, ◌<◌, ◌⊎◌, inl, inr, true, false, Option, Some, None, is_none, length, ◌==◌, refl, sym, ap, ◌∙◌, arith}
 use Rattle.std.proofs.lemmas.Bool.{and_parts, and_left, and_right, eqb-true, cases_lt}
 use Rattle.std.proofs.lemmas.List.{get_or_past}
+use Rattle.std.specs.Option.{unwrap_or}
 use Rattle.chess_base.specs.declared.man.Colour.{Colour}
 use Rattle.chess_base.specs.declared.man.Colour.TheVariants.{White, Black}
 use Rattle.chess_base.specs.declared.man.Kind.{Kind}
 use Rattle.chess_base.specs.declared.man.Kind.TheVariants.{King, Queen, Rook, Bishop, Knight, Pawn}
 use Rattle.chess_base.specs.declared.man.Man.{Man}
-use Rattle.chess_base.specs.Letters.{kinds}
-use Rattle.chess_base.specs.Men.{Men, man_at, other, same_colour, same_kind, kind_number, is_of, is_man}
+use Rattle.chess_base.specs.Letters.{white_letter, kind_with_letter}
+use Rattle.chess_base.specs.Men.{Men, man_at, other, same_colour, same_kind, is_of, is_man}
+use Rattle.chess_base.specs.shared.Parts.{kind_number}
 
 pub same_colour-self : (c : Colour) → same_colour c c ≡ true
 same_colour-self White = refl
@@ -20,11 +22,11 @@ same_colour-true Black Black e = refl
 same_colour-true White Black e = cc
 same_colour-true Black White e = cc
 
--- the kind with this number
+-- the kind with this letter
 abbrev kind_at : ℕ → Kind
-kind_at n = get_or kinds n King
+kind_at c = unwrap_or (kind_with_letter c) King
 
-kind_back : (k : Kind) → kind_at (kind_number k) ≡ k
+kind_back : (k : Kind) → kind_at (white_letter k) ≡ k
 kind_back King = refl
 kind_back Queen = refl
 kind_back Rook = refl
@@ -42,8 +44,11 @@ same_kind-self Pawn = refl
 
 pub same_kind-true : (k l : Kind) → same_kind k l ≡ true → k ≡ l
 same_kind-true k l e =
-    let numbers : kind_number k ≡ kind_number l = eqb-true _ _ e in
-    sym (kind_back k) ∙ ap kind_at numbers ∙ kind_back l
+    let letters : white_letter k ≡ white_letter l = eqb-true _ _ e in
+    sym (kind_back k) ∙ ap kind_at letters ∙ kind_back l
+
+pub same_kind_by_number : (k l : Kind) → same_kind k l ≡ (kind_number k == kind_number l)
+same_kind_by_number k l = grind arith
 
 pub same_colour-other : (c d : Colour) → same_colour (other c) d ≡ true → same_colour c d ≡ false
 same_colour-other White White e = cc
@@ -93,7 +98,7 @@ pub is_man-kind : (c d : Colour) (k l : Kind) (o : Option Man) → same_kind l k
 unfolding is_man
 is_man-kind c d k l None n e = refl
 is_man-kind c d k l (Some x) n e =
-    let at : kind_number k ≡ kind_number x.kind = eqb-true _ _ (and_parts _ _ e).1 in
+    let at : white_letter k ≡ white_letter x.kind = eqb-true _ _ (and_parts _ _ e).1 in
     let other_kind : same_kind l x.kind ≡ false = rw (← at) n in
     and_right _ _ other_kind
 

@@ -12,7 +12,8 @@ use Rattle.chess_base.specs.declared.steps.Steps.{Steps}
 use Rattle.chess_base.specs.declared.setup.Saved.{Saved}
 use Rattle.chess_base.specs.Men.{Men, man_at, is_man, is_of, other}
 use Rattle.chess_base.specs.declared.setup.Setup.{Setup}
-use Rattle.chess_base.specs.Moves.{is_en_passant, one_rank_back, arriving_man, captured_square, after_castling, after_moving, second_square_emptied, steps_of, men_after}
+use Rattle.chess_base.specs.Moves.{is_en_passant, arriving_man, captured_square, after_castling, after_moving, second_square_emptied, steps_of, men_after}
+use Rattle.chess_base.specs.shared.Parts.{one_rank_back}
 use Rattle.chess_base.specs.Before.{castling_undone, before_castling, before_moving, steps_back_by, steps_back, men_before}
 use Rattle.chess_base.specs.Squares.{is_at}
 use Rattle.chess_base.specs.Castling.{castling, castle_of, castle_from, mover_end, castling_rook_to}
@@ -20,17 +21,17 @@ use Rattle.chess_base.specs.Steps.{man_stepped, men_stepped}
 use Rattle.chess_base.proofs.shared.Castling.{says_from_castling, castling_says, castle_there, no_castle}
 use Rattle.chess_base.proofs.shared.Changes.{no_en_passant}
 use Rattle.chess_base.proofs.shared.Men.{is_man-kind}
-use Rattle.chess_base.proofs.shared.Squares.{get_or-from_below, length-from_below, from_below-same}
+use Rattle.chess_base.proofs.shared.Squares.{get_or-map_squares, length-map_squares, map_squares-same}
 
 -- the pieces after steps, as one list
 
 pub length-men_stepped : (men : Men) (t : Steps) → length (men_stepped men t) ≡ 64
 unfolding men_stepped
-length-men_stepped men t = length-from_below 64 (man_stepped men t)
+length-men_stepped men t = length-map_squares (man_stepped men t)
 
 pub man_at-men_stepped : (men : Men) (t : Steps) (s : ℕ) → s < 64 → man_at (men_stepped men t) s ≡ man_stepped men t s
 unfolding men_stepped
-man_at-men_stepped men t s h = get_or-from_below 64 (man_stepped men t) s None h
+man_at-men_stepped men t s h = get_or-map_squares (man_stepped men t) s None h
 
 -- ---- the two cases of a move are its steps
 
@@ -115,7 +116,7 @@ by_cases p m s (Some k) e = let c = castling_of p m k e in sym (castled p m s k 
 pub men_after_by_steps : (p : Setup) (m : Move) → men_after p m ≡ men_stepped p.men (steps_of p m)
 unfolding men_after men_stepped
 men_after_by_steps p m =
-    from_below-same 64 (λ s. option_map_or (λ k. after_castling p m k s) (castle_of p m) (after_moving p m s))
+    map_squares-same (λ s. option_map_or (λ k. after_castling p m k s) (castle_of p m) (after_moving p m s))
     (man_stepped p.men (steps_of p m)) (λ s. by_cases p m s (castle_of p m) refl)
 
 -- ---- and backwards
@@ -137,7 +138,7 @@ pub men_before_by_steps : (q : Setup) (m : Move) (s : Saved)
     → men_before q m s ≡ men_stepped q.men (steps_back q m s)
 unfolding men_before men_stepped steps_back
 men_before_by_steps q m s =
-    from_below-same 64
+    map_squares-same
     (λ x. option_map_or (λ k. before_castling q m k x) (castling_undone q m s) (before_moving q m s x))
     (man_stepped q.men (steps_back_by (other q.side) q.men m s (castling_undone q m s)))
     (λ x. back_by_cases q m s x (castling_undone q m s))

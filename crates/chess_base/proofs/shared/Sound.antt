@@ -8,14 +8,15 @@ use Rattle.chess_base.specs.declared.fen_fault.FenFault.TheVariants.{Counters, K
 use Rattle.chess_base.specs.Men.{other}
 use Rattle.chess_base.specs.Attacks.{is_in_check}
 use Rattle.chess_base.specs.Sound.{IsSound, has_one_king, no_pawn_on_end_ranks, has_at_most_16, target_is_sound}
-use Rattle.chess_base.specs.Faults.{counters_fit, rights_are_sound, setup_fault}
+use Rattle.chess_base.specs.Faults.{rights_are_sound, setup_fault}
+use Rattle.chess_base.specs.shared.Parts.{counters_fit}
 
 passes : (a : Bool) (f : FenFault) (rest : Option FenFault) → cond a rest (Some f) ≡ None → (a ≡ true) × (rest ≡ None)
 passes true f rest e = (refl, e)
 passes false f rest e = cc
 
 pub IsSound-from_no_fault : (p : Setup) → length p.men ≡ 64 → setup_fault p ≡ None → IsSound p
-unfolding setup_fault counters_fit rights_are_sound
+unfolding setup_fault rights_are_sound
 IsSound-from_no_fault p l e =
     let counters = passes (counters_fit p) Counters _ e in
     let kings = passes (has_one_king p.men White && has_one_king p.men Black) Kings _ counters.1 in
@@ -50,7 +51,7 @@ IsSound-from_no_fault p l e =
     }
 
 pub no_fault_from_IsSound : (p : Setup) → IsSound p → setup_fault p ≡ None
-unfolding setup_fault counters_fit rights_are_sound
+unfolding setup_fault rights_are_sound
 no_fault_from_IsSound p h =
     rw (
       h.halfmove,

@@ -1,7 +1,9 @@
 -- For proofs that go over squares: tests of all 64, square by square, and lists that are made of numbers.
-use Rattle.std.proofs.Common.{◌≡◌, ℕ, ◌<◌, ◌⊎◌, inl, inr, Bool, true, false, ◌&&◌, ◌||◌, refl, sym, arith, zero, suc, ◌∷◌, length, get_or, ap, ◌∙◌}
+use Rattle.std.proofs.Common.{◌≡◌, ℕ, ◌<◌, ◌⊎◌, inl, inr, Bool, true, false, ◌&&◌, ◌||◌, refl, sym, arith, zero, suc, ◌∷◌, length, get_or, List, map, ap, ◌∙◌}
 use Rattle.std.proofs.lemmas.Bool.{cases_Bool, and_parts, and_from, and_left, and_right, or_from, or_left, or_right}
-use Rattle.chess_base.specs.Squares.{some_below, each_below, some_square, each_square, from_below}
+use Rattle.std.specs.List.{list_any, list_all}
+use Rattle.chess_base.specs.Squares.{squares, some_square, each_square}
+use Rattle.chess_base.specs.shared.Below.{some_below, each_below, from_below}
 
 last_or_below : (n k : ℕ) → k < suc n → (k ≡ n) ⊎ (k < n)
 last_or_below n k h = grind arith
@@ -36,27 +38,72 @@ each_below-fails (suc n) p k h e =
       | inr less ↦ and_left (each_below n p) (p n) (each_below-fails n p k less e)
     ]
 
+-- the squares as numbers below 64
+
+or_onward : (a b c : Bool) → ((a || b) || c) ≡ (a || (b || c))
+or_onward a b c = grind arith
+
+and_onward : (a b c : Bool) → ((a && b) && c) ≡ (a && (b && c))
+and_onward a b c = grind arith
+
+or_last : (b : Bool) → (false || b) ≡ (b || false)
+or_last b = grind arith
+
+and_last : (b : Bool) → (true && b) ≡ (b && true)
+and_last b = grind arith
+
+pub some_below-first : (n : ℕ) (p : ℕ → Bool) → some_below (suc n) p ≡ (p 0 || some_below n (λ k. p (suc k)))
+some_below-first zero p = or_last (p 0)
+some_below-first (suc n) p =
+    ap (λ b. b || p (suc n)) (some_below-first n p) ∙ or_onward (p 0) (some_below n (λ k. p (suc k))) (p (suc n))
+
+each_below-first : (n : ℕ) (p : ℕ → Bool) → each_below (suc n) p ≡ (p 0 && each_below n (λ k. p (suc k)))
+each_below-first zero p = and_last (p 0)
+each_below-first (suc n) p =
+    ap (λ b. b && p (suc n)) (each_below-first n p) ∙ and_onward (p 0) (each_below n (λ k. p (suc k))) (p (suc n))
+
+pub list_any-from_below : (n : ℕ) (g : ℕ → ℕ) (p : ℕ → Bool) → list_any p (from_below n g) ≡ some_below n (λ k. p (g k))
+list_any-from_below zero g p = refl
+list_any-from_below (suc n) g p =
+    ap (λ b. p (g 0) || b) (list_any-from_below n (λ k. g (suc k)) p) ∙ sym (some_below-first n (λ k. p (g k)))
+
+list_all-from_below : (n : ℕ) (g : ℕ → ℕ) (p : ℕ → Bool) → list_all p (from_below n g) ≡ each_below n (λ k. p (g k))
+list_all-from_below zero g p = refl
+list_all-from_below (suc n) g p =
+    ap (λ b. p (g 0) && b) (list_all-from_below n (λ k. g (suc k)) p) ∙ sym (each_below-first n (λ k. p (g k)))
+
+pub squares_are : squares ≡ from_below 64 (λ s. s)
+unfolding squares
+squares_are = refl
+
+pub map_squares : {A : Type 0} (f : ℕ → A) → map f squares ≡ from_below 64 f
+unfolding squares
+map_squares f = refl
+
+pub some_square_is : (p : ℕ → Bool) → some_square p ≡ some_below 64 p
+unfolding some_square
+some_square_is p = ap (list_any p) squares_are ∙ list_any-from_below 64 (λ s. s) p
+
+pub each_square_is : (p : ℕ → Bool) → each_square p ≡ each_below 64 p
+unfolding each_square
+each_square_is p = ap (list_all p) squares_are ∙ list_all-from_below 64 (λ s. s) p
+
 -- the same over the 64 squares
 
 pub each_square-all : (p : ℕ → Bool) → ((k : ℕ) → k < 64 → p k ≡ true) → each_square p ≡ true
-unfolding each_square
-each_square-all p h = each_below-all 64 p h
+each_square-all p h = each_square_is p ∙ each_below-all 64 p h
 
 pub each_square-at : (p : ℕ → Bool) → each_square p ≡ true → (k : ℕ) → k < 64 → p k ≡ true
-unfolding each_square
-each_square-at p e k h = each_below-at 64 p e k h
+each_square-at p e k h = each_below-at 64 p (sym (each_square_is p) ∙ e) k h
 
 pub each_square-fails : (p : ℕ → Bool) (k : ℕ) → k < 64 → p k ≡ false → each_square p ≡ false
-unfolding each_square
-each_square-fails p k h e = each_below-fails 64 p k h e
+each_square-fails p k h e = each_square_is p ∙ each_below-fails 64 p k h e
 
 pub some_square-at : (p : ℕ → Bool) (k : ℕ) → k < 64 → p k ≡ true → some_square p ≡ true
-unfolding some_square
-some_square-at p k h e = some_below-at 64 p k h e
+some_square-at p k h e = some_square_is p ∙ some_below-at 64 p k h e
 
 pub some_square-none : (p : ℕ → Bool) → ((k : ℕ) → k < 64 → p k ≡ false) → some_square p ≡ false
-unfolding some_square
-some_square-none p h = some_below-none 64 p h
+some_square-none p h = some_square_is p ∙ some_below-none 64 p h
 
 -- of the squares that pass p, none passes q
 
@@ -84,16 +131,14 @@ each_below_same zero p q h = refl
 each_below_same (suc n) p q h = rw (each_below_same n p q (λ k l. h k (omega arith)), h n (omega arith)) refl
 
 pub each_square_same : (p q : ℕ → Bool) → ((k : ℕ) → k < 64 → p k ≡ q k) → each_square p ≡ each_square q
-unfolding each_square
-each_square_same p q h = each_below_same 64 p q h
+each_square_same p q h = each_square_is p ∙ each_below_same 64 p q h ∙ sym (each_square_is q)
 
 some_below_same : (n : ℕ) (p q : ℕ → Bool) → ((k : ℕ) → k < n → p k ≡ q k) → some_below n p ≡ some_below n q
 some_below_same zero p q h = refl
 some_below_same (suc n) p q h = rw (some_below_same n p q (λ k l. h k (omega arith)), h n (omega arith)) refl
 
 pub some_square_same : (p q : ℕ → Bool) → ((k : ℕ) → k < 64 → p k ≡ q k) → some_square p ≡ some_square q
-unfolding some_square
-some_square_same p q h = some_below_same 64 p q h
+some_square_same p q h = some_square_is p ∙ some_below_same 64 p q h ∙ sym (some_square_is q)
 
 -- a test by two ways, over all squares
 
@@ -105,8 +150,9 @@ some_below-or zero p q = refl
 some_below-or (suc n) p q = rw (some_below-or n p q) (swap_inner (some_below n p) (some_below n q) (p n) (q n))
 
 pub some_square-or : (p q : ℕ → Bool) → some_square (λ k. p k || q k) ≡ (some_square p || some_square q)
-unfolding some_square
-some_square-or p q = some_below-or 64 p q
+some_square-or p q =
+    some_square_is (λ k. p k || q k) ∙ some_below-or 64 p q
+    ∙ sym (ap (λ b. b || some_square q) (some_square_is p) ∙ ap (λ b. some_below 64 p || b) (some_square_is q))
 
 pub length-from_below : {A : Type 0} (n : ℕ) (f : ℕ → A) → length (from_below n f) ≡ n
 length-from_below zero f = refl
@@ -122,3 +168,12 @@ from_below-same zero f g h = refl
 from_below-same {A} (suc n) f g h =
     ap (λ (x : A). x ∷ from_below n (λ k. f (suc k))) (h zero)
     ∙ ap (λ xs. g zero ∷ xs) (from_below-same n (λ k. f (suc k)) (λ k. g (suc k)) (λ k. h (suc k)))
+
+pub length-map_squares : {A : Type 0} (f : ℕ → A) → length (map f squares) ≡ 64
+length-map_squares f = ap length (map_squares f) ∙ length-from_below 64 f
+
+pub get_or-map_squares : {A : Type 0} (f : ℕ → A) (k : ℕ) (d : A) → k < 64 → get_or (map f squares) k d ≡ f k
+get_or-map_squares f k d h = ap (λ xs. get_or xs k d) (map_squares f) ∙ get_or-from_below 64 f k d h
+
+pub map_squares-same : {A : Type 0} (f g : ℕ → A) → ((k : ℕ) → f k ≡ g k) → map f squares ≡ map g squares
+map_squares-same f g h = map_squares f ∙ from_below-same 64 f g h ∙ sym (map_squares g)

@@ -1,7 +1,7 @@
 -- The rules as they are defined for normal chess alone: what the definitions of both variants come to there. Each of
 -- these is the definition of the same name without `normal_`, with castling named by the king's squares: from the
 -- e-file to the g-file or the c-file.
-use Rattle.std.specs.Prelude.{◌≡◌, ℕ, ◌==◌, nat_lt, Bool, false, true, not, ◌&&◌, Option, Some, None, is_some, if◌then◌else◌}
+use Rattle.std.specs.Prelude.{◌≡◌, ℕ, ◌==◌, nat_lt, Bool, false, true, not, ◌&&◌, Option, Some, None, is_some, if◌then◌else◌, map}
 use Rattle.std.specs.Option.{option_map_or}
 use Rattle.chess_base.specs.declared.castling.Castle.{Castle}
 use Rattle.chess_base.specs.declared.man.Colour.{Colour}
@@ -12,7 +12,7 @@ use Rattle.chess_base.specs.declared.man.Man.{Man}
 use Rattle.chess_base.specs.declared.man.Move.{Move}
 use Rattle.chess_base.specs.declared.man.Variant.TheVariants.{Normal}
 use Rattle.chess_base.specs.declared.setup.Setup.{Setup}
-use Rattle.chess_base.specs.Squares.{from_below}
+use Rattle.chess_base.specs.Squares.{squares}
 use Rattle.chess_base.specs.Men.{Men, man_at, is_man, same_colour, same_kind, other}
 use Rattle.chess_base.specs.Attacks.{is_in_check}
 use Rattle.chess_base.specs.Castling.{right_of, rook_file, king_home_file, home_square, right_is_sound, castled_king_file, castles}
@@ -60,8 +60,8 @@ normal_has_pattern p m = nat_lt m.from 64 && nat_lt m.to 64 && normal_moves_as p
 
 -- normal chess: the pieces on the board after the move m of position p
 unfoldable pub normal_men_after : Setup → Move → Men
-normal_men_after p m = from_below 64
-    (λ s. option_map_or (λ k. after_castling p m k s) (normal_castle_of p m) (after_moving p m s))
+normal_men_after p m = map
+    (λ s. option_map_or (λ k. after_castling p m k s) (normal_castle_of p m) (after_moving p m s)) squares
 
 -- normal chess: the whole position after the move m of position p
 unfoldable pub normal_after : Setup → Move → Setup

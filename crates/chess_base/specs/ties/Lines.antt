@@ -9,7 +9,8 @@ use Rattle.chess_base.specs.declared.man.Kind.{Kind}
 use Rattle.chess_base.specs.declared.man.Kind.TheVariants.{King, Queen, Rook, Bishop, Knight, Pawn}
 use Rattle.chess_base.specs.Squares.{file, rank, some_square}
 use Rattle.chess_base.specs.Men.{Men, man_at, is_of, is_man}
-use Rattle.chess_base.specs.Attacks.{is_rank_ahead, attacks, could_capture}
+use Rattle.chess_base.specs.Attacks.{attacks, could_capture}
+use Rattle.chess_base.specs.shared.Parts.{is_rank_ahead}
 use Rattle.chess_base.specs.shared.Lines.{same_line}
 
 -- how much the number rises from a square of such a line to the next one

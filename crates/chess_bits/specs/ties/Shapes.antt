@@ -2,7 +2,7 @@
 use Rattle.std.specs.Prelude.{ℕ, ◌==◌, nat_le, Bool, not, ◌&&◌, ◌||◌}
 use Rattle.std.specs.Int.{abs_diff}
 use Rattle.chess_base.specs.Squares.{file, rank, share_rank_or_file, share_diagonal}
-use Rattle.chess_base.specs.Attacks.{is_rank_ahead}
+use Rattle.chess_base.specs.shared.Parts.{is_rank_ahead}
 use Rattle.chess_bits.specs.declared.table.Shape.{Shape}
 use Rattle.chess_bits.specs.declared.table.Shape.TheVariants.{King, Knight, Pawn, Lines, Diagonals, Ray}
 use Rattle.chess_bits.specs.ties.Rays.{is_on_ray}

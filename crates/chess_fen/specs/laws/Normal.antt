@@ -12,8 +12,9 @@ use Rattle.chess_base.specs.declared.man.CastlingSide.TheVariants.{KingSide, Que
 use Rattle.chess_base.specs.declared.man.Rights.{Rights}
 use Rattle.chess_base.specs.declared.man.Variant.TheVariants.{Normal}
 use Rattle.chess_base.specs.declared.setup.Setup.{Setup}
+use Rattle.chess_base.specs.declared.setup.TheConstants.{COUNTER_LIMIT}
 use Rattle.chess_base.specs.Attacks.{is_in_check}
-use Rattle.chess_base.specs.Faults.{counters_fit, first_failing}
+use Rattle.chess_base.specs.Faults.{first_failing}
 use Rattle.chess_base.specs.Letters.{byte, space}
 use Rattle.chess_base.specs.Men.{other}
 use Rattle.chess_base.specs.Sound.{has_one_king, no_pawn_on_end_ranks, has_at_most_16, target_is_sound}
@@ -109,7 +110,7 @@ normal_rights_are_sound p =
 unfoldable pub normal_fault : Setup → Option FenFault
 normal_fault p =
     first_failing
-    ((faults.Counters, counters_fit p)
+    ((faults.Counters, nat_le p.halfmove COUNTER_LIMIT && nat_le 1 p.fullmove && nat_le p.fullmove COUNTER_LIMIT)
     ∷ (faults.Kings, has_one_king p.men White && has_one_king p.men Black)
     ∷ (faults.Pawns, no_pawn_on_end_ranks p.men)
     ∷ (faults.Men, has_at_most_16 p.men White && has_at_most_16 p.men Black)

@@ -9,8 +9,9 @@ use Rattle.chess_base.specs.declared.man.Kind.TheVariants.{Queen, Rook, Bishop, 
 use Rattle.chess_base.specs.declared.man.Move.{Move}
 use Rattle.chess_base.specs.declared.setup.Setup.{Setup}
 use Rattle.chess_base.specs.Moves.{is_legal}
-use Rattle.chess_base.specs.Squares.{from_below}
-use Rattle.chess_base.specs.MoveList.{promotions, move_of, squares, all_moves, moves}
+use Rattle.chess_base.specs.MoveList.{promotions, move_of, all_moves, moves}
+use Rattle.chess_base.specs.Squares.{squares}
+use Rattle.chess_base.specs.shared.Below.{from_below}
 
 -- ---- over lists
 

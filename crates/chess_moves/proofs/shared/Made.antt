@@ -6,7 +6,8 @@ use Rattle.chess_base.specs.declared.setup.Saved.{Saved}
 use Rattle.chess_base.specs.Squares.{is_at}
 use Rattle.chess_base.specs.Men.{other}
 use Rattle.chess_base.specs.Sound.{IsSound}
-use Rattle.chess_base.specs.Moves.{one_rank_back, after}
+use Rattle.chess_base.specs.Moves.{after}
+use Rattle.chess_base.specs.shared.Parts.{one_rank_back}
 use Rattle.chess_base.specs.Before.{saved_of, before}
 use Rattle.chess_base.proofs.shared.Changes.{at_target}
 use Rattle.chess_base.proofs.shared.Men.{in_board, other-other}

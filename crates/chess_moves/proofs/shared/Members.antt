@@ -4,7 +4,7 @@ use Rattle.std.proofs.Common.{◌≡◌, ℕ, zero, suc, ◌<◌, ◌≤◌, ◌
 use Rattle.std.proofs.lemmas.Bool.{cases_Bool, lt-ltb, eq-eqb, ne_eqb, cases_lt}
 use Rattle.std.proofs.lemmas.Nat.Bits.{bit_at-zero}
 use Rattle.std.specs.List.{range_with_len, filter, flat_map}
-use Rattle.chess_base.specs.MoveList.{squares}
+use Rattle.chess_base.specs.Squares.{squares}
 use Rattle.chess_moves.specs.Sets.{contains, IsNearest, members}
 
 pub filter_none : (p : ℕ → Bool) (n a : ℕ) → ((k : ℕ) → a ≤ k → k < a + n → p k ≡ false)

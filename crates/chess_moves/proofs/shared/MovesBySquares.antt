@@ -10,7 +10,8 @@ use Rattle.chess_base.specs.declared.man.Move.{Move}
 use Rattle.chess_base.specs.declared.setup.Setup.{Setup}
 use Rattle.chess_base.specs.Men.{man_at, is_of}
 use Rattle.chess_base.specs.Moves.{is_legal}
-use Rattle.chess_base.specs.MoveList.{promotions, move_of, squares, all_moves, moves}
+use Rattle.chess_base.specs.MoveList.{promotions, move_of, all_moves, moves}
+use Rattle.chess_base.specs.Squares.{squares}
 use Rattle.chess_moves.specs.shared.MovesBySquares.{moves_with, moves_between, moves_from}
 use Rattle.chess_moves.specs.Promoting.{would_promote}
 use Rattle.chess_moves.proofs.Reach.{own_man_moves, promotes_on_last_rank, stays_below_last_rank}

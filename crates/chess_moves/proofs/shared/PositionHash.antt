@@ -9,7 +9,7 @@ use Rattle.chess_base.specs.declared.man.Colour.TheVariants.{White, Black}
 use Rattle.chess_base.specs.declared.man.Man.{Man}
 use Rattle.chess_base.specs.declared.man.Rights.{Rights}
 use Rattle.chess_base.specs.Men.{Men, man_at}
-use Rattle.chess_base.specs.MoveList.{squares}
+use Rattle.chess_base.specs.Squares.{squares}
 use Rattle.chess_moves.specs.PositionHash.{man_key, square_keys, keys_on, men_keys, side_keys, right_keys, rights_keys, xor_of, position_hash}
 use Rattle.chess_moves.proofs.Gathered.{numbers, gathered-more}
 use Rattle.chess_moves.proofs.shared.Members.{by_range}

@@ -4,7 +4,8 @@ use Rattle.chess_base.specs.declared.man.Kind.{Kind}
 use Rattle.chess_base.specs.declared.man.Move.{Move}
 use Rattle.chess_base.specs.declared.setup.Setup.{Setup}
 use Rattle.chess_base.specs.Moves.{is_legal}
-use Rattle.chess_base.specs.MoveList.{promotions, move_of, squares}
+use Rattle.chess_base.specs.MoveList.{promotions, move_of}
+use Rattle.chess_base.specs.Squares.{squares}
 
 -- the legal moves from square a to square b that name one of the promotions `kinds` (none for a move that promotes
 -- nothing)

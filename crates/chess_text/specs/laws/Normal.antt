@@ -1,12 +1,12 @@
 -- The texts of moves as they are defined for normal chess alone: each of these is the definition of the same name
 -- without `normal_`, over the rules of normal chess alone (laws/Normal of chess_base). Nothing here takes a variant.
 -- What a text is, and which described moves it denotes, is shared.
-use Rattle.std.specs.Prelude.{◌≡◌, ℕ, ◌==◌, Bool, not, ◌&&◌, List, ◌++◌, length, map, filter, codes, Option, if◌then◌else◌}
-use Rattle.std.specs.Option.{option_map}
+use Rattle.std.specs.Prelude.{◌≡◌, ℕ, ◌==◌, Bool, not, ◌&&◌, List, [], ◌++◌, length, map, filter, codes, Option, if◌then◌else◌}
+use Rattle.std.specs.Option.{option_map, option_map_or}
 use Rattle.chess_base.specs.declared.man.Move.{Move}
 use Rattle.chess_base.specs.declared.setup.Setup.{Setup}
 use Rattle.chess_base.specs.Attacks.{is_in_check}
-use Rattle.chess_base.specs.Coordinates.{coordinate, optional}
+use Rattle.chess_base.specs.Coordinates.{coordinate}
 use Rattle.chess_base.specs.Men.{man_at, same_kind}
 use Rattle.chess_base.specs.MoveList.{all_moves, moves}
 use Rattle.chess_base.specs.laws.Normal.{normal_is_legal, normal_castling, normal_after}
@@ -65,8 +65,9 @@ normal_check_mark p =
 
 -- the SAN of legal move m in position p of normal chess, with `+` or `#` at its end if it gives check or mate
 unfoldable pub normal_san : Setup → Move → List ℕ
-normal_san p m = optional (λ d. unmarked_san (normal_rival_starts p d) d ++ normal_check_mark (normal_after p m))
-    (normal_described p m)
+normal_san p m =
+    option_map_or (λ d. unmarked_san (normal_rival_starts p d) d ++ normal_check_mark (normal_after p m))
+    (normal_described p m) []
 
 -- on position p of normal chess, the definitions for both variants agree with those of this file, and lists of moves
 -- show each move by its squares

@@ -1,7 +1,7 @@
 use Rattle.std.proofs.Common.{◌≡◌, ◌&&◌}
 use Rattle.chess_base.specs.declared.man.Kind.TheVariants.{Bishop}
 use Rattle.chess_base.specs.Men.{man_at, same_colour}
-use Rattle.chess_base.specs.Squares.{some_below}
+use Rattle.chess_base.specs.shared.Below.{some_below}
 use Rattle.chess_game.specs.Ends.{square_colour, is_kind}
 use Rattle.chess_game.proofs.verdicts.has_bishop_on.Given as goal
 

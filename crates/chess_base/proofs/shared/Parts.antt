@@ -1,0 +1,54 @@
+-- Definitions by their parts (specs/shared): equal to what they say.
+use Rattle.std.proofs.Common.{arith, ◌≡◌, ℕ, ◌==◌, Bool, true, false, not, ◌&&◌, ◌||◌, Option, Some, None, is_none, refl, ◌∙◌, sym}
+use Rattle.std.proofs.lemmas.Bool.Decides.{nat_tests}
+use Rattle.std.specs.Option.{option_map_or}
+use Rattle.chess_base.specs.declared.castling.Castle.{Castle}
+use Rattle.chess_base.specs.declared.man.Colour.{Colour}
+use Rattle.chess_base.specs.declared.man.Colour.TheVariants.{White, Black}
+use Rattle.chess_base.specs.declared.man.Kind.TheVariants.{Pawn}
+use Rattle.chess_base.specs.declared.setup.Setup.{Setup}
+use Rattle.chess_base.specs.Squares.{rank, is_between, each_square}
+use Rattle.chess_base.specs.Men.{Men, man_at, is_man, other, forward, pawn_rank}
+use Rattle.chess_base.specs.Castling.{is_on_way, castling_way_is_empty}
+use Rattle.chess_base.specs.Sound.{target_is_sound}
+use Rattle.chess_base.specs.shared.Lines.{is_between_on_file, is_between_on_rank, is_between_on_diagonal}
+use Rattle.chess_base.specs.shared.Parts.{crossed_rank, castling_needs_empty, target_is_sound_at}
+use Rattle.chess_base.proofs.shared.Squares.{each_square_same}
+
+pub is_between_is : (a b x : ℕ)
+    → is_between a b x ≡ (is_between_on_file a b x || is_between_on_rank a b x || is_between_on_diagonal a b x)
+unfolding is_between is_between_on_file is_between_on_rank is_between_on_diagonal
+is_between_is a b x = refl
+
+needs_or : (w a b n : Bool) → (not w || a || b || n) ≡ (not (w && not a && not b) || n)
+needs_or w a b n = grind arith
+
+pub castling_way_is_empty_is : (men : Men) (k : Castle)
+    → castling_way_is_empty men k ≡ each_square (λ x. not (castling_needs_empty k x) || is_none (man_at men x))
+unfolding castling_way_is_empty castling_needs_empty
+castling_way_is_empty_is men k =
+    each_square_same _ _ (λ x l.
+    needs_or (is_on_way k.king_from k.king_to x || is_on_way k.rook_from k.rook_to x) (x == k.king_from)
+    (x == k.rook_from) (is_none (man_at men x)))
+
+-- the rank of the square where a double advance starts tells the rank that it crosses
+start_rank : (c : Colour) (t : ℕ) → (rank (forward c t) == pawn_rank (other c)) ≡ (rank t == crossed_rank (other c))
+start_rank White t = grind (arith, nat_tests)
+start_rank Black t = grind (arith, nat_tests)
+
+in_order : (a b c d : Bool) → (a && b && c && d) ≡ (a && c && d && b)
+in_order a b c d = grind arith
+
+pub target_by_rank : (men : Men) (c : Colour) (o : Option ℕ)
+    → option_map_or (λ t. (rank (forward c t) == pawn_rank (other c)) && is_none (man_at men (forward c t))
+    && is_none (man_at men t) && is_man (other c) Pawn (man_at men (forward (other c) t))) o true
+    ≡ target_is_sound_at men c o
+target_by_rank men c None = refl
+target_by_rank men c (Some t) =
+    rw (start_rank c t)
+    (in_order (rank t == crossed_rank (other c)) (is_none (man_at men (forward c t))) (is_none (man_at men t))
+    (is_man (other c) Pawn (man_at men (forward (other c) t))))
+
+pub target_is_sound_is : (p : Setup) → target_is_sound p ≡ target_is_sound_at p.men p.side p.target
+unfolding target_is_sound
+target_is_sound_is p = target_by_rank p.men p.side p.target
