@@ -21,11 +21,12 @@ use Rattle.chess_base.specs.Faults.{conditions, rights_are_sound, first_failing,
 use Rattle.chess_base.specs.Faults as base
 use Rattle.chess_base.specs.Sound.{IsSound}
 use Rattle.chess_base.proofs.shared.Sound.{no_fault_from_IsSound}
-use Rattle.chess_fen.specs.Texts.{first_letter, names_file, placement_of, number_of, is_castling_field, target_of, fields_of}
+use Rattle.text_lines.specs.Words.{short_number}
+use Rattle.chess_fen.specs.Texts.{first_letter, names_file, placement_of, is_castling_field, target_of, fields_of}
 use Rattle.chess_fen.specs.RightNames.{side_letter, from_edge, is_towards, names_right, rook_named, right_by, right_in, names_rights_well, rights_in}
-use Rattle.chess_fen.specs.Reading.{◌>>=◌, side_of, denoted_by, unless_fault, reading_in, fen_reading_as}
+use Rattle.chess_fen.specs.Reading.{◌>>=◌, side_of, reading_in, fen_reading_as}
 use Rattle.chess_fen.specs.ties.Reader.{nowhere, outer_rook, named_square, one_or_nowhere, right_by_letters, setup_by, setup_in}
-use Rattle.chess_fen.proofs.Steps.{steps, if_fit}
+use Rattle.chess_fen.proofs.Steps.{steps, denoted_by, unless_fault, if_fit, of_fields}
 
 -- a right that is named wrongly as a right whose rook is nowhere
 abbrev sentinel : Option (Option ℕ) → Option ℕ
@@ -210,7 +211,7 @@ if_sound p = unless_fault p (setup_fault p)
 fields_are : (v : Variant) (a b c d h f : List ℕ)
     → (denoted_by v a b c d h f >>= if_fit c) ≡ (setup_by v a b c d h f >>= if_sound)
 fields_are v a b c d h f =
-    by_steps (placement_of a) (side_of b) (is_castling_field v c) (target_of d) (number_of h) (number_of f)
+    by_steps (placement_of a) (side_of b) (is_castling_field v c) (target_of d) (short_number 6 h) (short_number 6 f)
   where
     read_by : Option Men → Option Colour → Bool → Option (Option ℕ) → Option ℕ → Option ℕ → Result Setup FenFault
     read_by men side fits target halfmove fullmove = do
@@ -244,9 +245,10 @@ fens_are v text = by_fields (fields_of text)
     by_fields (a ∷ []) = refl
     by_fields (a ∷ b ∷ []) = refl
     by_fields (a ∷ b ∷ c ∷ []) = refl
-    by_fields (a ∷ b ∷ c ∷ d ∷ []) = fields_are v a b c d (codes "0") (codes "1")
+    by_fields (a ∷ b ∷ c ∷ d ∷ []) =
+        of_fields v a b c d (codes "0") (codes "1") ∙ fields_are v a b c d (codes "0") (codes "1")
     by_fields (a ∷ b ∷ c ∷ d ∷ e ∷ []) = refl
-    by_fields (a ∷ b ∷ c ∷ d ∷ e ∷ f ∷ []) = fields_are v a b c d e f
+    by_fields (a ∷ b ∷ c ∷ d ∷ e ∷ f ∷ []) = of_fields v a b c d e f ∙ fields_are v a b c d e f
     by_fields (a ∷ b ∷ c ∷ d ∷ e ∷ f ∷ g ∷ rest) = refl
 
 -- ---- what code reads

@@ -24,10 +24,11 @@ use Rattle.chess_base.specs.shared.Splits.{right_is_sound_at}
 use Rattle.chess_base.proofs.shared.Castling.{right_is_sound_of}
 use Rattle.std.proofs.Math.Seq.{take-add}
 use Rattle.text_lines.specs.Words.{short_number}
-use Rattle.chess_fen.specs.RightNames.{side_letter, right_named, right_in, names_rights_well}
-use Rattle.chess_fen.specs.Texts.{number_of, from_top, placement_of, occurs, may_name_right, is_castling_field, fields_of}
+use Rattle.chess_fen.specs.RightNames.{side_letter, right_in, names_rights_well}
+use Rattle.chess_fen.specs.Texts.{from_top, placement_of, occurs, may_name_right, is_castling_field, fields_of}
 use Rattle.chess_fen.specs.Writing.{fen_rank, placement_text, side_text, right_text, or_dash, rights_text, target_text, fen}
 use Rattle.chess_fen.specs.Denotation.{DenotesSquares, DenotesRank}
+use Rattle.chess_fen.specs.ties.Reader.{right_named}
 use Rattle.chess_fen.specs.ties.Loops.{ranks_down, run_text, row_text, ranks_text}
 use Rattle.chess_fen.proofs.DenotedFields.{placement-denoted, side-text, target-denoted}
 use Rattle.chess_fen.proofs.RightsBack.{Stand, right_back, text_is_castling}
@@ -42,7 +43,7 @@ use Rattle.chess_fen.proofs.Steps.{denoted_in, third}
 pub own : IsNumeralModel (λ ds. list_all is_digit ds ≡ true) (digits_value 10)
 own = numerals_by_value _ (search rules)
 
-pub number-decimal : (n : ℕ) → n < 1000000 → number_of (decimal n) ≡ Some n
+pub number-decimal : (n : ℕ) → n < 1000000 → short_number 6 (decimal n) ≡ Some n
 number-decimal n h =
     let some : 0 < length (decimal n) = decimal_nonempty n (omega arith) in
     let short : length (decimal n) ≤ 6 = short_decimal n h in
@@ -50,9 +51,6 @@ number-decimal n h =
     let t1 : leb (length (decimal n)) 6 ≡ true = grind (arith, nat_tests) in
     let t2 = digits_decimal own n (omega arith) in
     rw (t0, t1, t2, (decimal_is_IsNumeral n (omega arith)).1) refl
-
-pub numbers_are : (text : List ℕ) → number_of text ≡ short_number 6 text
-numbers_are text = refl
 
 -- ---- rights and target
 

@@ -29,13 +29,6 @@ abbrev pub right_letter : Variant → Colour → CastlingSide → ℕ → ℕ
 right_letter Normal c w s = side_letter c w
 right_letter Fischerandom c w s = first_letter c + file s
 
--- ---- normal chess
-
--- normal chess: the castling right with this letter, given as its rook's square: `corner` if the letter is in the
--- castling field `letters`, otherwise `None`
-abbrev pub right_named : List ℕ → ℕ → ℕ → Option ℕ
-right_named letters letter corner = if occurs letter letters then Some corner else None
-
 -- ---- Chess960
 
 -- the squares of colour c's first rank from the board's edge on that side to the other: for White's king side from h1
@@ -76,9 +69,10 @@ right_by _ = None
 -- ---- both
 
 -- colour c's castling right on side w by the letters of a castling field: its rook's square, or `Some None` if it is
--- not there. `None` if the letters name it wrongly (`right_by`), which they never do in normal chess
+-- not there. In normal chess it is there if its letter (K, Q, k or q) is, with the rook in the corner. `None` if the
+-- letters name it wrongly (`right_by`), which they never do in normal chess
 abbrev pub right_in : Variant → Men → List ℕ → Colour → CastlingSide → Option (Option ℕ)
-right_in Normal men letters c w = Some (right_named letters (side_letter c w) (home_square c (rook_file w)))
+right_in Normal men letters c w = Some (if occurs (side_letter c w) letters then Some (home_square c (rook_file w)) else None)
 right_in Fischerandom men letters c w = right_by (map (rook_named men c w) (filter (names_right men c w) letters))
 
 -- whether a castling field's letters name no right wrongly. In Chess960 two letters for one right do, and a side's

@@ -13,6 +13,7 @@ use Rattle.chess_base.specs.declared.man.Rights.{Rights}
 use Rattle.chess_fen.specs.RightNames.{right_letter}
 use Rattle.chess_base.specs.declared.setup.Setup.{Setup}
 use Rattle.chess_base.specs.Letters.{byte, space, square_text, letter}
+use Rattle.chess_base.specs.ByColour.{by_colour}
 use Rattle.chess_base.specs.Initial.{initial_setup}
 use Rattle.std.specs.Str.{bytes_eq}
 
@@ -36,8 +37,7 @@ placement_text men = join_with_byte (byte "/")
 
 -- a FEN's second field: w or b for the side on move
 abbrev pub side_text : Colour → List ℕ
-side_text White = codes "w"
-side_text Black = codes "b"
+side_text = by_colour (codes "w") (codes "b")
 
 -- the letter of a castling right, given as its rook's square: K, Q, k or q, in Chess960 that of the rook's file
 -- (Shredder-FEN); nothing if there is no right

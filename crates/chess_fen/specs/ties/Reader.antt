@@ -1,7 +1,7 @@
 -- How code reads the castling rights of a FEN, letter by letter. A right that is named wrongly is kept as one whose
 -- rook is on a square where no rook can have it, so that the position is refused as unsound.
-use Rattle.std.specs.Prelude.{ℕ, max, codes, ◌-◌, ◌==◌, Bool, ◌&&◌, List, [], ◌∷◌, map, find, Option, Some, None, Result, Ok, Err, unwrap_or, if◌then◌else◌}
-use Rattle.std.specs.List.{fold}
+use Rattle.std.specs.Prelude.{ℕ, max, codes, count_by, length, nat_lt, nat_le, ◌-◌, ◌==◌, Bool, ◌&&◌, List, [], ◌∷◌, map, find, Option, Some, None, Result, Ok, Err, unwrap_or, if◌then◌else◌}
+use Rattle.std.specs.List.{fold, list_all}
 use Rattle.std.specs.Option.{ok_or}
 use Rattle.chess_base.specs.declared.man.Kind.TheVariants.{Rook}
 use Rattle.chess_base.specs.declared.man.Colour.{Colour}
@@ -14,15 +14,29 @@ use Rattle.chess_base.specs.declared.fen_fault.FenFault.{FenFault}
 use Rattle.chess_base.specs.declared.fen_fault.FenFault.TheVariants as faults
 use Rattle.chess_base.specs.Men.{Men, man_at, is_man}
 use Rattle.chess_base.specs.Castling.{home_square, king_square, rook_file, rights_by}
+use Rattle.text_lines.specs.Words.{short_number}
 use Rattle.chess_fen.specs.Reading.{◌>>=◌, side_of}
-use Rattle.chess_fen.specs.RightNames.{side_letter, right_named, from_edge, is_towards}
-use Rattle.chess_fen.specs.Texts.{placement_of, times, first_letter, names_file, may_name_right, is_castling_field, target_of, number_of}
+use Rattle.chess_fen.specs.RightNames.{side_letter, from_edge, is_towards}
+use Rattle.chess_fen.specs.Texts.{placement_of, occurs, first_letter, names_file, may_name_right, is_castling_field, target_of}
 
 -- ---- the letters
+
+-- how often the byte c occurs in the text
+abbrev pub times : ℕ → List ℕ → ℕ
+times c text = count_by (λ b. b == c) text
 
 -- the byte c may name a castling right, and occurs once in the text
 abbrev pub names_once : Variant → List ℕ → ℕ → Bool
 names_once v text c = may_name_right v c && (times c text == 1)
+
+-- the text is one to four letters, each of which may name a right and occurs once
+abbrev pub are_right_letters : Variant → List ℕ → Bool
+are_right_letters v text = nat_lt 0 (length text) && nat_le (length text) 4 && list_all (names_once v text) text
+
+-- normal chess: the castling right with this letter, given as its rook's square: `corner` if the letter is in the
+-- castling field `letters`, otherwise `None`
+abbrev pub right_named : List ℕ → ℕ → ℕ → Option ℕ
+right_named letters letter corner = if occurs letter letters then Some corner else None
 
 -- ---- castling in Chess960
 
@@ -75,8 +89,8 @@ setup_with v men side castling target halfmove fullmove = do
   colour ← ok_or (side_of side) faults.Side
   rights ← ok_or (rights_of v men castling) faults.Castling
   passed ← ok_or (target_of target) faults.EnPassant
-  clock ← ok_or (number_of halfmove) faults.Counters
-  number ← ok_or (number_of fullmove) faults.Counters
+  clock ← ok_or (short_number 6 halfmove) faults.Counters
+  number ← ok_or (short_number 6 fullmove) faults.Counters
   Ok (record {
     variant = v;
     men = men;
