@@ -8,6 +8,7 @@ mod FirstField
 mod DenotedRanks
 mod RunTable
 mod RookAmong
+mod RightLetters
 mod RightsBack
 mod NamedRooks
 mod Joined

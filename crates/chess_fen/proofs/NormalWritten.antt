@@ -9,8 +9,10 @@ use Rattle.chess_base.specs.declared.man.CastlingSide.TheVariants.{KingSide, Que
 use Rattle.chess_base.specs.declared.man.Rights.{Rights}
 use Rattle.chess_base.specs.declared.man.Variant.TheVariants.{Normal}
 use Rattle.chess_base.specs.declared.setup.Setup.{Setup}
+use Rattle.chess_fen.specs.ties.Loops.{right_text}
+use Rattle.chess_fen.proofs.RightLetters.{rights_are}
 use Rattle.chess_fen.specs.RightNames.{side_letter}
-use Rattle.chess_fen.specs.Writing.{fen, placement_text, side_text, rights_text, right_text, target_text}
+use Rattle.chess_fen.specs.Writing.{fen, placement_text, side_text, rights_text, target_text}
 use Rattle.chess_fen.specs.laws.Normal.{letter_if, normal_rights_text, normal_fen}
 
 one_written : (c : Colour) (w : CastlingSide) (o : Option ℕ) → right_text Normal c w o ≡ letter_if o (side_letter c w)
@@ -19,7 +21,7 @@ one_written c w (Some s) = refl
 
 written_by : (r : Rights) → rights_text Normal r ≡ normal_rights_text r
 written_by r =
-    rw (
+    rights_are Normal r ∙ rw (
       one_written White KingSide r.white.king_side,
       one_written White QueenSide r.white.queen_side,
       one_written Black KingSide r.black.king_side,

@@ -3,7 +3,7 @@
 use Rattle.std.proofs.Common.{◌≡◌, ℕ, ◌⊎◌, inl, inr, Bool, true, false, cond, List, [], ◌∷◌, ◌++◌, map, take, drop, Option, Some, None, Result, Ok, Err, refl, sym, ap, ◌∙◌, arith}
 use Rattle.std.specs.Prelude.{option_and_then, find, ◌&&◌, ◌||◌, is_some, ◌==◌, max, codes, ◌-◌, IsOk, IfOk, IfErr, ◌↔◌}
 use Rattle.std.specs.List.{filter, fold}
-use Rattle.std.specs.Option.{option_map_or, ok_or, unwrap_or}
+use Rattle.std.specs.Option.{option_flatten, option_map_or, ok_or, unwrap_or}
 use Rattle.chess_base.specs.declared.man.Kind.TheVariants.{Rook}
 use Rattle.chess_base.specs.declared.man.Colour.{Colour}
 use Rattle.chess_base.specs.declared.man.Colour.TheVariants.{White, Black}
@@ -131,10 +131,10 @@ module _ (men : Men) (colour : Colour) (target : Option ℕ) (halfmove fullmove 
   }
 
   abbrev flat : Option (Option ℕ) → Option ℕ
-  flat o = option_and_then (λ right. right) o
+  flat o = option_flatten o
 
   abbrev four_some : Option (Option ℕ) → Option (Option ℕ) → Option (Option ℕ) → Option (Option ℕ) → Bool
-  four_some a b c d = (is_some a && is_some b) && ((is_some c && is_some d) && true)
+  four_some a b c d = is_some a && (is_some b && (is_some c && (is_some d && true)))
 
   abbrev said : Variant → Rights → Bool → Result Setup FenFault
   said v rights well = unless_fault (setup_with v rights)

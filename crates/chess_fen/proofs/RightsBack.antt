@@ -19,10 +19,12 @@ use Rattle.chess_base.specs.Squares.{file, rank}
 use Rattle.chess_base.specs.Men.{Men, man_at, is_man, other, first_rank}
 use Rattle.chess_base.specs.Castling.{home_square, king_square, is_to_side, is_on_side_of_king, right_of}
 use Rattle.chess_base.specs.shared.Splits.{right_is_sound_at}
+use Rattle.chess_fen.specs.ties.Loops.{right_text}
+use Rattle.chess_fen.proofs.RightLetters.{rights_are}
 use Rattle.chess_fen.specs.Texts.{first_letter, names_file, may_name_right, is_castling_field}
 use Rattle.chess_fen.specs.RightNames.{side_letter, is_towards, names_right, rook_named, right_by, right_in}
 use Rattle.chess_fen.specs.ties.Reader.{times, names_once}
-use Rattle.chess_fen.specs.Writing.{right_text, or_dash, rights_text}
+use Rattle.chess_fen.specs.Writing.{or_dash, rights_text}
 use Rattle.chess_fen.proofs.Joined.{all_append}
 
 -- what an available right says of king and rook
@@ -157,7 +159,7 @@ in_turn : (men : Men) (r : Rights) (c : Colour) (w : CastlingSide)
     ++ filter (names_right men c w) (D r)
 in_turn men r c w =
     let names : ℕ → Bool = names_right men c w in
-    after-dash men c w (((A r ++ B r) ++ C r) ++ D r) ∙ filter-append names ((A r ++ B r) ++ C r) (D r)
+    ap (filter names) (rights_are Fischerandom r) ∙ after-dash men c w (((A r ++ B r) ++ C r) ++ D r) ∙ filter-append names ((A r ++ B r) ++ C r) (D r)
     ∙ ap (λ xs. xs ++ filter names (D r))
     (filter-append names (A r ++ B r) (C r) ∙ ap (λ xs. xs ++ filter names (C r)) (filter-append names (A r) (B r)))
 
@@ -353,7 +355,7 @@ text_is_castling men r s =
     let b = one_at_most White QueenSide r.white.queen_side in
     let c = one_at_most Black KingSide r.black.king_side in
     let d = one_at_most Black QueenSide r.black.queen_side in
-    castling_or_dash (((A r ++ B r) ++ C r) ++ D r)
+    ap (is_castling_field Fischerandom) (rights_are Fischerandom r) ∙ castling_or_dash (((A r ++ B r) ++ C r) ++ D r)
     (omega (
       arith,
       a,

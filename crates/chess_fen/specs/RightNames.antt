@@ -1,8 +1,9 @@
 -- Which rights the letters of a FEN name: in normal chess K, Q, k and q (PGN standard of 1994, section 16.1.3.3); in
 -- Chess960 a rook by its file (Shredder-FEN), or the outermost one by its side (X-FEN).
-use Rattle.std.specs.Prelude.{ℕ, ◌+◌, ◌-◌, ◌==◌, nat_lt, Bool, false, not, ◌&&◌, ◌||◌, List, [], ◌∷◌, map, find, Option, Some, None, is_some, if◌then◌else◌, option_and_then}
+use Rattle.std.specs.Prelude.{ℕ, ◌+◌, ◌-◌, ◌==◌, nat_lt, Bool, false, not, ◌&&◌, ◌||◌, List, [], ◌∷◌, map, find, Option, Some, None, is_some, if◌then◌else◌}
+use Rattle.std.specs.Bool.{then_some}
 use Rattle.std.specs.List.{list_all, filter}
-use Rattle.std.specs.Option.{option_map_or}
+use Rattle.std.specs.Option.{option_flatten, option_map_or}
 use Rattle.chess_base.specs.declared.man.Colour.{Colour}
 use Rattle.chess_base.specs.declared.man.Colour.TheVariants.{White, Black}
 use Rattle.chess_base.specs.declared.man.CastlingSide.{CastlingSide}
@@ -16,6 +17,10 @@ use Rattle.chess_base.specs.Men.{Men, man_at, is_man}
 use Rattle.chess_base.specs.Castling.{home_square, king_square, rook_file, rights_by}
 use Rattle.chess_base.specs.Letters.{letter_by}
 use Rattle.chess_fen.specs.Texts.{occurs, first_letter, names_file}
+
+-- the four castling rights, each by its colour and its side, in the order in which a FEN names them
+abbrev pub all_rights : List (Colour × CastlingSide)
+all_rights = (White, KingSide) ∷ (White, QueenSide) ∷ (Black, KingSide) ∷ (Black, QueenSide) ∷ []
 
 -- the letter by which a FEN of normal chess names colour c's castling right on that side: K or Q for White, k or q for
 -- Black
@@ -72,17 +77,15 @@ right_by _ = None
 -- not there. In normal chess it is there if its letter (K, Q, k or q) is, with the rook in the corner. `None` if the
 -- letters name it wrongly (`right_by`), which they never do in normal chess
 abbrev pub right_in : Variant → Men → List ℕ → Colour → CastlingSide → Option (Option ℕ)
-right_in Normal men letters c w = Some (if occurs (side_letter c w) letters then Some (home_square c (rook_file w)) else None)
+right_in Normal men letters c w = Some (then_some (occurs (side_letter c w) letters) (home_square c (rook_file w)))
 right_in Fischerandom men letters c w = right_by (map (rook_named men c w) (filter (names_right men c w) letters))
 
 -- whether a castling field's letters name no right wrongly. In Chess960 two letters for one right do, and a side's
 -- letter (K, Q, k or q) does if its colour has no rook on its first rank; whether a file's letter finds a rook is not
 -- tested here. A right without a letter is not there, which is no fault. In normal chess no right is named wrongly
 abbrev pub names_rights_well : Variant → Men → List ℕ → Bool
-names_rights_well v men letters = list_all
-    (λ c. is_some (right_in v men letters c KingSide) && is_some (right_in v men letters c QueenSide))
-    (White ∷ Black ∷ [])
+names_rights_well v men letters = list_all (λ r. is_some (right_in v men letters r.0 r.1)) all_rights
 
 -- the rights that the letters name, without those that are named wrongly
 abbrev pub rights_in : Variant → Men → List ℕ → Rights
-rights_in v men letters = rights_by (λ c w. option_and_then (λ right. right) (right_in v men letters c w))
+rights_in v men letters = rights_by (λ c w. option_flatten (right_in v men letters c w))

@@ -2,6 +2,7 @@
 -- Q, k and q, and king and rook of each are at home. Nothing here takes a variant; what FEN says of pieces, side,
 -- target and counters is shared.
 use Rattle.std.specs.Prelude.{ℕ, max, ◌==◌, nat_lt, nat_le, Bool, not, ◌&&◌, ◌||◌, List, [], ◌∷◌, ◌++◌, length, count_by, decimal, codes, Option, Some, None, Result, Ok, Err, if◌then◌else◌}
+use Rattle.std.specs.Bool.{then_some}
 use Rattle.std.specs.List.{list_all, join_with_byte}
 use Rattle.std.specs.Option.{ok_or, option_map_or}
 use Rattle.std.specs.Str.{bytes_eq}
@@ -54,7 +55,7 @@ normal_is_castling text = bytes_eq text (codes "-")
 -- the castling right with this letter, given as its rook's square: `corner` if the letter is in the castling field
 -- `letters`, otherwise none
 abbrev pub normal_right_named : List ℕ → ℕ → ℕ → Option ℕ
-normal_right_named letters letter corner = if occurs letter letters then Some corner else None
+normal_right_named letters letter corner = then_some (occurs letter letters) corner
 
 -- normal chess: the castling rights that the letters of a castling field name, as their rooks' squares: h1 (7) for K,
 -- a1 (0) for Q, h8 (63) for k, a8 (56) for q

@@ -1,6 +1,7 @@
 -- How code reads the castling rights of a FEN, letter by letter. A right that is named wrongly is kept as one whose
 -- rook is on a square where no rook can have it, so that the position is refused as unsound.
 use Rattle.std.specs.Prelude.{ℕ, max, codes, count_by, length, nat_lt, nat_le, ◌-◌, ◌==◌, Bool, ◌&&◌, List, [], ◌∷◌, map, find, Option, Some, None, Result, Ok, Err, unwrap_or, if◌then◌else◌}
+use Rattle.std.specs.Bool.{then_some}
 use Rattle.std.specs.List.{fold, list_all}
 use Rattle.std.specs.Option.{ok_or}
 use Rattle.chess_base.specs.declared.man.Kind.TheVariants.{Rook}
@@ -36,7 +37,7 @@ are_right_letters v text = nat_lt 0 (length text) && nat_le (length text) 4 && l
 -- normal chess: the castling right with this letter, given as its rook's square: `corner` if the letter is in the
 -- castling field `letters`, otherwise `None`
 abbrev pub right_named : List ℕ → ℕ → ℕ → Option ℕ
-right_named letters letter corner = if occurs letter letters then Some corner else None
+right_named letters letter corner = then_some (occurs letter letters) corner
 
 -- ---- castling in Chess960
 
