@@ -23,7 +23,8 @@ use Rattle.chess_base.specs.Sound.{IsSound}
 use Rattle.chess_base.proofs.shared.Sound.{no_fault_from_IsSound}
 use Rattle.text_lines.specs.Words.{short_number}
 use Rattle.chess_fen.specs.Texts.{first_letter, names_file, placement_of, is_castling_field, target_of, fields_of}
-use Rattle.chess_fen.specs.RightNames.{side_letter, from_edge, is_towards, names_right, rook_named, right_by, right_in, names_rights_well, rights_in}
+use Rattle.chess_fen.specs.RightNames.{side_letter, from_edge, is_towards, right_by, right_in, names_rights_well, rights_in}
+use Rattle.chess_fen.proofs.RooksNamed.{names_right, rook_by, in_chess960}
 use Rattle.chess_fen.specs.Reading.{◌>>=◌, side_of, reading_in, fen_reading_as}
 use Rattle.chess_fen.specs.ties.Reader.{nowhere, outer_rook, named_square, one_or_nowhere, right_by_letters, setup_by, setup_in}
 use Rattle.chess_fen.proofs.Steps.{steps, denoted_by, unless_fault, if_fit, of_fields}
@@ -38,7 +39,7 @@ or_nowhere o = Some (unwrap_or o nowhere)
 
 module _ (men : Men) (c : Colour) (w : CastlingSide) where
   named_is : (letter : ℕ) → named_square men c w letter
-      ≡ cond (names_right men c w letter) (or_nowhere (rook_named men c w letter)) None
+      ≡ cond (names_right men c w letter) (or_nowhere (rook_by men c w letter)) None
   unfolding outer_rook
   named_is letter = by_test (letter == side_letter c w)
       (names_file c letter && is_towards w (king_square men c) (home_square c (letter - first_letter c)))
@@ -58,7 +59,7 @@ module _ (men : Men) (c : Colour) (w : CastlingSide) where
 
   only_named : (acc : Option ℕ) (letters : List ℕ)
       → fold one_or_nowhere acc (map (named_square men c w) letters)
-      ≡ fold one_or_nowhere acc (map or_nowhere (map (rook_named men c w) (filter (names_right men c w) letters)))
+      ≡ fold one_or_nowhere acc (map or_nowhere (map (rook_by men c w) (filter (names_right men c w) letters)))
   only_named acc [] = refl
   only_named acc (letter ∷ letters) =
       ap (λ o. fold one_or_nowhere (one_or_nowhere acc o) (map (named_square men c w) letters)) (named_is letter)
@@ -66,12 +67,12 @@ module _ (men : Men) (c : Colour) (w : CastlingSide) where
     where
       by_test : (t : Bool)
           → ((o : Option ℕ) → fold one_or_nowhere o (map (named_square men c w) letters)
-          ≡ fold one_or_nowhere o (map or_nowhere (map (rook_named men c w) (filter (names_right men c w) letters))))
-          → fold one_or_nowhere (one_or_nowhere acc (cond t (or_nowhere (rook_named men c w letter)) None))
+          ≡ fold one_or_nowhere o (map or_nowhere (map (rook_by men c w) (filter (names_right men c w) letters))))
+          → fold one_or_nowhere (one_or_nowhere acc (cond t (or_nowhere (rook_by men c w letter)) None))
           (map (named_square men c w) letters)
-          ≡ fold one_or_nowhere acc (map or_nowhere (map (rook_named men c w)
+          ≡ fold one_or_nowhere acc (map or_nowhere (map (rook_by men c w)
           (cond t (letter ∷ filter (names_right men c w) letters) (filter (names_right men c w) letters))))
-      by_test true more = more (one_or_nowhere acc (or_nowhere (rook_named men c w letter)))
+      by_test true more = more (one_or_nowhere acc (or_nowhere (rook_by men c w letter)))
       by_test false more =
           ap (λ o. fold one_or_nowhere o (map (named_square men c w) letters)) (skip_none acc) ∙ more acc
 
@@ -89,7 +90,8 @@ by_rooks (None ∷ p ∷ os) = stays os
 right_is : (men : Men) (letters : List ℕ) (c : Colour) (w : CastlingSide)
     → right_by_letters Fischerandom men letters c w ≡ sentinel (right_in Fischerandom men letters c w)
 right_is men letters c w =
-    only_named men c w None letters ∙ by_rooks (map (rook_named men c w) (filter (names_right men c w) letters))
+    only_named men c w None letters ∙ by_rooks (map (rook_by men c w) (filter (names_right men c w) letters))
+    ∙ ap sentinel (sym (in_chess960 men c w letters))
 
 -- ---- nowhere is no rook's square
 

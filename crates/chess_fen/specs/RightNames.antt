@@ -2,7 +2,7 @@
 -- Chess960 a rook by its file (Shredder-FEN), or the outermost one by its side (X-FEN).
 use Rattle.std.specs.Prelude.{ℕ, ◌+◌, ◌-◌, ◌==◌, nat_lt, Bool, false, not, ◌&&◌, ◌||◌, List, [], ◌∷◌, map, find, Option, Some, None, is_some, if◌then◌else◌}
 use Rattle.std.specs.Bool.{then_some}
-use Rattle.std.specs.List.{list_all, filter}
+use Rattle.std.specs.List.{list_all, filter_map}
 use Rattle.std.specs.Option.{option_flatten, option_map_or}
 use Rattle.chess_base.specs.declared.man.Colour.{Colour}
 use Rattle.chess_base.specs.declared.man.Colour.TheVariants.{White, Black}
@@ -49,19 +49,15 @@ abbrev pub is_towards : CastlingSide → Option ℕ → ℕ → Bool
 is_towards QueenSide king s = option_map_or (λ k. nat_lt s k) king false
 is_towards KingSide king s = not (option_map_or (λ k. nat_lt s k) king false)
 
--- the letter names colour c's right on side w: it is c's letter of that side (K or Q, k or q), or c's letter (A to H, a
--- to h) of a file on that side of c's king
-abbrev pub names_right : Men → Colour → CastlingSide → ℕ → Bool
-names_right men c w letter = letter == side_letter c w
-    || names_file c letter && is_towards w (king_square men c) (home_square c (letter - first_letter c))
-
--- the rook's square by a letter that names colour c's right on side w (`names_right`). The side's letter gives the
--- square of the rook of c on its first rank that is nearest to the board's edge on side w, none if it has no rook
--- there. A file's letter gives the square on that file of c's first rank, with or without a rook
-abbrev pub rook_named : Men → Colour → CastlingSide → ℕ → Option ℕ
+-- the rook's square by which the letter names colour c's right on side w; `None` if it names another right, `Some None`
+-- if it names this one, but there is no rook. c's letter of that side (K or Q, k or q) names the rook of c on its first
+-- rank that is nearest to the board's edge on side w. c's letter (A to H, a to h) of a file on that side of c's king
+-- names the square on that file of c's first rank, with or without a rook
+abbrev pub rook_named : Men → Colour → CastlingSide → ℕ → Option (Option ℕ)
 rook_named men c w letter =
-    if letter == side_letter c w then find (λ s. is_man c Rook (man_at men s)) (from_edge c w)
-    else Some (home_square c (letter - first_letter c))
+    let s = home_square c (letter - first_letter c) in
+    if letter == side_letter c w then Some (find (λ t. is_man c Rook (man_at men t)) (from_edge c w))
+    else then_some (names_file c letter && is_towards w (king_square men c) s) (Some s)
 
 -- one castling right, from what `rook_named` gives for each letter that names it. No letter: the right is not there
 -- (`Some None`). One letter, for which there is a rook: the right is there, given as the rook's square. Several
@@ -78,7 +74,7 @@ right_by _ = None
 -- letters name it wrongly (`right_by`), which they never do in normal chess
 abbrev pub right_in : Variant → Men → List ℕ → Colour → CastlingSide → Option (Option ℕ)
 right_in Normal men letters c w = Some (then_some (occurs (side_letter c w) letters) (home_square c (rook_file w)))
-right_in Fischerandom men letters c w = right_by (map (rook_named men c w) (filter (names_right men c w) letters))
+right_in Fischerandom men letters c w = right_by (filter_map (rook_named men c w) letters)
 
 -- whether a castling field's letters name no right wrongly. In Chess960 two letters for one right do, and a side's
 -- letter (K, Q, k or q) does if its colour has no rook on its first rank; whether a file's letter finds a rook is not
