@@ -1,7 +1,7 @@
 -- What the fields of a FEN stand for (PGN standard of 1994, section 16.1.3). This project's additions to the standard:
 -- several spaces between fields and at both ends, digits of empty squares one after the other, letters of rights in any
 -- order, leading zeros. Its own limit: a counter has at most six digits.
-use Rattle.std.specs.Prelude.{ℕ, codes, count_by, ◌+◌, ◌-◌, ◌*◌, Bool, ◌&&◌, ◌||◌, List, [], ◌∷◌, ◌++◌, length, map, replicate, Option, Some, None, nat_lt, nat_le, ◌==◌, if◌then◌else◌, option_and_then}
+use Rattle.std.specs.Prelude.{ℕ, codes, count_by, ◌+◌, ◌-◌, Bool, ◌&&◌, ◌||◌, List, [], ◌∷◌, ◌++◌, length, map, replicate, Option, Some, None, nat_lt, nat_le, ◌==◌, if◌then◌else◌, option_and_then}
 use Rattle.std.specs.List.{slice_split, list_all, list_any, flat_map, filter}
 use Rattle.std.specs.Option.{option_map}
 use Rattle.std.specs.Str.{bytes_eq}
@@ -70,16 +70,6 @@ abbrev pub is_castling_field : Variant → List ℕ → Bool
 is_castling_field v text = bytes_eq text (codes "-")
     || (nat_lt 0 (length text) && nat_le (length text) 4
     && list_all (λ c. may_name_right v c && (count_by (λ b. b == c) text == 1)) text)
-
--- ---- target
-
--- what a FEN's fourth field denotes: a dash denotes no target (`Some None`), the name of a square on rank 3 or 6 that
--- square (e3 is `Some (Some 20)`). `None` for any other text
-abbrev pub target_of : List ℕ → Option (Option ℕ)
-target_of (c ∷ []) = if c == byte "-" then Some None else None
-target_of (f ∷ r ∷ []) = if nat_le (byte "a") f && nat_le f (byte "h")
-    && (r == byte "3" || r == byte "6") then Some (Some (8 * (r - byte "1") + (f - byte "a"))) else None
-target_of _ = None
 
 -- ---- fields
 
