@@ -23,10 +23,10 @@ use Rattle.chess_base.specs.declared.setup.Setup.{Setup}
 use Rattle.chess_base.specs.Letters.{white_letter, letter, letter_by}
 use Rattle.chess_base.specs.Men.{Men, other, crossed_rank}
 use Rattle.chess_base.specs.Sound.{IsSound, target_is_sound_at, target_is_sound}
-use Rattle.chess_fen.specs.ties.Loops.{right_text}
+use Rattle.chess_fen.specs.ties.Loops.{or_dash, right_text}
 use Rattle.chess_fen.proofs.RightLetters.{rights_are}
 use Rattle.chess_fen.specs.RightNames.{right_letter}
-use Rattle.chess_fen.specs.Writing.{fen_rank, placement_text, side_text, or_dash, rights_text, target_text, fen}
+use Rattle.chess_fen.specs.Writing.{fen_rank, placement_text, side_text, rights_text, target_text, fen}
 use Rattle.chess_fen.specs.ties.Loops.{ranks_down, run_text, row_text}
 use Rattle.chess_fen.proofs.Joined.{IsPlain, Plain, all_append, each_weaker, Plain-join}
 use Rattle.chess_fen.proofs.WrittenRanks.{row_is}

@@ -9,11 +9,11 @@ use Rattle.chess_base.specs.declared.man.Variant.TheVariants.{Normal, Fischerand
 use Rattle.chess_base.specs.declared.setup.Setup.{Setup}
 use Rattle.chess_base.specs.Initial.{initial_setup, initial_setup_of}
 use Rattle.chess_base.specs.Sound.{IsSound}
-use Rattle.chess_fen.specs.ties.Loops.{right_text}
+use Rattle.chess_fen.specs.ties.Loops.{or_dash, right_text}
 use Rattle.chess_fen.proofs.RightLetters.{rights_are}
 use Rattle.chess_fen.specs.Reading.{fen_reading_as}
 use Rattle.chess_fen.specs.Texts.{fields_of}
-use Rattle.chess_fen.specs.Writing.{or_dash, rights_text, fen, is_initial}
+use Rattle.chess_fen.specs.Writing.{rights_text, fen, is_initial}
 use Rattle.chess_fen.proofs.DenotedFen.{reading-denoted}
 use Rattle.chess_fen.proofs.RoundTrip.{fen_fields}
 use Rattle.chess_fen.proofs.WrittenFen.{fen-denoted}

@@ -27,10 +27,10 @@ use Rattle.std.proofs.Math.Seq.{take-add}
 use Rattle.text_lines.specs.Words.{short_number}
 use Rattle.chess_fen.specs.RightNames.{side_letter, right_in, names_rights_well}
 use Rattle.chess_fen.specs.Texts.{from_top, placement_of, occurs, may_name_right, is_castling_field, fields_of}
-use Rattle.chess_fen.specs.Writing.{fen_rank, placement_text, side_text, or_dash, rights_text, target_text, fen}
+use Rattle.chess_fen.specs.Writing.{fen_rank, placement_text, side_text, rights_text, target_text, fen}
 use Rattle.chess_fen.specs.Denotation.{DenotesSquares, DenotesRank}
 use Rattle.chess_fen.specs.ties.Reader.{right_named}
-use Rattle.chess_fen.specs.ties.Loops.{ranks_down, run_text, row_text, ranks_text}
+use Rattle.chess_fen.specs.ties.Loops.{or_dash, ranks_down, run_text, row_text, ranks_text}
 use Rattle.chess_fen.proofs.DenotedFields.{placement-denoted, side-text, target-denoted}
 use Rattle.chess_fen.proofs.RightLetters.{letters, rights_are}
 use Rattle.chess_fen.proofs.RightsBack.{Stand, right_back, text_is_castling}

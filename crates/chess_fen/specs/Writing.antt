@@ -1,6 +1,6 @@
 -- The one FEN that is written for a position (PGN standard of 1994, section 16.1). The target is written as the
 -- position holds it, whether or not it can be captured on; numbers have no leading zeros.
-use Rattle.std.specs.Prelude.{ℕ, Bool, suc, ◌*◌, List, [], ◌∷◌, ◌++◌, map, take, drop, Option, Some, None, decimal, codes}
+use Rattle.std.specs.Prelude.{ℕ, Bool, suc, ◌*◌, ◌==◌, if◌then◌else◌, length, List, [], ◌∷◌, ◌++◌, map, take, drop, Option, Some, None, decimal, codes}
 use Rattle.std.specs.List.{filter_map, join_with_byte}
 use Rattle.std.specs.Option.{option_map, option_map_or}
 use Rattle.chess_base.specs.declared.man.Man.{Man}
@@ -37,16 +37,12 @@ placement_text men = join_with_byte (byte "/")
 abbrev pub side_text : Colour → List ℕ
 side_text = by_colour (codes "w") (codes "b")
 
--- the text, or a dash if it is empty
-abbrev pub or_dash : List ℕ → List ℕ
-or_dash [] = codes "-"
-or_dash (c ∷ cs) = c ∷ cs
-
 -- a FEN's third field: of the four castling rights those that are there, each by its letter (`right_letter`), or a
 -- dash. In normal chess they come in the order KQkq
 abbrev pub rights_text : Variant → Rights → List ℕ
 rights_text v rights =
-    or_dash (filter_map (λ r. option_map (right_letter v r.0 r.1) (right_of rights r.0 r.1)) all_rights)
+    let letters = filter_map (λ r. option_map (right_letter v r.0 r.1) (right_of rights r.0 r.1)) all_rights in
+    if length letters == 0 then codes "-" else letters
 
 -- a FEN's fourth field: the name of the en passant target, or a dash for none
 abbrev pub target_text : Option ℕ → List ℕ

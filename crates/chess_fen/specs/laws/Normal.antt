@@ -22,7 +22,7 @@ use Rattle.chess_base.specs.laws.Normal.{normal_right_is_sound_at}
 use Rattle.text_lines.specs.Words.{short_number}
 use Rattle.chess_fen.specs.Reading.{◌>>=◌, side_of, target_of}
 use Rattle.chess_fen.specs.Texts.{placement_of, fields_of, occurs}
-use Rattle.chess_fen.specs.Writing.{placement_text, side_text, target_text, or_dash}
+use Rattle.chess_fen.specs.Writing.{placement_text, side_text, target_text}
 
 -- ---- written
 
@@ -33,8 +33,10 @@ letter_if (Some corner) c = c ∷ []
 
 -- a FEN's third field: the letters of the castling rights that are there, in the order KQkq, or a dash
 abbrev pub normal_rights_text : Rights → List ℕ
-normal_rights_text r = or_dash (letter_if r.white.king_side (byte "K") ++ letter_if r.white.queen_side (byte "Q")
-    ++ letter_if r.black.king_side (byte "k") ++ letter_if r.black.queen_side (byte "q"))
+normal_rights_text r =
+    let letters = letter_if r.white.king_side (byte "K") ++ letter_if r.white.queen_side (byte "Q")
+    ++ letter_if r.black.king_side (byte "k") ++ letter_if r.black.queen_side (byte "q") in
+    if length letters == 0 then codes "-" else letters
 
 -- the FEN of a position of normal chess: its six fields, with one space between them
 abbrev pub normal_fen : Setup → List ℕ

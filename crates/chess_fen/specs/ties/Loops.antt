@@ -1,5 +1,5 @@
 -- The definitions that loops compute, from any step of the loop on.
-use Rattle.std.specs.Prelude.{ℕ, zero, suc, ◌+◌, ◌-◌, ◌*◌, List, [], ◌∷◌, ◌++◌, map, take, drop, Option, Some, None, if◌then◌else◌}
+use Rattle.std.specs.Prelude.{ℕ, codes, zero, suc, ◌+◌, ◌-◌, ◌*◌, List, [], ◌∷◌, ◌++◌, map, take, drop, Option, Some, None, if◌then◌else◌}
 use Rattle.std.specs.List.{join_with_byte}
 use Rattle.std.specs.Option.{option_map_or}
 use Rattle.chess_base.specs.declared.man.Colour.{Colour}
@@ -27,6 +27,11 @@ abbrev pub rook_among : Men → Colour → CastlingSide → ℕ → ℕ
 rook_among men c w zero = nowhere
 rook_among men c w (suc k) = if is_man c Rook (man_at men (home_square c (edge_file w k))) then home_square c
     (edge_file w k) else rook_among men c w k
+
+-- the text, or a dash if it is empty
+abbrev pub or_dash : List ℕ → List ℕ
+or_dash [] = codes "-"
+or_dash (c ∷ cs) = c ∷ cs
 
 -- the letter of a castling right, given as its rook's square, as text; nothing if there is no right
 abbrev pub right_text : Variant → Colour → CastlingSide → Option ℕ → List ℕ
