@@ -11,21 +11,22 @@ use Rattle.chess_base.specs.Faults.{conditions, first_failing, setup_fault}
 use Rattle.chess_base.proofs.shared.Sound.{no_fault_from_IsSound}
 use Rattle.chess_base.specs.declared.fen_fault.FenFault.{FenFault}
 use Rattle.chess_base.specs.declared.fen_fault.FenFault.TheVariants as faults
+use Rattle.text_lines.specs.Words.{short_number}
 use Rattle.chess_fen.specs.RightNames.{names_rights_well}
-use Rattle.chess_fen.specs.Texts.{number_of, placement_of, is_castling_field, target_of, fields_of}
-use Rattle.chess_fen.specs.Reading.{◌>>=◌, side_of, denoted_by, conditions_of, unless_fault, fen_reading_as}
+use Rattle.chess_fen.specs.Texts.{placement_of, is_castling_field, fields_of}
+use Rattle.chess_fen.specs.Reading.{◌>>=◌, side_of, target_of, conditions_of, fen_reading_as}
 use Rattle.chess_fen.specs.Denotation.{DenotesCounters, DenotesFields, DenotesText, DenotesFenAs}
 use Rattle.chess_fen.specs.FenFaults.{DenotesSomeMen, DenotesSomeSide, IsFieldFault, HasWrongFieldCount, IsMalformed, IsFaultAs}
 use Rattle.chess_fen.proofs.DenotedFields.{denoted-placement, placement-denoted, denoted-side, side-denoted, denoted-target, target-denoted}
-use Rattle.chess_fen.proofs.Steps.{steps, if_fit, denoted_in, third, reading-steps}
+use Rattle.chess_fen.proofs.Steps.{steps, denoted_by, unless_fault, if_fit, denoted_in, third, reading-steps}
 
 -- ---- counters
 
 -- the texts h and f of the counters, which the fields `more` give or leave out
 record AreCounters (more : List (List ℕ)) (h f : List ℕ) : Type 0 where
-  read : (n k : ℕ) → number_of h ≡ Some n → number_of f ≡ Some k → DenotesCounters more n (max k 1)
+  read : (n k : ℕ) → short_number 6 h ≡ Some n → short_number 6 f ≡ Some k → DenotesCounters more n (max k 1)
   denoted : (n m : ℕ) → DenotesCounters more n m
-      → (k : ℕ) × (number_of h ≡ Some n) × (number_of f ≡ Some k) × (m ≡ max k 1)
+      → (k : ℕ) × (short_number 6 h ≡ Some n) × (short_number 6 f ≡ Some k) × (m ≡ max k 1)
 
 left_out : AreCounters [] (codes "0") (codes "1")
 left_out = record { read = read; denoted = λ n m s. (1, ap Some (sym s.0), refl, s.1) }
@@ -49,8 +50,8 @@ some_impossible o x e h = let f = sym e ∙ h in absurd cc
 outcome : (v : Variant) (a b c d h f : List ℕ) (more : List (List ℕ)) → AreCounters more h f
     → Outcome v a b c d more (denoted_by v a b c d h f)
 outcome v a b c d h f more counters =
-    by_steps (placement_of a) refl (side_of b) refl (is_castling_field v c) refl (target_of d) refl (number_of h) refl
-    (number_of f) refl
+    by_steps (placement_of a) refl (side_of b) refl (is_castling_field v c) refl (target_of d) refl (short_number 6 h) refl
+    (short_number 6 f) refl
   where
     said : (men : Men) → placement_of a ≡ Some men → DenotesSomeMen a
     said men e = (men, denoted-placement a men e)
@@ -66,7 +67,7 @@ outcome v a b c d h f more counters =
 
     by_steps : (men : Option Men) → placement_of a ≡ men → (side : Option Colour) → side_of b ≡ side
         → (fits : Bool) → is_castling_field v c ≡ fits → (target : Option (Option ℕ)) → target_of d ≡ target
-        → (n : Option ℕ) → number_of h ≡ n → (k : Option ℕ) → number_of f ≡ k
+        → (n : Option ℕ) → short_number 6 h ≡ n → (k : Option ℕ) → short_number 6 f ≡ k
         → Outcome v a b c d more (steps v c men side fits target n k)
     by_steps None e0 side e1 fits e2 target e3 n e4 k e5 =
         λ men s. some_impossible (placement_of a) men e0 (placement-denoted a men s)
@@ -76,10 +77,10 @@ outcome v a b c d h f more counters =
     by_steps (Some men) e0 (Some colour) e1 true e2 None e3 n e4 k e5 =
         (said men e0, moved colour e1, e2, λ t s. some_impossible (target_of d) t e3 (target-denoted d t s))
     by_steps (Some men) e0 (Some colour) e1 true e2 (Some target) e3 None e4 k e5 =
-        counted men e0 colour e1 e2 target e3 (λ n m s. some_impossible (number_of h) n e4 (counters.denoted n m s).1)
+        counted men e0 colour e1 e2 target e3 (λ n m s. some_impossible (short_number 6 h) n e4 (counters.denoted n m s).1)
     by_steps (Some men) e0 (Some colour) e1 true e2 (Some target) e3 (Some n) e4 None e5 =
         counted men e0 colour e1 e2 target e3 (λ n m s. (let k = counters.denoted n m s in
-        some_impossible (number_of f) k.0 e5 k.2))
+        some_impossible (short_number 6 f) k.0 e5 k.2))
     by_steps (Some men) e0 (Some colour) e1 true e2 (Some target) e3 (Some n) e4 (Some k) e5 = record {
       variant = refl;
       men = denoted-placement a men e0;
@@ -255,10 +256,10 @@ none_if (Some x) h = absurd (h x refl)
 -- with no counters the steps end with their fault
 unnumbered : (v : Variant) (c : List ℕ) (men : Men) (colour : Colour) (target : Option ℕ) (h f : List ℕ) (more : List (List ℕ))
     → AreCounters more h f → ((n m : ℕ) → DenotesCounters more n m → ⊥)
-    → steps v c (Some men) (Some colour) true (Some target) (number_of h) (number_of f) ≡ Err faults.Counters
-unnumbered v c men colour target h f more counters none = by_numbers (number_of h) refl (number_of f) refl
+    → steps v c (Some men) (Some colour) true (Some target) (short_number 6 h) (short_number 6 f) ≡ Err faults.Counters
+unnumbered v c men colour target h f more counters none = by_numbers (short_number 6 h) refl (short_number 6 f) refl
   where
-    by_numbers : (o : Option ℕ) → number_of h ≡ o → (u : Option ℕ) → number_of f ≡ u
+    by_numbers : (o : Option ℕ) → short_number 6 h ≡ o → (u : Option ℕ) → short_number 6 f ≡ u
         → steps v c (Some men) (Some colour) true (Some target) o u ≡ Err faults.Counters
     by_numbers None e u i = refl
     by_numbers (Some n) e None i = refl

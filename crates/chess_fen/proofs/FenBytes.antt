@@ -1,5 +1,5 @@
 -- The bytes of a FEN that is written: no field has a space, and no rank a slash; all of them are ASCII.
-use Rattle.std.proofs.Common.{◌≡◌, ℕ, zero, suc, ◌+◌, ◌*◌, ◌/◌, ◌%◌, ◌<◌, ◌≤◌, ◌⊎◌, inl, inr, true, eqb, List, [], ◌∷◌, ◌++◌, length, take, drop, map, Option, Some, None, subst, arith, rules}
+use Rattle.std.proofs.Common.{sym, ◌≡◌, ℕ, zero, suc, ◌+◌, ◌*◌, ◌/◌, ◌%◌, ◌<◌, ◌≤◌, ◌⊎◌, inl, inr, true, eqb, List, [], ◌∷◌, ◌++◌, length, take, drop, map, Option, Some, None, subst, arith, rules}
 use Rattle.std.specs.Prelude.{decimal, IfSome}
 use Rattle.std.specs.List.{AllByRecursion}
 use Rattle.std.specs.Str.{IsAscii, IsUtf8}
@@ -24,8 +24,10 @@ use Rattle.chess_base.specs.Letters.{white_letter, letter, letter_by}
 use Rattle.chess_base.specs.Men.{Men, other}
 use Rattle.chess_base.specs.Sound.{IsSound, target_is_sound}
 use Rattle.chess_base.specs.shared.Parts.{crossed_rank, target_is_sound_at}
+use Rattle.chess_fen.specs.ties.Loops.{or_dash, right_text}
+use Rattle.chess_fen.proofs.RightLetters.{rights_are}
 use Rattle.chess_fen.specs.RightNames.{right_letter}
-use Rattle.chess_fen.specs.Writing.{fen_rank, placement_text, side_text, right_text, or_dash, rights_text, target_text, fen}
+use Rattle.chess_fen.specs.Writing.{fen_rank, placement_text, side_text, rights_text, target_text, fen}
 use Rattle.chess_fen.specs.ties.Loops.{ranks_down, run_text, row_text}
 use Rattle.chess_fen.proofs.Joined.{IsPlain, Plain, all_append, each_weaker, Plain-join}
 use Rattle.chess_fen.proofs.WrittenRanks.{row_is}
@@ -126,11 +128,11 @@ rights_plain v r =
     let b = right_text v White QueenSide r.white.queen_side in
     let c = right_text v Black KingSide r.black.king_side in
     let d = right_text v Black QueenSide r.black.queen_side in
-    dash_plain (((a ++ b) ++ c) ++ d)
+    subst (Plain 45) (sym (rights_are v r)) (dash_plain (((a ++ b) ++ c) ++ d)
     (all_append P ((a ++ b) ++ c) d
     (all_append P (a ++ b) c (all_append P a b (right_plain v White KingSide r.white.king_side)
     (right_plain v White QueenSide r.white.queen_side)) (right_plain v Black KingSide r.black.king_side))
-    (right_plain v Black QueenSide r.black.queen_side))
+    (right_plain v Black QueenSide r.black.queen_side)))
 
 -- a target has rank 3 or 6
 target_rank : (men : Men) (c : Colour) (target : Option ℕ) → target_is_sound_at men c target ≡ true

@@ -8,6 +8,8 @@ mod FirstField
 mod DenotedRanks
 mod RunTable
 mod RookAmong
+mod RooksNamed
+mod RightLetters
 mod RightsBack
 mod NamedRooks
 mod Joined

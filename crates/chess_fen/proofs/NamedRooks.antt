@@ -16,7 +16,8 @@ use Rattle.chess_base.specs.Men.{Men, man_at, is_man, first_rank}
 use Rattle.chess_base.specs.Castling.{home_square, king_square, is_to_side, right_is_sound, right_of}
 use Rattle.chess_base.specs.shared.Splits.{right_is_sound_at}
 use Rattle.chess_fen.specs.Texts.{first_letter, names_file}
-use Rattle.chess_fen.specs.RightNames.{side_letter, from_edge, is_towards, names_right, rook_named, right_by, right_in}
+use Rattle.chess_fen.specs.RightNames.{side_letter, from_edge, is_towards, right_by, right_in}
+use Rattle.chess_fen.proofs.RooksNamed.{names_right, rook_by, in_chess960}
 use Rattle.chess_fen.specs.ties.Reader.{nowhere, outer_rook}
 use Rattle.chess_fen.specs.ties.Loops.{edge_file, rook_among}
 use Rattle.chess_fen.specs.laws.NamedRooks.{IsOutermost, NamesRook, NamesNone, RightIsNamed}
@@ -178,7 +179,7 @@ outer_found men c w s n h =
     there (find (λ k. is_man c Rook (man_at men k)) (from_edge c w)) s (outer_is men c w s h) n
 
 names_it : (men : Men) (c : Colour) (w : CastlingSide) (l s : ℕ) → Beside men c w s → s ≢ nowhere
-    → NamesRook men c w l s → (names_right men c w l ≡ true) × (rook_named men c w l ≡ Some s)
+    → NamesRook men c w l s → (names_right men c w l ≡ true) × (rook_by men c w l ≡ Some s)
 names_it men c w l s b n (inl h) =
     let t : eqb l (side_letter c w) ≡ true = eq-eqb l (side_letter c w) h.0 in (
       ap (λ b. b || IsFileTowards men c w l) t,
@@ -187,7 +188,7 @@ names_it men c w l s b n (inl h) =
     )
 names_it men c w l s b n (inr h) = (
   ap (names_right men c w) h ∙ names_own men c w s b,
-  ap (rook_named men c w) h ∙ rook_own men c w s b.rook_rank,
+  ap (rook_by men c w) h ∙ rook_own men c w s b.rook_rank,
 )
 
 -- ---- a field of letters
@@ -236,31 +237,31 @@ one_of men c w l (x ∷ xs) e = by_test (names_right men c w x) refl e (one_of m
 -- ---- the rooks that letters name
 
 no_letters : (men : Men) (c : Colour) (w : CastlingSide) (ls : List ℕ)
-    → right_by (map (rook_named men c w) ls) ≡ Some None → ls ≡ []
+    → right_by (map (rook_by men c w) ls) ≡ Some None → ls ≡ []
 no_letters men c w [] e = refl
-no_letters men c w (x ∷ []) e = by_rook (rook_named men c w x) e
+no_letters men c w (x ∷ []) e = by_rook (rook_by men c w x) e
   where
     by_rook : (o : Option ℕ) → right_by (o ∷ []) ≡ Some None → x ∷ [] ≡ []
     by_rook None h = absurd cc
     by_rook (Some s) h = absurd cc
-no_letters men c w (x ∷ y ∷ ls) e = by_rook (rook_named men c w x) e
+no_letters men c w (x ∷ y ∷ ls) e = by_rook (rook_by men c w x) e
   where
-    by_rook : (o : Option ℕ) → right_by (o ∷ map (rook_named men c w) (y ∷ ls)) ≡ Some None → x ∷ y ∷ ls ≡ []
+    by_rook : (o : Option ℕ) → right_by (o ∷ map (rook_by men c w) (y ∷ ls)) ≡ Some None → x ∷ y ∷ ls ≡ []
     by_rook None h = absurd cc
     by_rook (Some s) h = absurd cc
 
 one_letter : (men : Men) (c : Colour) (w : CastlingSide) (s : ℕ) (ls : List ℕ)
-    → right_by (map (rook_named men c w) ls) ≡ Some (Some s)
-    → (l : ℕ) × (ls ≡ l ∷ []) × (rook_named men c w l ≡ Some s)
+    → right_by (map (rook_by men c w) ls) ≡ Some (Some s)
+    → (l : ℕ) × (ls ≡ l ∷ []) × (rook_by men c w l ≡ Some s)
 one_letter men c w s [] e = absurd cc
-one_letter men c w s (x ∷ []) e = (x, refl, by_rook (rook_named men c w x) e)
+one_letter men c w s (x ∷ []) e = (x, refl, by_rook (rook_by men c w x) e)
   where
     by_rook : (o : Option ℕ) → right_by (o ∷ []) ≡ Some (Some s) → o ≡ Some s
     by_rook None h = absurd cc
     by_rook (Some t) h = cc
-one_letter men c w s (x ∷ y ∷ ls) e = absurd (by_rook (rook_named men c w x) e)
+one_letter men c w s (x ∷ y ∷ ls) e = absurd (by_rook (rook_by men c w x) e)
   where
-    by_rook : (o : Option ℕ) → right_by (o ∷ map (rook_named men c w) (y ∷ ls)) ≡ Some (Some s) → ⊥
+    by_rook : (o : Option ℕ) → right_by (o ∷ map (rook_by men c w) (y ∷ ls)) ≡ Some (Some s) → ⊥
     by_rook None h = absurd cc
     by_rook (Some t) h = absurd cc
 
@@ -273,10 +274,11 @@ somewhere Black s h e = absurd (omega (arith, h, e))
 named_by : (men : Men) (c : Colour) (w : CastlingSide) (text : List ℕ) (o : Option ℕ)
     → right_is_sound_at Fischerandom men c w o ≡ true → right_in Fischerandom men text c w ≡ Some o
     → RightIsNamed text men c w o
-named_by men c w text None sound e = all_none men c w text (no_letters men c w (filter (names_right men c w) text) e)
+named_by men c w text None sound e =
+    all_none men c w text (no_letters men c w (filter (names_right men c w) text) (sym (in_chess960 men c w text) ∙ e))
 named_by men c w text (Some s) sound e =
     let n = somewhere c s (beside men c w s sound).rook_rank in
-    let k = one_letter men c w s (filter (names_right men c w) text) e in
+    let k = one_letter men c w s (filter (names_right men c w) text) (sym (in_chess960 men c w text) ∙ e) in
     let r = one_of men c w k.0 text k.1 in
     (r.0, k.0, r.1, r.2, some_by men c w k.0 s n (eqb k.0 (side_letter c w)) refl r.3 k.2, r.4, r.5)
 
@@ -284,11 +286,11 @@ said_by : (men : Men) (c : Colour) (w : CastlingSide) (text : List ℕ) (o : Opt
     → right_is_sound_at Fischerandom men c w o ≡ true → RightIsNamed text men c w o
     → right_in Fischerandom men text c w ≡ Some o
 said_by men c w text None sound h =
-    ap (λ letters. right_by (map (rook_named men c w) letters)) (none_left men c w text h)
+    in_chess960 men c w text ∙ ap (λ letters. right_by (map (rook_by men c w) letters)) (none_left men c w text h)
 said_by men c w text (Some s) sound h =
     let b = beside men c w s sound in
     let it = names_it men c w h.1 s b (somewhere c s b.rook_rank) h.4 in
-    ap (λ letters. right_by (map (rook_named men c w) letters)) (ap (filter (names_right men c w)) h.3
+    in_chess960 men c w text ∙ ap (λ letters. right_by (map (rook_by men c w) letters)) (ap (filter (names_right men c w)) h.3
     ∙ filter-append (names_right men c w) h.0 (h.1 ∷ h.2)
     ∙ ap (λ xs. xs ++ filter (names_right men c w) (h.1 ∷ h.2)) (none_left men c w h.0 h.5)
     ∙ ap (λ b. cond b (h.1 ∷ filter (names_right men c w) h.2) (filter (names_right men c w) h.2)) it.0

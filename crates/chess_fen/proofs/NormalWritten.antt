@@ -1,7 +1,7 @@
 -- On positions of normal chess a FEN is written as for normal chess alone.
-use Rattle.std.proofs.Common.{◌≡◌, ℕ, [], ◌∷◌, Option, Some, None, decimal, refl, ap, ◌∙◌}
+use Rattle.std.proofs.Common.{◌≡◌, ℕ, [], ◌∷◌, ◌++◌, Option, Some, None, decimal, refl, ap, ◌∙◌}
 use Rattle.std.specs.List.{join_with_byte}
-use Rattle.chess_base.specs.Letters.{space}
+use Rattle.chess_base.specs.Letters.{byte, space}
 use Rattle.chess_base.specs.declared.man.Colour.{Colour}
 use Rattle.chess_base.specs.declared.man.Colour.TheVariants.{White, Black}
 use Rattle.chess_base.specs.declared.man.CastlingSide.{CastlingSide}
@@ -9,8 +9,10 @@ use Rattle.chess_base.specs.declared.man.CastlingSide.TheVariants.{KingSide, Que
 use Rattle.chess_base.specs.declared.man.Rights.{Rights}
 use Rattle.chess_base.specs.declared.man.Variant.TheVariants.{Normal}
 use Rattle.chess_base.specs.declared.setup.Setup.{Setup}
+use Rattle.chess_fen.specs.ties.Loops.{right_text}
+use Rattle.chess_fen.proofs.RightLetters.{dashed, rights_are}
 use Rattle.chess_fen.specs.RightNames.{side_letter}
-use Rattle.chess_fen.specs.Writing.{fen, placement_text, side_text, rights_text, right_text, target_text}
+use Rattle.chess_fen.specs.Writing.{fen, placement_text, side_text, rights_text, target_text}
 use Rattle.chess_fen.specs.laws.Normal.{letter_if, normal_rights_text, normal_fen}
 
 one_written : (c : Colour) (w : CastlingSide) (o : Option ℕ) → right_text Normal c w o ≡ letter_if o (side_letter c w)
@@ -19,12 +21,13 @@ one_written c w (Some s) = refl
 
 written_by : (r : Rights) → rights_text Normal r ≡ normal_rights_text r
 written_by r =
-    rw (
+    rights_are Normal r ∙ rw (
       one_written White KingSide r.white.king_side,
       one_written White QueenSide r.white.queen_side,
       one_written Black KingSide r.black.king_side,
       one_written Black QueenSide r.black.queen_side,
-    ) refl
+    ) (dashed (letter_if r.white.king_side (byte "K") ++ letter_if r.white.queen_side (byte "Q")
+    ++ letter_if r.black.king_side (byte "k") ++ letter_if r.black.queen_side (byte "q")))
 
 rights_kept : (p : Setup) → p.variant ≡ Normal → rights_text p.variant p.rights ≡ normal_rights_text p.rights
 rights_kept p e = ap (λ v. rights_text v p.rights) e ∙ written_by p.rights

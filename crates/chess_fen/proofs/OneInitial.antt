@@ -9,9 +9,11 @@ use Rattle.chess_base.specs.declared.man.Variant.TheVariants.{Normal, Fischerand
 use Rattle.chess_base.specs.declared.setup.Setup.{Setup}
 use Rattle.chess_base.specs.Initial.{initial_setup, initial_setup_of}
 use Rattle.chess_base.specs.Sound.{IsSound}
+use Rattle.chess_fen.specs.ties.Loops.{or_dash, right_text}
+use Rattle.chess_fen.proofs.RightLetters.{rights_are}
 use Rattle.chess_fen.specs.Reading.{fen_reading_as}
 use Rattle.chess_fen.specs.Texts.{fields_of}
-use Rattle.chess_fen.specs.Writing.{right_text, or_dash, rights_text, fen, is_initial}
+use Rattle.chess_fen.specs.Writing.{rights_text, fen, is_initial}
 use Rattle.chess_fen.proofs.DenotedFen.{reading-denoted}
 use Rattle.chess_fen.proofs.RoundTrip.{fen_fields}
 use Rattle.chess_fen.proofs.WrittenFen.{fen-denoted}
@@ -45,7 +47,8 @@ normal p sound initial same = by_variant p.variant refl
     by_variant Normal is = is
     by_variant Fischerandom is =
         absurd (other_letters p.rights.white.king_side p.rights.white.queen_side p.rights.black.king_side
-        p.rights.black.queen_side (ap (λ v. rights_text v p.rights) (sym is) ∙ rights))
+        p.rights.black.queen_side
+        (sym (rights_are Fischerandom p.rights) ∙ ap (λ v. rights_text v p.rights) (sym is) ∙ rights))
 
 read_back : (p : Setup) → IsSound p → fen_reading_as p.variant (fen p) ≡ Ok p
 read_back p sound = reading-denoted p.variant (fen p) p (fen-denoted p sound) sound

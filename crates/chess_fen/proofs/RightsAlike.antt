@@ -3,7 +3,7 @@
 use Rattle.std.proofs.Common.{◌≡◌, ℕ, ◌⊎◌, inl, inr, Bool, true, false, cond, List, [], ◌∷◌, ◌++◌, map, take, drop, Option, Some, None, Result, Ok, Err, refl, sym, ap, ◌∙◌, arith}
 use Rattle.std.specs.Prelude.{option_and_then, find, ◌&&◌, ◌||◌, is_some, ◌==◌, max, codes, ◌-◌, IsOk, IfOk, IfErr, ◌↔◌}
 use Rattle.std.specs.List.{filter, fold}
-use Rattle.std.specs.Option.{option_map_or, ok_or, unwrap_or}
+use Rattle.std.specs.Option.{option_flatten, option_map_or, ok_or, unwrap_or}
 use Rattle.chess_base.specs.declared.man.Kind.TheVariants.{Rook}
 use Rattle.chess_base.specs.declared.man.Colour.{Colour}
 use Rattle.chess_base.specs.declared.man.Colour.TheVariants.{White, Black}
@@ -22,11 +22,14 @@ use Rattle.chess_base.specs.Faults.{conditions, rights_are_sound, first_failing,
 use Rattle.chess_base.specs.Faults as base
 use Rattle.chess_base.specs.Sound.{IsSound}
 use Rattle.chess_base.proofs.shared.Sound.{no_fault_from_IsSound}
-use Rattle.chess_fen.specs.Texts.{first_letter, names_file, placement_of, number_of, is_castling_field, target_of, fields_of}
-use Rattle.chess_fen.specs.RightNames.{side_letter, from_edge, is_towards, names_right, rook_named, right_by, right_in, names_rights_well, rights_in}
-use Rattle.chess_fen.specs.Reading.{◌>>=◌, side_of, denoted_by, unless_fault, reading_in, fen_reading_as}
-use Rattle.chess_fen.specs.ties.Reader.{nowhere, outer_rook, named_square, one_or_nowhere, right_by_letters, setup_by, setup_in}
-use Rattle.chess_fen.proofs.Steps.{steps, if_fit}
+use Rattle.text_lines.specs.Words.{short_number}
+use Rattle.chess_fen.specs.Texts.{first_letter, names_file, placement_of, is_castling_field, fields_of}
+use Rattle.chess_fen.specs.RightNames.{side_letter, from_edge, is_towards, right_by, right_in, names_rights_well, rights_in}
+use Rattle.chess_fen.proofs.RooksNamed.{names_right, rook_by, in_chess960}
+use Rattle.chess_fen.specs.Reading.{◌>>=◌, side_of, target_of, reading_in, fen_reading_as}
+use Rattle.chess_fen.specs.ties.Reader.{side_by, target_by, nowhere, outer_rook, named_square, one_or_nowhere, right_by_letters, setup_by, setup_in}
+use Rattle.chess_fen.proofs.DenotedFields.{side_is, target_is}
+use Rattle.chess_fen.proofs.Steps.{steps, denoted_by, unless_fault, if_fit, of_fields}
 
 -- a right that is named wrongly as a right whose rook is nowhere
 abbrev sentinel : Option (Option ℕ) → Option ℕ
@@ -38,7 +41,7 @@ or_nowhere o = Some (unwrap_or o nowhere)
 
 module _ (men : Men) (c : Colour) (w : CastlingSide) where
   named_is : (letter : ℕ) → named_square men c w letter
-      ≡ cond (names_right men c w letter) (or_nowhere (rook_named men c w letter)) None
+      ≡ cond (names_right men c w letter) (or_nowhere (rook_by men c w letter)) None
   unfolding outer_rook
   named_is letter = by_test (letter == side_letter c w)
       (names_file c letter && is_towards w (king_square men c) (home_square c (letter - first_letter c)))
@@ -58,7 +61,7 @@ module _ (men : Men) (c : Colour) (w : CastlingSide) where
 
   only_named : (acc : Option ℕ) (letters : List ℕ)
       → fold one_or_nowhere acc (map (named_square men c w) letters)
-      ≡ fold one_or_nowhere acc (map or_nowhere (map (rook_named men c w) (filter (names_right men c w) letters)))
+      ≡ fold one_or_nowhere acc (map or_nowhere (map (rook_by men c w) (filter (names_right men c w) letters)))
   only_named acc [] = refl
   only_named acc (letter ∷ letters) =
       ap (λ o. fold one_or_nowhere (one_or_nowhere acc o) (map (named_square men c w) letters)) (named_is letter)
@@ -66,12 +69,12 @@ module _ (men : Men) (c : Colour) (w : CastlingSide) where
     where
       by_test : (t : Bool)
           → ((o : Option ℕ) → fold one_or_nowhere o (map (named_square men c w) letters)
-          ≡ fold one_or_nowhere o (map or_nowhere (map (rook_named men c w) (filter (names_right men c w) letters))))
-          → fold one_or_nowhere (one_or_nowhere acc (cond t (or_nowhere (rook_named men c w letter)) None))
+          ≡ fold one_or_nowhere o (map or_nowhere (map (rook_by men c w) (filter (names_right men c w) letters))))
+          → fold one_or_nowhere (one_or_nowhere acc (cond t (or_nowhere (rook_by men c w letter)) None))
           (map (named_square men c w) letters)
-          ≡ fold one_or_nowhere acc (map or_nowhere (map (rook_named men c w)
+          ≡ fold one_or_nowhere acc (map or_nowhere (map (rook_by men c w)
           (cond t (letter ∷ filter (names_right men c w) letters) (filter (names_right men c w) letters))))
-      by_test true more = more (one_or_nowhere acc (or_nowhere (rook_named men c w letter)))
+      by_test true more = more (one_or_nowhere acc (or_nowhere (rook_by men c w letter)))
       by_test false more =
           ap (λ o. fold one_or_nowhere o (map (named_square men c w) letters)) (skip_none acc) ∙ more acc
 
@@ -89,7 +92,8 @@ by_rooks (None ∷ p ∷ os) = stays os
 right_is : (men : Men) (letters : List ℕ) (c : Colour) (w : CastlingSide)
     → right_by_letters Fischerandom men letters c w ≡ sentinel (right_in Fischerandom men letters c w)
 right_is men letters c w =
-    only_named men c w None letters ∙ by_rooks (map (rook_named men c w) (filter (names_right men c w) letters))
+    only_named men c w None letters ∙ by_rooks (map (rook_by men c w) (filter (names_right men c w) letters))
+    ∙ ap sentinel (sym (in_chess960 men c w letters))
 
 -- ---- nowhere is no rook's square
 
@@ -131,10 +135,10 @@ module _ (men : Men) (colour : Colour) (target : Option ℕ) (halfmove fullmove 
   }
 
   abbrev flat : Option (Option ℕ) → Option ℕ
-  flat o = option_and_then (λ right. right) o
+  flat o = option_flatten o
 
   abbrev four_some : Option (Option ℕ) → Option (Option ℕ) → Option (Option ℕ) → Option (Option ℕ) → Bool
-  four_some a b c d = (is_some a && is_some b) && ((is_some c && is_some d) && true)
+  four_some a b c d = is_some a && (is_some b && (is_some c && (is_some d && true)))
 
   abbrev said : Variant → Rights → Bool → Result Setup FenFault
   said v rights well = unless_fault (setup_with v rights)
@@ -211,7 +215,11 @@ if_sound p = unless_fault p (setup_fault p)
 fields_are : (v : Variant) (a b c d h f : List ℕ)
     → (denoted_by v a b c d h f >>= if_fit c) ≡ (setup_by v a b c d h f >>= if_sound)
 fields_are v a b c d h f =
-    by_steps (placement_of a) (side_of b) (is_castling_field v c) (target_of d) (number_of h) (number_of f)
+    by_steps (placement_of a) (side_of b) (is_castling_field v c) (target_of d) (short_number 6 h) (short_number 6 f)
+    ∙ ap (λ side. read_by (placement_of a) side (is_castling_field v c) (target_of d) (short_number 6 h)
+    (short_number 6 f) >>= if_sound) (side_is b)
+    ∙ ap (λ target. read_by (placement_of a) (side_by b) (is_castling_field v c) target (short_number 6 h)
+    (short_number 6 f) >>= if_sound) (target_is d)
   where
     read_by : Option Men → Option Colour → Bool → Option (Option ℕ) → Option ℕ → Option ℕ → Result Setup FenFault
     read_by men side fits target halfmove fullmove = do
@@ -245,9 +253,10 @@ fens_are v text = by_fields (fields_of text)
     by_fields (a ∷ []) = refl
     by_fields (a ∷ b ∷ []) = refl
     by_fields (a ∷ b ∷ c ∷ []) = refl
-    by_fields (a ∷ b ∷ c ∷ d ∷ []) = fields_are v a b c d (codes "0") (codes "1")
+    by_fields (a ∷ b ∷ c ∷ d ∷ []) =
+        of_fields v a b c d (codes "0") (codes "1") ∙ fields_are v a b c d (codes "0") (codes "1")
     by_fields (a ∷ b ∷ c ∷ d ∷ e ∷ []) = refl
-    by_fields (a ∷ b ∷ c ∷ d ∷ e ∷ f ∷ []) = fields_are v a b c d e f
+    by_fields (a ∷ b ∷ c ∷ d ∷ e ∷ f ∷ []) = of_fields v a b c d e f ∙ fields_are v a b c d e f
     by_fields (a ∷ b ∷ c ∷ d ∷ e ∷ f ∷ g ∷ rest) = refl
 
 -- ---- what code reads

@@ -20,10 +20,13 @@ use Rattle.chess_base.specs.Men.{Men, man_at, is_man, other, first_rank}
 use Rattle.chess_base.specs.Castling.{home_square, king_square, is_to_side, right_of}
 use Rattle.chess_base.specs.shared.Parts.{is_on_side_of_king}
 use Rattle.chess_base.specs.shared.Splits.{right_is_sound_at}
-use Rattle.chess_fen.specs.Texts.{times, first_letter, names_file, may_name_right, is_castling_field}
-use Rattle.chess_fen.specs.RightNames.{side_letter, is_towards, names_right, rook_named, right_by, right_in}
-use Rattle.chess_fen.specs.ties.Reader.{names_once}
-use Rattle.chess_fen.specs.Writing.{right_text, or_dash, rights_text}
+use Rattle.chess_fen.specs.ties.Loops.{or_dash, right_text}
+use Rattle.chess_fen.proofs.RightLetters.{rights_are}
+use Rattle.chess_fen.specs.Texts.{first_letter, names_file, may_name_right, is_castling_field}
+use Rattle.chess_fen.specs.RightNames.{side_letter, is_towards, right_by, right_in}
+use Rattle.chess_fen.proofs.RooksNamed.{names_right, rook_by, in_chess960}
+use Rattle.chess_fen.specs.ties.Reader.{times, names_once}
+use Rattle.chess_fen.specs.Writing.{rights_text}
 use Rattle.chess_fen.proofs.Joined.{all_append}
 
 -- what an available right says of king and rook
@@ -105,7 +108,7 @@ names_other_colour men c w s = rw (no_side_letter c (other c) w (file s) (file_i
     refl
 
 pub rook_own : (men : Men) (c : Colour) (w : CastlingSide) (s : ℕ) → rank s ≡ first_rank c
-    → rook_named men c w (first_letter c + file s) ≡ Some s
+    → rook_by men c w (first_letter c + file s) ≡ Some s
 rook_own men c w s home = rw (no_side_letter c c w (file s) (file_in s), file_back c s home) refl
 
 -- ---- of what is written, the letters for one right
@@ -158,7 +161,7 @@ in_turn : (men : Men) (r : Rights) (c : Colour) (w : CastlingSide)
     ++ filter (names_right men c w) (D r)
 in_turn men r c w =
     let names : ℕ → Bool = names_right men c w in
-    after-dash men c w (((A r ++ B r) ++ C r) ++ D r) ∙ filter-append names ((A r ++ B r) ++ C r) (D r)
+    ap (filter names) (rights_are Fischerandom r) ∙ after-dash men c w (((A r ++ B r) ++ C r) ++ D r) ∙ filter-append names ((A r ++ B r) ++ C r) (D r)
     ∙ ap (λ xs. xs ++ filter names (D r))
     (filter-append names (A r ++ B r) (C r) ∙ ap (λ xs. xs ++ filter names (C r)) (filter-append names (A r) (B r)))
 
@@ -201,7 +204,7 @@ own_letters men r Black QueenSide s =
     ) refl
 
 one_right : (men : Men) (c : Colour) (w : CastlingSide) (o : Option ℕ) → right_is_sound_at Fischerandom men c w o ≡ true
-    → right_by (map (rook_named men c w) (right_text Fischerandom c w o)) ≡ Some o
+    → right_by (map (rook_by men c w) (right_text Fischerandom c w o)) ≡ Some o
 one_right men c w None e = refl
 one_right men c w (Some s) e =
     ap (λ rook. right_by (rook ∷ [])) (rook_own men c w s (beside men c w s e).rook_rank)
@@ -209,7 +212,7 @@ one_right men c w (Some s) e =
 pub right_back : (men : Men) (r : Rights) (c : Colour) (w : CastlingSide) → Stand Fischerandom men r
     → right_in Fischerandom men (rights_text Fischerandom r) c w ≡ Some (right_of r c w)
 right_back men r c w s =
-    ap (λ letters. right_by (map (rook_named men c w) letters)) (own_letters men r c w s)
+    in_chess960 men c w (rights_text Fischerandom r) ∙ ap (λ letters. right_by (map (rook_by men c w) letters)) (own_letters men r c w s)
     ∙ one_right men c w (right_of r c w) (s c w)
 
 -- ---- they are letters of rights, none twice
@@ -354,7 +357,7 @@ text_is_castling men r s =
     let b = one_at_most White QueenSide r.white.queen_side in
     let c = one_at_most Black KingSide r.black.king_side in
     let d = one_at_most Black QueenSide r.black.queen_side in
-    castling_or_dash (((A r ++ B r) ++ C r) ++ D r)
+    ap (is_castling_field Fischerandom) (rights_are Fischerandom r) ∙ castling_or_dash (((A r ++ B r) ++ C r) ++ D r)
     (omega (
       arith,
       a,

@@ -1,6 +1,7 @@
 -- What is written for a position is read as that position.
 use Rattle.std.proofs.Common.{◌≡◌, ℕ, zero, suc, ◌+◌, ◌*◌, ◌<◌, ◌≤◌, inl, inr, true, cond, eqb, leb, ltb, List, [], ◌∷◌, ◌++◌, length, take, drop, map, Option, Some, None, refl, sym, ap, subst, ◌∙◌, arith, rules}
 use Rattle.std.specs.Prelude.{replicate, decimal, is_some, Ok, max}
+use Rattle.std.specs.Bool.{then_some}
 use Rattle.std.specs.List.{AllZip, list_all, slice_split}
 use Rattle.std.proofs.lemmas.Bool.Decides.{nat_tests}
 use Rattle.std.proofs.lemmas.List.{append-nil, length-take, length-drop, take_all, length-append}
@@ -24,12 +25,14 @@ use Rattle.chess_base.specs.shared.Splits.{right_is_sound_at}
 use Rattle.chess_base.proofs.shared.Castling.{right_is_sound_of}
 use Rattle.std.proofs.Math.Seq.{take-add}
 use Rattle.text_lines.specs.Words.{short_number}
-use Rattle.chess_fen.specs.RightNames.{side_letter, right_named, right_in, names_rights_well}
-use Rattle.chess_fen.specs.Texts.{number_of, from_top, placement_of, occurs, may_name_right, is_castling_field, fields_of}
-use Rattle.chess_fen.specs.Writing.{fen_rank, placement_text, side_text, right_text, or_dash, rights_text, target_text, fen}
+use Rattle.chess_fen.specs.RightNames.{side_letter, right_in, names_rights_well}
+use Rattle.chess_fen.specs.Texts.{from_top, placement_of, occurs, may_name_right, is_castling_field, fields_of}
+use Rattle.chess_fen.specs.Writing.{fen_rank, placement_text, side_text, rights_text, target_text, fen}
 use Rattle.chess_fen.specs.Denotation.{DenotesSquares, DenotesRank}
-use Rattle.chess_fen.specs.ties.Loops.{ranks_down, run_text, row_text, ranks_text}
+use Rattle.chess_fen.specs.ties.Reader.{right_named}
+use Rattle.chess_fen.specs.ties.Loops.{or_dash, ranks_down, run_text, row_text, ranks_text}
 use Rattle.chess_fen.proofs.DenotedFields.{placement-denoted, side-text, target-denoted}
+use Rattle.chess_fen.proofs.RightLetters.{letters, rights_are}
 use Rattle.chess_fen.proofs.RightsBack.{Stand, right_back, text_is_castling}
 use Rattle.chess_fen.proofs.WrittenRanks.{moved, row_is}
 use Rattle.chess_fen.proofs.Lengths.{short_decimal}
@@ -42,7 +45,7 @@ use Rattle.chess_fen.proofs.Steps.{denoted_in, third}
 pub own : IsNumeralModel (λ ds. list_all is_digit ds ≡ true) (digits_value 10)
 own = numerals_by_value _ (search rules)
 
-pub number-decimal : (n : ℕ) → n < 1000000 → number_of (decimal n) ≡ Some n
+pub number-decimal : (n : ℕ) → n < 1000000 → short_number 6 (decimal n) ≡ Some n
 number-decimal n h =
     let some : 0 < length (decimal n) = decimal_nonempty n (omega arith) in
     let short : length (decimal n) ≤ 6 = short_decimal n h in
@@ -50,9 +53,6 @@ number-decimal n h =
     let t1 : leb (length (decimal n)) 6 ≡ true = grind (arith, nat_tests) in
     let t2 = digits_decimal own n (omega arith) in
     rw (t0, t1, t2, (decimal_is_IsNumeral n (omega arith)).1) refl
-
-pub numbers_are : (text : List ℕ) → number_of text ≡ short_number 6 text
-numbers_are text = refl
 
 -- ---- rights and target
 
@@ -89,23 +89,23 @@ says None None None None = (refl, refl, refl, refl, refl)
 
 -- an available right in normal chess has its rook on its corner
 on_corner : (men : Men) (c : Colour) (w : CastlingSide) (right : Option ℕ) → right_is_sound_at Normal men c w right
-    ≡ true → cond (is_some right) (Some (home_square c (rook_file w))) None ≡ right
+    ≡ true → then_some (is_some right) (home_square c (rook_file w)) ≡ right
 on_corner men c w None e = refl
 on_corner men c w (Some s) e =
     let at : s ≡ home_square c (rook_file w) = grind (arith, nat_tests, e) in ap Some (sym at)
 
 right_read : (men : Men) (r : Rights) → Stand Normal men r → (c : Colour) (w : CastlingSide)
     → right_named (rights_text Normal r) (side_letter c w) (home_square c (rook_file w)) ≡ right_of r c w
-right_read men r s White KingSide = ap (λ b. cond b (Some 7) None)
+right_read men r s White KingSide = ap (λ b. then_some b 7)
     (says r.white.king_side r.white.queen_side r.black.king_side r.black.queen_side).1
     ∙ on_corner men White KingSide r.white.king_side (s White KingSide)
-right_read men r s White QueenSide = ap (λ b. cond b (Some 0) None)
+right_read men r s White QueenSide = ap (λ b. then_some b 0)
     (says r.white.king_side r.white.queen_side r.black.king_side r.black.queen_side).2
     ∙ on_corner men White QueenSide r.white.queen_side (s White QueenSide)
-right_read men r s Black KingSide = ap (λ b. cond b (Some 63) None)
+right_read men r s Black KingSide = ap (λ b. then_some b 63)
     (says r.white.king_side r.white.queen_side r.black.king_side r.black.queen_side).3
     ∙ on_corner men Black KingSide r.black.king_side (s Black KingSide)
-right_read men r s Black QueenSide = ap (λ b. cond b (Some 56) None)
+right_read men r s Black QueenSide = ap (λ b. then_some b 56)
     (says r.white.king_side r.white.queen_side r.black.king_side r.black.queen_side).4
     ∙ on_corner men Black QueenSide r.black.queen_side (s Black QueenSide)
 
@@ -203,10 +203,7 @@ dash_some [] = omega arith
 dash_some (c ∷ cs) = omega arith
 
 rights_some : (v : Variant) (r : Rights) → 0 < length (rights_text v r)
-rights_some v r =
-    dash_some
-    (((right_text v White KingSide r.white.king_side ++ right_text v White QueenSide r.white.queen_side)
-    ++ right_text v Black KingSide r.black.king_side) ++ right_text v Black QueenSide r.black.queen_side)
+rights_some v r = subst (λ text. 0 < length text) (sym (rights_are v r)) (dash_some (letters v r))
 
 target_some : (target : Option ℕ) → 0 < length (target_text target)
 target_some None = omega arith

@@ -1,8 +1,8 @@
 -- The position that the six fields of a FEN denote, by what each of them denotes, and the reading of a list of fields as
 -- that of the position, sound or not, and of its conditions: a proof goes through the cases.
-use Rattle.std.proofs.Common.{◌≡◌, ℕ, Bool, cond, List, [], ◌∷◌, get_or, Option, Result, Ok, Err, refl}
+use Rattle.std.proofs.Common.{◌≡◌, ℕ, Bool, true, false, cond, List, [], ◌∷◌, get_or, Option, Some, None, Result, Ok, Err, refl}
 use Rattle.std.specs.Prelude.{max, codes}
-use Rattle.std.specs.Option.{ok_or}
+use Rattle.std.specs.Option.{ok_or, option_map_or}
 use Rattle.chess_base.specs.declared.fen_fault.FenFault.{FenFault}
 use Rattle.chess_base.specs.declared.fen_fault.FenFault.TheVariants as faults
 use Rattle.chess_base.specs.declared.man.Colour.{Colour}
@@ -10,8 +10,10 @@ use Rattle.chess_base.specs.declared.man.Variant.{Variant}
 use Rattle.chess_base.specs.declared.setup.Setup.{Setup}
 use Rattle.chess_base.specs.Faults.{first_failing}
 use Rattle.chess_base.specs.Men.{Men}
+use Rattle.text_lines.specs.Words.{short_number}
 use Rattle.chess_fen.specs.RightNames.{rights_in}
-use Rattle.chess_fen.specs.Reading.{◌>>=◌, denoted_by, conditions_of, unless_fault, reading_in}
+use Rattle.chess_fen.specs.Reading.{◌>>=◌, side_of, target_of, conditions_of, reading_by, reading_in}
+use Rattle.chess_fen.specs.Texts.{placement_of, is_castling_field}
 
 -- `castling` is the third field, and `fits` whether it has the form of one
 abbrev pub steps : Variant → List ℕ → Option Men → Option Colour → Bool → Option (Option ℕ) → Option ℕ → Option ℕ
@@ -33,6 +35,16 @@ steps v castling men side fits target halfmove fullmove = do
     fullmove = max number 1;
   })
 
+-- the position that the six fields of a FEN denote, sound or not; or the fault of the first field that denotes nothing
+abbrev pub denoted_by : Variant → List ℕ → List ℕ → List ℕ → List ℕ → List ℕ → List ℕ → Result Setup FenFault
+denoted_by v placement side castling target halfmove fullmove =
+    steps v castling (placement_of placement) (side_of side) (is_castling_field v castling) (target_of target)
+    (short_number 6 halfmove) (short_number 6 fullmove)
+
+-- `Ok p` if the optional fault is none, otherwise that fault as an error
+abbrev pub unless_fault : Setup → Option FenFault → Result Setup FenFault
+unless_fault p fault = option_map_or Err fault (Ok p)
+
 -- the position, if no condition fails
 abbrev pub if_fit : List ℕ → Setup → Result Setup FenFault
 if_fit letters p = unless_fault p (first_failing (conditions_of letters p))
@@ -47,13 +59,47 @@ denoted_in v _ = Err faults.Fields
 abbrev pub third : List (List ℕ) → List ℕ
 third fields = get_or fields 2 []
 
+-- the reading of six fields as that of the position, and of its conditions
+pub of_fields : (v : Variant) (a b c d e f : List ℕ) → reading_by v a b c d e f ≡ (denoted_by v a b c d e f >>= if_fit c)
+of_fields v a b c d e f =
+    by_steps (placement_of a) (side_of b) (is_castling_field v c) (target_of d) (short_number 6 e) (short_number 6 f)
+  where
+    read_by : Option Men → Option Colour → Bool → Option (Option ℕ) → Option ℕ → Option ℕ → Result Setup FenFault
+    read_by men side fits target halfmove fullmove = do
+      pieces ← ok_or men faults.Placement
+      colour ← ok_or side faults.Side
+      named ← cond fits (Ok (rights_in v pieces c)) (Err faults.Castling)
+      passed ← ok_or target faults.EnPassant
+      clock ← ok_or halfmove faults.Counters
+      number ← ok_or fullmove faults.Counters
+      if_fit c (record {
+        variant = v;
+        men = pieces;
+        side = colour;
+        rights = named;
+        target = passed;
+        halfmove = clock;
+        fullmove = max number 1;
+      })
+
+    by_steps : (men : Option Men) (side : Option Colour) (fits : Bool) (target : Option (Option ℕ))
+        (halfmove fullmove : Option ℕ)
+        → read_by men side fits target halfmove fullmove ≡ (steps v c men side fits target halfmove fullmove >>= if_fit c)
+    by_steps None side fits target halfmove fullmove = refl
+    by_steps (Some men) None fits target halfmove fullmove = refl
+    by_steps (Some men) (Some colour) false target halfmove fullmove = refl
+    by_steps (Some men) (Some colour) true None halfmove fullmove = refl
+    by_steps (Some men) (Some colour) true (Some target) None fullmove = refl
+    by_steps (Some men) (Some colour) true (Some target) (Some halfmove) None = refl
+    by_steps (Some men) (Some colour) true (Some target) (Some halfmove) (Some fullmove) = refl
+
 pub reading-steps : (v : Variant) (fields : List (List ℕ))
     → reading_in v fields ≡ (denoted_in v fields >>= if_fit (third fields))
 reading-steps v [] = refl
 reading-steps v (a ∷ []) = refl
 reading-steps v (a ∷ b ∷ []) = refl
 reading-steps v (a ∷ b ∷ c ∷ []) = refl
-reading-steps v (a ∷ b ∷ c ∷ d ∷ []) = refl
+reading-steps v (a ∷ b ∷ c ∷ d ∷ []) = of_fields v a b c d (codes "0") (codes "1")
 reading-steps v (a ∷ b ∷ c ∷ d ∷ e ∷ []) = refl
-reading-steps v (a ∷ b ∷ c ∷ d ∷ e ∷ f ∷ []) = refl
+reading-steps v (a ∷ b ∷ c ∷ d ∷ e ∷ f ∷ []) = of_fields v a b c d e f
 reading-steps v (a ∷ b ∷ c ∷ d ∷ e ∷ f ∷ g ∷ more) = refl

@@ -8,8 +8,9 @@ use Rattle.chess_base.specs.declared.man.Variant.TheVariants.{Normal}
 use Rattle.chess_base.specs.Squares.{rank}
 use Rattle.chess_base.specs.declared.setup.Setup.{Setup}
 use Rattle.chess_base.specs.Letters.{byte, letter}
+use Rattle.text_lines.specs.Words.{short_number}
 use Rattle.chess_fen.specs.RightNames.{names_rights_well, rights_in}
-use Rattle.chess_fen.specs.Texts.{from_top, number_of, is_castling_field, fields_of}
+use Rattle.chess_fen.specs.Texts.{from_top, is_castling_field, fields_of}
 use Rattle.chess_fen.specs.Writing.{side_text, target_text}
 
 -- one byte of a rank's text denotes these squares: a piece's letter one square with that piece, a digit n from 1 to 8 n
@@ -44,7 +45,7 @@ abbrev pub DenotesCounters : List (List ℕ) → ℕ → ℕ → Type 0
 DenotesCounters [] halfmove fullmove = (halfmove ≡ 0) × (fullmove ≡ 1)
 DenotesCounters (a ∷ []) halfmove fullmove = ⊥
 DenotesCounters (a ∷ b ∷ []) halfmove fullmove =
-    (number_of a ≡ Some halfmove) × ((n : ℕ) × (number_of b ≡ Some n) × (fullmove ≡ max n 1))
+    (short_number 6 a ≡ Some halfmove) × ((n : ℕ) × (short_number 6 b ≡ Some n) × (fullmove ≡ max n 1))
 DenotesCounters (a ∷ b ∷ c ∷ more) halfmove fullmove = ⊥
 
 -- the fields of a FEN of variant v denote position p, sound or not: a the pieces, b the side on move, c the castling

@@ -2,8 +2,9 @@
 -- counters may be left out, and a fullmove number of 0 is read as 1. Denotation and FenFaults say the same of a text
 -- and a position or a fault, with relations for the placement, the side, the target and the order of faults; that both
 -- agree is proved by the clauses `found`, `only`, `fault` and `refused` of `read_fen_as`.
-use Rattle.std.specs.Prelude.{ℕ, max, codes, Bool, List, [], ◌∷◌, ◌++◌, take, drop, Option, Some, None, Result, Ok, Err, ◌==◌, if◌then◌else◌}
+use Rattle.std.specs.Prelude.{ℕ, max, codes, Bool, List, [], ◌∷◌, ◌++◌, take, drop, map, filter, find, ◌||◌, Option, Some, None, Result, Ok, Err, ◌==◌, if◌then◌else◌}
 use Rattle.std.specs.Option.{ok_or, option_map_or}
+use Rattle.std.specs.Str.{bytes_eq}
 use Rattle.chess_base.specs.declared.man.Colour.{Colour}
 use Rattle.chess_base.specs.declared.man.Colour.TheVariants.{White, Black}
 use Rattle.chess_base.specs.declared.man.Variant.{Variant}
@@ -12,9 +13,12 @@ use Rattle.chess_base.specs.declared.setup.Setup.{Setup}
 use Rattle.chess_base.specs.Faults.{conditions, first_failing}
 use Rattle.chess_base.specs.declared.fen_fault.FenFault.{FenFault}
 use Rattle.chess_base.specs.declared.fen_fault.FenFault.TheVariants as faults
-use Rattle.chess_base.specs.Letters.{byte}
+use Rattle.chess_base.specs.MoveList.{squares}
+use Rattle.chess_base.specs.Squares.{rank}
+use Rattle.text_lines.specs.Words.{short_number}
 use Rattle.chess_fen.specs.RightNames.{names_rights_well, rights_in}
-use Rattle.chess_fen.specs.Texts.{placement_of, is_castling_field, target_of, number_of, fields_of}
+use Rattle.chess_fen.specs.Texts.{placement_of, is_castling_field, fields_of}
+use Rattle.chess_fen.specs.Writing.{side_text, target_text}
 
 infixl 10 ◌>>=◌
 -- goes on with f from a step's value, or stops with its error: so a chain of steps gives the first error
@@ -24,28 +28,13 @@ abbrev pub ◌>>=◌ : {A B E : Type 0} → Result A E → (A → Result B E) �
 
 -- the side that a FEN's second field denotes, by w or b; none for any other text
 abbrev pub side_of : List ℕ → Option Colour
-side_of (c ∷ []) = if c == byte "w" then Some White else (if c == byte "b" then Some Black else None)
-side_of _ = None
+side_of text = find (λ colour. bytes_eq text (side_text colour)) (White ∷ Black ∷ [])
 
--- the position that the six fields of a FEN denote, from left to right, sound or not; or the fault of the first field
--- that denotes nothing. A castling right that is named wrongly is not there, and a fullmove number of 0 is read as 1
-abbrev pub denoted_by : Variant → List ℕ → List ℕ → List ℕ → List ℕ → List ℕ → List ℕ → Result Setup FenFault
-denoted_by v placement side castling target halfmove fullmove = do
-  pieces ← ok_or (placement_of placement) faults.Placement
-  colour ← ok_or (side_of side) faults.Side
-  named ← if is_castling_field v castling then Ok (rights_in v pieces castling) else Err faults.Castling
-  passed ← ok_or (target_of target) faults.EnPassant
-  clock ← ok_or (number_of halfmove) faults.Counters
-  number ← ok_or (number_of fullmove) faults.Counters
-  Ok (record {
-    variant = v;
-    men = pieces;
-    side = colour;
-    rights = named;
-    target = passed;
-    halfmove = clock;
-    fullmove = max number 1;
-  })
+-- what a FEN's fourth field denotes: a dash denotes no target (`Some None`), the name of a square on rank 3 or 6 that
+-- square (e3 is `Some (Some 20)`). `None` for any other text
+abbrev pub target_of : List ℕ → Option (Option ℕ)
+target_of text = find (λ target. bytes_eq text (target_text target))
+    (None ∷ map Some (filter (λ s. (rank s == 2) || (rank s == 5)) squares))
 
 -- each fault with the condition whose failure it reports, in the order in which they are checked: the seven conditions
 -- of soundness (`conditions`), and between the fourth and the fifth, which is about castling rights, that the castling
@@ -54,16 +43,27 @@ abbrev pub conditions_of : List ℕ → Setup → List (FenFault × Bool)
 conditions_of letters p =
     take 4 (conditions p) ++ ((faults.Castling, names_rights_well p.variant p.men letters) ∷ drop 4 (conditions p))
 
--- `Ok p` if the optional fault is none, otherwise that fault as an error
-abbrev pub unless_fault : Setup → Option FenFault → Result Setup FenFault
-unless_fault p fault = option_map_or Err fault (Ok p)
-
--- the sound position that the six fields of a FEN denote; or the fault: of the first field that denotes nothing, or of
--- the first condition that fails
+-- the sound position that the six fields of a FEN denote; or the fault: of the first field, from left to right, that
+-- denotes nothing, or of the first condition that what they denote, the position p, fails. A castling right that is
+-- named wrongly is not there, and a fullmove number of 0 is read as 1
 abbrev pub reading_by : Variant → List ℕ → List ℕ → List ℕ → List ℕ → List ℕ → List ℕ → Result Setup FenFault
-reading_by v placement side castling target halfmove fullmove =
-    denoted_by v placement side castling target halfmove fullmove
-    >>= λ p. unless_fault p (first_failing (conditions_of castling p))
+reading_by v placement side castling target halfmove fullmove = do
+  pieces ← ok_or (placement_of placement) faults.Placement
+  colour ← ok_or (side_of side) faults.Side
+  named ← if is_castling_field v castling then Ok (rights_in v pieces castling) else Err faults.Castling
+  passed ← ok_or (target_of target) faults.EnPassant
+  clock ← ok_or (short_number 6 halfmove) faults.Counters
+  number ← ok_or (short_number 6 fullmove) faults.Counters
+  p ← Ok (record {
+    variant = v;
+    men = pieces;
+    side = colour;
+    rights = named;
+    target = passed;
+    halfmove = clock;
+    fullmove = max number 1;
+  })
+  option_map_or Err (first_failing (conditions_of castling p)) (Ok p)
 
 -- the sound position that a list of a FEN's fields denotes, or the fault. There must be six fields, or four, and then
 -- the counters are 0 and 1; any other number of fields is a fault

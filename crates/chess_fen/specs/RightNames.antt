@@ -1,8 +1,9 @@
 -- Which rights the letters of a FEN name: in normal chess K, Q, k and q (PGN standard of 1994, section 16.1.3.3); in
 -- Chess960 a rook by its file (Shredder-FEN), or the outermost one by its side (X-FEN).
-use Rattle.std.specs.Prelude.{ℕ, ◌+◌, ◌-◌, ◌==◌, nat_lt, Bool, false, not, ◌&&◌, ◌||◌, List, [], ◌∷◌, map, find, Option, Some, None, is_some, if◌then◌else◌, option_and_then}
-use Rattle.std.specs.List.{list_all, filter}
-use Rattle.std.specs.Option.{option_map_or}
+use Rattle.std.specs.Prelude.{ℕ, ◌+◌, ◌-◌, ◌==◌, nat_lt, Bool, false, not, ◌&&◌, ◌||◌, List, [], ◌∷◌, map, find, Option, Some, None, is_some, if◌then◌else◌}
+use Rattle.std.specs.Bool.{then_some}
+use Rattle.std.specs.List.{list_all, filter_map}
+use Rattle.std.specs.Option.{option_flatten, option_map_or}
 use Rattle.chess_base.specs.declared.man.Colour.{Colour}
 use Rattle.chess_base.specs.declared.man.Colour.TheVariants.{White, Black}
 use Rattle.chess_base.specs.declared.man.CastlingSide.{CastlingSide}
@@ -17,6 +18,10 @@ use Rattle.chess_base.specs.Castling.{home_square, king_square, rook_file, right
 use Rattle.chess_base.specs.Letters.{letter_by}
 use Rattle.chess_fen.specs.Texts.{occurs, first_letter, names_file}
 
+-- the four castling rights, each by its colour and its side, in the order in which a FEN names them
+abbrev pub all_rights : List (Colour × CastlingSide)
+all_rights = (White, KingSide) ∷ (White, QueenSide) ∷ (Black, KingSide) ∷ (Black, QueenSide) ∷ []
+
 -- the letter by which a FEN of normal chess names colour c's castling right on that side: K or Q for White, k or q for
 -- Black
 abbrev pub side_letter : Colour → CastlingSide → ℕ
@@ -28,13 +33,6 @@ side_letter c QueenSide = letter_by c Queen
 abbrev pub right_letter : Variant → Colour → CastlingSide → ℕ → ℕ
 right_letter Normal c w s = side_letter c w
 right_letter Fischerandom c w s = first_letter c + file s
-
--- ---- normal chess
-
--- normal chess: the castling right with this letter, given as its rook's square: `corner` if the letter is in the
--- castling field `letters`, otherwise `None`
-abbrev pub right_named : List ℕ → ℕ → ℕ → Option ℕ
-right_named letters letter corner = if occurs letter letters then Some corner else None
 
 -- ---- Chess960
 
@@ -51,19 +49,15 @@ abbrev pub is_towards : CastlingSide → Option ℕ → ℕ → Bool
 is_towards QueenSide king s = option_map_or (λ k. nat_lt s k) king false
 is_towards KingSide king s = not (option_map_or (λ k. nat_lt s k) king false)
 
--- the letter names colour c's right on side w: it is c's letter of that side (K or Q, k or q), or c's letter (A to H, a
--- to h) of a file on that side of c's king
-abbrev pub names_right : Men → Colour → CastlingSide → ℕ → Bool
-names_right men c w letter = letter == side_letter c w
-    || names_file c letter && is_towards w (king_square men c) (home_square c (letter - first_letter c))
-
--- the rook's square by a letter that names colour c's right on side w (`names_right`). The side's letter gives the
--- square of the rook of c on its first rank that is nearest to the board's edge on side w, none if it has no rook
--- there. A file's letter gives the square on that file of c's first rank, with or without a rook
-abbrev pub rook_named : Men → Colour → CastlingSide → ℕ → Option ℕ
+-- the rook's square by which the letter names colour c's right on side w; `None` if it names another right, `Some None`
+-- if it names this one, but there is no rook. c's letter of that side (K or Q, k or q) names the rook of c on its first
+-- rank that is nearest to the board's edge on side w. c's letter (A to H, a to h) of a file on that side of c's king
+-- names the square on that file of c's first rank, with or without a rook
+abbrev pub rook_named : Men → Colour → CastlingSide → ℕ → Option (Option ℕ)
 rook_named men c w letter =
-    if letter == side_letter c w then find (λ s. is_man c Rook (man_at men s)) (from_edge c w)
-    else Some (home_square c (letter - first_letter c))
+    let s = home_square c (letter - first_letter c) in
+    if letter == side_letter c w then Some (find (λ t. is_man c Rook (man_at men t)) (from_edge c w))
+    else then_some (names_file c letter && is_towards w (king_square men c) s) (Some s)
 
 -- one castling right, from what `rook_named` gives for each letter that names it. No letter: the right is not there
 -- (`Some None`). One letter, for which there is a rook: the right is there, given as the rook's square. Several
@@ -76,19 +70,18 @@ right_by _ = None
 -- ---- both
 
 -- colour c's castling right on side w by the letters of a castling field: its rook's square, or `Some None` if it is
--- not there. `None` if the letters name it wrongly (`right_by`), which they never do in normal chess
+-- not there. In normal chess it is there if its letter (K, Q, k or q) is, with the rook in the corner. `None` if the
+-- letters name it wrongly (`right_by`), which they never do in normal chess
 abbrev pub right_in : Variant → Men → List ℕ → Colour → CastlingSide → Option (Option ℕ)
-right_in Normal men letters c w = Some (right_named letters (side_letter c w) (home_square c (rook_file w)))
-right_in Fischerandom men letters c w = right_by (map (rook_named men c w) (filter (names_right men c w) letters))
+right_in Normal men letters c w = Some (then_some (occurs (side_letter c w) letters) (home_square c (rook_file w)))
+right_in Fischerandom men letters c w = right_by (filter_map (rook_named men c w) letters)
 
 -- whether a castling field's letters name no right wrongly. In Chess960 two letters for one right do, and a side's
 -- letter (K, Q, k or q) does if its colour has no rook on its first rank; whether a file's letter finds a rook is not
 -- tested here. A right without a letter is not there, which is no fault. In normal chess no right is named wrongly
 abbrev pub names_rights_well : Variant → Men → List ℕ → Bool
-names_rights_well v men letters = list_all
-    (λ c. is_some (right_in v men letters c KingSide) && is_some (right_in v men letters c QueenSide))
-    (White ∷ Black ∷ [])
+names_rights_well v men letters = list_all (λ r. is_some (right_in v men letters r.0 r.1)) all_rights
 
 -- the rights that the letters name, without those that are named wrongly
 abbrev pub rights_in : Variant → Men → List ℕ → Rights
-rights_in v men letters = rights_by (λ c w. option_and_then (λ right. right) (right_in v men letters c w))
+rights_in v men letters = rights_by (λ c w. option_flatten (right_in v men letters c w))

@@ -1,24 +1,17 @@
 -- What the fields of a FEN stand for (PGN standard of 1994, section 16.1.3). This project's additions to the standard:
 -- several spaces between fields and at both ends, digits of empty squares one after the other, letters of rights in any
 -- order, leading zeros. Its own limit: a counter has at most six digits.
-use Rattle.std.specs.Prelude.{ℕ, codes, count_by, ◌+◌, ◌-◌, ◌*◌, Bool, ◌&&◌, ◌||◌, List, [], ◌∷◌, ◌++◌, length, map, replicate, Option, Some, None, nat_lt, nat_le, ◌==◌, if◌then◌else◌, option_and_then}
+use Rattle.std.specs.Prelude.{ℕ, codes, count_by, ◌+◌, ◌-◌, Bool, ◌&&◌, ◌||◌, List, [], ◌∷◌, ◌++◌, length, map, replicate, Option, Some, None, nat_lt, nat_le, ◌==◌, if◌then◌else◌, option_and_then}
 use Rattle.std.specs.List.{slice_split, list_all, list_any, flat_map, filter}
 use Rattle.std.specs.Option.{option_map}
 use Rattle.std.specs.Str.{bytes_eq}
-use Rattle.std.specs.Str.Parse.{digits_value}
 use Rattle.chess_base.specs.declared.man.Variant.{Variant}
 use Rattle.chess_base.specs.declared.man.Variant.TheVariants.{Normal, Fischerandom}
 use Rattle.chess_base.specs.declared.man.Colour.{Colour}
 use Rattle.chess_base.specs.declared.man.Colour.TheVariants.{White, Black}
 use Rattle.chess_base.specs.declared.man.Man.{Man}
-use Rattle.chess_base.specs.Letters.{byte, space, is_digit, man_with_letter}
-
--- ---- numbers
-
--- a FEN's counter: the number that one to six digits denote; none for any other text
-abbrev pub number_of : List ℕ → Option ℕ
-number_of text = if nat_lt 0 (length text) && nat_le (length text) 6 && list_all is_digit text
-    then Some (digits_value 10 text) else None
+use Rattle.chess_base.specs.ByColour.{by_colour}
+use Rattle.chess_base.specs.Letters.{byte, space, man_with_letter}
 
 -- ---- ranks
 
@@ -54,18 +47,13 @@ placement_of text = let ranks = slice_split (λ c. c == byte "/") text in
 
 -- ---- castling
 
--- how often the byte c occurs in the text
-abbrev pub times : ℕ → List ℕ → ℕ
-times c text = count_by (λ b. b == c) text
-
 -- whether the byte c occurs in the text
 abbrev pub occurs : ℕ → List ℕ → Bool
 occurs c text = list_any (λ b. b == c) text
 
 -- the letter of file a for a colour's rooks in a castling field of Chess960: A for White, a for Black
 abbrev pub first_letter : Colour → ℕ
-first_letter White = byte "A"
-first_letter Black = byte "a"
+first_letter = by_colour (byte "A") (byte "a")
 
 -- the letter is that of a file for colour c's rooks: A to H for White, a to h for Black
 abbrev pub names_file : Colour → ℕ → Bool
@@ -76,24 +64,12 @@ unfoldable pub may_name_right : Variant → ℕ → Bool
 may_name_right Normal letter = occurs letter (codes "KQkq")
 may_name_right Fischerandom letter = occurs letter (codes "KQkq") || names_file White letter || names_file Black letter
 
--- the text is one to four letters, each of which may name a right and occurs once
-abbrev pub are_right_letters : Variant → List ℕ → Bool
-are_right_letters v text =
-    nat_lt 0 (length text) && nat_le (length text) 4 && list_all (λ c. may_name_right v c && (times c text == 1)) text
-
--- the text has the form of a FEN's castling field: a dash, or one to four different letters that may name rights
+-- the text has the form of a FEN's castling field: a dash, or one to four letters, each of which may name a right and
+-- occurs once
 abbrev pub is_castling_field : Variant → List ℕ → Bool
-is_castling_field v text = bytes_eq text (codes "-") || are_right_letters v text
-
--- ---- target
-
--- what a FEN's fourth field denotes: a dash denotes no target (`Some None`), the name of a square on rank 3 or 6 that
--- square (e3 is `Some (Some 20)`). `None` for any other text
-abbrev pub target_of : List ℕ → Option (Option ℕ)
-target_of (c ∷ []) = if c == byte "-" then Some None else None
-target_of (f ∷ r ∷ []) = if nat_le (byte "a") f && nat_le f (byte "h")
-    && (r == byte "3" || r == byte "6") then Some (Some (8 * (r - byte "1") + (f - byte "a"))) else None
-target_of _ = None
+is_castling_field v text = bytes_eq text (codes "-")
+    || (nat_lt 0 (length text) && nat_le (length text) 4
+    && list_all (λ c. may_name_right v c && (count_by (λ b. b == c) text == 1)) text)
 
 -- ---- fields
 

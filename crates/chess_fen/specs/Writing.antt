@@ -1,18 +1,17 @@
 -- The one FEN that is written for a position (PGN standard of 1994, section 16.1). The target is written as the
 -- position holds it, whether or not it can be captured on; numbers have no leading zeros.
-use Rattle.std.specs.Prelude.{ℕ, Bool, suc, ◌*◌, List, [], ◌∷◌, ◌++◌, map, take, drop, Option, Some, None, decimal, codes}
-use Rattle.std.specs.List.{join_with_byte}
-use Rattle.std.specs.Option.{option_map_or}
+use Rattle.std.specs.Prelude.{ℕ, Bool, suc, ◌*◌, ◌==◌, if◌then◌else◌, length, List, [], ◌∷◌, ◌++◌, map, take, drop, Option, Some, None, decimal, codes}
+use Rattle.std.specs.List.{filter_map, join_with_byte}
+use Rattle.std.specs.Option.{option_map, option_map_or}
 use Rattle.chess_base.specs.declared.man.Man.{Man}
 use Rattle.chess_base.specs.declared.man.Colour.{Colour}
-use Rattle.chess_base.specs.declared.man.Colour.TheVariants.{White, Black}
-use Rattle.chess_base.specs.declared.man.CastlingSide.TheVariants.{KingSide, QueenSide}
 use Rattle.chess_base.specs.declared.man.Variant.{Variant}
-use Rattle.chess_base.specs.declared.man.CastlingSide.{CastlingSide}
 use Rattle.chess_base.specs.declared.man.Rights.{Rights}
-use Rattle.chess_fen.specs.RightNames.{right_letter}
+use Rattle.chess_fen.specs.RightNames.{all_rights, right_letter}
 use Rattle.chess_base.specs.declared.setup.Setup.{Setup}
 use Rattle.chess_base.specs.Letters.{byte, space, square_text, letter}
+use Rattle.chess_base.specs.ByColour.{by_colour}
+use Rattle.chess_base.specs.Castling.{right_of}
 use Rattle.chess_base.specs.Initial.{initial_setup}
 use Rattle.std.specs.Str.{bytes_eq}
 
@@ -36,25 +35,14 @@ placement_text men = join_with_byte (byte "/")
 
 -- a FEN's second field: w or b for the side on move
 abbrev pub side_text : Colour → List ℕ
-side_text White = codes "w"
-side_text Black = codes "b"
+side_text = by_colour (codes "w") (codes "b")
 
--- the letter of a castling right, given as its rook's square: K, Q, k or q, in Chess960 that of the rook's file
--- (Shredder-FEN); nothing if there is no right
-abbrev pub right_text : Variant → Colour → CastlingSide → Option ℕ → List ℕ
-right_text v c w right = option_map_or (λ s. right_letter v c w s ∷ []) right []
-
--- the text, or a dash if it is empty
-abbrev pub or_dash : List ℕ → List ℕ
-or_dash [] = codes "-"
-or_dash (c ∷ cs) = c ∷ cs
-
--- a FEN's third field: the letters of White's right on the king's side and on the queen's, then of Black's (in normal
--- chess in the order KQkq), or a dash
+-- a FEN's third field: of the four castling rights those that are there, each by its letter (`right_letter`), or a
+-- dash. In normal chess they come in the order KQkq
 abbrev pub rights_text : Variant → Rights → List ℕ
-rights_text v r =
-    or_dash (right_text v White KingSide r.white.king_side ++ right_text v White QueenSide r.white.queen_side
-    ++ right_text v Black KingSide r.black.king_side ++ right_text v Black QueenSide r.black.queen_side)
+rights_text v rights =
+    let letters = filter_map (λ r. option_map (right_letter v r.0 r.1) (right_of rights r.0 r.1)) all_rights in
+    if length letters == 0 then codes "-" else letters
 
 -- a FEN's fourth field: the name of the en passant target, or a dash for none
 abbrev pub target_text : Option ℕ → List ℕ

@@ -2,10 +2,10 @@
 
 ghost use Rattle.std.specs.Prelude.{◌≡◌, ◌<◌, [], None, codes};
 ghost use Rattle.std.specs.List.{list_all};
-ghost use Rattle.chess_fen.specs.Texts.{occurs, times, may_name_right, are_right_letters, first_letter, names_file};
-ghost use Rattle.chess_fen.specs.RightNames.{side_letter, right_letter, right_named, is_towards};
+ghost use Rattle.chess_fen.specs.Texts.{occurs, may_name_right, first_letter, names_file};
+ghost use Rattle.chess_fen.specs.RightNames.{side_letter, right_letter, is_towards};
 ghost use Rattle.chess_fen.specs.ties.Loops.{edge_file};
-ghost use Rattle.chess_fen.specs.ties.Reader.{names_once, nowhere, outer_rook, named_square, one_or_nowhere, right_after_letters, right_by_letters};
+ghost use Rattle.chess_fen.specs.ties.Reader.{times, names_once, are_right_letters, right_named, nowhere, outer_rook, named_square, one_or_nowhere, right_after_letters, right_by_letters};
 ghost use Rattle.chess_base.specs.Castling.{home_square, rook_file, rights_by};
 ghost use Rattle.chess_base.specs.declared.man.CastlingSide.TheVariants.{KingSide, QueenSide};
 ghost use Rattle.chess_base.specs.declared.man.Variant.TheVariants.{Normal, Fischerandom};

@@ -8,11 +8,12 @@ ghost use Rattle.chess_base.specs.declared.man.Man.{Man};
 ghost use Rattle.chess_base.specs.declared.man.Variant.TheVariants.{Normal, Fischerandom};
 ghost use Rattle.chess_base.specs.declared.setup.Setup.{Setup};
 ghost use Rattle.chess_base.specs.Initial.{man_of};
-ghost use Rattle.chess_fen.specs.Reading.{denoted_by, fen_reading_as};
+ghost use Rattle.chess_fen.specs.Denotation.{DenotesFenAs};
+ghost use Rattle.chess_fen.specs.Reading.{fen_reading_as};
 ghost use Rattle.chess_fen.specs.RightNames.{right_in, names_rights_well};
 ghost use Rattle.chess_fen.specs.Texts.{fields_of};
 ghost use Rattle.chess_fen.specs.Writing.{fen, fen_rank};
-ghost use Rattle.chess_fen.specs.laws.Examples.{kings_and_pawn, kings_and_pawn_men, three_rooks};
+ghost use Rattle.chess_fen.specs.laws.Examples.{kings_and_pawn, three_rooks};
 ghost use Rattle.chess_fen.specs.laws.Normal.{normal_fen, normal_fen_reading};
 ghost use Rattle.chess_fen.specs.laws.Laws.{WrittenIsDenoted, WrittenDenotesNoOther, WrittenIsReadBack, RightsAreNamed};
 ghost use Rattle.chess_fen.specs.laws.RankTexts.{IsRankText};
@@ -53,9 +54,7 @@ pub fn fens_are_worked_out()
     // The third field names no right, and no right wrongly.
     ensures fields { (fields_of (codes "4k3/8/8/8/8/8/4P3/4K3 b - - 5 39")
         ≡ codes "4k3/8/8/8/8/8/4P3/4K3" ∷ codes "b" ∷ codes "-" ∷ codes "-" ∷ codes "5" ∷ codes "39" ∷ [])
-        × (denoted_by Normal (codes "4k3/8/8/8/8/8/4P3/4K3") (codes "b") (codes "-") (codes "-") (codes "5")
-        (codes "39") ≡ Ok kings_and_pawn)
-        × (names_rights_well Normal kings_and_pawn_men (codes "-") ≡ true) }
+        × DenotesFenAs Normal (codes "4k3/8/8/8/8/8/4P3/4K3 b - - 5 39") kings_and_pawn }
     ensures rank { IsRankText (replicate 4 None ++ (man_of White Pawn ∷ replicate 3 None)) (codes "4P3") }
     // The outermost rook on the king's side is on h1, the only one on the queen's side on b1.
     ensures side { right_in Fischerandom three_rooks (codes "KQ") White KingSide ≡ Some (Some 7) }

@@ -7,8 +7,8 @@ ghost use Rattle.chess_base.specs.Sound.{IsSound};
 ghost use Rattle.chess_base.specs.declared.fen_fault.FenFault.{FenFault};
 ghost use Rattle.chess_fen.specs.FenFaults.{IsFault, IsFaultAs};
 ghost use Rattle.chess_fen.specs.Texts.{placement_of, fields_of};
-ghost use Rattle.chess_fen.specs.Reading.{side_of, fen_reading, fen_reading_as};
-ghost use Rattle.chess_fen.specs.ties.Reader.{rights_of, setup_with, setup_in};
+ghost use Rattle.chess_fen.specs.Reading.{fen_reading, fen_reading_as};
+ghost use Rattle.chess_fen.specs.ties.Reader.{side_by, rights_of, setup_with, setup_in};
 ghost use Rattle.chess_fen.specs.Denotation.{DenotesFen, DenotesFenAs};
 
 use crate::castling_rights::{are_right_letters, rights_by_letters};
@@ -20,7 +20,7 @@ use chess_base::{Colour, FenFault, Man, Position, Rights, Setup, Square, Variant
 
 // The side that a FEN's second field denotes, by `w` or `b`; none for any other text.
 fn read_side(text: &[u8]) -> Option<Colour>
-    ensures { result ≡ side_of text.now }
+    ensures { result ≡ side_by text.now }
 {
     match text {
         b"w" => Some(Colour::White),

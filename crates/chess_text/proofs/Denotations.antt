@@ -1,10 +1,13 @@
--- The texts that the definition lists for a move are those of the parts that fit it.
+-- The texts that the definition lists for a move are those of the parts that fit it. Proofs go through the lists of this
+-- file, which are equal to those of the definition (`texts_alike`).
 use Rattle.std.proofs.Common.{◌≡◌, ℕ, ◌<◌, ◌↔◌, IsTrue, inl, inr, Bool, true, false, not, ◌||◌, ◌==◌, Option, Some, None, List, [], ◌∷◌, ◌++◌, append_assoc, refl, sym, ap, subst, ◌∙◌, arith, if◌then◌else◌}
 use Rattle.std.specs.Prelude.{IfSome, is_some, is_none}
 use Rattle.std.specs.List.{AllByRecursion, list_any, flat_map}
+use Rattle.std.specs.Option.{option_map_or}
 use Rattle.std.specs.Str.{bytes_eq}
 use Rattle.std.proofs.lemmas.Bool.Decides.{nat_tests}
 use Rattle.std.proofs.lemmas.Bool.{or_cases, or_left, or_right, eq-eqb, eqb-true}
+use Rattle.std.proofs.lemmas.List.Folds.{list_any-append}
 use Rattle.std.proofs.lemmas.Slice.Eq.{bytes_eq-Decides}
 use Rattle.chess_base.specs.declared.man.CastlingSide.{CastlingSide}
 use Rattle.chess_base.specs.declared.man.Kind.{Kind}
@@ -17,9 +20,9 @@ use Rattle.chess_text.specs.declared.described.Described.{Described}
 use Rattle.chess_text.specs.declared.parts.Parts.{Parts}
 use Rattle.chess_text.specs.declared.parts.Promotion.{Promotion}
 use Rattle.chess_base.specs.Options.{list_if}
-use Rattle.chess_text.specs.Parts.{unmarked, kind_text, file_text, rank_text}
-use Rattle.chess_text.specs.Moves.{is_castling_text, passes, denotes_described, start_texts, capture_texts, promotion_texts, texts_by_squares, texts_by_letter, pawn_starts, texts_of_pawn}
-use Rattle.chess_text.specs.ties.Fitting.{promotion_text, parts_text, admits, names, names_kind, promotes_so, has_equals, is_by_squares, is_by_letter, is_straight, is_by_file, parts_fit, has_parts, fits_text}
+use Rattle.chess_text.specs.Parts.{unmarked, kind_text, file_text, rank_text, ◌·◌}
+use Rattle.chess_text.specs.Moves.{denotes_described, castling_texts, start_texts, capture_texts, promotion_texts, texts_by_squares, texts_by_letter, texts_of_pawn}
+use Rattle.chess_text.specs.ties.Fitting.{is_castling_text, passes, promotion_text, parts_text, admits, names, names_kind, promotes_so, has_equals, is_by_squares, is_by_letter, is_straight, is_by_file, parts_fit, has_parts, fits_text}
 use Rattle.chess_text.specs.ties.Reader.{parts_at}
 use Rattle.chess_text.specs.laws.Laws.{HasLetter, CanPromote, AreParts, IsDenoted}
 use Rattle.chess_text.proofs.Lists.{IsIn, in-flat_map, in-one, in-append-left, in-append-right, each-append, each-flat_map, each-one, found}
@@ -130,7 +133,10 @@ each_signed (Some k) =
 abbrev square_text_to : Described → Text → Text
 square_text_to d promotion = square_text d.from ++ (square_text d.to ++ promotion)
 
-each_squares : (d : Described) → AllByRecursion (IsText d) (texts_by_squares d)
+abbrev squares_texts : Described → List Text
+squares_texts d = flat_map (λ promotion. square_text_to d promotion ∷ []) (promotion_texts plain d.promotion)
+
+each_squares : (d : Described) → AllByRecursion (IsText d) (squares_texts d)
 each_squares d =
     each-one (IsPlainPromotion d.promotion) (IsText d) (square_text_to d) (promotion_texts plain d.promotion)
     (each_plain d.promotion) (λ t h. (
@@ -189,7 +195,10 @@ is_letter_text d start takes other walks (f, r, is, file_is, rank_is) (t, writte
   by_letter_fits d f r t walks file_is rank_is takes_is,
 )
 
-each_letter : (d : Described) → AllByRecursion (IsText d) (texts_by_letter d)
+abbrev lettered_texts : Described → List Text
+lettered_texts d = if same_kind d.man Pawn || is_some d.castles then [] else flat_map (letter_texts d) (start_texts d.from)
+
+each_letter : (d : Described) → AllByRecursion (IsText d) (lettered_texts d)
 each_letter d = by_tests (same_kind d.man Pawn) (is_some d.castles) refl refl
   where
     by_tests : (a b : Bool) → same_kind d.man Pawn ≡ a → is_some d.castles ≡ b
@@ -235,7 +244,10 @@ file_start d pawn start takes (r, is, rank_is) (t, written, takes_is) = (
   λ p so. file_fits d (Some (file d.from)) r t p pawn (eq-eqb (file d.from) (file d.from) refl) rank_is takes_is so,
 )
 
-each_pawn_start : (d : Described) → same_kind Pawn d.man ≡ true → AllByRecursion (IsPawnStart d) (pawn_starts d)
+abbrev starts_of : Described → List Text
+starts_of d = (if file d.from == file d.to then [] ∷ [] else []) ++ flat_map (capturing d) (file_texts d.from)
+
+each_pawn_start : (d : Described) → same_kind Pawn d.man ≡ true → AllByRecursion (IsPawnStart d) (starts_of d)
 each_pawn_start d pawn =
     each-append (IsPawnStart d) (if file d.from == file d.to then [] ∷ [] else [])
     (flat_map (capturing d) (file_texts d.from)) (straight_start d pawn (file d.from == file d.to) refl)
@@ -255,24 +267,27 @@ is_pawn_text : (d : Described) (start promotion : Text) → IsPawnStart d start 
 is_pawn_text d start promotion (f, r, t, is, fit) (p, written, so) =
     (of None f r t d.to p, tt, rw (is, written, append_assoc, append_assoc) refl, fit p so)
 
-each_pawn : (d : Described) → AllByRecursion (IsText d) (texts_of_pawn d)
+abbrev pawns_texts : Described → List Text
+pawns_texts d = if same_kind Pawn d.man then flat_map (pawn_texts d) (starts_of d) else []
+
+each_pawn : (d : Described) → AllByRecursion (IsText d) (pawns_texts d)
 each_pawn d = by_test (same_kind Pawn d.man) refl
   where
     by_test : (b : Bool) → same_kind Pawn d.man ≡ b
-        → AllByRecursion (IsText d) (if b then flat_map (pawn_texts d) (pawn_starts d) else [])
+        → AllByRecursion (IsText d) (if b then flat_map (pawn_texts d) (starts_of d) else [])
     by_test true pawn =
-        each-flat_map (IsPawnStart d) (IsText d) (pawn_texts d) (pawn_starts d) (each_pawn_start d pawn)
+        each-flat_map (IsPawnStart d) (IsText d) (pawn_texts d) (starts_of d) (each_pawn_start d pawn)
         (λ start h. each-one (IsPromotionText d.promotion) (IsText d) (pawn_text d start)
         (promotion_texts signed d.promotion) (each_signed d.promotion) (λ promotion g. is_pawn_text d start promotion h g))
     by_test false other = tt
 
 abbrev pub texts_of : Described → List Text
-texts_of d = texts_by_squares d ++ (texts_by_letter d ++ texts_of_pawn d)
+texts_of d = squares_texts d ++ (lettered_texts d ++ pawns_texts d)
 
 each_text : (d : Described) → AllByRecursion (IsText d) (texts_of d)
 each_text d =
-    each-append (IsText d) (texts_by_squares d) (texts_by_letter d ++ texts_of_pawn d) (each_squares d)
-    (each-append (IsText d) (texts_by_letter d) (texts_of_pawn d) (each_letter d) (each_pawn d))
+    each-append (IsText d) (squares_texts d) (lettered_texts d ++ pawns_texts d) (each_squares d)
+    (each-append (IsText d) (lettered_texts d) (pawns_texts d) (each_letter d) (each_pawn d))
 
 -- ---- each text of parts that fit is listed
 
@@ -309,7 +324,7 @@ kind_named (Some j) k e = ap (λ (y : Kind). Some y) (same_kind-true j k e)
 
 squares_in : (d : Described) (letter : Option Kind) (f r : Option ℕ) (takes : Bool) (to : ℕ) (p : Option Promotion)
     → is_by_squares (of letter f r takes to p) d ≡ true
-    → IsIn Text (texts_by_squares d) (parts_text (of letter f r takes to p))
+    → IsIn Text (squares_texts d) (parts_text (of letter f r takes to p))
 unfolding is_by_squares
 squares_in d letter f r takes to p e =
     let a : letter ≡ None = grind (arith, nat_tests, e) in
@@ -332,7 +347,7 @@ no_pawn Pawn h = absurd h
 
 letter_in : (d : Described) (letter : Option Kind) (f r : Option ℕ) (takes : Bool) (to : ℕ) (p : Option Promotion)
     → IfSome letter HasLetter → is_by_letter (of letter f r takes to p) d ≡ true
-    → IsIn Text (texts_by_letter d) (parts_text (of letter f r takes to p))
+    → IsIn Text (lettered_texts d) (parts_text (of letter f r takes to p))
 unfolding is_by_letter
 letter_in d letter f r takes to p has e =
     let a : names_kind letter d.man ≡ true = grind (arith, nat_tests, e) in
@@ -353,16 +368,16 @@ letter_in d letter f r takes to p has e =
     (rw (append_assoc (optional file_text f) (optional rank_text r) (x ++ square_text d.to)) at there)
 
 in_pawn : (d : Described) (start : Text) (p : Option Promotion) → same_kind Pawn d.man ≡ true
-    → promotes_so p d.promotion ≡ true → IsIn Text (pawn_starts d) start
-    → IsIn Text (texts_of_pawn d) (pawn_text d start (optional promotion_text p))
+    → promotes_so p d.promotion ≡ true → IsIn Text (starts_of d) start
+    → IsIn Text (pawns_texts d) (pawn_text d start (optional promotion_text p))
 in_pawn d start p pawn so there =
     let end : Text = optional promotion_text p in
-    rw pawn (in-flat_map (pawn_texts d) (pawn_starts d) start (pawn_text d start end) there
+    rw pawn (in-flat_map (pawn_texts d) (starts_of d) start (pawn_text d start end) there
     (in-one (pawn_text d start) (promotion_texts signed d.promotion) end (in_signed d.promotion p so)))
 
 straight_in : (d : Described) (letter : Option Kind) (f r : Option ℕ) (takes : Bool) (to : ℕ) (p : Option Promotion)
     → is_straight (of letter f r takes to p) d ≡ true
-    → IsIn Text (texts_of_pawn d) (parts_text (of letter f r takes to p))
+    → IsIn Text (pawns_texts d) (parts_text (of letter f r takes to p))
 unfolding is_straight
 straight_in d letter f r takes to p e =
     let a : letter ≡ None = grind (arith, nat_tests, e) in
@@ -383,7 +398,7 @@ in_file from r a t e = grind (arith, nat_tests, a, e)
 
 file_in : (d : Described) (letter : Option Kind) (f r : Option ℕ) (takes : Bool) (to : ℕ) (p : Option Promotion)
     → is_by_file (of letter f r takes to p) d ≡ true
-    → IsIn Text (texts_of_pawn d) (parts_text (of letter f r takes to p))
+    → IsIn Text (pawns_texts d) (parts_text (of letter f r takes to p))
 unfolding is_by_file
 file_in d letter f r takes to p e =
     let a : letter ≡ None = grind (arith, nat_tests, e) in
@@ -395,7 +410,7 @@ file_in d letter f r takes to p e =
     let so : promotes_so p d.promotion ≡ true = grind (arith, nat_tests, e) in
     let start : Text = file_text (file d.from) ++ optional rank_text r in
     let x : Text = list_if takes (120 ∷ []) in
-    let there : IsIn Text (texts_of_pawn d) (pawn_text d (start ++ x) (optional promotion_text p)) =
+    let there : IsIn Text (pawns_texts d) (pawn_text d (start ++ x) (optional promotion_text p)) =
     in_pawn d (start ++ x) p pawn so
     (in-append-right (if file d.from == file d.to then [] ∷ [] else []) (flat_map (capturing d) (file_texts d.from)) (start ++ x)
     (in-flat_map (capturing d) (file_texts d.from) start (start ++ x) (in_file d.from r c)
@@ -405,15 +420,15 @@ file_in d letter f r takes to p e =
 text_in : (q : Parts) (d : Described) → Lettered q → parts_fit q d ≡ true → IsIn Text (texts_of d) (parts_text q)
 text_in q d has e = by_form (form_of_fit q d e)
   where
-    last : IsIn Text (texts_of_pawn d) (parts_text q) → IsIn Text (texts_of d) (parts_text q)
-    last h = in-append-right (texts_by_squares d) (texts_by_letter d ++ texts_of_pawn d) (parts_text q)
-        (in-append-right (texts_by_letter d) (texts_of_pawn d) (parts_text q) h)
+    last : IsIn Text (pawns_texts d) (parts_text q) → IsIn Text (texts_of d) (parts_text q)
+    last h = in-append-right (squares_texts d) (lettered_texts d ++ pawns_texts d) (parts_text q)
+        (in-append-right (lettered_texts d) (pawns_texts d) (parts_text q) h)
 
     by_form : FitsBy q d → IsIn Text (texts_of d) (parts_text q)
-    by_form (FitSquares h) = in-append-left (texts_by_squares d) (texts_by_letter d ++ texts_of_pawn d) (parts_text q)
+    by_form (FitSquares h) = in-append-left (squares_texts d) (lettered_texts d ++ pawns_texts d) (parts_text q)
         (squares_in d q.letter q.file q.rank q.takes q.end.to q.end.promotion h)
-    by_form (FitLetter h) = in-append-right (texts_by_squares d) (texts_by_letter d ++ texts_of_pawn d) (parts_text q)
-        (in-append-left (texts_by_letter d) (texts_of_pawn d) (parts_text q)
+    by_form (FitLetter h) = in-append-right (squares_texts d) (lettered_texts d ++ pawns_texts d) (parts_text q)
+        (in-append-left (lettered_texts d) (pawns_texts d) (parts_text q)
         (letter_in d q.letter q.file q.rank q.takes q.end.to q.end.promotion has h))
     by_form (FitStraight h) = last (straight_in d q.letter q.file q.rank q.takes q.end.to q.end.promotion h)
     by_form (FitFile h) = last (file_in d q.letter q.file q.rank q.takes q.end.to q.end.promotion h)
@@ -425,10 +440,69 @@ pub passing : {A : Type 0} (test : A → Bool) (o : Option A) → passes test o 
 passing test None e = absurd cc
 passing test (Some x) e = (x, refl, e)
 
+-- ---- the lists of the definition
+
+squares_alike : (d : Described) (o : Option Kind)
+    → (square_text d.from ∷ []) · (square_text d.to ∷ []) · promotion_texts plain o
+    ≡ flat_map (λ promotion. square_text_to d promotion ∷ []) (promotion_texts plain o)
+squares_alike d None = refl
+squares_alike d (Some k) = refl
+
+letters_alike : (d : Described) (c : Bool)
+    → (kind_text d.man ∷ []) · start_texts d.from · capture_texts c · (square_text d.to ∷ [])
+    ≡ flat_map (λ start. flat_map (λ takes. letter_text d start takes ∷ []) (capture_texts c)) (start_texts d.from)
+letters_alike d true = refl
+letters_alike d false = refl
+
+starts_alike : (d : Described) (c : Bool)
+    → list_if (file d.from == file d.to) ([] ∷ []) ++ file_texts d.from · capture_texts c
+    ≡ (if file d.from == file d.to then [] ∷ [] else [])
+    ++ flat_map (λ start. flat_map (λ takes. (start ++ takes) ∷ []) (capture_texts c)) (file_texts d.from)
+starts_alike d true = refl
+starts_alike d false = refl
+
+ends_alike : (d : Described) (starts : List Text) (o : Option Kind)
+    → starts · (square_text d.to ∷ []) · promotion_texts signed o
+    ≡ flat_map (λ start. flat_map (λ promotion. pawn_text d start promotion ∷ []) (promotion_texts signed o)) starts
+ends_alike d starts None = refl
+ends_alike d starts (Some k) = refl
+
+pawns_alike : (d : Described) → texts_of_pawn d ≡ pawns_texts d
+pawns_alike d =
+    ap (λ starts. list_if (same_kind Pawn d.man)
+    (starts · (square_text d.to ∷ []) · promotion_texts signed d.promotion)) (starts_alike d d.captures)
+    ∙ ap (λ texts. list_if (same_kind Pawn d.man) texts) (ends_alike d (starts_of d) d.promotion)
+
+texts_alike : (d : Described) → texts_by_squares d ++ (texts_by_letter d ++ texts_of_pawn d) ≡ texts_of d
+texts_alike d =
+    ap (λ xs. xs ++ (texts_by_letter d ++ texts_of_pawn d)) (squares_alike d d.promotion)
+    ∙ ap (λ xs. squares_texts d
+    ++ ((if same_kind d.man Pawn || is_some d.castles then [] else xs) ++ texts_of_pawn d)) (letters_alike d d.captures)
+    ∙ ap (λ xs. squares_texts d ++ (lettered_texts d ++ xs)) (pawns_alike d)
+
+-- castling, or one of the other texts
+listed : (text : Text) (d : Described)
+    → denotes_described text d
+    ≡ (passes (is_castling_text text) d.castles || list_any (bytes_eq (unmarked text)) (texts_of d))
+unfolding denotes_described is_castling_text
+listed text d =
+    list_any-append t (option_map_or castling_texts d.castles [])
+    (texts_by_squares d ++ (texts_by_letter d ++ texts_of_pawn d))
+    ∙ ap (λ b. b || list_any t (texts_by_squares d ++ (texts_by_letter d ++ texts_of_pawn d))) (by_side d.castles)
+    ∙ ap (λ xs. passes (is_castling_text text) d.castles || list_any t xs) (texts_alike d)
+  where
+    t : Text → Bool
+    t = bytes_eq (unmarked text)
+
+    by_side : (o : Option CastlingSide)
+        → list_any t (option_map_or castling_texts o []) ≡ passes (is_castling_text text) o
+    by_side None = refl
+    by_side (Some w) = refl
+
 is_denoted_so : (text : Text) (d : Described) → denotes_described text d ≡ true → IsDenoted text d
-unfolding denotes_described
 is_denoted_so text d e =
-    elim (or_cases (passes (is_castling_text text) d.castles) (list_any (bytes_eq (unmarked text)) (texts_of d)) e) [
+    elim (or_cases (passes (is_castling_text text) d.castles) (list_any (bytes_eq (unmarked text)) (texts_of d))
+    (sym (listed text d) ∙ e)) [
       | inl h ↦ inl (passing (is_castling_text text) d.castles h)
       | inr h ↦
           let f = found (IsText d) (texts_of d) (each_text d) (bytes_eq (unmarked text)) h in
@@ -437,14 +511,16 @@ is_denoted_so text d e =
 
 castling_denotes : (text : Text) (d : Described) (w : CastlingSide) → d.castles ≡ Some w
     → is_castling_text text w ≡ true → denotes_described text d ≡ true
-unfolding denotes_described
-castling_denotes text d w e h = rw (e, h) refl
+castling_denotes text d w e h =
+    let there : (passes (is_castling_text text) d.castles || list_any (bytes_eq (unmarked text)) (texts_of d)) ≡ true =
+    rw (e, h) refl in
+    listed text d ∙ there
 
 parts_denote : (text : Text) (d : Described) (q : Parts) → Lettered q → unmarked text ≡ parts_text q
     → parts_fit q d ≡ true → denotes_described text d ≡ true
-unfolding denotes_described
 parts_denote text d q has is fit =
-    or_right (passes (is_castling_text text) d.castles) (list_any (bytes_eq (unmarked text)) (texts_of d))
+    listed text d
+    ∙ or_right (passes (is_castling_text text) d.castles) (list_any (bytes_eq (unmarked text)) (texts_of d))
     (text_in q d has fit (bytes_eq (unmarked text)) ((bytes_eq-Decides (unmarked text) (parts_text q)).1 is))
 
 pub denoted_so : (text : Text) (d : Described) → IsDenoted text d → denotes_described text d ≡ true

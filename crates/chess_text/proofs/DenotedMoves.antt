@@ -16,9 +16,10 @@ use Rattle.chess_base.specs.Castling.{right_of}
 use Rattle.chess_base.specs.MoveList.{promotions, move_of, all_moves, moves}
 use Rattle.chess_base.specs.Squares.{squares}
 use Rattle.chess_moves.proofs.shared.MovesBySquares.{filter-flat_map}
+use Rattle.chess_text.specs.ties.Fitting.{passes}
 use Rattle.chess_text.specs.declared.form.Form.{Form}
 use Rattle.chess_text.specs.declared.form.Form.TheVariants.{Castling, Piece}
-use Rattle.chess_text.specs.Moves.{described, passes}
+use Rattle.chess_text.specs.Moves.{described}
 use Rattle.chess_text.specs.ties.Forms.{same_side, form_fits, is_denoted, castling_end, end_square, denoted_with}
 use Rattle.chess_text.proofs.Denotations.{facts, passing}
 use Rattle.chess_text.proofs.AllMoves.{filter-both, none-kept, kept, alone-square}

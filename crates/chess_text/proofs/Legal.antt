@@ -24,8 +24,8 @@ use Rattle.chess_base.proofs.shared.Castling.{says_from_castling}
 use Rattle.chess_base.proofs.shared.MoveKinds.{castles_unpromoted}
 use Rattle.chess_text.specs.declared.described.Described.{Described}
 use Rattle.chess_text.specs.laws.Laws.{HasLetter, CanPromote}
-use Rattle.chess_text.specs.ties.Forms.{castling_end}
-use Rattle.chess_text.specs.Moves.{captures, described}
+use Rattle.chess_text.specs.ties.Forms.{captures, castling_end}
+use Rattle.chess_text.specs.Moves.{described}
 
 -- what a text can say of a move of that piece
 abbrev pub described_as : Setup → Move → Kind → Described

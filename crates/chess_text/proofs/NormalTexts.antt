@@ -16,12 +16,15 @@ use Rattle.chess_base.specs.Moves.{after}
 use Rattle.chess_base.specs.MoveList.{all_moves, moves}
 use Rattle.chess_base.specs.laws.Normal.{normal_after}
 use Rattle.chess_base.proofs.shared.Normal.{normal_kept as rules_kept, castling_kept}
+use Rattle.chess_text.specs.ties.SanParts.{unmarked_san}
+use Rattle.chess_text.specs.ties.Forms.{captures}
+use Rattle.chess_text.specs.ties.Fitting.{passes}
 use Rattle.chess_text.specs.declared.described.Described.{Described}
 use Rattle.chess_text.specs.declared.reading.Reading.TheVariants.{NotAMove}
-use Rattle.chess_text.specs.Moves.{described, captures, passes, shape, denotes, denotes_described, one_of, reading}
+use Rattle.chess_text.specs.Moves.{described, shape, denotes, denotes_described, one_of, reading}
 use Rattle.chess_base.specs.Options.{list_if}
-use Rattle.chess_text.specs.San.{is_rival, rival_starts, check_mark, san, unmarked_san, castling_text, is_fischerandom, shown_move}
-use Rattle.chess_text.specs.laws.Normal.{NormalIsKept, normal_moves, normal_described, normal_denotes, normal_reading, normal_is_rival, normal_rival_starts, normal_check_mark, normal_san}
+use Rattle.chess_text.specs.San.{rival_starts, check_mark, san, castling_text, is_fischerandom, shown_move}
+use Rattle.chess_text.specs.laws.Normal.{NormalIsKept, normal_moves, normal_described, normal_denotes, normal_reading, normal_rival_starts, normal_check_mark, normal_san}
 
 pub moves_kept : (p : Setup) → p.variant ≡ Normal → moves p ≡ normal_moves p
 unfolding moves normal_moves
@@ -57,18 +60,20 @@ reading_kept p e text =
 
 -- ---- written
 
-rival_kept : (p : Setup) → p.variant ≡ Normal → (d : Described) (m : Move) → is_rival p d m ≡ normal_is_rival p d m
-unfolding is_rival normal_is_rival
-rival_kept p e d m =
-    ap (λ o. (m.to == d.to) && not (m.from == d.from) && passes (λ (x : Described). same_kind x.man d.man) o)
-    (described_kept p e m)
+-- the move m, which is described so (`o`), is a rival of d
+abbrev is_rival_as : Described → Move → Option Described → Bool
+is_rival_as d m o = (m.to == d.to) && not (m.from == d.from) && passes (λ (x : Described). same_kind x.man d.man) o
+
+rival_kept : (p : Setup) → p.variant ≡ Normal → (d : Described) (m : Move)
+    → is_rival_as d m (described p m) ≡ is_rival_as d m (normal_described p m)
+rival_kept p e d m = ap (is_rival_as d m) (described_kept p e m)
 
 rivals_kept : (p : Setup) → p.variant ≡ Normal → (d : Described)
     → rival_starts p (moves p) d ≡ normal_rival_starts p d
 unfolding rival_starts normal_rival_starts
 rivals_kept p e d =
     ap (λ (test : Move → Bool). map (λ (m : Move). m.from) (filter test (moves p))) (fun_ext (rival_kept p e d))
-    ∙ ap (λ ms. map (λ (m : Move). m.from) (filter (λ m. normal_is_rival p d m) ms)) (moves_kept p e)
+    ∙ ap (λ ms. map (λ (m : Move). m.from) (filter (λ m. is_rival_as d m (normal_described p m)) ms)) (moves_kept p e)
 
 mark_kept : (p : Setup) → p.variant ≡ Normal → check_mark p ≡ normal_check_mark p
 unfolding check_mark normal_check_mark

@@ -23,8 +23,8 @@ use Rattle.chess_text.specs.declared.form.Form.TheVariants.{Castling, Piece}
 use Rattle.chess_text.specs.declared.parts.Parts.{Parts}
 use Rattle.chess_text.specs.declared.reading.Reading.{Reading}
 use Rattle.chess_text.specs.declared.reading.Reading.TheVariants as reads
-use Rattle.chess_text.specs.Moves.{one_of, described, passes}
-use Rattle.chess_text.specs.ties.Fitting.{names, admits, is_by_squares, is_by_letter, is_straight, is_by_file, parts_fit}
+use Rattle.chess_text.specs.Moves.{one_of, described}
+use Rattle.chess_text.specs.ties.Fitting.{passes, names, admits, is_by_squares, is_by_letter, is_straight, is_by_file, parts_fit}
 use Rattle.chess_text.specs.ties.Forms.{same_side, form_fits, is_denoted, end_square, denoted_with, with_move, with_moves, named_square, IsStart}
 use Rattle.chess_text.proofs.Denotations.{FitsBy, FitSquares, FitLetter, FitStraight, FitFile, form_of_fit, passing}
 use Rattle.chess_text.proofs.AllMoves.{none-kept}

@@ -3,6 +3,7 @@ use Rattle.std.proofs.Common.{◌≡◌, ◌≢◌, ℕ, ◌<◌, ◌≤◌, inl
 use Rattle.std.proofs.lemmas.Bool.Decides.{nat_tests}
 use Rattle.std.proofs.lemmas.Bool.{or_cases, both_ways, eqb-true}
 use Rattle.std.specs.Int.{abs_diff}
+use Rattle.chess_text.specs.ties.Forms.{captures}
 use Rattle.chess_base.specs.declared.man.Colour.{Colour}
 use Rattle.chess_base.specs.declared.man.Colour.TheVariants.{White, Black}
 use Rattle.chess_base.specs.declared.man.Kind.TheVariants.{Pawn}
@@ -19,7 +20,6 @@ use Rattle.chess_base.proofs.shared.Squares.{each_below-at}
 use Rattle.chess_base.proofs.shared.Men.{same_colour-self, is_none-None}
 use Rattle.chess_base.proofs.shared.Captures.{captures_is}
 use Rattle.chess_base.proofs.shared.Changes.{advance_to_empty}
-use Rattle.chess_text.specs.Moves.{captures}
 
 abbrev pub pawn_of : Colour → Man
 pawn_of c = record { colour = c; kind = Pawn }
@@ -121,7 +121,6 @@ pawn_takes p m at e = rw at (grind (arith, e, same_colour-self p.side))
 
 pawn_captures_so : (p : Setup) (m : Move) → man_at p.men m.from ≡ Some (pawn_of p.side) → pawn_captures p m ≡ true
     → captures p m ≡ true
-unfolding captures
 pawn_captures_so p m at e = captures_is p m ∙ pawn_takes p m at e
 
 -- a pawn that doesn't capture advances; so does one that stays on its file
@@ -153,7 +152,6 @@ en_passant_attacks p m e = grind (arith, e)
 -- a pawn that captures goes one rank ahead
 pub captures_ahead : (p : Setup) (m : Move) → man_at p.men m.from ≡ Some (pawn_of p.side) → pawn_moves p m ≡ true
     → captures p m ≡ true → is_rank_ahead p.side m.from m.to ≡ true
-unfolding captures
 captures_ahead p m at e takes =
     elim (or_cases (is_of (other p.side) (man_at p.men m.to)) (is_en_passant p m) (sym (captures_is p m) ∙ takes)) [
       | inr passed ↦ (attack_of p m at (en_passant_attacks p m passed)).1

@@ -19,10 +19,11 @@ use Rattle.chess_moves.specs.Sets.{contains, members, HasLegalStarts}
 use Rattle.chess_moves.proofs.shared.Members.{by_range, members_none, of_range}
 use Rattle.chess_moves.proofs.shared.MovesBySquares.{filter-flat_map}
 use Rattle.chess_moves.proofs.shared.AnyMove.{any-filter}
+use Rattle.chess_text.specs.ties.Fitting.{passes}
 use Rattle.chess_text.specs.declared.described.Described.{Described}
-use Rattle.chess_text.specs.Moves.{described, passes}
-use Rattle.chess_text.specs.San.{is_rival, rival_starts}
-use Rattle.chess_text.specs.ties.SanParts.{distinction, some_on_file, some_on_rank, disambiguate}
+use Rattle.chess_text.specs.Moves.{described}
+use Rattle.chess_text.specs.San.{rival_starts}
+use Rattle.chess_text.specs.ties.SanParts.{is_rival, distinction, some_on_file, some_on_rank, disambiguate}
 use Rattle.chess_base.proofs.shared.Men.{same_kind-true, same_colour-self}
 use Rattle.chess_text.proofs.AllMoves.{filter-both, none-kept, kept, alone-square}
 use Rattle.chess_text.proofs.Legal.{IsMove, MovesAs, unpromoted, legal_move, described_is}
@@ -127,7 +128,7 @@ gathered f t (suc n) a h =
 pub rivals : (p : Setup) (d : Described) (w s v : ℕ) → same_kind d.man Pawn ≡ false → HasLegalStarts p d.man d.to w
     → ((k : ℕ) → contains s k ≡ (k == d.from)) → ((k : ℕ) → k < 64 → contains v k ≡ (contains w k && not (contains s k)))
     → members v ≡ rival_starts p (moves p) d
-unfolding rival_starts moves all_moves
+unfolding rival_starts is_rival moves all_moves
 rivals p d w s v other legal_starts single without =
     sym (ap (map (λ (m : Move). m.from))
     (filter-both (λ m. is_legal p m) (λ m. is_rival p d m) all_moves

@@ -29,11 +29,11 @@ use Rattle.chess_moves.proofs.shared.AnyMove.{any-filter}
 use Rattle.chess_text.specs.declared.writing.Disambiguation.{Disambiguation}
 use Rattle.chess_text.specs.laws.Laws.{DenotesAlone, is_san_byte, begins_with_letter, AreParts, HasLetter, CanPromote}
 use Rattle.chess_text.specs.Parts.{unmarked}
-use Rattle.chess_text.specs.ties.Fitting.{parts_text, admits, is_form, parts_fit, is_by_squares, is_by_letter, is_straight, is_by_file}
-use Rattle.chess_text.specs.Moves.{captures, passes, shape, reading}
-use Rattle.chess_text.specs.ties.Forms.{same_side}
-use Rattle.chess_text.specs.San.{castling_text, is_rival, rival_starts, piece_text, unmarked_san, check_mark, san}
-use Rattle.chess_text.specs.ties.SanParts.{disambiguate, if_written, lettered_parts, piece_parts}
+use Rattle.chess_text.specs.ties.Fitting.{passes, parts_text, admits, is_form, parts_fit, is_by_squares, is_by_letter, is_straight, is_by_file}
+use Rattle.chess_text.specs.Moves.{shape, reading}
+use Rattle.chess_text.specs.ties.Forms.{captures, same_side}
+use Rattle.chess_text.specs.San.{castling_text, rival_starts, piece_text, check_mark, san}
+use Rattle.chess_text.specs.ties.SanParts.{is_rival, unmarked_san, disambiguate, if_written, lettered_parts, piece_parts}
 use Rattle.chess_text.proofs.OneMoveFits.{read_alone, denoted_parts, shape_parts, denoted_castling, shape_castling, denotes_move, move_is, written, promotion_part, promotes-self, promotes-same}
 use Rattle.chess_text.proofs.DenotedMoves.{same_side-true}
 use Rattle.chess_text.proofs.AllMoves.{any-move}
@@ -273,7 +273,7 @@ lettered_goes p m n k l start c e = record {
 -- a rival's start is among the rivals'
 rival_stands : (p : Setup) (m n : Move) (k : Kind) (t : ℕ → Bool) → is_legal p n ≡ true
     → is_rival p (described_as p m k) n ≡ true → t n.from ≡ true → list_any t (rivals p m k) ≡ true
-unfolding rival_starts
+unfolding rival_starts is_rival
 rival_stands p m n k t legal rival e =
     any-map t (λ (x : Move). x.from) (filter (λ x. is_rival p (described_as p m k) x) (moves p))
     ∙ any-filter (λ x. is_rival p (described_as p m k) x) (λ (x : Move). t x.from) (moves p)

@@ -8,9 +8,10 @@ use Rattle.chess_base.specs.declared.setup.Setup.{Setup}
 use Rattle.chess_base.specs.Moves.{is_legal, after}
 use Rattle.chess_base.specs.shared.Parts.{optional}
 use Rattle.chess_base.specs.MoveList.{moves}
+use Rattle.chess_text.specs.ties.SanParts.{unmarked_san}
 use Rattle.chess_text.specs.declared.described.Described.{Described}
 use Rattle.chess_text.specs.Moves.{described}
-use Rattle.chess_text.specs.San.{rival_starts, unmarked_san, check_mark, san}
+use Rattle.chess_text.specs.San.{rival_starts, check_mark, san}
 use Rattle.chess_text.specs.ties.Forms.{promotes_as_a_pawn}
 use Rattle.chess_text.proofs.Legal.{MovesAs, legal_move, described_is, described_as}
 

@@ -8,11 +8,12 @@ use Rattle.std.specs.Str.{bytes_eq}
 use Rattle.chess_base.specs.declared.man.CastlingSide.{CastlingSide}
 use Rattle.chess_base.specs.declared.man.CastlingSide.TheVariants.{KingSide, QueenSide}
 use Rattle.chess_base.specs.declared.man.Kind.{Kind}
-use Rattle.chess_base.specs.declared.man.Kind.TheVariants.{King, Queen, Rook, Bishop, Knight, Pawn}
+use Rattle.chess_base.specs.declared.man.Kind.TheVariants.{Pawn}
 use Rattle.chess_base.specs.declared.man.Move.{Move}
 use Rattle.chess_base.specs.declared.setup.Setup.{Setup}
 use Rattle.chess_base.specs.Coordinates.{small_letter_text}
-use Rattle.chess_base.specs.Letters.{square_text}
+use Rattle.chess_base.specs.Letters.{kinds, square_text}
+use Rattle.chess_base.specs.Options.{list_if}
 use Rattle.chess_base.specs.Men.{man_at, same_kind}
 use Rattle.chess_base.specs.Moves.{captured_square, is_legal}
 use Rattle.chess_base.specs.Castling.{castling}
@@ -21,16 +22,13 @@ use Rattle.chess_base.specs.Squares.{file, rank, squares}
 use Rattle.chess_text.specs.declared.described.Described.{Described}
 use Rattle.chess_text.specs.declared.reading.Reading.{Reading}
 use Rattle.chess_text.specs.declared.reading.Reading.TheVariants as reads
-use Rattle.chess_text.specs.Parts.{unmarked, kind_text, file_text, rank_text, for_each}
+use Rattle.chess_text.specs.Parts.{unmarked, kind_text, file_text, rank_text, ◌·◌, for_each}
 
 -- ---- what a text can say of a move
 
--- move m of position p captures a piece, on its end square or en passant
-unfoldable pub captures : Setup → Move → Bool
-captures p m = is_some (captured_square p m)
-
 -- move m of position p, legal or not, as far as a text can describe it: the kind of its piece, both squares, the
--- promotion, whether it captures, and to which side it castles; none if no piece is on its start square
+-- promotion, whether it captures a piece, on its end square or en passant, and to which side it castles; none if no
+-- piece is on its start square
 unfoldable pub described : Setup → Move → Option Described
 described p m =
     option_map (λ x. record {
@@ -38,7 +36,7 @@ described p m =
       from = m.from;
       to = m.to;
       promotion = m.promotion;
-      captures = captures p m;
+      captures = is_some (captured_square p m);
       castles = castling p m;
     }) (man_at p.men m.from)
 
@@ -50,72 +48,55 @@ start_texts from = [] ∷ file_text (file from) ∷ rank_text (rank from) ∷ sq
 
 -- what may be written before the end square: nothing, or `x`, the latter only if the move captures
 abbrev pub capture_texts : Bool → List (List ℕ)
-capture_texts captures = [] ∷ (if captures then codes "x" ∷ [] else [])
+capture_texts captures = [] ∷ list_if captures (codes "x" ∷ [])
 
 -- the texts of a promotion to kind k: each element of `signs` ("" or "=") followed by the letter of k, capital or
 -- small; without a promotion (`None`) only the empty text
 abbrev pub promotion_texts : List (List ℕ) → Option Kind → List (List ℕ)
 promotion_texts signs None = [] ∷ []
-promotion_texts signs (Some k) = for_each signs (λ sign. (sign ++ kind_text k) ∷ (sign ++ small_letter_text k) ∷ [])
+promotion_texts signs (Some k) = signs · (kind_text k ∷ small_letter_text k ∷ [])
 
 -- the texts of the described move by its two squares, as g1f3, e7e8q or e7e8Q (but not e7e8=Q); castling too, as e1g1,
 -- and in Chess960, where the end square is the rook's, as e1h1
 abbrev pub texts_by_squares : Described → List (List ℕ)
-texts_by_squares d =
-    for_each (promotion_texts ([] ∷ []) d.promotion) (λ promotion.
-    (square_text d.from ++ (square_text d.to ++ promotion)) ∷ [])
+texts_by_squares d = (square_text d.from ∷ []) · (square_text d.to ∷ []) · promotion_texts ([] ∷ []) d.promotion
 
 -- the texts of the described move by its piece's letter, as Nf3, Ng1f3 or Nxf3; none for a pawn's move or castling
 abbrev pub texts_by_letter : Described → List (List ℕ)
 texts_by_letter d =
     if same_kind d.man Pawn || is_some d.castles then []
-    else for_each (start_texts d.from) (λ start. for_each (capture_texts d.captures) (λ takes.
-    (kind_text d.man ++ (start ++ (takes ++ square_text d.to))) ∷ []))
+    else (kind_text d.man ∷ []) · start_texts d.from · capture_texts d.captures · (square_text d.to ∷ [])
 
 -- what may come before the end square of a pawn's move: its file or its start square, for a capture also with `x` after
 -- it; nothing too if the pawn stays on its file. So e2e4 may be written e4, ee4 or e2e4, and the capture e4d5 as ed5,
 -- exd5, e4d5 or e4xd5
 abbrev pub pawn_starts : Described → List (List ℕ)
 pawn_starts d =
-    (if file d.from == file d.to then [] ∷ [] else [])
-    ++ for_each (file_text (file d.from) ∷ square_text d.from ∷ []) (λ start.
-    for_each (capture_texts d.captures) (λ takes. (start ++ takes) ∷ []))
+    list_if (file d.from == file d.to) ([] ∷ [])
+    ++ (file_text (file d.from) ∷ square_text d.from ∷ []) · capture_texts d.captures
 
 -- the texts of the described move as a pawn's, such as e4, exd5, e7e8Q or e8=q; none if another piece makes it. A
 -- promotion is written with or without `=`, its letter capital or small
 abbrev pub texts_of_pawn : Described → List (List ℕ)
-texts_of_pawn d =
-    if same_kind Pawn d.man
-    then for_each (pawn_starts d) (λ start. for_each (promotion_texts ([] ∷ codes "=" ∷ []) d.promotion) (λ promotion.
-    (start ++ (square_text d.to ++ promotion)) ∷ []))
-    else []
+texts_of_pawn d = list_if (same_kind Pawn d.man)
+    (pawn_starts d · (square_text d.to ∷ []) · promotion_texts ([] ∷ codes "=" ∷ []) d.promotion)
 
 -- the texts that denote castling to this side, with the letter O or with the digit 0
 abbrev pub castling_texts : CastlingSide → List (List ℕ)
 castling_texts KingSide = codes "O-O" ∷ codes "0-0" ∷ []
 castling_texts QueenSide = codes "O-O-O" ∷ codes "0-0-0" ∷ []
 
--- the text, but for the marks (+ # ! ?) at its end, is castling to side w: O-O or 0-0 on the king's side, O-O-O or
--- 0-0-0 on the queen's
-unfoldable pub is_castling_text : List ℕ → CastlingSide → Bool
-is_castling_text text w = list_any (bytes_eq (unmarked text)) (castling_texts w)
-
--- the optional value `o` is there, and the test holds for it
-abbrev pub passes : {A : Type 0} → (A → Bool) → Option A → Bool
-passes test o = option_map_or test o false
-
 -- the text, but for the marks (+ # ! ?) at its end, denotes the described move: as castling, by its two squares, by its
 -- piece's letter, or as a pawn's
 unfoldable pub denotes_described : List ℕ → Described → Bool
-denotes_described text d = passes (is_castling_text text) d.castles
-    || list_any (bytes_eq (unmarked text)) (texts_by_squares d ++ (texts_by_letter d ++ texts_of_pawn d))
+denotes_described text d = list_any (bytes_eq (unmarked text))
+    (option_map_or castling_texts d.castles [] ++ (texts_by_squares d ++ (texts_by_letter d ++ texts_of_pawn d)))
 
 -- all combinations of a kind of piece, a start and an end square, a promotion or none, capture or not, and castling to
 -- one side or none, whether or not there is such a move
 unfoldable pub all_described : List Described
 all_described =
-    for_each (King ∷ Queen ∷ Rook ∷ Bishop ∷ Knight ∷ Pawn ∷ []) (λ man.
-    for_each squares (λ from. for_each squares (λ to. for_each promotions (λ promotion.
+    for_each kinds (λ man. for_each squares (λ from. for_each squares (λ to. for_each promotions (λ promotion.
     for_each (false ∷ true ∷ []) (λ takes. for_each (None ∷ Some KingSide ∷ Some QueenSide ∷ []) (λ castles.
     record { man = man; from = from; to = to; promotion = promotion; captures = takes; castles = castles } ∷ []))))))
 
@@ -127,7 +108,7 @@ shape text = list_any (λ d. denotes_described text d) all_described
 -- the text denotes move m, legal or not, in position p: Nf3, Ng1f3, g1f3 and Nf3+ all denote g1f3 in the initial
 -- position. False if no piece is on m's start square
 unfoldable pub denotes : Setup → List ℕ → Move → Bool
-denotes p text m = passes (denotes_described text) (described p m)
+denotes p text m = option_map_or (denotes_described text) (described p m) false
 
 -- ---- reading
 

@@ -1,5 +1,5 @@
 -- Texts of moves, piece by piece, and the marks at their end.
-use Rattle.std.specs.Prelude.{ℕ, ◌+◌, ◌-◌, ◌==◌, Bool, ◌||◌, List, [], ◌∷◌, length, take, flat_map}
+use Rattle.std.specs.Prelude.{ℕ, ◌+◌, ◌-◌, ◌==◌, Bool, ◌||◌, List, [], ◌∷◌, ◌++◌, length, take, map, flat_map}
 use Rattle.std.specs.List.{suffix_len}
 use Rattle.chess_base.specs.declared.man.Kind.{Kind}
 use Rattle.chess_base.specs.Letters.{byte, white_letter}
@@ -23,6 +23,11 @@ file_text f = (byte "a" + f) ∷ []
 -- the digit of a rank, as text: 1 for rank number 0, 8 for rank number 7
 abbrev pub rank_text : ℕ → List ℕ
 rank_text r = (byte "1" + r) ∷ []
+
+infixr 66 ◌·◌
+-- each text of xs followed by each text of ys
+abbrev pub ◌·◌ : List (List ℕ) → List (List ℕ) → List (List ℕ)
+xs · ys = flat_map (λ x. map (λ y. x ++ y) ys) xs
 
 -- the lists that f gives for the elements of xs, joined
 abbrev pub for_each : {A B : Type 0} → List A → (A → List B) → List B

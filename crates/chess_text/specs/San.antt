@@ -2,7 +2,7 @@
 -- move is for a capture its file and `x`, the end square, and for a promotion `=` and a letter; another piece's its
 -- letter, what distinguishes its start square from those of its rivals, `x` for a capture, and the end square. Last
 -- comes `#` for mate, otherwise `+` for check.
-use Rattle.std.specs.Prelude.{ℕ, Bool, true, false, not, ◌&&◌, ◌==◌, if◌then◌else◌, List, [], ◌∷◌, ◌++◌, length, map, Option, codes}
+use Rattle.std.specs.Prelude.{ℕ, Bool, true, false, not, ◌&&◌, ◌==◌, if◌then◌else◌, List, [], ◌∷◌, ◌++◌, length, map, codes}
 use Rattle.std.specs.List.{list_any, filter}
 use Rattle.std.specs.Option.{option_map_or}
 use Rattle.chess_base.specs.declared.man.CastlingSide.{CastlingSide}
@@ -23,22 +23,19 @@ use Rattle.chess_base.specs.Squares.{file, rank}
 use Rattle.chess_text.specs.declared.described.Described.{Described}
 use Rattle.chess_base.specs.Options.{list_if}
 use Rattle.chess_text.specs.Parts.{kind_text, file_text, rank_text}
-use Rattle.chess_text.specs.Moves.{described, passes}
+use Rattle.chess_text.specs.Moves.{described}
 
 -- castling to this side, written with the letter O
 abbrev pub castling_text : CastlingSide → List ℕ
 castling_text KingSide = codes "O-O"
 castling_text QueenSide = codes "O-O-O"
 
--- move m of position p is a rival of the described move d: it goes to d's end square with a piece of d's kind, but from
--- another square, so if m is legal SAN must distinguish d from m. Whether m is legal is not asked here
-unfoldable pub is_rival : Setup → Described → Move → Bool
-is_rival p d m = (m.to == d.to) && not (m.from == d.from) && passes (λ e. same_kind e.man d.man) (described p m)
-
--- the start squares of the rivals of the described move d among the moves `ms` of position p; for SAN, `ms` are all
--- legal moves of p
+-- the start squares of the rivals of the described move d among the moves `ms` of position p: those that go to d's end
+-- square with a piece of d's kind, but from another square, so that SAN must distinguish d from them. For SAN, `ms` are
+-- all legal moves of p
 unfoldable pub rival_starts : Setup → List Move → Described → List ℕ
-rival_starts p ms d = map (λ m. m.from) (filter (λ m. is_rival p d m) ms)
+rival_starts p ms d = map (λ m. m.from) (filter (λ m. (m.to == d.to) && not (m.from == d.from)
+    && option_map_or (λ e. same_kind e.man d.man) (described p m) false) ms)
 
 -- what SAN writes of the start square `from` to distinguish it from the list of the rivals' start squares (8.2.3.4):
 -- nothing if the list is empty; the file if no rival starts on it; otherwise the rank if no rival starts on it;
@@ -59,11 +56,6 @@ piece_text rivals d =
     else kind_text d.man ++ start_text d.from rivals)
     ++ (list_if d.captures (codes "x") ++ (square_text d.to ++ option_map_or (λ k. byte "=" ∷ kind_text k) d.promotion []))
 
--- the SAN of the described move without `+` or `#`; `rivals` are the start squares of other pieces of its kind that
--- could legally move to its end square
-abbrev pub unmarked_san : List ℕ → Described → List ℕ
-unmarked_san rivals d = option_map_or castling_text d.castles (piece_text rivals d)
-
 -- the mark for the position p that a move leads to: `#` for mate (5.1.1), `+` for check (3.9.1), otherwise nothing
 unfoldable pub check_mark : Setup → List ℕ
 check_mark p = list_if (is_in_check p.men p.side) (if length (moves p) == 0 then codes "#" else codes "+")
@@ -72,7 +64,8 @@ check_mark p = list_if (is_in_check p.men p.side) (if length (moves p) == 0 then
 -- move from an empty square, which is not legal, the empty text
 unfoldable pub san : Setup → Move → List ℕ
 san p m =
-    option_map_or (λ d. unmarked_san (rival_starts p (moves p) d) d ++ check_mark (after p m)) (described p m) []
+    option_map_or (λ d. option_map_or castling_text d.castles (piece_text (rival_starts p (moves p) d) d)
+    ++ check_mark (after p m)) (described p m) []
 
 -- whether a variant is Chess960
 abbrev pub is_fischerandom : Variant → Bool

@@ -1,7 +1,8 @@
 //! What a text can say of a move.
 
 ghost use Rattle.std.specs.Prelude.{◌≡◌, ◌==◌};
-ghost use Rattle.chess_text.specs.Moves.{captures, described};
+ghost use Rattle.chess_text.specs.Moves.{described};
+ghost use Rattle.chess_text.specs.ties.Forms.{captures};
 ghost use Rattle.chess_text.specs.ties.Fitting.{admits, names, names_kind, promotes_so, has_equals, is_by_squares, is_by_letter, is_straight, is_by_file, parts_fit, is_form};
 
 use crate::parts::{Parts, Promotion};
@@ -22,7 +23,7 @@ pub struct Described {
 
 // Whether the move captures an enemy piece, en passant too. chess_base's `captured_square`, private there, also says
 // where that piece is, and is only for sound positions.
-#[tactic(auto, unfolding(crate::specs::Moves::captures), using(chess_base::proofs::shared::Captures::captures_is))]
+#[tactic(auto, using(chess_base::proofs::shared::Captures::captures_is))]
 pub(crate) fn captures(setup: &Setup, m: &Move) -> bool
     ensures { result ≡ captures setup.now m.now }
 {

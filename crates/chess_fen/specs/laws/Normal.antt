@@ -1,9 +1,10 @@
 -- FEN as it is defined for normal chess alone (PGN standard of 1994, section 16.1): rights are named by the letters K,
 -- Q, k and q, and king and rook of each are at home. Nothing here takes a variant; what FEN says of pieces, side,
 -- target and counters is shared.
-use Rattle.std.specs.Prelude.{ℕ, max, ◌==◌, nat_lt, nat_le, Bool, not, ◌&&◌, ◌||◌, List, [], ◌∷◌, ◌++◌, length, decimal, codes, Option, Some, None, Result, Ok, Err, if◌then◌else◌}
+use Rattle.std.specs.Prelude.{ℕ, max, ◌==◌, nat_lt, nat_le, Bool, not, ◌&&◌, ◌||◌, List, [], ◌∷◌, ◌++◌, length, count_by, decimal, codes, Option, Some, None, Result, Ok, Err, if◌then◌else◌}
+use Rattle.std.specs.Bool.{then_some}
 use Rattle.std.specs.List.{list_all, join_with_byte}
-use Rattle.std.specs.Option.{ok_or}
+use Rattle.std.specs.Option.{ok_or, option_map_or}
 use Rattle.std.specs.Str.{bytes_eq}
 use Rattle.chess_base.specs.declared.fen_fault.FenFault.{FenFault}
 use Rattle.chess_base.specs.declared.fen_fault.FenFault.TheVariants as faults
@@ -19,10 +20,10 @@ use Rattle.chess_base.specs.Letters.{byte, space}
 use Rattle.chess_base.specs.Men.{other}
 use Rattle.chess_base.specs.Sound.{has_one_king, no_pawn_on_end_ranks, has_at_most_16, target_is_sound}
 use Rattle.chess_base.specs.laws.Normal.{normal_right_is_sound_at}
-use Rattle.chess_fen.specs.Reading.{◌>>=◌, side_of, unless_fault}
-use Rattle.chess_fen.specs.RightNames.{right_named}
-use Rattle.chess_fen.specs.Texts.{placement_of, target_of, number_of, fields_of, occurs, times}
-use Rattle.chess_fen.specs.Writing.{placement_text, side_text, target_text, or_dash}
+use Rattle.text_lines.specs.Words.{short_number}
+use Rattle.chess_fen.specs.Reading.{◌>>=◌, side_of, target_of}
+use Rattle.chess_fen.specs.Texts.{placement_of, fields_of, occurs}
+use Rattle.chess_fen.specs.Writing.{placement_text, side_text, target_text}
 
 -- ---- written
 
@@ -33,8 +34,10 @@ letter_if (Some corner) c = c ∷ []
 
 -- a FEN's third field: the letters of the castling rights that are there, in the order KQkq, or a dash
 abbrev pub normal_rights_text : Rights → List ℕ
-normal_rights_text r = or_dash (letter_if r.white.king_side (byte "K") ++ letter_if r.white.queen_side (byte "Q")
-    ++ letter_if r.black.king_side (byte "k") ++ letter_if r.black.queen_side (byte "q"))
+normal_rights_text r =
+    let letters = letter_if r.white.king_side (byte "K") ++ letter_if r.white.queen_side (byte "Q")
+    ++ letter_if r.black.king_side (byte "k") ++ letter_if r.black.queen_side (byte "q") in
+    if length letters == 0 then codes "-" else letters
 
 -- the FEN of a position of normal chess: its six fields, with one space between them
 abbrev pub normal_fen : Setup → List ℕ
@@ -45,24 +48,29 @@ normal_fen p = join_with_byte space (placement_text p.men ∷ side_text p.side �
 
 -- the byte c is K, Q, k or q, and occurs once in the text
 abbrev pub normal_names_once : List ℕ → ℕ → Bool
-normal_names_once text c = occurs c (codes "KQkq") && (times c text == 1)
+normal_names_once text c = occurs c (codes "KQkq") && (count_by (λ b. b == c) text == 1)
 
 -- the text has the form of a castling field: a dash, or one to four of the letters K, Q, k and q, none twice
 abbrev pub normal_is_castling : List ℕ → Bool
 normal_is_castling text = bytes_eq text (codes "-")
     || (nat_lt 0 (length text) && nat_le (length text) 4 && list_all (normal_names_once text) text)
 
+-- the castling right with this letter, given as its rook's square: `corner` if the letter is in the castling field
+-- `letters`, otherwise none
+abbrev pub normal_right_named : List ℕ → ℕ → ℕ → Option ℕ
+normal_right_named letters letter corner = then_some (occurs letter letters) corner
+
 -- normal chess: the castling rights that the letters of a castling field name, as their rooks' squares: h1 (7) for K,
 -- a1 (0) for Q, h8 (63) for k, a8 (56) for q
 abbrev pub normal_rights_named : List ℕ → Rights
 normal_rights_named letters = record {
   white = record {
-    king_side = right_named letters (byte "K") 7;
-    queen_side = right_named letters (byte "Q") 0;
+    king_side = normal_right_named letters (byte "K") 7;
+    queen_side = normal_right_named letters (byte "Q") 0;
   };
   black = record {
-    king_side = right_named letters (byte "k") 63;
-    queen_side = right_named letters (byte "q") 56;
+    king_side = normal_right_named letters (byte "k") 63;
+    queen_side = normal_right_named letters (byte "q") 56;
   };
 }
 
@@ -79,8 +87,8 @@ normal_setup_by placement side castling target halfmove fullmove = do
   colour ← ok_or (side_of side) faults.Side
   rights ← ok_or (normal_rights_of castling) faults.Castling
   passed ← ok_or (target_of target) faults.EnPassant
-  clock ← ok_or (number_of halfmove) faults.Counters
-  number ← ok_or (number_of fullmove) faults.Counters
+  clock ← ok_or (short_number 6 halfmove) faults.Counters
+  number ← ok_or (short_number 6 fullmove) faults.Counters
   Ok (record {
     variant = Normal;
     men = men;
@@ -121,7 +129,7 @@ normal_fault p =
 
 -- `Ok p` if position p of normal chess is sound, otherwise the fault of the first condition of soundness that it fails
 abbrev pub normal_sound : Setup → Result Setup FenFault
-normal_sound p = unless_fault p (normal_fault p)
+normal_sound p = option_map_or Err (normal_fault p) (Ok p)
 
 -- the sound position that a text denotes as a FEN of normal chess; or the fault: of the first wrong field, or of the
 -- first condition of soundness that fails

@@ -1,6 +1,9 @@
 -- The parts of a text and whether they fit a move: [letter][file][rank][x]square[[=]promotion].
 use Rattle.std.specs.Prelude.{ℕ, ◌+◌, ◌==◌, Bool, true, false, not, ◌&&◌, ◌||◌, if◌then◌else◌, List, [], ◌∷◌, ◌++◌, Option, is_some, is_none}
+use Rattle.std.specs.List.{list_any}
+use Rattle.std.specs.Str.{bytes_eq}
 use Rattle.std.specs.Option.{option_eq, option_map, option_map_or}
+use Rattle.chess_base.specs.declared.man.CastlingSide.{CastlingSide}
 use Rattle.chess_base.specs.declared.man.CastlingSide.TheVariants.{KingSide, QueenSide}
 use Rattle.chess_base.specs.declared.man.Kind.{Kind}
 use Rattle.chess_base.specs.declared.man.Kind.TheVariants.{Pawn}
@@ -14,8 +17,17 @@ use Rattle.chess_text.specs.declared.parts.Parts.{Parts}
 use Rattle.chess_text.specs.declared.parts.Promotion.{Promotion}
 use Rattle.chess_base.specs.Options.{list_if}
 use Rattle.chess_text.specs.Parts.{unmarked, kind_text, file_text, rank_text}
-use Rattle.chess_text.specs.Moves.{is_castling_text, passes}
+use Rattle.chess_text.specs.Moves.{castling_texts}
 use Rattle.chess_text.specs.ties.Reader.{parts_at}
+
+-- the optional value `o` is there, and the test holds for it
+abbrev pub passes : {A : Type 0} → (A → Bool) → Option A → Bool
+passes test o = option_map_or test o false
+
+-- the text, but for the marks (+ # ! ?) at its end, is castling to side w: O-O or 0-0 on the king's side, O-O-O or
+-- 0-0-0 on the queen's
+unfoldable pub is_castling_text : List ℕ → CastlingSide → Bool
+is_castling_text text w = list_any (bytes_eq (unmarked text)) (castling_texts w)
 
 -- ---- the text of parts
 

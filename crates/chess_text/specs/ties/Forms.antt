@@ -12,7 +12,7 @@ use Rattle.chess_base.specs.declared.man.Move.{Move}
 use Rattle.chess_base.specs.declared.man.Variant.{Variant}
 use Rattle.chess_base.specs.declared.man.Variant.TheVariants.{Normal, Fischerandom}
 use Rattle.chess_base.specs.declared.setup.Setup.{Setup}
-use Rattle.chess_base.specs.Moves.{is_legal}
+use Rattle.chess_base.specs.Moves.{captured_square, is_legal}
 use Rattle.chess_base.specs.Castling.{castled_king_file, castling, home_square, right_of}
 use Rattle.chess_base.specs.Men.{same_kind}
 use Rattle.chess_base.specs.Squares.{file, rank}
@@ -26,8 +26,8 @@ use Rattle.chess_text.specs.ties.Reader.{parts_at}
 use Rattle.chess_moves.specs.Sets.{contains}
 use Rattle.chess_text.specs.declared.reading.Reading.{Reading}
 use Rattle.chess_text.specs.declared.reading.Reading.TheVariants as reads
-use Rattle.chess_text.specs.Moves.{captures, castling_texts, described, passes}
-use Rattle.chess_text.specs.ties.Fitting.{admits, parts_fit, is_form, names}
+use Rattle.chess_text.specs.Moves.{castling_texts, described}
+use Rattle.chess_text.specs.ties.Fitting.{passes, admits, parts_fit, is_form, names}
 
 -- the side to which a text, already without marks, denotes castling: O-O, 0-0, O-O-O or 0-0-0; none for any other text
 abbrev pub castling_named : List ℕ → Option CastlingSide
@@ -51,6 +51,10 @@ form_at None text = form_of_parts (parts_at text)
 -- `None` if it hasn't the shape of a move
 unfoldable pub form_of : List ℕ → Option Form
 form_of text = form_at (castling_named (unmarked text)) (unmarked text)
+
+-- move m of position p captures a piece, on its end square or en passant
+abbrev pub captures : Setup → Move → Bool
+captures p m = is_some (captured_square p m)
 
 -- two castling sides are equal
 abbrev pub same_side : CastlingSide → CastlingSide → Bool

@@ -1,14 +1,29 @@
 -- The parts of the text that is written for a move, as code puts them together.
-use Rattle.std.specs.Prelude.{ℕ, ◌==◌, Bool, true, false, not, if◌then◌else◌, List, [], ◌∷◌, Option, Some, None}
+use Rattle.std.specs.Prelude.{ℕ, ◌==◌, Bool, true, false, not, ◌&&◌, if◌then◌else◌, List, [], ◌∷◌, Option, Some, None}
 use Rattle.std.specs.List.{list_any}
-use Rattle.std.specs.Option.{option_map}
+use Rattle.std.specs.Option.{option_map, option_map_or}
 use Rattle.chess_base.specs.declared.man.Kind.TheVariants.{Pawn}
+use Rattle.chess_base.specs.declared.man.Move.{Move}
+use Rattle.chess_base.specs.declared.setup.Setup.{Setup}
 use Rattle.chess_base.specs.Men.{same_kind}
 use Rattle.chess_base.specs.Squares.{file, rank}
 use Rattle.chess_text.specs.declared.described.Described.{Described}
 use Rattle.chess_text.specs.declared.parts.End.{End}
 use Rattle.chess_text.specs.declared.parts.Parts.{Parts}
+use Rattle.chess_text.specs.Moves.{described}
+use Rattle.chess_text.specs.San.{castling_text, piece_text}
+use Rattle.chess_text.specs.ties.Fitting.{passes}
 use Rattle.chess_text.specs.declared.writing.Disambiguation.{Disambiguation}
+
+-- move m of position p is a rival of the described move d: it goes to d's end square with a piece of d's kind, but from
+-- another square
+unfoldable pub is_rival : Setup → Described → Move → Bool
+is_rival p d m = (m.to == d.to) && not (m.from == d.from) && passes (λ e. same_kind e.man d.man) (described p m)
+
+-- the SAN of the described move without `+` or `#`; `rivals` are the start squares of other pieces of its kind that
+-- could legally move to its end square
+abbrev pub unmarked_san : List ℕ → Described → List ℕ
+unmarked_san rivals d = option_map_or castling_text d.castles (piece_text rivals d)
 
 -- one of these squares is on the file f, 0 for a
 abbrev pub some_on_file : ℕ → List ℕ → Bool

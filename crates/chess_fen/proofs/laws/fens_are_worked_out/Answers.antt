@@ -1,17 +1,26 @@
 use Rattle.std.proofs.Common.{refl}
-use Rattle.std.specs.Prelude.{◌∷◌, ◌++◌, replicate, None}
+use Rattle.std.specs.Prelude.{◌∷◌, ◌++◌, replicate, codes, None}
 use Rattle.chess_base.specs.declared.man.Colour.TheVariants.{White}
 use Rattle.chess_base.specs.declared.man.Kind.TheVariants.{Pawn}
 use Rattle.chess_base.specs.Castling.{king_square}
 use Rattle.chess_base.specs.Men.{is_man}
 use Rattle.chess_base.specs.Initial.{man_of}
 use Rattle.chess_fen.specs.Texts.{may_name_right}
+use Rattle.chess_base.specs.declared.man.Variant.TheVariants.{Normal}
+use Rattle.chess_fen.proofs.DenotedFen.{text_outcome}
 use Rattle.chess_fen.proofs.OneRankText.{rank_text_is}
 use Rattle.chess_fen.proofs.laws.fens_are_worked_out.Goals as goal
 
 pub returns-clause-fields : goal.returns-clause-fields
 unfolding may_name_right
-returns-clause-fields c = (refl, refl, refl)
+returns-clause-fields c = (
+  refl,
+  (
+    codes "-",
+    text_outcome Normal (codes "4k3/8/8/8/8/8/4P3/4K3 b - - 5 39"),
+    refl,
+  ),
+)
 
 pub returns-clause-rank : goal.returns-clause-rank
 returns-clause-rank c = rank_text_is (replicate 4 None ++ (man_of White Pawn ∷ replicate 3 None)) refl
