@@ -12,7 +12,7 @@ use Rattle.chess_text.specs.San.{is_fischerandom}
 use Rattle.chess_text.specs.declared.reading.Reading.{Reading}
 use Rattle.chess_text.specs.declared.reading.Reading.TheVariants as reads
 use Rattle.chess_game.specs.Ends.{claims, draw_claim}
-use Rattle.chess_game.specs.Game.{State, from_start, taken_back, with_declared, current, verdict_now, is_over, contradicts_verdict}
+use Rattle.chess_game.specs.Game.{State, from_start, taken_back, current, verdict_now, is_over, contradicts_verdict}
 use Rattle.chess_game.specs.declared.verdicts.DrawClaim.{DrawClaim}
 use Rattle.chess_game.specs.declared.results.Declared.{Declared}
 use Rattle.chess_pgn.specs.declared.tags.Tags.{Tags}
@@ -27,7 +27,7 @@ use Rattle.chess_cecp.specs.Declaring.{read_result}
 use Rattle.chess_cecp.specs.Held.{SessionSeen}
 use Rattle.text_lines.specs.Lines.{LineSeen}
 use Rattle.chess_cecp.specs.Serving.{Response, says, becomes}
-use Rattle.chess_cecp.specs.Session.{row, refuses, result_row, setboard_row, features_line, reading_row, move_row, session_response}
+use Rattle.chess_cecp.specs.Session.{row, answers, result_row, setboard_row, features_line, reading_row, move_row, session_response}
 use Rattle.chess_cecp.proofs.Claims.{claimed_row}
 use Rattle.chess_cecp.specs.ties.Replies.{is_quit, is_quit_command, reply_to, asks_for_moves, asks_for_pgn}
 
@@ -48,8 +48,8 @@ reading_on s text reads.NotAMove = refl
 move_on : (limit : ℕ) (s : State) (text : List ℕ) → GoesOn (move_row limit s text)
 move_on limit s text =
     let read : Response State = reading_row s text (reading (current s) text) in
-    let long : Response State = refuses s (codes "Error (game too long): ") text in
-    by_test (is_over s) (refuses s (codes "Illegal move (game over): ") text)
+    let long : Response State = answers s (codes "Error (game too long): ") text in
+    by_test (is_over s) (answers s (codes "Illegal move (game over): ") text)
     (if nat_le limit (length s.moves) then long else read) refl
     (by_test (nat_le limit (length s.moves)) long read refl (reading_on s text (reading (current s) text)))
 
@@ -61,8 +61,8 @@ result_on : (s : State) (text : List ℕ) (d : Option Declared) → GoesOn (resu
 result_on s text None = refl
 result_on s text (Some d) =
     by_test (contradicts_verdict (verdict_now s) d.outcome)
-    (refuses s (codes "Error (the board says otherwise): ") text)
-    (becomes (with_declared s (Some d))) refl refl
+    (answers s (codes "Error (the board says otherwise): ") text)
+    (becomes (record s { declared = Some d })) refl refl
 
 claimed_on : (s : State) (claim : Option DrawClaim) → GoesOn (claimed_row s claim)
 claimed_on s (Some claim) = refl
@@ -76,13 +76,13 @@ row_ends tags limit s text argument UserMove = move_on limit s argument
 row_ends tags limit s text argument BareMove = move_on limit s text
 row_ends tags limit s text argument Undo =
     by_test (nat_le 1 (length s.moves)) (becomes (taken_back s 1))
-    (refuses s (codes "Error (command not legal now): ") (codes "undo")) refl refl
+    (answers s (codes "Error (command not legal now): ") (codes "undo")) refl refl
 row_ends tags limit s text argument Remove =
     by_test (nat_le 2 (length s.moves)) (becomes (taken_back s 2))
-    (refuses s (codes "Error (command not legal now): ") (codes "remove")) refl refl
+    (answers s (codes "Error (command not legal now): ") (codes "remove")) refl refl
 row_ends tags limit s text argument Declare = result_on s text (read_result argument)
 row_ends tags limit s text argument Claim =
-    by_test (is_over s) (refuses s (codes "Error (command not legal now): ") (codes "claim"))
+    by_test (is_over s) (answers s (codes "Error (command not legal now): ") (codes "claim"))
     (claimed_row s (draw_claim (claims s.start s.moves))) refl
     (claimed_on s (draw_claim (claims s.start s.moves)))
 row_ends tags limit s text argument (Ping n) = refl
@@ -91,7 +91,7 @@ row_ends tags limit s text argument (Protover n) =
 row_ends tags limit s text argument Variant =
     let normal : Response State =
     becomes (if is_fischerandom s.start.variant then from_start initial_setup else s) in
-    let other : Response State = refuses s (codes "Error (unsupported variant): ") text in
+    let other : Response State = answers s (codes "Error (unsupported variant): ") text in
     by_test (bytes_eq argument (codes "fischerandom")) (becomes (from_start (initial_setup_of Fischerandom)))
     (if bytes_eq argument (codes "normal") then normal else other) refl
     (by_test (bytes_eq argument (codes "normal")) normal other refl refl)
@@ -109,7 +109,7 @@ line_ends : (seen : SessionSeen) (line : LineSeen) → (session_response seen li
 unfolding session_response is_quit
 line_ends seen line = at line.too_long
   where
-    at : (long : Bool) → (if long then refuses seen.state (codes "Error (line too long): ") line.text
+    at : (long : Bool) → (if long then answers seen.state (codes "Error (line too long): ") line.text
         else row seen.tags seen.limit seen.state line.text (argument_of line.text) (command_of line.text)).ends
         ≡ (not long && is_quit_command (command_of line.text))
     at true = refl

@@ -3,7 +3,7 @@
 use Rattle.std.proofs.Common.{◌≡◌, ℕ, ◌+◌, ◌==◌, cond, nat_le, Bool, ◌&&◌, ◌||◌, List, [], ◌∷◌, ◌++◌, length, codes, Option, None, Some, is_some, refl, sym, ap, ◌∙◌, if◌then◌else◌}
 use Rattle.std.specs.Prelude.{count_by, decimal, not}
 use Rattle.std.specs.List.{list_any}
-use Rattle.std.specs.Option.{option_map_or}
+use Rattle.std.specs.Option.{option_map, option_map_or, option_or}
 use Rattle.std.specs.Str.{bytes_eq}
 use Rattle.std.proofs.lemmas.List.Sums.{sum_by-cons}
 use Rattle.chess_base.specs.declared.man.Colour.TheVariants.{White, Black}
@@ -12,6 +12,7 @@ use Rattle.chess_base.specs.declared.man.Variant.{Variant}
 use Rattle.chess_base.specs.declared.man.Variant.TheVariants.{Normal}
 use Rattle.chess_base.specs.declared.setup.Setup.{Setup}
 use Rattle.chess_base.specs.Attacks.{is_in_check}
+use Rattle.chess_base.specs.ByColour.{by_colour}
 use Rattle.chess_base.specs.Initial.{initial_setup, initial_setup_of}
 use Rattle.chess_base.specs.Men.{other, same_colour}
 use Rattle.chess_base.specs.Moves.{after, is_en_passant}
@@ -25,11 +26,11 @@ use Rattle.chess_text.specs.San.{is_fischerandom}
 use Rattle.chess_text.specs.laws.Normal.{normal_moves, normal_san}
 use Rattle.chess_text.proofs.shared.Normal.{normal_kept as texts_kept}
 use Rattle.chess_game.specs.declared.verdicts.Verdict.{Verdict}
-use Rattle.chess_game.specs.declared.verdicts.Verdict.TheVariants.{Stalemate, InsufficientMaterial, FivefoldRepetition, SeventyFiveMoves}
+use Rattle.chess_game.specs.declared.verdicts.Verdict.TheVariants.{WhiteMates, BlackMates, Stalemate, InsufficientMaterial, FivefoldRepetition, SeventyFiveMoves}
 use Rattle.chess_game.specs.declared.results.Declared.{Declared}
 use Rattle.chess_game.specs.declared.results.Outcome.{Outcome}
 use Rattle.chess_game.specs.declared.results.Outcome.TheVariants.{Unfinished}
-use Rattle.chess_game.specs.Ends.{has_insufficient_material, mate_by, verdict, verdict_outcome, claims}
+use Rattle.chess_game.specs.Ends.{has_insufficient_material, verdict, verdict_result, claims}
 use Rattle.chess_game.specs.Game.{State, is_over, outcome_now}
 use Rattle.chess_game.specs.Line.{positions_of, position_after}
 use Rattle.chess_game.specs.Results.{outcome_text}
@@ -106,7 +107,8 @@ rep_kept p e ms =
 -- the verdict, by what it is judged of
 judged : Setup → List Move → ℕ → Option Verdict
 judged p ms n =
-    if length ms == 0 then (if is_in_check p.men p.side then Some (mate_by (other p.side)) else Some Stalemate)
+    if length ms == 0
+    then Some (if is_in_check p.men p.side then by_colour WhiteMates BlackMates (other p.side) else Stalemate)
     else if has_insufficient_material p.men then Some InsufficientMaterial
     else if nat_le 5 n then Some FivefoldRepetition
     else if nat_le 150 p.halfmove then Some SeventyFiveMoves
@@ -132,7 +134,7 @@ over_kept s e = ap (λ v. is_some v || is_some s.declared) (verdict_kept s.start
 
 pub outcome_kept : (s : State) → s.start.variant ≡ Normal → outcome_now s ≡ normal_outcome_now s
 outcome_kept s e =
-    ap (λ v. option_map_or verdict_outcome v (option_map_or (λ (d : Declared). d.outcome) s.declared Unfinished))
+    ap (λ v. option_map_or (λ (d : Declared). d.outcome) (option_or (option_map verdict_result v) s.declared) Unfinished)
     (verdict_kept s.start e s.moves)
 
 -- ---- the text

@@ -8,8 +8,8 @@ use Rattle.text_lines.specs.Words.{argument_of}
 use Rattle.chess_cecp.specs.Held.{SessionSeen}
 use Rattle.text_lines.specs.Lines.{LineSeen}
 use Rattle.chess_cecp.specs.Serving.{Response, says}
-use Rattle.chess_cecp.specs.Session.{row, game_response, moves_line, session_response}
-use Rattle.chess_cecp.specs.ties.Replies.{after_row, is_quit, reply_to, shows_moves, shows_pgn, asks_for_moves, asks_for_pgn}
+use Rattle.chess_cecp.specs.Session.{row, answers, session_response}
+use Rattle.chess_cecp.specs.ties.Replies.{moves_line, after_row, is_quit, reply_to, shows_moves, shows_pgn, asks_for_moves, asks_for_pgn}
 use Rattle.chess_game.specs.Game.{State, current}
 use Rattle.chess_cecp.specs.declared.session.Go.{Go as Further}
 use Rattle.chess_cecp.specs.declared.session.Go.TheVariants as further
@@ -68,7 +68,9 @@ said : (seen : SessionSeen) (line : LineSeen) (command : Command) (text : List �
     → session_response seen line ≡ says seen text
 unfolding session_response
 said seen line command text short is says_it =
-    let at : game_response seen line ≡ says seen.state text =
+    let at : (if line.too_long then answers seen.state (codes "Error (line too long): ") line.text
+    else row seen.tags seen.limit seen.state line.text (argument_of line.text) (command_of line.text))
+    ≡ says seen.state text =
     rw short (ap (row seen.tags seen.limit seen.state line.text (argument_of line.text)) is ∙ says_it) in
     ap (λ (r : Response State). record { text = r.text; state = after_row seen r; ends = r.ends }) at
 

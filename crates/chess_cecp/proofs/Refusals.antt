@@ -1,5 +1,5 @@
 -- Rows whose text is a refusal change nothing.
-use Rattle.std.proofs.Common.{◌≡◌, ℕ, ◌==◌, ◌||◌, inl, inr, Bool, true, false, List, [], get_or, codes, refl, sym, ap, ◌∙◌, if◌then◌else◌, length, Option, None, Some}
+use Rattle.std.proofs.Common.{◌≡◌, ℕ, ◌==◌, ◌||◌, inl, inr, Bool, true, false, List, [], ◌∷◌, ◌++◌, get_or, codes, refl, sym, ap, ◌∙◌, if◌then◌else◌, length, Option, None, Some}
 use Rattle.std.specs.Prelude.{nat_le, nat_lt, Result, Ok, Err}
 use Rattle.std.specs.Option.{option_map_or}
 use Rattle.std.specs.Str.{bytes_eq}
@@ -8,6 +8,7 @@ use Rattle.chess_base.specs.declared.man.Variant.TheVariants.{Fischerandom}
 use Rattle.chess_base.specs.declared.setup.Setup.{Setup}
 use Rattle.chess_fen.specs.Reading.{fen_reading_as}
 use Rattle.chess_base.specs.Initial.{initial_setup, initial_setup_of}
+use Rattle.chess_base.specs.Letters.{new_line}
 use Rattle.text_lines.specs.Lines.{LineSeen}
 use Rattle.chess_cecp.specs.Held.{SessionSeen}
 use Rattle.chess_pgn.specs.declared.tags.Tags.{Tags}
@@ -17,19 +18,18 @@ use Rattle.chess_text.specs.declared.reading.Reading.{Reading}
 use Rattle.chess_text.specs.declared.reading.Reading.TheVariants as reads
 use Rattle.chess_cecp.specs.Commands.{command_of}
 use Rattle.text_lines.specs.Words.{argument_of}
-use Rattle.chess_game.specs.Ends.{verdict_outcome, verdict_comment, claims, draw_claim, claim_comment}
-use Rattle.chess_game.specs.Game.{State, from_start, played, taken_back, with_declared, current, verdict_now, is_over, contradicts_verdict}
+use Rattle.chess_game.specs.Ends.{verdict_result, result_text, claims, draw_claim, claim_comment}
+use Rattle.chess_game.specs.Game.{State, from_start, played, taken_back, current, verdict_now, is_over, contradicts_verdict}
 use Rattle.chess_game.specs.declared.verdicts.Verdict.{Verdict}
 use Rattle.chess_game.specs.declared.results.Declared.{Declared}
 use Rattle.chess_game.specs.declared.results.Outcome.{Outcome}
 use Rattle.chess_game.specs.declared.results.Outcome.TheVariants.{WhiteWins, BlackWins, Draw, Unfinished}
 use Rattle.chess_game.specs.declared.verdicts.DrawClaim.{DrawClaim}
 use Rattle.chess_cecp.specs.Declaring.{read_result}
-use Rattle.chess_game.specs.Results.{result_text}
 use Rattle.chess_cecp.specs.declared.command.Command.{Command}
 use Rattle.chess_cecp.specs.declared.command.Command.TheVariants.{New, SetBoard, UserMove, BareMove, Undo, Remove, Declare, Claim, Ping, Protover, Variant, Go, ShowFen, ShowMoves, ShowState, ShowPgn, Quit, Silent, BadNumber, Unknown}
 use Rattle.chess_cecp.specs.Serving.{Response, says, becomes}
-use Rattle.chess_cecp.specs.Session.{row, refuses, becomes_judged, result_line, result_row, declares_draw, setboard_row, features_line, reading_row, move_row, IsRefusal, session_response}
+use Rattle.chess_cecp.specs.Session.{row, answers, becomes_judged, result_row, declares, setboard_row, features_line, reading_row, move_row, IsRefusal, session_response}
 use Rattle.chess_cecp.proofs.Claims.{claimed_row}
 
 -- the first bytes of refusals: E, I and t
@@ -54,17 +54,21 @@ by_test : (b : Bool) (s : State) (x y : Response State) → KeepsRefused s x →
 by_test true s x y h k = h
 by_test false s x y h k = k
 
-result_begins : (o : Outcome) (comment : List ℕ) → begins_refusal (result_line o comment) ≡ false
-unfolding result_line result_text
-result_begins WhiteWins comment = refl
-result_begins BlackWins comment = refl
-result_begins Draw comment = refl
-result_begins Unfinished comment = refl
+outcome_begins : (o : Outcome) (comment : List ℕ)
+    → begins_refusal (result_text (record { outcome = o; comment = comment }) ++ new_line ∷ []) ≡ false
+unfolding result_text
+outcome_begins WhiteWins comment = refl
+outcome_begins BlackWins comment = refl
+outcome_begins Draw comment = refl
+outcome_begins Unfinished comment = refl
+
+result_begins : (d : Declared) → begins_refusal (result_text d ++ new_line ∷ []) ≡ false
+result_begins d = outcome_begins d.outcome d.comment
 
 verdict_begins : (o : Option Verdict)
-    → begins_refusal (option_map_or (λ v. result_line (verdict_outcome v) (verdict_comment v)) o []) ≡ false
+    → begins_refusal (option_map_or (λ v. result_text (verdict_result v) ++ new_line ∷ []) o []) ≡ false
 verdict_begins None = refl
-verdict_begins (Some v) = result_begins (verdict_outcome v) (verdict_comment v)
+verdict_begins (Some v) = result_begins (verdict_result v)
 
 reading_keeps : (s : State) (text : List ℕ) (r : Reading) → KeepsRefused s (reading_row s text r)
 reading_keeps s text (reads.Move m) = accepted s (becomes_judged (played s m))
@@ -75,13 +79,13 @@ reading_keeps s text reads.NotAMove = λ h. refl
 
 -- the row of a move where the game is not over
 abbrev room_row : ℕ → State → List ℕ → Response State
-room_row limit s text = if nat_le limit (length s.moves) then refuses s (codes "Error (game too long): ") text else
+room_row limit s text = if nat_le limit (length s.moves) then answers s (codes "Error (game too long): ") text else
     reading_row s text (reading (current s) text)
 
 move_keeps : (limit : ℕ) (s : State) (text : List ℕ) → KeepsRefused s (move_row limit s text)
 move_keeps limit s text =
-    by_test (is_over s) s (refuses s (codes "Illegal move (game over): ") text) (room_row limit s text) (λ h. refl)
-    (by_test (nat_le limit (length s.moves)) s (refuses s (codes "Error (game too long): ") text)
+    by_test (is_over s) s (answers s (codes "Illegal move (game over): ") text) (room_row limit s text) (λ h. refl)
+    (by_test (nat_le limit (length s.moves)) s (answers s (codes "Error (game too long): ") text)
     (reading_row s text (reading (current s) text)) (λ h. refl)
     (reading_keeps s text (reading (current s) text)))
 
@@ -94,16 +98,16 @@ result_keeps : (s : State) (text : List ℕ) (d : Option Declared) → KeepsRefu
 result_keeps s text None = λ h. refl
 result_keeps s text (Some d) =
     by_test (contradicts_verdict (verdict_now s) d.outcome) s
-    (refuses s (codes "Error (the board says otherwise): ") text)
-    (becomes (with_declared s (Some d)))
+    (answers s (codes "Error (the board says otherwise): ") text)
+    (becomes (record s { declared = Some d }))
     (λ h. refl)
-    (accepted s (becomes (with_declared s (Some d))) refl)
+    (accepted s (becomes (record s { declared = Some d })) refl)
 
-draws_keeps : (s : State) (comment : List ℕ) → KeepsRefused s (declares_draw s comment)
-draws_keeps s comment = accepted s (declares_draw s comment) (result_begins Draw comment)
+declares_keeps : (s : State) (d : Declared) → KeepsRefused s (declares s d)
+declares_keeps s d = accepted s (declares s d) (result_begins d)
 
 claimed_keeps : (s : State) (claim : Option DrawClaim) → KeepsRefused s (claimed_row s claim)
-claimed_keeps s (Some claim) = draws_keeps s (claim_comment claim)
+claimed_keeps s (Some claim) = declares_keeps s (record { outcome = Draw; comment = claim_comment claim })
 claimed_keeps s None = λ h. refl
 
 row_keeps : (tags : Tags) (limit : ℕ) (s : State) (text argument : List ℕ) (command : Command)
@@ -114,17 +118,17 @@ row_keeps tags limit s text argument UserMove = move_keeps limit s argument
 row_keeps tags limit s text argument BareMove = move_keeps limit s text
 row_keeps tags limit s text argument Undo =
     by_test (nat_le 1 (length s.moves)) s (becomes (taken_back s 1))
-    (refuses s (codes "Error (command not legal now): ") (codes "undo"))
+    (answers s (codes "Error (command not legal now): ") (codes "undo"))
     (accepted s (becomes (taken_back s 1)) refl)
     (λ h. refl)
 row_keeps tags limit s text argument Remove =
     by_test (nat_le 2 (length s.moves)) s (becomes (taken_back s 2))
-    (refuses s (codes "Error (command not legal now): ") (codes "remove"))
+    (answers s (codes "Error (command not legal now): ") (codes "remove"))
     (accepted s (becomes (taken_back s 2)) refl)
     (λ h. refl)
 row_keeps tags limit s text argument Declare = result_keeps s text (read_result argument)
 row_keeps tags limit s text argument Claim =
-    by_test (is_over s) s (refuses s (codes "Error (command not legal now): ") (codes "claim"))
+    by_test (is_over s) s (answers s (codes "Error (command not legal now): ") (codes "claim"))
     (claimed_row s (draw_claim (claims s.start s.moves))) (λ h. refl)
     (claimed_keeps s (draw_claim (claims s.start s.moves)))
 row_keeps tags limit s text argument (Ping n) = λ h. refl
@@ -133,7 +137,7 @@ row_keeps tags limit s text argument (Protover n) =
 row_keeps tags limit s text argument Variant =
     let normal : Response State =
     becomes (if is_fischerandom s.start.variant then from_start initial_setup else s) in
-    let other : Response State = refuses s (codes "Error (unsupported variant): ") text in
+    let other : Response State = answers s (codes "Error (unsupported variant): ") text in
     by_test (bytes_eq argument (codes "fischerandom")) s (becomes (from_start (initial_setup_of Fischerandom)))
     (if bytes_eq argument (codes "normal") then normal else other)
     (accepted s (becomes (from_start (initial_setup_of Fischerandom))) refl)
@@ -153,7 +157,7 @@ pub refused_keeps : (seen : SessionSeen) (line : LineSeen) → IsRefusal (sessio
 unfolding session_response
 refused_keeps seen line h =
     ap (λ v. record { tags = seen.tags; limit = seen.limit; state = v })
-    (by_test line.too_long seen.state (refuses seen.state (codes "Error (line too long): ") line.text)
+    (by_test line.too_long seen.state (answers seen.state (codes "Error (line too long): ") line.text)
     (row seen.tags seen.limit seen.state line.text (argument_of line.text) (command_of line.text))
     (λ k. refl)
     (row_keeps seen.tags seen.limit seen.state line.text (argument_of line.text) (command_of line.text))

@@ -1,11 +1,12 @@
 -- A run of a server of lines, line by line.
 use Rattle.std.proofs.Common.{◌≡◌, ℕ, ◌+◌, ◌-◌, ◌≤◌, inl, inr, Bool, true, false, List, [], ◌∷◌, ◌++◌, length, take, Some, None, Ok, Err, refl, sym, ap, ◌∙◌, arith, append_assoc, append-nil, length-append, if◌then◌else◌, subst}
-use Rattle.std.proofs.Math.Seq.{take-append-add}
+use Rattle.std.proofs.Math.Seq.{take-append-add, take-append_seam}
+use Rattle.std.specs.Prelude.{slice_get}
 use Rattle.std.specs.Io.KnownBytes.{Consumes, IsAtEnd}
 use Rattle.std.specs.Bool.{MatchBool}
 use Rattle.std.proofs.lemmas.Grind.{common_steps}
 use Rattle.byte_devices.specs.Devices.{InputState, OutputState, Sent, CutShort, saturating_increment}
-use Rattle.byte_devices.specs.Transfers.{FromInput, InputGave, OutputTook, Ran, all_of, saturating_increment_if}
+use Rattle.byte_devices.specs.Transfers.{FromInput, ToOutput, InputGave, OutputTook, Ran, BreaksOffIn, all_of, saturating_increment_if}
 use Rattle.byte_devices.proofs.shared.Devices.{consumes_more, consumes_none}
 use Rattle.byte_devices.proofs.shared.Transfers.{came, broke, took_nothing, took_all, took_more, took_some_more}
 use Rattle.text_lines.specs.Lines.{LineSeen, Held, nothing_held, stream_lines, lines_held, complete_lines}
@@ -254,31 +255,46 @@ by_line {respond} {r} {r''} {w} {w'} {w''} {s} {s'} {s''} {done} line f (all, re
   ),
 )
 
+-- the line that was reached, and the lines before it
+line_there : (done : List LineSeen) (line : LineSeen) (after : List LineSeen)
+    → slice_get (done ++ line ∷ after) (length done) ≡ Some line
+line_there [] line after = refl
+line_there (x ∷ done) line after = line_there done line after
+
+-- a line's answer was broken off, after the answers to those before it, which are done
+abbrev BreaksOff : {S : Type 0} → Server S → S → S → LineSeen → ToOutput → List LineSeen → Type 0
+BreaksOff respond s s' line o done =
+    ((responses respond s done).ends ≡ false)
+    × BreaksOffIn (responses respond s done).text (respond (responses respond s done).state line).text o
+    × (s' ≡ (respond (responses respond s done).state line).state)
+
 -- a run that ends at a write that failed
 pub by_write : {S : Type 0} {respond : Server S} {r r' r'' : InputState} {w w' w'' : OutputState} {s s' s'' : S}
     {held : Held} {given : List ℕ} {done : List LineSeen} (line : LineSeen)
     → SoFar respond r r' w w' s s' held given done → IsReached r r'' done line
     → CutShort w' w'' (respond s' line).text → s'' ≡ (respond s' line).state
     → Ran (Served respond s s'' (Err Write)) (record { input = r; output = w }) (record { input = r''; output = w'' })
-by_write {respond} {r''} {w} {w'} {w''} {s} {done} line f (all, reported, after, at) (start, (rest, is), broke_off)
-    next = (
+by_write {respond} {r''} {w} {w'} {w''} {s} {s''} {done} line f (all, reported, after, at)
+    (begun, (rest, is), broke_off) next =
+    let out : ToOutput = broke (responses respond s done).text begun in
+    let here : BreaksOff respond s s'' line out done = (
+      f.goes_on,
+      (refl, (rest, is ∙ ap (λ v. (respond v line).text) f.state), refl),
+      next ∙ ap (λ v. (respond v line).state) f.state,
+    ) in (
       came r'' all reported false,
-      broke (responses respond s done).text start,
+      out,
       gave at,
-      took_some_more w w' w'' (responses respond s done).text start f.took broke_off,
+      took_some_more w w' w'' (responses respond s done).text begun f.took broke_off,
       (
         refl,
         (
-          done,
+          length done,
           line,
-          after,
-          at.lines,
+          ap (λ v. slice_get v (length done)) at.lines ∙ line_there done line after,
           at.on_demand,
-          (
-            f.goes_on,
-            (refl, (rest, is ∙ ap (λ v. (respond v line).text) f.state), refl),
-            next ∙ ap (λ v. (respond v line).state) f.state,
-          ),
+          subst (BreaksOff respond s s'' line out)
+              (sym (ap (take (length done)) at.lines ∙ take-append_seam done (line ∷ after))) here,
         ),
       ),
     )

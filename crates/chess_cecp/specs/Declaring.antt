@@ -2,12 +2,11 @@
 use Rattle.std.specs.Prelude.{ℕ, ◌-◌, ◌==◌, ◌&&◌, nat_le, if◌then◌else◌, List, [], ◌++◌, length, take, drop, slice_index_or, codes, decimal, Option, None, Some}
 use Rattle.std.specs.Option.{option_map_or}
 use Rattle.chess_base.specs.Letters.{byte}
-use Rattle.chess_game.specs.Ends.{verdict_result, claims}
+use Rattle.chess_game.specs.Ends.{verdict_result, claims, result_text}
 use Rattle.chess_game.specs.Game.{State, current, verdict_now}
-use Rattle.chess_game.specs.Results.{result_text, cut_comment}
+use Rattle.chess_game.specs.Results.{cut_comment}
 use Rattle.chess_game.specs.Same.{repetition_count}
 use Rattle.chess_game.specs.declared.verdicts.Claims.{Claims}
-use Rattle.chess_game.specs.declared.verdicts.Verdict.{Verdict}
 use Rattle.chess_game.specs.declared.results.Declared.{Declared}
 use Rattle.chess_pgn.specs.Words.{outcome_of}
 use Rattle.text_lines.specs.Words.{word_of, argument_of}
@@ -31,14 +30,6 @@ read_result argument = do
   comment ← result_comment (argument_of argument)
   Some (record { outcome = outcome; comment = cut_comment comment })
 
--- the board's verdict as `showstate` writes it, such as `1-0 {White mates}`; `none` without one
-abbrev pub verdict_text : Option Verdict → List ℕ
-verdict_text verdict = option_map_or verdict_result verdict (codes "none")
-
--- the result that was declared as `showstate` writes it, such as `1-0 {Black resigns}`; `none` without one
-abbrev pub declared_text : Option Declared → List ℕ
-declared_text declared = option_map_or (λ d. result_text d.outcome d.comment) declared (codes "none")
-
 -- which draws can be claimed, as `showstate` writes it: `threefold+50`, `threefold`, `50` or `none`
 abbrev pub claims_text : Claims → List ℕ
 claims_text c =
@@ -47,11 +38,12 @@ claims_text c =
 
 -- what `showstate` writes after `# state ply `: the number of half-moves, how often the current position has occurred
 -- (`rep`, 1 at the first time), the halfmove clock, the draws that can be claimed, the verdict and the declared result,
--- as in `0 rep 1 clock 0 claims none verdict none declared none`
+-- as in `0 rep 1 clock 0 claims none verdict none declared none`, with `1-0 {White mates}` for a verdict or a result
 unfoldable pub state_text : State → List ℕ
 state_text s =
     decimal (length s.moves)
     ++ (codes " rep " ++ (decimal (repetition_count s.start s.moves)
     ++ (codes " clock " ++ (decimal (current s).halfmove
-    ++ (codes " claims " ++ (claims_text (claims s.start s.moves) ++ (codes " verdict " ++ (verdict_text (verdict_now s)
-    ++ (codes " declared " ++ declared_text s.declared)))))))))
+    ++ (codes " claims " ++ (claims_text (claims s.start s.moves)
+    ++ (codes " verdict " ++ (option_map_or (λ v. result_text (verdict_result v)) (verdict_now s) (codes "none")
+    ++ (codes " declared " ++ option_map_or result_text s.declared (codes "none"))))))))))

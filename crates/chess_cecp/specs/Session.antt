@@ -8,7 +8,6 @@ use Rattle.chess_base.specs.declared.fen_fault.FenFault.{FenFault}
 use Rattle.chess_base.specs.Faults.{fen_fault_name}
 use Rattle.chess_base.specs.declared.man.Move.{Move}
 use Rattle.chess_base.specs.declared.man.Variant.TheVariants.{Fischerandom}
-use Rattle.chess_game.specs.declared.results.Outcome.{Outcome}
 use Rattle.chess_base.specs.declared.setup.Setup.{Setup}
 use Rattle.chess_base.specs.Initial.{initial_setup, initial_setup_of}
 use Rattle.std.specs.List.{flat_map}
@@ -27,44 +26,36 @@ use Rattle.chess_text.specs.declared.reading.Reading.{Reading}
 use Rattle.chess_text.specs.declared.reading.Reading.TheVariants as reads
 use Rattle.chess_cecp.specs.Commands.{command_of}
 use Rattle.text_lines.specs.Words.{argument_of}
-use Rattle.chess_game.specs.Results.{result_text}
 use Rattle.chess_cecp.specs.Declaring.{read_result, state_text}
-use Rattle.chess_game.specs.Ends.{verdict_outcome, verdict_comment, claims, draw_claim, claim_comment}
-use Rattle.chess_game.specs.Game.{State, from_start, played, taken_back, with_declared, current, verdict_now, is_over, contradicts_verdict}
+use Rattle.chess_game.specs.Ends.{verdict_result, result_text, claims, draw_claim, claim_comment}
+use Rattle.chess_game.specs.Game.{State, from_start, played, taken_back, current, verdict_now, is_over, contradicts_verdict}
 use Rattle.chess_game.specs.declared.results.Declared.{Declared}
 use Rattle.chess_game.specs.declared.results.Outcome.TheVariants.{Draw}
 use Rattle.chess_cecp.specs.declared.command.Command.{Command}
 use Rattle.chess_cecp.specs.declared.command.Command.TheVariants.{New, SetBoard, UserMove, BareMove, Undo, Remove, Declare, Claim, Ping, Protover, Variant, Go, ShowFen, ShowMoves, ShowState, ShowPgn, Quit, Silent, BadNumber, Unknown}
 
--- a line of two texts, with `\n` at its end: `pong ` and `7` give `pong 7`
-abbrev pub joined_line : List ℕ → List ℕ → List ℕ
-joined_line front text = front ++ (text ++ new_line ∷ [])
+-- the line made of `front` and `text` is answered, such as `Illegal move: e5` or `pong 7`, with `\n` at its end, and the
+-- game `s` does not change
+abbrev pub answers : State → List ℕ → List ℕ → Response State
+answers s front text = says s (front ++ (text ++ new_line ∷ []))
 
--- the line made of `front` and `text` is answered, such as `Illegal move: e5`, and the game `s` does not change
-abbrev pub refuses : State → List ℕ → List ℕ → Response State
-refuses s front text = says s (joined_line front text)
-
--- the line of a result with its comment, such as `1-0 {White mates}`, with `\n` at its end
-unfoldable pub result_line : Outcome → List ℕ → List ℕ
-result_line o comment = result_text o comment ++ new_line ∷ []
-
--- the game becomes `s`, and the answer is the line of the board's verdict on it; nothing is answered if there is none
+-- the game becomes `s`, and the answer is the line of the board's verdict on it, such as `1-0 {White mates}`; nothing is
+-- answered if there is none
 abbrev pub becomes_judged : State → Response State
-becomes_judged s =
-    says s (option_map_or (λ v. result_line (verdict_outcome v) (verdict_comment v)) (verdict_now s) [])
+becomes_judged s = says s (option_map_or (λ v. result_text (verdict_result v) ++ new_line ∷ []) (verdict_now s) [])
 
--- the line that lists these moves of the position `p`, in this order, after their number: `# moves 20 b1a3 b1c3 ..`,
--- with `\n` at its end. Castling is written by the king's squares, such as `e1g1`, in normal chess, and as `O-O` or
--- `O-O-O` in Chess960
-unfoldable pub moves_line : Setup → List Move → List ℕ
-moves_line p ms = joined_line (codes "# moves ") (decimal (length ms) ++ flat_map (λ m. space ∷ shown_move p m) ms)
+-- what `showmoves` writes after `# moves `: how many moves there are, and these moves of the position `p`, in this
+-- order, as in `20 b1a3 b1c3 ..`. Castling is written by the king's squares, such as `e1g1`, in normal chess, and as
+-- `O-O` or `O-O-O` in Chess960
+unfoldable pub moves_text : Setup → List Move → List ℕ
+moves_text p ms = decimal (length ms) ++ flat_map (λ m. space ∷ shown_move p m) ms
 
 -- the answer to `setboard` in the game `s`, by how its FEN was read
 abbrev pub setboard_row : State → Result Setup FenFault → Response State
 -- the game starts anew from the position `start`, and the board's verdict on it is answered, if there is one
 setboard_row s (Ok start) = becomes_judged (from_start start)
 -- the FEN is refused by its fault, as `tellusererror Illegal position (kings)`, and the game does not change
-setboard_row s (Err fault) = refuses s (codes "tellusererror Illegal position (") (fen_fault_name fault ++ codes ")")
+setboard_row s (Err fault) = answers s (codes "tellusererror Illegal position (") (fen_fault_name fault ++ codes ")")
 
 -- the line that answers `protover 2` and each later version, with `\n` at its end: the CECP features with the arbiter's
 -- values
@@ -77,15 +68,15 @@ features_line =
 -- several legal moves, or none (with the shape of a move or without), is refused
 abbrev pub reading_row : State → List ℕ → Reading → Response State
 reading_row s text (reads.Move m) = becomes_judged (played s m)
-reading_row s text reads.Ambiguous = refuses s (codes "Error (ambiguous move): ") text
-reading_row s text _ = refuses s (codes "Illegal move: ") text
+reading_row s text reads.Ambiguous = answers s (codes "Error (ambiguous move): ") text
+reading_row s text _ = answers s (codes "Illegal move: ") text
 
 -- the answer to a move's text in the game `s`, such as `e4` in `usermove e4`: refused if the game is over, by a verdict
 -- or by a declared result, or has `limit` half-moves or more; otherwise by what the text denotes (`reading_row`)
 abbrev pub move_row : ℕ → State → List ℕ → Response State
 move_row limit s text =
-    if is_over s then refuses s (codes "Illegal move (game over): ") text
-    else if nat_le limit (length s.moves) then refuses s (codes "Error (game too long): ") text
+    if is_over s then answers s (codes "Illegal move (game over): ") text
+    else if nat_le limit (length s.moves) then answers s (codes "Error (game too long): ") text
     else reading_row s text (reading (current s) text)
 
 -- the answer to `undo` (`n` is 1) or `remove` (`n` is 2) in the game `s`: the last `n` half-moves are taken back, a
@@ -94,30 +85,29 @@ move_row limit s text =
 abbrev pub take_back_row : ℕ → List ℕ → State → Response State
 take_back_row n name s =
     if nat_le n (length s.moves) then becomes (taken_back s n)
-    else refuses s (codes "Error (command not legal now): ") name
+    else answers s (codes "Error (command not legal now): ") name
 
 -- the answer to `result` in the game `s`, by the result that its argument declares; `text` is the whole line
 abbrev pub result_row : State → List ℕ → Option Declared → Response State
 -- the argument declares no result: the line is refused
-result_row s text None = refuses s (codes "Error (bad result): ") text
+result_row s text None = answers s (codes "Error (bad result): ") text
 -- `d` is declared, in place of any earlier result, and nothing is answered; but the line is refused if the board has a
 -- verdict with another outcome
 result_row s text (Some d) =
-    if contradicts_verdict (verdict_now s) d.outcome then refuses s (codes "Error (the board says otherwise): ") text
-    else becomes (with_declared s (Some d))
+    if contradicts_verdict (verdict_now s) d.outcome then answers s (codes "Error (the board says otherwise): ") text
+    else becomes (record s { declared = Some d })
 
--- a draw with this comment is declared in the game `s`, and answered, as `1/2-1/2 {50-move rule}`
-abbrev pub declares_draw : State → List ℕ → Response State
-declares_draw s comment =
-    says (with_declared s (Some (record { outcome = Draw; comment = comment }))) (result_line Draw comment)
+-- the result `d` is declared in the game `s`, and answered, as `1/2-1/2 {50-move rule}`
+abbrev pub declares : State → Declared → Response State
+declares s d = says (record s { declared = Some d }) (result_text d ++ new_line ∷ [])
 
 -- the answer to `claim` in the game `s`: if the game is not over and a draw can be claimed by threefold repetition or
 -- 50 moves (Laws, articles 9.2 and 9.3), the draw is declared; otherwise the claim is refused
 abbrev pub claim_row : State → Response State
 claim_row s =
-    if is_over s then refuses s (codes "Error (command not legal now): ") (codes "claim")
-    else option_map_or (λ claim. declares_draw s (claim_comment claim)) (draw_claim (claims s.start s.moves))
-    (refuses s (codes "Error (no claim): ") (codes "claim"))
+    if is_over s then answers s (codes "Error (command not legal now): ") (codes "claim")
+    else option_map_or (λ claim. declares s (record { outcome = Draw; comment = claim_comment claim }))
+    (draw_claim (claims s.start s.moves)) (answers s (codes "Error (no claim): ") (codes "claim"))
 
 -- the answer to `variant` in the game `s`, by its argument (`text` is the whole line): `fischerandom` starts a new game
 -- of Chess960 at the initial position of normal chess; `normal` starts one of normal chess if `s` is of Chess960, and
@@ -127,7 +117,7 @@ variant_row s text argument =
     if bytes_eq argument (codes "fischerandom") then becomes (from_start (initial_setup_of Fischerandom))
     else if bytes_eq argument (codes "normal")
     then becomes (if is_fischerandom s.start.variant then from_start initial_setup else s)
-    else refuses s (codes "Error (unsupported variant): ") text
+    else answers s (codes "Error (unsupported variant): ") text
 
 -- the table of commands: what a session does in the game `s` with a line that has this command. `text` is the whole
 -- line, `argument` what follows its first word; `limit` is the most half-moves of a game, and `tags` are those that
@@ -141,31 +131,25 @@ row tags limit s text argument Undo = take_back_row 1 (codes "undo") s
 row tags limit s text argument Remove = take_back_row 2 (codes "remove") s
 row tags limit s text argument Declare = result_row s text (read_result argument)
 row tags limit s text argument Claim = claim_row s
-row tags limit s text argument (Ping n) = says s (joined_line (codes "pong ") (decimal n))
+row tags limit s text argument (Ping n) = answers s (codes "pong ") (decimal n)
 row tags limit s text argument (Protover n) = if nat_lt n 2 then becomes s else says s features_line
 row tags limit s text argument Variant = variant_row s text argument
-row tags limit s text argument Go = refuses s (codes "Error (the arbiter plays no side): ") (codes "go")
-row tags limit s text argument ShowFen = says s (joined_line (codes "# fen ") (fen (current s)))
-row tags limit s text argument ShowMoves = says s (moves_line (current s) (moves (current s)))
-row tags limit s text argument ShowState = says s (joined_line (codes "# state ply ") (state_text s))
+row tags limit s text argument Go = answers s (codes "Error (the arbiter plays no side): ") (codes "go")
+row tags limit s text argument ShowFen = answers s (codes "# fen ") (fen (current s))
+row tags limit s text argument ShowMoves = answers s (codes "# moves ") (moves_text (current s) (moves (current s)))
+row tags limit s text argument ShowState = answers s (codes "# state ply ") (state_text s)
 row tags limit s text argument ShowPgn = says s (pgn (codes "# ") tags s)
 row tags limit s text argument Quit = record (becomes s) { ends = true }
 row tags limit s text argument Silent = becomes s
-row tags limit s text argument BadNumber = refuses s (codes "Error (bad number): ") text
-row tags limit s text argument Unknown = refuses s (codes "Error (unknown command): ") text
+row tags limit s text argument BadNumber = answers s (codes "Error (bad number): ") text
+row tags limit s text argument Unknown = answers s (codes "Error (unknown command): ") text
 
--- how a session (`seen`) responds to a line, with only its game as the state: a line that is too long is refused, and
--- the answer shows its first bytes; for any other line it is as the table of commands says
-abbrev pub game_response : SessionSeen → LineSeen → Response State
-game_response seen line =
-    if line.too_long then refuses seen.state (codes "Error (line too long): ") line.text
-    else row seen.tags seen.limit seen.state line.text (argument_of line.text) (command_of line.text)
-
--- how a session (`seen`) responds to a line: the text, the game after that, and whether the session ends are those of
--- `game_response`; its tags and its limit do not change
+-- how a session (`seen`) responds to a line: a line that is too long is refused, and the answer shows its first bytes;
+-- for any other line it is as the table of commands says. Only the session's game changes, not its tags and its limit
 unfoldable pub session_response : SessionSeen → LineSeen → Response SessionSeen
 session_response seen line =
-    let r = game_response seen line in
+    let r = if line.too_long then answers seen.state (codes "Error (line too long): ") line.text
+    else row seen.tags seen.limit seen.state line.text (argument_of line.text) (command_of line.text) in
     record { text = r.text; state = record seen { state = r.state }; ends = r.ends }
 
 -- the text begins as the answer of a refusal does: with `Error`, `Illegal move` or `tellusererror`

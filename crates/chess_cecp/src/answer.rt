@@ -5,13 +5,13 @@ ghost use Rattle.std.specs.List.{flat_map};
 ghost use Rattle.std.specs.Prelude.{◌≡◌, ◌+◌, ◌*◌, ◌≤◌, ◌++◌, ◌∷◌, [], if◌then◌else◌, length, codes, decimal};
 ghost use Rattle.arrayvec.specs.ArrayVec.{array_vec_len};
 ghost use Rattle.std.specs.Option.{option_map, option_map_or};
-ghost use Rattle.chess_base.specs.Letters.{space};
+ghost use Rattle.chess_base.specs.Letters.{new_line, space};
 ghost use Rattle.chess_text.specs.San.{shown_move};
 ghost use Rattle.chess_base.specs.Faults.{fen_fault_name};
-ghost use Rattle.chess_game.specs.Ends.{verdict_outcome, verdict_comment};
-ghost use Rattle.chess_game.specs.Results.{result_text};
-ghost use Rattle.chess_cecp.specs.Declaring.{verdict_text, declared_text, claims_text, state_text};
-ghost use Rattle.chess_cecp.specs.Session.{moves_line, result_line, features_line, joined_line};
+ghost use Rattle.chess_game.specs.Ends.{verdict_result, result_text};
+ghost use Rattle.chess_cecp.specs.Declaring.{claims_text, state_text};
+ghost use Rattle.chess_cecp.specs.Session.{features_line};
+ghost use Rattle.chess_cecp.specs.ties.Replies.{joined_line, moves_line};
 
 use arrayvec::ArrayVec;
 use byte_devices::{append, append_number};
@@ -82,7 +82,7 @@ pub(crate) fn write_illegal_position(answer: &mut Answer, fault: FenFault)
 pub(crate) fn write_verdict(answer: &mut Answer, verdict: Option<Verdict>)
     requires { array_vec_len answer.old ≤ 1000 }
     ensures { answer.new.items ≡ answer.old.items
-        ++ option_map_or (λ v. result_line (verdict_outcome v) (verdict_comment v)) verdict [] }
+        ++ option_map_or (λ v. result_text (verdict_result v) ++ new_line ∷ []) verdict [] }
 {
     if let Some(verdict) = verdict {
         write_result(answer, verdict.outcome(), verdict.comment());
@@ -90,10 +90,11 @@ pub(crate) fn write_verdict(answer: &mut Answer, verdict: Option<Verdict>)
 }
 
 // Appends a result with its comment to the answer, such as `1-0 {White mates}`, without `\n`.
-#[tactic(auto, unfolding(chess_game::specs::Results::result_text))]
+#[tactic(auto, unfolding(chess_game::specs::Ends::result_text))]
 fn write_result_text(answer: &mut Answer, outcome: Outcome, comment: &[u8])
     requires { array_vec_len answer.old + length comment.now + 10 ≤ ANSWER_LEN }
-    ensures text { answer.new.items ≡ answer.old.items ++ result_text outcome comment.now }
+    ensures text { answer.new.items
+        ≡ answer.old.items ++ result_text (record { outcome = outcome; comment = comment.now }) }
     ensures len { array_vec_len answer.new ≤ array_vec_len answer.old + length comment.now + 10 }
 {
     append(answer, outcome.text());
@@ -103,10 +104,10 @@ fn write_result_text(answer: &mut Answer, outcome: Outcome, comment: &[u8])
 }
 
 // Appends the line of a result to the answer, such as `1-0 {White mates}`, with `\n`.
-#[tactic(auto, unfolding(crate::specs::Session::result_line))]
 pub(crate) fn write_result(answer: &mut Answer, outcome: Outcome, comment: &[u8])
     requires { array_vec_len answer.old + length comment.now + 11 ≤ ANSWER_LEN }
-    ensures { answer.new.items ≡ answer.old.items ++ result_line outcome comment.now }
+    ensures { answer.new.items
+        ≡ answer.old.items ++ (result_text (record { outcome = outcome; comment = comment.now }) ++ new_line ∷ []) }
 {
     write_result_text(answer, outcome, comment);
     answer.push(b'\n');
@@ -125,7 +126,8 @@ fn write_number(answer: &mut Answer, front: &[u8], number: u64)
 // Appends the board's verdict as `showstate` writes it, such as `1-0 {White mates}`; `none` without one.
 fn write_verdict_text(answer: &mut Answer, verdict: Option<Verdict>)
     requires { array_vec_len answer.old + 70 ≤ ANSWER_LEN }
-    ensures text { answer.new.items ≡ answer.old.items ++ verdict_text verdict }
+    ensures text { answer.new.items
+        ≡ answer.old.items ++ option_map_or (λ v. result_text (verdict_result v)) verdict (codes "none") }
     ensures len { array_vec_len answer.new ≤ array_vec_len answer.old + 70 }
 {
     match verdict {
@@ -137,7 +139,8 @@ fn write_verdict_text(answer: &mut Answer, verdict: Option<Verdict>)
 // Appends the result that was declared as `showstate` writes it, such as `1-0 {White mates}`; `none` without one.
 fn write_declared_text(answer: &mut Answer, declared: Option<&Declared>)
     requires { array_vec_len answer.old + 70 ≤ ANSWER_LEN }
-    ensures text { answer.new.items ≡ answer.old.items ++ declared_text (option_map (λ d. d.now) declared.entry) }
+    ensures text { answer.new.items
+        ≡ answer.old.items ++ option_map_or result_text (option_map (λ d. d.now) declared.entry) (codes "none") }
     ensures len { array_vec_len answer.new ≤ array_vec_len answer.old + 70 }
 {
     match declared {
@@ -182,7 +185,7 @@ pub(crate) fn write_state<B: Board>(answer: &mut Answer, game: &Game<B>)
 }
 
 // Puts the answer to `showmoves` together: `# moves 20 b1a3 b1c3 ..`; the moves are those of `position`.
-#[tactic(auto, unfolding(crate::specs::Session::moves_line))]
+#[tactic(auto, unfolding(crate::specs::Session::moves_text))]
 pub(crate) fn write_moves(answer: &mut MovesAnswer, position: &Position, moves: &[Move])
     requires few { length moves.now ≤ 896 }
     requires empty { answer.old.items ≡ [] }

@@ -15,8 +15,8 @@ ghost use Rattle.chess_text.specs.San.{is_fischerandom};
 ghost use Rattle.text_lines.specs.Words.{argument_of};
 ghost use Rattle.chess_cecp.specs.Declaring.{read_result};
 ghost use Rattle.chess_cecp.specs.Serving.{becomes};
-ghost use Rattle.chess_cecp.specs.Session.{row, move_row, take_back_row, result_row, declares_draw, claim_row, setboard_row, variant_row, session_response, joined_line, moves_line, IsRefusal};
-ghost use Rattle.chess_cecp.specs.ties.Replies.{after_row, unnamed_command, reply_of, reply_to, shows_moves, shows_pgn, asks_for_moves, asks_for_pgn};
+ghost use Rattle.chess_cecp.specs.Session.{row, move_row, take_back_row, result_row, declares, claim_row, setboard_row, variant_row, session_response, IsRefusal};
+ghost use Rattle.chess_cecp.specs.ties.Replies.{joined_line, moves_line, after_row, unnamed_command, reply_of, reply_to, shows_moves, shows_pgn, asks_for_moves, asks_for_pgn};
 ghost use Rattle.chess_game.specs.declared.game.TheConstants.{MOST_MOVES};
 ghost use Rattle.chess_cecp.specs.declared.session.TheConstants.{COMMAND_LEN};
 
@@ -274,8 +274,10 @@ impl<B: Board> Session<B> {
         requires clean { cut_comment comment.now ≡ comment.now }
         requires short { length comment.now ≤ 60 }
         requires empty { answer.old.items ≡ [] }
-        ensures next { self.new ≡ after_row self.old (declares_draw self.old.state comment.now) }
-        ensures text { answer.new.items ≡ (declares_draw self.old.state comment.now).text }
+        ensures next { self.new ≡ after_row self.old
+            (declares self.old.state (record { outcome = Outcome.Draw; comment = comment.now })) }
+        ensures text { answer.new.items
+            ≡ (declares self.old.state (record { outcome = Outcome.Draw; comment = comment.now })).text }
     {
         self.game.declare_open(Outcome::Draw, Comment::cut(comment));
         write_result(answer, Outcome::Draw, comment);

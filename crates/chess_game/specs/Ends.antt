@@ -1,6 +1,6 @@
 -- How a game ends by its position and by its line (Laws of Chess 2023, articles 5.1.1, 5.2.1, 5.2.2, 9.6),
 -- and what a player may claim (articles 9.2 and 9.3).
-use Rattle.std.specs.Prelude.{ℕ, ◌+◌, ◌%◌, ◌==◌, nat_le, Bool, false, not, ◌&&◌, ◌||◌, if◌then◌else◌, List, length, count_by, codes, Option, None, Some}
+use Rattle.std.specs.Prelude.{ℕ, ◌+◌, ◌%◌, ◌++◌, ◌==◌, nat_le, Bool, false, not, ◌&&◌, ◌||◌, if◌then◌else◌, List, length, count_by, codes, Option, None, Some}
 use Rattle.std.specs.List.{list_any}
 use Rattle.std.specs.Option.{option_map_or}
 use Rattle.chess_base.specs.declared.man.Colour.{Colour}
@@ -11,13 +11,14 @@ use Rattle.chess_base.specs.declared.man.Man.{Man}
 use Rattle.chess_base.specs.declared.man.Move.{Move}
 use Rattle.chess_base.specs.declared.setup.Setup.{Setup}
 use Rattle.chess_base.specs.Attacks.{is_in_check}
+use Rattle.chess_base.specs.ByColour.{by_colour}
 use Rattle.chess_base.specs.Men.{Men, man_at, other, same_colour, same_kind}
 use Rattle.chess_base.specs.MoveList.{moves}
 use Rattle.chess_base.specs.Squares.{file, rank, some_square}
 use Rattle.chess_game.specs.Line.{position_after}
-use Rattle.chess_game.specs.Results.{result_text}
+use Rattle.chess_game.specs.Results.{outcome_text}
 use Rattle.chess_game.specs.Same.{repetition_count}
-use Rattle.chess_game.specs.declared.results.Outcome.{Outcome}
+use Rattle.chess_game.specs.declared.results.Declared.{Declared}
 use Rattle.chess_game.specs.declared.results.Outcome.TheVariants.{WhiteWins, BlackWins, Draw}
 use Rattle.chess_game.specs.declared.verdicts.Verdict.{Verdict}
 use Rattle.chess_game.specs.declared.verdicts.Verdict.TheVariants.{WhiteMates, BlackMates, Stalemate, InsufficientMaterial, FivefoldRepetition, SeventyFiveMoves}
@@ -25,17 +26,14 @@ use Rattle.chess_game.specs.declared.verdicts.Claims.{Claims}
 use Rattle.chess_game.specs.declared.verdicts.DrawClaim.{DrawClaim}
 use Rattle.chess_game.specs.declared.verdicts.DrawClaim.TheVariants.{Threefold, FiftyMoves}
 
--- the colour of a square: a1 is black (2.1)
-abbrev pub square_colour : ℕ → Colour
-square_colour s = if (file s + rank s) % 2 == 0 then Black else White
-
 -- the square's content `o` is a piece of kind k, of either colour; false for an empty square
 abbrev pub is_kind : Kind → Option Man → Bool
 is_kind k o = option_map_or (λ x. same_kind k x.kind) o false
 
--- some bishop, of either side, is on a square of colour c
-unfoldable pub has_bishop_on : Colour → Men → Bool
-has_bishop_on c men = some_square (λ s. same_colour c (square_colour s) && is_kind Bishop (man_at men s))
+-- some bishop, of either side, is on a square whose file and rank have a sum of this parity: 0 for the black squares,
+-- as a1, and 1 for the white ones (2.1)
+unfoldable pub has_bishop_on : ℕ → Men → Bool
+has_bishop_on parity men = some_square (λ s. ((file s + rank s) % 2 == parity) && is_kind Bishop (man_at men s))
 
 -- there is no pawn, rook or queen, and either at most one bishop or knight in all, of both sides together, or no knight
 -- and all bishops on squares of one colour: no moves lead to mate (5.2.2). Other dead positions are not found
@@ -43,44 +41,36 @@ unfoldable pub has_insufficient_material : Men → Bool
 has_insufficient_material men =
     not (list_any (λ o. is_kind Pawn o || is_kind Rook o || is_kind Queen o) men)
     && (nat_le (count_by (λ o. is_kind Bishop o || is_kind Knight o) men) 1 || (not (list_any (is_kind Knight) men)
-    && not (has_bishop_on White men && has_bishop_on Black men)))
-
--- the verdict that the side of this colour has mated the other
-abbrev pub mate_by : Colour → Verdict
-mate_by White = WhiteMates
-mate_by Black = BlackMates
+    && not (has_bishop_on 0 men && has_bishop_on 1 men)))
 
 -- why the game from `start` by the moves ms is over without a declared result. It is the first of these that holds: no
--- legal move (mate if in check, otherwise stalemate); insufficient material; the present position is there at least for
--- the fifth time; the halfmove clock, which continues from that of `start`, is at least 150, 75 moves of each side
--- without a pawn move or capture. `None` if none holds
+-- legal move (in check the other side has mated, otherwise stalemate); insufficient material; the present position is
+-- there at least for the fifth time; the halfmove clock, which continues from that of `start`, is at least 150 (75 moves
+-- of each side) without a pawn move or capture. `None` if none holds
 unfoldable pub verdict : Setup → List Move → Option Verdict
 verdict start ms =
     let p = position_after start ms in
-    if length (moves p) == 0 then (if is_in_check p.men p.side then Some (mate_by (other p.side)) else Some Stalemate)
+    if length (moves p) == 0
+    then Some (if is_in_check p.men p.side then by_colour WhiteMates BlackMates (other p.side) else Stalemate)
     else if has_insufficient_material p.men then Some InsufficientMaterial
     else if nat_le 5 (repetition_count start ms) then Some FivefoldRepetition
     else if nat_le 150 p.halfmove then Some SeventyFiveMoves
     else None
 
--- the outcome of a verdict: a win of the side that mates, or a draw
-abbrev pub verdict_outcome : Verdict → Outcome
-verdict_outcome WhiteMates = WhiteWins
-verdict_outcome BlackMates = BlackWins
-verdict_outcome _ = Draw
+-- a result as it is written, its outcome and its comment in braces, such as `1-0 {White mates}`; with an empty comment
+-- `1-0 {}`
+unfoldable pub result_text : Declared → List ℕ
+result_text d = outcome_text d.outcome ++ (codes " {" ++ (d.comment ++ codes "}"))
 
--- the comment on a verdict, as in the result line 1-0 {White mates}
-abbrev pub verdict_comment : Verdict → List ℕ
-verdict_comment WhiteMates = codes "White mates"
-verdict_comment BlackMates = codes "Black mates"
-verdict_comment Stalemate = codes "Stalemate"
-verdict_comment InsufficientMaterial = codes "Insufficient material"
-verdict_comment FivefoldRepetition = codes "Fivefold repetition"
-verdict_comment SeventyFiveMoves = codes "75-move rule"
-
--- a verdict as a result with its comment, such as `0-1 {Black mates}`
-abbrev pub verdict_result : Verdict → List ℕ
-verdict_result v = result_text (verdict_outcome v) (verdict_comment v)
+-- the result that a verdict gives, written as in `1-0 {White mates}`: a win of the side that mates, otherwise a draw,
+-- and the comment on it
+abbrev pub verdict_result : Verdict → Declared
+verdict_result WhiteMates = record { outcome = WhiteWins; comment = codes "White mates" }
+verdict_result BlackMates = record { outcome = BlackWins; comment = codes "Black mates" }
+verdict_result Stalemate = record { outcome = Draw; comment = codes "Stalemate" }
+verdict_result InsufficientMaterial = record { outcome = Draw; comment = codes "Insufficient material" }
+verdict_result FivefoldRepetition = record { outcome = Draw; comment = codes "Fivefold repetition" }
+verdict_result SeventyFiveMoves = record { outcome = Draw; comment = codes "75-move rule" }
 
 -- which draws the player on move may claim after the moves ms from `start`. Threefold repetition: the position is there
 -- at least for the third time (9.2.2). 50 moves: the halfmove clock, which continues from that of `start`, is at least

@@ -1,6 +1,6 @@
 -- A game: where it started, the current moves, and what was declared. All else follows from these.
 use Rattle.std.specs.Prelude.{◌≡◌, ℕ, ◌-◌, ◌≤◌, ◌<◌, ◌||◌, not, nat_le, Bool, false, if◌then◌else◌, List, [], ◌∷◌, ◌++◌, length, take, slice_get, Option, None, Some, is_some, Result, Ok, Err}
-use Rattle.std.specs.Option.{option_map_or, option_or}
+use Rattle.std.specs.Option.{option_map, option_map_or, option_or}
 use Rattle.chess_base.specs.declared.man.Move.{Move}
 use Rattle.chess_base.specs.declared.setup.Setup.{Setup}
 use Rattle.chess_base.specs.Moves.{is_legal}
@@ -8,7 +8,7 @@ use Rattle.chess_base.specs.Sound.{IsSound}
 use Rattle.chess_base.specs.Initial.{initial_setup}
 use Rattle.chess_game.specs.Line.{position_after, IsLine}
 use Rattle.chess_game.specs.Results.{same_outcome}
-use Rattle.chess_game.specs.Ends.{verdict, verdict_outcome}
+use Rattle.chess_game.specs.Ends.{verdict, verdict_result}
 use Rattle.chess_game.specs.declared.verdicts.Verdict.{Verdict}
 use Rattle.chess_game.specs.declared.results.Outcome.{Outcome}
 use Rattle.chess_game.specs.declared.results.Outcome.TheVariants.{Unfinished}
@@ -46,7 +46,8 @@ is_over s = is_some (verdict_now s) || is_some s.declared
 -- the outcome of a game in its present state: the verdict's; without a verdict the declared result's; without either
 -- `Unfinished`
 abbrev pub outcome_now : State → Outcome
-outcome_now s = option_map_or verdict_outcome (verdict_now s) (option_map_or (λ d. d.outcome) s.declared Unfinished)
+outcome_now s =
+    option_map_or (λ d. d.outcome) (option_or (option_map verdict_result (verdict_now s)) s.declared) Unfinished
 
 -- a game from this start, with no moves and nothing declared
 abbrev pub from_start : Setup → State
@@ -59,10 +60,6 @@ played s m = record s { moves = s.moves ++ m ∷ [] }
 -- the game's state s without its last n moves (with no moves if it has fewer); what was declared is cleared
 abbrev pub taken_back : State → ℕ → State
 taken_back s n = record s { moves = take (length s.moves - n) s.moves; declared = None }
-
--- the game's state s with the result d declared (or none), in place of what was declared before
-abbrev pub with_declared : State → Option Declared → State
-with_declared s d = record s { declared = d }
 
 -- the game with its state replaced by s; its limit stays
 abbrev pub with_state : Seen → State → Seen
@@ -112,12 +109,12 @@ after_take_back g = if nat_le 1 (length g.state.moves) then with_state g (taken_
 
 -- there is a verdict on the game, such as mate, and its outcome is not o
 abbrev pub contradicts_verdict : Option Verdict → Outcome → Bool
-contradicts_verdict verdict o = option_map_or (λ v. not (same_outcome (verdict_outcome v) o)) verdict false
+contradicts_verdict verdict o = option_map_or (λ v. not (same_outcome (verdict_result v).outcome o)) verdict false
 
 -- the game once the result d was to be declared: with d declared, or unchanged if a verdict has another outcome
 abbrev pub after_declare : Seen → Declared → Seen
 after_declare g d = if contradicts_verdict (verdict_now g.state) d.outcome then g
-    else with_state g (with_declared g.state (Some d))
+    else with_state g (record g.state { declared = Some d })
 
 -- the error for declaring a result with outcome o: there is one if a verdict has another outcome
 abbrev pub declare_refusal : Seen → Outcome → Option BoardSaysOtherwise

@@ -4,3 +4,4 @@ pub mod PositionsLeft
 pub mod Buckets
 pub mod Packed
 pub mod Material
+pub mod CommentBytes

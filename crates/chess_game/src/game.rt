@@ -11,7 +11,7 @@ ghost use Rattle.std.specs.Option.{option_map};
 ghost use Rattle.chess_game.specs.Line.{position_after, positions_of};
 ghost use Rattle.chess_game.specs.Same.{repetition_count};
 ghost use Rattle.chess_game.specs.Ends.{verdict, claims};
-ghost use Rattle.chess_game.specs.Game.{with_state, from_start, with_declared, current, verdict_now, outcome_now, opened, is_over, is_full, refusal_now, play_refusal, unless_refused, after_play, last_move, after_take_back, declare_refusal, after_declare, IsPlayable};
+ghost use Rattle.chess_game.specs.Game.{with_state, from_start, current, verdict_now, outcome_now, opened, is_over, is_full, refusal_now, play_refusal, unless_refused, after_play, last_move, after_take_back, declare_refusal, after_declare, IsPlayable};
 ghost use Rattle.chess_game.specs.ties.PlayedMoves.{moves_of, Follows, IsKept};
 ghost use Rattle.chess_game.specs.ties.Buckets.{HaveEntries};
 ghost use Rattle.chess_game.specs.declared.repetition.Hashed.{Hashed};
@@ -316,9 +316,8 @@ impl<B: Board> Game<B> {
     /// Like `declare`, but for a game that is known to have no verdict: it doesn't look for one, and can't fail.
     pub fn declare_open(&mut self, outcome: Outcome, comment: Comment)
         requires { verdict_now self.old.state ≡ None }
-        ensures { self.new
-            ≡ with_state self.old (with_declared self.old.state
-            (Some (record { outcome = outcome; comment = comment }))) }
+        ensures { self.new ≡ with_state self.old
+            (record self.old.state { declared = Some (record { outcome = outcome; comment = comment }) }) }
     {
         let declared = Declared { outcome, comment };
         self.declared = Some(declared);
@@ -326,7 +325,7 @@ impl<B: Board> Game<B> {
 
     /// Clears the declared result.
     pub fn clear_declared(&mut self)
-        ensures { self.new ≡ with_state self.old (with_declared self.old.state None) }
+        ensures { self.new ≡ with_state self.old (record self.old.state { declared = None }) }
     {
         self.declared = None;
     }

@@ -1,7 +1,8 @@
 //! Results as text: outcomes parsed, comments and declared results shown.
 
 ghost use Rattle.std.specs.Prelude.{Some};
-ghost use Rattle.chess_game.specs.Results.{ParsesOutcome, result_text};
+ghost use Rattle.chess_game.specs.Ends.{result_text};
+ghost use Rattle.chess_game.specs.Results.{ParsesOutcome};
 
 use crate::results::{Comment, Declared, Outcome};
 use std::fmt;
@@ -57,10 +58,10 @@ impl fmt::Debug for Comment {
 }
 
 impl fmt::Display for Declared {
-    ghost output = { λ d. Some (result_text d.outcome d.comment) };
+    ghost output = { λ d. Some (result_text d) };
 
     // Writes the outcome and the comment in braces, such as `0-1 {White resigns}`.
-    #[tactic(auto, unfolding(crate::specs::Results::result_text))]
+    #[tactic(auto, unfolding(crate::specs::Ends::result_text))]
     fn fmt<W: fmt::Write>(&self, f: &mut fmt::Formatter<W>) -> fmt::Result {
         write!(f, "{} {{{}}}", self.outcome, self.comment)
     }

@@ -2,8 +2,9 @@
 
 ghost use Rattle.std.specs.Prelude.{◌≡◌, ◌≤◌, ◌<◌, Some, length, count_by};
 ghost use Rattle.std.specs.List.{list_any};
+ghost use Rattle.chess_base.specs.ByColour.{by_colour};
 ghost use Rattle.chess_base.specs.Sound.{IsSound};
-ghost use Rattle.chess_game.specs.Ends.{is_kind, has_bishop_on, has_insufficient_material, square_colour, mate_by, verdict_outcome, verdict_comment, draw_claim, claim_comment};
+ghost use Rattle.chess_game.specs.Ends.{is_kind, has_bishop_on, has_insufficient_material, verdict_result, draw_claim, claim_comment};
 ghost use Rattle.chess_game.specs.ties.Material.{is_pawn_rook_or_queen, is_minor};
 
 use crate::packed::squares_of;
@@ -34,7 +35,7 @@ pub enum Verdict {
 impl Verdict {
     /// The outcome that the verdict gives: a win of the side that mates, or a draw.
     pub fn outcome(self) -> Outcome
-        ensures { result ≡ verdict_outcome self }
+        ensures { result ≡ (verdict_result self).outcome }
     {
         match self {
             Verdict::WhiteMates => Outcome::WhiteWins,
@@ -48,7 +49,7 @@ impl Verdict {
 
     /// The comment on the verdict, such as `White mates`.
     pub fn as_str(self) -> &'static str
-        ensures value { result.now ≡ verdict_comment self }
+        ensures value { result.now ≡ (verdict_result self).comment }
         ensures short { length result.now ≤ 60 }
     {
         match self {
@@ -63,7 +64,7 @@ impl Verdict {
 
     /// The verdict as bytes: the comment in the braces of `1-0 {White mates}`.
     pub fn comment(self) -> &'static [u8]
-        ensures value { result.now ≡ verdict_comment self }
+        ensures value { result.now ≡ (verdict_result self).comment }
         ensures short { length result.now ≤ 60 }
     {
         self.as_str().as_bytes()
@@ -71,7 +72,7 @@ impl Verdict {
 }
 
 impl fmt::Display for Verdict {
-    ghost output = { λ v. Some (verdict_comment v) };
+    ghost output = { λ v. Some (verdict_result v).comment };
 
     // Writes the comment on the verdict, such as `White mates`.
     fn fmt<W: fmt::Write>(&self, f: &mut fmt::Formatter<W>) -> fmt::Result {
@@ -127,7 +128,7 @@ impl DrawClaim {
 
 // The verdict that the side of this colour has mated the other.
 pub(crate) fn mate_by(colour: Colour) -> Verdict
-    ensures { result ≡ mate_by colour }
+    ensures { result ≡ by_colour Verdict.WhiteMates Verdict.BlackMates colour }
 {
     match colour {
         Colour::White => Verdict::WhiteMates,
@@ -152,27 +153,17 @@ fn is_minor(man: Option<Man>) -> bool
     is_kind(Kind::Bishop, man) || is_kind(Kind::Knight, man)
 }
 
-// The colour of the square with this number: a1 (0) is black.
-fn square_colour(number: u8) -> Colour
-    requires { number < 64 }
-    ensures { result ≡ square_colour number }
-{
-    if (number % 8 + number / 8) % 2 == 0 {
-        Colour::Black
-    } else {
-        Colour::White
-    }
-}
-
-// Whether some bishop, of either side, is on a square of this colour.
+// Whether some bishop, of either side, is on a square whose file and rank have a sum of this parity: 0 for the black
+// squares, as a1, and 1 for the white ones.
 #[tactic(auto, unfolding(crate::specs::Ends::has_bishop_on))]
-fn has_bishop_on(colour: Colour, men: &[Option<Man>; 64]) -> bool
-    ensures { result ≡ has_bishop_on colour men.now }
+fn has_bishop_on(parity: u8, men: &[Option<Man>; 64]) -> bool
+    ensures { result ≡ has_bishop_on parity men.now }
 {
     let mut is_found = false;
     for number in 0..64 {
         is_found = is_found
-            || (square_colour(number) == colour && is_kind(Kind::Bishop, men[number as usize]));
+            || ((number % 8 + number / 8) % 2 == parity
+                && is_kind(Kind::Bishop, men[number as usize]));
     }
     is_found
 }
@@ -211,5 +202,5 @@ pub(crate) fn has_insufficient_material<B: Board>(board: &B) -> bool
     !has_pawn_rook_or_queen(board)
         && (minor_count(men) <= 1
             || (!has_kind(board, Kind::Knight)
-                && !(has_bishop_on(Colour::White, men) && has_bishop_on(Colour::Black, men))))
+                && !(has_bishop_on(0, men) && has_bishop_on(1, men))))
 }

@@ -1,6 +1,6 @@
 -- A match that goes on at a table.
 use Rattle.std.proofs.Common.{◌≡◌, ℕ, ◌+◌, ◌*◌, ◌<◌, ◌≤◌, Bool, true, false, ◌||◌, List, [], ◌++◌, refl, ap, sym, ◌∙◌, subst, arith, Option, None, Some}
-use Rattle.std.specs.Option.{option_map_or}
+use Rattle.std.specs.Option.{option_map, option_map_or, option_or}
 use Rattle.std.specs.Prelude.{codes}
 use Rattle.std.proofs.Math.Path.{fun_ext}
 use Rattle.chess_base.specs.ByColour.{by_colour, of_colour}
@@ -9,9 +9,9 @@ use Rattle.chess_base.specs.declared.man.Colour.{Colour}
 use Rattle.chess_base.specs.declared.man.Colour.TheVariants.{White, Black}
 use Rattle.chess_base.specs.declared.man.Move.{Move}
 use Rattle.chess_base.specs.declared.setup.Setup.{Setup}
-use Rattle.chess_game.specs.Ends.{verdict, verdict_outcome}
+use Rattle.chess_game.specs.Ends.{verdict, verdict_result}
 use Rattle.chess_game.specs.Game as game
-use Rattle.chess_game.specs.Game.{from_start, outcome_now, with_declared, verdict_now}
+use Rattle.chess_game.specs.Game.{from_start, outcome_now, verdict_now}
 use Rattle.chess_game.specs.Results.{cut_tag}
 use Rattle.chess_game.specs.declared.verdicts.Verdict.{Verdict}
 use Rattle.chess_game.specs.declared.results.Declared.{Declared}
@@ -218,7 +218,7 @@ ended limit start moves reason = record {
 -- the game at the end: its start and its limit, the moves of the match, and what was declared
 game_kept : (g h h' : game.Seen) (start : Setup) (level : LevelSeen) (m : Match) (reason : Reason)
     → h.state.start ≡ start → h.limit ≡ g.limit → h.state.moves ≡ m.played
-    → h' ≡ game.with_state h (with_declared h.state (declared_at (verdict_now h.state) reason))
+    → h' ≡ game.with_state h (record h.state { declared = declared_at (verdict_now h.state) reason })
     → h' ≡ game.with_state g (record {
       start = start;
       moves = m.played;
@@ -232,11 +232,11 @@ game_kept g h h' start level m reason s l k e =
 
 -- the outcome of a verdict, else of what was declared
 abbrev outcome_by : Option Verdict → Option Declared → Outcome
-outcome_by v d = option_map_or verdict_outcome v (option_map_or (λ (x : Declared). x.outcome) d Unfinished)
+outcome_by v d = option_map_or (λ (x : Declared). x.outcome) (option_or (option_map verdict_result v) d) Unfinished
 
 -- where the game has no verdict, its outcome is the one that is reported
 pub reported_outcome : (h h' : game.Seen) (reason : Reason) (outcome : Outcome)
-    → h' ≡ game.with_state h (with_declared h.state (declared_at (verdict_now h.state) reason)) → outcome
+    → h' ≡ game.with_state h (record h.state { declared = declared_at (verdict_now h.state) reason }) → outcome
     ≡ outcome_by_reason reason → verdict_now h'.state ≡ None → outcome_now h'.state ≡ outcome
 reported_outcome h h' reason outcome e o none =
     subst (λ (x : game.Seen). verdict_now x.state ≡ None → outcome_now x.state ≡ outcome) (sym e)
@@ -251,7 +251,7 @@ pub played_at : (setup : run_setup.Setup) (old new : Passing) (g h h' : game.See
     → OnTheWay (rules_of setup.start setup.level g.limit) old new core h.state.moves (of_colour failed)
     → phase_now core ≡ Over reason → IsReported reason failed end → end.white_name ≡ core.players.white.name
     → end.black_name ≡ core.players.black.name → h.state.start ≡ setup.start → h.limit ≡ g.limit
-    → h' ≡ game.with_state h (with_declared h.state (declared_at (verdict_now h.state) reason))
+    → h' ≡ game.with_state h (record h.state { declared = declared_at (verdict_now h.state) reason })
     → PlayedAt setup end old new g h'
 played_at setup old new g h h' core reason failed end (m, K, w) over reported wn bn s l e =
     let r : Rules = rules_of setup.start setup.level g.limit in

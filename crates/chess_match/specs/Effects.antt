@@ -7,7 +7,8 @@ use Rattle.chess_base.specs.declared.man.Colour.{Colour}
 use Rattle.chess_base.specs.declared.man.Colour.TheVariants.{White, Black}
 use Rattle.chess_base.specs.declared.man.Move.{Move}
 use Rattle.chess_base.specs.Men.{other, same_colour}
-use Rattle.chess_game.specs.Results.{result_text}
+use Rattle.chess_game.specs.Ends.{result_text}
+use Rattle.chess_game.specs.declared.results.Declared.{Declared}
 use Rattle.cecp_engine.specs.EngineLines.{LineKind, Features, Moves, Resigns, OffersDraw, ClaimsDraw, ClaimsWin, Rejects, Answers, line_kind}
 use Rattle.cecp_engine.specs.Items.{Item, items_of, ends_handshake, takes, plays_fischerandom}
 use Rattle.cecp_engine.specs.Levels.{allotted}
@@ -123,8 +124,9 @@ opening r m S =
 -- not yet sent it; the result with its comment, such as `result 1-0 {Black resigns}`; and `quit`
 abbrev pub farewell : Rules → Match → Reason → Colour → List SentLine
 farewell r m reason S =
+    let result : Declared = record { outcome = outcome_by_reason reason; comment = comment_of reason } in
     list_if (is_owed_move m.phase S) (move_line r m S ∷ [])
-    ++ (Says (codes "result " ++ result_text (outcome_by_reason reason) (comment_of reason)) ∷ Says (codes "quit") ∷ [])
+    ++ (Says (codes "result " ++ result_text result) ∷ Says (codes "quit") ∷ [])
 
 -- ---- the effects of which rows are made
 

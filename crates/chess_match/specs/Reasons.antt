@@ -4,7 +4,7 @@ use Rattle.chess_base.specs.declared.man.Colour.{Colour}
 use Rattle.chess_base.specs.declared.man.Colour.TheVariants.{White, Black}
 use Rattle.chess_base.specs.ByColour.{by_colour}
 use Rattle.chess_base.specs.Men.{other, same_colour}
-use Rattle.chess_game.specs.Ends.{verdict_outcome, verdict_comment, claim_comment}
+use Rattle.chess_game.specs.Ends.{verdict_result, claim_comment}
 use Rattle.chess_game.specs.declared.verdicts.Verdict.{Verdict}
 use Rattle.chess_game.specs.declared.results.Declared.{Declared}
 use Rattle.chess_game.specs.declared.results.Outcome.{Outcome}
@@ -41,7 +41,7 @@ fault_comment NoVariant = codes " has no fischerandom"
 -- a reason names loses, except by a fault of its engine or a device (`Faulted`): then, and if the game is too long, the
 -- outcome is `*`
 abbrev pub reported : Reason → Outcome × List ℕ × HowEnded
-reported (Decided v) = (verdict_outcome v, verdict_comment v, Normal)
+reported (Decided v) = ((verdict_result v).outcome, (verdict_result v).comment, Normal)
 reported (Claimed claim) = (Draw, claim_comment claim, Normal)
 reported Agreed = (Draw, codes "Draw agreed", Normal)
 reported (Resigns c) = (win_of (other c), colour_name c ++ codes " resigns", Normal)

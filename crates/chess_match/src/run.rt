@@ -5,7 +5,7 @@ ghost use Rattle.arrayvec.specs.ArrayVec.{array_vec_len};
 ghost use Rattle.chess_base.specs.ByColour.{of_colour};
 ghost use Rattle.chess_base.specs.Men.{other};
 ghost use Rattle.chess_base.specs.declared.man.Colour.{Colour};
-ghost use Rattle.chess_game.specs.Game.{with_state, outcome_now, with_declared, verdict_now};
+ghost use Rattle.chess_game.specs.Game.{with_state, outcome_now, verdict_now};
 ghost use Rattle.cecp_engine.specs.EngineLines.{line_kind, Features};
 ghost use Rattle.cecp_engine.specs.Items.{Item};
 ghost use Rattle.cecp_engine.specs.Seen.{seen};
@@ -456,7 +456,7 @@ fn take_next<T: MatchTable, G: MatchGame>(
 fn declare<B: Board>(game: &mut Game<B>, reason: Reason)
     requires { game.old.state.declared ≡ None }
     ensures { game.new ≡ with_state game.old
-        (with_declared game.old.state (declared_at (verdict_now game.old.state) reason)) }
+        (record game.old.state { declared = declared_at (verdict_now game.old.state) reason }) }
 {
     if game.verdict().is_some() {
         return;
@@ -478,7 +478,7 @@ fn end_of<B: Board>(
     ensures white_name { result.white_name ≡ core.players.white.name }
     ensures black_name { result.black_name ≡ core.players.black.name }
     ensures game { game.new
-        ≡ with_state game.old (with_declared game.old.state (declared_at (verdict_now game.old.state) reason)) }
+        ≡ with_state game.old (record game.old.state { declared = declared_at (verdict_now game.old.state) reason }) }
 {
     declare(game, reason);
     MatchEnd {

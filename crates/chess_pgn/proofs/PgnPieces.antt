@@ -12,7 +12,7 @@ use Rattle.chess_fen.specs.Writing.{fen}
 use Rattle.chess_base.specs.Sound.{IsSound}
 use Rattle.chess_base.specs.Moves.{is_legal}
 use Rattle.chess_fen.specs.laws.Laws.{WrittenIsReadBack}
-use Rattle.chess_game.specs.Game.{State, from_start, played, with_declared, current, verdict_now}
+use Rattle.chess_game.specs.Game.{State, from_start, played, current, verdict_now}
 use Rattle.chess_game.specs.Results.{outcome_text}
 use Rattle.chess_game.specs.declared.results.Outcome.{Outcome}
 use Rattle.chess_game.specs.declared.results.Outcome.TheVariants.{WhiteWins, BlackWins, Draw, Unfinished}
@@ -54,7 +54,7 @@ moved g m = record { state = played g.state m; is_met = true; is_begun = true; t
 -- ended by an outcome's word
 abbrev pub ended_game : Option Termination → State → Outcome → ℕ → GameRead
 ended_game t s o offset = record {
-  state = with_declared s (declared_after (is_some (verdict_now s)) o);
+  state = record s { declared = declared_after (is_some (verdict_now s)) o };
   answer = Ok (Some (record { outcome = o; termination = t; offset = offset }));
 }
 

@@ -16,8 +16,8 @@ use Rattle.chess_base.specs.Sound.{IsSound}
 use Rattle.chess_fen.specs.Writing.{fen, is_initial}
 use Rattle.chess_game.specs.declared.verdicts.Verdict.{Verdict}
 use Rattle.chess_game.specs.Game.{State, from_start, outcome_now, verdict_now, IsPlayable}
-use Rattle.std.specs.Option.{option_map, option_map_or}
-use Rattle.chess_game.specs.Ends.{verdict_outcome}
+use Rattle.std.specs.Option.{option_map, option_map_or, option_or}
+use Rattle.chess_game.specs.Ends.{verdict_result}
 use Rattle.chess_game.specs.Results.{outcome_text}
 use Rattle.chess_game.specs.declared.results.Declared.{Declared}
 use Rattle.chess_game.specs.declared.results.Outcome.{Outcome}
@@ -304,7 +304,7 @@ pgn_long tags s short =
 
 -- the outcome of a verdict, else of what was declared
 abbrev outcome_by : Option Verdict → Option Declared → Outcome
-outcome_by v d = option_map_or verdict_outcome v (option_map_or (λ (x : Declared). x.outcome) d Unfinished)
+outcome_by v d = option_map_or (λ (x : Declared). x.outcome) (option_or (option_map verdict_result v) d) Unfinished
 
 declared_again : (o : Outcome) → outcome_by None (declared_after false o) ≡ o
 declared_again WhiteWins = refl

@@ -14,7 +14,7 @@ use Rattle.chess_base.specs.declared.setup.Setup.{Setup}
 use Rattle.chess_base.specs.Initial.{initial_setup_of}
 use Rattle.chess_base.specs.Letters.{is_digit}
 use Rattle.chess_fen.specs.Reading.{fen_reading_as}
-use Rattle.chess_game.specs.Game.{State, from_start, played, with_declared, current, verdict_now}
+use Rattle.chess_game.specs.Game.{State, from_start, played, current, verdict_now}
 use Rattle.chess_game.specs.declared.results.Declared.{Declared}
 use Rattle.chess_game.specs.declared.results.Outcome.{Outcome}
 use Rattle.chess_game.specs.declared.results.Outcome.TheVariants.{Unfinished}
@@ -57,7 +57,7 @@ failed s fault = record { state = s; answer = Err fault }
 -- has a verdict or it is `*`. `offset` is that of the byte after the mark
 abbrev pub finished : State → Outcome → Option Termination → ℕ → GameRead
 finished s o termination offset = record {
-  state = with_declared s (declared_after (is_some (verdict_now s)) o);
+  state = record s { declared = declared_after (is_some (verdict_now s)) o };
   answer = Ok (Some (record { outcome = o; termination = termination; offset = offset }));
 }
 

@@ -7,7 +7,7 @@
 
 ghost use Rattle.std.specs.Prelude.{◌≡◌, ℕ, ◌+◌, ◌-◌, ◌^◌, ◌≤◌, ◌<◌, false, length, None, IfOk, Err, is_some, IsNone, OnErr};
 ghost use Rattle.std.specs.Option.{IfSome, option_map_or};
-ghost use Rattle.chess_game.specs.Game.{State, with_state, with_declared, current, verdict_now, refusal_now};
+ghost use Rattle.chess_game.specs.Game.{State, with_state, current, verdict_now, refusal_now};
 ghost use Rattle.chess_base.specs.declared.man.Variant.TheVariants.{Normal};
 ghost use Rattle.chess_text.specs.Moves.{reading};
 ghost use Rattle.chess_pgn.specs.laws.WordKinds.{word_kind};
@@ -154,7 +154,7 @@ fn declare_outcome<B: Board>(game: &mut Game<B>, outcome: Outcome)
     requires { game.old.state.declared ≡ None }
     ensures { game.new
         ≡ with_state game.old
-        (with_declared game.old.state (declared_after (is_some (verdict_now game.old.state)) outcome)) }
+        (record game.old.state { declared = declared_after (is_some (verdict_now game.old.state)) outcome }) }
 {
     if outcome != Outcome::Unfinished && !is_decided(game) {
         game.declare_open(outcome, Comment::cut(b""));

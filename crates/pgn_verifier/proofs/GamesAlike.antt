@@ -2,7 +2,7 @@
 use Rattle.std.proofs.Common.{◌≡◌, ℕ, ◌+◌, ◌-◌, ◌<◌, ◌≤◌, List, ◌∷◌, ◌++◌, length, drop, Some, Ok, refl, sym, ap, subst, ◌∙◌, length-append, arith}
 use Rattle.std.specs.Prelude.{is_some}
 use Rattle.std.proofs.lemmas.List.{length-drop}
-use Rattle.chess_game.specs.Game.{State, verdict_now, with_declared}
+use Rattle.chess_game.specs.Game.{State, verdict_now}
 use Rattle.chess_pgn.specs.GameRead.{GameRead, declared_after}
 use Rattle.chess_pgn.specs.LastTags.{may_precede_tags}
 use Rattle.chess_pgn.specs.Split.{IsSplit, IsOf, IsLongest, Kind, token_of, Blank, Line, Comment, Nag, Variation, Tag_pair, Asterisk, Symbol, ended, token, stopped}
@@ -155,7 +155,7 @@ module _ (limit : ℕ) (old new : List ℕ) (a b size : ℕ)
                     (token kind front fit.rest' fit.is fit.long (read_split new (b + at + length front)));
                 is = ap (λ t. read_rest_with t (λ k. game_of limit (length new) k mine))
                     (step_is g (length new - (length new - (b + at))))
-                    ∙ ap (λ m. over (with_declared g.state (declared_after (is_some (verdict_now g.state)) o))
+                    ∙ ap (λ m. over (record g.state { declared = declared_after (is_some (verdict_now g.state)) o })
                     (record { outcome = o; termination = g.termination; offset = m })) moved
                     ∙ ap (λ u. over u (record {
                       outcome = o;

@@ -1,8 +1,8 @@
 -- A game as it is written is read back, and neither its tag Result nor the board contradicts its outcome.
 use Rattle.std.proofs.Common.{◌≡◌, ℕ, Bool, true, false, List, [], ◌++◌, length, Option, Some, None, Ok, Err, refl, sym, ap, subst, ◌∙◌}
 use Rattle.std.specs.Prelude.{option_and_then}
-use Rattle.std.specs.Option.{option_map_or}
-use Rattle.chess_game.specs.Ends.{verdict_outcome}
+use Rattle.std.specs.Option.{option_map, option_map_or, option_or}
+use Rattle.chess_game.specs.Ends.{verdict_result}
 use Rattle.chess_game.specs.Game.{outcome_now, verdict_now}
 use Rattle.chess_game.specs.Results.{same_outcome}
 use Rattle.chess_game.specs.declared.game.TheConstants.{MOST_MOVES}
@@ -35,10 +35,10 @@ tag_agrees o end None is named = absurd (cc)
 tag_agrees o end (Some t) is named = rw (named, is, same_self o) refl
 
 board_agrees : (v : Option Verdict) (d : Option Declared) (end : PgnEnd)
-    → end.outcome ≡ option_map_or verdict_outcome v (option_map_or (λ (x : Declared). x.outcome) d Unfinished)
+    → end.outcome ≡ option_map_or (λ (x : Declared). x.outcome) (option_or (option_map verdict_result v) d) Unfinished
     → board_says_otherwise v end ≡ None
 board_agrees None d end is = refl
-board_agrees (Some v) d end is = rw (is, same_self (verdict_outcome v)) refl
+board_agrees (Some v) d end is = rw (is, same_self (verdict_result v).outcome) refl
 
 nothing_contradicts : (strict : Bool) (tag : Option ResultTag) (v : Option Verdict) (end : PgnEnd)
     → result_differs tag end ≡ None → board_says_otherwise v end ≡ None → contradiction strict tag v end ≡ None

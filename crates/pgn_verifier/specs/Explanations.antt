@@ -5,7 +5,7 @@ use Rattle.chess_base.specs.Faults.{fen_fault_name}
 use Rattle.chess_base.specs.Letters.{byte, new_line}
 use Rattle.chess_base.specs.declared.setup.Setup.{Setup}
 use Rattle.chess_fen.specs.Writing.{fen}
-use Rattle.chess_game.specs.Ends.{verdict_result}
+use Rattle.chess_game.specs.Ends.{verdict_result, result_text}
 use Rattle.chess_game.specs.Game.{State, current}
 use Rattle.chess_game.specs.Results.{outcome_text}
 use Rattle.chess_game.specs.declared.verdicts.Verdict.{Verdict}
@@ -58,13 +58,13 @@ IsReason (Pgn BadTag) text verdict reason = IsTagReason text reason
 IsReason (Pgn (BadFen fault)) text verdict reason = reason ≡ Some (fen_fault_name fault)
 IsReason (Pgn BadToken) text verdict reason = reason ≡ Some (token_reason text)
 -- a move after the end: the verdict that ended the game
-IsReason (Pgn AfterEnd) text verdict reason = reason ≡ option_map verdict_result verdict
+IsReason (Pgn AfterEnd) text verdict reason = reason ≡ option_map (λ v. result_text (verdict_result v)) verdict
 -- `result differs`: the first word of the tag Result, which has `tag_len` bytes between its quotes, and the outcome of
 -- the game's outcome mark, as in `Result 1-0, ended 0-1`
 IsReason (ResultDiffers tag_len outcome) text verdict reason =
     reason ≡ Some (codes "Result " ++ (shown (take tag_len text) ++ (codes ", ended " ++ outcome_text outcome)))
 -- `board says otherwise`: the board's verdict
-IsReason BoardSaysOtherwise text verdict reason = reason ≡ option_map verdict_result verdict
+IsReason BoardSaysOtherwise text verdict reason = reason ≡ option_map (λ v. result_text (verdict_result v)) verdict
 -- any other fault
 IsReason _ text verdict reason = reason ≡ None
 

@@ -6,7 +6,7 @@ ghost use Rattle.std.specs.Option.{option_map};
 ghost use Rattle.arrayvec.specs.ArrayVec.{array_vec_len};
 ghost use Rattle.chess_base.specs.Letters.{new_line};
 ghost use Rattle.chess_fen.specs.Writing.{fen};
-ghost use Rattle.chess_game.specs.Ends.{verdict_result};
+ghost use Rattle.chess_game.specs.Ends.{verdict_result, result_text};
 ghost use Rattle.chess_game.specs.Game.{current, verdict_now};
 ghost use Rattle.chess_pgn.specs.declared.read.PgnFaultKind.TheVariants.{TooLong};
 ghost use Rattle.pgn_pieces.specs.Places.{line_ends, last_line_len, line_of, column_of};
@@ -104,7 +104,8 @@ fn shown_part(kind: FaultKind, text: &[u8]) -> Shown
 // Appends ` | ` and the board's verdict, such as `0-1 {Black mates}`; nothing without one.
 fn append_verdict(lines: &mut FaultLines, verdict: Option<Verdict>)
     requires { array_vec_len lines.old + 80 ≤ FAULT_LINES_LEN }
-    ensures text { lines.new.items ≡ lines.old.items ++ optional_part (option_map verdict_result verdict) }
+    ensures text { lines.new.items
+        ≡ lines.old.items ++ optional_part (option_map (λ v. result_text (verdict_result v)) verdict) }
     ensures len { array_vec_len lines.new ≤ array_vec_len lines.old + 80 }
 {
     if let Some(verdict) = verdict {

@@ -2,12 +2,13 @@
 -- over the rules of normal chess alone (laws/Normal of chess_base and of chess_text). Nothing here takes a variant.
 use Rattle.std.specs.Prelude.{ℕ, ◌==◌, nat_le, Bool, ◌&&◌, ◌||◌, if◌then◌else◌, List, [], ◌∷◌, length, count_by, Option, None, Some, is_some}
 use Rattle.std.specs.List.{list_any}
-use Rattle.std.specs.Option.{option_map_or}
+use Rattle.std.specs.Option.{option_map, option_map_or, option_or}
 use Rattle.chess_base.specs.declared.man.Colour.TheVariants.{White}
 use Rattle.chess_base.specs.declared.man.Move.{Move}
 use Rattle.chess_base.specs.declared.man.Variant.TheVariants.{Normal}
 use Rattle.chess_base.specs.declared.setup.Setup.{Setup}
 use Rattle.chess_base.specs.Attacks.{is_in_check}
+use Rattle.chess_base.specs.ByColour.{by_colour}
 use Rattle.chess_base.specs.Initial.{initial_men}
 use Rattle.chess_base.specs.Men.{other, same_colour}
 use Rattle.chess_base.specs.Moves.{is_en_passant}
@@ -15,10 +16,10 @@ use Rattle.chess_base.specs.laws.Normal.{normal_after}
 use Rattle.chess_text.specs.laws.Normal.{normal_moves}
 use Rattle.chess_game.specs.declared.verdicts.Claims.{Claims}
 use Rattle.chess_game.specs.declared.verdicts.Verdict.{Verdict}
-use Rattle.chess_game.specs.declared.verdicts.Verdict.TheVariants.{Stalemate, InsufficientMaterial, FivefoldRepetition, SeventyFiveMoves}
+use Rattle.chess_game.specs.declared.verdicts.Verdict.TheVariants.{WhiteMates, BlackMates, Stalemate, InsufficientMaterial, FivefoldRepetition, SeventyFiveMoves}
 use Rattle.chess_game.specs.declared.results.Outcome.{Outcome}
 use Rattle.chess_game.specs.declared.results.Outcome.TheVariants.{Unfinished}
-use Rattle.chess_game.specs.Ends.{has_insufficient_material, mate_by, verdict_outcome}
+use Rattle.chess_game.specs.Ends.{has_insufficient_material, verdict_result}
 use Rattle.chess_game.specs.Game.{State}
 use Rattle.chess_game.specs.Same.{same_men, same_rights, same_square}
 
@@ -80,7 +81,7 @@ unfoldable pub normal_verdict : Setup → List Move → Option Verdict
 normal_verdict start ms =
     let p = normal_last start ms in
     if length (normal_moves p) == 0
-    then (if is_in_check p.men p.side then Some (mate_by (other p.side)) else Some Stalemate)
+    then Some (if is_in_check p.men p.side then by_colour WhiteMates BlackMates (other p.side) else Stalemate)
     else if has_insufficient_material p.men then Some InsufficientMaterial
     else if nat_le 5 (normal_rep start ms) then Some FivefoldRepetition
     else if nat_le 150 p.halfmove then Some SeventyFiveMoves
@@ -106,4 +107,4 @@ normal_is_over s = is_some (normal_verdict_now s) || is_some s.declared
 -- normal chess alone
 abbrev pub normal_outcome_now : State → Outcome
 normal_outcome_now s =
-    option_map_or verdict_outcome (normal_verdict_now s) (option_map_or (λ d. d.outcome) s.declared Unfinished)
+    option_map_or (λ d. d.outcome) (option_or (option_map verdict_result (normal_verdict_now s)) s.declared) Unfinished

@@ -1,5 +1,8 @@
 -- What answers a line: a text that is put together, the legal moves, or the game's text; and the session after it.
-use Rattle.std.specs.Prelude.{if◌then◌else◌, ◌&&◌, not, ℕ, List, Bool, true, false}
+use Rattle.std.specs.Prelude.{if◌then◌else◌, ◌&&◌, not, ℕ, ◌++◌, List, [], ◌∷◌, Bool, true, false, codes}
+use Rattle.chess_base.specs.Letters.{new_line}
+use Rattle.chess_base.specs.declared.man.Move.{Move}
+use Rattle.chess_base.specs.declared.setup.Setup.{Setup}
 use Rattle.text_lines.specs.Lines.{LineSeen}
 use Rattle.chess_cecp.specs.Held.{SessionSeen}
 use Rattle.chess_cecp.specs.Serving.{Response}
@@ -9,9 +12,18 @@ use Rattle.chess_cecp.specs.declared.session.Go.TheVariants.{On, Quit}
 use Rattle.chess_cecp.specs.declared.session.Reply.{Reply}
 use Rattle.chess_cecp.specs.declared.session.Reply.TheVariants.{Text, Moves, Pgn}
 use Rattle.chess_cecp.specs.Commands.{command_of}
+use Rattle.chess_cecp.specs.Session.{moves_text}
 use Rattle.chess_cecp.specs.declared.command.Command.TheVariants.{BareMove, ShowMoves, ShowPgn, Unknown}
 use Rattle.chess_text.specs.Moves.{shape}
 use Rattle.chess_cecp.specs.declared.command.Command.TheVariants as commands
+
+-- a line of two texts, with `\n` at its end: `pong ` and `7` give `pong 7`
+abbrev pub joined_line : List ℕ → List ℕ → List ℕ
+joined_line front text = front ++ (text ++ new_line ∷ [])
+
+-- the line that lists these moves of the position `p`: `# moves 20 b1a3 b1c3 ..`, with `\n` at its end
+abbrev pub moves_line : Setup → List Move → List ℕ
+moves_line p ms = joined_line (codes "# moves ") (moves_text p ms)
 
 -- the session `seen` after the row `r` of the table of commands: with its game, and the tags and the limit as before
 abbrev pub after_row : SessionSeen → Response State → SessionSeen

@@ -7,7 +7,9 @@ use Rattle.chess_base.specs.declared.man.Move.{Move}
 use Rattle.chess_base.specs.ByColour.{of_colour, with_colour}
 use Rattle.chess_base.specs.Men.{other, same_colour}
 use Rattle.chess_base.specs.Options.{list_if}
-use Rattle.chess_game.specs.Results.{cut_tag, result_text}
+use Rattle.chess_game.specs.Ends.{result_text}
+use Rattle.chess_game.specs.declared.results.Declared.{Declared}
+use Rattle.chess_game.specs.Results.{cut_tag}
 use Rattle.cecp_engine.specs.Clocks.{ClocksSeen, Spent, charged}
 use Rattle.cecp_engine.specs.EngineLines.{LineKind}
 use Rattle.cecp_engine.specs.Items.{Item, last_said, value_text}
@@ -105,8 +107,9 @@ items_in _ kind = nothing_said
 -- the lines that end the match `m` for the side `S`; `owed` says whether the last move is among them
 abbrev pub last_lines : Rules → Match → Reason → Bool → Colour → List SentLine
 last_lines r m reason owed S =
+    let result : Declared = record { outcome = outcome_by_reason reason; comment = comment_of reason } in
     list_if owed (move_line r m S ∷ [])
-    ++ (Says (codes "result " ++ result_text (outcome_by_reason reason) (comment_of reason)) ∷ Says (codes "quit") ∷ [])
+    ++ (Says (codes "result " ++ result_text result) ∷ Says (codes "quit") ∷ [])
 
 -- the lines that the side `S` is sent when the match comes into this phase and is then `m`; `last` is what is kept of
 -- the last move

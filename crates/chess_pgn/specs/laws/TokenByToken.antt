@@ -7,7 +7,7 @@ use Rattle.chess_base.specs.declared.man.Variant.{Variant}
 use Rattle.chess_base.specs.declared.setup.Setup.{Setup}
 use Rattle.chess_base.specs.Initial.{initial_setup_of}
 use Rattle.chess_fen.specs.Reading.{fen_reading_as}
-use Rattle.chess_game.specs.Game.{State, from_start, played, with_declared, current, verdict_now}
+use Rattle.chess_game.specs.Game.{State, from_start, played, current, verdict_now}
 use Rattle.chess_game.specs.declared.results.Outcome.{Outcome}
 use Rattle.chess_text.specs.declared.reading.Reading.{Reading}
 use Rattle.chess_text.specs.declared.reading.Reading.TheVariants as reads
@@ -48,7 +48,7 @@ fails g kind offset = Stop (record { state = g.state; answer = Err (record { kin
 -- the mark
 abbrev pub ends : SoFar → Outcome → ℕ → Step
 ends g o offset = Stop (record {
-  state = with_declared g.state (declared_after (is_some (verdict_now g.state)) o);
+  state = record g.state { declared = declared_after (is_some (verdict_now g.state)) o };
   answer = Ok (Some (record { outcome = o; termination = g.termination; offset = offset }));
 })
 

@@ -21,7 +21,7 @@ use Rattle.chess_match.specs.Lines.{bytes_of}
 use Rattle.chess_match.specs.Reasons.{comment_of, outcome_by_reason}
 use Rattle.chess_match.specs.Rules.{Rules}
 use Rattle.chess_match.specs.declared.reason.Reason.{Reason}
-use Rattle.chess_game.specs.Results.{result_text}
+use Rattle.chess_game.specs.Ends.{result_text}
 
 -- ---- the lines of a log
 
@@ -33,7 +33,8 @@ events_shown (e ∷ es) = e ∷ events_shown es
 
 -- the line that engines are sent at the end of a match that ended for this reason, such as `result 1-0 {Black resigns}`
 abbrev pub text_of_result : Reason → List ℕ
-text_of_result reason = codes "result " ++ result_text (outcome_by_reason reason) (comment_of reason)
+text_of_result reason =
+    codes "result " ++ result_text (record { outcome = outcome_by_reason reason; comment = comment_of reason })
 
 -- the event of a line of a log whose mark is `!`, of an engine of this side
 abbrev pub other_event : Colour → ℕ → List ℕ → Event

@@ -4,7 +4,7 @@ use Rattle.std.specs.Prelude.{ℕ, ◌++◌, if◌then◌else◌, List, take, co
 use Rattle.std.specs.Option.{option_map, option_map_or}
 use Rattle.chess_base.specs.Faults.{fen_fault_name}
 use Rattle.chess_base.specs.Letters.{byte}
-use Rattle.chess_game.specs.Ends.{verdict_result}
+use Rattle.chess_game.specs.Ends.{verdict_result, result_text}
 use Rattle.chess_game.specs.Game.{State, verdict_now}
 use Rattle.chess_game.specs.Results.{outcome_text}
 use Rattle.chess_game.specs.declared.verdicts.Verdict.{Verdict}
@@ -45,10 +45,10 @@ abbrev pub reason : FaultKind → List ℕ → Option Verdict → Option (List �
 reason (Pgn BadTag) text verdict = Some (tag_reason text)
 reason (Pgn (BadFen fault)) text verdict = Some (fen_fault_name fault)
 reason (Pgn BadToken) text verdict = Some (token_reason text)
-reason (Pgn AfterEnd) text verdict = option_map verdict_result verdict
+reason (Pgn AfterEnd) text verdict = option_map (λ v. result_text (verdict_result v)) verdict
 reason (ResultDiffers tag_len outcome) text verdict =
     Some (codes "Result " ++ (shown (take tag_len text) ++ (codes ", ended " ++ outcome_text outcome)))
-reason BoardSaysOtherwise text verdict = option_map verdict_result verdict
+reason BoardSaysOtherwise text verdict = option_map (λ v. result_text (verdict_result v)) verdict
 reason _ text verdict = None
 
 -- what explains a fault of this kind, with its reason; `s` is the game as far as it was read, and `text` is the text

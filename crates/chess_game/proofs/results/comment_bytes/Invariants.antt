@@ -1,5 +1,5 @@
 use Rattle.std.proofs.Common.{◌≡◌, length, map, take}
-use Rattle.chess_game.specs.Results.{comment_byte}
+use Rattle.chess_game.specs.ties.CommentBytes.{comment_byte}
 use Rattle.chess_game.proofs.results.comment_bytes.Given as goal
 
 abbrev pub invariant-loop-byte : goal.invariant-loop-byte

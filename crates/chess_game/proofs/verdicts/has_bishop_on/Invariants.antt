@@ -1,10 +1,12 @@
-use Rattle.std.proofs.Common.{◌≡◌, ◌&&◌}
+use Rattle.std.proofs.Common.{◌≡◌, ◌+◌, ◌%◌, ◌==◌, ◌&&◌}
 use Rattle.chess_base.specs.declared.man.Kind.TheVariants.{Bishop}
-use Rattle.chess_base.specs.Men.{man_at, same_colour}
+use Rattle.chess_base.specs.Men.{man_at}
+use Rattle.chess_base.specs.Squares.{file, rank}
 use Rattle.chess_base.specs.shared.Below.{some_below}
-use Rattle.chess_game.specs.Ends.{square_colour, is_kind}
+use Rattle.chess_game.specs.Ends.{is_kind}
 use Rattle.chess_game.proofs.verdicts.has_bishop_on.Given as goal
 
 abbrev pub invariant-loop-number : goal.invariant-loop-number
 invariant-loop-number l =
-    l.is_found ≡ some_below l.number (λ s. same_colour l.colour (square_colour s) && is_kind Bishop (man_at l.men s))
+    l.is_found
+    ≡ some_below l.number (λ s. ((file s + rank s) % 2 == l.parity) && is_kind Bishop (man_at l.men s))

@@ -1,6 +1,6 @@
 -- The parts were put one after the other, and the definition groups them to the right.
 use Rattle.std.proofs.Common.{append_assoc}
-use Rattle.chess_game.specs.Results.{result_text}
+use Rattle.chess_game.specs.Ends.{result_text}
 use Rattle.pgn_verifier.proofs.explanation.append_verdict.Goals as goal
 
 pub returns-in-Some-clause-text : goal.returns-in-Some-clause-text
