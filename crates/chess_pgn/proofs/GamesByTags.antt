@@ -38,7 +38,7 @@ use Rattle.chess_pgn.specs.Tokens.{Token, Skip, Tag, Word, Bad_tag, Unclosed_com
 use Rattle.chess_pgn.proofs.PgnWords.{are_marks, marks_by_kind}
 use Rattle.chess_pgn.proofs.ByteRuns.{run_passes}
 use Rattle.chess_pgn.proofs.FenVariants.{initial_variant, read_variant}
-use Rattle.chess_pgn.proofs.TokenSplits.{read_split, split_read}
+use Rattle.chess_pgn.proofs.Splits.{read_split, split_read}
 
 -- ---- words, where `met` and `begun` say what came before them
 

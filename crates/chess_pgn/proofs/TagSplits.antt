@@ -12,7 +12,8 @@ use Rattle.chess_pgn.specs.ties.TagParts.{closed, with_text, with_string, with_t
 use Rattle.chess_pgn.proofs.Skipped.{gap_line}
 use Rattle.chess_pgn.proofs.Strings.{string_after, string_quote, string_other}
 use Rattle.chess_pgn.proofs.Gaps.{gap_same}
-use Rattle.chess_pgn.specs.Split.{IsGap, nothing, blank, line, IsString, kept, other, IsTag}
+use Rattle.chess_pgn.specs.Split.{IsGap, nothing, blank, line, OpensTag, opens, IsString, kept, other}
+use Rattle.chess_pgn.specs.shared.Kinds.{IsTag}
 use Rattle.chess_pgn.proofs.ByteRuns.{differs, pick, run_drop, run_take, run_passes, LineSays, unended, line_then, line_says}
 use Rattle.chess_pgn.proofs.VariationInsides.{line_end_is}
 
@@ -223,18 +224,40 @@ left_at_string : (string gap r : List ℕ)
     → length (string ++ 34 ∷ (gap ++ 93 ∷ r)) ≡ length (string ++ 34 ∷ (gap ++ 93 ∷ [])) + length r
 left_at_string string gap r = simp length-append (omega arith)
 
+-- the parts of a tag's opening
+pub record OpeningParts (name text : List ℕ) : Type 0 where
+  pub before : List ℕ
+  pub after : List ℕ
+  pub is : text ≡ 91 ∷ (before ++ (name ++ (after ++ 34 ∷ [])))
+  pub before_is_gap : IsGap false before
+  pub after_is_gap : IsGap false after
+  pub some : 0 < length name
+  pub named : list_all is_name_byte name ≡ true
+
+pub opening_parts : {name text : List ℕ} → OpensTag name text → OpeningParts name text
+opening_parts (opens {before} {after} gap some named then_gap) = record {
+  before = before;
+  after = after;
+  is = refl;
+  before_is_gap = gap;
+  after_is_gap = then_gap;
+  some = some;
+  named = named;
+}
+
 -- a tag begins with a bracket
 pub tag_begins : (name string closing text : List ℕ) → IsTag name string closing text
     → (u : List ℕ) × (text ≡ 91 ∷ u)
-tag_begins name string closing text (opening, o, s, close, is) = (
-  (o.before ++ (name ++ (o.after ++ 34 ∷ []))) ++ (string ++ closing),
-  is
-      ∙ ap (λ xs. xs ++ (string ++ closing)) o.is,
-)
+tag_begins name string closing text (opening, front, s, close, is) =
+    let o = opening_parts front in (
+      (o.before ++ (name ++ (o.after ++ 34 ∷ []))) ++ (string ++ closing),
+      is ∙ ap (λ xs. xs ++ (string ++ closing)) o.is,
+    )
 
 pub tag_read : (name string closing text u r : List ℕ) → IsTag name string closing text → text ≡ 91 ∷ u
     → tag_by_parts (u ++ r) ≡ (Tag name string (length (string ++ closing) + length r), r)
-tag_read name string closing text u r (opening, o, s, close, is) head =
+tag_read name string closing text u r (opening, front, s, close, is) head =
+    let o = opening_parts front in
     let v : List ℕ = o.before ++ (name ++ (o.after ++ 34 ∷ (string ++ 34 ∷ (close.0 ++ 93 ∷ [])))) in
     let whole : text ≡ 91 ∷ v =
     is ∙ ap (λ xs. xs ++ (string ++ closing)) o.is
@@ -282,15 +305,7 @@ tag_leaves text = by_gap (after_gap text) (gap_goes text)
             subst (λ n. TagLeaves text (Tag name string n, r)) (sym left)
             (good name string closing v r (
               91 ∷ (gap ++ (name ++ (middle ++ 34 ∷ []))),
-              record {
-                before = gap;
-                after = middle;
-                is = refl;
-                before_is_gap = h;
-                after_is_gap = h_after;
-                some = some;
-                named = named;
-              },
+              opens {before = gap} {after = middle} h some named h_after,
               s,
               (after_string, k.1, refl),
               ap (λ xs. 91 ∷ xs) (sym (tag_text gap name middle string after_string)),

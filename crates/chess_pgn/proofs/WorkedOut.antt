@@ -22,7 +22,7 @@ use Rattle.chess_pgn.specs.Written.{ended}
 use Rattle.chess_pgn.specs.laws.Examples.{TextsAreSplit, TextsAreRead, TextsAreLaidOut}
 use Rattle.chess_pgn.specs.PgnText.{IsPgn}
 use Rattle.chess_pgn.proofs.FilledLines.{full_cons, grouped_full}
-use Rattle.chess_pgn.proofs.TokenSplits.{read_split}
+use Rattle.chess_pgn.proofs.Splits.{read_split}
 
 pub texts_are_split : TextsAreSplit
 unfolding token_at tokens_of tokens_from
