@@ -1,8 +1,9 @@
 -- The words of a game that was read: each denotes a move where a move may be played, and these are the game's moves.
-use Rattle.std.proofs.Common.{◌≡◌, ℕ, Bool, true, false, cond, not, List, [], ◌∷◌, ◌++◌, length, drop, Option, Some, None, is_some, Result, Ok, Err, refl, sym, ap, subst, ◌∙◌, append_assoc, append-nil}
-use Rattle.std.specs.Prelude.{◌||◌, nat_lt}
-use Rattle.std.specs.List.{list_all, list_any}
+use Rattle.std.proofs.Common.{◌≡◌, ℕ, Bool, true, false, cond, List, [], ◌∷◌, ◌++◌, length, drop, Option, Some, None, is_some, Result, Ok, Err, refl, sym, ap, subst, ◌∙◌, append_assoc, append-nil}
+use Rattle.std.specs.Prelude.{◌||◌, nat_lt, slice_get}
+use Rattle.std.specs.List.{list_all, list_any, filter_map}
 use Rattle.std.specs.Option.{option_map_or}
+use Rattle.std.specs.Result.{result_err}
 use Rattle.chess_base.specs.declared.man.Move.{Move}
 use Rattle.chess_base.specs.declared.man.Variant.{Variant}
 use Rattle.chess_base.specs.declared.setup.Setup.{Setup}
@@ -18,10 +19,11 @@ use Rattle.chess_pgn.specs.declared.read.PgnEnd.{PgnEnd}
 use Rattle.chess_pgn.specs.declared.read.PgnFault.{PgnFault}
 use Rattle.chess_pgn.specs.declared.read.PgnFaultKind.TheVariants.{AfterEnd, TooLong, NoResult}
 use Rattle.chess_pgn.specs.declared.termination.Termination.{Termination}
-use Rattle.chess_pgn.specs.GameRead.{GameRead, Row, Passes, Plays, Ends, Fails, failed, move_row, row, after_row, moves_read, is_tag, fens, last_start, last_termination, first_bad_fen, tagged_variant, read_after_tags, pgn_read}
+use Rattle.chess_pgn.specs.GameRead.{GameRead, Row, Passes, Plays, Ends, Fails, failed, move_row, row, after_row, moves_read, is_tag, last_start, tagged_variant, read_after_tags, pgn_read}
 use Rattle.chess_pgn.specs.LastTags.{tag_section}
 use Rattle.chess_pgn.specs.Tokens.{Token, Skip, Tag, Word, Bad_tag, Unclosed_comment, Unclosed_variation, Bad, after_byte_order_mark, tokens_from}
 use Rattle.chess_pgn.specs.Words.{outcome_of, is_marks}
+use Rattle.chess_pgn.proofs.GamesByTags.{fens, termination_in}
 
 -- from the game `s` on each word denotes the move at its index, where the game has no verdict and fewer than `limit`
 -- moves
@@ -57,7 +59,7 @@ record IsPlayed (limit : ℕ) (s : State) (m : Move) : Type 0 where
   denotes : reading (current s) word ≡ reads.Move m
 
 open_row : (over : Option Verdict) (room : Bool) (x : Row) (m : Move)
-    → cond (is_some over) (Fails AfterEnd) (cond (not room) (Fails TooLong) x) ≡ Plays m
+    → cond (is_some over) (Fails AfterEnd) (cond room x (Fails TooLong)) ≡ Plays m
     → (over ≡ None) × (room ≡ true) × (x ≡ Plays m)
 open_row (Some v) room x m e = absurd (cc)
 open_row None false x m e = absurd (cc)
@@ -134,10 +136,10 @@ tags_words limit total s tags [] h = absurd (by_tags (list_any is_tag tags) h)
     by_tags true h = h
     by_tags false h = h
 tags_words limit total s tags ((left, Skip) ∷ ts) h =
-    moves_words limit total (last_termination tags) s ((left, Skip) ∷ ts) h
+    moves_words limit total (termination_in tags) s ((left, Skip) ∷ ts) h
 tags_words limit total s tags ((left, Tag name string at) ∷ ts) h = absurd h
 tags_words limit total s tags ((left, Word word) ∷ ts) h =
-    moves_words limit total (last_termination tags) s ((left, Word word) ∷ ts) h
+    moves_words limit total (termination_in tags) s ((left, Word word) ∷ ts) h
 tags_words limit total s tags ((left, Bad_tag) ∷ ts) h = absurd h
 tags_words limit total s tags ((left, Unclosed_comment brace) ∷ ts) h = absurd h
 tags_words limit total s tags ((left, Unclosed_variation) ∷ ts) h = absurd h
@@ -166,10 +168,10 @@ game_words limit text at end is =
     let tokens : List (ℕ × Token) = tokens_from text (after_byte_order_mark text at) in
     let tags : List (ℕ × Token) = tag_section tokens in
     let v : Variant = tagged_variant tags in
-    let p : Setup = last_start (initial_setup_of v) (fens v tags) in
+    let p : Setup = last_start (initial_setup_of v) (fens total v tags) in
     let rest : List (ℕ × Token) = drop (length tags) tokens in
     let w : Words limit (from_start p) (pgn_read limit text at).state =
-    by_fault limit (from_start p) (first_bad_fen total (fens v tags))
+    by_fault limit (from_start p) (slice_get (filter_map result_err (fens total v tags)) 0)
     (read_after_tags limit total (from_start p) tags rest)
     (tags_words limit total (from_start p) tags rest)
     (subst IsEnd (sym is) tt) in
