@@ -26,7 +26,7 @@ use Rattle.chess_text.specs.declared.reading.Reading.TheVariants as reads
 use Rattle.chess_text.specs.Moves.{reading}
 use Rattle.chess_pgn.specs.declared.termination.Termination.{Termination}
 use Rattle.chess_pgn.specs.Terminations.{termination_named}
-use Rattle.chess_pgn.specs.GameRead.{GameRead, tagged_variant, pgn_read, Passes, Ends, failed, move_row, row, after_row, moves_read, is_tag, fen_read, last_start, read_after_tags, read_of_split}
+use Rattle.chess_pgn.specs.GameRead.{GameRead, tagged_variant, pgn_read, Goes_on, Ends, failed, move_row, row, after_row, moves_read, is_tag, fen_read, last_start, read_after_tags, read_of_split}
 use Rattle.chess_pgn.specs.laws.TokenByToken.{SoFar, Step, On, word_step, move_step, fen_step, step, read_rest_with, game_of, termination_after, tokens_read}
 use Rattle.chess_pgn.specs.GameRead.{IsRead}
 use Rattle.chess_pgn.specs.LastTags.{may_precede_tags, tag_section, tags_named, last_tag}
@@ -78,7 +78,7 @@ module _ (limit total : ℕ) (termination : Option Termination) (met begun : Boo
       ≡ after_row total termination s (left, Word word) (move_row limit s (reading (current s) word)) next
       → read_rest_with (steps (option_map_or end o (cond is_number number (cond is_mark marks move)))) later
       ≡ after_row total termination s (left, Word word) (option_map_or (λ k. Ends k (length word)) o
-      (cond (is_number || is_mark) Passes (move_row limit s (reading (current s) word)))) next
+      (cond (is_number || is_mark) (Goes_on s) (move_row limit s (reading (current s) word)))) next
   by_kind left word end number marks move steps (Some o) is_number is_mark e n m r = e o
   by_kind left word end number marks move steps None true is_mark e n m r = n
   by_kind left word end number marks move steps None false true e n m r = m refl

@@ -54,37 +54,35 @@ failed s fault = record { state = s; answer = Err fault }
 
 -- ---- after the tags: a row for each kind of token
 
--- what a token does: it is passed over, its move is played, its outcome, a word of `len` bytes, ends the game, or it
--- can't be taken
+-- what a token does: the game goes on as `next`, the outcome, a word of `len` bytes, ends it, or the token can't be taken
 pub data Row : Type 0 where
-  Passes : Row
-  Plays : (m : Move) → Row
+  Goes_on : (next : State) → Row
   Ends : (o : Outcome) (len : ℕ) → Row
   Fails : (kind : PgnFaultKind) → Row
 
--- `next`, unless no more moves can be played in the game `s` of at most `limit` half-moves: where the board has a
--- verdict, a move comes after the end; where the game is full, it is too long
+-- what a move does in the game `s` of at most `limit` half-moves: where the board has a verdict, it comes after the end;
+-- where the game is full, the game is too long; otherwise what `row` says
 abbrev pub unless_over : ℕ → State → Row → Row
-unless_over limit s next =
+unless_over limit s row =
     if is_some (verdict_now s) then Fails AfterEnd
-    else if nat_lt (length s.moves) limit then next
+    else if nat_lt (length s.moves) limit then row
     else Fails TooLong
 
 -- what a word does that is taken as a move, by what it denotes in the current position of the game `s` of at most
 -- `limit` half-moves. Without a move's shape it is a bad token, also where the game is over or full
 abbrev pub move_row : ℕ → State → Reading → Row
 move_row limit s reads.NotAMove = Fails BadToken
-move_row limit s (reads.Move m) = unless_over limit s (Plays m)
+move_row limit s (reads.Move m) = unless_over limit s (Goes_on (played s m))
 move_row limit s reads.Ambiguous = unless_over limit s (Fails AmbiguousMove)
 move_row limit s reads.NoSuch = unless_over limit s (Fails IllegalMove)
 
 -- what a token does after the tags, in the game `s` of at most `limit` half-moves
 abbrev pub row : ℕ → State → Token → Row
-row limit s Skip = Passes
+row limit s Skip = Goes_on s
 -- an outcome such as `1-0` ends the game; a number (digits alone) and marks such as `!?` are passed over; any other
 -- word is taken as a move
 row limit s (Word word) = option_map_or (λ o. Ends o (length word)) (outcome_of word)
-    (if list_all is_digit word || is_marks word then Passes else move_row limit s (reading (current s) word))
+    (if list_all is_digit word || is_marks word then Goes_on s else move_row limit s (reading (current s) word))
 row limit s (Unclosed_comment brace) = Fails UnclosedComment
 row limit s Unclosed_variation = Fails UnclosedVariation
 row limit s Bad = Fails BadToken
@@ -102,8 +100,7 @@ left_at_fault (to_end, _) = to_end
 -- from the game as it is then. `t` is paired with how many bytes are left where it begins, of a text of `total` bytes;
 -- `termination` is what the tag Termination names
 abbrev pub after_row : ℕ → Option Termination → State → ℕ × Token → Row → (State → GameRead) → GameRead
-after_row total termination s t Passes later = later s
-after_row total termination s t (Plays m) later = later (played s m)
+after_row total termination s t (Goes_on next) later = later next
 after_row total termination s t (Ends o len) later = record {
   state = with_declared s (declared_after (is_some (verdict_now s)) o);
   answer = Ok (Some (record { outcome = o; termination = termination; offset = total - t.0 + len }));
