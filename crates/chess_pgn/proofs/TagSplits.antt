@@ -95,13 +95,10 @@ gap_goes text = subst (GapLeaves false text) (gap_same text) (gap_leaves (length
 
 pub string_read : {s : List ℕ} → IsString s → (rest : List ℕ) → string_at (s ++ 34 ∷ rest) ≡ Some (s, rest)
 string_read nothing rest = string_quote 34 rest refl
-string_read (kept {c} {d} {more} slash line_ends r) rest =
-    let ends : eqb c 10 ≡ false = grind (arith, nat_tests, slash) in
-    let quote : eqb c 34 ≡ false = grind (arith, nat_tests, slash) in
-    string_other c (d ∷ (more ++ 34 ∷ rest)) ends quote
-    ∙ ap (λ t. onto (c ∷ []) (string_after t (d ∷ (more ++ 34 ∷ rest)))) slash
-    ∙ ap (λ t. onto (c ∷ []) (cond t None (onto (d ∷ []) (string_at (more ++ 34 ∷ rest))))) line_ends
-    ∙ ap (λ o. onto (c ∷ []) (onto (d ∷ []) o)) (string_read r rest)
+string_read (kept {c} {more} line_ends r) rest =
+    string_other 92 (c ∷ (more ++ 34 ∷ rest)) refl refl
+    ∙ ap (λ t. onto (92 ∷ []) (cond t None (onto (c ∷ []) (string_at (more ++ 34 ∷ rest))))) line_ends
+    ∙ ap (λ o. onto (92 ∷ []) (onto (c ∷ []) o)) (string_read r rest)
 string_read (other {c} {more} none r) rest =
     let first = or_parts (eqb c 92) _ none in
     let second = or_parts (eqb c 34) _ first.1 in
@@ -129,7 +126,10 @@ string_leaves (c ∷ d ∷ rest) =
     both : eqb c 92 ≡ true → eqb d 10 ≡ false → (o : Option (List ℕ × List ℕ)) → StringLeaves rest o
         → StringLeaves (c ∷ d ∷ rest) (onto (c ∷ d ∷ []) o)
     both slash line_ends None h = tt
-    both slash line_ends (Some f) h = (kept slash line_ends h.0, ap (λ xs. c ∷ d ∷ xs) h.1)
+    both slash line_ends (Some f) h = (
+      subst (λ k. IsString (k ∷ d ∷ f.0)) (sym (eqb-true c 92 slash)) (kept line_ends h.0),
+      ap (λ xs. c ∷ d ∷ xs) h.1,
+    )
 
     one : eqb c 34 ≡ false → eqb c 10 ≡ false → eqb c 92 ≡ false → (o : Option (List ℕ × List ℕ))
         → StringLeaves (d ∷ rest) o → StringLeaves (c ∷ d ∷ rest) (onto (c ∷ []) o)

@@ -57,8 +57,7 @@ pub data OpensTag (name : List ℕ) : List ℕ → Type 0 where
 pub data IsString : List ℕ → Type 0 where
   nothing : IsString []
   -- a backslash and the byte that it keeps
-  kept : {c d : ℕ} {more : List ℕ} → (c == byte "\\") ≡ true → (d == new_line) ≡ false → IsString more
-      → IsString (c ∷ d ∷ more)
+  kept : {c : ℕ} {more : List ℕ} → (c == new_line) ≡ false → IsString more → IsString (byte "\\" ∷ c ∷ more)
   -- any other byte: no backslash, quote or line end
   other : {c : ℕ} {more : List ℕ} → list_any (λ k. c == k) (byte "\\" ∷ byte "\"" ∷ new_line ∷ []) ≡ false
       → IsString more → IsString (c ∷ more)
