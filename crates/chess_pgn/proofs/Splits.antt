@@ -2,7 +2,7 @@
 use Rattle.std.proofs.Common.{◌≡◌, ℕ, ◌+◌, ◌-◌, ◌≤◌, Bool, true, false, List, [], ◌∷◌, ◌++◌, length, drop, Option, Some, None, refl, sym, ap, subst, ◌∙◌, inl, inr, append_assoc, length-append, arith}
 use Rattle.std.proofs.lemmas.List.{nil_from_length}
 use Rattle.chess_pgn.specs.Tokens.{Token, Skip, Tag, Word, Bad_tag, Unclosed_comment, Unclosed_variation, Bad, after_brace, begins_line, tokens_from}
-use Rattle.chess_pgn.specs.Split.{lacks, OpensTag, HasOpenComment, IsToken, blank, line, comment, glyph, variation, tag, asterisk, word, IsTokenAt, IsFaultOf, inner_comment, other, IsSplit, ended, token, stopped}
+use Rattle.chess_pgn.specs.Split.{lacks, HasOpenComment, IsToken, blank, line, comment, glyph, variation, tag, asterisk, word, IsFaultOf, inner_comment, other, IsSplit, ended, token, stopped}
 use Rattle.chess_pgn.specs.shared.Kinds as kinds
 use Rattle.chess_pgn.specs.shared.Kinds.{Kind, Blank, Line, Comment, Nag, Variation, Tag_pair, Asterisk, Symbol, IsOf, IsLongest, token_of, HasNoToken, HasUnclosedComment, IsFault, IsSplitByKinds}
 use Rattle.chess_pgn.proofs.ByteRuns.{BraceSays, brace_says}

@@ -12,7 +12,7 @@ use Rattle.text_lines.specs.Words.{is_name_byte}
 use Rattle.chess_pgn.specs.Tokens.{after_byte, after_gap, after_next, name_at}
 use Rattle.chess_pgn.specs.Split.{IsGap, OpensTag, opens}
 use Rattle.chess_pgn.proofs.ByteRuns.{run_passes, run_take}
-use Rattle.chess_pgn.proofs.TagSplits.{OpeningParts, opening_parts, GapLeaves, from_gap, gap_goes, name_stops, next_read}
+use Rattle.chess_pgn.proofs.TagSplits.{opening_parts, GapLeaves, from_gap, gap_goes, name_stops, next_read}
 
 -- ---- from the relations to the reader
 

@@ -3,7 +3,6 @@ use Rattle.std.proofs.Common.{◌≡◌, ℕ, zero, suc, ◌+◌, ◌<◌, ◌�
 use Rattle.std.specs.Prelude.{◌&&◌}
 use Rattle.std.specs.List.{list_all, list_any, prefix_len, take_while}
 use Rattle.std.proofs.lemmas.Bool.{and_parts, or_parts, or_cases, eqb-true}
-use Rattle.std.proofs.lemmas.Bool.Decides.{nat_tests}
 use Rattle.std.proofs.lemmas.List.{take-append-drop, append_assoc, length-append}
 use Rattle.chess_pgn.specs.Tokens.{Token, Tag, Bad_tag, is_white_space, line_end, after_gap, string_at, onto, after_byte, after_next}
 use Rattle.text_lines.specs.Words.{is_name_byte}

@@ -6,7 +6,6 @@ use Rattle.std.specs.List.{list_all, list_any, filter_map, last_or, take_while}
 use Rattle.std.specs.Option.{option_map_or, unwrap_or}
 use Rattle.std.specs.Result.{is_ok, result_ok, result_err, result_map_both}
 use Rattle.std.specs.Str.{str_eq_ignore_ascii_case}
-use Rattle.chess_base.specs.declared.man.Move.{Move}
 use Rattle.chess_base.specs.declared.man.Variant.{Variant}
 use Rattle.chess_base.specs.declared.man.Variant.TheVariants.{Normal, Fischerandom}
 use Rattle.chess_base.specs.declared.setup.Setup.{Setup}

@@ -11,7 +11,6 @@ use Rattle.chess_fen.specs.Writing.{fen, is_initial}
 use Rattle.chess_game.specs.Game.{State, from_start, outcome_now}
 use Rattle.chess_game.specs.Results.{outcome_text}
 use Rattle.chess_pgn.specs.declared.tags.Tags.{Tags}
-use Rattle.chess_pgn.specs.declared.read.PgnFault.{PgnFault}
 use Rattle.chess_pgn.specs.declared.read.PgnFaultKind.TheVariants.{BadFen}
 use Rattle.chess_pgn.specs.GameRead.{GameRead, failed, last_start, read_after_tags, pgn_read}
 use Rattle.chess_pgn.specs.GameText.{tag_lines}
