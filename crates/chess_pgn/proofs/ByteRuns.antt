@@ -4,7 +4,8 @@ use Rattle.std.specs.List.{list_all, prefix_len}
 use Rattle.std.proofs.lemmas.Bool.{and_parts, eqb-true}
 use Rattle.std.proofs.lemmas.Bool.Decides.{nat_tests}
 use Rattle.chess_pgn.specs.Tokens.{after_brace, line_end}
-use Rattle.chess_pgn.specs.Split.{lacks, IsLongest}
+use Rattle.chess_pgn.specs.Split.{lacks}
+use Rattle.chess_pgn.specs.shared.Kinds.{IsLongest}
 use Rattle.chess_pgn.proofs.Skipped.{line_end-more}
 
 pub differs : (p : ℕ → Bool) (c k : ℕ) → p c ≡ true → p k ≡ false → eqb c k ≡ false

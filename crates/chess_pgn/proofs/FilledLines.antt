@@ -2,35 +2,36 @@
 -- definitions, which are full, and no other lines are.
 use mathlib.Core.List.{reverse_aux}
 use Rattle.std.proofs.Common.{◌≡◌, ℕ, ◌+◌, ◌<◌, ◌≤◌, Bool, true, false, cond, eqb, leb, List, [], ◌∷◌, ◌++◌, length, map, reverse, refl, sym, ap, subst, ◌∙◌, append_assoc, arith}
-use Rattle.std.specs.List.{flat_map}
+use Rattle.std.specs.List.{flat_map, fold}
 use Rattle.std.proofs.lemmas.Bool.{leb-true, le-leb}
 use Rattle.std.proofs.lemmas.Bool.Decides.{nat_tests}
 use Rattle.std.proofs.lemmas.List.{append-nil, length-append}
-use Rattle.chess_pgn.specs.Written.{ended, lines_back, with_token, lines_of}
+use Rattle.chess_pgn.specs.Written.{ended, with_token, lines_of}
 use Rattle.chess_pgn.specs.PgnText.{line_text, AreFullLines}
 use Rattle.chess_pgn.specs.laws.Layout.{AreShort, AreFilled}
 use Rattle.chess_pgn.specs.ties.Lines.{lines_from, lines_begun, line_close, wrapped_token, next_column}
 
--- ---- the last token first, and the first token first
+-- ---- the last line first, and the first line first
 
--- `done` are the tokens before `ts`, the last one first, and `line` and `earlier` are their lines
-lines_on : (ts done : List (List ℕ)) (line : List ℕ) (earlier : List (List ℕ)) → lines_back done ≡ line ∷ earlier
-    → reverse (lines_back (reverse_aux ts done)) ≡ reverse_aux earlier (lines_from line ts)
-lines_on [] done line earlier is = ap reverse is
-lines_on (t ∷ ts) done line earlier is =
-    by_test (leb (length (line ++ 32 ∷ t)) 79) (ap (with_token t) is) (lines_on ts (t ∷ done))
+-- more tokens after those whose last line is `line` and whose lines before that are `earlier`
+lines_on : (ts : List (List ℕ)) (line : List ℕ) (earlier : List (List ℕ))
+    → reverse (fold with_token (line ∷ earlier) ts) ≡ reverse_aux earlier (lines_from line ts)
+lines_on [] line earlier = refl
+lines_on (t ∷ ts) line earlier =
+    by_test (leb (length (line ++ 32 ∷ t)) 79) (lines_on ts (line ++ 32 ∷ t) earlier) (lines_on ts t (line ∷ earlier))
   where
-    by_test : (b : Bool) → lines_back (t ∷ done) ≡ cond b ((line ++ 32 ∷ t) ∷ earlier) (t ∷ line ∷ earlier)
-        → ((l : List ℕ) (ls : List (List ℕ)) → lines_back (t ∷ done) ≡ l ∷ ls
-        → reverse (lines_back (reverse_aux ts (t ∷ done))) ≡ reverse_aux ls (lines_from l ts))
-        → reverse (lines_back (reverse_aux ts (t ∷ done)))
+    by_test : (b : Bool)
+        → reverse (fold with_token ((line ++ 32 ∷ t) ∷ earlier) ts)
+        ≡ reverse_aux earlier (lines_from (line ++ 32 ∷ t) ts)
+        → reverse (fold with_token (t ∷ line ∷ earlier) ts) ≡ reverse_aux (line ∷ earlier) (lines_from t ts)
+        → reverse (fold with_token (cond b ((line ++ 32 ∷ t) ∷ earlier) (t ∷ line ∷ earlier)) ts)
         ≡ reverse_aux earlier (cond b (lines_from (line ++ 32 ∷ t) ts) (line ∷ lines_from t ts))
-    by_test true e on = on (line ++ 32 ∷ t) earlier e
-    by_test false e on = on t (line ∷ earlier) e
+    by_test true here next = here
+    by_test false here next = next
 
 pub lines_are : (tokens : List (List ℕ)) → lines_of tokens ≡ lines_begun tokens
 lines_are [] = refl
-lines_are (t ∷ ts) = lines_on ts (t ∷ []) t [] refl
+lines_are (t ∷ ts) = lines_on ts t []
 
 -- ---- as they are written
 

@@ -1,9 +1,9 @@
 -- What is read of a game by its tags and moves is what is read token by token.
 use Rattle.std.proofs.Common.{◌≡◌, ℕ, suc, ◌+◌, ◌-◌, Bool, true, false, cond, List, [], ◌∷◌, ◌++◌, length, take, drop, Option, Some, None, Result, Ok, Err, refl, sym, ap, ◌∙◌, arith}
-use Rattle.std.specs.Prelude.{◌||◌, nat_lt, is_some, codes, option_and_then}
+use Rattle.std.specs.Prelude.{◌||◌, nat_lt, is_some, codes, map, slice_get, option_and_then}
 use Rattle.std.specs.List.{list_all, list_any, prefix_len, take_while, filter_map, cons_option, last_or}
 use Rattle.std.specs.Option.{option_map_or, unwrap_or}
-use Rattle.std.specs.Result.{is_ok, result_ok}
+use Rattle.std.specs.Result.{is_ok, result_ok, result_err, result_map_both}
 use Rattle.std.specs.Str.{bytes_eq}
 use Rattle.std.proofs.lemmas.Bool.{and_parts}
 use Rattle.std.proofs.lemmas.List.{take-append-drop}
@@ -19,17 +19,17 @@ use Rattle.chess_game.specs.Game.{Seen, State, from_start, played, current, verd
 use Rattle.chess_game.specs.Game.{with_state as left_at}
 use Rattle.chess_pgn.specs.declared.read.PgnEnd.{PgnEnd}
 use Rattle.chess_pgn.specs.declared.read.PgnFault.{PgnFault}
-use Rattle.chess_pgn.specs.declared.read.PgnFaultKind.TheVariants.{BadTag, NoResult}
+use Rattle.chess_pgn.specs.declared.read.PgnFaultKind.TheVariants.{BadTag, BadFen, NoResult}
 use Rattle.chess_game.specs.declared.results.Outcome.{Outcome}
 use Rattle.chess_text.specs.declared.reading.Reading.{Reading}
 use Rattle.chess_text.specs.declared.reading.Reading.TheVariants as reads
 use Rattle.chess_text.specs.Moves.{reading}
 use Rattle.chess_pgn.specs.declared.termination.Termination.{Termination}
 use Rattle.chess_pgn.specs.Terminations.{termination_named}
-use Rattle.chess_pgn.specs.GameRead.{GameRead, tagged_variant, pgn_read, Passes, Ends, failed, move_row, row, after_row, moves_read, is_tag, fens, last_start, last_termination, first_bad_fen, read_after_tags, read_of_split}
+use Rattle.chess_pgn.specs.GameRead.{GameRead, tagged_variant, pgn_read, Goes_on, Ends, failed, move_row, row, after_row, moves_read, is_tag, fen_read, last_start, read_after_tags, read_of_split}
 use Rattle.chess_pgn.specs.laws.TokenByToken.{SoFar, Step, On, word_step, move_step, fen_step, step, read_rest_with, game_of, termination_after, tokens_read}
 use Rattle.chess_pgn.specs.GameRead.{IsRead}
-use Rattle.chess_pgn.specs.LastTags.{may_precede_tags, tag_section, tags_named}
+use Rattle.chess_pgn.specs.LastTags.{may_precede_tags, tag_section, tags_named, last_tag}
 use Rattle.chess_pgn.specs.declared.word_kind.WordKind.{WordKind}
 use Rattle.chess_pgn.specs.declared.word_kind.WordKind.TheVariants.{End, Number, Marks, Move}
 use Rattle.chess_pgn.specs.Words.{outcome_of, is_marks}
@@ -38,7 +38,7 @@ use Rattle.chess_pgn.specs.Tokens.{Token, Skip, Tag, Word, Bad_tag, Unclosed_com
 use Rattle.chess_pgn.proofs.PgnWords.{are_marks, marks_by_kind}
 use Rattle.chess_pgn.proofs.ByteRuns.{run_passes}
 use Rattle.chess_pgn.proofs.FenVariants.{initial_variant, read_variant}
-use Rattle.chess_pgn.proofs.TokenSplits.{read_split, split_read}
+use Rattle.chess_pgn.proofs.Splits.{read_split, split_read}
 
 -- ---- words, where `met` and `begun` say what came before them
 
@@ -78,7 +78,7 @@ module _ (limit total : ℕ) (termination : Option Termination) (met begun : Boo
       ≡ after_row total termination s (left, Word word) (move_row limit s (reading (current s) word)) next
       → read_rest_with (steps (option_map_or end o (cond is_number number (cond is_mark marks move)))) later
       ≡ after_row total termination s (left, Word word) (option_map_or (λ k. Ends k (length word)) o
-      (cond (is_number || is_mark) Passes (move_row limit s (reading (current s) word)))) next
+      (cond (is_number || is_mark) (Goes_on s) (move_row limit s (reading (current s) word)))) next
   by_kind left word end number marks move steps (Some o) is_number is_mark e n m r = e o
   by_kind left word end number marks move steps None true is_mark e n m r = n
   by_kind left word end number marks move steps None false true e n m r = m refl
@@ -118,6 +118,10 @@ moves_are limit total termination s (t ∷ ts) =
 
 -- ---- where the tags end
 
+-- what the last tag Termination names
+abbrev pub termination_in : List (ℕ × Token) → Option Termination
+termination_in tags = option_and_then (λ tag. termination_named tag.0) (last_tag (codes "Termination") tags)
+
 -- what is read after the tags, where `met` says whether there was one, and `termination` is what the last tag
 -- Termination names
 abbrev after_tags_by : ℕ → ℕ → Option Termination → State → Bool → List (ℕ × Token) → GameRead
@@ -128,12 +132,12 @@ after_tags_by limit total termination s met rest = moves_read limit total termin
 
 after_tags_is : (limit total : ℕ) (s : State) (tags rest : List (ℕ × Token))
     → read_after_tags limit total s tags rest
-    ≡ after_tags_by limit total (last_termination tags) s (list_any is_tag tags) rest
+    ≡ after_tags_by limit total (termination_in tags) s (list_any is_tag tags) rest
 after_tags_is limit total s tags [] = by_tags (list_any is_tag tags)
   where
     by_tags : (met : Bool)
         → cond met (failed s (record { kind = NoResult; offset = total })) (record { state = s; answer = Ok None })
-        ≡ after_tags_by limit total (last_termination tags) s met []
+        ≡ after_tags_by limit total (termination_in tags) s met []
     by_tags true = refl
     by_tags false = refl
 after_tags_is limit total s tags ((left, Skip) ∷ rest) = refl
@@ -193,26 +197,33 @@ abbrev termination_from : Option Termination → List (ℕ × Token) → Option 
 termination_from before tags =
     option_map_or (λ tag. termination_named tag.0) (last_or None (tags_named (codes "Termination") tags)) before
 
+-- what a tag FEN gives, by how its text was read
+abbrev with_place : ℕ → ℕ → Result Setup FenFault → Result Setup PgnFault
+with_place total at_string r =
+    result_map_both (λ start. start) (λ fault. record { kind = BadFen fault; offset = total - at_string }) r
+
+abbrev pub fens : ℕ → Variant → List (ℕ × Token) → List (Result Setup PgnFault)
+fens total v tags = map (fen_read total v) (tags_named (codes "FEN") tags)
+
 -- what is said of these tags and of the tokens after them, where `before` is known before them
-abbrev said : ℕ → ℕ → Option Termination → Setup → List (Result Setup FenFault × ℕ) → Bool → List (ℕ × Token) → GameRead
+abbrev said : ℕ → ℕ → Option Termination → Setup → List (Result Setup PgnFault) → Bool → List (ℕ × Token) → GameRead
 said limit total termination p fs met rest =
-    option_map_or (failed (from_start (last_start p fs))) (first_bad_fen total fs)
+    option_map_or (failed (from_start (last_start p fs))) (slice_get (filter_map result_err fs) 0)
     (after_tags_by limit total termination (from_start (last_start p fs)) met rest)
 
 abbrev Whole : ℕ → ℕ → Variant → Bool → Option Termination → Setup → List (ℕ × Token) → List (ℕ × Token) → Type 0
 Whole limit total v met before p tags rest =
     game_of limit total (opened met before p) (tags ++ rest)
-    ≡ said limit total (termination_from before tags) p (fens v tags) (met || list_any is_tag tags) rest
+    ≡ said limit total (termination_from before tags) p (fens total v tags) (met || list_any is_tag tags) rest
 
 -- a FEN that denotes a position gives the start, unless one after it does
-next_start : (p q : Setup) (at_string : ℕ) (fs : List (Result Setup FenFault × ℕ))
-    → last_start p ((Ok q, at_string) ∷ fs) ≡ last_start q fs
-next_start p q at_string fs =
-    let n : ℕ = prefix_len (λ (f : Result Setup FenFault × ℕ). is_ok f.0) fs in
+next_start : (p q : Setup) (fs : List (Result Setup PgnFault)) → last_start p (Ok q ∷ fs) ≡ last_start q fs
+next_start p q fs =
+    let n : ℕ = prefix_len (λ (f : Result Setup PgnFault). is_ok f) fs in
     let next : 1 + n ≡ suc n = omega arith in
     rw next (last_unwrapped (Some q)
-    (filter_map (λ (f : Result Setup FenFault × ℕ). result_ok f.0)
-    (take_while (λ (f : Result Setup FenFault × ℕ). is_ok f.0) fs)) p)
+    (filter_map (λ (f : Result Setup PgnFault). result_ok f) (take_while (λ (f : Result Setup PgnFault). is_ok f) fs))
+    p)
 
 module _ (limit total : ℕ) (v : Variant) (rest : List (ℕ × Token)) (stops : Stops rest) where
   no_tags : (met : Bool) (before : Option Termination) (p : Setup) → Whole limit total v met before p [] rest
@@ -225,12 +236,12 @@ module _ (limit total : ℕ) (v : Variant) (rest : List (ℕ × Token)) (stops :
       → ((q : Setup) → q.variant ≡ v → Whole limit total v true before q tags rest)
       → read_rest_with (fen_step (opened met before p) (total - at_string) r)
       (λ g. game_of limit total g (tags ++ rest))
-      ≡ said limit total (termination_from before tags) p ((r, at_string) ∷ fens v tags) true rest
+      ≡ said limit total (termination_from before tags) p (with_place total at_string r ∷ fens total v tags) true rest
   by_fen met before p left at_string string tags (Ok q) e later =
       later q (read_variant v string q e)
-      ∙ ap (λ t. option_map_or (failed (from_start t)) (first_bad_fen total (fens v tags))
+      ∙ ap (λ t. option_map_or (failed (from_start t)) (slice_get (filter_map result_err (fens total v tags)) 0)
       (after_tags_by limit total (termination_from before tags) (from_start t) true rest))
-      (sym (next_start p q at_string (fens v tags)))
+      (sym (next_start p q (fens total v tags)))
   by_fen met before p left at_string string tags (Err f) e later = refl
 
   or_true : (b x : Bool) → (b || (true || x)) ≡ true
@@ -341,10 +352,10 @@ tokens_are limit total ts =
     let p : ℕ × Token → Bool = λ (t : ℕ × Token). may_precede_tags t.1 in
     let tags : List (ℕ × Token) = tag_section ts in
     let rest : List (ℕ × Token) = drop (length tags) ts in
-    let s : State = from_start (last_start (initial_setup_of v) (fens v tags)) in
-    ap (λ (r : GameRead). option_map_or (failed s) (first_bad_fen total (fens v tags)) r)
+    let s : State = from_start (last_start (initial_setup_of v) (fens total v tags)) in
+    ap (λ (r : GameRead). option_map_or (failed s) (slice_get (filter_map result_err (fens total v tags)) 0) r)
     (after_tags_is limit total s tags rest)
-    ∙ ap (λ e. said limit total e (initial_setup_of v) (fens v tags) (list_any is_tag tags) rest)
+    ∙ ap (λ e. said limit total e (initial_setup_of v) (fens total v tags) (list_any is_tag tags) rest)
     (sym (none_before (last_or None (tags_named (codes "Termination") tags))))
     ∙ sym (all_tags limit total v rest (tags_stop ts) false None (initial_setup_of v) tags (initial_variant v)
     (run_passes p ts))

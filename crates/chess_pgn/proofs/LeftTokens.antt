@@ -9,7 +9,7 @@ use Rattle.chess_pgn.specs.declared.word_kind.WordKind.TheVariants.{End, Number,
 use Rattle.chess_pgn.specs.LastTags.{may_precede_tags}
 use Rattle.chess_pgn.specs.Tokens.{Token, Skip, Tag, Word, Bad_tag, Unclosed_comment, Unclosed_variation, Bad, is_word_byte, token_at, begins_line, tokens_from}
 use Rattle.chess_pgn.specs.laws.WordKinds.{word_kind}
-use Rattle.chess_pgn.specs.Split.{Kind, Blank, Line, Comment, Nag, Variation, Tag_pair, Asterisk, Symbol, IsOf, token_of}
+use Rattle.chess_pgn.specs.shared.Kinds.{Kind, Blank, Line, Comment, Nag, Variation, Tag_pair, Asterisk, Symbol, IsOf, token_of}
 use Rattle.chess_pgn.specs.ties.GameSteps.{IsNoMove, IsLeft, StopsAt}
 use Rattle.chess_pgn.proofs.PgnWords.{are_marks, marks_by_kind}
 use Rattle.chess_pgn.proofs.TokenKinds.{begins_word, TokenSays, known, faulty, is_fault, token_says}

@@ -38,6 +38,7 @@ mod TagSplits
 mod TagFronts
 mod TokenKinds
 mod TokenSplits
+mod Splits
 mod GamesByTags
 mod LaidOut
 mod WorkedOut

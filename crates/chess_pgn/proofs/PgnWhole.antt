@@ -47,7 +47,7 @@ use Rattle.chess_pgn.proofs.PgnPieces.{read_on, TakesLine, empty_line, tagged, e
 use Rattle.chess_pgn.proofs.PgnTags.{tag_text_in_line}
 use Rattle.chess_pgn.proofs.TagScans.{text_from, text_is}
 use Rattle.chess_pgn.proofs.TagTexts.{string_of, tags_of, result_string, variant_string_of, variant_string, said_on, text_says, outcome_in_line}
-use Rattle.chess_pgn.proofs.TokenSplits.{split_read}
+use Rattle.chess_pgn.proofs.Splits.{split_read}
 use Rattle.chess_pgn.proofs.Walk.{enough}
 use Rattle.chess_pgn.proofs.FenVariants.{initial_variant}
 

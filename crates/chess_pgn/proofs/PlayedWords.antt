@@ -1,8 +1,9 @@
 -- The words of a game that was read: each denotes a move where a move may be played, and these are the game's moves.
-use Rattle.std.proofs.Common.{◌≡◌, ℕ, Bool, true, false, cond, not, List, [], ◌∷◌, ◌++◌, length, drop, Option, Some, None, is_some, Result, Ok, Err, refl, sym, ap, subst, ◌∙◌, append_assoc, append-nil}
-use Rattle.std.specs.Prelude.{◌||◌, nat_lt}
-use Rattle.std.specs.List.{list_all, list_any}
+use Rattle.std.proofs.Common.{◌≡◌, ℕ, Bool, true, false, cond, List, [], ◌∷◌, ◌++◌, length, drop, Option, Some, None, is_some, Result, Ok, Err, refl, sym, subst, ◌∙◌, inl, inr, ◌⊎◌, append_assoc, append-nil}
+use Rattle.std.specs.Prelude.{◌||◌, nat_lt, slice_get}
+use Rattle.std.specs.List.{list_all, list_any, filter_map}
 use Rattle.std.specs.Option.{option_map_or}
+use Rattle.std.specs.Result.{result_err}
 use Rattle.chess_base.specs.declared.man.Move.{Move}
 use Rattle.chess_base.specs.declared.man.Variant.{Variant}
 use Rattle.chess_base.specs.declared.setup.Setup.{Setup}
@@ -18,10 +19,11 @@ use Rattle.chess_pgn.specs.declared.read.PgnEnd.{PgnEnd}
 use Rattle.chess_pgn.specs.declared.read.PgnFault.{PgnFault}
 use Rattle.chess_pgn.specs.declared.read.PgnFaultKind.TheVariants.{AfterEnd, TooLong, NoResult}
 use Rattle.chess_pgn.specs.declared.termination.Termination.{Termination}
-use Rattle.chess_pgn.specs.GameRead.{GameRead, Row, Passes, Plays, Ends, Fails, failed, move_row, row, after_row, moves_read, is_tag, fens, last_start, last_termination, first_bad_fen, tagged_variant, read_after_tags, pgn_read}
+use Rattle.chess_pgn.specs.GameRead.{GameRead, Row, Goes_on, Ends, Fails, failed, move_row, row, after_row, moves_read, is_tag, last_start, tagged_variant, read_after_tags, pgn_read}
 use Rattle.chess_pgn.specs.LastTags.{tag_section}
 use Rattle.chess_pgn.specs.Tokens.{Token, Skip, Tag, Word, Bad_tag, Unclosed_comment, Unclosed_variation, Bad, after_byte_order_mark, tokens_from}
 use Rattle.chess_pgn.specs.Words.{outcome_of, is_marks}
+use Rattle.chess_pgn.proofs.GamesByTags.{fens, termination_in}
 
 -- from the game `s` on each word denotes the move at its index, where the game has no verdict and fewer than `limit`
 -- moves
@@ -56,43 +58,51 @@ record IsPlayed (limit : ℕ) (s : State) (m : Move) : Type 0 where
   room : nat_lt (length s.moves) limit ≡ true
   denotes : reading (current s) word ≡ reads.Move m
 
-open_row : (over : Option Verdict) (room : Bool) (x : Row) (m : Move)
-    → cond (is_some over) (Fails AfterEnd) (cond (not room) (Fails TooLong) x) ≡ Plays m
-    → (over ≡ None) × (room ≡ true) × (x ≡ Plays m)
-open_row (Some v) room x m e = absurd (cc)
-open_row None false x m e = absurd (cc)
-open_row None true x m e = (refl, refl, e)
+open_row : (over : Option Verdict) (room : Bool) (x : Row) (next : State)
+    → cond (is_some over) (Fails AfterEnd) (cond room x (Fails TooLong)) ≡ Goes_on next
+    → (over ≡ None) × (room ≡ true) × (x ≡ Goes_on next)
+open_row (Some v) room x next e = absurd (cc)
+open_row None false x next e = absurd (cc)
+open_row None true x next e = (refl, refl, e)
 
-word_plays : (limit : ℕ) (s : State) (word : List ℕ) (m : Move) (r : Reading) → reading (current s) word ≡ r
-    → move_row limit s r ≡ Plays m → IsPlayed limit s m
-word_plays limit s word m reads.NotAMove is e = absurd (cc)
-word_plays limit s word m (reads.Move n) is e =
-    let open_yet = open_row (verdict_now s) (nat_lt (length s.moves) limit) (Plays n) m e in
-    let played_is : Plays n ≡ Plays m = open_yet.2 in
-    let same : n ≡ m = cc in
-    record { word = word; unended = open_yet.0; room = open_yet.1; denotes = is ∙ ap reads.Move same }
-word_plays limit s word m reads.Ambiguous is e =
-    let none = (open_row (verdict_now s) (nat_lt (length s.moves) limit) _ m e).2 in absurd (cc)
-word_plays limit s word m reads.NoSuch is e =
-    let none = (open_row (verdict_now s) (nat_lt (length s.moves) limit) _ m e).2 in absurd (cc)
+-- a game goes on as it is, or with one move more
+abbrev After : ℕ → State → State → Type 0
+After limit s next = (next ≡ s) ⊎ ((m : Move) × IsPlayed limit s m × (next ≡ played s m))
 
-token_plays : (limit : ℕ) (s : State) (t : Token) (m : Move) → row limit s t ≡ Plays m → IsPlayed limit s m
-token_plays limit s Skip m e = absurd (cc)
-token_plays limit s (Tag name string left) m e = absurd (cc)
-token_plays limit s (Word word) m e = by_kind (outcome_of word) (list_all is_digit word) (is_marks word) e
+word_plays : (limit : ℕ) (s : State) (word : List ℕ) (next : State) (r : Reading) → reading (current s) word ≡ r
+    → move_row limit s r ≡ Goes_on next → After limit s next
+word_plays limit s word next reads.NotAMove is e = absurd (cc)
+word_plays limit s word next (reads.Move m) is e =
+    let open_yet = open_row (verdict_now s) (nat_lt (length s.moves) limit) (Goes_on (played s m)) next e in
+    let goes_on : Goes_on (played s m) ≡ Goes_on next = open_yet.2 in
+    let same : next ≡ played s m = cc in
+    inr (m, record { word = word; unended = open_yet.0; room = open_yet.1; denotes = is }, same)
+word_plays limit s word next reads.Ambiguous is e =
+    let none = (open_row (verdict_now s) (nat_lt (length s.moves) limit) _ next e).2 in absurd (cc)
+word_plays limit s word next reads.NoSuch is e =
+    let none = (open_row (verdict_now s) (nat_lt (length s.moves) limit) _ next e).2 in absurd (cc)
+
+same_game : (s next : State) → Goes_on s ≡ Goes_on next → next ≡ s
+same_game s next e = cc
+
+token_goes_on : (limit : ℕ) (s : State) (t : Token) (next : State) → row limit s t ≡ Goes_on next
+    → After limit s next
+token_goes_on limit s Skip next e = inl (same_game s next e)
+token_goes_on limit s (Tag name string left) next e = absurd (cc)
+token_goes_on limit s (Word word) next e = by_kind (outcome_of word) (list_all is_digit word) (is_marks word) e
   where
     by_kind : (o : Option Outcome) (is_number is_mark : Bool)
         → option_map_or (λ k. Ends k (length word)) o
-        (cond (is_number || is_mark) Passes (move_row limit s (reading (current s) word))) ≡ Plays m
-        → IsPlayed limit s m
+        (cond (is_number || is_mark) (Goes_on s) (move_row limit s (reading (current s) word))) ≡ Goes_on next
+        → After limit s next
     by_kind (Some o) is_number is_mark e = absurd (cc)
-    by_kind None true is_mark e = absurd (cc)
-    by_kind None false true e = absurd (cc)
-    by_kind None false false e = word_plays limit s word m (reading (current s) word) refl e
-token_plays limit s Bad_tag m e = absurd (cc)
-token_plays limit s (Unclosed_comment brace) m e = absurd (cc)
-token_plays limit s Unclosed_variation m e = absurd (cc)
-token_plays limit s Bad m e = absurd (cc)
+    by_kind None true is_mark e = inl (same_game s next e)
+    by_kind None false true e = inl (same_game s next e)
+    by_kind None false false e = word_plays limit s word next (reading (current s) word) refl e
+token_goes_on limit s Bad_tag next e = absurd (cc)
+token_goes_on limit s (Unclosed_comment brace) next e = absurd (cc)
+token_goes_on limit s Unclosed_variation next e = absurd (cc)
+token_goes_on limit s Bad next e = absurd (cc)
 
 -- ---- the moves
 
@@ -108,17 +118,22 @@ moves_words limit total termination s (t ∷ ts) h =
         → Words limit n (moves_read limit total termination n ts).state)
         → IsEnd (after_row total termination s t x (λ n. moves_read limit total termination n ts)).answer
         → Words limit s (after_row total termination s t x (λ n. moves_read limit total termination n ts)).state
-    by_row Passes e later k = later s k
-    by_row (Plays m) e later k =
-        let here = token_plays limit s t.1 m e in
-        let more = later (played s m) k in
-        record {
-          words = here.word ∷ more.words;
-          moves = m ∷ more.moves;
-          are = (here.unended, here.room, here.denotes, more.are);
-          all = sym (append_assoc s.moves (m ∷ []) more.moves) ∙ more.all;
-          start = more.start;
-        }
+    by_row (Goes_on next) e later k = by_next (token_goes_on limit s t.1 next e) (later next k)
+      where
+        by_next : After limit s next → Words limit next (moves_read limit total termination next ts).state
+            → Words limit s (moves_read limit total termination next ts).state
+        by_next (inl same) more =
+            subst (λ g. Words limit g (moves_read limit total termination next ts).state) same more
+        by_next (inr (m, here, same)) later_words =
+            let more : Words limit (played s m) (moves_read limit total termination next ts).state =
+            subst (λ g. Words limit g (moves_read limit total termination next ts).state) same later_words in
+            record {
+              words = here.word ∷ more.words;
+              moves = m ∷ more.moves;
+              are = (here.unended, here.room, here.denotes, more.are);
+              all = sym (append_assoc s.moves (m ∷ []) more.moves) ∙ more.all;
+              start = more.start;
+            }
     by_row (Ends o len) e later k =
         record { words = []; moves = []; are = tt; all = append-nil s.moves; start = refl }
     by_row (Fails kind) e later k = absurd k
@@ -134,10 +149,10 @@ tags_words limit total s tags [] h = absurd (by_tags (list_any is_tag tags) h)
     by_tags true h = h
     by_tags false h = h
 tags_words limit total s tags ((left, Skip) ∷ ts) h =
-    moves_words limit total (last_termination tags) s ((left, Skip) ∷ ts) h
+    moves_words limit total (termination_in tags) s ((left, Skip) ∷ ts) h
 tags_words limit total s tags ((left, Tag name string at) ∷ ts) h = absurd h
 tags_words limit total s tags ((left, Word word) ∷ ts) h =
-    moves_words limit total (last_termination tags) s ((left, Word word) ∷ ts) h
+    moves_words limit total (termination_in tags) s ((left, Word word) ∷ ts) h
 tags_words limit total s tags ((left, Bad_tag) ∷ ts) h = absurd h
 tags_words limit total s tags ((left, Unclosed_comment brace) ∷ ts) h = absurd h
 tags_words limit total s tags ((left, Unclosed_variation) ∷ ts) h = absurd h
@@ -166,10 +181,10 @@ game_words limit text at end is =
     let tokens : List (ℕ × Token) = tokens_from text (after_byte_order_mark text at) in
     let tags : List (ℕ × Token) = tag_section tokens in
     let v : Variant = tagged_variant tags in
-    let p : Setup = last_start (initial_setup_of v) (fens v tags) in
+    let p : Setup = last_start (initial_setup_of v) (fens total v tags) in
     let rest : List (ℕ × Token) = drop (length tags) tokens in
     let w : Words limit (from_start p) (pgn_read limit text at).state =
-    by_fault limit (from_start p) (first_bad_fen total (fens v tags))
+    by_fault limit (from_start p) (slice_get (filter_map result_err (fens total v tags)) 0)
     (read_after_tags limit total (from_start p) tags rest)
     (tags_words limit total (from_start p) tags rest)
     (subst IsEnd (sym is) tt) in

@@ -10,9 +10,9 @@ use Rattle.std.proofs.lemmas.List.{length-take-le, take-append-drop}
 use Rattle.std.proofs.lemmas.List.Sums.{prefix_len-le-length}
 use Rattle.text_lines.specs.Words.{is_name_byte}
 use Rattle.chess_pgn.specs.Tokens.{after_byte, after_gap, after_next, name_at}
-use Rattle.chess_pgn.specs.Split.{IsGap, OpensTag}
+use Rattle.chess_pgn.specs.Split.{IsGap, OpensTag, opens}
 use Rattle.chess_pgn.proofs.ByteRuns.{run_passes, run_take}
-use Rattle.chess_pgn.proofs.TagSplits.{GapLeaves, from_gap, gap_goes, name_stops, next_read}
+use Rattle.chess_pgn.proofs.TagSplits.{opening_parts, GapLeaves, from_gap, gap_goes, name_stops, next_read}
 
 -- ---- from the relations to the reader
 
@@ -54,7 +54,8 @@ pub record OpeningRead (name text rest : List ℕ) : Type 0 where
 
 pub opening_read : {name opening : List ℕ} → OpensTag name opening → (rest : List ℕ)
     → OpeningRead name (opening ++ rest) rest
-opening_read {name} o rest =
+opening_read {name} front rest =
+    let o = opening_parts front in
     let tail : List ℕ = o.after ++ 34 ∷ rest in record {
       inside = o.before ++ (name ++ tail);
       is = ap (λ xs. xs ++ rest) o.is ∙ whole o.before name o.after;
@@ -141,15 +142,7 @@ opening_is text found rest named quoted =
     by_gap before h is read inner (inl none) quote = absurd (cc)
     by_gap before h is read inner (inr g) quote = (
       91 ∷ (before ++ (found.0 ++ (g.0 ++ 34 ∷ []))),
-      record {
-        before = before;
-        after = g.0;
-        is = refl;
-        before_is_gap = h;
-        after_is_gap = g.1;
-        some = read.some;
-        named = read.named;
-      },
+      opens {before = before} {after = g.0} h read.some read.named g.1,
       ap (λ xs. 91 ∷ xs) (is ∙ ap (λ xs. before ++ (found.0 ++ xs)) (g.2 ∙ ap (λ xs. g.0 ++ xs) quote))
           ∙ whole before found.0 g.0,
     )

@@ -3,7 +3,6 @@ use Rattle.std.proofs.Common.{◌≡◌, ℕ, zero, suc, ◌+◌, ◌<◌, ◌�
 use Rattle.std.specs.Prelude.{◌&&◌}
 use Rattle.std.specs.List.{list_all, list_any, prefix_len, take_while}
 use Rattle.std.proofs.lemmas.Bool.{and_parts, or_parts, or_cases, eqb-true}
-use Rattle.std.proofs.lemmas.Bool.Decides.{nat_tests}
 use Rattle.std.proofs.lemmas.List.{take-append-drop, append_assoc, length-append}
 use Rattle.chess_pgn.specs.Tokens.{Token, Tag, Bad_tag, is_white_space, line_end, after_gap, string_at, onto, after_byte, after_next}
 use Rattle.text_lines.specs.Words.{is_name_byte}
@@ -12,7 +11,8 @@ use Rattle.chess_pgn.specs.ties.TagParts.{closed, with_text, with_string, with_t
 use Rattle.chess_pgn.proofs.Skipped.{gap_line}
 use Rattle.chess_pgn.proofs.Strings.{string_after, string_quote, string_other}
 use Rattle.chess_pgn.proofs.Gaps.{gap_same}
-use Rattle.chess_pgn.specs.Split.{IsGap, nothing, blank, line, IsString, kept, other, IsTag}
+use Rattle.chess_pgn.specs.Split.{IsGap, nothing, blank, line, OpensTag, opens, IsString, kept, other}
+use Rattle.chess_pgn.specs.shared.Kinds.{IsTag}
 use Rattle.chess_pgn.proofs.ByteRuns.{differs, pick, run_drop, run_take, run_passes, LineSays, unended, line_then, line_says}
 use Rattle.chess_pgn.proofs.VariationInsides.{line_end_is}
 
@@ -94,13 +94,10 @@ gap_goes text = subst (GapLeaves false text) (gap_same text) (gap_leaves (length
 
 pub string_read : {s : List ℕ} → IsString s → (rest : List ℕ) → string_at (s ++ 34 ∷ rest) ≡ Some (s, rest)
 string_read nothing rest = string_quote 34 rest refl
-string_read (kept {c} {d} {more} slash line_ends r) rest =
-    let ends : eqb c 10 ≡ false = grind (arith, nat_tests, slash) in
-    let quote : eqb c 34 ≡ false = grind (arith, nat_tests, slash) in
-    string_other c (d ∷ (more ++ 34 ∷ rest)) ends quote
-    ∙ ap (λ t. onto (c ∷ []) (string_after t (d ∷ (more ++ 34 ∷ rest)))) slash
-    ∙ ap (λ t. onto (c ∷ []) (cond t None (onto (d ∷ []) (string_at (more ++ 34 ∷ rest))))) line_ends
-    ∙ ap (λ o. onto (c ∷ []) (onto (d ∷ []) o)) (string_read r rest)
+string_read (kept {c} {more} line_ends r) rest =
+    string_other 92 (c ∷ (more ++ 34 ∷ rest)) refl refl
+    ∙ ap (λ t. onto (92 ∷ []) (cond t None (onto (c ∷ []) (string_at (more ++ 34 ∷ rest))))) line_ends
+    ∙ ap (λ o. onto (92 ∷ []) (onto (c ∷ []) o)) (string_read r rest)
 string_read (other {c} {more} none r) rest =
     let first = or_parts (eqb c 92) _ none in
     let second = or_parts (eqb c 34) _ first.1 in
@@ -128,7 +125,10 @@ string_leaves (c ∷ d ∷ rest) =
     both : eqb c 92 ≡ true → eqb d 10 ≡ false → (o : Option (List ℕ × List ℕ)) → StringLeaves rest o
         → StringLeaves (c ∷ d ∷ rest) (onto (c ∷ d ∷ []) o)
     both slash line_ends None h = tt
-    both slash line_ends (Some f) h = (kept slash line_ends h.0, ap (λ xs. c ∷ d ∷ xs) h.1)
+    both slash line_ends (Some f) h = (
+      subst (λ k. IsString (k ∷ d ∷ f.0)) (sym (eqb-true c 92 slash)) (kept line_ends h.0),
+      ap (λ xs. c ∷ d ∷ xs) h.1,
+    )
 
     one : eqb c 34 ≡ false → eqb c 10 ≡ false → eqb c 92 ≡ false → (o : Option (List ℕ × List ℕ))
         → StringLeaves (d ∷ rest) o → StringLeaves (c ∷ d ∷ rest) (onto (c ∷ []) o)
@@ -223,18 +223,40 @@ left_at_string : (string gap r : List ℕ)
     → length (string ++ 34 ∷ (gap ++ 93 ∷ r)) ≡ length (string ++ 34 ∷ (gap ++ 93 ∷ [])) + length r
 left_at_string string gap r = simp length-append (omega arith)
 
+-- the parts of a tag's opening
+pub record OpeningParts (name text : List ℕ) : Type 0 where
+  pub before : List ℕ
+  pub after : List ℕ
+  pub is : text ≡ 91 ∷ (before ++ (name ++ (after ++ 34 ∷ [])))
+  pub before_is_gap : IsGap false before
+  pub after_is_gap : IsGap false after
+  pub some : 0 < length name
+  pub named : list_all is_name_byte name ≡ true
+
+pub opening_parts : {name text : List ℕ} → OpensTag name text → OpeningParts name text
+opening_parts (opens {before} {after} gap some named then_gap) = record {
+  before = before;
+  after = after;
+  is = refl;
+  before_is_gap = gap;
+  after_is_gap = then_gap;
+  some = some;
+  named = named;
+}
+
 -- a tag begins with a bracket
 pub tag_begins : (name string closing text : List ℕ) → IsTag name string closing text
     → (u : List ℕ) × (text ≡ 91 ∷ u)
-tag_begins name string closing text (opening, o, s, close, is) = (
-  (o.before ++ (name ++ (o.after ++ 34 ∷ []))) ++ (string ++ closing),
-  is
-      ∙ ap (λ xs. xs ++ (string ++ closing)) o.is,
-)
+tag_begins name string closing text (opening, front, s, close, is) =
+    let o = opening_parts front in (
+      (o.before ++ (name ++ (o.after ++ 34 ∷ []))) ++ (string ++ closing),
+      is ∙ ap (λ xs. xs ++ (string ++ closing)) o.is,
+    )
 
 pub tag_read : (name string closing text u r : List ℕ) → IsTag name string closing text → text ≡ 91 ∷ u
     → tag_by_parts (u ++ r) ≡ (Tag name string (length (string ++ closing) + length r), r)
-tag_read name string closing text u r (opening, o, s, close, is) head =
+tag_read name string closing text u r (opening, front, s, close, is) head =
+    let o = opening_parts front in
     let v : List ℕ = o.before ++ (name ++ (o.after ++ 34 ∷ (string ++ 34 ∷ (close.0 ++ 93 ∷ [])))) in
     let whole : text ≡ 91 ∷ v =
     is ∙ ap (λ xs. xs ++ (string ++ closing)) o.is
@@ -282,15 +304,7 @@ tag_leaves text = by_gap (after_gap text) (gap_goes text)
             subst (λ n. TagLeaves text (Tag name string n, r)) (sym left)
             (good name string closing v r (
               91 ∷ (gap ++ (name ++ (middle ++ 34 ∷ []))),
-              record {
-                before = gap;
-                after = middle;
-                is = refl;
-                before_is_gap = h;
-                after_is_gap = h_after;
-                some = some;
-                named = named;
-              },
+              opens {before = gap} {after = middle} h some named h_after,
               s,
               (after_string, k.1, refl),
               ap (λ xs. 91 ∷ xs) (sym (tag_text gap name middle string after_string)),

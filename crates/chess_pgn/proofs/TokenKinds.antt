@@ -1,15 +1,16 @@
 -- A token: the relation and the reader agree.
-use Rattle.std.proofs.Common.{◌≡◌, ℕ, suc, ◌+◌, ◌<◌, Bool, true, false, cond, not, eqb, List, [], ◌∷◌, ◌++◌, length, take, drop, Option, Some, None, refl, sym, ap, subst, ◌∙◌, inl, inr, arith}
+use Rattle.std.proofs.Common.{◌≡◌, ℕ, suc, ◌+◌, ◌<◌, ◌≤◌, Bool, true, false, cond, not, eqb, List, [], ◌∷◌, ◌++◌, length, take, drop, Option, Some, None, refl, sym, ap, subst, ◌∙◌, inl, inr, arith}
 use Rattle.std.specs.Prelude.{◌&&◌, ◌||◌}
 use Rattle.std.specs.List.{list_all, list_any, prefix_len, take_while}
 use Rattle.std.proofs.lemmas.Bool.{and_parts, or_parts, or_cases, eqb-true}
-use Rattle.std.proofs.lemmas.List.{take-append-drop, append-nil, append_assoc, length-append, nil_from_length}
+use Rattle.std.proofs.lemmas.List.{take-append-drop, append-nil, append_assoc, length-append, length-drop, nil_from_length}
 use Rattle.std.proofs.lemmas.List.Folds.{list_all-append}
 use Rattle.chess_base.specs.Letters.{is_digit}
 use Rattle.chess_pgn.specs.Tokens.{Token, Skip, Tag, Word, Bad_tag, Unclosed_comment, Unclosed_variation, Bad, is_white_space, is_word_byte, line_end, after_brace, comment_at, variation_at, token_at}
 use Rattle.chess_pgn.specs.ties.TagParts.{tag_by_parts}
 use Rattle.chess_pgn.proofs.TagParts.{parts_are}
-use Rattle.chess_pgn.specs.Split.{lacks, skips_line, Kind, Blank, Line, Comment, Nag, Variation, Tag_pair, Asterisk, Symbol, IsOf, IsLongest, token_of, HasNoToken, HasOpenComment, HasUnclosedComment, IsFaultOf}
+use Rattle.chess_pgn.specs.Split.{lacks, skips_line, HasOpenComment}
+use Rattle.chess_pgn.specs.shared.Kinds.{Kind, Blank, Line, Comment, Nag, Variation, Tag_pair, Asterisk, Symbol, IsOf, IsLongest, token_of, HasNoToken, HasUnclosedComment, IsFault}
 use Rattle.chess_pgn.proofs.ByteRuns.{differs, pick, run_drop, run_take, run_passes, run_stops, longest_run, stops_run, brace_found, brace_missing, BraceSays, brace_says}
 use Rattle.chess_pgn.proofs.VariationInsides.{Leaves, closed, commented, unclosed, leaves, inside_read, open_read, open_comment}
 use Rattle.chess_pgn.proofs.TagSplits.{tag_begins, tag_read, TagLeaves, bad, good, tag_leaves}
@@ -331,6 +332,49 @@ readable b Symbol (c ∷ front) r h =
     ap (λ t. is_fault t.0)
     (begins_word b c (front ++ r) (and_parts (is_word_byte c) (list_all is_word_byte front) h.1).0)
 
+-- what is left after a token is read is no more than what comes after any token there
+run_left : (p : ℕ → Bool) (front rest : List ℕ) → list_all p front ≡ true
+    → length (drop (prefix_len p (front ++ rest)) (front ++ rest)) ≤ length rest
+run_left p [] rest h = omega (arith, length-drop (prefix_len p rest) rest)
+run_left p (c ∷ front) rest h =
+    let both = and_parts (p c) (list_all p front) h in
+    let next : 1 + prefix_len p (front ++ rest) ≡ suc (prefix_len p (front ++ rest)) = omega arith in
+    rw (both.0, next) (run_left p front rest both.1)
+
+any_left : (b : Bool) (kind : Kind) (front r : List ℕ) → IsOf b kind front
+    → length (first b (front ++ r)).1 ≤ length r
+any_left b Blank front r h = omega (arith, ap (λ t. length t.1) (blank_read b front r h))
+any_left b Line front r (c, rest, is, skip, lack) =
+    let few : length (line_end (rest ++ r)) ≤ length r = run_left (λ k. not (eqb k 10)) rest r lack in
+    omega (arith, few, ap (λ t. length t.1) (ap (λ xs. first b (xs ++ r)) is ∙ line_at b c (rest ++ r) skip))
+any_left b Comment front r h = omega (arith, ap (λ t. length t.1) (comment_read b front r h))
+any_left b Nag front r (digits, is, all) =
+    let few = run_left is_digit digits r all in
+    omega (arith, few, ap (λ t. length t.1) (ap (λ xs. first b (xs ++ r)) is ∙ glyph_at b (digits ++ r)))
+any_left b Variation front r h = omega (arith, ap (λ t. length t.1) (variation_read b front r h))
+any_left b (Tag_pair name string closing) front r h =
+    omega (arith, ap (λ t. length t.1) (tag_first b name string closing front r h))
+any_left b Asterisk front r h = omega (arith, ap (λ t. length t.1) (asterisk_read b front r h))
+any_left b Symbol [] r h = absurd (omega (arith, h.0))
+any_left b Symbol (c ∷ front) r h =
+    let few = run_left is_word_byte (c ∷ front) r h.1 in
+    omega (
+      arith,
+      few,
+      ap (λ t. length t.1)
+          (begins_word b c (front ++ r) (and_parts (is_word_byte c) (list_all is_word_byte front) h.1).0),
+    )
+
+-- the longest token of a kind is the longest of all
+pub longest_of_all : (b : Bool) (kind other : Kind) (front rest more after : List ℕ)
+    → IsLongest (IsOf b kind) front rest → front ++ rest ≡ more ++ after → IsOf b other more
+    → length more ≤ length front
+longest_of_all b kind other front rest more after long same h =
+    let few : length (first b (more ++ after)).1 ≤ length after = any_left b other more after h in
+    let left : length (first b (more ++ after)).1 ≡ length rest =
+    ap (λ xs. length (first b xs).1) (sym same) ∙ ap (λ t. length t.1) (token_read b kind front rest long) in
+    omega (arith, few, left, ap length same, length-append front rest, length-append more after)
+
 pub no_token_of : (b : Bool) (text : List ℕ) → is_fault (first b text).0 ≡ true → HasNoToken b text
 no_token_of b text fault kind front r is h =
     let fine : is_fault (first b text).0 ≡ false = ap (λ xs. is_fault (first b xs).0) is ∙ readable b kind front r h in
@@ -341,7 +385,7 @@ no_token_of b text fault kind front r is h =
 pub data TokenSays (b : Bool) (text : List ℕ) : Token × List ℕ → Type 0 where
   known : (kind : Kind) (front rest : List ℕ) → text ≡ front ++ rest → IsLongest (IsOf b kind) front rest
       → TokenSays b text (token_of kind front (length rest), rest)
-  faulty : (fault : Token) → is_fault fault ≡ true → IsFaultOf text fault → TokenSays b text (fault, [])
+  faulty : (fault : Token) → is_fault fault ≡ true → IsFault text fault → TokenSays b text (fault, [])
 
 pub comment_fault : (b : Bool) (text : List ℕ) (n : ℕ) → HasUnclosedComment text n
     → first b text ≡ (Unclosed_comment n, [])

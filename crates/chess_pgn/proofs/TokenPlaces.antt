@@ -2,7 +2,8 @@
 use Rattle.std.proofs.Common.{◌≡◌, ℕ, suc, ◌-◌, ◌≤◌, Bool, List, [], ◌∷◌, ◌++◌, length, drop, refl, sym, ap, subst, ◌∙◌, inl, inr, arith}
 use Rattle.std.proofs.lemmas.List.{length-append, length-drop}
 use Rattle.chess_pgn.specs.Tokens.{Token, Skip, Tag, Word, Bad_tag, Unclosed_comment, Unclosed_variation, Bad, token_at, begins_line, tokens_from}
-use Rattle.chess_pgn.specs.Split.{Kind, Blank, Line, Comment, Nag, Variation, Tag_pair, Asterisk, Symbol, IsOf, token_of, HasOpenComment, here, deeper, IsFaultOf}
+use Rattle.chess_pgn.specs.Split.{HasOpenComment, here, deeper}
+use Rattle.chess_pgn.specs.shared.Kinds.{Kind, Blank, Line, Comment, Nag, Variation, Tag_pair, Asterisk, Symbol, IsOf, token_of, IsFault}
 use Rattle.chess_pgn.specs.ties.GameSteps.{IsWithin}
 use Rattle.chess_pgn.proofs.TokenKinds.{TokenSays, known, faulty, token_says}
 use Rattle.chess_pgn.proofs.Walk.{no_token, token_more}
@@ -14,7 +15,7 @@ open_within : {b : Bool} {text : List ℕ} {to_end : ℕ} → HasOpenComment b t
 open_within (here {parts} text h lack) = omega (arith, length-append parts (123 ∷ text))
 open_within (deeper {parts} {inner} h k) = omega (arith, open_within k, length-append parts (40 ∷ inner))
 
-fault_within : (text : List ℕ) (fault : Token) → IsFaultOf text fault → IsWithin (length text) fault
+fault_within : (text : List ℕ) (fault : Token) → IsFault text fault → IsWithin (length text) fault
 fault_within text (Unclosed_comment n) (inl (comment, is, lack, all)) = omega (arith, all)
 fault_within text (Unclosed_comment n) (inr (inner, is, h)) = omega (arith, open_within h, ap length is)
 fault_within text Unclosed_variation h = tt

@@ -1,4 +1,4 @@
--- Tokens: the relation and the reader agree; a text has one split.
+-- Tokens: the relation and the reader agree; a text has one split by kinds.
 use Rattle.std.proofs.Common.{◌≡◌, ℕ, zero, suc, ◌+◌, ◌-◌, ◌<◌, ◌≤◌, Bool, true, false, cond, eqb, List, [], ◌∷◌, ◌++◌, length, drop, refl, sym, ap, subst, ◌∙◌, inl, inr, arith}
 use Rattle.std.specs.List.{list_any}
 use Rattle.std.proofs.lemmas.Bool.{or_parts}
@@ -6,7 +6,7 @@ use Rattle.std.proofs.lemmas.List.{length-append, length-drop, nil_from_length}
 use Rattle.chess_pgn.specs.Tokens.{Token, Skip, Tag, Word, Bad_tag, Unclosed_comment, Unclosed_variation, Bad, token_at, begins_line, tokens_from}
 use Rattle.chess_pgn.proofs.Walk.{no_token, token_more, token_nearer}
 use Rattle.chess_pgn.proofs.TokenKinds.{not_empty, token_read, is_fault, no_token_of, TokenSays, known, faulty, token_says, comment_fault}
-use Rattle.chess_pgn.specs.Split.{IsOf, IsLongest, token_of, HasNoToken, HasUnclosedComment, IsFaultOf, IsSplit, ended, token, stopped}
+use Rattle.chess_pgn.specs.shared.Kinds.{IsOf, IsLongest, token_of, HasNoToken, HasUnclosedComment, IsFault, IsSplitByKinds, ended, token, stopped}
 
 -- ---- faults
 
@@ -30,7 +30,7 @@ data FaultSays (c : ℕ) (rest : List ℕ) : Token → Type 0 where
   of_byte : (fault : Token) → fault ≡ fault_by c → ((n : ℕ) → HasUnclosedComment (c ∷ rest) n → ⊥)
       → FaultSays c rest fault
 
-fault_says : (c : ℕ) (rest : List ℕ) (fault : Token) → IsFaultOf (c ∷ rest) fault → FaultSays c rest fault
+fault_says : (c : ℕ) (rest : List ℕ) (fault : Token) → IsFault (c ∷ rest) fault → FaultSays c rest fault
 fault_says c rest (Unclosed_comment n) h = of_comment n h
 fault_says c rest Unclosed_variation ((r, is), none) =
     of_byte Unclosed_variation (sym (ap fault_by (same_first c 40 rest r is))) none
@@ -58,7 +58,7 @@ faults_agree b c rest f g (of_byte one is none) (of_comment m k) = absurd (none 
 faults_agree b c rest f g (of_byte one is none) (of_byte other same none_too) = is ∙ sym same
 
 -- the fault of a text that begins with no token is the one that is read
-fault_read : (b : Bool) (c : ℕ) (rest : List ℕ) (fault : Token) → HasNoToken b (c ∷ rest) → IsFaultOf (c ∷ rest) fault
+fault_read : (b : Bool) (c : ℕ) (rest : List ℕ) (fault : Token) → HasNoToken b (c ∷ rest) → IsFault (c ∷ rest) fault
     → token_at b c rest ≡ (fault, [])
 fault_read b c rest fault none h = by_result (token_at b c rest) refl (token_says b c rest)
   where
@@ -74,10 +74,10 @@ inside_text : (text : List ℕ) (at c : ℕ) (rest : List ℕ) → drop at text 
 inside_text text at c rest e = omega (arith, ap length e, length-drop at text)
 
 -- a split of a text is the one that is read
-pub split_read : (text : List ℕ) {at : ℕ} {tokens : List (ℕ × Token)} → IsSplit text at tokens
+pub kinds_read : (text : List ℕ) {at : ℕ} {tokens : List (ℕ × Token)} → IsSplitByKinds text at tokens
     → tokens ≡ tokens_from text at
-split_read text (ended {at} e) = sym (no_token text at (omega (arith, ap length e)))
-split_read text (token {at} kind front rest {tokens} e long more) = by_front front e long (split_read text more)
+kinds_read text (ended {at} e) = sym (no_token text at (omega (arith, ap length e)))
+kinds_read text (token {at} kind front rest {tokens} e long more) = by_front front e long (kinds_read text more)
   where
     by_front : (front : List ℕ) → drop at text ≡ front ++ rest → IsLongest (IsOf (begins_line text at) kind) front rest
         → tokens ≡ tokens_from text (at + length front)
@@ -94,13 +94,13 @@ split_read text (token {at} kind front rest {tokens} e long more) = by_front fro
         (more ∙ ap (tokens_from text) place)
         ∙ sym (token_more text at c (u ++ rest) e (omega (arith, within))
         ∙ ap (λ (p : Token × List ℕ). (length text - at, p.0) ∷ tokens_from text (length text - length p.1)) reads)
-split_read text (stopped {at} {fault} none h) = by_rest (drop at text) refl none h
+kinds_read text (stopped {at} {fault} none h) = by_rest (drop at text) refl none h
   where
-    by_rest : (xs : List ℕ) → drop at text ≡ xs → HasNoToken (begins_line text at) xs → IsFaultOf xs fault
+    by_rest : (xs : List ℕ) → drop at text ≡ xs → HasNoToken (begins_line text at) xs → IsFault xs fault
         → (length text - at, fault) ∷ [] ≡ tokens_from text at
     by_rest [] e none h = absurd (no_fault fault h)
       where
-        no_fault : (f : Token) → IsFaultOf [] f → ⊥
+        no_fault : (f : Token) → IsFault [] f → ⊥
         no_fault (Unclosed_comment n) (inl (comment, is, lack, here)) = absurd (cc)
         no_fault (Unclosed_comment n) (inr (inner, is, h)) = absurd (cc)
         no_fault Unclosed_variation ((r, is), k) = absurd (cc)
@@ -119,13 +119,14 @@ split_read text (stopped {at} {fault} none h) = by_rest (drop at text) refl none
         (no_token text (length text - 0) (omega (arith, length-drop (length text - 0) text))))
 
 -- what is read is a split of the text: one token, and those after it
-none_left : (text : List ℕ) (at : ℕ) → drop at text ≡ [] → IsSplit text at (tokens_from text at)
-none_left text at e = subst (IsSplit text at) (sym (no_token text at (omega (arith, ap length e)))) (ended e)
+none_left : (text : List ℕ) (at : ℕ) → drop at text ≡ [] → IsSplitByKinds text at (tokens_from text at)
+none_left text at e = subst (IsSplitByKinds text at) (sym (no_token text at (omega (arith, ap length e)))) (ended e)
 
 one_more : (n : ℕ) (text : List ℕ) (at c : ℕ) (rest : List ℕ) → drop at text ≡ c ∷ rest → length rest ≤ n
-    → ((m : ℕ) → length (drop m text) ≤ n → IsSplit text m (tokens_from text m)) → IsSplit text at (tokens_from text at)
+    → ((m : ℕ) → length (drop m text) ≤ n → IsSplitByKinds text m (tokens_from text m))
+    → IsSplitByKinds text at (tokens_from text at)
 one_more n text at c rest e few again =
-    subst (IsSplit text at) (sym (token_more text at c rest e (omega (arith, within))))
+    subst (IsSplitByKinds text at) (sym (token_more text at c rest e (omega (arith, within))))
     (by_result (token_at b c rest) refl (token_says b c rest) (token_nearer text at c rest e (omega (arith, within))))
   where
     b : Bool
@@ -135,12 +136,12 @@ one_more n text at c rest e few again =
     within = inside_text text at c rest e
 
     by_result : (t : Token × List ℕ) → token_at b c rest ≡ t → TokenSays b (c ∷ rest) t → at < length text - length t.1
-        → IsSplit text at ((length text - at, t.0) ∷ tokens_from text (length text - length t.1))
+        → IsSplitByKinds text at ((length text - at, t.0) ∷ tokens_from text (length text - length t.1))
     by_result t is (known kind front r same long) nearer =
         let place : at + length front ≡ length text - length r =
         omega (arith, within, ap length e, ap length same, length-append front r, length-drop at text) in
         token kind front r (e ∙ same) long
-        (subst (λ m. IsSplit text (at + length front) (tokens_from text m)) place
+        (subst (λ m. IsSplitByKinds text (at + length front) (tokens_from text m)) place
         (again (at + length front)
         (omega (
           arith,
@@ -157,19 +158,20 @@ one_more n text at c rest e few again =
         let none : HasNoToken b (drop at text) =
         subst (HasNoToken b) (sym e)
         (no_token_of b (c ∷ rest) (ap (λ (u : Token × List ℕ). is_fault u.0) is ∙ is_one)) in
-        subst (λ ts. IsSplit text at ((length text - at, fault) ∷ ts))
+        subst (λ ts. IsSplitByKinds text at ((length text - at, fault) ∷ ts))
         (sym (no_token text (length text - 0) (omega (arith, length-drop (length text - 0) text))))
-        (stopped none (subst (λ xs. IsFaultOf xs fault) (sym e) h))
+        (stopped none (subst (λ xs. IsFault xs fault) (sym e) h))
 
-split_within : (n : ℕ) (text : List ℕ) (at : ℕ) → length (drop at text) ≤ n → IsSplit text at (tokens_from text at)
+split_within : (n : ℕ) (text : List ℕ) (at : ℕ) → length (drop at text) ≤ n
+    → IsSplitByKinds text at (tokens_from text at)
 split_within zero text at few = none_left text at (nil_from_length (drop at text) (omega (arith, few)))
 split_within (suc n) text at few = by_rest (drop at text) refl (λ m k. split_within n text m k)
   where
     by_rest : (xs : List ℕ) → drop at text ≡ xs
-        → ((m : ℕ) → length (drop m text) ≤ n → IsSplit text m (tokens_from text m))
-        → IsSplit text at (tokens_from text at)
+        → ((m : ℕ) → length (drop m text) ≤ n → IsSplitByKinds text m (tokens_from text m))
+        → IsSplitByKinds text at (tokens_from text at)
     by_rest [] e again = none_left text at e
     by_rest (c ∷ rest) e again = one_more n text at c rest e (omega (arith, few, ap length e)) again
 
-pub read_split : (text : List ℕ) (at : ℕ) → IsSplit text at (tokens_from text at)
-read_split text at = split_within (length (drop at text)) text at (omega arith)
+pub read_kinds : (text : List ℕ) (at : ℕ) → IsSplitByKinds text at (tokens_from text at)
+read_kinds text at = split_within (length (drop at text)) text at (omega arith)

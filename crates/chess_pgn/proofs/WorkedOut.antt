@@ -1,5 +1,5 @@
 -- Small texts worked out: how they are split, read and laid out.
-use Rattle.std.proofs.Common.{◌≡◌, ℕ, true, cond, not, List, [], ◌∷◌, ◌++◌, length, Option, None, refl, sym, ap, ◌∙◌, append_assoc, arith}
+use Rattle.std.proofs.Common.{◌≡◌, ℕ, true, cond, List, [], ◌∷◌, ◌++◌, length, Option, None, refl, sym, ap, ◌∙◌, append_assoc, arith}
 use Rattle.std.specs.Prelude.{codes, is_some, nat_lt}
 use Rattle.std.proofs.lemmas.List.{length-append}
 use Rattle.std.proofs.lemmas.List.Concat.{flat_map-append}
@@ -14,15 +14,15 @@ use Rattle.chess_text.specs.declared.reading.Reading.TheVariants as reads
 use Rattle.chess_text.specs.Moves.{reading}
 use Rattle.chess_pgn.specs.declared.read.PgnFaultKind.TheVariants.{AfterEnd, TooLong}
 use Rattle.chess_pgn.specs.declared.tags.Tags.{Tags}
-use Rattle.chess_pgn.specs.GameRead.{GameRead, Row, Plays, Fails, finished, move_row, after_row, moves_read, read_of_split}
+use Rattle.chess_pgn.specs.GameRead.{GameRead, Row, Goes_on, Fails, move_row, after_row, moves_read, read_of_split}
 use Rattle.chess_pgn.specs.GameRead.{IsRead}
 use Rattle.chess_pgn.specs.GameText.{tag_lines, game_tokens}
 use Rattle.chess_pgn.specs.Tokens.{Token, Skip, Tag, Word, after_byte_order_mark, token_at, tokens_of, tokens_from}
 use Rattle.chess_pgn.specs.Written.{ended}
-use Rattle.chess_pgn.specs.laws.Examples.{TextsAreSplit, TextsAreRead, TextsAreLaidOut}
+use Rattle.chess_pgn.specs.laws.Examples.{finished, TextsAreSplit, TextsAreRead, TextsAreLaidOut}
 use Rattle.chess_pgn.specs.PgnText.{IsPgn}
 use Rattle.chess_pgn.proofs.FilledLines.{full_cons, grouped_full}
-use Rattle.chess_pgn.proofs.TokenSplits.{read_split}
+use Rattle.chess_pgn.proofs.Splits.{read_split}
 
 pub texts_are_split : TextsAreSplit
 unfolding token_at tokens_of tokens_from
@@ -39,12 +39,12 @@ texts_are_split = record {
 
 -- a word that denotes one move is played where the game is neither over nor full
 move_plays : (limit : ℕ) (s : State) (m : Move) (r : Reading) → r ≡ reads.Move m → verdict_now s ≡ None
-    → nat_lt (length s.moves) limit ≡ true → move_row limit s r ≡ Plays m
+    → nat_lt (length s.moves) limit ≡ true → move_row limit s r ≡ Goes_on (played s m)
 move_plays limit s m r is open_yet room =
     ap (move_row limit s) is
     ∙ ap (λ (o : Option Verdict). cond (is_some o) (Fails AfterEnd)
-    (cond (not (nat_lt (length s.moves) limit)) (Fails TooLong) (Plays m))) open_yet
-    ∙ ap (λ t. cond (not t) (Fails TooLong) (Plays m)) room
+    (cond (nat_lt (length s.moves) limit) (Goes_on (played s m)) (Fails TooLong))) open_yet
+    ∙ ap (λ t. cond t (Goes_on (played s m)) (Fails TooLong)) room
 
 abbrev start : State
 start = from_start (initial_setup_of Normal)

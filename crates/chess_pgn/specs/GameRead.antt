@@ -1,13 +1,11 @@
 -- What is read of a game's text (PGN standard of 1994, sections 7 to 9; which words are taken is this project's own): a
 -- game's tokens are its tags, and then its moves. The tags give the start, and each move's word denotes a move in the
 -- position reached by then. The first token that can't be taken is the fault.
-use Rattle.std.specs.Prelude.{◌≡◌, ℕ, ◌+◌, ◌-◌, nat_lt, Bool, true, false, not, ◌||◌, if◌then◌else◌, List, [], ◌∷◌, length, drop, map, codes, slice_get, Option, Some, None, is_some, Result, Ok, Err, option_and_then}
+use Rattle.std.specs.Prelude.{◌≡◌, ℕ, ◌+◌, ◌-◌, nat_lt, Bool, true, false, ◌||◌, if◌then◌else◌, List, [], ◌∷◌, length, drop, map, codes, slice_get, Option, Some, None, is_some, Result, Ok, Err, option_and_then}
 use Rattle.std.specs.List.{list_all, list_any, filter_map, last_or, take_while}
 use Rattle.std.specs.Option.{option_map_or, unwrap_or}
-use Rattle.std.specs.Result.{is_ok, result_ok}
+use Rattle.std.specs.Result.{is_ok, result_ok, result_err, result_map_both}
 use Rattle.std.specs.Str.{str_eq_ignore_ascii_case}
-use Rattle.chess_base.specs.declared.fen_fault.FenFault.{FenFault}
-use Rattle.chess_base.specs.declared.man.Move.{Move}
 use Rattle.chess_base.specs.declared.man.Variant.{Variant}
 use Rattle.chess_base.specs.declared.man.Variant.TheVariants.{Normal, Fischerandom}
 use Rattle.chess_base.specs.declared.setup.Setup.{Setup}
@@ -53,57 +51,42 @@ declared_after is_decided o =
 abbrev pub failed : State → PgnFault → GameRead
 failed s fault = record { state = s; answer = Err fault }
 
--- what is read if the game `s` was read and then the mark of this outcome: the outcome is declared, unless the board
--- has a verdict or it is `*`. `offset` is that of the byte after the mark
-abbrev pub finished : State → Outcome → Option Termination → ℕ → GameRead
-finished s o termination offset = record {
-  state = record s { declared = declared_after (is_some (verdict_now s)) o };
-  answer = Ok (Some (record { outcome = o; termination = termination; offset = offset }));
-}
-
 -- ---- after the tags: a row for each kind of token
 
--- what a token does: it is passed over, its move is played, its outcome, a word of `len` bytes, ends the game, or it
--- can't be taken
+-- what a token does: the game goes on as `next`, the outcome, a word of `len` bytes, ends it, or the token can't be taken
 pub data Row : Type 0 where
-  Passes : Row
-  Plays : (m : Move) → Row
+  Goes_on : (next : State) → Row
   Ends : (o : Outcome) (len : ℕ) → Row
   Fails : (kind : PgnFaultKind) → Row
 
--- what a word does that is taken as a move, by what it denotes, in a game that is neither over nor full
-abbrev pub denoted_row : Reading → Row
-denoted_row (reads.Move m) = Plays m
-denoted_row reads.Ambiguous = Fails AmbiguousMove
-denoted_row reads.NoSuch = Fails IllegalMove
-denoted_row reads.NotAMove = Fails BadToken
+-- what a move does in the game `s` of at most `limit` half-moves: where the board has a verdict, it comes after the end;
+-- where the game is full, the game is too long; otherwise what `row` says
+abbrev pub unless_over : ℕ → State → Row → Row
+unless_over limit s row =
+    if is_some (verdict_now s) then Fails AfterEnd
+    else if nat_lt (length s.moves) limit then row
+    else Fails TooLong
 
--- what a word does that is no outcome, number or marks, in the game `s` of at most `limit` half-moves, by what it
--- denotes in the current position. The first of: without a move's shape it is a bad token; where the board has a
--- verdict, a move after the end; where the game is full, too long; otherwise see `denoted_row`
+-- what a word does that is taken as a move, by what it denotes in the current position of the game `s` of at most
+-- `limit` half-moves. Without a move's shape it is a bad token, also where the game is over or full
 abbrev pub move_row : ℕ → State → Reading → Row
 move_row limit s reads.NotAMove = Fails BadToken
-move_row limit s denoted =
-    if is_some (verdict_now s) then Fails AfterEnd
-    else if not (nat_lt (length s.moves) limit) then Fails TooLong
-    else denoted_row denoted
+move_row limit s (reads.Move m) = unless_over limit s (Goes_on (played s m))
+move_row limit s reads.Ambiguous = unless_over limit s (Fails AmbiguousMove)
+move_row limit s reads.NoSuch = unless_over limit s (Fails IllegalMove)
 
--- what a word does in the game `s` of at most `limit` half-moves: an outcome such as `1-0` ends the game; a number
--- (digits alone) and marks such as `!?` are passed over; any other word is taken as a move (see `move_row`)
-abbrev pub word_row : ℕ → State → List ℕ → Row
-word_row limit s word = option_map_or (λ o. Ends o (length word)) (outcome_of word)
-    (if list_all is_digit word || is_marks word then Passes else move_row limit s (reading (current s) word))
-
--- what a token does after the tags, in the game `s` of at most `limit` half-moves (for a word see `word_row`). A tag
--- here, even a bad one, is the next game's, so this game has no outcome, which is a fault
+-- what a token does after the tags, in the game `s` of at most `limit` half-moves
 abbrev pub row : ℕ → State → Token → Row
-row limit s Skip = Passes
-row limit s (Word word) = word_row limit s word
+row limit s Skip = Goes_on s
+-- an outcome such as `1-0` ends the game; a number (digits alone) and marks such as `!?` are passed over; any other
+-- word is taken as a move
+row limit s (Word word) = option_map_or (λ o. Ends o (length word)) (outcome_of word)
+    (if list_all is_digit word || is_marks word then Goes_on s else move_row limit s (reading (current s) word))
 row limit s (Unclosed_comment brace) = Fails UnclosedComment
 row limit s Unclosed_variation = Fails UnclosedVariation
 row limit s Bad = Fails BadToken
-row limit s Bad_tag = Fails NoResult
-row limit s (Tag name string at_string) = Fails NoResult
+-- a tag, even a bad one, is the next game's, so this game has no outcome, which is a fault
+row limit s _ = Fails NoResult
 
 -- how many bytes the text still has from the place on where this token is reported as a fault. That place is the
 -- token's first byte (the pair says how many bytes are left there), but for an unclosed comment the comment's `{`,
@@ -116,9 +99,11 @@ left_at_fault (to_end, _) = to_end
 -- from the game as it is then. `t` is paired with how many bytes are left where it begins, of a text of `total` bytes;
 -- `termination` is what the tag Termination names
 abbrev pub after_row : ℕ → Option Termination → State → ℕ × Token → Row → (State → GameRead) → GameRead
-after_row total termination s t Passes later = later s
-after_row total termination s t (Plays m) later = later (played s m)
-after_row total termination s t (Ends o len) later = finished s o termination (total - t.0 + len)
+after_row total termination s t (Goes_on next) later = later next
+after_row total termination s t (Ends o len) later = record {
+  state = with_declared s (declared_after (is_some (verdict_now s)) o);
+  answer = Ok (Some (record { outcome = o; termination = termination; offset = total - t.0 + len }));
+}
 after_row total termination s t (Fails kind) later = failed s (record { kind = kind; offset = total - left_at_fault t })
 
 -- what is read of the tokens after the tags, in a text of `total` bytes, from the game `s` on
@@ -134,30 +119,16 @@ abbrev pub is_tag : ℕ × Token → Bool
 is_tag (to_end, Tag name string at_string) = true
 is_tag _ = false
 
--- what the last tag Termination among these tokens names; none without such a tag, or if its text is none of the
--- standard's values, even if an earlier one's is
-abbrev pub last_termination : List (ℕ × Token) → Option Termination
-last_termination tags = option_and_then (λ tag. termination_named tag.0) (last_tag (codes "Termination") tags)
+-- what a tag FEN gives in the variant `v`, in a text of `total` bytes: the position that it denotes, or the fault, at
+-- the FEN's first byte. The tag comes as its text and how many bytes are left where that begins
+abbrev pub fen_read : ℕ → Variant → List ℕ × ℕ → Result Setup PgnFault
+fen_read total v tag = result_map_both (λ start. start)
+    (λ fault. record { kind = BadFen fault; offset = total - tag.1 }) (fen_reading_as v tag.0)
 
--- what the tags FEN denote in the variant `v`, each with how many bytes are left where its text begins
-abbrev pub fens : Variant → List (ℕ × Token) → List (Result Setup FenFault × ℕ)
-fens v tags = map (λ tag. (fen_reading_as v tag.0, tag.1)) (tags_named (codes "FEN") tags)
-
--- the position that the last of these FENs denotes; only those before the first that denotes none are looked at.
--- `start` if there are none of these
-abbrev pub last_start : Setup → List (Result Setup FenFault × ℕ) → Setup
-last_start start fs =
-    unwrap_or (last_or None (filter_map (λ f. result_ok f.0) (take_while (λ f. is_ok f.0) fs))) start
-
--- the fault of a FEN as it was read (see `fens`), in a text of `total` bytes: none if it denotes a position; otherwise
--- what is wrong with it, at the FEN's first byte, where `to_end` bytes are left
-abbrev pub bad_fen : ℕ → Result Setup FenFault × ℕ → Option PgnFault
-bad_fen total (Ok start, to_end) = None
-bad_fen total (Err fault, to_end) = Some (record { kind = BadFen fault; offset = total - to_end })
-
--- the fault of the first FEN that has one
-abbrev pub first_bad_fen : ℕ → List (Result Setup FenFault × ℕ) → Option PgnFault
-first_bad_fen total fs = slice_get (filter_map (bad_fen total) fs) 0
+-- the position that the last of these FENs denotes (see `fen_read`); only those before the first that denotes none are
+-- looked at. `start` if there are none of these
+abbrev pub last_start : Setup → List (Result Setup PgnFault) → Setup
+last_start start fens = unwrap_or (last_or None (filter_map result_ok (take_while is_ok fens))) start
 
 -- ---- the variant
 
@@ -165,9 +136,8 @@ first_bad_fen total fs = slice_get (filter_map (bad_fen total) fs) 0
 -- `chess960` are Chess960; any other text means normal chess, even if it names another variant
 abbrev pub variant_named : List ℕ → Variant
 variant_named text =
-    if str_eq_ignore_ascii_case text (codes "fischerandom") || str_eq_ignore_ascii_case text (codes "fischerrandom")
-    || str_eq_ignore_ascii_case text (codes "chess960") then Fischerandom
-    else Normal
+    if list_any (λ name. str_eq_ignore_ascii_case text name)
+    (codes "fischerandom" ∷ codes "fischerrandom" ∷ codes "chess960" ∷ []) then Fischerandom else Normal
 
 -- the variant that the last tag Variant names; normal chess if there is no such tag
 abbrev pub tagged_variant : List (ℕ × Token) → Variant
@@ -178,24 +148,27 @@ tagged_variant tags = option_map_or (λ tag. variant_named tag.0) (last_tag (cod
 -- what is read of a game after `tags`, the tokens before its first number, move, outcome or fault, if each of their
 -- FENs denotes a position; the last argument is the tokens from that one on. If that is a bad tag, its fault. If no
 -- token is left: no game if there is no tag either, otherwise the fault that the game has no outcome. In all other
--- cases the moves are read. `s` is the game at its start, and the text has `total` bytes
+-- cases the moves are read. `s` is the game at its start, and the text has `total` bytes. The last tag Termination
+-- counts, even if its text is none of the standard's values and an earlier one's is
 abbrev pub read_after_tags : ℕ → ℕ → State → List (ℕ × Token) → List (ℕ × Token) → GameRead
 read_after_tags limit total s tags ((to_end, Bad_tag) ∷ rest) =
     failed s (record { kind = BadTag; offset = total - to_end })
 read_after_tags limit total s tags [] =
     if list_any is_tag tags then failed s (record { kind = NoResult; offset = total })
     else record { state = s; answer = Ok None }
-read_after_tags limit total s tags rest = moves_read limit total (last_termination tags) s rest
+read_after_tags limit total s tags rest = moves_read limit total
+    (option_and_then (λ tag. termination_named tag.0) (last_tag (codes "Termination") tags)) s rest
 
 -- what is read of the game at the front of these tokens, of at most `limit` half-moves, in a text of `total` bytes.
 -- `tags` are the tokens before its first number, move, outcome or fault; its tags, which are all among them, give the
--- variant and the start. The first of their FENs that denotes no position is the fault; otherwise see `read_after_tags`
+-- variant and the start. The fault of the first FEN that has one is the game's; without one see `read_after_tags`
 abbrev pub read_of_split : ℕ → ℕ → List (ℕ × Token) → GameRead
 read_of_split limit total tokens =
     let tags = tag_section tokens in
     let v = tagged_variant tags in
-    let s = from_start (last_start (initial_setup_of v) (fens v tags)) in
-    option_map_or (failed s) (first_bad_fen total (fens v tags))
+    let fens = map (fen_read total v) (tags_named (codes "FEN") tags) in
+    let s = from_start (last_start (initial_setup_of v) fens) in
+    option_map_or (failed s) (slice_get (filter_map result_err fens) 0)
     (read_after_tags limit total s tags (drop (length tags) tokens))
 
 -- what is read of a text from the offset `at` on: the game up to its outcome mark and where it ended, or `None` if no

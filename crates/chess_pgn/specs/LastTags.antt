@@ -1,4 +1,4 @@
--- The last tag of a name among a game's tags, which come before its first number, move or outcome; and its tag
+-- The last tag of a name among a game's tags, which come before its first number, move, outcome or fault; and its tag
 -- Result.
 use Rattle.std.specs.Prelude.{ℕ, ◌-◌, Bool, true, false, if◌then◌else◌, List, length, codes, Option, Some, None}
 use Rattle.std.specs.List.{filter_map, last_or, take_while}

@@ -9,4 +9,5 @@ pub mod GameRead
 pub mod GameText
 pub mod PgnText
 pub mod laws
+pub mod shared
 pub mod ties

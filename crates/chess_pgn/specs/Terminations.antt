@@ -19,14 +19,11 @@ termination_text RulesInfraction = codes "rules infraction"
 termination_text TimeForfeit = codes "time forfeit"
 termination_text Unterminated = codes "unterminated"
 
--- all values that the tag Termination may have
-abbrev pub terminations : List Termination
-terminations = Abandoned ∷ Adjudication ∷ Death ∷ Emergency ∷ Normal ∷ RulesInfraction ∷ TimeForfeit ∷ Unterminated ∷ []
-
 -- the value that a text of the tag Termination names, in capital or small letters: `Time Forfeit` too; none for any
 -- other text
 unfoldable pub termination_named : List ℕ → Option Termination
-termination_named text = find (λ t. str_eq_ignore_ascii_case text (termination_text t)) terminations
+termination_named text = find (λ t. str_eq_ignore_ascii_case text (termination_text t))
+    (Abandoned ∷ Adjudication ∷ Death ∷ Emergency ∷ Normal ∷ RulesInfraction ∷ TimeForfeit ∷ Unterminated ∷ [])
 
 -- the value of the tag Termination for a game with this outcome that ended in this way: `unterminated` if the outcome
 -- is still `*`

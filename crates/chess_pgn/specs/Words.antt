@@ -11,6 +11,6 @@ use Rattle.chess_game.specs.declared.results.Outcome.TheVariants.{WhiteWins, Bla
 abbrev pub outcome_of : List ℕ → Option Outcome
 outcome_of word = find (λ o. bytes_eq (outcome_text o) word) (WhiteWins ∷ BlackWins ∷ Draw ∷ Unfinished ∷ [])
 
--- whether a word is marks such as `!?`: one or more `!` and `?`
+-- whether a word is marks such as `!?`: one or more bytes, each of them `!` or `?`
 abbrev pub is_marks : List ℕ → Bool
 is_marks word = not (length word == 0) && list_all (λ c. c == byte "!" || c == byte "?") word

@@ -2,25 +2,21 @@
 -- moves.
 use Rattle.std.specs.Prelude.{ℕ, ◌||◌, List, [], ◌∷◌, ◌++◌, length, codes, ◌==◌, nat_le, reverse, if◌then◌else◌}
 use Rattle.chess_base.specs.Letters.{byte, new_line, space}
-use Rattle.std.specs.List.{flat_map}
+use Rattle.std.specs.List.{flat_map, fold}
 
 -- ---- tokens in lines
 
 -- these lines, the last one first, with one token more: the last line takes it, after a space, if the line then has at
 -- most 79 characters; otherwise it is a new line
-abbrev pub with_token : List ℕ → List (List ℕ) → List (List ℕ)
-with_token token [] = token ∷ []
-with_token token (line ∷ earlier) =
+abbrev pub with_token : List (List ℕ) → List ℕ → List (List ℕ)
+with_token [] token = token ∷ []
+with_token (line ∷ earlier) token =
     if nat_le (length (line ++ space ∷ token)) 79 then (line ++ space ∷ token) ∷ earlier else token ∷ line ∷ earlier
 
--- the lines of these tokens; both lists have the last one first
-abbrev pub lines_back : List (List ℕ) → List (List ℕ)
-lines_back [] = []
-lines_back (token ∷ earlier) = with_token token (lines_back earlier)
-
--- these tokens in lines of at most 79 characters, each as full as it can be (the law `games_are_laid_out`)
+-- these tokens, one after another, in lines of at most 79 characters, each as full as it can be (the law
+-- `games_are_laid_out`)
 abbrev pub lines_of : List (List ℕ) → List (List ℕ)
-lines_of tokens = reverse (lines_back (reverse tokens))
+lines_of tokens = reverse (fold with_token [] tokens)
 
 -- ---- tags
 

@@ -156,7 +156,8 @@ pub(crate) fn next_token(text: &[u8], at: usize) -> Result<Option<(Token<'_>, us
 
 /// Skips white space and dots from the offset `at` on, and returns the offset after them: in `12. e4` from 2 on it is
 /// 4. [`next_token`] would return each of these bytes as a `Token::Skip` (`SkipsTo`); here no tokens are made of them.
-/// It doesn't call `split_while`, since it goes on from an offset, and its contract speaks of tokens.
+/// It has a loop of its own: each round skips one token, so `SkipsTo` is the loop's invariant. `split_while` says which
+/// bytes it takes, but not that each of them is a token.
 #[inline(always)]
 pub(crate) fn after_blanks(text: &[u8], at: usize) -> usize
     requires { at ≤ length text.now }

@@ -5,13 +5,13 @@ use Rattle.std.proofs.lemmas.List.{length-drop}
 use Rattle.chess_game.specs.Game.{State, verdict_now}
 use Rattle.chess_pgn.specs.GameRead.{GameRead, declared_after}
 use Rattle.chess_pgn.specs.LastTags.{may_precede_tags}
-use Rattle.chess_pgn.specs.Split.{IsSplit, IsOf, IsLongest, Kind, token_of, Blank, Line, Comment, Nag, Variation, Tag_pair, Asterisk, Symbol, ended, token, stopped}
+use Rattle.chess_pgn.specs.shared.Kinds.{IsSplitByKinds, IsOf, IsLongest, Kind, token_of, Blank, Line, Comment, Nag, Variation, Tag_pair, Asterisk, Symbol, ended, token, stopped}
 use Rattle.chess_pgn.specs.Tokens.{Token, Word, begins_line, tokens_from}
 use Rattle.chess_pgn.specs.laws.WordKinds.{word_kind}
 use Rattle.chess_pgn.specs.declared.read.PgnEnd.{PgnEnd}
 use Rattle.chess_pgn.specs.declared.read.PgnFaultKind.TheVariants.{NoResult}
 use Rattle.chess_pgn.specs.laws.TokenByToken.{SoFar, word_step, step, read_rest_with, game_of}
-use Rattle.chess_pgn.proofs.shared.Tokens.{read_split}
+use Rattle.chess_pgn.proofs.shared.Tokens.{read_kinds}
 use Rattle.pgn_verifier.proofs.PartsAlike.{over, OnOrFails, on, goes_on, Does, ends_game, no_end, does, tags_alike, HaveSameTags, skip_more, tag_more, word_more, word_ends, none_left, faults_stop}
 
 -- the text has this token at this place, and then some rest
@@ -35,7 +35,7 @@ module _ (limit : ℕ) (old new : List ℕ) (a b size : ℕ)
       pub record Found (at : ℕ) (g : SoFar) (ts : List (ℕ × Token)) : Type 0 where
         pub within : at ≤ size
         pub own : List (ℕ × Token)
-        pub split : IsSplit new (b + at) own
+        pub split : IsSplitByKinds new (b + at) own
         pub is : game_of limit (length new) g own ≡ over s (record end { offset = end.offset - a + b })
         pub tags : HaveSameTags own ts
         pub bytes : a + at < end.offset
@@ -72,7 +72,7 @@ module _ (limit : ℕ) (old new : List ℕ) (a b size : ℕ)
             within = omega (arith, near);
             own = (length new - (b + at), token_of kind front left) ∷ found.own;
             split = token kind front fit.rest' {tokens = found.own} fit.is fit.long
-                (subst (λ p. IsSplit new p found.own) (next_place at (length front)) found.split);
+                (subst (λ p. IsSplitByKinds new p found.own) (next_place at (length front)) found.split);
             is = ap (λ t. read_rest_with t (λ k. game_of limit (length new) k found.own)) here.second ∙ found.is;
             tags = tags left found.own found.tags;
             bytes = omega (arith, found.bytes);
@@ -151,8 +151,8 @@ module _ (limit : ℕ) (old new : List ℕ) (a b size : ℕ)
               record {
                 within = omega (arith, inside);
                 own = (length new - (b + at), Word front) ∷ mine;
-                split = subst (λ t. IsSplit new (b + at) ((length new - (b + at), t) ∷ mine)) (is_word left)
-                    (token kind front fit.rest' fit.is fit.long (read_split new (b + at + length front)));
+                split = subst (λ t. IsSplitByKinds new (b + at) ((length new - (b + at), t) ∷ mine)) (is_word left)
+                    (token kind front fit.rest' fit.is fit.long (read_kinds new (b + at + length front)));
                 is = ap (λ t. read_rest_with t (λ k. game_of limit (length new) k mine))
                     (step_is g (length new - (length new - (b + at))))
                     ∙ ap (λ m. over (record g.state { declared = declared_after (is_some (verdict_now g.state)) o })
@@ -202,7 +202,7 @@ module _ (limit : ℕ) (old new : List ℕ) (a b size : ℕ)
       by_kind at x Symbol front rest tokens g place e long again h =
           word at x Symbol front rest tokens g (λ m. refl) place long.is.0 e long again h
 
-      pub found : {place : ℕ} {ts : List (ℕ × Token)} → IsSplit old place ts → (at : ℕ)
+      pub found : {place : ℕ} {ts : List (ℕ × Token)} → IsSplitByKinds old place ts → (at : ℕ)
           → place ≡ a + at → (g : SoFar) → game_of limit (length old) g ts
           ≡ over s end
           → Found at g ts

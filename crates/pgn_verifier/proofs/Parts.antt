@@ -11,11 +11,11 @@ use Rattle.chess_game.specs.declared.game.TheConstants.{MOST_MOVES}
 use Rattle.chess_game.specs.declared.verdicts.Verdict.{Verdict}
 use Rattle.chess_pgn.specs.GameRead.{GameRead, pgn_read, read_of_split, tagged_variant}
 use Rattle.chess_pgn.specs.LastTags.{tag_section, result_tag_of}
-use Rattle.chess_pgn.specs.Split.{IsOf, IsLongest, Kind, ended}
+use Rattle.chess_pgn.specs.shared.Kinds.{IsOf, IsLongest, Kind, ended}
 use Rattle.chess_pgn.specs.Tokens.{Token, after_byte_order_mark, begins_line, tokens_from}
 use Rattle.chess_pgn.specs.declared.read.PgnEnd.{PgnEnd}
 use Rattle.chess_pgn.specs.laws.TokenByToken.{game_of, nothing_read, tokens_read}
-use Rattle.chess_pgn.proofs.shared.Tokens.{read_split, split_read}
+use Rattle.chess_pgn.proofs.shared.Tokens.{read_kinds, kinds_read}
 use Rattle.pgn_verifier.specs.GameFaults.{judged}
 use Rattle.pgn_verifier.specs.laws.Parts.{BeginsAlike, GamesAreInParts, HoldsWhole, no_more, game, WholeGamesAreReportedAlike, AllHoldWhole, no_parts, next_part, TextsAreReportedInParts, PiecesAreReportedAlike}
 use Rattle.pgn_pieces.specs.Pieces.{cut, piece_at, with_offsets, pieces}
@@ -77,9 +77,9 @@ in_parts law strict before part after at end begins is inside =
     sym (law MOST_MOVES text (length before + at)) ∙ ap (λ a. record { state = r.state; answer = a }) said.0 in
     let f = found MOST_MOVES text part (length before) 0 (length part) (fits_part before part after begins.line) r.state
     end (λ m low ending. omega (arith, ending, inside))
-    (read_split text (after_byte_order_mark text (length before + at))) here begins.first
+    (read_kinds text (after_byte_order_mark text (length before + at))) here begins.first
     (nothing_read (tagged_variant (tag_section ts))) whole in
-    let own : f.own ≡ us = split_read part f.split ∙ ap (tokens_from part) (omega arith) in
+    let own : f.own ≡ us = kinds_read part f.split ∙ ap (tokens_from part) (omega arith) in
     let shift : end.offset - length before + 0 ≡ end.offset - length before = omega arith in
     let back : PgnEnd = record end { offset = end.offset - length before } in
     let alone : pgn_read MOST_MOVES part at ≡ over r.state back =
@@ -177,7 +177,7 @@ nothing_left strict start (suc k) text = by_first text (mark text)
         → reports_from strict start (suc k) text (length text) ≡ []
     by_first text e =
         let none : [] ≡ tokens_from text (after_byte_order_mark text (length text)) =
-        split_read text (ended (ap (λ n. drop n text) e ∙ drop-length text)) in
+        kinds_read text (ended (ap (λ n. drop n text) e ∙ drop-length text)) in
         ap (λ ts. report_then start text
         (judged strict (result_tag_of (length text) ts) (verdict_now (read_of_split MOST_MOVES (length text) ts).state)
         (read_of_split MOST_MOVES (length text) ts).answer) (read_of_split MOST_MOVES (length text) ts).state

@@ -20,7 +20,7 @@ use Rattle.chess_text.specs.declared.reading.Reading.TheVariants as reads
 use Rattle.chess_text.specs.Moves.{reading}
 use Rattle.chess_pgn.specs.GameRead.{GameRead, pgn_read, tagged_variant, variant_named}
 use Rattle.chess_pgn.specs.LastTags.{may_precede_tags, tag_section, tags_named, last_tag, result_tag_of}
-use Rattle.chess_pgn.specs.Split.{IsFaultOf}
+use Rattle.chess_pgn.specs.shared.Kinds.{IsFault}
 use Rattle.chess_pgn.specs.Tokens.{Token, Skip, Tag, Word, Bad_tag, Unclosed_comment, Unclosed_variation, Bad, after_byte_order_mark, begins_line, tokens_from}
 use Rattle.chess_pgn.specs.Words.{outcome_of}
 use Rattle.chess_pgn.specs.laws.WordKinds.{word_kind}
@@ -236,7 +236,7 @@ none_left end false f h = cc
 
 -- the fault of what can't be read is the game's
 pub faults_stop : (limit total : ℕ) (o : Option PgnEnd) (xs : List ℕ) (x : ℕ) (g : SoFar) (fault : Token)
-    → IsFaultOf xs fault → (game_of limit total g ((x, fault) ∷ [])).answer ≡ Ok o → ⊥
+    → IsFault xs fault → (game_of limit total g ((x, fault) ∷ [])).answer ≡ Ok o → ⊥
 faults_stop limit total o xs x g Skip k h = k
 faults_stop limit total o xs x g (Tag name string left) k h = k
 faults_stop limit total o xs x g (Word w) k h = k

@@ -21,7 +21,7 @@ use Rattle.chess_text.specs.declared.reading.Reading.TheVariants as reads
 use Rattle.chess_text.specs.Moves.{reading}
 use Rattle.chess_pgn.specs.GameRead.{GameRead, pgn_read, tagged_variant, variant_named}
 use Rattle.chess_pgn.specs.LastTags.{may_precede_tags, tag_section, tags_named, result_tag_of}
-use Rattle.chess_pgn.specs.Split.{IsSplit, IsOf, IsLongest, Kind, token_of, Blank, Line, Comment, Nag, Variation, Tag_pair, Asterisk, Symbol, ended, token, stopped}
+use Rattle.chess_pgn.specs.shared.Kinds.{IsSplitByKinds, IsOf, IsLongest, Kind, token_of, Blank, Line, Comment, Nag, Variation, Tag_pair, Asterisk, Symbol, ended, token, stopped}
 use Rattle.chess_pgn.specs.Tokens.{Token, Skip, Tag, Word, Bad_tag, Unclosed_comment, Unclosed_variation, Bad, after_byte_order_mark, begins_line, tokens_from}
 use Rattle.chess_pgn.specs.Words.{outcome_of}
 use Rattle.chess_pgn.specs.laws.WordKinds.{word_kind}
@@ -31,7 +31,7 @@ use Rattle.chess_pgn.specs.declared.read.PgnFaultKind.TheVariants.{NoResult}
 use Rattle.chess_pgn.specs.declared.tagged_result.ResultTag.{ResultTag}
 use Rattle.chess_pgn.specs.laws.TokenByToken.{SoFar, Step, On, Stop, move_step, word_step, fen_step, step, read_rest_with, game_of, nothing_read, tokens_read}
 use Rattle.chess_pgn.proofs.shared.Words.{word_cases}
-use Rattle.chess_pgn.proofs.shared.Tokens.{read_split, split_read, stays_longest, token_some}
+use Rattle.chess_pgn.proofs.shared.Tokens.{read_kinds, kinds_read, stays_longest, token_some}
 use Rattle.pgn_verifier.specs.GameFaults.{contradiction, judged}
 use Rattle.pgn_verifier.specs.declared.game_fault.GameFault.{GameFault}
 use Rattle.pgn_verifier.specs.laws.Parts.{BeginsAlike}
@@ -222,7 +222,7 @@ module _ (limit : ℕ) (before part after : List ℕ)
     -- from a place in the part on, nothing is met up to its end
     record Passes (at : ℕ) : Type 0 where
       own : List (ℕ × Token)
-      split : IsSplit (before ++ (part ++ after)) (length before + at) own
+      split : IsSplitByKinds (before ++ (part ++ after)) (length before + at) own
       reads_on : (g : SoFar) → game_of limit (length (before ++ (part ++ after))) g own
           ≡ game_of limit (length (before ++ (part ++ after))) g
           (tokens_from (before ++ (part ++ after)) (length before + length part))
@@ -243,19 +243,20 @@ module _ (limit : ℕ) (before part after : List ℕ)
             token_of kind front (length (rest ++ after)),
           ) ∷ more.own;
           split = token kind front (rest ++ after) {tokens = more.own} fit.is fit.long
-              (subst (λ m. IsSplit (before ++ (part ++ after)) m more.own) (next_place at (length front)) more.split);
+              (subst (λ m. IsSplitByKinds (before ++ (part ++ after)) m more.own) (next_place at (length front))
+              more.split);
           reads_on = λ g. ap (λ w. read_rest_with w (λ k. game_of limit total k more.own))
               (passed_step limit total g y u q) ∙ more.reads_on g;
           tags = λ name. passed_tags name y u more.own q ∙ more.tags name;
         }
 
-    passed : {at : ℕ} {us : List (ℕ × Token)} → IsSplit part at us → at ≤ length part → (g : SoFar)
+    passed : {at : ℕ} {us : List (ℕ × Token)} → IsSplitByKinds part at us → at ≤ length part → (g : SoFar)
         → (game_of limit (length part) g us).answer ≡ Ok None → Passes at
     passed (ended {at = here} e) within g h =
         let all : length part ≡ here = omega (arith, within, ap length e, length-drop here part) in
         subst (λ m. Passes m) all (record {
           own = tokens_from (before ++ (part ++ after)) (length before + length part);
-          split = read_split (before ++ (part ++ after)) (length before + length part);
+          split = read_kinds (before ++ (part ++ after)) (length before + length part);
           reads_on = λ k. refl;
           tags = λ name. refl;
         })
@@ -303,9 +304,9 @@ in_text law strict before part after at end begins closed is =
     sym (law MOST_MOVES part at) ∙ ap (λ a. record { state = r.state; answer = a }) said.0 in
     let k = found MOST_MOVES part text 0 (length before) (length part)
     (fits_text MOST_MOVES before part after begins.line closed) r.state end (λ m low ending. omega (arith, low))
-    (read_split part here) here (omega arith)
+    (read_kinds part here) here (omega arith)
     (nothing_read (tagged_variant (tag_section us))) alone in
-    let own : k.own ≡ ts = split_read text k.split ∙ ap (tokens_from text) (sym begins.first) in
+    let own : k.own ≡ ts = kinds_read text k.split ∙ ap (tokens_from text) (sym begins.first) in
     let shift : end.offset - 0 + length before ≡ length before + end.offset = omega arith in
     let moved : PgnEnd = record end { offset = length before + end.offset } in
     let whole : pgn_read MOST_MOVES text (length before + at) ≡ over r.state moved =
@@ -376,7 +377,7 @@ skips_to_end law strict before part after at begins closed within none start (su
     by_place false e =
         let some : 0 < length before + length part = grind (arith, nat_tests, e) in
         let p = passed MOST_MOVES before part after begins.line closed
-        (read_split part (after_byte_order_mark part at)) (mark_within part at within)
+        (read_kinds part (after_byte_order_mark part at)) (mark_within part at within)
         (nothing_read (tagged_variant (tag_section (tokens_from part (after_byte_order_mark part at)))))
         (ap (λ (r : GameRead). r.answer) (sym (law MOST_MOVES part at))
         ∙ judged_none strict (result_tag_of (length part) (tokens_from part (after_byte_order_mark part at)))
@@ -386,7 +387,7 @@ skips_to_end law strict before part after at begins closed within none start (su
         tokens_from text (after_byte_order_mark text (length before + length part)) in
         let ending : tokens_from text (length before + length part) ≡ us =
         ap (tokens_from text) (sym (no_mark text (length before + length part) some)) in
-        let own : p.own ≡ ts = split_read text p.split ∙ ap (tokens_from text) (sym begins.first) in
+        let own : p.own ≡ ts = kinds_read text p.split ∙ ap (tokens_from text) (sym begins.first) in
         let tags : (name : List ℕ) → tags_named name (tag_section ts) ≡ tags_named name (tag_section us) =
         λ name. ap (λ l. tags_named name (tag_section l)) (sym own) ∙ p.tags name
         ∙ ap (λ l. tags_named name (tag_section l)) ending in

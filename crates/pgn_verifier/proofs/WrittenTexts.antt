@@ -10,7 +10,7 @@ use Rattle.chess_game.specs.declared.results.Outcome.{Outcome}
 use Rattle.chess_pgn.specs.GameRead.{GameRead, pgn_read}
 use Rattle.chess_pgn.specs.GameText.{pgn, tag_lines, game_tokens}
 use Rattle.chess_pgn.specs.LastTags.{result_tag_of}
-use Rattle.chess_pgn.specs.Split.{IsSplit, IsOf, IsLongest, Blank, ended, token}
+use Rattle.chess_pgn.specs.shared.Kinds.{IsSplitByKinds, IsOf, IsLongest, Blank, ended, token}
 use Rattle.chess_pgn.specs.Terminations.{termination_of}
 use Rattle.chess_pgn.specs.Tokens.{Token, Skip, after_byte_order_mark, begins_line, tokens_from}
 use Rattle.chess_pgn.specs.Written as written
@@ -19,7 +19,7 @@ use Rattle.chess_pgn.specs.declared.tags.Tags.{Tags}
 use Rattle.chess_pgn.specs.declared.termination.Termination.{Termination}
 use Rattle.chess_pgn.specs.laws.PgnLaw.{AreTagTexts, IsReadBack, PgnIsReadBack, ResultIsWritten}
 use Rattle.chess_pgn.specs.laws.TokenByToken.{tokens_read}
-use Rattle.chess_pgn.proofs.shared.Tokens.{split_read}
+use Rattle.chess_pgn.proofs.shared.Tokens.{kinds_read}
 use Rattle.pgn_verifier.specs.GameFaults.{judged}
 use Rattle.pgn_verifier.specs.Reports.{Report, Game, is_game}
 use Rattle.pgn_verifier.specs.laws.NoFaults.{begins_with_mark}
@@ -73,7 +73,7 @@ end_is_longest b rest = record { is = (10, refl, refl); longest = λ more others
     no_more_bytes : (more : List ℕ) → IsOf b Blank (10 ∷ more) → more ≡ []
     no_more_bytes more (c, is, h) = cc
 
-last_tokens : (body : List ℕ) → IsSplit (body ++ 10 ∷ 10 ∷ []) (length body)
+last_tokens : (body : List ℕ) → IsSplitByKinds (body ++ 10 ∷ 10 ∷ []) (length body)
     ((length (body ++ 10 ∷ 10 ∷ []) - length body, Skip)
     ∷ (length (body ++ 10 ∷ 10 ∷ []) - (length body + 1), Skip) ∷ [])
 last_tokens body =
@@ -94,7 +94,7 @@ none_after law strict body some =
     let own : List (ℕ × Token) =
     (length text - length body, Skip) ∷ (length text - (length body + 1), Skip) ∷ [] in
     let same : ts ≡ own =
-    ap (tokens_from text) (no_mark text (length body) some) ∙ sym (split_read text (last_tokens body)) in
+    ap (tokens_from text) (no_mark text (length body) some) ∙ sym (kinds_read text (last_tokens body)) in
     let is : pgn_read MOST_MOVES text (length body) ≡ tokens_read MOST_MOVES (length text) own =
     law MOST_MOVES text (length body) ∙ ap (tokens_read MOST_MOVES (length text)) same in
     ap (λ (r : GameRead). judged strict (result_tag_of (length text) ts) (verdict_now r.state) r.answer) is

@@ -1,12 +1,14 @@
 -- Small texts by which the law `texts_are_worked_out` shows what the definitions of a split, of a game that is read and
 -- of a game's text mean.
-use Rattle.std.specs.Prelude.{◌≡◌, ℕ, List, [], ◌∷◌, ◌++◌, length, codes, None, Ok}
+use Rattle.std.specs.Prelude.{◌≡◌, ℕ, List, [], ◌∷◌, ◌++◌, length, codes, Option, Some, None, Ok, is_some}
 use Rattle.chess_base.specs.declared.fen_fault.FenFault.TheVariants.{Fields}
 use Rattle.chess_base.specs.declared.man.Move.{Move}
 use Rattle.chess_base.specs.declared.man.Variant.TheVariants.{Normal}
 use Rattle.chess_base.specs.Initial.{initial_setup_of}
-use Rattle.chess_game.specs.Game.{State, from_start, played, current, verdict_now}
+use Rattle.chess_game.specs.Game.{State, from_start, played, with_declared, current, verdict_now}
+use Rattle.chess_game.specs.declared.results.Outcome.{Outcome}
 use Rattle.chess_game.specs.declared.results.Outcome.TheVariants.{Unfinished}
+use Rattle.chess_pgn.specs.declared.termination.Termination.{Termination}
 use Rattle.chess_text.specs.declared.reading.Reading.TheVariants as reads
 use Rattle.chess_text.specs.Moves.{reading}
 use Rattle.chess_pgn.specs.declared.read.PgnFaultKind.TheVariants.{BadTag, BadFen, NoResult}
@@ -16,8 +18,15 @@ use Rattle.chess_pgn.specs.Tokens.{Skip, Tag, Word, Bad_tag, Unclosed_comment, U
 use Rattle.chess_pgn.specs.Written.{ended}
 use Rattle.chess_pgn.specs.PgnText.{AreFullLines, IsPgn}
 use Rattle.chess_pgn.specs.Split.{IsSplit}
-use Rattle.chess_pgn.specs.GameRead.{failed, finished}
+use Rattle.chess_pgn.specs.GameRead.{GameRead, declared_after, failed}
 use Rattle.chess_pgn.specs.GameRead.{IsRead}
+
+-- what is read if the game `s` was read and then the mark of this outcome. `offset` is that of the byte after the mark
+abbrev pub finished : State → Outcome → Option Termination → ℕ → GameRead
+finished s o termination offset = record {
+  state = with_declared s (declared_after (is_some (verdict_now s)) o);
+  answer = Ok (Some (record { outcome = o; termination = termination; offset = offset }));
+}
 
 -- texts are split so
 pub record TextsAreSplit : Type 0 where

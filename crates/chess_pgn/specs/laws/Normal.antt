@@ -1,6 +1,8 @@
 -- The definitions that Chess960 widened, as they are for normal chess alone.
-use Rattle.std.specs.Prelude.{◌≡◌, ℕ, not, List, [], ◌∷◌, ◌++◌, length, drop, map, None, codes}
+use Rattle.std.specs.Prelude.{◌≡◌, ℕ, ◌-◌, not, List, [], ◌∷◌, ◌++◌, length, drop, map, slice_get, None, codes}
+use Rattle.std.specs.List.{filter_map}
 use Rattle.std.specs.Option.{option_map_or}
+use Rattle.std.specs.Result.{result_err, result_map_both}
 use Rattle.chess_base.specs.declared.man.Variant.TheVariants.{Normal}
 use Rattle.chess_base.specs.Initial.{initial_setup}
 use Rattle.chess_base.specs.Options.{list_if}
@@ -9,7 +11,8 @@ use Rattle.chess_fen.specs.Writing.{fen, is_initial}
 use Rattle.chess_game.specs.Game.{State, from_start, outcome_now}
 use Rattle.chess_game.specs.Results.{outcome_text}
 use Rattle.chess_pgn.specs.declared.tags.Tags.{Tags}
-use Rattle.chess_pgn.specs.GameRead.{GameRead, failed, first_bad_fen, last_start, read_after_tags, pgn_read}
+use Rattle.chess_pgn.specs.declared.read.PgnFaultKind.TheVariants.{BadFen}
+use Rattle.chess_pgn.specs.GameRead.{GameRead, failed, last_start, read_after_tags, pgn_read}
 use Rattle.chess_pgn.specs.GameText.{tag_lines}
 use Rattle.chess_pgn.specs.LastTags.{tag_section, tags_named, last_tag}
 use Rattle.chess_pgn.specs.Terminations.{termination_text, termination_of}
@@ -31,9 +34,11 @@ normal_tag_lines t s =
 abbrev pub normal_read : ℕ → ℕ → List (ℕ × Token) → GameRead
 normal_read limit total tokens =
     let tags = tag_section tokens in
-    let fens = map (λ tag. (fen_reading tag.0, tag.1)) (tags_named (codes "FEN") tags) in
+    let fens = map (λ tag. result_map_both (λ start. start)
+    (λ fault. record { kind = BadFen fault; offset = total - tag.1 }) (fen_reading tag.0))
+    (tags_named (codes "FEN") tags) in
     let s = from_start (last_start initial_setup fens) in
-    option_map_or (failed s) (first_bad_fen total fens)
+    option_map_or (failed s) (slice_get (filter_map result_err fens) 0)
     (read_after_tags limit total s tags (drop (length tags) tokens))
 
 -- a game of normal chess is written, and a text with no tag Variant among the game's own tags is read, as if there were

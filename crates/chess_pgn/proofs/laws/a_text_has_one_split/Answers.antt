@@ -1,4 +1,4 @@
-use Rattle.chess_pgn.proofs.TokenSplits.{read_split, split_read}
+use Rattle.chess_pgn.proofs.Splits.{read_split, split_read}
 use Rattle.chess_pgn.proofs.laws.a_text_has_one_split.Goals as goal
 
 pub returns-clause-read : goal.returns-clause-read
