@@ -10,7 +10,7 @@ ghost use Rattle.chess_game.specs.Ends.{verdict_result};
 ghost use Rattle.chess_game.specs.Game.{current, verdict_now};
 ghost use Rattle.chess_pgn.specs.declared.read.PgnFaultKind.TheVariants.{TooLong};
 ghost use Rattle.pgn_pieces.specs.Places.{line_ends, last_line_len, line_of, column_of};
-ghost use Rattle.pgn_verifier.specs.Explanations.{part_offset, shown_part, has_position, optional_part, explanation_line, too_long_explained, shown};
+ghost use Rattle.pgn_verifier.specs.Explanations.{part_offset, shown_part, has_position, optional_part, explanation_line, shown};
 ghost use Rattle.chess_game.specs.Results.{outcome_text};
 ghost use Rattle.pgn_verifier.specs.Reports.{fault_line};
 ghost use Rattle.pgn_verifier.specs.declared.game_fault.FaultKind.TheVariants.{Pgn};
@@ -104,7 +104,7 @@ fn shown_part(kind: FaultKind, text: &[u8]) -> Shown
 // Appends ` | ` and the board's verdict, such as `0-1 {Black mates}`; nothing without one.
 fn append_verdict(lines: &mut FaultLines, verdict: Option<Verdict>)
     requires { array_vec_len lines.old + 80 ≤ FAULT_LINES_LEN }
-    ensures text { lines.new.items ≡ lines.old.items ++ optional_part (option_map verdict_result verdict) }
+    ensures text { lines.new.items ≡ lines.old.items ++ optional_part (codes " | ") (option_map verdict_result verdict) }
     ensures len { array_vec_len lines.new ≤ array_vec_len lines.old + 80 }
 {
     if let Some(verdict) = verdict {
@@ -120,7 +120,7 @@ fn append_verdict(lines: &mut FaultLines, verdict: Option<Verdict>)
 fn append_part(lines: &mut FaultLines, reason: &[u8])
     requires room { array_vec_len lines.old + 80 ≤ FAULT_LINES_LEN }
     requires short { length reason.now ≤ 77 }
-    ensures text { lines.new.items ≡ lines.old.items ++ optional_part (Some reason.now) }
+    ensures text { lines.new.items ≡ lines.old.items ++ optional_part (codes " | ") (Some reason.now) }
     ensures len { array_vec_len lines.new ≤ array_vec_len lines.old + 80 }
 {
     append(lines, b" | ");
@@ -136,7 +136,7 @@ fn append_pgn_reason(
     verdict: Option<Verdict>,
 )
     requires { array_vec_len lines.old + 80 ≤ FAULT_LINES_LEN }
-    ensures text { lines.new.items ≡ lines.old.items ++ optional_part (reason (Pgn kind) text.now verdict) }
+    ensures text { lines.new.items ≡ lines.old.items ++ optional_part (codes " | ") (reason (Pgn kind) text.now verdict) }
     ensures len { array_vec_len lines.new ≤ array_vec_len lines.old + 80 }
 {
     match kind {
@@ -165,7 +165,7 @@ fn append_results(lines: &mut FaultLines, tag: &[u8], outcome: Outcome)
 // Appends ` | ` and the reason for a fault; nothing if there is none. `text` is the text from its byte on.
 fn append_reason(lines: &mut FaultLines, kind: FaultKind, text: &[u8], verdict: Option<Verdict>)
     requires { array_vec_len lines.old + 80 ≤ FAULT_LINES_LEN }
-    ensures text { lines.new.items ≡ lines.old.items ++ optional_part (reason kind text.now verdict) }
+    ensures text { lines.new.items ≡ lines.old.items ++ optional_part (codes " | ") (reason kind text.now verdict) }
     ensures len { array_vec_len lines.new ≤ array_vec_len lines.old + 80 }
 {
     match kind {
@@ -191,7 +191,7 @@ fn has_position(kind: FaultKind) -> bool
 fn append_position<B: Board>(lines: &mut FaultLines, kind: FaultKind, game: &Game<B>)
     requires { array_vec_len lines.old + 98 ≤ FAULT_LINES_LEN }
     ensures text { lines.new.items ≡ lines.old.items
-        ++ optional_part (option_map fen (if has_position kind then Some (current game.now.state) else None)) }
+        ++ optional_part (codes " | ") (if has_position kind then Some (fen (current game.now.state)) else None) }
     ensures len { array_vec_len lines.new ≤ array_vec_len lines.old + 98 }
 {
     if has_position(kind) {
@@ -225,10 +225,9 @@ fn append_explanation<B: Board>(
     game: &Game<B>,
 )
     requires { array_vec_len lines.old ≤ 100 }
-    ensures { (input : List ℕ) (offset : ℕ) → line ≡ line_of input (offset + part_offset kind text.now)
-        → column ≡ column_of input (offset + part_offset kind text.now)
+    ensures { (input : List ℕ) (begin : ℕ) → line ≡ line_of input begin → column ≡ column_of input begin
         → lines.new.items ≡ lines.old.items
-        ++ explanation_line input offset (explanation_of game.now.state text.now kind) }
+        ++ explanation_line input begin (explanation_of game.now.state text.now kind) }
 {
     append_place(lines, line, column);
     append(lines, shown_part(kind, text).as_slice());
@@ -252,7 +251,8 @@ pub(crate) fn fault_lines<B: Board>(
     requires few_lines { start.line + length text.now < 2 ^ 64 }
     ensures { (input : List ℕ) → StandsIf explain start input text.now
         → result.items ≡ fault_line number (moved start.offset fault)
-        ++ (if explain then explanation_line input (start.offset + fault.offset)
+        ++ (if explain then explanation_line input
+        (start.offset + fault.offset + part_offset fault.kind (drop fault.offset text.now))
         (explanation_of game.now.state (drop fault.offset text.now) fault.kind) else []) }
 {
     let mut lines = fault_line(number, fault.moved(start.offset));
@@ -276,7 +276,7 @@ pub(crate) fn too_long_lines(
 ) -> FaultLines
     ensures { (input : List ℕ) → StandsIf explain start input []
         → result.items ≡ fault_line number (record { kind = Pgn TooLong; offset = start.offset })
-        ++ (if explain then explanation_line input start.offset (too_long_explained beginning.now) else []) }
+        ++ (if explain then explanation_line input start.offset (shown beginning.now) else []) }
 {
     let mut lines = fault_line(
         number,

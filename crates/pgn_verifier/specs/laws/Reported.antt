@@ -10,6 +10,7 @@ use Rattle.chess_pgn.specs.LastTags.{result_tag_of}
 use Rattle.chess_pgn.specs.Tokens.{after_byte_order_mark, tokens_from}
 use Rattle.chess_pgn.specs.declared.read.PgnEnd.{PgnEnd}
 use Rattle.pgn_pieces.specs.Pieces.{Piece, pieces}
+use Rattle.pgn_verifier.specs.Explanations.{part_offset}
 use Rattle.pgn_verifier.specs.GameFaults.{judged}
 use Rattle.pgn_verifier.specs.Reports.{Report, Game, Faulty, too_long_report}
 use Rattle.pgn_verifier.specs.declared.game_fault.GameFault.{GameFault}
@@ -34,7 +35,9 @@ report_then start text (Ok None) s later = []
 report_then start text (Ok (Some end)) s later =
     Game (length s.moves) end.outcome end.termination ∷ later end.offset
 report_then start text (Err fault) s later =
-    Faulty (record fault { offset = start + fault.offset }) (explanation_of s (drop fault.offset text) fault.kind) ∷ []
+    Faulty (record fault { offset = start + fault.offset })
+    (start + fault.offset + part_offset fault.kind (drop fault.offset text))
+    (explanation_of s (drop fault.offset text) fault.kind) ∷ []
 
 -- the reports on at most n games (the third argument) of a text from its offset `at` on, up to its first fault. The
 -- text begins at the offset `start` of the input; `strict`: results are compared

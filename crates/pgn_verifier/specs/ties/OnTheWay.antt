@@ -74,7 +74,7 @@ reports_of strict pieces = flat_map (reports_in strict) pieces
 abbrev pub with_report : Tally → Report → Tally
 with_report t (Game plies outcome termination) =
     record t { games = t.games + 1; half_moves = t.half_moves + plies }
-with_report t (Faulty fault explanation) = record t { faults = t.faults + 1 }
+with_report t (Faulty fault wrong_at explanation) = record t { faults = t.faults + 1 }
 
 -- the counts `t` with these reports added: games, their half-moves, and faults
 abbrev pub counted : Tally → List Report → Tally

@@ -33,7 +33,9 @@ returns-then-explain g c input stands =
     ∙ ap (line_of input) place in
     let column = c.column_after-column.ensures
     ∙ sym (column_there start input text (at + c.part_offset.result) within here) ∙ ap (column_of input) place in
-    c.append_explanation.ensures input (start.offset + at) line column
-    ∙ ap₂ (λ xs t. xs ++ explanation_line input (start.offset + at) (explanation_of s t kind)) first (rest_is at text)
-    ∙ sym (ap (λ b. own ++ (if b then explanation_line input (start.offset + at) (explanation_of s rest kind) else []))
+    c.append_explanation.ensures input (start.offset + at + part_offset kind (take (length text - at) rest)) line column
+    ∙ ap₂ (λ xs t. xs ++ explanation_line input (start.offset + at + part_offset kind t) (explanation_of s t kind)) first
+    (rest_is at text)
+    ∙ sym (ap (λ b. own ++ (if b then explanation_line input (start.offset + at + part_offset kind rest)
+    (explanation_of s rest kind) else []))
     c.if-explain.true)
