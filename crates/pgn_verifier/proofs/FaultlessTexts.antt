@@ -10,7 +10,7 @@ use Rattle.std.proofs.Math.Path.{fun_ext}
 use Rattle.std.proofs.lemmas.List.Folds.{list_all-append, sum_by-zero}
 use Rattle.chess_pgn.specs.Tokens.{after_byte_order_mark, begins_line}
 use Rattle.chess_pgn.specs.declared.read.PgnEnd.{PgnEnd}
-use Rattle.pgn_pieces.specs.Pieces.{cut, piece_at, with_offsets, pieces}
+use Rattle.pgn_pieces.specs.Pieces.{cut, with_offsets, pieces}
 use Rattle.pgn_pieces.specs.declared.pieces.TheConstants.{PIECE_LEN}
 use Rattle.pgn_pieces.proofs.shared.Cuts.{AreLines, no_texts, last_text, next_text, cut_is_all, cut_ends}
 use Rattle.pgn_verifier.specs.Reports.{Report, Game, Faulty, too_long_report, half_moves_of, counts_of, verified}
@@ -181,8 +181,8 @@ module _ (law : TokenByToken) (strict : Bool) where
       later = flat_map (reports_in strict) (with_offsets (offset + length first) parts)
 
       by_length : (b : Bool) → nat_le (length first) PIECE_LEN ≡ b
-          → list_all is_game (option_map_or (reports_on strict offset) (if b then Some first else None)
-          (too_long_report (piece_at offset first) ∷ []) ++ later) ≡ true
+          → list_all is_game ((if b then reports_on strict offset first else
+          too_long_report (record { offset = offset; bytes = first }) ∷ []) ++ later) ≡ true
           → AllHold strict offset before (first ∷ parts)
       by_length false e k = absurd (cc)
       by_length true e k =
@@ -193,8 +193,8 @@ module _ (law : TokenByToken) (strict : Bool) where
           record {
             games = part.games ++ rest.games;
             holds = next_part begins part.holds rest.holds;
-            reported = ap (λ b. option_map_or (reports_on strict offset) (if b then Some first else None)
-                (too_long_report (piece_at offset first) ∷ []) ++ later) e
+            reported = ap (λ b. (if b then reports_on strict offset first else
+                too_long_report (record { offset = offset; bytes = first }) ∷ []) ++ later) e
                 ∙ ap (λ l. l ++ later)
                 (reported_alike law strict offset before first (concat parts) part.games begins part.holds).alone
                 ∙ ap (λ l. part.games ++ l) rest.reported;

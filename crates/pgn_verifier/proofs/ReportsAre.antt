@@ -1,8 +1,10 @@
 -- The reports that are made one after another are those of the definitions, and no others are.
-use Rattle.std.proofs.Common.{◌≡◌, ℕ, zero, suc, ◌+◌, ◌<◌, ◌≤◌, Bool, List, [], ◌∷◌, ◌++◌, length, drop, Option, Some, None, IfSome, IfNone, Result, Ok, Err, IfOk, refl, sym, ap, subst, ◌∙◌, arith}
+use Rattle.std.proofs.Common.{◌≡◌, ℕ, zero, suc, ◌+◌, ◌<◌, ◌≤◌, Bool, List, [], ◌∷◌, ◌++◌, length, drop, Option, Some, None, IfSome, true, false, Result, Ok, Err, IfOk, refl, sym, ap, subst, ◌∙◌, arith}
 use Rattle.std.proofs.Math.Path.{fun_ext}
 use Rattle.std.specs.List.{flat_map}
 use Rattle.std.specs.Option.{option_map_or}
+use Rattle.std.specs.Prelude.{nat_le, if◌then◌else◌}
+use Rattle.std.specs.Bool.{MatchBool}
 use Rattle.chess_game.specs.Game.{State, verdict_now}
 use Rattle.chess_game.specs.declared.game.TheConstants.{MOST_MOVES}
 use Rattle.chess_game.specs.declared.verdicts.Verdict.{Verdict}
@@ -15,6 +17,7 @@ use Rattle.chess_pgn.specs.declared.tagged_result.ResultTag.{ResultTag}
 use Rattle.chess_pgn.proofs.shared.Ends.{ends_in_text}
 use Rattle.chess_pgn.proofs.shared.Tokens.{read_split, split_read}
 use Rattle.pgn_pieces.specs.Pieces.{Piece, pieces}
+use Rattle.pgn_pieces.specs.declared.pieces.TheConstants.{PIECE_LEN}
 use Rattle.pgn_verifier.specs.Collection.{AreCollectionReports}
 use Rattle.pgn_verifier.specs.Explanations.{IsReason, part_offset, explanation}
 use Rattle.pgn_verifier.specs.GameFaults.{contradiction, judged, IsJudged}
@@ -178,24 +181,24 @@ only_reports strict start text reports h = one_list (are_reports strict start te
 -- ---- pieces
 
 reports_are_in : (strict : Bool) (piece : Piece) → AreReportsIn strict piece (reports_in strict piece)
-reports_are_in strict piece = by_bytes piece.bytes
+reports_are_in strict piece = by_test (nat_le (length piece.bytes) PIECE_LEN)
   where
-    by_bytes : (bytes : Option (List ℕ))
-        → let reports = option_map_or (reports_on strict piece.offset) bytes (too_long_report piece ∷ []) in
-        IfSome bytes (λ text. AreReports strict piece.offset text 0 reports)
-        × IfNone bytes (reports ≡ too_long_report piece ∷ [])
-    by_bytes None = (tt, refl)
-    by_bytes (Some text) = (are_reports strict piece.offset text, tt)
+    by_test : (b : Bool) → MatchBool b (AreReports strict piece.offset piece.bytes 0
+        (if b then reports_on strict piece.offset piece.bytes else too_long_report piece ∷ []))
+        ((if b then reports_on strict piece.offset piece.bytes else too_long_report piece ∷ [])
+        ≡ too_long_report piece ∷ [])
+    by_test true = are_reports strict piece.offset piece.bytes
+    by_test false = refl
 
 only_reports_in : (strict : Bool) (piece : Piece) (reports : List Report) → AreReportsIn strict piece reports
     → reports ≡ reports_in strict piece
-only_reports_in strict piece reports h = by_bytes piece.bytes h.0 h.1
+only_reports_in strict piece reports h = by_test (nat_le (length piece.bytes) PIECE_LEN) h
   where
-    by_bytes : (bytes : Option (List ℕ)) → IfSome bytes (λ text. AreReports strict piece.offset text 0 reports)
-        → IfNone bytes (reports ≡ too_long_report piece ∷ [])
-        → reports ≡ option_map_or (reports_on strict piece.offset) bytes (too_long_report piece ∷ [])
-    by_bytes None h k = k
-    by_bytes (Some text) h k = only_reports strict piece.offset text reports h
+    by_test : (b : Bool) → MatchBool b (AreReports strict piece.offset piece.bytes 0 reports)
+        (reports ≡ too_long_report piece ∷ [])
+        → reports ≡ (if b then reports_on strict piece.offset piece.bytes else too_long_report piece ∷ [])
+    by_test true h = only_reports strict piece.offset piece.bytes reports h
+    by_test false h = h
 
 pub are_collection_reports : (strict ended : Bool) (text : List ℕ)
     → AreCollectionReports strict ended text (collection_reports strict ended text)

@@ -1,6 +1,7 @@
 -- The reports on the games of a text and of pieces, their lines and their counts.
-use Rattle.std.specs.Prelude.{◌≡◌, ℕ, ◌+◌, ◌==◌, Bool, true, false, not, if◌then◌else◌, List, [], ◌∷◌, ◌++◌, length, drop, codes, decimal, is_some, Option, IfSome, IfNone, Some, None, Ok, Err}
+use Rattle.std.specs.Prelude.{◌≡◌, ℕ, ◌+◌, ◌==◌, nat_le, Bool, not, if◌then◌else◌, List, [], ◌∷◌, ◌++◌, length, drop, codes, decimal, is_some, Option, Some, None, Ok, Err}
 use Rattle.std.specs.List.{count_by, sum_by}
+use Rattle.std.specs.Bool.{MatchBool}
 use Rattle.std.specs.Option.{option_map, unwrap_or}
 use Rattle.chess_base.specs.Letters.{new_line}
 use Rattle.chess_game.specs.Game.{State, verdict_now}
@@ -11,6 +12,7 @@ use Rattle.chess_pgn.specs.declared.read.PgnFaultKind.TheVariants.{TooLong}
 use Rattle.chess_pgn.specs.declared.termination.Termination.{Termination}
 use Rattle.chess_pgn.specs.Terminations.{termination_text}
 use Rattle.pgn_pieces.specs.Pieces.{Piece}
+use Rattle.pgn_pieces.specs.declared.pieces.TheConstants.{PIECE_LEN}
 use Rattle.pgn_verifier.specs.Explanations.{IsReason, shown, part_offset, explanation, optional_part, explanation_line}
 use Rattle.pgn_verifier.specs.GameFaults.{IsJudged, fault_name}
 use Rattle.pgn_verifier.specs.declared.game_fault.FaultKind.TheVariants.{Pgn}
@@ -57,14 +59,14 @@ pub data AreReports (strict : Bool) (start : ℕ) (text : List ℕ) : ℕ → Li
 -- more than 20,000 half-moves has the same kind of fault, but at its 20,001st half-move
 abbrev pub too_long_report : Piece → Report
 too_long_report piece =
-    Faulty (record { kind = Pgn TooLong; offset = piece.offset }) piece.offset (shown piece.beginning)
+    Faulty (record { kind = Pgn TooLong; offset = piece.offset }) piece.offset (shown piece.bytes)
 
 -- these are the reports on a piece, whose bytes are read as a text of its own: on its games in order, up to the first
--- with a fault; or, if it is too long (its bytes are `None`), one report on the piece. `strict`: an outcome mark that
--- contradicts the tag Result or the board's verdict is a fault
+-- with a fault; or, if it is too long (it has more than 16,777,216 bytes), one report on the piece. `strict`: an outcome
+-- mark that contradicts the tag Result or the board's verdict is a fault
 abbrev pub AreReportsIn : Bool → Piece → List Report → Type 0
-AreReportsIn strict piece reports = IfSome piece.bytes (λ text. AreReports strict piece.offset text 0 reports)
-    × IfNone piece.bytes (reports ≡ too_long_report piece ∷ [])
+AreReportsIn strict piece reports = MatchBool (nat_le (length piece.bytes) PIECE_LEN)
+    (AreReports strict piece.offset piece.bytes 0 reports) (reports ≡ too_long_report piece ∷ [])
 
 -- ---- their lines
 

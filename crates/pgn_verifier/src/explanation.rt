@@ -1,7 +1,7 @@
 //! The lines on a fault: its own, and the one that explains it.
 
-ghost use Rattle.std.specs.Prelude.{◌≡◌, ◌≤◌, ◌<◌, ◌+◌, ◌^◌, ◌++◌, ◌∷◌, [], true, if◌then◌else◌, List, ℕ, length, take, drop, decimal, codes, Some, None};
-ghost use Rattle.std.specs.List.{count_by};
+ghost use Rattle.std.specs.Prelude.{◌≡◌, ◌≤◌, ◌<◌, ◌+◌, ◌^◌, ◌++◌, ◌∷◌, [], true, not, if◌then◌else◌, List, ℕ, length, take, drop, decimal, codes, Some, None};
+ghost use Rattle.std.specs.List.{count_by, suffix_len};
 ghost use Rattle.std.specs.Option.{option_map};
 ghost use Rattle.arrayvec.specs.ArrayVec.{array_vec_len};
 ghost use Rattle.chess_base.specs.Letters.{new_line};
@@ -9,7 +9,7 @@ ghost use Rattle.chess_fen.specs.Writing.{fen};
 ghost use Rattle.chess_game.specs.Ends.{verdict_result};
 ghost use Rattle.chess_game.specs.Game.{current, verdict_now};
 ghost use Rattle.chess_pgn.specs.declared.read.PgnFaultKind.TheVariants.{TooLong};
-ghost use Rattle.pgn_pieces.specs.Places.{line_ends, last_line_len, line_of, column_of};
+ghost use Rattle.pgn_pieces.specs.Places.{ends_line, line_ends, line_of, column_of};
 ghost use Rattle.pgn_verifier.specs.Explanations.{part_offset, shown_part, has_position, optional_part, explanation_line, shown};
 ghost use Rattle.chess_game.specs.Results.{outcome_text};
 ghost use Rattle.pgn_verifier.specs.Reports.{fault_line};
@@ -56,7 +56,7 @@ fn fault_line(number: usize, fault: GameFault) -> FaultLines
 
 // How many bytes a text has after its last line end.
 fn last_line_len(text: &[u8]) -> usize
-    ensures value { result ≡ last_line_len text.now }
+    ensures value { result ≡ suffix_len (λ c. not (ends_line c)) text.now }
     ensures within { result ≤ length text.now }
 {
     text.iter().rev().take_while(|byte| **byte != b'\n').count()
@@ -72,7 +72,7 @@ fn line_after(start: usize, before: &[u8]) -> usize
 
 // The column of the byte after these, which begin where a line begins.
 fn column_after(before: &[u8]) -> usize
-    ensures { result ≡ last_line_len before.now + 1 }
+    ensures { result ≡ suffix_len (λ c. not (ends_line c)) before.now + 1 }
 {
     last_line_len(before) + 1
 }

@@ -1,10 +1,15 @@
 -- What becomes of verifying on the way: of a text that is read as a whole, and of pieces before their counts are
 -- written.
-use Rattle.std.specs.Prelude.{◌≡◌, ◌<◌, ℕ, true, false, List, length, take, drop, Some, Result, Ok, Err, ◌≤◌, ◌+◌, Bool}
+use Rattle.std.specs.Prelude.{◌≡◌, ◌<◌, ℕ, true, false, List, [], ◌∷◌, length, take, drop, Some, Result, Ok, Err, ◌≤◌, ◌+◌, Bool}
 use Rattle.std.specs.List.{flat_map, fold}
+use Rattle.std.specs.Option.{option_map_or}
+use Rattle.chess_pgn.specs.declared.read.PgnFaultKind.TheVariants.{TooLong}
+use Rattle.pgn_verifier.specs.Explanations.{shown}
+use Rattle.pgn_verifier.specs.declared.game_fault.FaultKind.TheVariants.{Pgn}
 use Rattle.byte_devices.specs.Devices.{InputState, OutputState, Took, Sent, CutShort}
 use Rattle.byte_devices.specs.Transfers.{Ran}
-use Rattle.pgn_pieces.specs.Pieces.{Piece, HasRead, GaveThenFailed}
+use Rattle.pgn_pieces.specs.Pieces.{HasRead, GaveThenFailed}
+use Rattle.pgn_pieces.specs.Stream.{PieceSeen}
 use Rattle.pgn_pieces.specs.Places.{line_of, column_of}
 use Rattle.pgn_pieces.specs.declared.pieces.TheConstants.{PIECE_LEN}
 use Rattle.pgn_verifier.specs.declared.fault.VerifyFault.{VerifyFault}
@@ -15,7 +20,7 @@ use Rattle.pgn_verifier.specs.declared.tally.Tally.{Tally}
 use Rattle.pgn_verifier.specs.declared.tally.Verified.{Verified}
 use Rattle.pgn_verifier.specs.Reports.{Report, Game, Faulty, counts_of, verified, report_lines}
 use Rattle.pgn_verifier.specs.Collection.{collection_text, VerifiesCollection}
-use Rattle.pgn_verifier.specs.laws.Reported.{reports_on, reports_in, collection_reports}
+use Rattle.pgn_verifier.specs.laws.Reported.{reports_on, collection_reports}
 use Rattle.pgn_verifier.specs.declared.start.TextStart.{TextStart}
 
 -- between the input's states `r` and `r'` all that was left of the input was read: this text, which has at most
@@ -66,9 +71,18 @@ WritesCollection options r r' w w' (Err fault) = Ran (VerifiesCollection options
 abbrev pub moved : ℕ → GameFault → GameFault
 moved start fault = record fault { offset = start + fault.offset }
 
+-- the report on a piece that is too long, from what is seen of it
+abbrev pub too_long_seen : PieceSeen → Report
+too_long_seen piece =
+    Faulty (record { kind = Pgn TooLong; offset = piece.offset }) piece.offset (shown piece.beginning)
+
+-- the reports on the games of a piece (`reports_in`), from what is seen of it; `strict`: results are compared
+abbrev pub reports_seen : Bool → PieceSeen → List Report
+reports_seen strict piece = option_map_or (reports_on strict piece.offset) piece.bytes (too_long_seen piece ∷ [])
+
 -- the reports on the games of these pieces, in order; `strict`: results are compared
-abbrev pub reports_of : Bool → List Piece → List Report
-reports_of strict pieces = flat_map (reports_in strict) pieces
+abbrev pub reports_of : Bool → List PieceSeen → List Report
+reports_of strict pieces = flat_map (reports_seen strict) pieces
 
 -- the counts `t` with one more report: it adds a game and its half-moves, or a fault
 abbrev pub with_report : Tally → Report → Tally
@@ -104,13 +118,13 @@ abbrev pub StandsIf : Bool → TextStart → List ℕ → List ℕ → Type 0
 StandsIf explain start input text = explain ≡ true → StandsAt start input text
 
 -- the piece is in the input at its offset, at the beginning of the line with this number
-pub record PieceStandsAt (number : ℕ) (input : List ℕ) (piece : Piece) : Type 0 where
+pub record PieceStandsAt (number : ℕ) (input : List ℕ) (piece : PieceSeen) : Type 0 where
   pub bytes : (text : List ℕ) → piece.bytes ≡ Some text → take (length text) (drop piece.offset input) ≡ text
   pub line : line_of input piece.offset ≡ number
   pub column : column_of input piece.offset ≡ 1
 
 -- the piece is there, if faults are explained
-abbrev pub PieceStandsIf : Bool → ℕ → List ℕ → Piece → Type 0
+abbrev pub PieceStandsIf : Bool → ℕ → List ℕ → PieceSeen → Type 0
 PieceStandsIf explain number input piece = explain ≡ true → PieceStandsAt number input piece
 
 -- a text of `len` bytes adds at most as many half-moves to the counts, and at most one report more than it has bytes
