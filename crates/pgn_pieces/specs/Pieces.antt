@@ -28,10 +28,6 @@ front_of line = without_mark (take 256 line)
 abbrev pub is_blank : ℕ → Bool
 is_blank c = (c == 32) || (c == 9)
 
--- whether a byte is a space, a tab, `\r` or `\n`
-abbrev pub is_white : ℕ → Bool
-is_white c = is_blank c || (c == 13) || ends_line c
-
 -- the name of the tag with which the front of a line begins: the letters, digits and underscores after its first byte,
 -- which is to be `[` but is not tested here
 abbrev pub tag_name : List ℕ → List ℕ
@@ -53,7 +49,7 @@ is_event_line line = is_tag_line line && bytes_eq (tag_name (front_of line)) (co
 -- whether a line counts as empty: its front has nothing but spaces, tabs, `\r` and `\n`, or begins with `%` or `;`
 abbrev pub is_empty_line : List ℕ → Bool
 is_empty_line line = bytes_eq (take 1 (front_of line)) (codes "%") || bytes_eq (take 1 (front_of line)) (codes ";")
-    || list_all is_white (front_of line)
+    || list_all (λ c. is_blank c || (c == 13) || ends_line c) (front_of line)
 
 -- whether a line counts as one of moves: any line that is neither a tag line nor empty. So does a tag that `is_tag_line`
 -- does not take, and a line inside a `{` comment, unless that line is empty or looks like a tag line

@@ -12,7 +12,7 @@ line_ends text = count_by ends_line text
 
 -- the line of the byte at this offset of a text: one more than the number of line ends before it
 abbrev pub line_of : List ℕ → ℕ → ℕ
-line_of text offset = line_ends (take offset text) + 1
+line_of text offset = count_by ends_line (take offset text) + 1
 
 -- the column of the byte at this offset of a text: one more than the number of bytes between it and the last line end
 -- before it, or the text's beginning

@@ -20,7 +20,8 @@ use Rattle.pgn_pieces.specs.Pieces.{Piece, pieces}
 use Rattle.pgn_pieces.specs.declared.pieces.TheConstants.{PIECE_LEN}
 use Rattle.pgn_verifier.specs.Collection.{AreCollectionReports}
 use Rattle.pgn_verifier.specs.Explanations.{IsReason, part_offset, explanation}
-use Rattle.pgn_verifier.specs.GameFaults.{contradiction, judged, IsJudged}
+use Rattle.pgn_verifier.specs.GameFaults.{judged, IsJudged}
+use Rattle.pgn_verifier.specs.ties.OnTheWay.{contradiction}
 use Rattle.pgn_verifier.specs.Reports.{Report, Game, Faulty, AreReports, none_left, next_game, last_fault, too_long_report, AreReportsIn}
 use Rattle.pgn_verifier.specs.declared.game_fault.GameFault.{GameFault}
 use Rattle.pgn_verifier.specs.laws.Reasons.{reason, explanation_of}

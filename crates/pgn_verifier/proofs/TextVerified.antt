@@ -8,10 +8,10 @@ use Rattle.pgn_verifier.specs.declared.game_fault.GameFault.{GameFault}
 use Rattle.pgn_verifier.specs.declared.options.VerifyOptions.{VerifyOptions}
 use Rattle.pgn_verifier.specs.declared.tally.Tally.{Tally}
 use Rattle.pgn_verifier.specs.Explanations.{part_offset}
-use Rattle.pgn_verifier.specs.Reports.{Report, Game, Faulty, game_line, written_line, report_lines}
+use Rattle.pgn_verifier.specs.Reports.{Report, Game, Faulty, written_line, report_lines}
 use Rattle.pgn_verifier.specs.laws.Reasons.{explanation_of}
 use Rattle.pgn_verifier.specs.laws.Reported.{read_at, judged_at, report_then, reports_from, reports_on}
-use Rattle.pgn_verifier.specs.ties.OnTheWay.{with_report, next_number, Writes, GrowsBy, moved, counted}
+use Rattle.pgn_verifier.specs.ties.OnTheWay.{game_line, with_report, next_number, Writes, GrowsBy, moved, counted}
 use Rattle.pgn_verifier.proofs.LinesWritten.{wrote_none, took_after, broke_after, writes_after, one_line, first_broke, counted_after}
 
 -- ---- the reports that are left

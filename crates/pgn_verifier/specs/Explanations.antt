@@ -1,6 +1,7 @@
 -- What explains a fault: where it is, the text there, the position and the reason.
-use Rattle.std.specs.Prelude.{◌≡◌, ℕ, ◌+◌, ◌==◌, nat_le, ◌&&◌, Bool, true, false, not, if◌then◌else◌, List, [], ◌∷◌, ◌++◌, length, take, take_while, drop, map, codes, decimal, Option, Some, None}
-use Rattle.std.specs.Option.{option_map, option_map_or}
+use Rattle.std.specs.Prelude.{◌≡◌, ℕ, ◌+◌, ◌-◌, ◌==◌, nat_le, ◌&&◌, Bool, true, false, not, if◌then◌else◌, List, [], ◌∷◌, ◌++◌, length, take, take_while, drop, map, codes, decimal, Option, Some, None}
+use Rattle.std.specs.Option.{option_map}
+use Rattle.chess_base.specs.Coordinates.{optional}
 use Rattle.chess_base.specs.Faults.{fen_fault_name}
 use Rattle.chess_base.specs.Letters.{byte, new_line}
 use Rattle.chess_fen.specs.Writing.{fen}
@@ -13,7 +14,7 @@ use Rattle.chess_pgn.specs.declared.read.PgnFaultKind.TheVariants.{BadTag, BadFe
 use Rattle.pgn_pieces.specs.Places.{line_of, column_of}
 use Rattle.pgn_verifier.specs.declared.game_fault.FaultKind.{FaultKind}
 use Rattle.pgn_verifier.specs.declared.game_fault.FaultKind.TheVariants.{Pgn, ResultDiffers, BoardSaysOtherwise}
-use Rattle.pgn_verifier.specs.WrongParts.{fen_text, wrong_field, field_offset, IsTagReason, token_reason}
+use Rattle.pgn_verifier.specs.WrongParts.{fen_text, from_field, field_at, field_number, IsTagReason, token_reason}
 
 -- ---- the text at a fault
 
@@ -35,13 +36,15 @@ shown text = shown_word (take_while (λ c. not (is_white_space c)) (take 40 text
 -- how many bytes after the fault's byte the wrong part begins; `text` is the text from the fault's byte on. For a bad
 -- FEN the wrong part is the field that is shown for its fault; for any other fault it begins at the fault's byte
 abbrev pub part_offset : FaultKind → List ℕ → ℕ
-part_offset (Pgn (BadFen fault)) text = field_offset fault (fen_text text)
+part_offset (Pgn (BadFen fault)) text =
+    let all = fen_text text in length all - length (from_field (field_number fault all) all)
 part_offset _ text = 0
 
 -- what an explanation shows of the wrong part; `text` is the text from the fault's byte on. For a bad FEN it is the
 -- field that is shown for its fault, but at most 80 bytes of it; for any other fault the first word of `text`
 abbrev pub shown_part : FaultKind → List ℕ → List ℕ
-shown_part (Pgn (BadFen fault)) text = shown_word (take 80 (wrong_field fault (fen_text text)))
+shown_part (Pgn (BadFen fault)) text =
+    let all = fen_text text in shown_word (take 80 (field_at (field_number fault all) all))
 shown_part _ text = shown text
 
 -- ---- the reason
@@ -72,18 +75,13 @@ has_position (Pgn BadTag) = false
 has_position (Pgn (BadFen fault)) = false
 has_position _ = true
 
--- a part of a line that may be missing: `before`, which separates it from the part before it, and then this text; empty
--- without a text (`None`)
-abbrev pub optional_part : List ℕ → Option (List ℕ) → List ℕ
-optional_part before text = option_map_or (λ t. before ++ t) text []
-
 -- the text that explains a fault of this kind, with this reason, if any: the wrong part as it is shown, and then, if it
 -- is shown, the FEN of the position in which reading stopped, and the reason, such as `Ke3 | ` and a FEN. `s` is the
 -- game as far as it was read, and `text` is the text from the fault's byte on
 abbrev pub explanation : State → List ℕ → FaultKind → Option (List ℕ) → List ℕ
 explanation s text kind reason = shown_part kind text
-    ++ (optional_part (codes " | ") (if has_position kind then Some (fen (current s)) else None)
-    ++ optional_part (codes " | ") reason)
+    ++ ((if has_position kind then codes " | " ++ fen (current s) else [])
+    ++ optional (λ text. codes " | " ++ text) reason)
 
 -- the line that explains a fault, such as `# line 2 column 4 ` and the text that explains it (`explanation`). The line
 -- and the column are those of the wrong part, which begins at the offset `begin` of the input; both are counted from 1

@@ -2,7 +2,8 @@
 use Rattle.std.specs.Prelude.{◌≡◌, ℕ, ◌+◌, ◌==◌, nat_le, Bool, not, if◌then◌else◌, List, [], ◌∷◌, ◌++◌, length, drop, codes, decimal, is_some, Option, Some, None, Ok, Err}
 use Rattle.std.specs.List.{count_by, sum_by}
 use Rattle.std.specs.Bool.{MatchBool}
-use Rattle.std.specs.Option.{option_map, unwrap_or}
+use Rattle.std.specs.Option.{unwrap_or}
+use Rattle.chess_base.specs.Coordinates.{optional}
 use Rattle.chess_base.specs.Letters.{new_line}
 use Rattle.chess_game.specs.Game.{State, verdict_now}
 use Rattle.chess_game.specs.Results.{outcome_text}
@@ -13,7 +14,7 @@ use Rattle.chess_pgn.specs.declared.termination.Termination.{Termination}
 use Rattle.chess_pgn.specs.Terminations.{termination_text}
 use Rattle.pgn_pieces.specs.Pieces.{Piece}
 use Rattle.pgn_pieces.specs.declared.pieces.TheConstants.{PIECE_LEN}
-use Rattle.pgn_verifier.specs.Explanations.{IsReason, shown, part_offset, explanation, optional_part, explanation_line}
+use Rattle.pgn_verifier.specs.Explanations.{IsReason, shown, part_offset, explanation, explanation_line}
 use Rattle.pgn_verifier.specs.GameFaults.{IsJudged, fault_name}
 use Rattle.pgn_verifier.specs.declared.game_fault.FaultKind.TheVariants.{Pgn}
 use Rattle.pgn_verifier.specs.declared.game_fault.GameFault.{GameFault}
@@ -70,25 +71,20 @@ AreReportsIn strict piece reports = MatchBool (nat_le (length piece.bytes) PIECE
 
 -- ---- their lines
 
--- the line of a game without a fault, such as `game 3: 4 half-moves, 0-1, time forfeit`; `number` is the game's number,
--- `plies` how many half-moves it has. The last part is what the game's last tag Termination names, if anything
-unfoldable pub game_line : ℕ → ℕ → Outcome → Option Termination → List ℕ
-game_line number plies outcome termination =
-    codes "game " ++ (decimal number ++ (codes ": " ++ (decimal plies ++ (codes " half-moves, " ++ (outcome_text outcome
-    ++ (optional_part (codes ", ") (option_map termination_text termination) ++ new_line ∷ []))))))
+-- the line of the report with this number, which says this text, such as `game 2: illegal move at byte 39`
+unfoldable pub report_line : ℕ → List ℕ → List ℕ
+report_line number text = codes "game " ++ (decimal number ++ (codes ": " ++ (text ++ new_line ∷ [])))
 
--- the line of a fault, such as `game 2: illegal move at byte 39`; `number` is the game's number
-unfoldable pub fault_line : ℕ → GameFault → List ℕ
-fault_line number fault = codes "game "
-    ++ (decimal number ++ (codes ": " ++ (fault_name fault.kind ++ (codes " at byte "
-    ++ (decimal fault.offset ++ new_line ∷ [])))))
-
--- what is written of a report: a game's line, unless `options.quiet` leaves it out; or a fault's line, and with
--- `options.explain` the line that explains it. `input` is what was read of the input, `number` the report's number
+-- what is written of a report; `input` is what was read of the input, `number` the report's number
 abbrev pub written_line : VerifyOptions → List ℕ → ℕ → Report → List ℕ
+-- a game's line, such as `game 3: 4 half-moves, 0-1, time forfeit`, unless `options.quiet` leaves it out. The last part
+-- is what the game's last tag Termination names, if anything
 written_line options input number (Game plies outcome termination) =
-    if options.quiet then [] else game_line number plies outcome termination
-written_line options input number (Faulty fault wrong_at explanation) = fault_line number fault
+    if options.quiet then [] else report_line number (decimal plies ++ (codes " half-moves, "
+    ++ (outcome_text outcome ++ optional (λ t. codes ", " ++ termination_text t) termination)))
+-- a fault's line, such as `game 2: illegal move at byte 39`, and with `options.explain` the line that explains it
+written_line options input number (Faulty fault wrong_at explanation) =
+    report_line number (fault_name fault.kind ++ (codes " at byte " ++ decimal fault.offset))
     ++ (if options.explain then explanation_line input wrong_at explanation else [])
 
 -- the lines of these reports, which are numbered from `number` on; a report whose line `quiet` leaves out has a number

@@ -15,19 +15,16 @@ use Rattle.chess_pgn.specs.Tokens.{is_word_byte}
 abbrev pub fen_text : List ℕ → List ℕ
 fen_text text = take_while (λ c. not (c == byte "\"")) text
 
--- the text after the spaces at its front
-abbrev pub after_spaces : List ℕ → List ℕ
-after_spaces text = drop (prefix_len (λ c. c == space) text) text
-
--- the text from its first space on; empty if it has none
-abbrev pub from_space : List ℕ → List ℕ
-from_space text = drop (prefix_len (λ c. not (c == space)) text) text
+-- a text without the bytes at its front that pass the test
+abbrev pub drop_while : (ℕ → Bool) → List ℕ → List ℕ
+drop_while test text = drop (prefix_len test text) text
 
 -- a FEN from its field with this number on, 0 for the first; one or more spaces separate fields. Empty if the FEN has
 -- fewer fields
 unfoldable pub from_field : ℕ → List ℕ → List ℕ
-from_field zero fen = after_spaces fen
-from_field (suc number) fen = from_field number (from_space (after_spaces fen))
+from_field zero fen = drop_while (λ c. c == space) fen
+from_field (suc number) fen =
+    from_field number (drop_while (λ c. not (c == space)) (drop_while (λ c. c == space) fen))
 
 -- the field with this number: its bytes, up to the next space or the FEN's end. Of a FEN with fewer fields it is the
 -- empty text at the end
@@ -43,14 +40,6 @@ field_number Castling fen = 2
 field_number EnPassant fen = 3
 field_number Counters fen = if is_some (short_number 6 (field_at 4 fen)) then 5 else 4
 field_number _ fen = 0
-
--- the field that is shown for a FEN's fault
-abbrev pub wrong_field : FenFault → List ℕ → List ℕ
-wrong_field fault fen = field_at (field_number fault fen) fen
-
--- how many bytes a FEN has before the field that is shown for its fault
-abbrev pub field_offset : FenFault → List ℕ → ℕ
-field_offset fault fen = length fen - length (from_field (field_number fault fen) fen)
 
 -- ---- tags
 

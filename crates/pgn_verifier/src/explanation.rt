@@ -4,18 +4,18 @@ ghost use Rattle.std.specs.Prelude.{◌≡◌, ◌≤◌, ◌<◌, ◌+◌, ◌^
 ghost use Rattle.std.specs.List.{count_by, suffix_len};
 ghost use Rattle.std.specs.Option.{option_map};
 ghost use Rattle.arrayvec.specs.ArrayVec.{array_vec_len};
+ghost use Rattle.chess_base.specs.Coordinates.{optional};
 ghost use Rattle.chess_base.specs.Letters.{new_line};
 ghost use Rattle.chess_fen.specs.Writing.{fen};
 ghost use Rattle.chess_game.specs.Ends.{verdict_result};
 ghost use Rattle.chess_game.specs.Game.{current, verdict_now};
 ghost use Rattle.chess_pgn.specs.declared.read.PgnFaultKind.TheVariants.{TooLong};
 ghost use Rattle.pgn_pieces.specs.Places.{ends_line, line_ends, line_of, column_of};
-ghost use Rattle.pgn_verifier.specs.Explanations.{part_offset, shown_part, has_position, optional_part, explanation_line, shown};
+ghost use Rattle.pgn_verifier.specs.Explanations.{part_offset, shown_part, has_position, explanation_line, shown};
 ghost use Rattle.chess_game.specs.Results.{outcome_text};
-ghost use Rattle.pgn_verifier.specs.Reports.{fault_line};
 ghost use Rattle.pgn_verifier.specs.declared.game_fault.FaultKind.TheVariants.{Pgn};
 ghost use Rattle.pgn_verifier.specs.laws.Reasons.{reason, explanation_of};
-ghost use Rattle.pgn_verifier.specs.ties.OnTheWay.{StandsIf, moved};
+ghost use Rattle.pgn_verifier.specs.ties.OnTheWay.{StandsIf, moved, fault_line};
 ghost use Rattle.pgn_verifier.specs.declared.explanation.TheConstants.{FAULT_LINES_LEN};
 
 use crate::fen_field::{fen_text, field_offset, wrong_field};
@@ -38,7 +38,7 @@ const FAULT_LINES_LEN: usize = 420;
 pub(crate) type FaultLines = ArrayVec<u8, FAULT_LINES_LEN>;
 
 // The line of a fault, such as `game 2: illegal move at byte 39`; `number` is the game's number.
-#[tactic(auto, unfolding(crate::specs::Reports::fault_line))]
+#[tactic(auto, unfolding(crate::specs::Reports::report_line))]
 fn fault_line(number: usize, fault: GameFault) -> FaultLines
     ensures text { result.items ≡ fault_line number fault }
     ensures len { array_vec_len result ≤ 100 }
@@ -104,7 +104,7 @@ fn shown_part(kind: FaultKind, text: &[u8]) -> Shown
 // Appends ` | ` and the board's verdict, such as `0-1 {Black mates}`; nothing without one.
 fn append_verdict(lines: &mut FaultLines, verdict: Option<Verdict>)
     requires { array_vec_len lines.old + 80 ≤ FAULT_LINES_LEN }
-    ensures text { lines.new.items ≡ lines.old.items ++ optional_part (codes " | ") (option_map verdict_result verdict) }
+    ensures text { lines.new.items ≡ lines.old.items ++ optional (λ text. codes " | " ++ text) (option_map verdict_result verdict) }
     ensures len { array_vec_len lines.new ≤ array_vec_len lines.old + 80 }
 {
     if let Some(verdict) = verdict {
@@ -120,7 +120,7 @@ fn append_verdict(lines: &mut FaultLines, verdict: Option<Verdict>)
 fn append_part(lines: &mut FaultLines, reason: &[u8])
     requires room { array_vec_len lines.old + 80 ≤ FAULT_LINES_LEN }
     requires short { length reason.now ≤ 77 }
-    ensures text { lines.new.items ≡ lines.old.items ++ optional_part (codes " | ") (Some reason.now) }
+    ensures text { lines.new.items ≡ lines.old.items ++ optional (λ text. codes " | " ++ text) (Some reason.now) }
     ensures len { array_vec_len lines.new ≤ array_vec_len lines.old + 80 }
 {
     append(lines, b" | ");
@@ -136,7 +136,7 @@ fn append_pgn_reason(
     verdict: Option<Verdict>,
 )
     requires { array_vec_len lines.old + 80 ≤ FAULT_LINES_LEN }
-    ensures text { lines.new.items ≡ lines.old.items ++ optional_part (codes " | ") (reason (Pgn kind) text.now verdict) }
+    ensures text { lines.new.items ≡ lines.old.items ++ optional (λ text. codes " | " ++ text) (reason (Pgn kind) text.now verdict) }
     ensures len { array_vec_len lines.new ≤ array_vec_len lines.old + 80 }
 {
     match kind {
@@ -165,7 +165,7 @@ fn append_results(lines: &mut FaultLines, tag: &[u8], outcome: Outcome)
 // Appends ` | ` and the reason for a fault; nothing if there is none. `text` is the text from its byte on.
 fn append_reason(lines: &mut FaultLines, kind: FaultKind, text: &[u8], verdict: Option<Verdict>)
     requires { array_vec_len lines.old + 80 ≤ FAULT_LINES_LEN }
-    ensures text { lines.new.items ≡ lines.old.items ++ optional_part (codes " | ") (reason kind text.now verdict) }
+    ensures text { lines.new.items ≡ lines.old.items ++ optional (λ text. codes " | " ++ text) (reason kind text.now verdict) }
     ensures len { array_vec_len lines.new ≤ array_vec_len lines.old + 80 }
 {
     match kind {
@@ -191,7 +191,7 @@ fn has_position(kind: FaultKind) -> bool
 fn append_position<B: Board>(lines: &mut FaultLines, kind: FaultKind, game: &Game<B>)
     requires { array_vec_len lines.old + 98 ≤ FAULT_LINES_LEN }
     ensures text { lines.new.items ≡ lines.old.items
-        ++ optional_part (codes " | ") (if has_position kind then Some (fen (current game.now.state)) else None) }
+        ++ (if has_position kind then codes " | " ++ fen (current game.now.state) else []) }
     ensures len { array_vec_len lines.new ≤ array_vec_len lines.old + 98 }
 {
     if has_position(kind) {

@@ -4,9 +4,8 @@ use Rattle.std.specs.Prelude.{if◌then◌else◌}
 use Rattle.std.proofs.Math.Path.{ap₂}
 use Rattle.pgn_pieces.specs.Places.{line_of, column_of}
 use Rattle.pgn_verifier.specs.Explanations.{part_offset, explanation_line}
-use Rattle.pgn_verifier.specs.Reports.{fault_line}
 use Rattle.pgn_verifier.specs.laws.Reasons.{explanation_of}
-use Rattle.pgn_verifier.specs.ties.OnTheWay.{moved}
+use Rattle.pgn_verifier.specs.ties.OnTheWay.{moved, fault_line}
 use Rattle.pgn_verifier.proofs.Placed.{line_there, column_there, rest_is}
 use Rattle.pgn_verifier.proofs.explanation.fault_lines.Goals as goal
 

@@ -6,10 +6,10 @@ use Rattle.byte_devices.specs.Devices.{Took, CutShort}
 use Rattle.byte_devices.specs.declared.traits.WriteFault.{WriteFault}
 use Rattle.pgn_verifier.specs.declared.tally.Tally.{Tally}
 use Rattle.pgn_verifier.specs.Explanations.{part_offset, explanation_line}
-use Rattle.pgn_verifier.specs.Reports.{Game, game_line, fault_line}
+use Rattle.pgn_verifier.specs.Reports.{Game}
 use Rattle.pgn_verifier.specs.laws.Reasons.{explanation_of}
 use Rattle.pgn_verifier.specs.laws.Reported.{reports_on}
-use Rattle.pgn_verifier.specs.ties.OnTheWay.{Writes, moved}
+use Rattle.pgn_verifier.specs.ties.OnTheWay.{Writes, moved, game_line, fault_line}
 use Rattle.pgn_verifier.proofs.TextVerified.{SoFar, begun, all_written, game_written, game_broke, fault_written, fault_broke}
 use Rattle.std.proofs.lemmas.Result.{err_from_is_err_and}
 use Rattle.pgn_verifier.proofs.games.verify_text.Goals as goal
