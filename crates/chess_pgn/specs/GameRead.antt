@@ -101,7 +101,7 @@ left_at_fault (to_end, _) = to_end
 abbrev pub after_row : ℕ → Option Termination → State → ℕ × Token → Row → (State → GameRead) → GameRead
 after_row total termination s t (Goes_on next) later = later next
 after_row total termination s t (Ends o len) later = record {
-  state = with_declared s (declared_after (is_some (verdict_now s)) o);
+  state = record s { declared = declared_after (is_some (verdict_now s)) o };
   answer = Ok (Some (record { outcome = o; termination = termination; offset = total - t.0 + len }));
 }
 after_row total termination s t (Fails kind) later = failed s (record { kind = kind; offset = total - left_at_fault t })

@@ -1,10 +1,10 @@
 -- The lines of a text, and the pieces that they are cut into.
 use Rattle.std.proofs.Common.{◌≡◌, ◌<◌, ℕ, eqb, Bool, true, false, List, [], ◌∷◌, ◌++◌, length, map, reverse, refl, sym, ap, ◌∙◌, append_assoc, append-nil, length-append, arith}
 use Rattle.std.specs.Prelude.{if◌then◌else◌, ◌&&◌, ◌||◌}
-use Rattle.std.specs.List.{onto_first, concat, list_any}
+use Rattle.std.specs.List.{onto_first, concat, list_any, fold}
 use Rattle.std.proofs.lemmas.Bool.{and_parts, or_parts}
 use Rattle.std.proofs.lemmas.List.{reverse-append}
-use Rattle.pgn_pieces.specs.Pieces.{lines_of, begins_piece, is_tag_line, is_event_line, is_moves_line, with_line, pieces_back, cut}
+use Rattle.pgn_pieces.specs.Pieces.{lines_of, begins_piece, is_tag_line, is_event_line, is_moves_line, with_line, cut}
 use Rattle.pgn_pieces.specs.ties.Cutting.{piece_of, cut_lines}
 use Rattle.pgn_pieces.specs.ties.Held.{has_line_end}
 
@@ -111,38 +111,35 @@ tag_some : (line : List ℕ) → is_tag_line line ≡ true → 0 < length (conca
 tag_some [] h = absurd (cc)
 tag_some (c ∷ cs) h = omega arith
 
--- after the lines `back`, of which the last come first, these lines are cut from the first one on
-cut_on : (lines back last : List (List ℕ)) (before : List (List (List ℕ))) → pieces_back back ≡ last ∷ before
-    → 0 < length (concat last) → texts (pieces_back (reverse lines ++ back)) ≡ texts before ++ cut_lines last lines
-cut_on [] back last before e some =
-    ap texts e ∙ reverse-append (concat last ∷ []) (map concat before)
+-- after the pieces `before`, of which the last comes first, and the lines `last`, these lines are cut from the first one on
+cut_on : (lines last : List (List ℕ)) (before : List (List (List ℕ))) → 0 < length (concat last)
+    → texts (fold with_line (last ∷ before) lines) ≡ texts before ++ cut_lines last lines
+cut_on [] last before some =
+    reverse-append (concat last ∷ []) (map concat before)
     ∙ ap (λ ps. texts before ++ ps) (sym (piece_of_some (concat last) some))
-cut_on (line ∷ lines) back last before e some =
-    ap (λ ls. texts (pieces_back (ls ++ back))) (reverse-append (line ∷ []) lines)
-    ∙ ap (λ ls. texts (pieces_back ls)) (append_assoc (reverse lines) (line ∷ []) back)
-    ∙ by_test (begins_piece last line) refl (ap (with_line line) e)
-    (cut_on lines (line ∷ back) (line ∷ []) (last ∷ before)) (cut_on lines (line ∷ back) (last ++ line ∷ []) before)
+cut_on (line ∷ lines) last before some =
+    by_test (begins_piece last line) refl (cut_on lines (line ∷ []) (last ∷ before))
+    (cut_on lines (last ++ line ∷ []) before)
   where
-    all : List (List ℕ)
-    all = texts (pieces_back (reverse lines ++ line ∷ back))
-
     by_test : (b : Bool) → begins_piece last line ≡ b
-        → pieces_back (line ∷ back) ≡ (if b then (line ∷ []) ∷ last ∷ before else (last ++ line ∷ []) ∷ before)
-        → (pieces_back (line ∷ back) ≡ (line ∷ []) ∷ last ∷ before → 0 < length (concat (line ∷ []))
-        → all ≡ texts (last ∷ before) ++ cut_lines (line ∷ []) lines)
-        → (pieces_back (line ∷ back) ≡ (last ++ line ∷ []) ∷ before → 0 < length (concat (last ++ line ∷ []))
-        → all ≡ texts before ++ cut_lines (last ++ line ∷ []) lines)
-        → all ≡ texts before
+        → (0 < length (concat (line ∷ []))
+        → texts (fold with_line ((line ∷ []) ∷ last ∷ before) lines)
+        ≡ texts (last ∷ before) ++ cut_lines (line ∷ []) lines)
+        → (0 < length (concat (last ++ line ∷ []))
+        → texts (fold with_line ((last ++ line ∷ []) ∷ before) lines)
+        ≡ texts before ++ cut_lines (last ++ line ∷ []) lines)
+        → texts (fold with_line (if b then (line ∷ []) ∷ last ∷ before else (last ++ line ∷ []) ∷ before) lines)
+        ≡ texts before
         ++ (if b then concat last ∷ cut_lines (line ∷ []) lines else cut_lines (last ++ line ∷ []) lines)
-    by_test true t is new on =
-        new is (tag_some line
+    by_test true t new on =
+        new (tag_some line
         (and_parts (is_tag_line line)
         (list_any is_moves_line last || (is_event_line line && list_any is_event_line last)) t).0)
         ∙ ap (λ ps. ps ++ cut_lines (line ∷ []) lines) (reverse-append (concat last ∷ []) (map concat before))
         ∙ append_assoc (texts before) (concat last ∷ []) (cut_lines (line ∷ []) lines)
-    by_test false t is new on =
+    by_test false t new on =
         let bytes = ap length (concat_more last line) in
-        let l = length-append (concat last) line in on is (omega (arith, bytes, l, some))
+        let l = length-append (concat last) line in on (omega (arith, bytes, l, some))
 
 -- a text is cut from its first line on
 pub cut_is : (text : List ℕ) → cut text ≡ cut_lines [] (lines_of text)
@@ -150,7 +147,6 @@ cut_is [] = refl
 cut_is (c ∷ cs) =
     let w = some_line c cs in
     let some : 0 < length (concat ((c ∷ w.0) ∷ [])) = omega arith in
-    ap (λ ls. texts (pieces_back (reverse ls))) w.2
-    ∙ ap (λ ls. texts (pieces_back ls)) (reverse-append ((c ∷ w.0) ∷ []) w.1)
-    ∙ cut_on w.1 ((c ∷ w.0) ∷ []) ((c ∷ w.0) ∷ []) [] refl some
+    ap (λ ls. texts (fold with_line [] ls)) w.2
+    ∙ cut_on w.1 ((c ∷ w.0) ∷ []) [] some
     ∙ sym (ap (cut_lines []) w.2 ∙ begun (c ∷ w.0) w.1)

@@ -1,16 +1,17 @@
 -- Each piece of a text is in its place.
-use Rattle.std.proofs.Common.{◌≡◌, ℕ, ◌+◌, ◌-◌, Bool, true, false, List, [], ◌∷◌, ◌++◌, length, take, drop, Some, None, refl, sym, ap, subst, ◌∙◌, append_assoc, append-nil, length-append, arith}
+use Rattle.std.proofs.Common.{◌≡◌, ℕ, ◌+◌, ◌-◌, Bool, true, false, List, [], ◌∷◌, ◌++◌, length, map, take, drop, Some, None, refl, sym, ap, subst, ◌∙◌, append_assoc, append-nil, length-append, arith}
 use Rattle.std.specs.Prelude.{if◌then◌else◌, nat_le, not}
-use Rattle.std.specs.List.{onto_first, concat, sum_by, prefix_len}
+use Rattle.std.specs.List.{onto_first, concat, sum_by, prefix_len, suffix_len}
 use Rattle.std.proofs.lemmas.List.{take-append-drop, reverse-append}
 use Rattle.std.proofs.lemmas.List.Sums.{sum_by_push}
 use Rattle.std.proofs.Math.Path.{ap₂}
 use Rattle.std.proofs.Math.Seq.{take-append_seam, drop-append_seam}
 use Rattle.std.proofs.lemmas.List.Folds.{concat-append}
 use Rattle.pgn_pieces.specs.declared.pieces.TheConstants.{PIECE_LEN}
-use Rattle.pgn_pieces.specs.Pieces.{Piece, lines_of, cut, piece_at, with_offsets, pieces}
+use Rattle.pgn_pieces.specs.Pieces.{Piece, lines_of, cut, with_offsets, pieces}
+use Rattle.pgn_pieces.specs.Stream.{PieceSeen, piece_at}
 use Rattle.pgn_pieces.specs.ties.Cutting.{cut_lines, piece_of}
-use Rattle.pgn_pieces.specs.Places.{ends_line, line_ends, last_line_len}
+use Rattle.pgn_pieces.specs.Places.{ends_line, line_ends}
 use Rattle.pgn_pieces.specs.laws.Places.{IsInPlace, PiecesAreInPlace}
 use Rattle.pgn_pieces.proofs.LineEnds.{count_append}
 use Rattle.pgn_pieces.proofs.CutLines.{concat_more, cut_is}
@@ -45,6 +46,9 @@ cut_is_all text = ap concat (cut_is text) ∙ pieces_are_all [] (lines_of text) 
 
 -- ---- where lines begin
 
+abbrev last_line_len : List ℕ → ℕ
+last_line_len text = suffix_len (λ c. not (ends_line c)) text
+
 -- each of these texts, which follow one another after `front`, begins where a line begins
 abbrev BeginLines : List ℕ → List (List ℕ) → Type 0
 BeginLines front [] = Unit {0}
@@ -69,9 +73,12 @@ begin_front front (x ∷ xs) ys (here, later) = (here, begin_front (front ++ x) 
 
 -- ---- pieces with their offsets
 
+abbrev seen_at : ℕ → List (List ℕ) → List PieceSeen
+seen_at offset texts = map (λ (piece : Piece). piece_at piece.offset piece.bytes) (with_offsets offset texts)
+
 -- the piece with these bytes, after the bytes `front` and the pieces `before`
-placed : (front bytes more : List ℕ) (before : List Piece) → last_line_len front ≡ 0
-    → line_ends front ≡ sum_by (λ (p : Piece). p.line_ends) before
+placed : (front bytes more : List ℕ) (before : List PieceSeen) → last_line_len front ≡ 0
+    → line_ends front ≡ sum_by (λ (p : PieceSeen). p.line_ends) before
     → IsInPlace (front ++ (bytes ++ more)) before (piece_at (length front) bytes)
 placed front bytes more before begin ends = record {
   bytes = λ found e. by_test found (nat_le (length bytes) PIECE_LEN) e;
@@ -88,9 +95,9 @@ placed front bytes more before begin ends = record {
     by_test found false e = absurd (cc)
 
 -- each of the pieces after the bytes `front`, of which the pieces `early` are made
-each_placed : (early : List Piece) (front rest : List ℕ) (texts : List (List ℕ)) (before : List Piece) (piece : Piece)
-    (after : List Piece) → line_ends front ≡ sum_by (λ (p : Piece). p.line_ends) early → BeginLines front texts
-    → with_offsets (length front) texts ≡ before ++ piece ∷ after
+each_placed : (early : List PieceSeen) (front rest : List ℕ) (texts : List (List ℕ)) (before : List PieceSeen) (piece : PieceSeen)
+    (after : List PieceSeen) → line_ends front ≡ sum_by (λ (p : PieceSeen). p.line_ends) early → BeginLines front texts
+    → seen_at (length front) texts ≡ before ++ piece ∷ after
     → IsInPlace (front ++ (concat texts ++ rest)) (early ++ before) piece
 each_placed early front rest [] [] piece after ends begin e = absurd (cc)
 each_placed early front rest [] (p ∷ before) piece after ends begin e = absurd (cc)
@@ -104,19 +111,19 @@ each_placed early front rest (bytes ∷ texts) [] piece after ends (begin, later
     (placed front bytes (concat texts ++ rest) early begin ends)))
 each_placed early front rest (bytes ∷ texts) (p ∷ before) piece after ends (begin, later) e =
     let is : piece_at (length front) bytes ≡ p = cc in
-    let others : with_offsets (length front + length bytes) texts ≡ before ++ piece ∷ after = cc in
+    let others : seen_at (length front + length bytes) texts ≡ before ++ piece ∷ after = cc in
     let on = each_placed (early ++ p ∷ []) (front ++ bytes) rest texts before piece after
-    (count_append front bytes ∙ ap₂ (λ m n. m + n) ends (ap (λ (q : Piece). q.line_ends) is)
-    ∙ sym (sum_by_push (λ (q : Piece). q.line_ends) early p)) later
-    (ap (λ n. with_offsets n texts) (length-append front bytes) ∙ others) in
+    (count_append front bytes ∙ ap₂ (λ m n. m + n) ends (ap (λ (q : PieceSeen). q.line_ends) is)
+    ∙ sym (sum_by_push (λ (q : PieceSeen). q.line_ends) early p)) later
+    (ap (λ n. seen_at n texts) (length-append front bytes) ∙ others) in
     subst (λ l. IsInPlace l (early ++ p ∷ before) piece)
     (append_assoc front bytes (concat texts ++ rest)
     ∙ ap (λ l. front ++ l) (sym (append_assoc bytes (concat texts) rest)))
     (subst (λ ps. IsInPlace ((front ++ bytes) ++ (concat texts ++ rest)) ps piece) (append_assoc early (p ∷ []) before) on)
 
 -- each of the first pieces of a text
-first_placed : (text : List ℕ) (first others : List (List ℕ)) (before : List Piece) (piece : Piece) (after : List Piece)
-    → first ++ others ≡ cut text → with_offsets 0 first ≡ before ++ piece ∷ after → IsInPlace text before piece
+first_placed : (text : List ℕ) (first others : List (List ℕ)) (before : List PieceSeen) (piece : PieceSeen) (after : List PieceSeen)
+    → first ++ others ≡ cut text → seen_at 0 first ≡ before ++ piece ∷ after → IsInPlace text before piece
 first_placed text first others before piece after is e =
     subst (λ l. IsInPlace l before piece) (sym (concat-append first others) ∙ ap concat is ∙ cut_is_all text)
     (each_placed [] [] (concat others) first before piece after refl

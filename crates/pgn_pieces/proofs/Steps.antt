@@ -1,5 +1,5 @@
 -- A call for the next piece: what was looked through, and what it comes to.
-use Rattle.std.proofs.Common.{◌≡◌, ◌≤◌, ◌<◌, ℕ, suc, ◌+◌, ◌-◌, ◌^◌, ◌==◌, nat_lt, Bool, true, false, List, [], ◌∷◌, ◌++◌, length, take, drop, Some, None, Ok, Err, refl, sym, ap, subst, ◌∙◌, append_assoc, append-nil, length-append, arith}
+use Rattle.std.proofs.Common.{◌≡◌, ◌≤◌, ◌<◌, ℕ, suc, ◌+◌, ◌-◌, ◌^◌, ◌==◌, nat_lt, Bool, true, false, List, [], ◌∷◌, ◌++◌, length, map, take, drop, Some, None, Ok, Err, refl, sym, ap, subst, ◌∙◌, append_assoc, append-nil, length-append, arith}
 use Rattle.std.specs.Prelude.{if◌then◌else◌, nat_le}
 use Rattle.std.specs.List.{concat}
 use Rattle.std.proofs.lemmas.Bool.Decides.{nat_tests}
@@ -11,8 +11,8 @@ use Rattle.byte_devices.specs.Devices.{InputState, GavePiece}
 use Rattle.pgn_pieces.specs.declared.piece_end.Seen.{Seen}
 use Rattle.pgn_pieces.specs.declared.pieces.PieceFault.{PieceFault}
 use Rattle.pgn_pieces.specs.declared.pieces.PieceFault.TheVariants.{ReadFailed, NoMemory, InputTooLong}
-use Rattle.pgn_pieces.specs.Pieces.{piece_at, with_offsets, pieces, cut, HasRead, IsCause}
-use Rattle.pgn_pieces.specs.Stream.{State, IsStateOf, Next, MayFollow, past_piece, current, pieces_held}
+use Rattle.pgn_pieces.specs.Pieces.{Piece, with_offsets, pieces, cut, HasRead, IsCause}
+use Rattle.pgn_pieces.specs.Stream.{State, IsStateOf, Next, MayFollow, PieceSeen, piece_at, pieces_seen, past_piece, current, pieces_held}
 use Rattle.pgn_pieces.specs.Places.{line_ends}
 use Rattle.pgn_pieces.specs.ties.Cutting.{piece_of}
 use Rattle.pgn_pieces.specs.ties.Held.{HasSeen, Ends, FindsEnd, SameCounts, IsLike, LetGo, Adds, passed, with_more}
@@ -72,6 +72,9 @@ told_right offset p q (counts, is) = by_test (nat_le (length p) 16777216) refl
 
 -- ---- the pieces of what comes
 
+abbrev seen_at : ℕ → List (List ℕ) → List PieceSeen
+seen_at offset texts = map (λ (piece : Piece). piece_at piece.offset piece.bytes) (with_offsets offset texts)
+
 -- a text with a byte has a piece
 some_pieces : (all : List (List ℕ)) (text : List ℕ) → concat all ≡ text → 0 < length text → 0 < length all
 some_pieces [] text e some = let l = ap length e in omega (arith, l, some)
@@ -85,26 +88,26 @@ but_last x all some =
 
 -- a text whose first piece is known
 first_known : (ended : Bool) (offset : ℕ) (text piece rest : List ℕ) → cut text ≡ piece ∷ cut rest → 0 < length rest
-    → pieces ended offset text ≡ piece_at offset piece ∷ pieces ended (offset + length piece) rest
+    → pieces_seen ended offset text ≡ piece_at offset piece ∷ pieces_seen ended (offset + length piece) rest
 unfolding pieces
-first_known true offset text piece rest e some = ap (with_offsets offset) e
+first_known true offset text piece rest e some = ap (seen_at offset) e
 first_known false offset text piece rest e some =
-    ap (λ all. with_offsets offset (take (length all - 1) all)) e
-    ∙ ap (with_offsets offset) (but_last piece (cut rest) (some_pieces (cut rest) rest (cut_is_all rest) some))
+    ap (λ all. seen_at offset (take (length all - 1) all)) e
+    ∙ ap (seen_at offset) (but_last piece (cut rest) (some_pieces (cut rest) rest (cut_is_all rest) some))
 
 -- a text that is one piece, which may go on
-none_known : (offset : ℕ) (text : List ℕ) → cut text ≡ piece_of text → pieces false offset text ≡ []
+none_known : (offset : ℕ) (text : List ℕ) → cut text ≡ piece_of text → pieces_seen false offset text ≡ []
 unfolding pieces
-none_known offset text e = ap (λ all. with_offsets offset (take (length all - 1) all)) e ∙ none text
+none_known offset text e = ap (λ all. seen_at offset (take (length all - 1) all)) e ∙ none text
   where
-    none : (xs : List ℕ) → with_offsets offset (take (length (piece_of xs) - 1) (piece_of xs)) ≡ []
+    none : (xs : List ℕ) → seen_at offset (take (length (piece_of xs) - 1) (piece_of xs)) ≡ []
     none [] = refl
     none (x ∷ xs) = refl
 
 last_known : (offset : ℕ) (text : List ℕ) → cut text ≡ piece_of text → 0 < length text
-    → pieces true offset text ≡ piece_at offset text ∷ []
+    → pieces_seen true offset text ≡ piece_at offset text ∷ []
 unfolding pieces
-last_known offset text e some = ap (with_offsets offset) (e ∙ piece_of_some text some)
+last_known offset text e some = ap (seen_at offset) (e ∙ piece_of_some text some)
 
 -- ---- what was looked through
 
@@ -241,13 +244,13 @@ module _ (s s1 s2 : State) (seen seen' : Seen) (r1 r2 : InputState) (looked : Lo
             let text_is : s.coming ++ (m ++ rest) ≡ piece_to n ++ (s2.coming ++ rest) =
             sym (append_assoc s.coming m rest) ∙ ap (λ xs. xs ++ rest) (split n is)
             ∙ append_assoc (piece_to n) s2.coming rest in
-            ap (pieces ended (s.offset + length s.part)) text_is
+            ap (pieces_seen ended (s.offset + length s.part)) text_is
             ∙ first_known ended (s.offset + length s.part) (piece_to n ++ (s2.coming ++ rest)) (piece_to n)
             (s2.coming ++ rest) (ends.cuts rest) (omega (arith, l, some))
-            ∙ ap (λ o. piece_at o (piece_to n) ∷ pieces ended (o + length (piece_to n)) (s2.coming ++ rest)) begins
-            ∙ ap (λ x. x ∷ pieces ended (s2.offset + length (piece_to n)) (s2.coming ++ rest))
+            ∙ ap (λ o. piece_at o (piece_to n) ∷ pieces_seen ended (o + length (piece_to n)) (s2.coming ++ rest)) begins
+            ∙ ap (λ x. x ∷ pieces_seen ended (s2.offset + length (piece_to n)) (s2.coming ++ rest))
             (told_right s2.offset (piece_to n) s2.part like)
-            ∙ ap (λ k. current s2 ∷ pieces ended (s2.offset + k) (s2.coming ++ rest)) (sym like.0.len)),
+            ∙ ap (λ k. current s2 ∷ pieces_seen ended (s2.offset + k) (s2.coming ++ rest)) (sym like.0.len)),
       )
 
   -- all bytes are one piece
@@ -290,12 +293,12 @@ module _ (s s1 s2 : State) (seen seen' : Seen) (r1 r2 : InputState) (looked : Lo
         → pieces_held true (past_piece s) (looked.more ++ []) ≡ current s3 ∷ pieces_held true (past_piece s3) []
     unfolding pieces
     last_piece one some =
-        ap (λ xs. pieces true (s.offset + length s.part) (s.coming ++ xs)) (append-nil looked.more)
+        ap (λ xs. pieces_seen true (s.offset + length s.part) (s.coming ++ xs)) (append-nil looked.more)
         ∙ last_known (s.offset + length s.part) all one some
         ∙ ap (λ o. piece_at o all ∷ []) (sym (kept_all.offset ∙ looked.begins))
         ∙ ap (λ x. x ∷ []) (told_right s3.offset all s3.part like_all)
         ∙ ap (λ xs. current s3 ∷ xs)
-        (sym (ap (λ xs. pieces true (s3.offset + length s3.part) (xs ++ [])) none_coming))
+        (sym (ap (λ xs. pieces_seen true (s3.offset + length s3.part) (xs ++ [])) none_coming))
 
     pub last : (b : Bool) → cut all ≡ piece_of all → s2.ended ≡ true → b ≡ nat_lt 0 (length s3.part)
         → (r : InputState) (text : List ℕ) → IsStateOf s r r1 text → Next s s3 r r2 text (Ok b)
@@ -321,7 +324,7 @@ module _ (s s1 s2 : State) (seen seen' : Seen) (r1 r2 : InputState) (looked : Lo
           subst (λ b. HasRead b r r2 (text ++ looked.more)) (sym (keeps_by s1 s2 n is).ended ∙ over)
               (looked.stands r text stands).read,
           λ h. (looked.over h).1,
-          ap (pieces true (s.offset + length s.part)) (nil_from_length all none),
+          ap (pieces_seen true (s.offset + length s.part)) (nil_from_length all none),
         )
 
   pub next_last : (s3 : State) (b : Bool) → FindsEnd s1 s2 seen seen' false → s2.ended ≡ true

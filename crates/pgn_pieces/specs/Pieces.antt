@@ -2,13 +2,12 @@
 use Rattle.std.specs.Prelude.{◌≡◌, ◌≤◌, ◌^◌, ℕ, ◌+◌, ◌-◌, Bool, true, false, ◌&&◌, ◌||◌, not, ◌==◌, nat_le, nat_lt, if◌then◌else◌, List, [], ◌∷◌, ◌++◌, length, map, reverse, take, drop, codes, Option, Some, None}
 use Rattle.std.specs.Char.{is_ascii_alphanumeric}
 use Rattle.std.specs.Io.KnownBytes.{Consumes, IsAtEnd}
-use Rattle.std.specs.List.{onto_first, take_while, prefix_len, list_any, list_all, concat}
+use Rattle.std.specs.List.{onto_first, take_while, prefix_len, list_any, list_all, concat, fold}
 use Rattle.std.specs.Str.{bytes_eq}
 use Rattle.byte_devices.specs.Devices.{InputState, saturating_increment}
-use Rattle.pgn_pieces.specs.Places.{ends_line, line_ends}
+use Rattle.pgn_pieces.specs.Places.{ends_line}
 use Rattle.pgn_pieces.specs.declared.pieces.PieceFault.{PieceFault}
 use Rattle.pgn_pieces.specs.declared.pieces.PieceFault.TheVariants.{ReadFailed, NoMemory, InputTooLong}
-use Rattle.pgn_pieces.specs.declared.pieces.TheConstants.{PIECE_LEN}
 
 -- ---- the lines of a text
 
@@ -25,22 +24,14 @@ without_mark text = if bytes_eq (take 3 text) (239 ∷ 187 ∷ 191 ∷ []) then 
 abbrev pub front_of : List ℕ → List ℕ
 front_of line = without_mark (take 256 line)
 
--- whether a byte is a letter, a digit or an underscore
-abbrev pub is_name_byte : ℕ → Bool
-is_name_byte c = is_ascii_alphanumeric c || (c == 95)
-
 -- whether a byte is a space or a tab
 abbrev pub is_blank : ℕ → Bool
 is_blank c = (c == 32) || (c == 9)
 
--- whether a byte is a space, a tab, `\r` or `\n`
-abbrev pub is_white : ℕ → Bool
-is_white c = is_blank c || (c == 13) || ends_line c
-
 -- the name of the tag with which the front of a line begins: the letters, digits and underscores after its first byte,
 -- which is to be `[` but is not tested here
 abbrev pub tag_name : List ℕ → List ℕ
-tag_name front = take_while is_name_byte (drop 1 front)
+tag_name front = take_while (λ c. is_ascii_alphanumeric c || (c == 95)) (drop 1 front)
 
 -- what comes after the tag's name in the front of a line, and after any spaces and tabs that follow the name
 abbrev pub after_name : List ℕ → List ℕ
@@ -58,10 +49,10 @@ is_event_line line = is_tag_line line && bytes_eq (tag_name (front_of line)) (co
 -- whether a line counts as empty: its front has nothing but spaces, tabs, `\r` and `\n`, or begins with `%` or `;`
 abbrev pub is_empty_line : List ℕ → Bool
 is_empty_line line = bytes_eq (take 1 (front_of line)) (codes "%") || bytes_eq (take 1 (front_of line)) (codes ";")
-    || list_all is_white (front_of line)
+    || list_all (λ c. is_blank c || (c == 13) || ends_line c) (front_of line)
 
--- whether a line counts as one of moves: any line that is neither a tag line nor empty. So a line of a `{` comment
--- does, and a tag that `is_tag_line` does not take
+-- whether a line counts as one of moves: any line that is neither a tag line nor empty. So does a tag that `is_tag_line`
+-- does not take, and a line inside a `{` comment, unless that line is empty or looks like a tag line
 abbrev pub is_moves_line : List ℕ → Bool
 is_moves_line line = not (is_tag_line line || is_empty_line line)
 
@@ -75,46 +66,29 @@ begins_piece piece line = is_tag_line line
 
 -- pieces with one line more: it begins a new piece (always, if there is none yet), or it goes to the end of the last
 -- one. Each piece is given by its lines, and the last piece comes first
-abbrev pub with_line : List ℕ → List (List (List ℕ)) → List (List (List ℕ))
-with_line line [] = (line ∷ []) ∷ []
-with_line line (last ∷ before) =
+abbrev pub with_line : List (List (List ℕ)) → List ℕ → List (List (List ℕ))
+with_line [] line = (line ∷ []) ∷ []
+with_line (last ∷ before) line =
     if begins_piece last line then (line ∷ []) ∷ last ∷ before else (last ++ line ∷ []) ∷ before
 
--- the pieces of these lines, which are given from the last to the first. The last piece comes first too, but the lines
--- in each piece are in the text's order
-abbrev pub pieces_back : List (List ℕ) → List (List (List ℕ))
-pieces_back [] = []
-pieces_back (line ∷ before) = with_line line (pieces_back before)
-
--- the pieces that a text is cut into, in order, each as its bytes: a new piece begins at the first line, and at each
--- line of which `begins_piece` says so
+-- the pieces that a text is cut into, in order, each as its bytes: the text's lines go to them one after another
+-- (`with_line`), so that a new piece begins at the first line, and at each line of which `begins_piece` says so
 abbrev pub cut : List ℕ → List (List ℕ)
-cut text = reverse (map concat (pieces_back (reverse (lines_of text))))
+cut text = reverse (map concat (fold with_line [] (lines_of text)))
 
--- a piece: the offset of its first byte in the input, its first 40 bytes, how many lines end in it, and its bytes, or
--- `None` if it has more than 16,777,216
+-- a piece: the offset of its first byte in the input, and its bytes
 pub record Piece : Type 0 where
   pub offset : ℕ
-  pub beginning : List ℕ
-  pub line_ends : ℕ
-  pub bytes : Option (List ℕ)
-
--- the piece with these bytes, of which the first is at that offset of the input
-abbrev pub piece_at : ℕ → List ℕ → Piece
-piece_at offset bytes = record {
-  offset = offset;
-  beginning = take 40 bytes;
-  line_ends = line_ends bytes;
-  bytes = if nat_le (length bytes) PIECE_LEN then Some bytes else None;
-}
+  pub bytes : List ℕ
 
 -- the pieces whose bytes are given, one after another in the input; the first begins at this offset
 abbrev pub with_offsets : ℕ → List (List ℕ) → List Piece
 with_offsets offset [] = []
-with_offsets offset (bytes ∷ rest) = piece_at offset bytes ∷ with_offsets (offset + length bytes) rest
+with_offsets offset (bytes ∷ rest) =
+    record { offset = offset; bytes = bytes } ∷ with_offsets (offset + length bytes) rest
 
--- the pieces of an input that are known if this text follows at this offset, where a piece begins (at 0 its first): all
--- pieces of the text if the input ends after it (`ended`), otherwise all but the last, which may go on
+-- the pieces of a text of the input that begins at this offset, where a piece begins (the first at 0). If the input ends
+-- after the text (`ended`), these are all that the text is cut into; otherwise all but the last, which may go on
 unfoldable pub pieces : Bool → ℕ → List ℕ → List Piece
 pieces ended offset text =
     let all = cut text in with_offsets offset (if ended then all else take (length all - 1) all)

@@ -10,15 +10,11 @@ ends_line c = c == 10
 abbrev pub line_ends : List ℕ → ℕ
 line_ends text = count_by ends_line text
 
--- how many bytes a text has after its last line end; all of them, if no line ends in it
-abbrev pub last_line_len : List ℕ → ℕ
-last_line_len text = suffix_len (λ c. not (ends_line c)) text
-
 -- the line of the byte at this offset of a text: one more than the number of line ends before it
 abbrev pub line_of : List ℕ → ℕ → ℕ
-line_of text offset = line_ends (take offset text) + 1
+line_of text offset = count_by ends_line (take offset text) + 1
 
 -- the column of the byte at this offset of a text: one more than the number of bytes between it and the last line end
 -- before it, or the text's beginning
 abbrev pub column_of : List ℕ → ℕ → ℕ
-column_of text offset = last_line_len (take offset text) + 1
+column_of text offset = suffix_len (λ c. not (ends_line c)) (take offset text) + 1

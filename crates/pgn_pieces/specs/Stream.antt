@@ -1,8 +1,10 @@
 -- The pieces of an input, returned one after another.
-use Rattle.std.specs.Prelude.{◌≡◌, ℕ, ◌+◌, Bool, true, false, List, [], ◌∷◌, ◌++◌, length, Result, Ok, Err}
+use Rattle.std.specs.Prelude.{◌≡◌, ℕ, ◌+◌, Bool, true, false, nat_le, if◌then◌else◌, List, [], ◌∷◌, ◌++◌, length, map, take, Option, Some, None, Result, Ok, Err}
 use Rattle.byte_devices.specs.Devices.{InputState}
 use Rattle.pgn_pieces.specs.declared.pieces.PieceFault.{PieceFault}
-use Rattle.pgn_pieces.specs.Pieces.{Piece, piece_at, pieces, HasRead, IsCause}
+use Rattle.pgn_pieces.specs.declared.pieces.TheConstants.{PIECE_LEN}
+use Rattle.pgn_pieces.specs.Pieces.{Piece, pieces, HasRead, IsCause}
+use Rattle.pgn_pieces.specs.Places.{line_ends}
 
 -- how far an input is cut: the offset at which the current piece begins, its bytes so far, the bytes that were read
 -- after these, and whether the input has ended. If the piece is too long, `part` is only some bytes with the same
@@ -21,18 +23,39 @@ unread = record { offset = 0; part = []; coming = []; ended = false }
 abbrev pub past_piece : State → State
 past_piece s = record { offset = s.offset + length s.part; part = []; coming = s.coming; ended = s.ended }
 
--- the current piece of the state s, with the bytes that it has so far
-abbrev pub current : State → Piece
+-- what a caller sees of a piece: the offset of its first byte in the input, its first 40 bytes, how many lines end in
+-- it, and its bytes, or `None` if it has more than 16,777,216
+pub record PieceSeen : Type 0 where
+  pub offset : ℕ
+  pub beginning : List ℕ
+  pub line_ends : ℕ
+  pub bytes : Option (List ℕ)
+
+-- what a caller sees of the piece with these bytes, of which the first is at that offset of the input
+abbrev pub piece_at : ℕ → List ℕ → PieceSeen
+piece_at offset bytes = record {
+  offset = offset;
+  beginning = take 40 bytes;
+  line_ends = line_ends bytes;
+  bytes = if nat_le (length bytes) PIECE_LEN then Some bytes else None;
+}
+
+-- what a caller sees of the pieces of a text of the input (`pieces`) that begins at this offset
+abbrev pub pieces_seen : Bool → ℕ → List ℕ → List PieceSeen
+pieces_seen ended offset text = map (λ (piece : Piece). piece_at piece.offset piece.bytes) (pieces ended offset text)
+
+-- what a caller sees of the current piece of the state s, with the bytes that it has so far
+abbrev pub current : State → PieceSeen
 current s = piece_at s.offset s.part
 
 -- the pieces that are still to come of a text: the first of them begins at that offset, `part` is what was read of it,
 -- and the last argument is the text after that part. `ended`: the input ends there; if not, the last piece is left out
-abbrev pub pieces_after_part : Bool → ℕ → List ℕ → List ℕ → List Piece
-pieces_after_part ended offset part text = pieces ended offset (part ++ text)
+abbrev pub pieces_after_part : Bool → ℕ → List ℕ → List ℕ → List PieceSeen
+pieces_after_part ended offset part text = pieces_seen ended offset (part ++ text)
 
 -- the pieces that are still to come in the state `s`, the current one first, if the bytes `rest` follow those that were
 -- read. `ended`: the input ends after them; if not, the last piece may go on and is left out
-abbrev pub pieces_held : Bool → State → List ℕ → List Piece
+abbrev pub pieces_held : Bool → State → List ℕ → List PieceSeen
 pieces_held ended s rest = pieces_after_part ended s.offset s.part (s.coming ++ rest)
 
 -- whether the input may still continue with the bytes `rest`, and end after them if `ended` says so. If it has ended

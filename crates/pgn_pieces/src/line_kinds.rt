@@ -9,11 +9,12 @@
 //! The functions that `kind_of` calls are inlined, since `verify --keep-going` calls it for every line of a collection
 //! (the workload collections). What that gains was not measured apart.
 
-ghost use Rattle.std.specs.Prelude.{◌≡◌, ◌≤◌, true, false, length, take, drop, codes};
+ghost use Rattle.std.specs.Prelude.{◌≡◌, ◌≤◌, true, false, ◌||◌, ◌==◌, length, take, drop, codes};
+ghost use Rattle.std.specs.Char.{is_ascii_alphanumeric};
 ghost use Rattle.std.specs.Str.{bytes_eq};
 ghost use Rattle.std.specs.List.{prefix_len, list_all};
-ghost use Rattle.pgn_pieces.specs.Pieces.{without_mark, front_of, after_name, is_name_byte, is_blank, is_white, tag_name, is_tag_line, is_event_line, is_moves_line};
-ghost use Rattle.pgn_pieces.specs.Places.{line_ends};
+ghost use Rattle.pgn_pieces.specs.Pieces.{without_mark, front_of, after_name, is_blank, tag_name, is_tag_line, is_event_line, is_moves_line};
+ghost use Rattle.pgn_pieces.specs.Places.{ends_line, line_ends};
 ghost use Rattle.pgn_pieces.specs.ties.Fronts.{begins_tag, is_empty_front};
 
 // How many of a line's first bytes decide its kind; the bytes after these are not looked at.
@@ -93,7 +94,7 @@ fn front_of(line: &[u8]) -> &[u8]
 // repository's crates this one uses only byte_devices.
 #[inline(always)]
 fn is_name_byte(byte: u8) -> bool
-    ensures { result ≡ is_name_byte byte }
+    ensures { result ≡ (is_ascii_alphanumeric byte || byte == 95) }
 {
     byte.is_ascii_alphanumeric() || byte == b'_'
 }
@@ -110,7 +111,7 @@ fn is_blank(byte: u8) -> bool
 // How many letters, digits and `_` are at a text's front, where a tag's name may be: 5 for `Event "Oslo"]`.
 #[inline(always)]
 fn name_len(text: &[u8]) -> usize
-    ensures count { result ≡ prefix_len is_name_byte text.now }
+    ensures count { result ≡ prefix_len (λ c. is_ascii_alphanumeric c || (c == 95)) text.now }
     ensures within { result ≤ length text.now }
 {
     text.iter().take_while(|byte| is_name_byte(**byte)).count()
@@ -176,7 +177,7 @@ fn begins_tag(front: &[u8], name: &[u8]) -> bool
 // Whether a byte is white space, as an empty line may contain: a space, a tab, `\r` or `\n`.
 #[inline(always)]
 fn is_white(byte: u8) -> bool
-    ensures { result ≡ is_white byte }
+    ensures { result ≡ (is_blank byte || (byte == 13) || ends_line byte) }
 {
     is_blank(byte) || byte == b'\r' || byte == b'\n'
 }
@@ -184,7 +185,7 @@ fn is_white(byte: u8) -> bool
 // Whether all these bytes are white space; true if there are no bytes.
 #[inline(always)]
 fn is_all_white(bytes: &[u8]) -> bool
-    ensures { result ≡ list_all is_white bytes.now }
+    ensures { result ≡ list_all (λ c. is_blank c || (c == 13) || ends_line c) bytes.now }
 {
     bytes.iter().all(|byte| is_white(*byte))
 }

@@ -1,7 +1,15 @@
 -- The games of a collection, piece by piece.
-use Rattle.std.proofs.Common.{◌≡◌, ℕ, ◌+◌, ◌*◌, ◌≤◌, ◌<◌, ◌^◌, Bool, true, false, List, [], ◌∷◌, ◌++◌, length, Ok, Err, refl, sym, ap, subst, ◌∙◌, append_assoc, append-nil, arith}
-use Rattle.std.specs.Prelude.{if◌then◌else◌}
-use Rattle.std.specs.List.{sum_by}
+use Rattle.std.proofs.Common.{◌≡◌, ℕ, ◌+◌, ◌*◌, ◌≤◌, ◌<◌, ◌^◌, Bool, true, false, not, List, [], ◌∷◌, ◌++◌, length, map, take, Some, None, Ok, Err, refl, sym, ap, subst, ◌∙◌, append_assoc, append-nil, arith}
+use Rattle.std.specs.Prelude.{if◌then◌else◌, nat_le}
+use Rattle.std.specs.List.{sum_by, flat_map, take_while}
+use Rattle.std.specs.Option.{option_map_or}
+use Rattle.std.proofs.Math.Path.{ap₂}
+use Rattle.std.proofs.lemmas.List.{take-take}
+use Rattle.chess_pgn.specs.Tokens.{is_white_space}
+use Rattle.chess_pgn.specs.declared.read.PgnFaultKind.TheVariants.{TooLong}
+use Rattle.pgn_pieces.specs.declared.pieces.TheConstants.{PIECE_LEN}
+use Rattle.pgn_verifier.specs.Explanations.{shown, shown_word}
+use Rattle.pgn_verifier.specs.declared.game_fault.FaultKind.TheVariants.{Pgn}
 use Rattle.std.proofs.lemmas.List.Concat.{flat_map-append}
 use Rattle.std.proofs.lemmas.List.Sums.{sum_by_push}
 use Rattle.byte_devices.specs.declared.traits.WriteFault.{WriteFault}
@@ -10,17 +18,17 @@ use Rattle.byte_devices.specs.Transfers.{Ran}
 use Rattle.byte_devices.proofs.shared.Devices.{breaks_longer}
 use Rattle.pgn_pieces.specs.Pieces.{Piece, pieces}
 use Rattle.pgn_pieces.specs.declared.pieces.PieceFault.{PieceFault}
-use Rattle.pgn_pieces.specs.Stream.{State, IsStateOf, Next, MayFollow, past_piece, current, unread, pieces_after_part, pieces_held}
+use Rattle.pgn_pieces.specs.Stream.{State, IsStateOf, Next, MayFollow, PieceSeen, piece_at, pieces_seen, past_piece, current, unread, pieces_after_part, pieces_held}
 use Rattle.pgn_pieces.specs.laws.HandedOut.{PiecesAreCut}
 use Rattle.pgn_pieces.specs.laws.Places.{PiecesAreInPlace}
 use Rattle.pgn_pieces.proofs.shared.Inputs.{nothing_read}
 use Rattle.pgn_verifier.specs.declared.options.VerifyOptions.{VerifyOptions}
 use Rattle.pgn_verifier.specs.declared.tally.Tally.{Tally}
 use Rattle.pgn_verifier.specs.declared.fault.VerifyFault.TheVariants.{WriteFailed}
-use Rattle.pgn_verifier.specs.Reports.{report_lines, counts_line, counts_of}
+use Rattle.pgn_verifier.specs.Reports.{Faulty, too_long_report, report_lines, counts_line, counts_of}
 use Rattle.pgn_verifier.specs.Collection.{VerifiesCollection}
-use Rattle.pgn_verifier.specs.laws.Reported.{reports_in, collection_reports}
-use Rattle.pgn_verifier.specs.ties.OnTheWay.{WritesCollection, Writes, PieceStandsIf, GrowsBy, reports_of, counted, collection_lines}
+use Rattle.pgn_verifier.specs.laws.Reported.{reports_on, reports_in, collection_reports}
+use Rattle.pgn_verifier.specs.ties.OnTheWay.{WritesCollection, Writes, PieceStandsIf, GrowsBy, reports_seen, too_long_seen, reports_of, counted, collection_lines}
 use Rattle.pgn_verifier.specs.Faults.{of_piece}
 use Rattle.pgn_verifier.proofs.Placed.{piece_there}
 use Rattle.pgn_verifier.proofs.Verifying.{collection_broke_off, reading_stopped}
@@ -29,17 +37,45 @@ use Rattle.pgn_verifier.proofs.LinesWritten.{took_after, broke_after, lines_afte
 abbrev pub none : Tally
 none = record { games = 0; half_moves = 0; faults = 0 }
 
+-- ---- what is seen of pieces is enough
+
+-- of a text of which more is cut off than is shown, the same is shown
+shown_beginning : (bytes : List ℕ) → shown (take 40 bytes) ≡ shown bytes
+shown_beginning bytes = ap (λ xs. shown_word (take_while (λ c. not (is_white_space c)) xs)) (take-take 40 40 bytes (omega arith))
+
+seen_alike : (strict : Bool) (piece : Piece)
+    → reports_in strict piece ≡ reports_seen strict (piece_at piece.offset piece.bytes)
+seen_alike strict piece = by_test (nat_le (length piece.bytes) PIECE_LEN)
+  where
+    by_test : (b : Bool) → (if b then reports_on strict piece.offset piece.bytes else too_long_report piece ∷ [])
+        ≡ option_map_or (reports_on strict piece.offset) (if b then Some piece.bytes else None)
+        (Faulty (record { kind = Pgn TooLong; offset = piece.offset }) piece.offset (shown (take 40 piece.bytes)) ∷ [])
+    by_test true = refl
+    by_test false = ap (λ t. Faulty (record { kind = Pgn TooLong; offset = piece.offset }) piece.offset t ∷ [])
+        (sym (shown_beginning piece.bytes))
+
+all_seen_alike : (strict : Bool) (all : List Piece)
+    → flat_map (reports_in strict) all
+    ≡ reports_of strict (map (λ (piece : Piece). piece_at piece.offset piece.bytes) all)
+all_seen_alike strict [] = refl
+all_seen_alike strict (piece ∷ more) =
+    ap₂ (λ xs ys. xs ++ ys) (seen_alike strict piece) (all_seen_alike strict more)
+
+as_seen : (strict ended : Bool) (text : List ℕ)
+    → collection_reports strict ended text ≡ reports_of strict (pieces_seen ended 0 text)
+as_seen strict ended text = all_seen_alike strict (pieces ended 0 text)
+
 -- ---- the pieces up to here were reported
 
 -- the line after these pieces
-abbrev line_after : List Piece → ℕ
-line_after done = sum_by (λ (p : Piece). p.line_ends) done + 1
+abbrev line_after : List PieceSeen → ℕ
+line_after done = sum_by (λ (p : PieceSeen). p.line_ends) done + 1
 
 pub record SoFar (options : VerifyOptions) (r r' : InputState) (w w' : OutputState) (s : State)
     (tally : Tally) (line : ℕ)
     : Type 0 where
   pub text : List ℕ
-  pub done : List Piece
+  pub done : List PieceSeen
   pub stands : IsStateOf s r r' text
   pub due : (ended : Bool) (rest : List ℕ) → MayFollow s.ended ended rest
       → pieces_after_part ended 0 [] (text ++ rest) ≡ done ++ pieces_held ended (past_piece s) rest
@@ -94,16 +130,16 @@ module _ (options : VerifyOptions) (r r' r'' : InputState) (w w' : OutputState) 
   known false = tt
 
   all_known : (law : PiecesAreCut) (next : Next s s' r r'' so.text (Ok true))
-      → pieces s'.ended 0 (so.text ++ next.0) ≡ (so.done ++ current s' ∷ []) ++ pieces_held s'.ended (past_piece s') []
+      → pieces_seen s'.ended 0 (so.text ++ next.0) ≡ (so.done ++ current s' ∷ []) ++ pieces_held s'.ended (past_piece s') []
   all_known law next =
       law s'.ended (so.text ++ next.0)
       ∙ ap (pieces_after_part s'.ended 0 []) (sym (append-nil (so.text ++ next.0)))
       ∙ come next s'.ended [] (known s'.ended)
 
   reports_more : reports_of options.strict (so.done ++ current s' ∷ [])
-      ≡ reports_of options.strict so.done ++ reports_in options.strict (current s')
-  reports_more = flat_map-append (λ p. reports_in options.strict p) so.done (current s' ∷ [])
-      ∙ ap (λ xs. reports_of options.strict so.done ++ xs) (append-nil (reports_in options.strict (current s')))
+      ≡ reports_of options.strict so.done ++ reports_seen options.strict (current s')
+  reports_more = flat_map-append (λ p. reports_seen options.strict p) so.done (current s' ∷ [])
+      ∙ ap (λ xs. reports_of options.strict so.done ++ xs) (append-nil (reports_seen options.strict (current s')))
 
   -- the current piece is in its place, whatever follows what was read
   stands_there : PiecesAreCut × PiecesAreInPlace → (next : Next s s' r r'' so.text (Ok true)) → (more : List ℕ)
@@ -119,7 +155,7 @@ module _ (options : VerifyOptions) (r r' r'' : InputState) (w w' : OutputState) 
       → Next s s' r r'' so.text (Ok true)
       → s'.offset ≡ s.offset + length s.part → 0 < length s'.part → s'.offset + length s'.part ≤ 2 ^ 63
       → ((input : List ℕ) → PieceStandsIf options.explain line input (current s')
-      → Writes {E = WriteFault} options input tally w' w'' (Ok after) (reports_in options.strict (current s')))
+      → Writes {E = WriteFault} options input tally w' w'' (Ok after) (reports_seen options.strict (current s')))
       → GrowsBy (length s'.part) tally after → (options.explain ≡ true → line' ≡ line + (current s').line_ends)
       → line' ≤ line + length s'.part → SoFar options r r'' w w'' s' after line'
   written_on law w'' after line' next offset some small wrote grown counted_lines few_more =
@@ -138,15 +174,15 @@ module _ (options : VerifyOptions) (r r' r'' : InputState) (w w' : OutputState) 
             (took_after options ((so.text ++ next.0) ++ more) none tally w w' w'' (reports_of options.strict so.done)
             (subst (λ xs. Took w w' (report_lines options xs 1 (reports_of options.strict so.done)))
             (sym (append_assoc so.text next.0 more)) (so.took (next.0 ++ more))) so.is
-            (reports_in options.strict (current s'))
+            (reports_seen options.strict (current s'))
             (wrote ((so.text ++ next.0) ++ more) (stands_there law next more)).0);
-        is = is ∙ ap (λ (t : Tally). counted t (reports_in options.strict (current s'))) so.is
-            ∙ counted_after none (reports_of options.strict so.done) (reports_in options.strict (current s')) ∙ ap
+        is = is ∙ ap (λ (t : Tally). counted t (reports_seen options.strict (current s'))) so.is
+            ∙ counted_after none (reports_of options.strict so.done) (reports_seen options.strict (current s')) ∙ ap
             (counted none) (sym reports_more);
         few = omega (arith, few, grown_reports, offset, some);
         few_moves = omega (arith, few_moves, grown_moves, offset);
         small = small;
-        lines = λ explain. (let n = sum_by_push (λ (p : Piece). p.line_ends) so.done (current s') in
+        lines = λ explain. (let n = sum_by_push (λ (p : PieceSeen). p.line_ends) so.done (current s') in
             let so_far = so.lines explain in
             let one_more = counted_lines explain in omega (arith, n, so_far, one_more));
         few_lines = omega (arith, few_lines, few_more, offset);
@@ -155,33 +191,33 @@ module _ (options : VerifyOptions) (r r' r'' : InputState) (w w' : OutputState) 
   pub write_failed : PiecesAreCut × PiecesAreInPlace → (w'' : OutputState) (fault : WriteFault)
       → Next s s' r r'' so.text (Ok true)
       → ((input : List ℕ) → PieceStandsIf options.explain line input (current s')
-      → Writes options input tally w' w'' (Err fault) (reports_in options.strict (current s')))
+      → Writes options input tally w' w'' (Err fault) (reports_seen options.strict (current s')))
       → Ran (VerifiesCollection options (Err WriteFailed)) (record { input = r; output = w })
       (record { input = r''; output = w'' })
   write_failed law w'' fault next wrote =
       let later = pieces_held s'.ended (past_piece s') [] in
       let text = so.text ++ next.0 in
       let all : collection_reports options.strict s'.ended text ≡
-      (reports_of options.strict so.done ++ reports_in options.strict (current s')) ++ reports_of options.strict
+      (reports_of options.strict so.done ++ reports_seen options.strict (current s')) ++ reports_of options.strict
       later =
-      ap (reports_of options.strict) (all_known law.0 next)
-      ∙ flat_map-append (λ p. reports_in options.strict p) (so.done ++ current s' ∷ []) later
+      as_seen options.strict s'.ended text ∙ ap (reports_of options.strict) (all_known law.0 next)
+      ∙ flat_map-append (λ p. reports_seen options.strict p) (so.done ++ current s' ∷ []) later
       ∙ ap (λ xs. xs ++ reports_of options.strict later) reports_more in
       let stands = subst (λ xs. PieceStandsIf options.explain line xs (current s')) (append-nil text)
       (stands_there law next []) in
       let first = broke_after options text none tally w w' w'' (reports_of options.strict so.done)
       (so.took next.0) so.is
-      (reports_in options.strict (current s')) (wrote text stands) in
+      (reports_seen options.strict (current s')) (wrote text stands) in
       let lines = breaks_longer w w'' (report_lines options text 1
-      (reports_of options.strict so.done ++ reports_in options.strict (current s')))
+      (reports_of options.strict so.done ++ reports_seen options.strict (current s')))
       (report_lines options text (1 + length
-      (reports_of options.strict so.done ++ reports_in options.strict (current s')))
+      (reports_of options.strict so.done ++ reports_seen options.strict (current s')))
       (reports_of options.strict later)) first in
       collection_broke_off options r r'' w w'' s'.ended text next.1.read
       (breaks_longer w w'' (collection_lines options s'.ended text)
       (if s'.ended then counts_line (counts_of (collection_reports options.strict s'.ended text)) else [])
       (subst (CutShort w w'') (sym (lines_after options text 1
-      (reports_of options.strict so.done ++ reports_in options.strict (current s')) (reports_of options.strict later))
+      (reports_of options.strict so.done ++ reports_seen options.strict (current s')) (reports_of options.strict later))
       ∙ ap (report_lines options text 1) (sym all)) lines))
 
   pub all_written : (law : PiecesAreCut) → Next s s' r r'' so.text (Ok false)
@@ -192,7 +228,7 @@ module _ (options : VerifyOptions) (r r' r'' : InputState) (w w' : OutputState) 
       let follows = subst (MayFollow s.ended true) (append-nil more)
       (follows_on s.ended true true more [] (λ h. (refl, next.2 h)) (refl, refl)) in
       let all : collection_reports options.strict true text ≡ reports_of options.strict so.done =
-      ap (reports_of options.strict) (law true text ∙ so.due true more follows ∙ ap (λ ps. so.done ++ ps) next.3 ∙
+      as_seen options.strict true text ∙ ap (reports_of options.strict) (law true text ∙ so.due true more follows ∙ ap (λ ps. so.done ++ ps) next.3 ∙
       append-nil so.done) in (
         text,
         next.1,
@@ -207,7 +243,7 @@ module _ (options : VerifyOptions) (r r' r'' : InputState) (w w' : OutputState) 
       let more = next.0 in
       let text = so.text ++ more in
       let all : collection_reports options.strict false text ≡ reports_of options.strict so.done =
-      ap (reports_of options.strict) (law false text ∙ so.due false more
+      as_seen options.strict false text ∙ ap (reports_of options.strict) (law false text ∙ so.due false more
       (subst (λ b. MayFollow b false more) (sym next.2) tt)
       ∙ ap (λ ps. so.done ++ ps) next.3 ∙ append-nil so.done) in
       let written = subst (λ xs. Took w w' (report_lines options text 1 xs)) (sym all) (so.took more) in

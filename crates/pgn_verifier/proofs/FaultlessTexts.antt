@@ -1,5 +1,5 @@
 -- If no fault is reported on a text's pieces, then their reports are those on the text.
-use Rattle.std.proofs.Common.{◌≡◌, ℕ, zero, suc, ◌+◌, ◌-◌, ◌<◌, ◌≤◌, Bool, true, false, cond, eqb, not, List, [], ◌∷◌, ◌++◌, length, get_or, drop, Option, Some, None, Result, Ok, Err, refl, sym, ap, subst, ◌∙◌, inl, inr, ◌⊎◌, append_assoc, append-nil, length-append, arith}
+use Rattle.std.proofs.Common.{◌≡◌, ℕ, zero, suc, ◌+◌, ◌-◌, ◌<◌, ◌≤◌, Bool, true, false, cond, eqb, not, List, [], ◌∷◌, ◌++◌, length, is_some, get_or, drop, Option, Some, None, Result, Ok, Err, refl, sym, ap, subst, ◌∙◌, inl, inr, ◌⊎◌, append_assoc, append-nil, length-append, arith}
 use Rattle.std.specs.Prelude.{nat_le, if◌then◌else◌}
 use Rattle.std.specs.List.{concat, flat_map, list_all, list_any}
 use Rattle.std.specs.Option.{option_map_or}
@@ -10,10 +10,10 @@ use Rattle.std.proofs.Math.Path.{fun_ext}
 use Rattle.std.proofs.lemmas.List.Folds.{list_all-append, sum_by-zero}
 use Rattle.chess_pgn.specs.Tokens.{after_byte_order_mark, begins_line}
 use Rattle.chess_pgn.specs.declared.read.PgnEnd.{PgnEnd}
-use Rattle.pgn_pieces.specs.Pieces.{cut, piece_at, with_offsets, pieces}
+use Rattle.pgn_pieces.specs.Pieces.{cut, with_offsets, pieces}
 use Rattle.pgn_pieces.specs.declared.pieces.TheConstants.{PIECE_LEN}
 use Rattle.pgn_pieces.proofs.shared.Cuts.{AreLines, no_texts, last_text, next_text, cut_is_all, cut_ends}
-use Rattle.pgn_verifier.specs.Reports.{Report, Game, Faulty, too_long_report, is_game, counts_of, verified}
+use Rattle.pgn_verifier.specs.Reports.{Report, Game, Faulty, too_long_report, half_moves_of, counts_of, verified}
 use Rattle.pgn_verifier.specs.declared.game_fault.GameFault.{GameFault}
 use Rattle.pgn_verifier.specs.declared.tally.Verified.TheVariants.{EachGame, FaultReported}
 use Rattle.pgn_verifier.specs.laws.NoFaults.{begins_with_mark, FaultlessTextsAreReportedAlike}
@@ -25,9 +25,12 @@ use Rattle.pgn_verifier.specs.laws.Reported.{collection_reports, judged_at, read
 
 -- ---- reports without a fault
 
+abbrev pub is_game : Report → Bool
+is_game r = is_some (half_moves_of r)
+
 no_fault : (r : Report) → eqb (cond (not (is_game r)) 1 0) 0 ≡ is_game r
 no_fault (Game plies outcome termination) = refl
-no_fault (Faulty fault explanation) = refl
+no_fault (Faulty fault at explanation) = refl
 
 all_games : (rs : List Report) → verified (counts_of rs) ≡ EachGame → list_all is_game rs ≡ true
 all_games rs h = ap (λ p. list_all p rs) (sym (fun_ext no_fault))
@@ -178,8 +181,8 @@ module _ (law : TokenByToken) (strict : Bool) where
       later = flat_map (reports_in strict) (with_offsets (offset + length first) parts)
 
       by_length : (b : Bool) → nat_le (length first) PIECE_LEN ≡ b
-          → list_all is_game (option_map_or (reports_on strict offset) (if b then Some first else None)
-          (too_long_report (piece_at offset first) ∷ []) ++ later) ≡ true
+          → list_all is_game ((if b then reports_on strict offset first else
+          too_long_report (record { offset = offset; bytes = first }) ∷ []) ++ later) ≡ true
           → AllHold strict offset before (first ∷ parts)
       by_length false e k = absurd (cc)
       by_length true e k =
@@ -190,8 +193,8 @@ module _ (law : TokenByToken) (strict : Bool) where
           record {
             games = part.games ++ rest.games;
             holds = next_part begins part.holds rest.holds;
-            reported = ap (λ b. option_map_or (reports_on strict offset) (if b then Some first else None)
-                (too_long_report (piece_at offset first) ∷ []) ++ later) e
+            reported = ap (λ b. (if b then reports_on strict offset first else
+                too_long_report (record { offset = offset; bytes = first }) ∷ []) ++ later) e
                 ∙ ap (λ l. l ++ later)
                 (reported_alike law strict offset before first (concat parts) part.games begins part.holds).alone
                 ∙ ap (λ l. part.games ++ l) rest.reported;

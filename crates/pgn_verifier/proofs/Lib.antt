@@ -12,6 +12,7 @@ mod Placed
 mod ReportsAre
 mod TagReasons
 mod TextVerified
+mod TooLong
 mod Verifying
 mod WrittenGames
 mod WrittenTexts

@@ -1,12 +1,13 @@
 -- Reports that are written one after the other, and counted.
-use Rattle.std.proofs.Common.{◌≡◌, ℕ, ◌+◌, cond, not, List, [], ◌∷◌, ◌++◌, length, Result, Ok, Err, refl, sym, ap, subst, ◌∙◌, append_assoc, append-nil, arith}
+use Rattle.std.proofs.Common.{◌≡◌, ℕ, ◌+◌, cond, Bool, not, List, [], ◌∷◌, ◌++◌, length, is_some, Result, Ok, Err, refl, sym, ap, subst, ◌∙◌, append_assoc, append-nil, arith}
 use Rattle.std.specs.List.{count_by, sum_by}
+use Rattle.std.specs.Option.{unwrap_or}
 use Rattle.std.proofs.lemmas.List.Sums.{sum_by-cons}
 use Rattle.byte_devices.specs.Devices.{OutputState, Took, CutShort}
 use Rattle.byte_devices.proofs.shared.Devices.{took_none, took_more, breaks_more, breaks_longer}
 use Rattle.pgn_verifier.specs.declared.options.VerifyOptions.{VerifyOptions}
 use Rattle.pgn_verifier.specs.declared.tally.Tally.{Tally}
-use Rattle.pgn_verifier.specs.Reports.{Report, Game, Faulty, written_line, report_lines, is_game, half_moves_of, counts_of}
+use Rattle.pgn_verifier.specs.Reports.{Report, Game, Faulty, written_line, report_lines, half_moves_of, counts_of}
 use Rattle.pgn_verifier.specs.ties.OnTheWay.{with_report, next_number, Writes, counted}
 
 -- ---- reports and those after them
@@ -28,19 +29,25 @@ pub counted_after : (t : Tally) (xs ys : List Report) → counted (counted t xs)
 counted_after t [] ys = refl
 counted_after t (x ∷ xs) ys = counted_after (with_report t x) xs ys
 
+abbrev is_game : Report → Bool
+is_game r = is_some (half_moves_of r)
+
+abbrev plies_of : Report → ℕ
+plies_of r = unwrap_or (half_moves_of r) 0
+
 -- the counts so far and those of more reports, field by field
 record Sums (t : Tally) (rs : List Report) : Type 0 where
   pub games : (counted t rs).games ≡ t.games + count_by is_game rs
-  pub half_moves : (counted t rs).half_moves ≡ t.half_moves + sum_by half_moves_of rs
+  pub half_moves : (counted t rs).half_moves ≡ t.half_moves + sum_by plies_of rs
   pub faults : (counted t rs).faults ≡ t.faults + count_by (λ report. not (is_game report)) rs
 
 -- with one report more before them
 more : (t : Tally) (r : Report) (rs : List Report) → (with_report t r).games ≡ t.games + cond (is_game r) 1 0
-    → (with_report t r).half_moves ≡ t.half_moves + half_moves_of r
+    → (with_report t r).half_moves ≡ t.half_moves + plies_of r
     → (with_report t r).faults ≡ t.faults + cond (not (is_game r)) 1 0 → Sums (with_report t r) rs → Sums t (r ∷ rs)
 more t r rs games half_moves faults h =
     let a = sum_by-cons (λ report. cond (is_game report) 1 0) r rs in
-    let b = sum_by-cons half_moves_of r rs in
+    let b = sum_by-cons plies_of r rs in
     let c = sum_by-cons (λ report. cond (not (is_game report)) 1 0) r rs in
     let rest_games = h.games in
     let rest_moves = h.half_moves in
@@ -56,9 +63,9 @@ sums_are t [] = record { games = omega arith; half_moves = omega arith; faults =
 sums_are t (Game plies outcome termination ∷ rs) =
     more t (Game plies outcome termination) rs (omega arith) refl (omega arith)
     (sums_are (with_report t (Game plies outcome termination)) rs)
-sums_are t (Faulty fault explanation ∷ rs) =
-    more t (Faulty fault explanation) rs (omega arith) (omega arith) (omega arith)
-    (sums_are (with_report t (Faulty fault explanation)) rs)
+sums_are t (Faulty fault at explanation ∷ rs) =
+    more t (Faulty fault at explanation) rs (omega arith) (omega arith) (omega arith)
+    (sums_are (with_report t (Faulty fault at explanation)) rs)
 
 same_counts : (t u : Tally) → t.games ≡ u.games → t.half_moves ≡ u.half_moves → t.faults ≡ u.faults → t ≡ u
 same_counts t u games half_moves faults = rw (sym games, sym half_moves, sym faults) refl
@@ -75,7 +82,7 @@ all_counted rs =
 
 next_after : (t : Tally) (x : Report) → next_number (with_report t x) ≡ next_number t + 1
 next_after t (Game plies o e) = omega arith
-next_after t (Faulty fault e) = omega arith
+next_after t (Faulty fault at e) = omega arith
 
 -- each report is counted
 numbers_after : (t : Tally) (xs : List Report) → next_number (counted t xs) ≡ next_number t + length xs

@@ -18,7 +18,7 @@ use Rattle.chess_pgn.specs.laws.TokenByToken.{game_of, nothing_read, tokens_read
 use Rattle.chess_pgn.proofs.shared.Tokens.{read_kinds, kinds_read}
 use Rattle.pgn_verifier.specs.GameFaults.{judged}
 use Rattle.pgn_verifier.specs.laws.Parts.{BeginsAlike, GamesAreInParts, HoldsWhole, no_more, game, WholeGamesAreReportedAlike, AllHoldWhole, no_parts, next_part, TextsAreReportedInParts, PiecesAreReportedAlike}
-use Rattle.pgn_pieces.specs.Pieces.{cut, piece_at, with_offsets, pieces}
+use Rattle.pgn_pieces.specs.Pieces.{cut, with_offsets, pieces}
 use Rattle.pgn_pieces.specs.declared.pieces.TheConstants.{PIECE_LEN}
 use Rattle.pgn_pieces.proofs.shared.Cuts.{cut_is_all}
 use Rattle.pgn_verifier.specs.Reports.{Report, Game, too_long_report}
@@ -260,8 +260,8 @@ module _ (law : TokenByToken) (strict : Bool) where
       length-append first (concat parts) in
       let short : nat_le (length first) PIECE_LEN ≡ true = le-leb (length first) PIECE_LEN (omega (arith, h, all)) in
       let later : List Report = flat_map (reports_in strict) (with_offsets (offset + length first) parts) in
-      ap (λ b. option_map_or (reports_on strict offset) (if b then Some first else None)
-      (too_long_report (piece_at offset first) ∷ []) ++ later) short
+      ap (λ b. (if b then reports_on strict offset first else
+      too_long_report (record { offset = offset; bytes = first }) ∷ []) ++ later) short
       ∙ ap (λ l. l ++ later)
       (reported_alike law strict offset before first (concat parts) games begins holds).alone
       ∙ ap (λ l. games ++ l) (in_pieces rest (offset + length first) (omega (arith, h, all)))

@@ -32,7 +32,8 @@ use Rattle.chess_pgn.specs.declared.tagged_result.ResultTag.{ResultTag}
 use Rattle.chess_pgn.specs.laws.TokenByToken.{SoFar, Step, On, Stop, move_step, word_step, fen_step, step, read_rest_with, game_of, nothing_read, tokens_read}
 use Rattle.chess_pgn.proofs.shared.Words.{word_cases}
 use Rattle.chess_pgn.proofs.shared.Tokens.{read_kinds, kinds_read, stays_longest, token_some}
-use Rattle.pgn_verifier.specs.GameFaults.{contradiction, judged}
+use Rattle.pgn_verifier.specs.GameFaults.{judged}
+use Rattle.pgn_verifier.specs.ties.OnTheWay.{contradiction}
 use Rattle.pgn_verifier.specs.declared.game_fault.GameFault.{GameFault}
 use Rattle.pgn_verifier.specs.laws.Parts.{BeginsAlike}
 use Rattle.pgn_verifier.proofs.GamesAlike.{Fits, found}

@@ -1,16 +1,19 @@
 -- Where a fault is: counted from the text's beginning, and from the input's.
 use Rattle.std.proofs.Common.{◌≡◌, ◌≤◌, ℕ, ◌+◌, ◌-◌, Bool, not, cond, List, [], ◌∷◌, ◌++◌, length, take, drop, sym, ap, ◌∙◌, length-drop, arith}
 use Rattle.std.specs.Prelude.{if◌then◌else◌, reverse}
-use Rattle.std.specs.List.{prefix_len}
+use Rattle.std.specs.List.{prefix_len, suffix_len}
 use Rattle.std.proofs.Math.Seq.{take-add}
 use Rattle.std.proofs.lemmas.List.{take-take, take_all, take-append-le, drop-append-le, length-take, reverse-append}
 use Rattle.std.proofs.lemmas.List.Sums.{sum_by-append}
-use Rattle.pgn_pieces.specs.Places.{ends_line, line_ends, last_line_len, line_of, column_of}
+use Rattle.pgn_pieces.specs.Places.{ends_line, line_ends, line_of, column_of}
 use Rattle.pgn_verifier.specs.declared.start.TextStart.{TextStart}
-use Rattle.pgn_pieces.specs.Pieces.{Piece}
+use Rattle.pgn_pieces.specs.Stream.{PieceSeen}
 use Rattle.pgn_pieces.specs.laws.Places.{IsInPlace}
 use Rattle.std.specs.List.{sum_by}
 use Rattle.pgn_verifier.specs.ties.OnTheWay.{StandsAt, PieceStandsAt}
+
+abbrev last_line_len : List ℕ → ℕ
+last_line_len text = suffix_len (λ c. not (ends_line c)) text
 
 line_ends_after : (xs ys : List ℕ) → line_ends (xs ++ ys) ≡ line_ends xs + line_ends ys
 line_ends_after = sum_by-append (λ c. if ends_line c then 1 else 0)
@@ -51,8 +54,8 @@ module _ (start : TextStart) (input text : List ℕ) (k : ℕ) (within : k ≤ l
 -- ---- pieces
 
 -- the pieces that begin a text are in their places also if more follows
-pub piece_there : (text more : List ℕ) (before : List Piece) (piece : Piece) (number : ℕ) → IsInPlace text before piece
-    → piece.offset ≤ length text → number ≡ sum_by (λ (p : Piece). p.line_ends) before + 1
+pub piece_there : (text more : List ℕ) (before : List PieceSeen) (piece : PieceSeen) (number : ℕ) → IsInPlace text before piece
+    → piece.offset ≤ length text → number ≡ sum_by (λ (p : PieceSeen). p.line_ends) before + 1
     → PieceStandsAt number (text ++ more) piece
 piece_there text more before piece number placed within is = record {
   bytes = λ xs e. bytes_there xs (placed.bytes xs e);

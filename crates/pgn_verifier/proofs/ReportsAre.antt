@@ -1,8 +1,10 @@
 -- The reports that are made one after another are those of the definitions, and no others are.
-use Rattle.std.proofs.Common.{◌≡◌, ℕ, zero, suc, ◌+◌, ◌<◌, ◌≤◌, Bool, List, [], ◌∷◌, ◌++◌, length, drop, Option, Some, None, IfSome, IfNone, Result, Ok, Err, IfOk, refl, sym, ap, subst, ◌∙◌, arith}
+use Rattle.std.proofs.Common.{◌≡◌, ℕ, zero, suc, ◌+◌, ◌<◌, ◌≤◌, Bool, List, [], ◌∷◌, ◌++◌, length, drop, Option, Some, None, IfSome, true, false, Result, Ok, Err, IfOk, refl, sym, ap, subst, ◌∙◌, arith}
 use Rattle.std.proofs.Math.Path.{fun_ext}
 use Rattle.std.specs.List.{flat_map}
 use Rattle.std.specs.Option.{option_map_or}
+use Rattle.std.specs.Prelude.{nat_le, if◌then◌else◌}
+use Rattle.std.specs.Bool.{MatchBool}
 use Rattle.chess_game.specs.Game.{State, verdict_now}
 use Rattle.chess_game.specs.declared.game.TheConstants.{MOST_MOVES}
 use Rattle.chess_game.specs.declared.verdicts.Verdict.{Verdict}
@@ -15,12 +17,14 @@ use Rattle.chess_pgn.specs.declared.tagged_result.ResultTag.{ResultTag}
 use Rattle.chess_pgn.proofs.shared.Ends.{ends_in_text}
 use Rattle.chess_pgn.proofs.shared.Tokens.{read_split, split_read}
 use Rattle.pgn_pieces.specs.Pieces.{Piece, pieces}
+use Rattle.pgn_pieces.specs.declared.pieces.TheConstants.{PIECE_LEN}
 use Rattle.pgn_verifier.specs.Collection.{AreCollectionReports}
-use Rattle.pgn_verifier.specs.Explanations.{IsReason, explained}
-use Rattle.pgn_verifier.specs.GameFaults.{contradiction, judged, IsJudged}
+use Rattle.pgn_verifier.specs.Explanations.{IsReason, part_offset, explanation}
+use Rattle.pgn_verifier.specs.GameFaults.{judged, IsJudged}
+use Rattle.pgn_verifier.specs.ties.OnTheWay.{contradiction}
 use Rattle.pgn_verifier.specs.Reports.{Report, Game, Faulty, AreReports, none_left, next_game, last_fault, too_long_report, AreReportsIn}
 use Rattle.pgn_verifier.specs.declared.game_fault.GameFault.{GameFault}
-use Rattle.pgn_verifier.specs.laws.Reasons.{explanation_of}
+use Rattle.pgn_verifier.specs.laws.Reasons.{reason, explanation_of}
 use Rattle.pgn_verifier.proofs.TagReasons.{reason_is, only_reason}
 use Rattle.pgn_verifier.specs.laws.Reported.{read_at, judged_at, report_then, reports_from, reports_on, reports_in, collection_reports}
 
@@ -60,18 +64,22 @@ ReportsBy strict start text s (Ok (Some end)) reports =
     × (reports ≡ Game (length s.moves) end.outcome end.termination ∷ more)
 ReportsBy strict start text s (Err fault) reports =
     reports ≡ Faulty (record fault { offset = start + fault.offset })
+    (start + fault.offset + part_offset fault.kind (drop fault.offset text))
     (explanation_of s (drop fault.offset text) fault.kind) ∷ []
 
 -- the report on a fault whose reason is given
 fault_report : (start : ℕ) (text : List ℕ) (fault : GameFault) (s : State) (reason : Option (List ℕ))
     → IsReason fault.kind (drop fault.offset text) (verdict_now s) reason
     → Faulty (record fault { offset = start + fault.offset })
-    (explained s (drop fault.offset text) fault.kind reason) ∷ []
+    (start + fault.offset + part_offset fault.kind (drop fault.offset text))
+    (explanation s (drop fault.offset text) fault.kind reason) ∷ []
     ≡ Faulty (record fault { offset = start + fault.offset })
+    (start + fault.offset + part_offset fault.kind (drop fault.offset text))
     (explanation_of s (drop fault.offset text) fault.kind) ∷ []
 fault_report start text fault s reason h =
     ap (λ r. Faulty (record fault { offset = start + fault.offset })
-    (explained s (drop fault.offset text) fault.kind r) ∷ [])
+    (start + fault.offset + part_offset fault.kind (drop fault.offset text))
+    (explanation s (drop fault.offset text) fault.kind r) ∷ [])
     (only_reason fault.kind (drop fault.offset text) (verdict_now s) reason h)
 
 abbrev ReportsAt : Bool → ℕ → List ℕ → ℕ → List Report → Type 0
@@ -88,13 +96,15 @@ reports_at {strict} {start} {text} (next_game {at} {s} {end} {reports} j h) =
     subst (λ r. ReportsBy strict start text (read_at text at).state r
     (Game (length s.moves) end.outcome end.termination ∷ reports)) is.1
     (reports, h, ap (λ (g : State). Game (length g.moves) end.outcome end.termination ∷ reports) is.0)
-reports_at {strict} {start} {text} (last_fault {at} {s} {fault} {reason} j h) =
+reports_at {strict} {start} {text} (last_fault {at} {s} {fault} reason j h) =
     let is = only_judged strict text at s (Err fault) j in
     subst (λ r. ReportsBy strict start text (read_at text at).state r
     (Faulty (record fault { offset = start + fault.offset })
-    (explained s (drop fault.offset text) fault.kind reason) ∷ [])) is.1
+    (start + fault.offset + part_offset fault.kind (drop fault.offset text))
+    (explanation s (drop fault.offset text) fault.kind reason) ∷ [])) is.1
     (fault_report start text fault s reason h
     ∙ ap (λ (g : State). Faulty (record fault { offset = start + fault.offset })
+    (start + fault.offset + part_offset fault.kind (drop fault.offset text))
     (explanation_of g (drop fault.offset text) fault.kind) ∷ []) is.0)
 
 one_list : {strict : Bool} {start : ℕ} {text : List ℕ} {at : ℕ} {reports : List Report}
@@ -109,10 +119,11 @@ one_list {strict} {start} {text} (next_game {at} {s} {end} {reports} j h) others
     more.2 ∙ ap (λ rs. Game (length (read_at text at).state.moves) end.outcome end.termination ∷ rs)
     (one_list h more.0 more.1)
     ∙ ap (λ (g : State). Game (length g.moves) end.outcome end.termination ∷ reports) (sym is.0)
-one_list {strict} {start} {text} (last_fault {at} {s} {fault} {reason} j h) others k =
+one_list {strict} {start} {text} (last_fault {at} {s} {fault} reason j h) others k =
     let is = only_judged strict text at s (Err fault) j in
     subst (λ r. ReportsBy strict start text (read_at text at).state r others) (sym is.1) (reports_at k)
     ∙ ap (λ (g : State). Faulty (record fault { offset = start + fault.offset })
+    (start + fault.offset + part_offset fault.kind (drop fault.offset text))
     (explanation_of g (drop fault.offset text) fault.kind) ∷ []) (sym is.0)
     ∙ sym (fault_report start text fault s reason h)
 
@@ -156,7 +167,9 @@ from_here strict start (suc n) text at h k =
     by_answer (Ok (Some end)) j i later =
         let low = i.0 in next_game j (later end.offset i.1 (omega (arith, k, low)))
     by_answer (Err fault) j i later =
-        last_fault j (reason_is fault.kind (drop fault.offset text) (verdict_now (read_at text at).state))
+        let rest : List ℕ = drop fault.offset text in
+        let verdict : Option Verdict = verdict_now (read_at text at).state in
+        last_fault (reason fault.kind rest verdict) j (reason_is fault.kind rest verdict)
 
 pub are_reports : (strict : Bool) (start : ℕ) (text : List ℕ)
     → AreReports strict start text 0 (reports_on strict start text)
@@ -169,24 +182,24 @@ only_reports strict start text reports h = one_list (are_reports strict start te
 -- ---- pieces
 
 reports_are_in : (strict : Bool) (piece : Piece) → AreReportsIn strict piece (reports_in strict piece)
-reports_are_in strict piece = by_bytes piece.bytes
+reports_are_in strict piece = by_test (nat_le (length piece.bytes) PIECE_LEN)
   where
-    by_bytes : (bytes : Option (List ℕ))
-        → let reports = option_map_or (reports_on strict piece.offset) bytes (too_long_report piece ∷ []) in
-        IfSome bytes (λ text. AreReports strict piece.offset text 0 reports)
-        × IfNone bytes (reports ≡ too_long_report piece ∷ [])
-    by_bytes None = (tt, refl)
-    by_bytes (Some text) = (are_reports strict piece.offset text, tt)
+    by_test : (b : Bool) → MatchBool b (AreReports strict piece.offset piece.bytes 0
+        (if b then reports_on strict piece.offset piece.bytes else too_long_report piece ∷ []))
+        ((if b then reports_on strict piece.offset piece.bytes else too_long_report piece ∷ [])
+        ≡ too_long_report piece ∷ [])
+    by_test true = are_reports strict piece.offset piece.bytes
+    by_test false = refl
 
 only_reports_in : (strict : Bool) (piece : Piece) (reports : List Report) → AreReportsIn strict piece reports
     → reports ≡ reports_in strict piece
-only_reports_in strict piece reports h = by_bytes piece.bytes h.0 h.1
+only_reports_in strict piece reports h = by_test (nat_le (length piece.bytes) PIECE_LEN) h
   where
-    by_bytes : (bytes : Option (List ℕ)) → IfSome bytes (λ text. AreReports strict piece.offset text 0 reports)
-        → IfNone bytes (reports ≡ too_long_report piece ∷ [])
-        → reports ≡ option_map_or (reports_on strict piece.offset) bytes (too_long_report piece ∷ [])
-    by_bytes None h k = k
-    by_bytes (Some text) h k = only_reports strict piece.offset text reports h
+    by_test : (b : Bool) → MatchBool b (AreReports strict piece.offset piece.bytes 0 reports)
+        (reports ≡ too_long_report piece ∷ [])
+        → reports ≡ (if b then reports_on strict piece.offset piece.bytes else too_long_report piece ∷ [])
+    by_test true h = only_reports strict piece.offset piece.bytes reports h
+    by_test false h = h
 
 pub are_collection_reports : (strict ended : Bool) (text : List ℕ)
     → AreCollectionReports strict ended text (collection_reports strict ended text)

@@ -7,10 +7,11 @@ use Rattle.chess_pgn.specs.declared.read.PgnEnd.{PgnEnd}
 use Rattle.pgn_verifier.specs.declared.game_fault.GameFault.{GameFault}
 use Rattle.pgn_verifier.specs.declared.options.VerifyOptions.{VerifyOptions}
 use Rattle.pgn_verifier.specs.declared.tally.Tally.{Tally}
-use Rattle.pgn_verifier.specs.Reports.{Report, Game, Faulty, game_line, written_line, report_lines}
+use Rattle.pgn_verifier.specs.Explanations.{part_offset}
+use Rattle.pgn_verifier.specs.Reports.{Report, Game, Faulty, written_line, report_lines}
 use Rattle.pgn_verifier.specs.laws.Reasons.{explanation_of}
 use Rattle.pgn_verifier.specs.laws.Reported.{read_at, judged_at, report_then, reports_from, reports_on}
-use Rattle.pgn_verifier.specs.ties.OnTheWay.{with_report, next_number, Writes, GrowsBy, moved, counted}
+use Rattle.pgn_verifier.specs.ties.OnTheWay.{game_line, with_report, next_number, Writes, GrowsBy, moved, counted}
 use Rattle.pgn_verifier.proofs.LinesWritten.{wrote_none, took_after, broke_after, writes_after, one_line, first_broke, counted_after}
 
 -- ---- the reports that are left
@@ -121,7 +122,9 @@ module _ (options : VerifyOptions) (start : ℕ) (text : List ℕ) (before : Tal
 
   -- the report on a fault of the game `g`
   abbrev report : GameFault → State → Report
-  report fault g = Faulty (moved start fault) (explanation_of g (drop fault.offset text) fault.kind)
+  report fault g = Faulty (moved start fault)
+      (start + fault.offset + part_offset fault.kind (drop fault.offset text))
+      (explanation_of g (drop fault.offset text) fault.kind)
 
   pub fault_written : (E : Type 0) (input : List ℕ) (fault : GameFault) (g : State)
       → judged_at options.strict text at ≡ Err fault → g ≡ (read_at text at).state

@@ -11,9 +11,9 @@ use Rattle.pgn_verifier.specs.declared.fault.VerifyFault.{VerifyFault}
 use Rattle.pgn_verifier.specs.declared.fault.VerifyFault.TheVariants.{ReadFailed, WriteFailed, NoMemory, InputTooLong}
 use Rattle.pgn_verifier.specs.declared.options.VerifyOptions.{VerifyOptions}
 use Rattle.pgn_verifier.specs.declared.tally.Verified.{Verified}
-use Rattle.pgn_verifier.specs.Reports.{counts_of, verified}
+use Rattle.pgn_verifier.specs.Reports.{Report, counts_of, verified}
 use Rattle.pgn_verifier.specs.Verify.{Verifies}
-use Rattle.pgn_verifier.specs.Collection.{VerifiesCollection, WritesPart}
+use Rattle.pgn_verifier.specs.Collection.{AreCollectionReports, VerifiesCollection}
 use Rattle.pgn_verifier.specs.laws.Reported.{reports_on, collection_reports}
 use Rattle.pgn_verifier.specs.Faults.{of_piece}
 use Rattle.pgn_verifier.proofs.ReportsAre.{are_reports, are_collection_reports}
@@ -92,10 +92,7 @@ collection_verified options r r' w w' text verdict read sent is = (
   all_of (collection_written options true text),
   gave r r' text true read,
   took_all w w' (collection_written options true text) sent,
-  (
-    (refl, refl),
-    (collection_reports options.strict true text, are_collection_reports options.strict true text, refl, is),
-  ),
+  (collection_reports options.strict true text, are_collection_reports options.strict true text, ((refl, refl), refl, is)),
 )
 
 pub collection_broke_off : (options : VerifyOptions) (r r' : InputState) (w w' : OutputState) (ended : Bool)
@@ -108,12 +105,9 @@ collection_broke_off options r r' w w' ended text read (start, begins, failed) =
   gave r r' text ended read,
   took_some w w' start failed,
   (
-    refl,
-    (
-      collection_reports options.strict ended text,
-      are_collection_reports options.strict ended text,
-      (refl, begins, refl),
-    ),
+    collection_reports options.strict ended text,
+    are_collection_reports options.strict ended text,
+    (refl, (refl, begins, refl)),
   ),
 )
 
@@ -130,9 +124,11 @@ reading_stopped options r r' w w' text fault cause took = by_fault fault cause
     part : Took w w' written
     part = subst (Took w w') (sym (append-nil (collection_lines options false text))) took
 
-    part_written : (failed : Bool) → WritesPart options (came r' text false failed) (all_unflushed written)
-    part_written failed =
-        (refl, (collection_reports options.strict false text, are_collection_reports options.strict false text, refl))
+    reports : List Report
+    reports = collection_reports options.strict false text
+
+    are : AreCollectionReports options.strict false text reports
+    are = are_collection_reports options.strict false text
 
     by_fault : (fault : PieceFault) → IsCause r r' text fault
         → Ran (VerifiesCollection options (Err (of_piece fault))) (record { input = r; output = w })
@@ -142,19 +138,19 @@ reading_stopped options r r' w w' text fault cause took = by_fault fault cause
       all_unflushed written,
       gave_before_a_fault r r' text broke_off,
       took_unflushed w w' written part,
-      ((refl, refl), part_written true),
+      (reports, are, ((refl, refl), refl)),
     )
     by_fault piece.NoMemory read = (
       came r' text false false,
       all_unflushed written,
       gave r r' text false read,
       took_unflushed w w' written part,
-      (refl, part_written false),
+      (reports, are, (refl, refl, refl)),
     )
     by_fault piece.InputTooLong (read, many) = (
       came r' text false false,
       all_unflushed written,
       gave r r' text false read,
       took_unflushed w w' written part,
-      (refl, many, part_written false),
+      (reports, are, (refl, refl, many, refl)),
     )

@@ -21,11 +21,11 @@ use Rattle.chess_pgn.specs.laws.PgnLaw.{AreTagTexts, IsReadBack, PgnIsReadBack, 
 use Rattle.chess_pgn.specs.laws.TokenByToken.{tokens_read}
 use Rattle.chess_pgn.proofs.shared.Tokens.{kinds_read}
 use Rattle.pgn_verifier.specs.GameFaults.{judged}
-use Rattle.pgn_verifier.specs.Reports.{Report, Game, is_game}
+use Rattle.pgn_verifier.specs.Reports.{Report, Game}
 use Rattle.pgn_verifier.specs.laws.NoFaults.{begins_with_mark}
 use Rattle.pgn_verifier.specs.laws.Parts.{BeginsAlike, AllHoldWhole, no_parts, next_part}
 use Rattle.pgn_verifier.specs.laws.WrittenGames.{HasNoFault, TaggedGame, AreWritable, written_text, report_of, WrittenTextsHaveNoFault}
-use Rattle.pgn_verifier.proofs.FaultlessTexts.{part_holds, begins_first, begins_later}
+use Rattle.pgn_verifier.proofs.FaultlessTexts.{is_game, part_holds, begins_first, begins_later}
 use Rattle.pgn_verifier.proofs.Parts.{all_reported_alike}
 use Rattle.pgn_verifier.proofs.PartsAlike.{TokenByToken, read_so, judged_so, no_mark}
 use Rattle.pgn_verifier.proofs.PartsRead.{in_text}

@@ -33,21 +33,16 @@ abbrev pub board_says_otherwise : Option Verdict → PgnEnd → Option GameFault
 board_says_otherwise verdict end = if contradicts_verdict verdict end.outcome
     then Some (record { kind = BoardSaysOtherwise; offset = end.offset - length (outcome_text end.outcome) }) else None
 
--- the fault of a game whose outcome mark (`end`) contradicts its last tag Result (`tag`), or if it does not, the
--- board's verdict; `None` without a contradiction, or if `strict` is false: then nothing is compared
-abbrev pub contradiction : Bool → Option ResultTag → Option Verdict → PgnEnd → Option GameFault
-contradiction strict tag verdict end =
-    if strict then option_or (result_differs tag end) (board_says_otherwise verdict end) else None
-
 -- ---- a game
 
 -- what is reported of a game, from how its text was read (the last argument): `Ok (Some end)` with its end, `Err` with
 -- its fault, or `Ok None` if the text had no more games. With `strict` an end that contradicts the last tag Result
--- (`tag`) or the board's verdict is a fault too
+-- (`tag`), or if it does not, the board's verdict, is a fault too; otherwise nothing is compared
 abbrev pub judged : Bool → Option ResultTag → Option Verdict → Result (Option PgnEnd) PgnFault
     → Result (Option PgnEnd) GameFault
 judged strict tag verdict (Ok None) = Ok None
-judged strict tag verdict (Ok (Some end)) = option_map_or Err (contradiction strict tag verdict end) (Ok (Some end))
+judged strict tag verdict (Ok (Some end)) = option_map_or Err
+    (if strict then option_or (result_differs tag end) (board_says_otherwise verdict end) else None) (Ok (Some end))
 judged strict tag verdict (Err fault) = Err (record { kind = Pgn fault.kind; offset = fault.offset })
 
 -- `answer` is what is reported (see `judged`) of the first game from the offset `at` of the text on, and `s` is this

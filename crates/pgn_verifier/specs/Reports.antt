@@ -1,7 +1,8 @@
 -- The reports on the games of a text and of pieces, their lines and their counts.
-use Rattle.std.specs.Prelude.{◌≡◌, ℕ, ◌+◌, ◌==◌, Bool, true, false, not, if◌then◌else◌, List, [], ◌∷◌, ◌++◌, length, drop, codes, decimal, Option, IfSome, IfNone, Some, None, Ok, Err}
+use Rattle.std.specs.Prelude.{◌≡◌, ℕ, ◌+◌, ◌==◌, nat_le, Bool, not, if◌then◌else◌, List, [], ◌∷◌, ◌++◌, length, drop, codes, decimal, is_some, Option, Some, None, Ok, Err}
 use Rattle.std.specs.List.{count_by, sum_by}
-use Rattle.std.specs.Option.{option_map_or}
+use Rattle.std.specs.Bool.{MatchBool}
+use Rattle.std.specs.Option.{unwrap_or}
 use Rattle.chess_base.specs.Letters.{new_line}
 use Rattle.chess_game.specs.Game.{State, verdict_now}
 use Rattle.chess_game.specs.Results.{outcome_text}
@@ -11,7 +12,8 @@ use Rattle.chess_pgn.specs.declared.read.PgnFaultKind.TheVariants.{TooLong}
 use Rattle.chess_pgn.specs.declared.termination.Termination.{Termination}
 use Rattle.chess_pgn.specs.Terminations.{termination_text}
 use Rattle.pgn_pieces.specs.Pieces.{Piece}
-use Rattle.pgn_verifier.specs.Explanations.{IsReason, Explanation, explained, too_long_explained, explanation_line}
+use Rattle.pgn_pieces.specs.declared.pieces.TheConstants.{PIECE_LEN}
+use Rattle.pgn_verifier.specs.Explanations.{IsReason, shown, part_offset, explanation, explanation_line}
 use Rattle.pgn_verifier.specs.GameFaults.{IsJudged, fault_name}
 use Rattle.pgn_verifier.specs.declared.game_fault.FaultKind.TheVariants.{Pgn}
 use Rattle.pgn_verifier.specs.declared.game_fault.GameFault.{GameFault}
@@ -27,14 +29,15 @@ pub data Report : Type 0 where
   -- a game without a fault: how many half-moves it has, the outcome of its outcome mark, such as `1-0`, and what its
   -- last tag Termination names; `None` if there is no such tag, or if it has none of the standard's values
   Game : (plies : ℕ) (outcome : Outcome) (termination : Option Termination) → Report
-  -- a fault, with its offset from the input's first byte, and what explains it
-  Faulty : (fault : GameFault) (explanation : Explanation) → Report
+  -- a fault, with its offset from the input's first byte; the offset there of the part that is wrong; and the text that
+  -- explains the fault
+  Faulty : (fault : GameFault) (wrong_at : ℕ) (explanation : List ℕ) → Report
 
 -- ---- the reports on the games of a text
 
--- these are the reports on the games of `text` from its offset `at` on, which is the number before the list. The text
--- begins at the offset `start` of the input. `strict`: an outcome mark that contradicts the tag Result or the board's
--- verdict is a fault
+-- these are the reports on the games of `text` from its offset `at` on, which is the number before the list, up to and
+-- including the first game with a fault. The text begins at the offset `start` of the input. `strict`: an outcome mark
+-- that contradicts the tag Result or the board's verdict is a fault
 pub data AreReports (strict : Bool) (start : ℕ) (text : List ℕ) : ℕ → List Report → Type 0 where
   -- no game comes from `at` on
   none_left : {at : ℕ} {s : State} → IsJudged strict text at s (Ok None) → AreReports strict start text at []
@@ -44,53 +47,44 @@ pub data AreReports (strict : Bool) (start : ℕ) (text : List ℕ) : ℕ → Li
       → AreReports strict start text at (Game (length s.moves) end.outcome end.termination ∷ reports)
   -- the next game has a fault, and the games after it are not reported. The fault's offset in the text becomes its
   -- offset in the input
-  last_fault : {at : ℕ} {s : State} {fault : GameFault} {reason : Option (List ℕ)}
+  last_fault : {at : ℕ} {s : State} {fault : GameFault} (reason : Option (List ℕ))
       → IsJudged strict text at s (Err fault) → IsReason fault.kind (drop fault.offset text) (verdict_now s) reason
       → AreReports strict start text at (Faulty (record fault { offset = start + fault.offset })
-      (explained s (drop fault.offset text) fault.kind reason) ∷ [])
+      (start + fault.offset + part_offset fault.kind (drop fault.offset text))
+      (explanation s (drop fault.offset text) fault.kind reason) ∷ [])
 
 -- ---- the reports on the games of pieces
 
--- the report on a piece that is too long: the fault TooLong at its first byte. A game of more than 20,000 half-moves
--- has the same kind of fault, but at its 20,001st half-move
+-- the report on a piece that is too long: the fault TooLong at its first byte, explained by the text there. A game of
+-- more than 20,000 half-moves has the same kind of fault, but at its 20,001st half-move
 abbrev pub too_long_report : Piece → Report
 too_long_report piece =
-    Faulty (record { kind = Pgn TooLong; offset = piece.offset }) (too_long_explained piece.beginning)
+    Faulty (record { kind = Pgn TooLong; offset = piece.offset }) piece.offset (shown piece.bytes)
 
 -- these are the reports on a piece, whose bytes are read as a text of its own: on its games in order, up to the first
--- with a fault; or, if it is too long (its bytes are `None`), one report on the piece. `strict`: an outcome mark that
--- contradicts the tag Result or the board's verdict is a fault
+-- with a fault; or, if it is too long (it has more than 16,777,216 bytes), one report on the piece. `strict`: an outcome
+-- mark that contradicts the tag Result or the board's verdict is a fault
 abbrev pub AreReportsIn : Bool → Piece → List Report → Type 0
-AreReportsIn strict piece reports = IfSome piece.bytes (λ text. AreReports strict piece.offset text 0 reports)
-    × IfNone piece.bytes (reports ≡ too_long_report piece ∷ [])
+AreReportsIn strict piece reports = MatchBool (nat_le (length piece.bytes) PIECE_LEN)
+    (AreReports strict piece.offset piece.bytes 0 reports) (reports ≡ too_long_report piece ∷ [])
 
 -- ---- their lines
 
--- what the line says of the game's last tag Termination, such as `, time forfeit`; empty if it names none of the
--- standard's values, or if there is no such tag
-abbrev pub termination_part : Option Termination → List ℕ
-termination_part termination = option_map_or (λ t. codes ", " ++ termination_text t) termination []
+-- the line of the report with this number, which says this text, such as `game 2: illegal move at byte 39`
+unfoldable pub report_line : ℕ → List ℕ → List ℕ
+report_line number text = codes "game " ++ (decimal number ++ (codes ": " ++ (text ++ new_line ∷ [])))
 
--- the line of a game without a fault, such as `game 3: 4 half-moves, 0-1`; `number` is the game's number, `plies` how
--- many half-moves it has
-unfoldable pub game_line : ℕ → ℕ → Outcome → Option Termination → List ℕ
-game_line number plies outcome termination =
-    codes "game " ++ (decimal number ++ (codes ": " ++ (decimal plies ++ (codes " half-moves, " ++ (outcome_text outcome
-    ++ (termination_part termination ++ new_line ∷ []))))))
-
--- the line of a fault, such as `game 2: illegal move at byte 39`; `number` is the game's number
-unfoldable pub fault_line : ℕ → GameFault → List ℕ
-fault_line number fault = codes "game "
-    ++ (decimal number ++ (codes ": " ++ (fault_name fault.kind ++ (codes " at byte "
-    ++ (decimal fault.offset ++ new_line ∷ [])))))
-
--- what is written of a report: a game's line, unless `options.quiet` leaves it out; or a fault's line, and with
--- `options.explain` the line that explains it. `input` is what was read of the input, `number` the report's number
+-- what is written of a report; `input` is what was read of the input, `number` the report's number
 abbrev pub written_line : VerifyOptions → List ℕ → ℕ → Report → List ℕ
+-- a game's line, such as `game 3: 4 half-moves, 0-1, time forfeit`, unless `options.quiet` leaves it out. The last part
+-- is what the game's last tag Termination names, if anything
 written_line options input number (Game plies outcome termination) =
-    if options.quiet then [] else game_line number plies outcome termination
-written_line options input number (Faulty fault explanation) = fault_line number fault
-    ++ (if options.explain then explanation_line input fault.offset explanation else [])
+    if options.quiet then [] else report_line number (decimal plies ++ (codes " half-moves, "
+    ++ (outcome_text outcome ++ option_map_or (λ t. codes ", " ++ termination_text t) termination [])))
+-- a fault's line, such as `game 2: illegal move at byte 39`, and with `options.explain` the line that explains it
+written_line options input number (Faulty fault wrong_at explanation) =
+    report_line number (fault_name fault.kind ++ (codes " at byte " ++ decimal fault.offset))
+    ++ (if options.explain then explanation_line input wrong_at explanation else [])
 
 -- the lines of these reports, which are numbered from `number` on; a report whose line `quiet` leaves out has a number
 -- too. `input` is what was read of the input
@@ -101,23 +95,18 @@ report_lines options input number (report ∷ rest) =
 
 -- ---- the counts
 
--- whether a report is on a game without a fault
-abbrev pub is_game : Report → Bool
-is_game (Game plies outcome termination) = true
-is_game (Faulty fault explanation) = false
-
--- how many half-moves a report counts: those of a game without a fault, none of a game with one
-abbrev pub half_moves_of : Report → ℕ
-half_moves_of (Game plies outcome termination) = plies
-half_moves_of (Faulty fault explanation) = 0
+-- how many half-moves a report counts: those of a game without a fault; `None` if it is on a fault
+abbrev pub half_moves_of : Report → Option ℕ
+half_moves_of (Game plies outcome termination) = Some plies
+half_moves_of (Faulty fault wrong_at explanation) = None
 
 -- the counts of these reports: how many games without a fault there are, how many half-moves these have, and how many
 -- faults there are
 abbrev pub counts_of : List Report → Tally
 counts_of reports = record {
-  games = count_by is_game reports;
-  half_moves = sum_by half_moves_of reports;
-  faults = count_by (λ report. not (is_game report)) reports;
+  games = count_by (λ report. is_some (half_moves_of report)) reports;
+  half_moves = sum_by (λ report. unwrap_or (half_moves_of report) 0) reports;
+  faults = count_by (λ report. not (is_some (half_moves_of report))) reports;
 }
 
 -- how verifying ended, from the counts of all reports: `EachGame` if each game is without a fault, `FaultReported` if a

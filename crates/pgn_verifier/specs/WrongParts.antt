@@ -1,7 +1,7 @@
 -- Which part of a game's text a fault is about, and what is wrong there (PGN standard of 1994): the field of a FEN
 -- (section 16.1.3), what a tag lacks (8.1.1), and what begins no token or is no move (7 and 8.2).
-use Rattle.std.specs.Prelude.{◌≡◌, ℕ, zero, suc, ◌-◌, ◌==◌, Bool, true, false, not, List, [], ◌∷◌, ◌++◌, length, take_while, drop, Option, Some, codes, is_some, if◌then◌else◌}
-use Rattle.std.specs.List.{prefix_len}
+use Rattle.std.specs.Prelude.{◌≡◌, ℕ, zero, suc, ◌-◌, ◌==◌, Bool, true, false, not, List, [], ◌∷◌, ◌++◌, length, take, take_while, drop, Option, Some, codes, is_some, if◌then◌else◌}
+use Rattle.std.specs.List.{prefix_len, list_any}
 use Rattle.chess_base.specs.Letters.{byte, space}
 use Rattle.chess_base.specs.declared.fen_fault.FenFault.{FenFault}
 use Rattle.chess_base.specs.declared.fen_fault.FenFault.TheVariants.{Side, Castling, EnPassant, Counters}
@@ -15,19 +15,16 @@ use Rattle.chess_pgn.specs.Tokens.{is_word_byte}
 abbrev pub fen_text : List ℕ → List ℕ
 fen_text text = take_while (λ c. not (c == byte "\"")) text
 
--- the text after the spaces at its front
-abbrev pub after_spaces : List ℕ → List ℕ
-after_spaces text = drop (prefix_len (λ c. c == space) text) text
-
--- the text from its first space on; empty if it has none
-abbrev pub from_space : List ℕ → List ℕ
-from_space text = drop (prefix_len (λ c. not (c == space)) text) text
+-- a text without the bytes at its front that pass the test
+abbrev pub drop_while : (ℕ → Bool) → List ℕ → List ℕ
+drop_while test text = drop (prefix_len test text) text
 
 -- a FEN from its field with this number on, 0 for the first; one or more spaces separate fields. Empty if the FEN has
 -- fewer fields
 unfoldable pub from_field : ℕ → List ℕ → List ℕ
-from_field zero fen = after_spaces fen
-from_field (suc number) fen = from_field number (from_space (after_spaces fen))
+from_field zero fen = drop_while (λ c. c == space) fen
+from_field (suc number) fen =
+    from_field number (drop_while (λ c. not (c == space)) (drop_while (λ c. c == space) fen))
 
 -- the field with this number: its bytes, up to the next space or the FEN's end. Of a FEN with fewer fields it is the
 -- empty text at the end
@@ -44,17 +41,9 @@ field_number EnPassant fen = 3
 field_number Counters fen = if is_some (short_number 6 (field_at 4 fen)) then 5 else 4
 field_number _ fen = 0
 
--- the field that is shown for a FEN's fault
-abbrev pub wrong_field : FenFault → List ℕ → List ℕ
-wrong_field fault fen = field_at (field_number fault fen) fen
-
--- how many bytes a FEN has before the field that is shown for its fault
-abbrev pub field_offset : FenFault → List ℕ → ℕ
-field_offset fault fen = length fen - length (from_field (field_number fault fen) fen)
-
 -- ---- tags
 
--- the text begins with `[`, a gap, and a name's first byte
+-- the text begins with `[`, a gap (white space and `%` lines), and a name's first byte
 abbrev pub HasName : List ℕ → Type 0
 HasName text = (gap : List ℕ) × (c : ℕ) × (rest : List ℕ) × IsGap false gap × (is_name_byte c ≡ true)
     × (text ≡ byte "[" ∷ (gap ++ c ∷ rest))
@@ -63,12 +52,13 @@ HasName text = (gap : List ℕ) × (c : ℕ) × (rest : List ℕ) × IsGap false
 abbrev pub HasOpening : List ℕ → List ℕ → Type 0
 HasOpening text rest = (name opening : List ℕ) × OpensTag name opening × (text ≡ opening ++ rest)
 
--- the text begins with the string of a tag and the quote after it, such as `a"`
+-- the text, which comes after a tag's opening quote, begins with the tag's string and the quote after it, such as `a"`
 abbrev pub HasString : List ℕ → Type 0
 HasString text = (string rest : List ℕ) × IsString string × (text ≡ string ++ byte "\"" ∷ rest)
 
 -- the reason for a bad tag; `text` is the text from its `[` on. It is the first part that is missing: a name, a quote
--- after the name, a quote that ends the value, or `]`. That no tag can be read there is not claimed here
+-- after the name, a quote that ends the value, or else `]`. That no tag can be read there is claimed by `IsJudged`, so
+-- `no_bracket` need not say that `]` is missing
 pub data IsTagReason (text : List ℕ) : Option (List ℕ) → Type 0 where
   no_name : (HasName text → ⊥) → IsTagReason text (Some (codes "no name"))
   no_value : HasName text → ((rest : List ℕ) → HasOpening text rest → ⊥) → IsTagReason text (Some (codes "no value"))
@@ -79,11 +69,7 @@ pub data IsTagReason (text : List ℕ) : Option (List ℕ) → Type 0 where
 
 -- ---- tokens
 
--- whether the text begins with a byte of a word
-abbrev pub begins_word : List ℕ → Bool
-begins_word [] = false
-begins_word (c ∷ rest) = is_word_byte c
-
--- what is wrong with a bad token, from its first byte on: it is a word that is not a move, or that byte begins no token
+-- what is wrong with a bad token, from its first byte on: if that is a byte of a word, this is a word that is not a
+-- move; otherwise the byte begins no token
 abbrev pub token_reason : List ℕ → List ℕ
-token_reason text = if begins_word text then codes "not a move" else codes "begins no token"
+token_reason text = if list_any is_word_byte (take 1 text) then codes "not a move" else codes "begins no token"

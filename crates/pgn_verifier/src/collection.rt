@@ -5,9 +5,8 @@ ghost use Rattle.byte_devices.specs.Devices.{Sends};
 ghost use Rattle.byte_devices.specs.Transfers.{Ran};
 ghost use Rattle.pgn_pieces.specs.Stream.{unread, current};
 ghost use Rattle.pgn_verifier.specs.Reports.{counts_line};
-ghost use Rattle.pgn_verifier.specs.laws.Reported.{reports_in};
 ghost use Rattle.pgn_verifier.specs.Collection.{VerifiesCollection};
-ghost use Rattle.pgn_verifier.specs.ties.OnTheWay.{WritesCollection, PieceStandsIf, Writes, GrowsBy};
+ghost use Rattle.pgn_verifier.specs.ties.OnTheWay.{WritesCollection, PieceStandsIf, Writes, GrowsBy, reports_seen};
 ghost use Rattle.chess_game.specs.declared.game.TheConstants.{MOST_MOVES};
 
 use crate::explanation::too_long_lines;
@@ -40,7 +39,7 @@ fn verify_piece<W: Output>(
     requires limit { game.old.limit ≡ MOST_MOVES }
     ensures written { (input : List ℕ) → PieceStandsIf options.explain line input (current pieces.now)
         → Writes options input before (W.seen output.old) (W.seen output.new) result
-        (reports_in options.strict (current pieces.now)) }
+        (reports_seen options.strict (current pieces.now)) }
     ensures grown { IfOk result (λ after. GrowsBy (length pieces.now.part) before after) }
     ensures limit { game.new.limit ≡ MOST_MOVES }
 {

@@ -1,7 +1,7 @@
 //! The lines on a fault: its own, and the one that explains it.
 
-ghost use Rattle.std.specs.Prelude.{◌≡◌, ◌≤◌, ◌<◌, ◌+◌, ◌^◌, ◌++◌, ◌∷◌, [], true, if◌then◌else◌, List, ℕ, length, take, drop, decimal, codes, Some, None};
-ghost use Rattle.std.specs.List.{count_by};
+ghost use Rattle.std.specs.Prelude.{◌≡◌, ◌≤◌, ◌<◌, ◌+◌, ◌^◌, ◌++◌, ◌∷◌, [], true, not, if◌then◌else◌, List, ℕ, length, take, drop, decimal, codes, Some, None};
+ghost use Rattle.std.specs.List.{count_by, suffix_len};
 ghost use Rattle.std.specs.Option.{option_map};
 ghost use Rattle.arrayvec.specs.ArrayVec.{array_vec_len};
 ghost use Rattle.chess_base.specs.Letters.{new_line};
@@ -9,13 +9,12 @@ ghost use Rattle.chess_fen.specs.Writing.{fen};
 ghost use Rattle.chess_game.specs.Ends.{verdict_result, result_text};
 ghost use Rattle.chess_game.specs.Game.{current, verdict_now};
 ghost use Rattle.chess_pgn.specs.declared.read.PgnFaultKind.TheVariants.{TooLong};
-ghost use Rattle.pgn_pieces.specs.Places.{line_ends, last_line_len, line_of, column_of};
-ghost use Rattle.pgn_verifier.specs.Explanations.{part_offset, shown_part, has_position, optional_part, explanation_line, too_long_explained, shown};
+ghost use Rattle.pgn_pieces.specs.Places.{ends_line, line_ends, line_of, column_of};
+ghost use Rattle.pgn_verifier.specs.Explanations.{part_offset, shown_part, has_position, explanation_line, shown};
 ghost use Rattle.chess_game.specs.Results.{outcome_text};
-ghost use Rattle.pgn_verifier.specs.Reports.{fault_line};
 ghost use Rattle.pgn_verifier.specs.declared.game_fault.FaultKind.TheVariants.{Pgn};
 ghost use Rattle.pgn_verifier.specs.laws.Reasons.{reason, explanation_of};
-ghost use Rattle.pgn_verifier.specs.ties.OnTheWay.{StandsIf, moved};
+ghost use Rattle.pgn_verifier.specs.ties.OnTheWay.{StandsIf, moved, fault_line};
 ghost use Rattle.pgn_verifier.specs.declared.explanation.TheConstants.{FAULT_LINES_LEN};
 
 use crate::fen_field::{fen_text, field_offset, wrong_field};
@@ -38,7 +37,7 @@ const FAULT_LINES_LEN: usize = 420;
 pub(crate) type FaultLines = ArrayVec<u8, FAULT_LINES_LEN>;
 
 // The line of a fault, such as `game 2: illegal move at byte 39`; `number` is the game's number.
-#[tactic(auto, unfolding(crate::specs::Reports::fault_line))]
+#[tactic(auto, unfolding(crate::specs::Reports::report_line))]
 fn fault_line(number: usize, fault: GameFault) -> FaultLines
     ensures text { result.items ≡ fault_line number fault }
     ensures len { array_vec_len result ≤ 100 }
@@ -56,7 +55,7 @@ fn fault_line(number: usize, fault: GameFault) -> FaultLines
 
 // How many bytes a text has after its last line end.
 fn last_line_len(text: &[u8]) -> usize
-    ensures value { result ≡ last_line_len text.now }
+    ensures value { result ≡ suffix_len (λ c. not (ends_line c)) text.now }
     ensures within { result ≤ length text.now }
 {
     text.iter().rev().take_while(|byte| **byte != b'\n').count()
@@ -72,7 +71,7 @@ fn line_after(start: usize, before: &[u8]) -> usize
 
 // The column of the byte after these, which begin where a line begins.
 fn column_after(before: &[u8]) -> usize
-    ensures { result ≡ last_line_len before.now + 1 }
+    ensures { result ≡ suffix_len (λ c. not (ends_line c)) before.now + 1 }
 {
     last_line_len(before) + 1
 }
@@ -104,8 +103,8 @@ fn shown_part(kind: FaultKind, text: &[u8]) -> Shown
 // Appends ` | ` and the board's verdict, such as `0-1 {Black mates}`; nothing without one.
 fn append_verdict(lines: &mut FaultLines, verdict: Option<Verdict>)
     requires { array_vec_len lines.old + 80 ≤ FAULT_LINES_LEN }
-    ensures text { lines.new.items
-        ≡ lines.old.items ++ optional_part (option_map (λ v. result_text (verdict_result v)) verdict) }
+    ensures text { lines.new.items ≡ lines.old.items
+        ++ option_map_or (λ text. codes " | " ++ text) (option_map (λ v. result_text (verdict_result v)) verdict) [] }
     ensures len { array_vec_len lines.new ≤ array_vec_len lines.old + 80 }
 {
     if let Some(verdict) = verdict {
@@ -121,7 +120,7 @@ fn append_verdict(lines: &mut FaultLines, verdict: Option<Verdict>)
 fn append_part(lines: &mut FaultLines, reason: &[u8])
     requires room { array_vec_len lines.old + 80 ≤ FAULT_LINES_LEN }
     requires short { length reason.now ≤ 77 }
-    ensures text { lines.new.items ≡ lines.old.items ++ optional_part (Some reason.now) }
+    ensures text { lines.new.items ≡ lines.old.items ++ option_map_or (λ text. codes " | " ++ text) (Some reason.now) [] }
     ensures len { array_vec_len lines.new ≤ array_vec_len lines.old + 80 }
 {
     append(lines, b" | ");
@@ -137,7 +136,7 @@ fn append_pgn_reason(
     verdict: Option<Verdict>,
 )
     requires { array_vec_len lines.old + 80 ≤ FAULT_LINES_LEN }
-    ensures text { lines.new.items ≡ lines.old.items ++ optional_part (reason (Pgn kind) text.now verdict) }
+    ensures text { lines.new.items ≡ lines.old.items ++ option_map_or (λ text. codes " | " ++ text) (reason (Pgn kind) text.now verdict) [] }
     ensures len { array_vec_len lines.new ≤ array_vec_len lines.old + 80 }
 {
     match kind {
@@ -166,7 +165,7 @@ fn append_results(lines: &mut FaultLines, tag: &[u8], outcome: Outcome)
 // Appends ` | ` and the reason for a fault; nothing if there is none. `text` is the text from its byte on.
 fn append_reason(lines: &mut FaultLines, kind: FaultKind, text: &[u8], verdict: Option<Verdict>)
     requires { array_vec_len lines.old + 80 ≤ FAULT_LINES_LEN }
-    ensures text { lines.new.items ≡ lines.old.items ++ optional_part (reason kind text.now verdict) }
+    ensures text { lines.new.items ≡ lines.old.items ++ option_map_or (λ text. codes " | " ++ text) (reason kind text.now verdict) [] }
     ensures len { array_vec_len lines.new ≤ array_vec_len lines.old + 80 }
 {
     match kind {
@@ -192,7 +191,7 @@ fn has_position(kind: FaultKind) -> bool
 fn append_position<B: Board>(lines: &mut FaultLines, kind: FaultKind, game: &Game<B>)
     requires { array_vec_len lines.old + 98 ≤ FAULT_LINES_LEN }
     ensures text { lines.new.items ≡ lines.old.items
-        ++ optional_part (option_map fen (if has_position kind then Some (current game.now.state) else None)) }
+        ++ (if has_position kind then codes " | " ++ fen (current game.now.state) else []) }
     ensures len { array_vec_len lines.new ≤ array_vec_len lines.old + 98 }
 {
     if has_position(kind) {
@@ -226,10 +225,9 @@ fn append_explanation<B: Board>(
     game: &Game<B>,
 )
     requires { array_vec_len lines.old ≤ 100 }
-    ensures { (input : List ℕ) (offset : ℕ) → line ≡ line_of input (offset + part_offset kind text.now)
-        → column ≡ column_of input (offset + part_offset kind text.now)
+    ensures { (input : List ℕ) (begin : ℕ) → line ≡ line_of input begin → column ≡ column_of input begin
         → lines.new.items ≡ lines.old.items
-        ++ explanation_line input offset (explanation_of game.now.state text.now kind) }
+        ++ explanation_line input begin (explanation_of game.now.state text.now kind) }
 {
     append_place(lines, line, column);
     append(lines, shown_part(kind, text).as_slice());
@@ -253,7 +251,8 @@ pub(crate) fn fault_lines<B: Board>(
     requires few_lines { start.line + length text.now < 2 ^ 64 }
     ensures { (input : List ℕ) → StandsIf explain start input text.now
         → result.items ≡ fault_line number (moved start.offset fault)
-        ++ (if explain then explanation_line input (start.offset + fault.offset)
+        ++ (if explain then explanation_line input
+        (start.offset + fault.offset + part_offset fault.kind (drop fault.offset text.now))
         (explanation_of game.now.state (drop fault.offset text.now) fault.kind) else []) }
 {
     let mut lines = fault_line(number, fault.moved(start.offset));
@@ -277,7 +276,7 @@ pub(crate) fn too_long_lines(
 ) -> FaultLines
     ensures { (input : List ℕ) → StandsIf explain start input []
         → result.items ≡ fault_line number (record { kind = Pgn TooLong; offset = start.offset })
-        ++ (if explain then explanation_line input start.offset (too_long_explained beginning.now) else []) }
+        ++ (if explain then explanation_line input start.offset (shown beginning.now) else []) }
 {
     let mut lines = fault_line(
         number,

@@ -3,7 +3,7 @@
 ghost use Rattle.std.specs.Prelude.{◌≡◌, ◌≤◌, ◌-◌, not, take_while, drop, length, ◌==◌};
 ghost use Rattle.std.specs.List.{prefix_len};
 ghost use Rattle.chess_base.specs.Letters.{byte, space};
-ghost use Rattle.pgn_verifier.specs.WrongParts.{fen_text, after_spaces, from_space, from_field, field_at, field_number, wrong_field, field_offset};
+ghost use Rattle.pgn_verifier.specs.WrongParts.{fen_text, drop_while, from_field, field_at, field_number};
 
 use chess_base::FenFault;
 use text_lines::short_number;
@@ -34,7 +34,7 @@ fn fen_len(text: &[u8]) -> usize
 
 // The text after the spaces at its front.
 fn after_spaces(text: &[u8]) -> &[u8]
-    ensures value { result.now ≡ after_spaces text.now }
+    ensures value { result.now ≡ drop_while (λ c. c == space) text.now }
     ensures shorter { length result.now ≤ length text.now }
 {
     text.split_at(spaces(text)).1
@@ -42,7 +42,7 @@ fn after_spaces(text: &[u8]) -> &[u8]
 
 // The text from its first space on; empty if it has none.
 fn from_space(text: &[u8]) -> &[u8]
-    ensures value { result.now ≡ from_space text.now }
+    ensures value { result.now ≡ drop_while (λ c. not (c == space)) text.now }
     ensures shorter { length result.now ≤ length text.now }
 {
     text.split_at(field_len(text)).1
@@ -101,14 +101,14 @@ pub(crate) fn fen_text(text: &[u8]) -> &[u8]
 
 /// The field that is shown for a FEN's fault.
 pub(crate) fn wrong_field(fault: FenFault, fen: &[u8]) -> &[u8]
-    ensures { result.now ≡ wrong_field fault fen.now }
+    ensures { result.now ≡ field_at (field_number fault fen.now) fen.now }
 {
     field_at(field_number(fault, fen), fen)
 }
 
 /// How many bytes a FEN has before the field that is shown for its fault.
 pub(crate) fn field_offset(fault: FenFault, fen: &[u8]) -> usize
-    ensures value { result ≡ field_offset fault fen.now }
+    ensures value { result ≡ length fen.now - length (from_field (field_number fault fen.now) fen.now) }
     ensures within { result ≤ length fen.now }
 {
     fen.len() - from_field(field_number(fault, fen), fen).len()

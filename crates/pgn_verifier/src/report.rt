@@ -1,10 +1,12 @@
 //! The line of a game, and the line of counts.
 
 ghost use Rattle.pgn_verifier.specs.declared.report.TheConstants.{LINE_LEN};
-ghost use Rattle.std.specs.Prelude.{◌≡◌, ◌≤◌, ◌+◌, ◌++◌, [], length, if◌then◌else◌};
+ghost use Rattle.std.specs.Prelude.{◌≡◌, ◌≤◌, ◌+◌, ◌++◌, [], length, codes, if◌then◌else◌};
+ghost use Rattle.chess_pgn.specs.Terminations.{termination_text};
 ghost use Rattle.arrayvec.specs.ArrayVec.{array_vec_len};
 ghost use Rattle.byte_devices.specs.Devices.{Puts};
-ghost use Rattle.pgn_verifier.specs.Reports.{termination_part, game_line, counts_line};
+ghost use Rattle.pgn_verifier.specs.Reports.{counts_line};
+ghost use Rattle.pgn_verifier.specs.ties.OnTheWay.{game_line};
 
 use crate::tally::Tally;
 use arrayvec::ArrayVec;
@@ -20,7 +22,8 @@ type ReportLine = ArrayVec<u8, LINE_LEN>;
 // Appends what the tag `Termination` says, such as `, time forfeit`; nothing if there is none.
 fn append_termination(line: &mut ReportLine, termination: Option<Termination>)
     requires { array_vec_len line.old + 18 ≤ LINE_LEN }
-    ensures text { line.new.items ≡ line.old.items ++ termination_part termination }
+    ensures text { line.new.items ≡ line.old.items
+        ++ option_map_or (λ t. codes ", " ++ termination_text t) termination [] }
     ensures len { array_vec_len line.new ≤ array_vec_len line.old + 18 }
 {
     if let Some(termination) = termination {
@@ -31,7 +34,7 @@ fn append_termination(line: &mut ReportLine, termination: Option<Termination>)
 
 // The line of a game without a fault, such as `game 3: 4 half-moves, 0-1`; `number` is its number, `plies` how many
 // half-moves it has.
-#[tactic(auto, unfolding(crate::specs::Reports::game_line))]
+#[tactic(auto, unfolding(crate::specs::Reports::report_line))]
 fn game_line(number: usize, plies: usize, end: PgnEnd) -> ReportLine
     ensures { result.items ≡ game_line number plies end.outcome end.termination }
 {

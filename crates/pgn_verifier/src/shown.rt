@@ -5,7 +5,7 @@ ghost use Rattle.std.specs.List.{prefix_len};
 ghost use Rattle.arrayvec.specs.ArrayVec.{array_vec_len};
 ghost use Rattle.chess_pgn.specs.Tokens.{is_white_space};
 ghost use Rattle.pgn_verifier.specs.declared.shown.TheConstants.{FIELD_LEN};
-ghost use Rattle.pgn_verifier.specs.Explanations.{visible_byte, first_word, shown_word, shown};
+ghost use Rattle.pgn_verifier.specs.Explanations.{visible_byte, shown_word, shown};
 
 use arrayvec::ArrayVec;
 use chess_pgn::token_parts::is_white_space;
@@ -39,7 +39,7 @@ fn word_len(text: &[u8]) -> usize
 
 // The bytes of a text before its first white space, at most 40.
 fn first_word(text: &[u8]) -> &[u8]
-    ensures value { result.now ≡ first_word text.now }
+    ensures value { result.now ≡ take_while (λ c. not (is_white_space c)) (take 40 text.now) }
     ensures few { length result.now ≤ 40 }
 {
     let text = first_bytes(WORD_LEN, text);

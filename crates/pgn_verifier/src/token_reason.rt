@@ -1,9 +1,10 @@
 //! What is wrong with a tag or another token.
 
-ghost use Rattle.std.specs.Prelude.{◌≡◌, ◌≤◌, length, Option};
+ghost use Rattle.std.specs.Prelude.{◌≡◌, ◌≤◌, length, take, Option};
+ghost use Rattle.std.specs.List.{list_any};
 ghost use Rattle.std.specs.Option.{option_map};
-ghost use Rattle.chess_pgn.specs.Tokens.{name_at};
-ghost use Rattle.pgn_verifier.specs.WrongParts.{begins_word, token_reason};
+ghost use Rattle.chess_pgn.specs.Tokens.{name_at, is_word_byte};
+ghost use Rattle.pgn_verifier.specs.WrongParts.{token_reason};
 ghost use Rattle.pgn_verifier.specs.laws.Reasons.{string_reason, value_reason, name_reason, tag_reason};
 
 use chess_pgn::token_parts::{after_gap, is_word_byte, split_name, split_string};
@@ -67,7 +68,7 @@ pub(crate) fn bad_tag_reason(text: &[u8]) -> &'static [u8]
 
 // Whether the text begins with a byte of a word.
 fn begins_word(text: &[u8]) -> bool
-    ensures { result ≡ begins_word text.now }
+    ensures { result ≡ list_any is_word_byte (take 1 text.now) }
 {
     match text {
         [byte, ..] => is_word_byte(*byte),

@@ -5,7 +5,7 @@ use Rattle.chess_base.specs.declared.fen_fault.FenFault.TheVariants.{Fields}
 use Rattle.chess_base.specs.declared.man.Move.{Move}
 use Rattle.chess_base.specs.declared.man.Variant.TheVariants.{Normal}
 use Rattle.chess_base.specs.Initial.{initial_setup_of}
-use Rattle.chess_game.specs.Game.{State, from_start, played, with_declared, current, verdict_now}
+use Rattle.chess_game.specs.Game.{State, from_start, played, current, verdict_now}
 use Rattle.chess_game.specs.declared.results.Outcome.{Outcome}
 use Rattle.chess_game.specs.declared.results.Outcome.TheVariants.{Unfinished}
 use Rattle.chess_pgn.specs.declared.termination.Termination.{Termination}
@@ -24,7 +24,7 @@ use Rattle.chess_pgn.specs.GameRead.{IsRead}
 -- what is read if the game `s` was read and then the mark of this outcome. `offset` is that of the byte after the mark
 abbrev pub finished : State → Outcome → Option Termination → ℕ → GameRead
 finished s o termination offset = record {
-  state = with_declared s (declared_after (is_some (verdict_now s)) o);
+  state = record s { declared = declared_after (is_some (verdict_now s)) o };
   answer = Ok (Some (record { outcome = o; termination = termination; offset = offset }));
 }
 

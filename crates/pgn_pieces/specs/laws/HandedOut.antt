@@ -1,9 +1,8 @@
 -- The pieces that are returned.
 use Rattle.std.specs.Prelude.{◌≡◌, ℕ, Bool, List, []}
-use Rattle.pgn_pieces.specs.Pieces.{pieces}
-use Rattle.pgn_pieces.specs.Stream.{pieces_after_part}
+use Rattle.pgn_pieces.specs.Stream.{pieces_seen, pieces_after_part}
 
 -- before the first read, the pieces still to come of a text are those that it is cut into; each call returns the first
 -- of them, as `Next` says. `ended`: the text is all of the input
 abbrev pub PiecesAreCut : Type 0
-PiecesAreCut = (ended : Bool) (text : List ℕ) → pieces ended 0 text ≡ pieces_after_part ended 0 [] text
+PiecesAreCut = (ended : Bool) (text : List ℕ) → pieces_seen ended 0 text ≡ pieces_after_part ended 0 [] text

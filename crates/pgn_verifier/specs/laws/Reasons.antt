@@ -10,7 +10,7 @@ use Rattle.chess_game.specs.Results.{outcome_text}
 use Rattle.chess_game.specs.declared.verdicts.Verdict.{Verdict}
 use Rattle.chess_pgn.specs.Tokens.{after_byte, after_gap, after_next, name_at, string_at}
 use Rattle.chess_pgn.specs.declared.read.PgnFaultKind.TheVariants.{BadTag, BadFen, BadToken, AfterEnd}
-use Rattle.pgn_verifier.specs.Explanations.{Explanation, explained, shown}
+use Rattle.pgn_verifier.specs.Explanations.{explanation, shown}
 use Rattle.pgn_verifier.specs.WrongParts.{token_reason}
 use Rattle.pgn_verifier.specs.declared.game_fault.FaultKind.{FaultKind}
 use Rattle.pgn_verifier.specs.declared.game_fault.FaultKind.TheVariants.{Pgn, ResultDiffers, BoardSaysOtherwise}
@@ -51,7 +51,7 @@ reason (ResultDiffers tag_len outcome) text verdict =
 reason BoardSaysOtherwise text verdict = option_map (λ v. result_text (verdict_result v)) verdict
 reason _ text verdict = None
 
--- what explains a fault of this kind, with its reason; `s` is the game as far as it was read, and `text` is the text
--- from the fault's byte on
-abbrev pub explanation_of : State → List ℕ → FaultKind → Explanation
-explanation_of s text kind = explained s text kind (reason kind text (verdict_now s))
+-- the text that explains a fault of this kind, with its reason; `s` is the game as far as it was read, and `text` is the
+-- text from the fault's byte on
+abbrev pub explanation_of : State → List ℕ → FaultKind → List ℕ
+explanation_of s text kind = explanation s text kind (reason kind text (verdict_now s))

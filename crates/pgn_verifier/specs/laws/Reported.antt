@@ -1,8 +1,7 @@
 -- What is reported of the games of texts, as functions: a text is cut into tokens one after another, and its games are
 -- read one after another. The law `reports_are_the_only_ones` says that just these are the reports.
-use Rattle.std.specs.Prelude.{ℕ, zero, suc, ◌+◌, Bool, List, [], ◌∷◌, length, drop, Option, Some, None, Result, Ok, Err}
+use Rattle.std.specs.Prelude.{ℕ, zero, suc, ◌+◌, Bool, nat_le, if◌then◌else◌, List, [], ◌∷◌, length, drop, Option, Some, None, Result, Ok, Err}
 use Rattle.std.specs.List.{flat_map}
-use Rattle.std.specs.Option.{option_map_or}
 use Rattle.chess_game.specs.Game.{State, verdict_now}
 use Rattle.chess_game.specs.declared.game.TheConstants.{MOST_MOVES}
 use Rattle.chess_pgn.specs.GameRead.{GameRead, pgn_read}
@@ -10,6 +9,8 @@ use Rattle.chess_pgn.specs.LastTags.{result_tag_of}
 use Rattle.chess_pgn.specs.Tokens.{after_byte_order_mark, tokens_from}
 use Rattle.chess_pgn.specs.declared.read.PgnEnd.{PgnEnd}
 use Rattle.pgn_pieces.specs.Pieces.{Piece, pieces}
+use Rattle.pgn_pieces.specs.declared.pieces.TheConstants.{PIECE_LEN}
+use Rattle.pgn_verifier.specs.Explanations.{part_offset}
 use Rattle.pgn_verifier.specs.GameFaults.{judged}
 use Rattle.pgn_verifier.specs.Reports.{Report, Game, Faulty, too_long_report}
 use Rattle.pgn_verifier.specs.declared.game_fault.GameFault.{GameFault}
@@ -34,7 +35,9 @@ report_then start text (Ok None) s later = []
 report_then start text (Ok (Some end)) s later =
     Game (length s.moves) end.outcome end.termination ∷ later end.offset
 report_then start text (Err fault) s later =
-    Faulty (record fault { offset = start + fault.offset }) (explanation_of s (drop fault.offset text) fault.kind) ∷ []
+    Faulty (record fault { offset = start + fault.offset })
+    (start + fault.offset + part_offset fault.kind (drop fault.offset text))
+    (explanation_of s (drop fault.offset text) fault.kind) ∷ []
 
 -- the reports on at most n games (the third argument) of a text from its offset `at` on, up to its first fault. The
 -- text begins at the offset `start` of the input; `strict`: results are compared
@@ -49,10 +52,11 @@ reports_from strict start (suc n) text at =
 abbrev pub reports_on : Bool → ℕ → List ℕ → List Report
 reports_on strict start text = reports_from strict start (length text + 1) text 0
 
--- the reports on the games of a piece, which is read as a text of its own; a piece that is too long, which has no bytes
--- here, has one report. `strict`: results are compared
+-- the reports on the games of a piece, which is read as a text of its own; a piece that is too long has one report.
+-- `strict`: results are compared
 abbrev pub reports_in : Bool → Piece → List Report
-reports_in strict piece = option_map_or (reports_on strict piece.offset) piece.bytes (too_long_report piece ∷ [])
+reports_in strict piece = if nat_le (length piece.bytes) PIECE_LEN then reports_on strict piece.offset piece.bytes
+    else too_long_report piece ∷ []
 
 -- the reports on the games of a collection of which this text was read: on all its pieces, if the text is all of it
 -- (`ended`), otherwise on all but the last. `strict`: results are compared

@@ -1,10 +1,23 @@
 -- What becomes of verifying on the way: of a text that is read as a whole, and of pieces before their counts are
 -- written.
-use Rattle.std.specs.Prelude.{◌≡◌, ◌<◌, ℕ, true, false, List, length, take, drop, Some, Result, Ok, Err, ◌≤◌, ◌+◌, Bool}
+use Rattle.std.specs.Prelude.{◌≡◌, ◌<◌, ℕ, true, false, List, [], ◌∷◌, length, take, drop, codes, decimal, Option, Some, None, Result, Ok, Err, ◌≤◌, ◌+◌, ◌++◌, if◌then◌else◌, Bool}
 use Rattle.std.specs.List.{flat_map, fold}
+use Rattle.std.specs.Option.{option_map_or, option_or}
+use Rattle.chess_pgn.specs.declared.read.PgnFaultKind.TheVariants.{TooLong}
+use Rattle.pgn_verifier.specs.Explanations.{shown}
+use Rattle.pgn_verifier.specs.GameFaults.{fault_name, result_differs, board_says_otherwise}
+use Rattle.chess_game.specs.Results.{outcome_text}
+use Rattle.chess_game.specs.declared.results.Outcome.{Outcome}
+use Rattle.chess_game.specs.declared.verdicts.Verdict.{Verdict}
+use Rattle.chess_pgn.specs.Terminations.{termination_text}
+use Rattle.chess_pgn.specs.declared.read.PgnEnd.{PgnEnd}
+use Rattle.chess_pgn.specs.declared.tagged_result.ResultTag.{ResultTag}
+use Rattle.chess_pgn.specs.declared.termination.Termination.{Termination}
+use Rattle.pgn_verifier.specs.declared.game_fault.FaultKind.TheVariants.{Pgn}
 use Rattle.byte_devices.specs.Devices.{InputState, OutputState, Took, Sent, CutShort}
 use Rattle.byte_devices.specs.Transfers.{Ran}
-use Rattle.pgn_pieces.specs.Pieces.{Piece, HasRead, GaveThenFailed}
+use Rattle.pgn_pieces.specs.Pieces.{HasRead, GaveThenFailed}
+use Rattle.pgn_pieces.specs.Stream.{PieceSeen}
 use Rattle.pgn_pieces.specs.Places.{line_of, column_of}
 use Rattle.pgn_pieces.specs.declared.pieces.TheConstants.{PIECE_LEN}
 use Rattle.pgn_verifier.specs.declared.fault.VerifyFault.{VerifyFault}
@@ -13,9 +26,9 @@ use Rattle.pgn_verifier.specs.declared.game_fault.GameFault.{GameFault}
 use Rattle.pgn_verifier.specs.declared.options.VerifyOptions.{VerifyOptions}
 use Rattle.pgn_verifier.specs.declared.tally.Tally.{Tally}
 use Rattle.pgn_verifier.specs.declared.tally.Verified.{Verified}
-use Rattle.pgn_verifier.specs.Reports.{Report, Game, Faulty, counts_of, verified, report_lines}
-use Rattle.pgn_verifier.specs.Collection.{collection_text, VerifiesCollection}
-use Rattle.pgn_verifier.specs.laws.Reported.{reports_on, reports_in, collection_reports}
+use Rattle.pgn_verifier.specs.Reports.{Report, Game, Faulty, counts_of, verified, report_line, report_lines, counts_line}
+use Rattle.pgn_verifier.specs.Collection.{VerifiesCollection}
+use Rattle.pgn_verifier.specs.laws.Reported.{reports_on, collection_reports}
 use Rattle.pgn_verifier.specs.declared.start.TextStart.{TextStart}
 
 -- between the input's states `r` and `r'` all that was left of the input was read: this text, which has at most
@@ -49,8 +62,8 @@ collection_lines options ended text = report_lines options text 1 (collection_re
 
 -- all that is written of it: these lines, and if the text is all of it the line of counts
 abbrev pub collection_written : VerifyOptions → Bool → List ℕ → List ℕ
-collection_written options ended text =
-    collection_text options ended text (collection_reports options.strict ended text)
+collection_written options ended text = collection_lines options ended text
+    ++ (if ended then counts_line (counts_of (collection_reports options.strict ended text)) else [])
 
 -- from the input's state `r` to `r'` and the output's `w` to `w'`, the lines of all pieces were written, and their
 -- reports counted; the line of counts is still to be written
@@ -66,15 +79,33 @@ WritesCollection options r r' w w' (Err fault) = Ran (VerifiesCollection options
 abbrev pub moved : ℕ → GameFault → GameFault
 moved start fault = record fault { offset = start + fault.offset }
 
+-- the report on a piece that is too long, from what is seen of it
+abbrev pub too_long_seen : PieceSeen → Report
+too_long_seen piece =
+    Faulty (record { kind = Pgn TooLong; offset = piece.offset }) piece.offset (shown piece.beginning)
+
+-- the reports on the games of a piece (`reports_in`), from what is seen of it; `strict`: results are compared
+abbrev pub reports_seen : Bool → PieceSeen → List Report
+reports_seen strict piece = option_map_or (reports_on strict piece.offset) piece.bytes (too_long_seen piece ∷ [])
+
+-- the line of a game without a fault; `number` is the game's number, `plies` how many half-moves it has
+abbrev pub game_line : ℕ → ℕ → Outcome → Option Termination → List ℕ
+game_line number plies outcome termination = report_line number (decimal plies ++ (codes " half-moves, "
+    ++ (outcome_text outcome ++ option_map_or (λ t. codes ", " ++ termination_text t) termination [])))
+
+-- the line of a fault; `number` is the game's number
+abbrev pub fault_line : ℕ → GameFault → List ℕ
+fault_line number fault = report_line number (fault_name fault.kind ++ (codes " at byte " ++ decimal fault.offset))
+
 -- the reports on the games of these pieces, in order; `strict`: results are compared
-abbrev pub reports_of : Bool → List Piece → List Report
-reports_of strict pieces = flat_map (reports_in strict) pieces
+abbrev pub reports_of : Bool → List PieceSeen → List Report
+reports_of strict pieces = flat_map (reports_seen strict) pieces
 
 -- the counts `t` with one more report: it adds a game and its half-moves, or a fault
 abbrev pub with_report : Tally → Report → Tally
 with_report t (Game plies outcome termination) =
     record t { games = t.games + 1; half_moves = t.half_moves + plies }
-with_report t (Faulty fault explanation) = record t { faults = t.faults + 1 }
+with_report t (Faulty fault wrong_at explanation) = record t { faults = t.faults + 1 }
 
 -- the counts `t` with these reports added: games, their half-moves, and faults
 abbrev pub counted : Tally → List Report → Tally
@@ -104,16 +135,22 @@ abbrev pub StandsIf : Bool → TextStart → List ℕ → List ℕ → Type 0
 StandsIf explain start input text = explain ≡ true → StandsAt start input text
 
 -- the piece is in the input at its offset, at the beginning of the line with this number
-pub record PieceStandsAt (number : ℕ) (input : List ℕ) (piece : Piece) : Type 0 where
+pub record PieceStandsAt (number : ℕ) (input : List ℕ) (piece : PieceSeen) : Type 0 where
   pub bytes : (text : List ℕ) → piece.bytes ≡ Some text → take (length text) (drop piece.offset input) ≡ text
   pub line : line_of input piece.offset ≡ number
   pub column : column_of input piece.offset ≡ 1
 
 -- the piece is there, if faults are explained
-abbrev pub PieceStandsIf : Bool → ℕ → List ℕ → Piece → Type 0
+abbrev pub PieceStandsIf : Bool → ℕ → List ℕ → PieceSeen → Type 0
 PieceStandsIf explain number input piece = explain ≡ true → PieceStandsAt number input piece
 
 -- a text of `len` bytes adds at most as many half-moves to the counts, and at most one report more than it has bytes
 pub record GrowsBy (len : ℕ) (before after : Tally) : Type 0 where
   pub reports : after.games + after.faults ≤ before.games + before.faults + len + 1
   pub half_moves : after.half_moves ≤ before.half_moves + len
+
+-- the fault of a game whose outcome mark (`end`) contradicts its last tag Result (`tag`) or the board's verdict, as in
+-- `judged`; `None` without a contradiction, or if `strict` is false
+abbrev pub contradiction : Bool → Option ResultTag → Option Verdict → PgnEnd → Option GameFault
+contradiction strict tag verdict end =
+    if strict then option_or (result_differs tag end) (board_says_otherwise verdict end) else None

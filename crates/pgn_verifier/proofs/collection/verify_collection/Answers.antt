@@ -33,3 +33,8 @@ returns-in_err-finish g c =
     (g.R.Input.seen c.verify_pieces.new.input) (g.W.Output.seen c.args.output.now)
     (g.W.Output.seen c.verify_pieces.new.output) (g.W.Output.seen c.finish.new.output) c.in_ok-tally.tally
     c.in_ok-tally.ensures c.in_err-finish.ensures)
+
+pub returns-in_err-tally : goal.returns-in_err-tally
+returns-in_err-tally g c =
+    let p = err_from_is_err_and c.from_residual-in_err-tally.result c.from_residual-in_err-tally.ensures.1 in
+    rw (p.1, p.2) c.in_err-tally.ensures

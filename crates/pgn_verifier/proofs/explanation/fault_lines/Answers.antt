@@ -4,9 +4,8 @@ use Rattle.std.specs.Prelude.{if◌then◌else◌}
 use Rattle.std.proofs.Math.Path.{ap₂}
 use Rattle.pgn_pieces.specs.Places.{line_of, column_of}
 use Rattle.pgn_verifier.specs.Explanations.{part_offset, explanation_line}
-use Rattle.pgn_verifier.specs.Reports.{fault_line}
 use Rattle.pgn_verifier.specs.laws.Reasons.{explanation_of}
-use Rattle.pgn_verifier.specs.ties.OnTheWay.{moved}
+use Rattle.pgn_verifier.specs.ties.OnTheWay.{moved, fault_line}
 use Rattle.pgn_verifier.proofs.Placed.{line_there, column_there, rest_is}
 use Rattle.pgn_verifier.proofs.explanation.fault_lines.Goals as goal
 
@@ -33,7 +32,9 @@ returns-then-explain g c input stands =
     ∙ ap (line_of input) place in
     let column = c.column_after-column.ensures
     ∙ sym (column_there start input text (at + c.part_offset.result) within here) ∙ ap (column_of input) place in
-    c.append_explanation.ensures input (start.offset + at) line column
-    ∙ ap₂ (λ xs t. xs ++ explanation_line input (start.offset + at) (explanation_of s t kind)) first (rest_is at text)
-    ∙ sym (ap (λ b. own ++ (if b then explanation_line input (start.offset + at) (explanation_of s rest kind) else []))
+    c.append_explanation.ensures input (start.offset + at + part_offset kind (take (length text - at) rest)) line column
+    ∙ ap₂ (λ xs t. xs ++ explanation_line input (start.offset + at + part_offset kind t) (explanation_of s t kind)) first
+    (rest_is at text)
+    ∙ sym (ap (λ b. own ++ (if b then explanation_line input (start.offset + at + part_offset kind rest)
+    (explanation_of s rest kind) else []))
     c.if-explain.true)

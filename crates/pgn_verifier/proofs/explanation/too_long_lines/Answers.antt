@@ -1,5 +1,5 @@
 -- The parts were put one after the other, and the definition groups them to the right.
-use Rattle.std.proofs.Common.{◌≡◌, ◌+◌, append_assoc, arith}
+use Rattle.std.proofs.Common.{append_assoc}
 use Rattle.pgn_verifier.specs.Explanations.{explanation_line}
 use Rattle.pgn_verifier.proofs.explanation.too_long_lines.Goals as goal
 
@@ -7,10 +7,8 @@ pub returns-then-explain : goal.returns-then-explain
 unfolding explanation_line
 returns-then-explain c input stands =
     let here = stands c.if-explain.true in
-    let first : c.args.start.offset + 0 ≡ c.args.start.offset = omega arith in
     rw (
       c.if-explain.true,
-      first,
       here.line,
       here.column,
       c.push.ensures.items,

@@ -1,10 +1,10 @@
 -- The parts were put one after the other, and the definition groups them to the right.
 use Rattle.std.proofs.Common.{append_assoc}
-use Rattle.pgn_verifier.specs.Reports.{game_line}
+use Rattle.pgn_verifier.specs.Reports.{report_line}
 use Rattle.pgn_verifier.proofs.report.game_line.Goals as goal
 
 pub returns : goal.returns
-unfolding game_line
+unfolding report_line
 returns c =
     rw (
       c.push.ensures.items,

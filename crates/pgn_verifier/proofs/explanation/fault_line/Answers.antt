@@ -1,0 +1,19 @@
+-- The parts were put one after the other, and the definition groups them to the right.
+use Rattle.std.proofs.Common.{append_assoc}
+use Rattle.pgn_verifier.specs.Reports.{report_line}
+use Rattle.pgn_verifier.proofs.explanation.fault_line.Goals as goal
+
+pub returns-clause-text : goal.returns-clause-text
+unfolding report_line
+returns-clause-text c =
+    rw (
+      c.push.ensures.items,
+      c.append_number-2.ensures.text,
+      c.append-4.ensures.text,
+      c.append-3.ensures.text,
+      c.fault_name.ensures.value,
+      c.append-2.ensures.text,
+      c.append_number.ensures.text,
+      c.append.ensures.text,
+      c.new-lines.ensures,
+    ) (simp append_assoc)
