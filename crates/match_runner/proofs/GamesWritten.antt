@@ -25,8 +25,8 @@ use Rattle.chess_match.specs.declared.reason.Reason.TheVariants.{Faulted}
 use Rattle.chess_match.specs.declared.run.MatchEnd.{MatchEnd}
 use Rattle.chess_pgn.specs.GameText.{pgn}
 use Rattle.chess_pgn.specs.declared.tags.Tags.{Tags}
-use Rattle.match_runner.specs.Games.{AreAllGames, GameRecord, IsOfPlan, IsStartFault, LogsGame, LogsGames, Outputs, PlaysGames, FaultlessGames, count_of, engine_command, first_side, game_text, game_texts, score_line, tags_of}
-use Rattle.match_runner.specs.GamesTable.{Finishes, GamesPassing, GamesStep, Plays, StartFails, Starts, StepsPass, PlaysGamesAt, WriteFails, Writes, game_steps, games_steps, unstarted_steps, unwritten_steps}
+use Rattle.match_runner.specs.Games.{AreAllGames, GameRecord, IsOfPlan, IsStartFault, LogsGame, LogsGames, PlaysGames, FaultlessGames, count_of, engine_command, first_side, game_text, game_texts, score_line, tags_of}
+use Rattle.match_runner.specs.GamesTable.{Finishes, GamesPassing, GamesStep, Outputs, Plays, StartFails, Starts, StepsPass, PlaysGamesAt, WriteFails, Writes, game_steps, games_steps, unstarted_steps, unwritten_steps}
 use Rattle.match_runner.specs.ties.Playing.{FailsToStart, HasPlayed, PlayedGame, logged_side, no_score, plus, score_after, score_of, score_text}
 use Rattle.match_runner.specs.Log.{LogSeen, Logged, log_from}
 use Rattle.match_runner.proofs.Logged.{logged_more, logs_none}
@@ -512,6 +512,6 @@ module _ (plan : GamesPlan) (p p' : GamesPassing) (w w' w'' : OutputState) (l l'
 
 -- a match at a table is a match: the steps are dropped
 pub plays_games : (plan : GamesPlan) (result : Result (Unit {0}) GamesFault) (p p' : GamesPassing) (d d' : Outputs)
-    → PlaysGamesAt plan result p p' d d' → PlaysGames plan result d d'
+    → PlaysGamesAt plan result p p' d d' → PlaysGames plan result d.output d'.output d.log d'.log
 plays_games plan result p p' d d' (games, unwritten, (o, writes, took, logs), steps) =
     inl (games, unwritten, o, writes, took, logs)

@@ -172,18 +172,15 @@ WritesGames plan (Err fault) games None o = FaultlessGames plan games × (length
 -- no other result comes with a game that was played and could not be written
 WritesGames plan _ games (Some unwritten) o = ⊥
 
--- where a match writes, as contracts see it: its output, which has the games and the score, and its log
-pub record Outputs : Type 0 where
-  pub output : OutputState
-  pub log : LogSeen
-
--- what playing a match does from `d` to `d'`, by its result: games were played, maybe none, or memory ran out before
--- the first one, and nothing was written or logged. The PGN of `games` was written; `unwritten` was played after them,
--- but its PGN could not be written (`None`: there is no such game). The output was written to as `WritesGames` says. If
--- the plan asks for a log, all these games were logged, `unwritten` too
-abbrev pub PlaysGames : GamesPlan → Result (Unit {0}) GamesFault → Outputs → Outputs → Type 0
-PlaysGames plan result d d' =
+-- what playing a match does, by its result: games were played, maybe none, or memory ran out before the first one, and
+-- nothing was written or logged. The PGN of `games` was written; `unwritten` was played after them, but its PGN could
+-- not be written (`None`: there is no such game). The output, which was `w` and is now `w'`, was written to as
+-- `WritesGames` says. If the plan asks for a log, all these games were logged, `unwritten` too; the log was `l` and is
+-- now `l'`
+abbrev pub PlaysGames : GamesPlan → Result (Unit {0}) GamesFault → OutputState → OutputState → LogSeen → LogSeen
+    → Type 0
+PlaysGames plan result w w' l l' =
     ((games : List GameRecord) × (unwritten : Option GameRecord) × (o : ToOutput)
-    × WritesGames plan result games unwritten o × OutputTook d.output d'.output o
-    × LogsGames plan.log d.log d'.log (games ++ option_to_list unwritten))
-    ⊎ ((result ≡ Err NoMemory) × (d' ≡ d))
+    × WritesGames plan result games unwritten o × OutputTook w w' o
+    × LogsGames plan.log l l' (games ++ option_to_list unwritten))
+    ⊎ ((result ≡ Err NoMemory) × (w' ≡ w) × (l' ≡ l))

@@ -6,8 +6,10 @@ use Rattle.chess_base.specs.declared.man.Colour.TheVariants.{White, Black}
 use Rattle.match_runner.specs.declared.fault.GamesFault.{GamesFault}
 use Rattle.match_runner.specs.declared.fault.GamesFault.TheVariants.{NoMemory, CanNotStart}
 use Rattle.match_runner.specs.declared.plan.GamesPlan.{GamesPlan}
+use Rattle.byte_devices.specs.Devices.{OutputState}
 use Rattle.byte_devices.specs.Transfers.{ToOutput, OutputTook}
-use Rattle.match_runner.specs.Games.{GameRecord, LogsGames, Outputs, WritesGames, engine_command, game_text}
+use Rattle.match_runner.specs.Games.{GameRecord, LogsGames, WritesGames, engine_command, game_text}
+use Rattle.match_runner.specs.Log.{LogSeen}
 
 -- one step of playing a match's games: one call of a method of the trait `GamesTable`. A table starts the engines,
 -- plays and writes the games, and waits for the engines
@@ -84,6 +86,11 @@ last_steps plan number (Err NoMemory) None = unstarted_steps plan number
 last_steps plan number (Err (CanNotStart _)) None = unstarted_steps plan number
 -- any other result: no next game was begun
 last_steps plan number _ None = []
+
+-- where a match at a table writes, as contracts see it: its output, which has the games and the score, and its log
+pub record Outputs : Type 0 where
+  pub output : OutputState
+  pub log : LogSeen
 
 -- what playing a match at a table does, by its result: games were played, maybe none; the PGN of `games` was written,
 -- and `unwritten` was played after them, but its PGN could not be written (`None`: there is no such game). The output

@@ -17,8 +17,8 @@ use Rattle.match_runner.specs.declared.fault.GamesFault.{GamesFault}
 use Rattle.match_runner.specs.declared.fault.GamesFault.TheVariants.{WriteFailed, NoMemory, CanNotStart}
 use Rattle.match_runner.specs.declared.games.GamesPlayed.{GamesPlayed}
 use Rattle.match_runner.specs.declared.score.Score.{Score}
-use Rattle.match_runner.specs.Games.{first_side, GameRecord, IsOfPlan, game_text, IsStartFault, LogsGame, game_texts, LogsGames, Outputs, WritesGames, count_of, AreAllGames}
-use Rattle.match_runner.specs.GamesTable.{GamesPassing, StepsPass, game_steps, unwritten_steps, unstarted_steps, games_steps}
+use Rattle.match_runner.specs.Games.{first_side, GameRecord, IsOfPlan, game_text, IsStartFault, LogsGame, game_texts, LogsGames, WritesGames, count_of, AreAllGames}
+use Rattle.match_runner.specs.GamesTable.{GamesPassing, Outputs, StepsPass, game_steps, unwritten_steps, unstarted_steps, games_steps}
 
 -- ---- the score, as it is counted
 
