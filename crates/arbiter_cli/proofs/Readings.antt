@@ -7,7 +7,7 @@ use Rattle.arbiter_grammar.specs.Grammar.{AreVariants, IsComplete, IsParsed, Var
 use Rattle.arbiter_cli.specs.Plans.{IsMatchPlan, IsPlanOf, IsReadAs, IsReading, Said, Values, is_date, level_start_and_date, said_by, start_asked, text_or}
 use Rattle.arbiter_cli.specs.ties.Requests.{IsJudged, IsJudgedFault, IsMatchOf, IsPlanFault, IsPlanned, IsRequestOf, Refuses, start_of}
 use Rattle.cecp_engine.specs.Levels.{level_of}
-use Rattle.arbiter_cli.specs.declared.plan.MatchPlan.{MatchPlan}
+use Rattle.match_runner.specs.declared.plan.GamesPlan.{GamesPlan}
 use Rattle.arbiter_cli.specs.declared.fault.WordsFault.{WordsFault}
 use Rattle.arbiter_cli.specs.declared.fault.WordsFault.TheVariants.{Words, NoMemory, BadLevel, BadFen, BadDate}
 use Rattle.arbiter_cli.specs.declared.plan.Plan.{Plan}
@@ -51,7 +51,7 @@ module _ (value : Values) (m : MatchRequest) (is : IsMatchOf value m) where
   start_is : start_asked value ≡ start_of m.variant (option_map (λ t. t.now) m.fen)
   start_is = ap₂ start_of (sym is.variant) (sym is.fen)
 
-  match_judged : (plan : MatchPlan) → IsJudged m plan → IsMatchPlan value plan
+  match_judged : (plan : GamesPlan) → IsJudged m plan → IsMatchPlan value plan
   match_judged plan validate = record {
     white = is.white ∙ ap (λ (t : Bor Text). Some t.now) (sym validate.white);
     black = is.black ∙ ap (λ (t : Bor Text). Some t.now) (sym validate.black);

@@ -9,7 +9,7 @@ use Rattle.clap.specs.Words.{IsAmong, Kinds, Row, Text, all_of, first_of, kind_o
 use Rattle.arbiter_grammar.specs.Grammar.{AreVariants, VariantNames, asked, faults_in}
 use Rattle.arbiter_cli.specs.declared.plan.Plan.{Plan}
 use Rattle.arbiter_cli.specs.declared.plan.Plan.TheVariants.{Session, Verify, Stub, Match}
-use Rattle.arbiter_cli.specs.declared.plan.MatchPlan.{MatchPlan}
+use Rattle.match_runner.specs.declared.plan.GamesPlan.{GamesPlan}
 use Rattle.arbiter_cli.specs.declared.plan.VerifyPlan.{VerifyPlan}
 use Rattle.arbiter_cli.specs.declared.fault.WordsFault.{WordsFault}
 use Rattle.arbiter_cli.specs.declared.fault.WordsFault.TheVariants.{Words, NoMemory, BadLevel, BadFen, BadDate}
@@ -81,7 +81,7 @@ level_start_and_date value = let date = text_or (codes "date") value (codes "???
 
 -- `plan` is the plan of a match with these options, each as given or by default: `--white` and `--black`, which have no
 -- default, are the commands of its engines; level, FEN and date are valid (`read`); and it has 1 to 1,000 games
-pub record IsMatchPlan (value : Values) (plan : MatchPlan) : Type 0 where
+pub record IsMatchPlan (value : Values) (plan : GamesPlan) : Type 0 where
   pub white : value (codes "white") ≡ Some plan.white.now
   pub black : value (codes "black") ≡ Some plan.black.now
   pub read : level_start_and_date value ≡ Ok (plan.level, plan.start, plan.date.now)

@@ -14,5 +14,5 @@ mod reading;
 mod request;
 
 pub use fault::WordsFault;
-pub use plan::{MatchPlan, Plan, VerifyPlan};
+pub use plan::{Plan, VerifyPlan};
 pub use reading::read_words;

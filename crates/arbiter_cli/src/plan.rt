@@ -10,25 +10,7 @@ use crate::request::{MatchRequest, Request};
 use cecp_engine::Level;
 use chess_base::{FenFault, Position, Variant};
 use chess_fen::read_fen_as;
-
-/// How a match is played.
-#[derive(Clone, Copy)]
-pub struct MatchPlan<'a> {
-    /// The command of the first engine, which has White in odd games.
-    pub white: &'a str,
-    /// The command of the second engine.
-    pub black: &'a str,
-    /// The level of time, for both engines.
-    pub level: Level,
-    /// The position from which each game starts; its variant is the match's.
-    pub start: Position,
-    /// How many games, from 1 to 1,000.
-    pub games: u16,
-    /// The date in each game's tags.
-    pub date: &'a str,
-    /// Whether a log of what the engines send and are sent is written to the error output.
-    pub log: bool,
-}
+use match_runner::GamesPlan;
 
 /// How the games on the standard input are verified.
 #[derive(Clone, Copy, Debug, PartialEq, Eq)]
@@ -52,8 +34,8 @@ pub enum Plan<'a> {
     Verify(VerifyPlan),
     /// To be an engine that plays these arguments.
     Stub(Vec<&'a str>),
-    /// Games between two engines.
-    Match(MatchPlan<'a>),
+    /// Games between two engines, 1 to 1,000 of them; their log, if there is one, goes to the error output.
+    Match(GamesPlan<'a>),
 }
 
 // Whether all bytes are printable ASCII (32 to 126).
@@ -82,7 +64,7 @@ fn start_of(variant: Variant, fen: Option<&str>) -> Result<Position, FenFault>
 
 // The plan of the match that `request` asks for, if its level, FEN and date are valid; otherwise the fault of the first
 // of them that is not.
-fn validate<'a>(request: &MatchRequest<'a>) -> Result<MatchPlan<'a>, WordsFault>
+fn validate<'a>(request: &MatchRequest<'a>) -> Result<GamesPlan<'a>, WordsFault>
     ensures plan { IfOk result (IsJudged request.now) }
     ensures fault { IfErr result (IsJudgedFault request.now) }
 {
@@ -93,7 +75,7 @@ fn validate<'a>(request: &MatchRequest<'a>) -> Result<MatchPlan<'a>, WordsFault>
     if !is_date(request.date) {
         return Err(WordsFault::BadDate);
     }
-    Ok(MatchPlan {
+    Ok(GamesPlan {
         white: request.white,
         black: request.black,
         level,

@@ -1,8 +1,9 @@
 //! What the arguments of the command line ask for, and which are refused.
 
-use arbiter_cli::{MatchPlan, Plan, VerifyPlan, WordsFault, read_words};
+use arbiter_cli::{Plan, VerifyPlan, WordsFault, read_words};
 use chess_base::Variant;
 use chess_fen::write_fen;
+use match_runner::GamesPlan;
 use std::fmt::Debug;
 use std::process::Abort;
 use std::test::Fail;
@@ -237,7 +238,7 @@ const MATCHES: [MatchRow; 4] = [
     },
 ];
 
-fn check_setup(rt: &impl Abort, plan: &MatchPlan<'_>, row: &MatchRow) {
+fn check_setup(rt: &impl Abort, plan: &GamesPlan<'_>, row: &MatchRow) {
     let level = [
         plan.level.moves(),
         plan.level.base(),
@@ -248,7 +249,7 @@ fn check_setup(rt: &impl Abort, plan: &MatchPlan<'_>, row: &MatchRow) {
     is_equal(rt, &write_fen(&plan.start).as_slice(), &row.fen);
 }
 
-fn check_match(rt: &impl Abort, plan: &MatchPlan<'_>, row: &MatchRow) {
+fn check_match(rt: &impl Abort, plan: &GamesPlan<'_>, row: &MatchRow) {
     is_equal(
         rt,
         &[plan.white, plan.black, plan.date],

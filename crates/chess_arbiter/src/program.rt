@@ -1,16 +1,21 @@
 //! The program on an input, an output and an error output.
 
-ghost use Rattle.std.specs.Prelude.{◌≡◌, IfOk, Ok, Err, map};
+ghost use Rattle.std.specs.Prelude.{◌≡◌, ◌⊎◌, IfOk, Result, Ok, Err, cond, map};
 ghost use Rattle.chess_cecp.specs.Held.{opened_session};
 ghost use Rattle.chess_pgn.specs.Tags.{default_tags};
-ghost use Rattle.match_runner.specs.Log.{log_seen};
-ghost use Rattle.byte_devices.specs.Transfers.{Ran};
-ghost use Rattle.chess_arbiter.specs.Program.{PlaysMatch, RanProgram, ReportsArguments, RunsSession, Serves, VerifiesAs, VerifiesInput, WritesHelp, options_of, status_of, verify_status};
+ghost use Rattle.chess_cecp.specs.Session.{session_response};
+ghost use Rattle.match_runner.specs.Games.{PlaysGames};
+ghost use Rattle.match_runner.specs.Log.{LogSeen};
+ghost use Rattle.match_runner.specs.declared.fault.GamesFault.{GamesFault};
+ghost use Rattle.pgn_verifier.specs.Collection.{VerifiesCollection};
+ghost use Rattle.pgn_verifier.specs.Verify.{Verifies};
+ghost use Rattle.byte_devices.specs.Transfers.{Devices, Ran};
+ghost use Rattle.chess_arbiter.specs.Program.{RanProgram, ReportsArguments, Serves, WritesHelp, options_of, status_of, verify_status};
 ghost use Rattle.stub_engine.specs.Stub.{stub_response, waiting};
 ghost use Rattle.chess_game.specs.declared.game.TheConstants.{MOST_MOVES};
 
 use crate::fault::{ProgramFault, report_text, reported};
-use arbiter_cli::{MatchPlan, Plan, VerifyPlan, WordsFault, read_words};
+use arbiter_cli::{Plan, VerifyPlan, WordsFault, read_words};
 use byte_devices::{Input, Output, send};
 use chess_bits::{AttackTables, Bits};
 use chess_cecp::{Session, run_session, serve_lines};
@@ -53,8 +58,11 @@ fn session<R: Input, W: Output>(
     input: &mut R,
     output: &mut W,
 ) -> Result<(), ProgramFault>
-    ensures { RunsSession (record { input = R.seen input.old; output = W.seen output.old })
-        (record { input = R.seen input.new; output = W.seen output.new }) (status_of result) }
+    ensures { (λ (d d' : Devices).
+        Serves session_response (opened_session default_tags MOST_MOVES) d d' (status_of result)
+        ⊎ ((d' ≡ d) × (status_of result ≡ 1)))
+        (record { input = R.seen input.old; output = W.seen output.old })
+        (record { input = R.seen input.new; output = W.seen output.new }) }
 {
     let tables = AttackTables::open(alloc)?;
     let mut session = open_session(alloc, &tables)?;
@@ -106,7 +114,7 @@ fn verify_as<R: Input, W: Output>(
     input: &mut R,
     output: &mut W,
 ) -> Result<Verified, VerifyFault>
-    ensures { Ran (VerifiesAs plan.keep_going (options_of plan) result)
+    ensures { Ran (cond plan.keep_going VerifiesCollection Verifies (options_of plan) result)
         (record { input = R.seen input.old; output = W.seen output.old })
         (record { input = R.seen input.new; output = W.seen output.new }) }
 {
@@ -127,8 +135,10 @@ fn verified<R: Input, W: Output, E: Output>(
     output: &mut W,
     errors: &mut E,
 ) -> u8
-    ensures { VerifiesInput plan (record { input = R.seen input.old; output = W.seen output.old })
-        (record { input = R.seen input.new; output = W.seen output.new }) result }
+    ensures { (found : Result Verified VerifyFault) × (result ≡ verify_status found)
+        × Ran (cond plan.keep_going VerifiesCollection Verifies (options_of plan) found)
+        (record { input = R.seen input.old; output = W.seen output.old })
+        (record { input = R.seen input.new; output = W.seen output.new }) }
 {
     match verify_as(alloc, plan, input, output) {
         Ok(verified) => verified_status(verified),
@@ -191,24 +201,17 @@ fn report_arguments<W: Output, E: Output>(
 fn matched<P: Processes + Clock, W: Output, E: Output>(
     rt: &P,
     alloc: Global,
-    plan: &MatchPlan<'_>,
+    plan: &GamesPlan<'_>,
     output: &mut W,
     log: &mut Log<E>,
 ) -> u8
-    ensures { PlaysMatch plan.now
-        (record { output = W.seen output.old; log = log_seen (E.seen log.old.output) log.old.broken })
-        (record { output = W.seen output.new; log = log_seen (E.seen log.new.output) log.new.broken }) result }
+    ensures { (λ (l l' : LogSeen). (played : Result (Unit {0}) GamesFault) × (logged : LogSeen)
+        × PlaysGames plan.now played (W.seen output.old) (W.seen output.new) l logged
+        × (result ≡ status_of played) × (result ≡ 0 → l' ≡ logged))
+        (record { output = E.seen log.old.output; broken = log.old.broken })
+        (record { output = E.seen log.new.output; broken = log.new.broken }) }
 {
-    let games = GamesPlan {
-        white: plan.white,
-        black: plan.black,
-        level: plan.level,
-        start: plan.start,
-        games: plan.games,
-        date: plan.date,
-        log: plan.log,
-    };
-    match play_games(rt, alloc, &games, output, log) {
+    match play_games(rt, alloc, plan, output, log) {
         Ok(()) => 0,
         Err(fault) => reported(&mut log.output, &fault, 1),
     }
@@ -245,14 +248,10 @@ pub fn run_program<'a, P: Processes + Clock, R: Input, W: Output, E: Output>(
     errors: &mut Log<E>,
 ) -> u8
     ensures { RanProgram (map (λ w. w.now) arguments.entry.now)
-        (record {
-          devices = record { input = R.seen input.old; output = W.seen output.old };
-          log = log_seen (E.seen errors.old.output) errors.old.broken;
-        })
-        (record {
-          devices = record { input = R.seen input.new; output = W.seen output.new };
-          log = log_seen (E.seen errors.new.output) errors.new.broken;
-        }) result }
+        (record { input = R.seen input.old; output = W.seen output.old })
+        (record { input = R.seen input.new; output = W.seen output.new })
+        (record { output = E.seen errors.old.output; broken = errors.old.broken })
+        (record { output = E.seen errors.new.output; broken = errors.new.broken }) result }
 {
     let plan = match read_words(alloc, arguments) {
         Ok(plan) => plan,

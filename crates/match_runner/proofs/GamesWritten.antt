@@ -25,10 +25,10 @@ use Rattle.chess_match.specs.declared.reason.Reason.TheVariants.{Faulted}
 use Rattle.chess_match.specs.declared.run.MatchEnd.{MatchEnd}
 use Rattle.chess_pgn.specs.GameText.{pgn}
 use Rattle.chess_pgn.specs.declared.tags.Tags.{Tags}
-use Rattle.match_runner.specs.Games.{AreAllGames, GameRecord, IsOfPlan, IsStartFault, LogsGame, LogsGames, Outputs, PlaysGames, FaultlessGames, count_of, engine_command, first_side, game_text, game_texts, match_text, score_line, tags_of}
-use Rattle.match_runner.specs.GamesTable.{Finishes, GamesPassing, GamesStep, Plays, StartFails, Starts, StepsPass, PlaysGamesAt, WriteFails, Writes, game_steps, games_steps, unstarted_steps, unwritten_steps}
+use Rattle.match_runner.specs.Games.{AreAllGames, GameRecord, IsOfPlan, IsStartFault, LogsGame, LogsGames, PlaysGames, FaultlessGames, count_of, engine_command, first_side, game_text, game_texts, score_line, tags_of}
+use Rattle.match_runner.specs.GamesTable.{Finishes, GamesPassing, GamesStep, Outputs, Plays, StartFails, Starts, StepsPass, PlaysGamesAt, WriteFails, Writes, game_steps, games_steps, unstarted_steps, unwritten_steps}
 use Rattle.match_runner.specs.ties.Playing.{FailsToStart, HasPlayed, PlayedGame, logged_side, no_score, plus, score_after, score_of, score_text}
-use Rattle.match_runner.specs.Log.{LogSeen, Logged, log_text}
+use Rattle.match_runner.specs.Log.{LogSeen, Logged, log_from}
 use Rattle.match_runner.proofs.Logged.{logged_more, logs_none}
 use Rattle.match_runner.specs.declared.fault.GamesFault.{GamesFault}
 use Rattle.match_runner.specs.declared.fault.GamesFault.TheVariants.{WriteFailed, NoMemory, CanNotStart, Game}
@@ -58,7 +58,7 @@ limit_kept notes setup end w w' (H, reason, given, (final, passed, reported, lef
 start_fault : (white black : List ℕ) (fault : GamesFault) → FailsToStart white fault ⊎ FailsToStart black fault
     → IsStartFault white black fault
 start_fault white black (CanNotStart command) h = h
-start_fault white black NoMemory h = tt
+start_fault white black NoMemory h = refl
 start_fault white black WriteFailed (inl h) = absurd h
 start_fault white black WriteFailed (inr h) = absurd h
 start_fault white black (Game number text) (inl h) = absurd h
@@ -82,9 +82,9 @@ plan_fault plan number (CanNotStart command) (inl e) =
     either (same_colour White (first_side number)) command.now plan.white.now plan.black.now e
 plan_fault plan number (CanNotStart command) (inr e) =
     either (same_colour Black (first_side number)) command.now plan.white.now plan.black.now e
-plan_fault plan number NoMemory h = tt
-plan_fault plan number WriteFailed h = absurd h
-plan_fault plan number (Game k text) h = absurd h
+plan_fault plan number NoMemory h = h
+plan_fault plan number WriteFailed h = h
+plan_fault plan number (Game k text) h = h
 
 -- ---- steps
 
@@ -170,8 +170,8 @@ was_not_started plan number p p' w l white black fault for_white for_black is st
         → StepsPass p p' (unstarted_steps plan number) → PlayedGame plan number p p' w w l l (Err f)
     at NoMemory h k = (h, refl, refl, k)
     at (CanNotStart command) h k = (h, refl, refl, k)
-    at WriteFailed h k = absurd h
-    at (Game n text) h k = absurd h
+    at WriteFailed h k = absurd (cc)
+    at (Game n text) h k = absurd (cc)
 
 -- ---- games with their numbers
 
@@ -195,11 +195,11 @@ joined_more {A} f games g =
 
 -- the logs of these games one after another
 abbrev game_logs : List GameRecord → List ℕ
-game_logs games = flat_map (λ g. log_text (first_side g.0) g.1.notes) (enumerate_from 1 games)
+game_logs games = flat_map (λ g. log_from (first_side g.0) 0 g.1.notes) (enumerate_from 1 games)
 
 logs_more : (games : List GameRecord) (g : GameRecord)
-    → game_logs (games ++ g ∷ []) ≡ game_logs games ++ log_text (first_side (1 + length games)) g.notes
-logs_more games g = joined_more (λ x. log_text (first_side x.0) x.1.notes) games g
+    → game_logs (games ++ g ∷ []) ≡ game_logs games ++ log_from (first_side (1 + length games)) 0 g.notes
+logs_more games g = joined_more (λ x. log_from (first_side x.0) 0 x.1.notes) games g
 
 logs_if : (asked : Bool) (l l' l'' : LogSeen) (games : List GameRecord) (g : GameRecord) → LogsGames asked l l' games
     → LogsGame (if asked then Some (first_side (1 + length games)) else None) l' l'' g.notes
@@ -207,7 +207,7 @@ logs_if : (asked : Bool) (l l' l'' : LogSeen) (games : List GameRecord) (g : Gam
 logs_if false l l' l'' games g h k = k ∙ h
 logs_if true l l' l'' games g h k =
     subst (λ (t : List ℕ). Logged l l'' t) (sym (logs_more games g))
-    (logged_more l l' l'' (game_logs games) (log_text (first_side (1 + length games)) g.notes) h k)
+    (logged_more l l' l'' (game_logs games) (log_from (first_side (1 + length games)) 0 g.notes) h k)
 
 log_none : (asked : Bool) (l : LogSeen) → LogsGames asked l l []
 log_none false l = refl
@@ -431,7 +431,7 @@ module _ (plan : GamesPlan) (p p' p'' : GamesPassing) (w w' w'' : OutputState) (
   broke_off (CanNotStart command) le (is, same, log, steps) =
       let (games, o, writes, took, logs, passes) = not_started (CanNotStart command) le is same log steps in
       (games, is, (o, writes, took, logs), passes)
-  broke_off (Game k text) le (is, same, log, steps) = absurd is
+  broke_off (Game k text) le (is, same, log, steps) = absurd (cc)
 
 pub all_played : (plan : GamesPlan) (p p' : GamesPassing) (w w' : OutputState) (l l' : LogSeen) (number : ℕ)
     (score : Score) (games : List GameRecord) → SoFar plan p p' w w' l l' number score games → plan.games < number
@@ -449,14 +449,14 @@ pub broke_at_table : (plan : GamesPlan) (p p' : GamesPassing) (w w' : OutputStat
 broke_at_table plan p p' w w' l l' WriteFailed (games, unwritten, these, steps) = (games, Some unwritten, these, steps)
 broke_at_table plan p p' w w' l l' NoMemory (games, is, these, steps) = (games, None, these, steps)
 broke_at_table plan p p' w w' l l' (CanNotStart command) (games, is, these, steps) = (games, None, these, steps)
-broke_at_table plan p p' w w' l l' (Game number text) (games, is, these, steps) = absurd is
+broke_at_table plan p p' w w' l l' (Game number text) (games, is, these, steps) = absurd (cc)
 
 module _ (plan : GamesPlan) (p p' : GamesPassing) (w w' w'' : OutputState) (l l' : LogSeen) (played : GamesPlayed)
     (h : HasPlayed plan p p' w w' l l' (Ok played)) where
   scored : score_text played.score ≡ score_line h.0
   scored = ap score_text h.2 ∙ score_text_is h.0
 
-  score_sent : Sent w' w'' (score_text played.score) → OutputTook w w'' (all_of (match_text plan h.0))
+  score_sent : Sent w' w'' (score_text played.score) → OutputTook w w'' (all_of (game_texts plan h.0 ++ score_line h.0))
   score_sent sent =
       sent_more w w' w'' (game_texts plan h.0) (score_line h.0) h.3
       (subst (λ (line : List ℕ). Sent w' w'' line) scored sent)
@@ -474,7 +474,7 @@ module _ (plan : GamesPlan) (p p' : GamesPassing) (w w' w'' : OutputState) (l l'
   all_written sent none = (
     h.0,
     None,
-    (all_of (match_text plan h.0), (subst (AreAllGames plan h.0) none h.1, refl), score_sent sent, logs_all),
+    (all_of (game_texts plan h.0 ++ score_line h.0), (subst (AreAllGames plan h.0) none h.1, refl), score_sent sent, logs_all),
     steps_all,
   )
 
@@ -486,7 +486,7 @@ module _ (plan : GamesPlan) (p p' : GamesPassing) (w w' w'' : OutputState) (l l'
     h.0,
     None,
     (
-      all_of (match_text plan h.0),
+      all_of (game_texts plan h.0 ++ score_line h.0),
       (side, fault, subst (AreAllGames plan h.0) is h.1, written, refl),
       score_sent sent,
       logs_all,
@@ -512,5 +512,6 @@ module _ (plan : GamesPlan) (p p' : GamesPassing) (w w' w'' : OutputState) (l l'
 
 -- a match at a table is a match: the steps are dropped
 pub plays_games : (plan : GamesPlan) (result : Result (Unit {0}) GamesFault) (p p' : GamesPassing) (d d' : Outputs)
-    → PlaysGamesAt plan result p p' d d' → PlaysGames plan result d d'
-plays_games plan result p p' d d' (games, unwritten, these, steps) = inl (games, unwritten, these)
+    → PlaysGamesAt plan result p p' d d' → PlaysGames plan result d.output d'.output d.log d'.log
+plays_games plan result p p' d d' (games, unwritten, (o, writes, took, logs), steps) =
+    inl (games, unwritten, o, writes, took, logs)

@@ -14,7 +14,7 @@ use Rattle.byte_devices.specs.Transfers.{OutputTook, all_of}
 use Rattle.byte_devices.proofs.shared.Transfers.{broke, took_all, took_more, took_nothing, took_some}
 use Rattle.chess_match.specs.Events.{Line}
 use Rattle.chess_match.specs.Notes.{Note, Gives, Happened, WasNoted}
-use Rattle.match_runner.specs.Log.{LogSeen, Logged, LogsNote, lines_in, log_from, log_line, log_seen, log_text, moment_after, note_text}
+use Rattle.match_runner.specs.Log.{LogSeen, Logged, LogsNote, lines_in, log_from, log_line, log_seen, moment_after, note_text}
 use Rattle.match_runner.specs.ties.Logging.{Adds, IsLog, LogsPending, first_of_text, log_of_text, moment_from, noted_by, text_of_log}
 use Rattle.match_runner.specs.declared.log.Log.{Log}
 use Rattle.match_runner.specs.declared.log.Pending.{Pending}
@@ -253,10 +253,10 @@ noted seen l l' n (logged, same, after) = record {
       record {
         sided = same ∙ was.sided;
         written = subst (λ (t : List ℕ). Logged from after_it t)
-            (ap (λ (c : Colour). log_text first notes ++ note_text c l.moment n) was.sided
-            ∙ ap (λ (m : ℕ). log_text first notes ++ note_text first m n) was.reached
+            (ap (λ (c : Colour). log_from first 0 notes ++ note_text c l.moment n) was.sided
+            ∙ ap (λ (m : ℕ). log_from first 0 notes ++ note_text first m n) was.reached
             ∙ sym (log_more first 0 notes n))
-            (logged_more from now after_it (log_text first notes) text was.written logged);
+            (logged_more from now after_it (log_from first 0 notes) text was.written logged);
         reached = after ∙ ap (λ (m : ℕ). moment_after m n) was.reached ∙ sym (moment_more 0 notes n);
       };
 }
@@ -299,7 +299,7 @@ pub notes_logged : (first side side' : Colour) (from l l' : LogSeen) (moment mom
     → IsLog first from side l moment []
     → WasNoted (λ before more. IsLog (first_of_text before) (log_of_text before) side l moment more)
     (λ before more. IsLog (first_of_text before) (log_of_text before) side' l' moment' more) notes
-    → Logged from l' (log_text first notes)
+    → Logged from l' (log_from first 0 notes)
 notes_logged first side side' from l l' moment moment' notes begun noted =
     let text : List ℕ = text_of_log first from in
     let first_is : first_of_text text ≡ first = first_again first from in

@@ -26,7 +26,7 @@ use Rattle.match_runner.specs.declared.plan.GamesPlan.{GamesPlan}
 use Rattle.match_runner.specs.declared.score.Score.{Score}
 use Rattle.match_runner.specs.Games.{GameRecord, IsOfPlan, count_of, engine_command, first_side, game_text, game_texts, player_name, score_line}
 use Rattle.match_runner.specs.ties.Playing.{score_of, score_text}
-use Rattle.match_runner.specs.Log.{log_text}
+use Rattle.match_runner.specs.Log.{log_from}
 use Rattle.match_runner.specs.laws.Entries.{IsShown, entries_from}
 use Rattle.match_runner.specs.laws.ReadBack.{AreAlike, LogsGiveTheOutput, LogsGiveThePgn}
 use Rattle.match_runner.proofs.GamesWritten.{score_text_is}
@@ -110,7 +110,7 @@ logs_give_the_pgn plan number one two h k plain plain' same =
     let a : AreAlike reason reason' H K final final' =
     logs_give_the_game (rules plan) first reason reason' H K final final' p.is_match q.is_match
     p.over q.over shown shown'
-    (ap (λ (l : List Note). log_text first l) p.notes ∙ same ∙ sym (ap (λ (l : List Note). log_text first l) q.notes))
+    (ap (λ (l : List Note). log_from first 0 l) p.notes ∙ same ∙ sym (ap (λ (l : List Note). log_from first 0 l) q.notes))
     in (
       text_is plan number one.end.white_name two.end.white_name one.end.black_name two.end.black_name one.end.ended
           two.end.ended one.after.game.state two.after.game.state
@@ -138,7 +138,7 @@ abbrev IsOfLog : GamesPlan → ℕ × GameRecord → Type 0
 IsOfLog plan g = IsOfPlan plan g.1 × AllByRecursion IsShown (entries_from 0 g.1.notes)
 
 abbrev log_of : ℕ × GameRecord → List ℕ
-log_of g = log_text (first_side g.0) g.1.notes
+log_of g = log_from (first_side g.0) 0 g.1.notes
 
 texts_alike : (plan : GamesPlan) (gs hs : List (ℕ × GameRecord)) → Alike plan gs hs
     → flat_map (λ g. game_text plan g.0 g.1) gs ≡ flat_map (λ g. game_text plan g.0 g.1) hs

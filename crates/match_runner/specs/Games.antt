@@ -1,5 +1,6 @@
--- The games of a match: who plays which colour, how each is reported, and the score.
-use Rattle.std.specs.Prelude.{◌≡◌, ◌⊎◌, ⊤, ℕ, ◌+◌, ◌<◌, ◌≤◌, ◌%◌, ◌==◌, Bool, true, false, if◌then◌else◌, List, [], ◌∷◌, ◌++◌, length, count_by, flat_map, codes, decimal, Option, None, Some, Result, Ok, Err}
+-- The games of a match: who plays which colour, how each is reported, and the score. A match is here all games of a
+-- plan between two engines; in chess_match it is one game.
+use Rattle.std.specs.Prelude.{◌≡◌, ◌⊎◌, ℕ, ◌+◌, ◌<◌, ◌≤◌, ◌%◌, ◌==◌, Bool, true, false, if◌then◌else◌, List, [], ◌∷◌, ◌++◌, length, count_by, flat_map, codes, decimal, Option, None, Some, Result, Ok, Err}
 use Rattle.std.specs.Option.{option_to_list}
 use Rattle.std.specs.List.{AllByRecursion, enumerate_from}
 use Rattle.chess_base.specs.Letters.{new_line}
@@ -22,7 +23,8 @@ use Rattle.chess_match.specs.declared.reason.Reason.{Reason}
 use Rattle.chess_match.specs.declared.reason.Reason.TheVariants.{Faulted}
 use Rattle.chess_match.specs.declared.run.MatchEnd.{MatchEnd}
 use Rattle.chess_pgn.specs.GameText.{pgn}
-use Rattle.match_runner.specs.Log.{LogSeen, Logged, log_text}
+use Rattle.chess_pgn.specs.Tags.{default_tags}
+use Rattle.match_runner.specs.Log.{LogSeen, Logged, log_from}
 use Rattle.match_runner.specs.declared.fault.GamesFault.{GamesFault}
 use Rattle.match_runner.specs.declared.fault.GamesFault.TheVariants.{WriteFailed, NoMemory, CanNotStart, Game}
 use Rattle.chess_pgn.specs.declared.tags.Tags.{Tags}
@@ -43,12 +45,12 @@ engine_command plan number side = if same_colour side (first_side number) then p
 abbrev pub player_name : List ℕ → List ℕ → List ℕ
 player_name name command = cut_tag (if length name == 0 then command else name)
 
--- the PGN tags of the game of this number, which ended as `end` says; `ended` is for the tag Termination. `pgn` adds
--- the tags that depend on the start and the outcome, such as FEN and Result
+-- the PGN tags of the game of this number, which ended as `end` says; the tag Site is `?`, as in any game of which
+-- nothing is known. `ended` is for the tag Termination. `pgn` adds the tags that depend on the start and the outcome,
+-- such as FEN and Result
 abbrev pub tags_of : GamesPlan → ℕ → MatchEnd → Tags
-tags_of plan number end = record {
+tags_of plan number end = record default_tags {
   event = codes "CECP match";
-  site = codes "?";
   date = cut_tag plan.date.now;
   round = cut_tag (decimal number);
   white = player_name end.white_name (engine_command plan number White);
@@ -72,8 +74,8 @@ pub record GameRecord : Type 0 where
   pub notes : List Note
 
 -- the game `played` was played from the start of `plan`, with its time control and with at most 20,000 half-moves
--- (`MOST_MOVES`). What `played` has before and after, its end and its notes are of one and the same game: they are
--- those of the same acts `H`, which ended for the same reason. Which engines played it is not said here
+-- (`MOST_MOVES`). The fields `before`, `after`, `end` and `notes` are of one and the same game: they are those of the
+-- same acts `H`, which ended for the same reason. Which engines played it is not said here
 abbrev pub IsOfPlan : GamesPlan → GameRecord → Type 0
 IsOfPlan plan played = (played.before.game.limit ≡ MOST_MOVES)
     × ((H : List Act) × (reason : Reason) × (notes_given reason H ≡ played.notes)
@@ -87,14 +89,13 @@ game_text plan number played = pgn [] (tags_of plan number played.end) played.af
 -- these commands could not be started, or that there was no memory
 abbrev pub IsStartFault : List ℕ → List ℕ → GamesFault → Type 0
 IsStartFault first second (CanNotStart command) = (command.now ≡ first) ⊎ (command.now ≡ second)
-IsStartFault first second NoMemory = ⊤
-IsStartFault first second _ = ⊥
+IsStartFault first second fault = fault ≡ NoMemory
 
 -- from the log's state `l` to `l'` a game with these notes was logged, in which the engine of `--white` had the side
 -- `first`; or, if no side is given (`None`), nothing was logged. A write of the log may fail (`Logged`)
 abbrev pub LogsGame : Option Colour → LogSeen → LogSeen → List Note → Type 0
 LogsGame None l l' notes = l' ≡ l
-LogsGame (Some first) l l' notes = Logged l l' (log_text first notes)
+LogsGame (Some first) l l' notes = Logged l l' (log_from first 0 notes)
 
 -- ---- the games
 
@@ -111,7 +112,7 @@ game_texts plan games = flat_map (λ g. game_text plan g.0 g.1) (enumerate_from 
 -- `--white` has White. If the flag is false, nothing was logged
 abbrev pub LogsGames : Bool → LogSeen → LogSeen → List GameRecord → Type 0
 LogsGames false l l' games = l' ≡ l
-LogsGames true l l' games = Logged l l' (flat_map (λ g. log_text (first_side g.0) g.1.notes) (enumerate_from 1 games))
+LogsGames true l l' games = Logged l l' (flat_map (λ g. log_from (first_side g.0) 0 g.1.notes) (enumerate_from 1 games))
 
 -- how many of these games, numbered from 1, have the outcome that `wanted` gives for their number
 abbrev pub count_of : (ℕ → Outcome) → List GameRecord → ℕ
@@ -141,22 +142,19 @@ AreAllGames plan games (Some (number, side, fault)) =
 
 -- ---- what a match writes
 
--- all that a match writes to the output: the PGN of each of these games, and then the line of the score
-abbrev pub match_text : GamesPlan → List GameRecord → List ℕ
-match_text plan games = game_texts plan games ++ score_line games
-
 -- what playing a match writes to the output (`o`), by its result. `games` are the games whose PGN was written and
 -- flushed. `unwritten` is the game after them if it was played and its PGN could not be written, and otherwise `None`.
 -- In each case all these games were played as the plan says (`IsOfPlan`)
 abbrev pub WritesGames : GamesPlan → Result (Unit {0}) GamesFault → List GameRecord → Option GameRecord → ToOutput
     → Type 0
 -- all planned games were played as the plan says and without a fault; their PGN and the score were written and flushed
-WritesGames plan (Ok _) games None o = AreAllGames plan games None × (o ≡ all_of (match_text plan games))
+WritesGames plan (Ok _) games None o =
+    AreAllGames plan games None × (o ≡ all_of (game_texts plan games ++ score_line games))
 -- in the last game, which has this number, an engine had the fault that `text` names. All games up to it were played as
 -- the plan says, those before it without a fault; the PGN of all and the score were written and flushed
 WritesGames plan (Err (Game number text)) games None o = (side : Colour) × (fault : MatchFault)
     × AreAllGames plan games (Some (number, side, fault)) × (text.now ≡ comment_of (Faulted side fault))
-    × (o ≡ all_of (match_text plan games))
+    × (o ≡ all_of (game_texts plan games ++ score_line games))
 -- a write or flush failed in the PGN of `unwritten`: a beginning of it, maybe nothing or all, was written. All these
 -- games were played as the plan says, those of `games` without a fault; in `unwritten` an engine may have had one. No
 -- score was written
@@ -174,23 +172,15 @@ WritesGames plan (Err fault) games None o = FaultlessGames plan games × (length
 -- no other result comes with a game that was played and could not be written
 WritesGames plan _ games (Some unwritten) o = ⊥
 
--- where a match writes, as contracts see it: its output, which has the games and the score, and its log
-pub record Outputs : Type 0 where
-  pub output : OutputState
-  pub log : LogSeen
-
--- from `d` to `d'` just these games were played, with this result: the PGN of `games` was written, and `unwritten` was
--- played after them, but its PGN could not be written (`None`: there is no such game). The output was written to as
--- `WritesGames` says. If the plan asks for a log, all these games were logged, `unwritten` too
-abbrev pub PlaysThese : GamesPlan → Result (Unit {0}) GamesFault → List GameRecord → Option GameRecord → Outputs
-    → Outputs → Type 0
-PlaysThese plan result games unwritten d d' =
-    (o : ToOutput) × WritesGames plan result games unwritten o × OutputTook d.output d'.output o
-    × LogsGames plan.log d.log d'.log (games ++ option_to_list unwritten)
-
--- what playing a match does from `d` to `d'`, by its result: games were played, maybe none, as `PlaysThese` says; or
--- memory ran out before the first one, and nothing was written or logged
-abbrev pub PlaysGames : GamesPlan → Result (Unit {0}) GamesFault → Outputs → Outputs → Type 0
-PlaysGames plan result d d' =
-    ((games : List GameRecord) × (unwritten : Option GameRecord) × PlaysThese plan result games unwritten d d')
-    ⊎ ((result ≡ Err NoMemory) × (d' ≡ d))
+-- what playing a match does, by its result: games were played, maybe none, or memory ran out before the first one, and
+-- nothing was written or logged. The PGN of `games` was written; `unwritten` was played after them, but its PGN could
+-- not be written (`None`: there is no such game). The output, which was `w` and is now `w'`, was written to as
+-- `WritesGames` says. If the plan asks for a log, all these games were logged, `unwritten` too; the log was `l` and is
+-- now `l'`
+abbrev pub PlaysGames : GamesPlan → Result (Unit {0}) GamesFault → OutputState → OutputState → LogSeen → LogSeen
+    → Type 0
+PlaysGames plan result w w' l l' =
+    ((games : List GameRecord) × (unwritten : Option GameRecord) × (o : ToOutput)
+    × WritesGames plan result games unwritten o × OutputTook w w' o
+    × LogsGames plan.log l l' (games ++ option_to_list unwritten))
+    ⊎ ((result ≡ Err NoMemory) × (w' ≡ w) × (l' ≡ l))

@@ -1,11 +1,15 @@
 -- What passes at the table of a match's games, step by step.
 use Rattle.std.specs.Prelude.{ℕ, ◌+◌, Bool, if◌then◌else◌, List, [], ◌∷◌, ◌++◌, length, flat_map, Option, None, Some, Result, Err}
 use Rattle.std.specs.List.{enumerate_from}
+use Rattle.std.specs.Option.{option_to_list}
 use Rattle.chess_base.specs.declared.man.Colour.TheVariants.{White, Black}
 use Rattle.match_runner.specs.declared.fault.GamesFault.{GamesFault}
 use Rattle.match_runner.specs.declared.fault.GamesFault.TheVariants.{NoMemory, CanNotStart}
 use Rattle.match_runner.specs.declared.plan.GamesPlan.{GamesPlan}
-use Rattle.match_runner.specs.Games.{GameRecord, Outputs, PlaysThese, engine_command, game_text}
+use Rattle.byte_devices.specs.Devices.{OutputState}
+use Rattle.byte_devices.specs.Transfers.{ToOutput, OutputTook}
+use Rattle.match_runner.specs.Games.{GameRecord, LogsGames, WritesGames, engine_command, game_text}
+use Rattle.match_runner.specs.Log.{LogSeen}
 
 -- one step of playing a match's games: one call of a method of the trait `GamesTable`. A table starts the engines,
 -- plays and writes the games, and waits for the engines
@@ -83,11 +87,20 @@ last_steps plan number (Err (CanNotStart _)) None = unstarted_steps plan number
 -- any other result: no next game was begun
 last_steps plan number _ None = []
 
--- what playing a match at a table does, by its result: games were played, maybe none, as `PlaysThese` says, and just
--- the steps of these games passed at the table, and after them those of `last_steps`. `p` is what may have passed there
--- before, and `p'` after; `d` and `d'` are the output and the log before and after
+-- where a match at a table writes, as contracts see it: its output, which has the games and the score, and its log
+pub record Outputs : Type 0 where
+  pub output : OutputState
+  pub log : LogSeen
+
+-- what playing a match at a table does, by its result: games were played, maybe none; the PGN of `games` was written,
+-- and `unwritten` was played after them, but its PGN could not be written (`None`: there is no such game). The output
+-- and the log were written to as in `PlaysGames`. Just the steps of these games passed at the table, and after them
+-- those of `last_steps`. `p` is what may have passed there before, and `p'` after; `d` and `d'` are the output and the
+-- log before and after
 abbrev pub PlaysGamesAt : GamesPlan → Result (Unit {0}) GamesFault → GamesPassing → GamesPassing → Outputs → Outputs
     → Type 0
 PlaysGamesAt plan result p p' d d' =
-    (games : List GameRecord) × (unwritten : Option GameRecord) × PlaysThese plan result games unwritten d d'
+    (games : List GameRecord) × (unwritten : Option GameRecord)
+    × ((o : ToOutput) × WritesGames plan result games unwritten o × OutputTook d.output d'.output o
+    × LogsGames plan.log d.log d'.log (games ++ option_to_list unwritten))
     × StepsPass p p' (games_steps plan games ++ last_steps plan (length games + 1) result unwritten)

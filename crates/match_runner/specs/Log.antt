@@ -14,11 +14,11 @@ use Rattle.match_runner.specs.declared.log.Log.{Log}
 
 -- ---- one line
 
--- a line of a log as it is written, such as `312 <first : move e2e4`, with `\n` at its end: a reading of the clock in
--- milliseconds (`moment`), a mark, the engine, and a text. The mark is the byte `<` if the engine sent the text; `>` if
--- it was sent the text, even if sending it failed; `!` if the text says what happened. The engine has the side `side`.
--- It is called `first` if it is that of `--white`, whose side is `first`, and `second` if it is the other. In the text,
--- `?` stands for each byte that is no printable ASCII
+-- a line of a log as it is written, such as `312 <first : move e2e4`, with `\n` at its end: a moment, which is a
+-- reading of the clock in milliseconds or 0 if it was not yet read; a mark; the engine; and a text. The mark is the byte
+-- `<` if the engine sent the text; `>` if it was sent the text, even if sending it failed; `!` if the text says what
+-- happened. The engine is the one that has the side `side`. The log calls it `first :` if it is that of `--white`, which
+-- has the side `first`, and otherwise `second:`. In the text, `?` stands for each byte that is no printable ASCII
 abbrev pub log_line : Colour → ℕ → ℕ → Colour → List ℕ → List ℕ
 log_line first moment mark side text =
     decimal moment ++ (byte " " ∷ mark ∷ []) ++ (if same_colour side first then codes "first : " else codes "second: ")
@@ -32,8 +32,9 @@ lines_in [] = []
 lines_in (b ∷ bs) = if b == new_line then [] ∷ lines_in bs else onto_first b (lines_in bs)
 
 -- what the log has for a note: one line, but for `Gives` one for each line that the engine is sent, and for `Opened`
--- none, as a `Gives` has the lines that open the turn. `first` is the side of the engine of `--white`; `moment` is the
--- clock's reading at the last `Line` or `Opened` before this note, or 0 if there was none
+-- none, as a `Gives` has the lines that open the turn. The line of a `Line` has its own moment, `now`; the others have
+-- `moment`, the clock's reading at the last `Line` or `Opened` before this note, or 0 if there was none. `first` is the
+-- side of the engine of `--white`
 abbrev pub note_text : Colour → ℕ → Note → List ℕ
 note_text first moment (Happened (Line c (Some text) now)) = log_line first now (byte "<") c text
 note_text first moment (Happened (Line c None now)) = log_line first now (byte "!") c (codes "line too long")
@@ -51,16 +52,11 @@ moment_after moment (Happened (Opened c now)) = now
 moment_after moment _ = moment
 
 -- what the log has for these notes, one after another. `first` is the side of the engine of `--white`; `moment` is the
--- clock's reading at the last `Line` or `Opened` before these notes, or 0 if there was none
+-- clock's reading at the last `Line` or `Opened` before these notes, or 0 if there was none. With 0 and all notes of a
+-- game it is the whole log of the game: the clock was not yet read in it as engines were sent their first lines
 abbrev pub log_from : Colour → ℕ → List Note → List ℕ
 log_from first moment [] = []
 log_from first moment (n ∷ notes) = note_text first moment n ++ log_from first (moment_after moment n) notes
-
--- the whole log of a game with these notes, in which the engine of `--white` has the side `first`. Its lines before the
--- first event `Line` or `Opened` have the moment 0, as the clock was not yet read in this game: the lines that engines
--- are sent before any line is read, and perhaps an engine's end or failure
-abbrev pub log_text : Colour → List Note → List ℕ
-log_text first notes = log_from first 0 notes
 
 -- ---- the output
 

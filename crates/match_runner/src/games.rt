@@ -231,9 +231,8 @@ pub fn play_games<'a, P: Processes + Clock, W: Output, E: Output>(
     output: &mut W,
     log: &mut Log<E>,
 ) -> Result<(), GamesFault<'a>>
-    ensures { PlaysGames plan.now result
-        (record { output = W.seen output.old; log = log_seen (E.seen log.old.output) log.old.broken })
-        (record { output = W.seen output.new; log = log_seen (E.seen log.new.output) log.new.broken }) }
+    ensures { PlaysGames plan.now result (W.seen output.old) (W.seen output.new)
+        (log_seen (E.seen log.old.output) log.old.broken) (log_seen (E.seen log.new.output) log.new.broken) }
 {
     let tables = AttackTables::open(alloc)?;
     let game = Game::open(alloc, Bits::new(&tables), MOST_MOVES)?;

@@ -9,7 +9,7 @@ ghost use Rattle.chess_match.specs.Notes.{Gives, Happened};
 ghost use Rattle.chess_match.specs.Played.{PlayedNoting};
 ghost use Rattle.chess_match.specs.Run.{engines_of, text_read};
 ghost use Rattle.match_runner.specs.Log.{Logged, LogsNote};
-ghost use Rattle.match_runner.specs.Log.{lines_in, log_line, log_seen, log_text};
+ghost use Rattle.match_runner.specs.Log.{lines_in, log_line, log_seen, log_from};
 ghost use Rattle.match_runner.specs.ties.Logging.{Adds, IsLog, engine_text, line_head, noted_by};
 
 use arrayvec::ArrayVec;
@@ -316,7 +316,7 @@ pub fn run_match_logged<R: Input, W: Output, M: Moments, B: Board, E: Output>(
     log: &mut Log<E>,
 ) -> MatchEnd
     ensures ran { PlayedNoting (λ notes. Logged (log_seen (E.seen log.old.output) log.old.broken)
-        (log_seen (E.seen log.new.output) log.new.broken) (log_text first notes)) setup.now result
+        (log_seen (E.seen log.new.output) log.new.broken) (log_from first 0 notes)) setup.now result
         (record {
           engines = engines_of R.seen W.seen ends.old.white ends.old.black;
           coming = M.coming moments.old;

@@ -9,7 +9,7 @@ use Rattle.text_lines.specs.Words.{word_of}
 use Rattle.text_lines.specs.Lines.{LineSeen}
 use Rattle.chess_cecp.specs.Serving.{Response, says, becomes}
 use Rattle.chess_cecp.specs.declared.command.Command.{Command}
-use Rattle.chess_cecp.specs.declared.command.Command.TheVariants.{New, UserMove, Ping, Protover, Go, Quit, Silent, Unknown}
+use Rattle.chess_cecp.specs.declared.command.Command.TheVariants.{New, Ping, Protover, Go, Quit}
 
 -- the arguments of a stub, an engine that plays the moves in its arguments; each is a reference to a text
 abbrev pub Arguments : Type 0
@@ -71,22 +71,18 @@ turn (argument ∷ arguments) =
 
 -- what a stub (an engine that plays the arguments that it is given) in the state `s` does at a command; `text` is the
 -- whole line
-abbrev pub stub_row : StubState → List ℕ → Command → Response StubState
+unfoldable pub stub_row : StubState → List ℕ → Command → Response StubState
 stub_row s text (Protover n) = says s (codes "feature ping=1 setboard=1 usermove=1 myname=\"stub\" done=1\n")
 stub_row s text (Ping n) = says s (codes "pong " ++ (decimal n ++ new_line ∷ []))
 -- it plays no side until `go`, and does not use again the arguments that it has used
 stub_row s text New = becomes (waiting s.arguments)
 stub_row s text Go = turn s.arguments
--- after a move of the opponent, whatever it is, it takes its turn if it plays a side. `usermove` without a move, which
--- is read as `Unknown`, counts as a move too
-stub_row s text UserMove = if s.plays then turn s.arguments else becomes s
-stub_row s text Unknown =
-    if bytes_eq (word_of text) (codes "usermove") && s.plays then turn s.arguments else becomes s
 stub_row s text Quit = record (becomes s) { ends = true }
--- of the commands that an arbiter ignores (`Silent`), the stub obeys only `force`: it plays no side until `go`
-stub_row s text Silent = becomes (if bytes_eq (word_of text) (codes "force") then waiting s.arguments else s)
--- all other commands are ignored, even a move without `usermove`
-stub_row s text _ = becomes s
+-- any other line, by its first word. After `usermove`, whatever move follows and even if none does, it takes its turn
+-- if it plays a side. After `force` it plays no side until `go`. All else is ignored, even a move without `usermove`
+stub_row s text _ =
+    if bytes_eq (word_of text) (codes "usermove") && s.plays then turn s.arguments
+    else becomes (if bytes_eq (word_of text) (codes "force") then waiting s.arguments else s)
 
 -- what a stub (an engine that plays the arguments that it is given) in the state `s` does with a line: it obeys the
 -- line's command; a line that is too long is ignored

@@ -5,7 +5,7 @@ ghost use Rattle.std.specs.Str.{bytes_eq};
 ghost use Rattle.byte_devices.specs.Devices.{Puts};
 ghost use Rattle.chess_base.specs.Letters.{new_line};
 ghost use Rattle.chess_cecp.specs.Commands.{command_of};
-ghost use Rattle.chess_cecp.specs.Serving.{becomes};
+ghost use Rattle.chess_cecp.specs.declared.command.Command.TheVariants.{Unknown};
 ghost use Rattle.stub_engine.specs.Stub.{after_remarks, played_text, remark, remarks, stub_row, stub_response, turn, waiting};
 
 use arrayvec::ArrayVec;
@@ -204,23 +204,27 @@ impl<'a> Stub<'a> {
         say_turn(self.arguments, at, writer)
     }
 
-    // Takes a move of the opponent: if the stub plays, it is its turn, otherwise nothing happens. Returns whether the
-    // stub goes on.
-    fn moved<W: Output>(&mut self, writer: &mut W) -> Result<Go, WriteFault>
-        ensures next { self.new ≡ (if self.old.plays then turn self.old.arguments else becomes self.old).state }
+    // Obeys a line by its first word: after `usermove` it is the stub's turn if it plays a side, and after `force` it
+    // plays none. Returns whether the stub goes on.
+    #[tactic(auto, unfolding(crate::specs::Stub::stub_row))]
+    fn obey_word<W: Output>(&mut self, text: &[u8], writer: &mut W) -> Result<Go, WriteFault>
+        ensures next { self.new ≡ (stub_row self.old text.now Unknown).state }
         ensures written { Puts (W.seen writer.old) (W.seen writer.new) result
-            (if self.old.plays then turn self.old.arguments else becomes self.old).text }
-        ensures go { IfOk result (λ go. go
-            ≡ (if (if self.old.plays then turn self.old.arguments else becomes self.old).ends then Go.Quit else Go.On)) }
+            (stub_row self.old text.now Unknown).text }
+        ensures go { IfOk result (λ go. go ≡ (if (stub_row self.old text.now Unknown).ends then Go.Quit else Go.On)) }
     {
-        if self.plays {
-            self.play(writer)
-        } else {
-            Ok(Go::On)
+        let word = first_word(text);
+        if word == b"usermove".as_slice() && self.plays {
+            return self.play(writer);
         }
+        if word == b"force".as_slice() {
+            self.plays = false;
+        }
+        Ok(Go::On)
     }
 
     // Obeys the command of a line, writes the reply if there is one, and returns whether the stub goes on.
+    #[tactic(auto, unfolding(crate::specs::Stub::stub_row))]
     fn obey<W: Output>(&mut self, text: &[u8], writer: &mut W) -> Result<Go, WriteFault>
         ensures next { self.new ≡ (stub_row self.old text.now (command_of text.now)).state }
         ensures written { Puts (W.seen writer.old) (W.seen writer.new) result
@@ -242,22 +246,11 @@ impl<'a> Stub<'a> {
                 Ok(Go::On)
             }
             Command::Go => self.play(writer),
-            Command::UserMove => self.moved(writer),
-            Command::Unknown => {
-                if first_word(text) == b"usermove".as_slice() {
-                    self.moved(writer)
-                } else {
-                    Ok(Go::On)
-                }
-            }
             Command::Quit => Ok(Go::Quit),
-            Command::Silent => {
-                if first_word(text) == b"force".as_slice() {
-                    self.plays = false;
-                }
-                Ok(Go::On)
-            }
-            Command::BareMove
+            Command::UserMove
+            | Command::Unknown
+            | Command::Silent
+            | Command::BareMove
             | Command::Undo
             | Command::Remove
             | Command::Declare
@@ -268,7 +261,7 @@ impl<'a> Stub<'a> {
             | Command::ShowMoves
             | Command::ShowState
             | Command::ShowPgn
-            | Command::BadNumber => Ok(Go::On),
+            | Command::BadNumber => self.obey_word(text, writer),
         }
     }
 }

@@ -5,7 +5,7 @@ use Rattle.std.specs.Str.Parse.{digits_value, without_leading_plus}
 use Rattle.clap.specs.Words.{Row, Text, first_of, kind_of}
 use Rattle.arbiter_cli.specs.declared.plan.Plan.{Plan}
 use Rattle.arbiter_cli.specs.declared.plan.Plan.TheVariants.{Session, Verify, Stub, Match}
-use Rattle.arbiter_cli.specs.declared.plan.MatchPlan.{MatchPlan}
+use Rattle.match_runner.specs.declared.plan.GamesPlan.{GamesPlan}
 use Rattle.arbiter_cli.specs.declared.fault.WordsFault.{WordsFault}
 use Rattle.arbiter_cli.specs.declared.fault.WordsFault.TheVariants.{Words, NoMemory, BadLevel, BadFen, BadDate}
 use Rattle.arbiter_cli.specs.declared.request.MatchRequest.{MatchRequest}
@@ -56,7 +56,7 @@ IsRequestOf said (request.Match m) = (said.command ≡ codes "match") × IsMatch
 
 -- the plan of a match is what the request `m` asks for: level and FEN as what they denote, a date that can be a tag,
 -- all else as it is
-pub record IsJudged (m : MatchRequest) (plan : MatchPlan) : Type 0 where
+pub record IsJudged (m : MatchRequest) (plan : GamesPlan) : Type 0 where
   pub white : plan.white ≡ m.white
   pub black : plan.black ≡ m.black
   pub level : level_of m.level.now ≡ Some plan.level
@@ -81,7 +81,7 @@ abbrev pub IsPlanned : Request → Plan → Type 0
 IsPlanned request.Session plan = plan ≡ Session
 IsPlanned (request.Verify v) plan = plan ≡ Verify v
 IsPlanned (request.Stub arguments) plan = plan ≡ Stub arguments
-IsPlanned (request.Match m) plan = (p : MatchPlan) × (plan ≡ Match p) × IsJudged m p
+IsPlanned (request.Match m) plan = (p : GamesPlan) × (plan ≡ Match p) × IsJudged m p
 
 -- the fault is right for this request: that of the first of level, FEN and date that is invalid in a match; no other
 -- request has one

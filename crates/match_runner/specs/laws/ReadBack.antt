@@ -14,8 +14,8 @@ use Rattle.chess_match.specs.Events.{Event, Line, Opened, OutputEnds, FailsToRea
 use Rattle.chess_match.specs.laws.Laws.{events_in}
 use Rattle.chess_match.specs.laws.OfActs.{lines_given}
 use Rattle.match_runner.specs.declared.plan.GamesPlan.{GamesPlan}
-use Rattle.match_runner.specs.Games.{GameRecord, IsOfPlan, first_side, game_text, match_text}
-use Rattle.match_runner.specs.Log.{log_text}
+use Rattle.match_runner.specs.Games.{GameRecord, IsOfPlan, first_side, game_text, game_texts, score_line}
+use Rattle.match_runner.specs.Log.{log_from}
 use Rattle.match_runner.specs.laws.Entries.{Entry, IsShown, entries_from, entries_text}
 use Rattle.chess_match.specs.Lines.{bytes_of}
 use Rattle.chess_match.specs.Reasons.{comment_of, outcome_by_reason}
@@ -67,7 +67,7 @@ abbrev pub LogsShow : Type 0
 LogsShow = (r : Rules) (first : Colour) (reason : Reason) (H : List Act) (final : Match) → IsMatch r H final
     → final.phase ≡ Over reason
     → let lines = entries_from 0 (notes_given reason H) in
-    (log_text first (notes_given reason H) ≡ entries_text first lines)
+    (log_from first 0 (notes_given reason H) ≡ entries_text first lines)
     × (flat_map entry_event lines ≡ events_shown (events_in (notes_given reason H)))
     × ((S : Colour) → flat_map (entry_given S) lines ≡ bytes_of (lines_given S H))
     × (result_line lines ≡ text_of_result reason)
@@ -91,7 +91,7 @@ LogsGiveTheGame = (r : Rules) (first : Colour) (reason reason' : Reason) (H K : 
     → IsMatch r H final → IsMatch r K final' → final.phase ≡ Over reason → final'.phase ≡ Over reason'
     → AllByRecursion IsShown (entries_from 0 (notes_given reason H))
     → AllByRecursion IsShown (entries_from 0 (notes_given reason' K))
-    → log_text first (notes_given reason H) ≡ log_text first (notes_given reason' K)
+    → log_from first 0 (notes_given reason H) ≡ log_from first 0 (notes_given reason' K)
     → AreAlike reason reason' H K final final'
 
 -- the PGN of a game follows from its log: two games of this number of the plan that have the same log, which shows
@@ -100,12 +100,12 @@ abbrev pub LogsGiveThePgn : Type 0
 LogsGiveThePgn = (plan : GamesPlan) (number : ℕ) (one two : GameRecord) → IsOfPlan plan one → IsOfPlan plan two
     → AllByRecursion IsShown (entries_from 0 one.notes)
     → AllByRecursion IsShown (entries_from 0 two.notes)
-    → log_text (first_side number) one.notes ≡ log_text (first_side number) two.notes
+    → log_from (first_side number) 0 one.notes ≡ log_from (first_side number) 0 two.notes
     → (game_text plan number one ≡ game_text plan number two) × (one.end.outcome ≡ two.end.outcome)
 
 -- the log of each of these games by itself, where the log of a match has them one after another
 abbrev pub logs_of : List GameRecord → List (List ℕ)
-logs_of games = map (λ g. log_text (first_side g.0) g.1.notes) (enumerate_from 1 games)
+logs_of games = map (λ g. log_from (first_side g.0) 0 g.1.notes) (enumerate_from 1 games)
 
 -- these games, numbered from 1, were played by the plan, and their logs show their lines as they are
 abbrev pub AreOfLogs : GamesPlan → List GameRecord → Type 0
@@ -118,4 +118,5 @@ AreOfLogs plan games = AllByRecursion
 -- which show their lines as they are, write the same
 abbrev pub LogsGiveTheOutput : Type 0
 LogsGiveTheOutput = (plan : GamesPlan) (games games' : List GameRecord) → AreOfLogs plan games
-    → AreOfLogs plan games' → logs_of games ≡ logs_of games' → match_text plan games ≡ match_text plan games'
+    → AreOfLogs plan games' → logs_of games ≡ logs_of games'
+    → game_texts plan games ++ score_line games ≡ game_texts plan games' ++ score_line games'

@@ -9,7 +9,7 @@ use Rattle.byte_devices.specs.Transfers.{ToOutput, OutputTook, all_of}
 use Rattle.chess_match.specs.Notes.{Note}
 use Rattle.match_runner.specs.declared.log.Log.{Log}
 use Rattle.match_runner.specs.declared.log.Pending.{Pending}
-use Rattle.match_runner.specs.Log.{log_seen, log_text, moment_after, LogSeen, Logged, LogsText}
+use Rattle.match_runner.specs.Log.{log_seen, log_from, moment_after, LogSeen, Logged, LogsText}
 
 -- how the log names an engine: that of `--white` (`is_first`) is `first`, the other `second`, whichever side they have
 abbrev pub engine_text : Bool → List ℕ
@@ -43,7 +43,7 @@ moment_from moment (n ∷ notes) = moment_from (moment_after moment n) notes
 pub record IsLog (first : Colour) (from : LogSeen) (side : Colour) (now : LogSeen) (moment : ℕ) (notes : List Note)
     : Type 0 where
   pub sided : side ≡ first
-  pub written : Logged from now (log_text first notes)
+  pub written : Logged from now (log_from first 0 notes)
   pub reached : moment ≡ moment_from 0 notes
 
 -- ---- what a log began with, as a text: a witness is known by a text that it held before

@@ -1,11 +1,12 @@
 -- What code does for one game of a match, and for all of them.
 use Rattle.std.specs.Prelude.{◌≡◌, ⊤, ℕ, ◌+◌, min, Bool, true, false, if◌then◌else◌, List, [], ◌∷◌, ◌++◌, length, codes, decimal, Option, None, Some, Result, Ok, Err}
+use Rattle.std.specs.Option.{option_to_list}
 use Rattle.match_runner.specs.declared.plan.GamesPlan.{GamesPlan}
 use Rattle.chess_base.specs.Letters.{new_line}
 use Rattle.chess_base.specs.Men.{other}
 use Rattle.chess_base.specs.declared.man.Colour.{Colour}
 use Rattle.byte_devices.specs.Devices.{OutputState, CutShort, Sent}
-use Rattle.byte_devices.specs.Transfers.{OutputTook, all_of}
+use Rattle.byte_devices.specs.Transfers.{ToOutput, OutputTook, all_of}
 use Rattle.chess_game.specs.Results.{same_outcome}
 use Rattle.chess_game.specs.declared.results.Outcome.{Outcome}
 use Rattle.chess_game.specs.declared.results.Outcome.TheVariants.{Draw, Unfinished}
@@ -16,8 +17,8 @@ use Rattle.match_runner.specs.declared.fault.GamesFault.{GamesFault}
 use Rattle.match_runner.specs.declared.fault.GamesFault.TheVariants.{WriteFailed, NoMemory, CanNotStart}
 use Rattle.match_runner.specs.declared.games.GamesPlayed.{GamesPlayed}
 use Rattle.match_runner.specs.declared.score.Score.{Score}
-use Rattle.match_runner.specs.Games.{first_side, GameRecord, IsOfPlan, game_text, IsStartFault, LogsGame, game_texts, LogsGames, count_of, AreAllGames, PlaysThese}
-use Rattle.match_runner.specs.GamesTable.{GamesPassing, StepsPass, game_steps, unwritten_steps, unstarted_steps, games_steps}
+use Rattle.match_runner.specs.Games.{first_side, GameRecord, IsOfPlan, game_text, IsStartFault, LogsGame, game_texts, LogsGames, WritesGames, count_of, AreAllGames}
+use Rattle.match_runner.specs.GamesTable.{GamesPassing, Outputs, StepsPass, game_steps, unwritten_steps, unstarted_steps, games_steps}
 
 -- ---- the score, as it is counted
 
@@ -82,6 +83,14 @@ PlayedGame plan number p p' w w' l l' (Err WriteFailed) =
 PlayedGame plan number p p' w w' l l' (Err fault) =
     IsStartFault plan.white.now plan.black.now fault × (w' ≡ w) × (l' ≡ l)
     × StepsPass p p' (unstarted_steps plan number)
+
+-- from `d` to `d'` just these games were played, with this result, as `PlaysGames` has it: the PGN of `games` was
+-- written, and `unwritten` was played after them, but its PGN could not be written (`None`: there is no such game)
+abbrev pub PlaysThese : GamesPlan → Result (Unit {0}) GamesFault → List GameRecord → Option GameRecord → Outputs
+    → Outputs → Type 0
+PlaysThese plan result games unwritten d d' =
+    (o : ToOutput) × WritesGames plan result games unwritten o × OutputTook d.output d'.output o
+    × LogsGames plan.log d.log d'.log (games ++ option_to_list unwritten)
 
 -- what playing the games of a match does, by its result: each was written and logged, and the score counts them, up to
 -- and with one that has a fault; or the match broke off in a game or at its start. `p` is what may have passed at the

@@ -1,6 +1,5 @@
 -- Where nothing failed, nothing was written after the logs.
 use Rattle.std.proofs.Common.{Ok, Err, refl}
-use Rattle.match_runner.specs.Log.{log_seen}
 use Rattle.chess_arbiter.proofs.program.matched.Goals as goal
 
 pub returns-in-Ok : goal.returns-in-Ok
@@ -9,7 +8,7 @@ returns-in-Ok g c = (Ok tt, _, c.in-Ok.ensures, refl, λ e. refl)
 pub returns-in-Err : goal.returns-in-Err
 returns-in-Err g c = (
   Err c.in-Err.fault,
-  log_seen (g.E.Output.seen c.play_games.new.log.output) c.play_games.new.log.broken,
+  _,
   c.in-Err.ensures,
   c.reported.ensures,
   λ e. absurd (cc),

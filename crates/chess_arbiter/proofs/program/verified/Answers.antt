@@ -2,7 +2,7 @@ use Rattle.std.proofs.Common.{Ok, Err}
 use Rattle.chess_arbiter.proofs.program.verified.Goals as goal
 
 pub returns-in-Ok : goal.returns-in-Ok
-returns-in-Ok g c = (Ok c.in-Ok.verified, c.in-Ok.ensures, c.verified_status.ensures)
+returns-in-Ok g c = (Ok c.in-Ok.verified, c.verified_status.ensures, c.in-Ok.ensures)
 
 pub returns-in-Err : goal.returns-in-Err
-returns-in-Err g c = (Err c.in-Err.fault, c.in-Err.ensures, c.reported.ensures)
+returns-in-Err g c = (Err c.in-Err.fault, c.reported.ensures, c.in-Err.ensures)
