@@ -1,9 +1,9 @@
 -- The squares between two squares of one line.
-use Rattle.std.proofs.Common.{◌≡◌, ℕ, zero, suc, ◌+◌, ◌*◌, ◌/◌, ◌%◌, ◌<◌, ◌≤◌, inl, inr, Bool, true, false, not, ◌&&◌, ◌||◌, refl, sym, ap, ◌∙◌, arith, List, length, get_or, set, get_or-set_same, get_or-set_other}
+use Rattle.std.proofs.Common.{◌≡◌, ℕ, zero, suc, ◌+◌, ◌*◌, ◌/◌, ◌%◌, ◌<◌, ◌≤◌, inl, inr, Bool, true, false, not, ◌&&◌, ◌||◌, refl, sym, ap, ◌∙◌, arith, List, length, get_or, set, get_or-set_same, get_or-set_other, [], ◌∷◌}
+use Rattle.std.specs.List.{list_any, list_all}
 use Rattle.std.proofs.lemmas.Bool.Decides.{nat_tests}
 use Rattle.std.proofs.lemmas.Bool.{cases_Bool, cases_eq, or_cases}
-use Rattle.chess_base.specs.Squares.{is_between, share_rank_or_file, share_diagonal, some_square, each_square}
-use Rattle.chess_base.specs.shared.Below.{some_below, each_below}
+use Rattle.chess_base.specs.Squares.{squares, is_between, share_rank_or_file, share_diagonal, some_square, each_square}
 use Rattle.chess_base.specs.declared.line.Line.{Line}
 use Rattle.chess_base.specs.declared.line.Line.TheVariants.{Rank, File, Diagonal, Antidiagonal}
 use Rattle.chess_base.specs.shared.Lines.{line_number, same_line}
@@ -72,13 +72,13 @@ paired_more sets i v x y inside ex ey made before l a b k la lb low same lk =
 neither : (x y : Bool) → not (x || y) ≡ (not x && not y)
 neither x y = grind arith
 
-none_below : (n : ℕ) (p : ℕ → Bool) → not (some_below n p) ≡ each_below n (λ k. not (p k))
-none_below zero p = refl
-none_below (suc n) p = neither (some_below n p) (p n) ∙ ap (λ t. t && not (p n)) (none_below n p)
+none_among : (xs : List ℕ) (p : ℕ → Bool) → not (list_any p xs) ≡ list_all (λ k. not (p k)) xs
+none_among [] p = refl
+none_among (x ∷ xs) p = neither (p x) (list_any p xs) ∙ ap (λ t. not (p x) && t) (none_among xs p)
 
 pub none_square : (p : ℕ → Bool) → not (some_square p) ≡ each_square (λ k. not (p k))
 unfolding some_square each_square
-none_square p = none_below 64 p
+none_square p = none_among squares p
 
 -- two squares are on one rank, file or diagonal
 abbrev pub are_on_line : ℕ → ℕ → Bool

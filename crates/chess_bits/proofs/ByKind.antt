@@ -18,7 +18,7 @@ use Rattle.chess_base.specs.MoveList.{move_of}
 use Rattle.chess_base.specs.Moves.{is_pseudo_legal, is_legal, after, man_moves, pawn_advances, pawn_captures, promotion_fits}
 use Rattle.chess_base.specs.shared.Splits.{castles_or_moves}
 use Rattle.chess_base.specs.Squares.{is_at}
-use Rattle.chess_base.proofs.shared.Men.{is_man-kind}
+use Rattle.chess_base.proofs.shared.Men.{is_man-kind, same_kind-self}
 use Rattle.chess_moves.specs.Promoting.{would_promote}
 use Rattle.chess_moves.specs.Sets.{contains}
 use Rattle.chess_bits.specs.ties.Changes.{StepsPlainly}
@@ -148,8 +148,7 @@ unfolding is_of is_man
 officer_told c x o at own neither =
     let same : same_colour c x.colour ≡ true = rw at at own in
     record {
-      man = rw at (and_from (same_colour c x.colour) (same_kind x.kind x.kind) same
-          (eq-eqb (kind_number x.kind) (kind_number x.kind) refl));
+      man = rw at (and_from (same_colour c x.colour) (same_kind x.kind x.kind) same (same_kind-self x.kind));
       officer = not-true (same_kind King x.kind || same_kind Pawn x.kind) neither;
     }
 

@@ -23,7 +23,6 @@ use Rattle.chess_base.specs.Moves.{is_pseudo_legal, is_legal, promotion_fits}
 use Rattle.chess_base.specs.shared.Splits.{castles_or_moves}
 use Rattle.chess_base.specs.Sound.{IsSound}
 use Rattle.chess_base.specs.Squares.{rank, each_square, some_square, squares}
-use Rattle.chess_base.specs.shared.Below.{some_below, from_below}
 use Rattle.chess_base.proofs.shared.Castling.{right_is_sound_of, placed_for_right, says_from_castling, castling_says, castle_there, no_castle}
 use Rattle.chess_base.proofs.shared.Men.{in_board}
 use Rattle.chess_moves.proofs.shared.AnyMove.{any-filter}
@@ -109,7 +108,7 @@ on_rank p m k sound e = on_rank_by p m k sound e (castling p m) refl
 pub each_not : (p q : ℕ → Bool) → ((k : ℕ) → k < 64 → p k ≡ not (q k)) → each_square p ≡ not (some_square q)
 each_not p q h = each_square_same p (λ k. not (q k)) h ∙ sym (none_square q)
 
-crossed : (x y z u v : Bool) → (not ((x || y) && not z && not u) || v) ≡ not ((((x || y) && not z) && not u) && not v)
+crossed : (x y z u v : Bool) → (not (x || y) || z || u || v) ≡ not ((((x || y) && not z) && not u) && not v)
 crossed x y z u v = grind arith
 
 -- no piece is met on the ways
@@ -119,30 +118,18 @@ pub way_is_empty : (men : Men) (k : Castle) (met : ℕ → Bool)
     ((((is_on_way k.king_from k.king_to x || is_on_way k.rook_from k.rook_to x) && not (x == k.king_from))
     && not (x == k.rook_from)) && not (is_none (man_at men x))))
     → not (some_square met) ≡ castling_way_is_empty men k
-unfolding castling_way_is_empty castling_needs_empty
+unfolding castling_way_is_empty
 way_is_empty men k met h =
     sym (each_not _ met
     (λ x low. crossed (is_on_way k.king_from k.king_to x) (is_on_way k.rook_from k.rook_to x) (x == k.king_from)
     (x == k.rook_from) (is_none (man_at men x)) ∙ ap not (sym (h x low))))
 
 -- of the squares of the set w none passes q
-first_apart : (n : ℕ) (p : ℕ → Bool) → some_below (suc n) p ≡ (p 0 || some_below n (λ k. p (suc k)))
-first_apart zero p = sym (or-false (p 0))
-first_apart (suc n) p = ap (λ b. b || p (suc n)) (first_apart n p) ∙ grind arith
-
-any-below : (n : ℕ) (g : ℕ → ℕ) (t : ℕ → Bool) → list_any t (from_below n g) ≡ some_below n (λ k. t (g k))
-any-below zero g t = refl
-any-below (suc n) g t = ap (λ b. t (g 0) || b) (any-below n (λ k. g (suc k)) t) ∙ sym (first_apart n (λ k. t (g k)))
-
-any-squares : (t : ℕ → Bool) → list_any t squares ≡ some_square t
-unfolding squares some_square
-any-squares t = any-below 64 (λ k. k) t
-
 pub none_of : (q : ℕ → Bool) (w : ℕ)
     → not (list_any q (members w)) ≡ each_square (λ x. not (contains w x) || not (q x))
-unfolding members
+unfolding members some_square
 none_of q w =
-    ap not (any-filter (λ x. contains w x) q squares ∙ any-squares (λ x. contains w x && q x))
+    ap not (any-filter (λ x. contains w x) q squares)
     ∙ sym (each_not _ (λ x. contains w x && q x) (λ x low. grind arith))
 
 pub way_is_safe : (men : Men) (c : Colour) (k : Castle) (way : ℕ → Bool)

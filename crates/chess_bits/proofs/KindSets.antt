@@ -10,7 +10,7 @@ use Rattle.chess_base.specs.declared.man.Man.{Man}
 use Rattle.chess_base.specs.Attacks.{attacks}
 use Rattle.chess_base.specs.Men.{Men, man_at, is_man, is_of, same_colour}
 use Rattle.chess_base.specs.shared.Parts.{kind_number}
-use Rattle.chess_base.proofs.shared.Men.{same_colour-self, same_kind-self, is_man-none}
+use Rattle.chess_base.proofs.shared.Men.{same_colour-self, same_kind-self, same_kind_by_number, is_man-none}
 use Rattle.chess_moves.specs.Sets.{contains}
 use Rattle.chess_bits.specs.ties.Occupancy.{IsLater}
 use Rattle.chess_bits.specs.ties.KindSets.{AreKindsAt, IsKinds}
@@ -27,7 +27,7 @@ kind_below Pawn = omega arith
 own_man : (c : Colour) (x y : Kind) → is_man c y (Some (record { colour = c; kind = x }))
     ≡ (kind_number y == kind_number x)
 unfolding is_man
-own_man c x y = rw (same_colour-self c) refl
+own_man c x y = rw (same_colour-self c) (same_kind_by_number y x)
 
 -- one set and one square written
 written_at : (sets : List ℕ) (men : Men) (c : Colour) (x y : Kind) (s k w : ℕ) (o : Option Man)

@@ -1,5 +1,5 @@
 -- The bytes of a FEN that is written: no field has a space, and no rank a slash; all of them are ASCII.
-use Rattle.std.proofs.Common.{sym, ◌≡◌, ℕ, zero, suc, ◌+◌, ◌*◌, ◌/◌, ◌%◌, ◌<◌, ◌≤◌, ◌⊎◌, inl, inr, true, eqb, List, [], ◌∷◌, ◌++◌, length, take, drop, map, Option, Some, None, subst, arith, rules}
+use Rattle.std.proofs.Common.{sym, ◌≡◌, ℕ, zero, suc, ◌+◌, ◌*◌, ◌/◌, ◌%◌, ◌<◌, ◌≤◌, ◌⊎◌, inl, inr, true, eqb, List, [], ◌∷◌, ◌++◌, length, take, drop, map, Option, Some, None, subst, arith, rules, ◌∙◌}
 use Rattle.std.specs.Prelude.{decimal, IfSome}
 use Rattle.std.specs.List.{AllByRecursion}
 use Rattle.std.specs.Str.{IsAscii, IsUtf8}
@@ -22,10 +22,11 @@ use Rattle.chess_base.specs.declared.man.Variant.TheVariants.{Normal, Fischerand
 use Rattle.chess_base.specs.declared.setup.Setup.{Setup}
 use Rattle.chess_base.specs.Letters.{white_letter, letter, letter_by}
 use Rattle.chess_base.specs.Men.{Men, other}
-use Rattle.chess_base.specs.Sound.{IsSound, target_is_sound}
+use Rattle.chess_base.specs.Sound.{IsSound}
 use Rattle.chess_base.specs.shared.Parts.{crossed_rank, target_is_sound_at}
 use Rattle.chess_fen.specs.ties.Loops.{or_dash, right_text}
 use Rattle.chess_fen.proofs.RightLetters.{rights_are}
+use Rattle.chess_base.proofs.shared.Parts.{target_is_sound_is}
 use Rattle.chess_fen.specs.RightNames.{right_letter}
 use Rattle.chess_fen.specs.Writing.{fen_rank, placement_text, side_text, rights_text, target_text, fen}
 use Rattle.chess_fen.specs.ties.Loops.{ranks_down, run_text, row_text}
@@ -145,8 +146,7 @@ target_rank men c (Some t) e = by_colour c (grind (arith, e))
     by_colour Black h = inl (eqb-true (t / 8) 2 h)
 
 pub target_fits : (p : Setup) → IsSound p → IfSome p.target (λ square. (square / 8 ≡ 2) ⊎ (square / 8 ≡ 5))
-unfolding target_is_sound
-target_fits p h = target_rank p.men p.side p.target h.target
+target_fits p h = target_rank p.men p.side p.target (sym (target_is_sound_is p) ∙ h.target)
 
 target_plain : (target : Option ℕ) → IfSome target (λ square. (square / 8 ≡ 2) ⊎ (square / 8 ≡ 5))
     → Plain 45 (target_text target)

@@ -10,7 +10,7 @@ use Rattle.chess_base.specs.declared.man.Man.{Man}
 use Rattle.chess_base.specs.Men.{Men, man_at, is_of, is_man, same_colour, same_kind}
 use Rattle.chess_base.specs.Squares.{some_square, each_square}
 use Rattle.chess_base.specs.shared.Below.{some_below, each_below, from_below}
-use Rattle.chess_base.proofs.shared.Squares.{length-from_below, get_or-from_below}
+use Rattle.chess_base.proofs.shared.Squares.{length-from_below, get_or-from_below, some_square_is, each_square_is}
 use Rattle.chess_moves.specs.Sets.{contains}
 use Rattle.chess_game.specs.Ends.{is_kind}
 use Rattle.chess_game.specs.Same.{same_man, same_men}
@@ -165,6 +165,8 @@ not_some (suc n) f g h =
 pub same_where_none : (w : ℕ) (men others : Men)
     → ((k : ℕ) → k < 64 → contains w k ≡ not (same_man (man_at men k) (man_at others k)))
     → not (some_square (λ k. contains w k)) ≡ same_men men others
-unfolding some_square same_men each_square
+unfolding same_men
 same_where_none w men others h =
-    not_some 64 (λ k. contains w k) (λ s. same_man (man_at men s) (man_at others s)) h
+    ap not (some_square_is (λ k. contains w k))
+    ∙ not_some 64 (λ k. contains w k) (λ s. same_man (man_at men s) (man_at others s)) h
+    ∙ sym (each_square_is (λ s. same_man (man_at men s) (man_at others s)))

@@ -15,7 +15,8 @@ use Rattle.chess_base.specs.Squares.{each_square}
 use Rattle.chess_base.specs.shared.Below.{from_below}
 use Rattle.chess_base.specs.laws.Reserve.{reserve, weight, ranks_to_go}
 use Rattle.chess_base.specs.laws.Laws.{ReserveNeverGrows, ReserveFallsForGood}
-use Rattle.chess_base.proofs.shared.Squares.{each_below-at}
+use Rattle.chess_base.specs.Letters.{white_letter}
+use Rattle.chess_base.proofs.shared.Squares.{each_square-at, map_squares}
 use Rattle.chess_base.proofs.shared.Men.{same_colour-true}
 use Rattle.chess_moves.specs.Made.{WasMade}
 use Rattle.chess_game.specs.Line.{position_after}
@@ -36,7 +37,7 @@ same_weight s (Some x) None e = cc
 same_weight s (Some x) (Some y) e =
     let both = and_parts (same_colour x.colour y.colour) (same_kind x.kind y.kind) e in
     let colour = same_colour-true x.colour y.colour both.0 in
-    let kind : same_kind Pawn x.kind ≡ same_kind Pawn y.kind = ap (λ n. 5 == n) (eqb-true _ _ both.1) in
+    let kind : same_kind Pawn x.kind ≡ same_kind Pawn y.kind = ap (λ c. white_letter Pawn == c) (eqb-true _ _ both.1) in
     ap (λ c. if same_kind Pawn x.kind then 1 + ranks_to_go c s else 1) colour
     ∙ ap (λ b. if b then 1 + ranks_to_go y.colour s else 1) kind
 
@@ -47,11 +48,13 @@ below_alike (suc n) f g h =
     ∙ ap (λ v. g 0 ∷ v) (below_alike n (λ k. f (suc k)) (λ k. g (suc k)) (λ k l. h (suc k) (omega arith)))
 
 same_reserve : (men others : Men) → same_men men others ≡ true → reserve men ≡ reserve others
-unfolding reserve same_men each_square
+unfolding reserve same_men
 same_reserve men others e =
-    ap sum (below_alike 64 (λ s. weight s (man_at men s)) (λ s. weight s (man_at others s))
+    ap sum (map_squares (λ s. weight s (man_at men s))
+    ∙ below_alike 64 (λ s. weight s (man_at men s)) (λ s. weight s (man_at others s))
     (λ k h. same_weight k (man_at men k) (man_at others k)
-    (each_below-at 64 (λ s. same_man (man_at men s) (man_at others s)) e k h)))
+    (each_square-at (λ s. same_man (man_at men s) (man_at others s)) e k h))
+    ∙ sym (map_squares (λ s. weight s (man_at others s))))
 
 -- a position whose pieces have more in reserve is another
 pub other_by_reserve : (p q : Setup) → reserve q.men < reserve p.men → is_same_position p q ≡ false

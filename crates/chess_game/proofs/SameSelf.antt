@@ -7,7 +7,7 @@ use Rattle.chess_base.specs.declared.man.ColourRights.{ColourRights}
 use Rattle.chess_base.specs.declared.setup.Setup.{Setup}
 use Rattle.chess_base.specs.Men.{Men, man_at}
 use Rattle.chess_base.specs.Squares.{each_square}
-use Rattle.chess_base.specs.shared.Below.{each_below}
+use Rattle.chess_base.proofs.shared.Squares.{each_square-all}
 use Rattle.chess_base.proofs.shared.Men.{same_colour-self, same_kind-self}
 use Rattle.chess_game.specs.Same.{is_same_position, same_man, same_men, same_square, same_colour_rights, same_rights, legal_en_passant_square}
 
@@ -15,13 +15,9 @@ pub man_self : (o : Option Man) → same_man o o ≡ true
 man_self None = refl
 man_self (Some x) = and_from _ _ (same_colour-self x.colour) (same_kind-self x.kind)
 
-each_below-all : (n : ℕ) (f : ℕ → Bool) → ((k : ℕ) → f k ≡ true) → each_below n f ≡ true
-each_below-all zero f h = refl
-each_below-all (suc n) f h = and_from _ _ (each_below-all n f h) (h n)
-
 men_self : (men : Men) → same_men men men ≡ true
-unfolding same_men each_square
-men_self men = each_below-all 64 (λ s. same_man (man_at men s) (man_at men s)) (λ k. man_self (man_at men k))
+unfolding same_men
+men_self men = each_square-all (λ s. same_man (man_at men s) (man_at men s)) (λ k h. man_self (man_at men k))
 
 square_self : (o : Option ℕ) → same_square o o ≡ true
 square_self None = refl

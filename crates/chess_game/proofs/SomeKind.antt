@@ -13,7 +13,7 @@ use Rattle.chess_base.specs.Men.{Men, man_at, is_man, same_colour, same_kind}
 use Rattle.chess_base.specs.Sound.{IsSound}
 use Rattle.chess_base.specs.Squares.{some_square}
 use Rattle.chess_base.specs.shared.Below.{some_below}
-use Rattle.chess_base.proofs.shared.Squares.{some_square_same}
+use Rattle.chess_base.proofs.shared.Squares.{some_square_is, some_square_same}
 use Rattle.chess_moves.specs.Sets.{contains}
 use Rattle.chess_game.specs.Ends.{is_kind}
 use Rattle.chess_game.specs.ties.Material.{is_pawn_rook_or_queen}
@@ -41,9 +41,8 @@ any_below f xs d (suc n) h = ap (λ m. list_any f (take m xs)) (next n) ∙ list
 
 pub any_square : {A : Type 0} (f : A → Bool) (xs : List A) (d : A) → length xs ≡ 64
     → list_any f xs ≡ some_square (λ k. f (get_or xs k d))
-unfolding some_square
 any_square f xs d whole = ap (list_any f) (sym (take-length xs)) ∙ ap (λ n. list_any f (take n xs)) whole
-    ∙ any_below f xs d 64 (omega (arith, whole))
+    ∙ any_below f xs d 64 (omega (arith, whole)) ∙ sym (some_square_is (λ k. f (get_or xs k d)))
 
 -- ---- by colours
 

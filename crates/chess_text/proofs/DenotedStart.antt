@@ -12,10 +12,9 @@ use Rattle.chess_base.specs.declared.man.Man.{Man}
 use Rattle.chess_base.specs.declared.man.Move.{Move}
 use Rattle.chess_base.specs.declared.setup.Setup.{Setup}
 use Rattle.chess_base.specs.Men.{man_at, is_man, same_colour, same_kind}
-use Rattle.chess_base.specs.shared.Parts.{kind_number}
 use Rattle.chess_base.specs.Moves.{is_legal}
 use Rattle.chess_base.specs.Castling.{castling}
-use Rattle.chess_base.proofs.shared.Men.{same_kind-true}
+use Rattle.chess_base.proofs.shared.Men.{same_kind-true, same_kind-self}
 use Rattle.chess_text.specs.declared.described.Described.{Described}
 use Rattle.chess_text.specs.declared.form.Form.TheVariants.{Piece}
 use Rattle.chess_text.specs.declared.parts.Parts.{Parts}
@@ -74,7 +73,7 @@ of_letter : (q : Parts) (p : Setup) (k : Kind) (m : Move) → q.letter ≡ Some 
 unfolding parts_fit is_by_squares is_by_letter is_straight is_by_file
 of_letter q p k m letter plain to none man =
     let walks = uncastled p m k (castling p m) refl man in
-    rw (letter, plain, none, to, eq-eqb (kind_number k) (kind_number k) refl, eq-eqb q.end.to q.end.to refl)
+    rw (letter, plain, none, to, same_kind-self k, eq-eqb q.end.to q.end.to refl)
     (grind (arith, walks))
 
 of_pawn : (q : Parts) (p : Setup) (m : Move) → q.letter ≡ None → q.end.promotion ≡ None

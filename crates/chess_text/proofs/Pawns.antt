@@ -16,7 +16,7 @@ use Rattle.chess_base.specs.Moves.{is_double_advance, is_en_passant, pawn_advanc
 use Rattle.chess_base.specs.Squares.{file, rank, each_square}
 use Rattle.chess_base.specs.Sound.{IsSound, no_pawn_on_end_ranks}
 use Rattle.chess_base.specs.shared.Parts.{is_rank_ahead, pawn_is_allowed}
-use Rattle.chess_base.proofs.shared.Squares.{each_below-at}
+use Rattle.chess_base.proofs.shared.Squares.{each_square-at}
 use Rattle.chess_base.proofs.shared.Men.{same_colour-self, is_none-None}
 use Rattle.chess_base.proofs.shared.Captures.{captures_is}
 use Rattle.chess_base.proofs.shared.Changes.{advance_to_empty}
@@ -37,9 +37,9 @@ stands_off men Black s at e zero_rank =
     cc
 
 pub pawn_stands : (p : Setup) → IsSound p → (c : Colour) (s : ℕ) → s < 64 → man_at p.men s ≡ Some (pawn_of c) → 8 ≤ s
-unfolding no_pawn_on_end_ranks each_square
+unfolding no_pawn_on_end_ranks
 pawn_stands p sound c s h at =
-    let off = stands_off p.men c s at (each_below-at 64 (λ s. pawn_is_allowed p.men s) sound.pawns s h) in
+    let off = stands_off p.men c s at (each_square-at (λ s. pawn_is_allowed p.men s) sound.pawns s h) in
     omega arith
 
 -- ---- straight on

@@ -14,7 +14,6 @@ use Rattle.chess_base.proofs.shared.Squares.{some_square_same}
 use Rattle.chess_base.specs.Men.{man_at, is_man, same_kind}
 use Rattle.chess_base.specs.Moves.{is_legal}
 use Rattle.chess_base.specs.MoveList.{promotions, move_of, all_moves, moves}
-use Rattle.chess_base.specs.shared.Below.{some_below, from_below}
 use Rattle.chess_moves.specs.Sets.{contains, members, HasLegalStarts}
 use Rattle.chess_moves.proofs.shared.Members.{by_range, members_none, of_range}
 use Rattle.chess_moves.proofs.shared.MovesBySquares.{filter-flat_map}
@@ -146,20 +145,10 @@ rivals p d w s v other legal_starts single without =
 
 -- ---- what is written of the start
 
--- a number's test may be made for the first number apart
-some_first : (n : ℕ) (p : ℕ → Bool) → some_below (suc n) p ≡ (p zero || some_below n (λ k. p (suc k)))
-some_first zero p = sym (or-false (p zero))
-some_first (suc n) p = ap (λ b. b || p (suc n)) (some_first n p)
-    ∙ or_assoc (p zero) (some_below n (λ k. p (suc k))) (p (suc n))
-
-any_below : (n : ℕ) (g : ℕ → ℕ) (p : ℕ → Bool) → list_any p (from_below n g) ≡ some_below n (λ k. p (g k))
-any_below zero g p = refl
-any_below (suc n) g p = ap (λ b. p (g zero) || b) (any_below n (λ i. g (suc i)) p) ∙ sym (some_first n (λ k. p (g k)))
-
 -- one of a set's squares passes a test
 any_member : (w : ℕ) (p : ℕ → Bool) → list_any p (members w) ≡ some_square (λ k. contains w k && p k)
-unfolding members squares some_square
-any_member w p = any-filter (λ k. contains w k) p squares ∙ any_below 64 (λ s. s) (λ k. contains w k && p k)
+unfolding members some_square
+any_member w p = any-filter (λ k. contains w k) p squares
 
 -- so it does if the set x of those squares of w that are in v isn't empty, where v has just the squares that pass
 pub some_met : (w v x : ℕ) (p : ℕ → Bool) (empty : Bool) → ((k : ℕ) → contains x k ≡ (contains w k && contains v k))

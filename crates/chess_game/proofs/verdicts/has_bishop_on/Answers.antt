@@ -1,10 +1,10 @@
-use Rattle.std.proofs.Common.{◌≡◌, arith}
-use Rattle.chess_base.specs.Squares.{some_square}
+use Rattle.std.proofs.Common.{◌≡◌, ◌∙◌, sym, arith}
 use Rattle.chess_game.specs.Ends.{has_bishop_on}
+use Rattle.chess_base.proofs.shared.Squares.{some_square_is}
 use Rattle.chess_game.proofs.verdicts.has_bishop_on.Goals as goal
 
 pub returns : goal.returns
-unfolding has_bishop_on some_square
+unfolding has_bishop_on
 returns c =
     let all : c.loop-number.number ≡ 64 = omega arith in
-    rw all at c.loop-number.invariant
+    (rw all at c.loop-number.invariant) ∙ sym (some_square_is _)
