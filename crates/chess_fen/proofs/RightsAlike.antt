@@ -28,7 +28,7 @@ use Rattle.chess_fen.proofs.RooksNamed.{names_right, rook_by, in_chess960}
 use Rattle.chess_fen.specs.Reading.{◌>>=◌, side_of, target_of, reading_in, fen_reading_as}
 use Rattle.chess_fen.specs.ties.Reader.{side_by, target_by, nowhere, outer_rook, named_square, one_or_nowhere, right_by_letters, setup_by, setup_in}
 use Rattle.chess_fen.proofs.DenotedFields.{side_is, target_is}
-use Rattle.chess_fen.proofs.Steps.{steps, denoted_by, unless_fault, if_fit, of_fields}
+use Rattle.chess_fen.proofs.Steps.{steps, denoted_by, unless_fault, if_fit, denoted_in, third, reading-steps}
 
 -- a right that is named wrongly as a right whose rook is nowhere
 abbrev sentinel : Option (Option ℕ) → Option ℕ
@@ -244,18 +244,18 @@ fields_are v a b c d h f =
         alike men colour target halfmove (max fullmove 1) v c
 
 fens_are : (v : Variant) (text : List ℕ) → fen_reading_as v text ≡ (setup_in v (fields_of text) >>= if_sound)
-fens_are v text = by_fields (fields_of text)
+fens_are v text = reading-steps v (fields_of text) ∙ by_fields (fields_of text)
   where
     by_fields : (fields : List (List ℕ))
-        → reading_in v fields ≡ (setup_in v fields >>= if_sound)
+        → (denoted_in v fields >>= if_fit (third fields)) ≡ (setup_in v fields >>= if_sound)
     by_fields [] = refl
     by_fields (a ∷ []) = refl
     by_fields (a ∷ b ∷ []) = refl
     by_fields (a ∷ b ∷ c ∷ []) = refl
     by_fields (a ∷ b ∷ c ∷ d ∷ []) =
-        of_fields v a b c d (codes "0") (codes "1") ∙ fields_are v a b c d (codes "0") (codes "1")
+        fields_are v a b c d (codes "0") (codes "1")
     by_fields (a ∷ b ∷ c ∷ d ∷ e ∷ []) = refl
-    by_fields (a ∷ b ∷ c ∷ d ∷ e ∷ f ∷ []) = of_fields v a b c d e f ∙ fields_are v a b c d e f
+    by_fields (a ∷ b ∷ c ∷ d ∷ e ∷ f ∷ []) = fields_are v a b c d e f
     by_fields (a ∷ b ∷ c ∷ d ∷ e ∷ f ∷ g ∷ rest) = refl
 
 -- ---- what code reads
