@@ -27,6 +27,8 @@ use Rattle.chess_fen.specs.RightNames.{side_letter, from_edge, is_towards, right
 use Rattle.chess_fen.proofs.RooksNamed.{names_right, rook_by, in_chess960}
 use Rattle.chess_fen.specs.Reading.{◌>>=◌, side_of, target_of, reading_in, fen_reading_as}
 use Rattle.chess_fen.specs.ties.Reader.{side_by, target_by, nowhere, outer_rook, named_square, one_or_nowhere, right_by_letters, setup_by, setup_in}
+use Rattle.chess_fen.specs.ties.Runs.{placement_by}
+use Rattle.chess_fen.proofs.PlacementAlike.{placement_is}
 use Rattle.chess_fen.proofs.DenotedFields.{side_is, target_is}
 use Rattle.chess_fen.proofs.Steps.{steps, denoted_by, unless_fault, if_fit, denoted_in, third, reading-steps}
 
@@ -215,9 +217,11 @@ fields_are : (v : Variant) (a b c d h f : List ℕ)
     → (denoted_by v a b c d h f >>= if_fit c) ≡ (setup_by v a b c d h f >>= if_sound)
 fields_are v a b c d h f =
     by_steps (placement_of a) (side_of b) (is_castling_field v c) (target_of d) (short_number 6 h) (short_number 6 f)
-    ∙ ap (λ side. read_by (placement_of a) side (is_castling_field v c) (target_of d) (short_number 6 h)
+    ∙ ap (λ men. read_by men (side_of b) (is_castling_field v c) (target_of d) (short_number 6 h)
+    (short_number 6 f) >>= if_sound) (placement_is a)
+    ∙ ap (λ side. read_by (placement_by a) side (is_castling_field v c) (target_of d) (short_number 6 h)
     (short_number 6 f) >>= if_sound) (side_is b)
-    ∙ ap (λ target. read_by (placement_of a) (side_by b) (is_castling_field v c) target (short_number 6 h)
+    ∙ ap (λ target. read_by (placement_by a) (side_by b) (is_castling_field v c) target (short_number 6 h)
     (short_number 6 f) >>= if_sound) (target_is d)
   where
     read_by : Option Men → Option Colour → Bool → Option (Option ℕ) → Option ℕ → Option ℕ → Result Setup FenFault
