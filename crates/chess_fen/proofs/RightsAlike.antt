@@ -1,7 +1,7 @@
 -- A FEN is read as it denotes. Rights that are named wrongly are refused by both: by the definition with a condition of
 -- their own, by the reader as rights whose rook is on a square that is no rook's.
 use Rattle.std.proofs.Common.{◌≡◌, ℕ, ◌⊎◌, inl, inr, Bool, true, false, cond, List, [], ◌∷◌, ◌++◌, map, take, drop, Option, Some, None, Result, Ok, Err, refl, sym, ap, ◌∙◌, arith}
-use Rattle.std.specs.Prelude.{option_and_then, find, ◌&&◌, ◌||◌, is_some, ◌==◌, max, codes, ◌-◌, IsOk, IfOk, IfErr, ◌↔◌}
+use Rattle.std.specs.Prelude.{find, ◌&&◌, ◌||◌, is_some, ◌==◌, max, codes, ◌-◌, IsOk, IfOk, IfErr, ◌↔◌}
 use Rattle.std.specs.List.{filter, fold}
 use Rattle.std.specs.Option.{option_flatten, option_map_or, ok_or, unwrap_or}
 use Rattle.chess_base.specs.declared.man.Kind.TheVariants.{Rook}
@@ -25,8 +25,8 @@ use Rattle.text_lines.specs.Words.{short_number}
 use Rattle.chess_fen.specs.Texts.{first_letter, names_file, placement_of, is_castling_field, fields_of}
 use Rattle.chess_fen.specs.RightNames.{side_letter, from_edge, is_towards, right_by, right_in, names_rights_well, rights_in}
 use Rattle.chess_fen.proofs.RooksNamed.{names_right, rook_by, in_chess960}
-use Rattle.chess_fen.specs.Reading.{◌>>=◌, side_of, target_of, reading_in, fen_reading_as}
-use Rattle.chess_fen.specs.ties.Reader.{side_by, target_by, nowhere, outer_rook, named_square, one_or_nowhere, right_by_letters, setup_by, setup_in}
+use Rattle.chess_fen.specs.Reading.{◌>>=◌, side_of, target_of, fen_reading_as}
+use Rattle.chess_fen.specs.ties.Reader.{side_by, nowhere, outer_rook, named_square, one_or_nowhere, right_by_letters, setup_by, setup_in}
 use Rattle.chess_fen.specs.ties.Runs.{placement_by}
 use Rattle.chess_fen.proofs.PlacementAlike.{placement_is}
 use Rattle.chess_fen.proofs.DenotedFields.{side_is, target_is}
