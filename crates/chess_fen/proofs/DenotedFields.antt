@@ -13,7 +13,9 @@ use Rattle.chess_base.proofs.shared.Choices.{chosen}
 use Rattle.chess_base.specs.declared.man.Man.{Man}
 use Rattle.chess_base.specs.declared.man.Colour.{Colour}
 use Rattle.chess_base.specs.declared.man.Colour.TheVariants.{White, Black}
-use Rattle.chess_fen.specs.Texts.{all_there, rank_of, from_top, placement_of}
+use Rattle.chess_fen.specs.Texts.{from_top, placement_of}
+use Rattle.chess_fen.specs.ties.Runs.{all_there, rank_by, placement_by}
+use Rattle.chess_fen.proofs.PlacementAlike.{placement_is}
 use Rattle.chess_fen.specs.ties.Reader.{side_by, target_by}
 use Rattle.chess_fen.specs.Writing.{side_text, target_text}
 use Rattle.chess_fen.specs.Reading.{side_of, target_of}
@@ -53,30 +55,38 @@ same_option None None h k = refl
 
 -- ---- placement
 
-pub denoted-placement : (text : List ℕ) (men : List (Option Man)) → placement_of text ≡ Some men
+said-placement : (text : List ℕ) (men : List (Option Man)) → placement_by text ≡ Some men
     → DenotesPlacement text men
-denoted-placement text men e =
-    let h = chosen (eqb (length ranks) 8) (option_map from_top (all_there (map rank_of ranks))) men e in
+said-placement text men e =
+    let h = chosen (eqb (length ranks) 8) (option_map from_top (all_there (map rank_by ranks))) men e in
     let eight : length ranks ≡ 8 = grind (arith, nat_tests, h.0) in
-    by_rows (all_there (map rank_of ranks)) refl h.1 eight
+    by_rows (all_there (map rank_by ranks)) refl h.1 eight
   where
     ranks : List (List ℕ)
     ranks = slice_split (λ c. eqb c 47) text
 
-    by_rows : (o : Option (List (List (Option Man)))) → all_there (map rank_of ranks) ≡ o
+    by_rows : (o : Option (List (List (Option Man)))) → all_there (map rank_by ranks) ≡ o
         → option_map from_top o ≡ Some men → length ranks ≡ 8 → DenotesPlacement text men
     by_rows None is e eight = absurd cc
     by_rows (Some rows) is e eight =
         let whole : from_top rows ≡ men = cc in
-        let zip = there-zip rank_of DenotesRank denoted-rank ranks rows is in
+        let zip = there-zip rank_by DenotesRank denoted-rank ranks rows is in
         (rows, sym (zip-length DenotesRank ranks rows zip) ∙ eight, zip, sym whole)
+
+placement-said : (text : List ℕ) (men : List (Option Man)) → DenotesPlacement text men
+    → placement_by text ≡ Some men
+placement-said text men s =
+    let ranks : List (List ℕ) = slice_split (λ c. eqb c 47) text in
+    let t : eqb (length ranks) 8 ≡ true = grind (arith, nat_tests, zip-length DenotesRank ranks s.0 s.2, s.1) in
+    rw t (ap (option_map from_top) (zip-there rank_by DenotesRank rank-of_denoted ranks s.0 s.2) ∙ ap Some (sym s.3))
+
+pub denoted-placement : (text : List ℕ) (men : List (Option Man)) → placement_of text ≡ Some men
+    → DenotesPlacement text men
+denoted-placement text men e = said-placement text men (sym (placement_is text) ∙ e)
 
 pub placement-denoted : (text : List ℕ) (men : List (Option Man)) → DenotesPlacement text men
     → placement_of text ≡ Some men
-placement-denoted text men s =
-    let ranks : List (List ℕ) = slice_split (λ c. eqb c 47) text in
-    let t : eqb (length ranks) 8 ≡ true = grind (arith, nat_tests, zip-length DenotesRank ranks s.0 s.2, s.1) in
-    rw t (ap (option_map from_top) (zip-there rank_of DenotesRank rank-of_denoted ranks s.0 s.2) ∙ ap Some (sym s.3))
+placement-denoted text men s = placement_is text ∙ placement-said text men s
 
 -- ---- side
 

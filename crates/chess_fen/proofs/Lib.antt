@@ -8,6 +8,7 @@ mod FirstField
 mod DenotedRanks
 mod RunTable
 mod RookAmong
+mod PlacementAlike
 mod RooksNamed
 mod RightLetters
 mod RightsBack

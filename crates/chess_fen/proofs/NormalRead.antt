@@ -12,12 +12,12 @@ use Rattle.chess_base.specs.declared.setup.Setup.{Setup}
 use Rattle.chess_base.specs.Faults.{conditions, rights_are_sound, first_failing, setup_fault}
 use Rattle.chess_base.specs.Men.{Men}
 use Rattle.chess_base.proofs.shared.Normal.{normal_kept}
-use Rattle.chess_fen.specs.Reading.{◌>>=◌, side_of, target_of, reading_in, fen_reading_as}
+use Rattle.chess_fen.specs.Reading.{◌>>=◌, side_of, target_of, fen_reading_as}
 use Rattle.text_lines.specs.Words.{short_number}
 use Rattle.chess_fen.specs.Texts.{may_name_right, placement_of, fields_of, is_castling_field}
 use Rattle.chess_fen.specs.laws.Normal.{normal_rights_named, normal_setup_by, normal_setup_in, normal_rights_are_sound, normal_fault, normal_sound, normal_fen_reading}
 use Rattle.chess_fen.proofs.DenotedFen.{reading_in_variant}
-use Rattle.chess_fen.proofs.Steps.{steps, denoted_by, unless_fault, if_fit, of_fields}
+use Rattle.chess_fen.proofs.Steps.{steps, denoted_by, unless_fault, if_fit, denoted_in, third, reading-steps}
 
 stand_kept : (p : Setup) → p.variant ≡ Normal → rights_are_sound p ≡ normal_rights_are_sound p
 unfolding rights_are_sound
@@ -89,18 +89,18 @@ fields_kept a b c d h f =
     steps_kept c (placement_of a) (side_of b) (is_castling_field Normal c) (target_of d) (short_number 6 h) (short_number 6 f)
 
 pub reading_kept : (text : List ℕ) → fen_reading_as Normal text ≡ normal_fen_reading text
-reading_kept text = by_fields (fields_of text)
+reading_kept text = reading-steps Normal (fields_of text) ∙ by_fields (fields_of text)
   where
     by_fields : (fields : List (List ℕ))
-        → reading_in Normal fields ≡ (normal_setup_in fields >>= normal_sound)
+        → (denoted_in Normal fields >>= if_fit (third fields)) ≡ (normal_setup_in fields >>= normal_sound)
     by_fields [] = refl
     by_fields (a ∷ []) = refl
     by_fields (a ∷ b ∷ []) = refl
     by_fields (a ∷ b ∷ c ∷ []) = refl
     by_fields (a ∷ b ∷ c ∷ d ∷ []) =
-        of_fields Normal a b c d (codes "0") (codes "1") ∙ fields_kept a b c d (codes "0") (codes "1")
+        fields_kept a b c d (codes "0") (codes "1")
     by_fields (a ∷ b ∷ c ∷ d ∷ e ∷ []) = refl
-    by_fields (a ∷ b ∷ c ∷ d ∷ e ∷ f ∷ []) = of_fields Normal a b c d e f ∙ fields_kept a b c d e f
+    by_fields (a ∷ b ∷ c ∷ d ∷ e ∷ f ∷ []) = fields_kept a b c d e f
     by_fields (a ∷ b ∷ c ∷ d ∷ e ∷ f ∷ g ∷ more) = refl
 
 pub reading_is_normal : (text : List ℕ) → IfOk (normal_fen_reading text) (λ p. p.variant ≡ Normal)

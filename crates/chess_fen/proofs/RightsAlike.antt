@@ -1,7 +1,7 @@
 -- A FEN is read as it denotes. Rights that are named wrongly are refused by both: by the definition with a condition of
 -- their own, by the reader as rights whose rook is on a square that is no rook's.
 use Rattle.std.proofs.Common.{◌≡◌, ℕ, ◌⊎◌, inl, inr, Bool, true, false, cond, List, [], ◌∷◌, ◌++◌, map, take, drop, Option, Some, None, Result, Ok, Err, refl, sym, ap, ◌∙◌, arith}
-use Rattle.std.specs.Prelude.{option_and_then, find, ◌&&◌, ◌||◌, is_some, ◌==◌, max, codes, ◌-◌, IsOk, IfOk, IfErr, ◌↔◌}
+use Rattle.std.specs.Prelude.{find, ◌&&◌, ◌||◌, is_some, ◌==◌, max, codes, ◌-◌, IsOk, IfOk, IfErr, ◌↔◌}
 use Rattle.std.specs.List.{filter, fold}
 use Rattle.std.specs.Option.{option_flatten, option_map_or, ok_or, unwrap_or}
 use Rattle.chess_base.specs.declared.man.Kind.TheVariants.{Rook}
@@ -26,10 +26,12 @@ use Rattle.text_lines.specs.Words.{short_number}
 use Rattle.chess_fen.specs.Texts.{first_letter, names_file, placement_of, is_castling_field, fields_of}
 use Rattle.chess_fen.specs.RightNames.{side_letter, from_edge, is_towards, right_by, right_in, names_rights_well, rights_in}
 use Rattle.chess_fen.proofs.RooksNamed.{names_right, rook_by, in_chess960}
-use Rattle.chess_fen.specs.Reading.{◌>>=◌, side_of, target_of, reading_in, fen_reading_as}
-use Rattle.chess_fen.specs.ties.Reader.{side_by, target_by, nowhere, outer_rook, named_square, one_or_nowhere, right_by_letters, setup_by, setup_in}
+use Rattle.chess_fen.specs.Reading.{◌>>=◌, side_of, target_of, fen_reading_as}
+use Rattle.chess_fen.specs.ties.Reader.{side_by, nowhere, outer_rook, named_square, one_or_nowhere, right_by_letters, setup_by, setup_in}
+use Rattle.chess_fen.specs.ties.Runs.{placement_by}
+use Rattle.chess_fen.proofs.PlacementAlike.{placement_is}
 use Rattle.chess_fen.proofs.DenotedFields.{side_is, target_is}
-use Rattle.chess_fen.proofs.Steps.{steps, denoted_by, unless_fault, if_fit, of_fields}
+use Rattle.chess_fen.proofs.Steps.{steps, denoted_by, unless_fault, if_fit, denoted_in, third, reading-steps}
 
 -- a right that is named wrongly as a right whose rook is nowhere
 abbrev sentinel : Option (Option ℕ) → Option ℕ
@@ -216,9 +218,11 @@ fields_are : (v : Variant) (a b c d h f : List ℕ)
     → (denoted_by v a b c d h f >>= if_fit c) ≡ (setup_by v a b c d h f >>= if_sound)
 fields_are v a b c d h f =
     by_steps (placement_of a) (side_of b) (is_castling_field v c) (target_of d) (short_number 6 h) (short_number 6 f)
-    ∙ ap (λ side. read_by (placement_of a) side (is_castling_field v c) (target_of d) (short_number 6 h)
+    ∙ ap (λ men. read_by men (side_of b) (is_castling_field v c) (target_of d) (short_number 6 h)
+    (short_number 6 f) >>= if_sound) (placement_is a)
+    ∙ ap (λ side. read_by (placement_by a) side (is_castling_field v c) (target_of d) (short_number 6 h)
     (short_number 6 f) >>= if_sound) (side_is b)
-    ∙ ap (λ target. read_by (placement_of a) (side_by b) (is_castling_field v c) target (short_number 6 h)
+    ∙ ap (λ target. read_by (placement_by a) (side_by b) (is_castling_field v c) target (short_number 6 h)
     (short_number 6 f) >>= if_sound) (target_is d)
   where
     read_by : Option Men → Option Colour → Bool → Option (Option ℕ) → Option ℕ → Option ℕ → Result Setup FenFault
@@ -245,18 +249,18 @@ fields_are v a b c d h f =
         alike men colour target halfmove (max fullmove 1) v c
 
 fens_are : (v : Variant) (text : List ℕ) → fen_reading_as v text ≡ (setup_in v (fields_of text) >>= if_sound)
-fens_are v text = by_fields (fields_of text)
+fens_are v text = reading-steps v (fields_of text) ∙ by_fields (fields_of text)
   where
     by_fields : (fields : List (List ℕ))
-        → reading_in v fields ≡ (setup_in v fields >>= if_sound)
+        → (denoted_in v fields >>= if_fit (third fields)) ≡ (setup_in v fields >>= if_sound)
     by_fields [] = refl
     by_fields (a ∷ []) = refl
     by_fields (a ∷ b ∷ []) = refl
     by_fields (a ∷ b ∷ c ∷ []) = refl
     by_fields (a ∷ b ∷ c ∷ d ∷ []) =
-        of_fields v a b c d (codes "0") (codes "1") ∙ fields_are v a b c d (codes "0") (codes "1")
+        fields_are v a b c d (codes "0") (codes "1")
     by_fields (a ∷ b ∷ c ∷ d ∷ e ∷ []) = refl
-    by_fields (a ∷ b ∷ c ∷ d ∷ e ∷ f ∷ []) = of_fields v a b c d e f ∙ fields_are v a b c d e f
+    by_fields (a ∷ b ∷ c ∷ d ∷ e ∷ f ∷ []) = fields_are v a b c d e f
     by_fields (a ∷ b ∷ c ∷ d ∷ e ∷ f ∷ g ∷ rest) = refl
 
 -- ---- what code reads

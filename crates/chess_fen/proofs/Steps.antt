@@ -1,7 +1,8 @@
 -- The position that the six fields of a FEN denote, by what each of them denotes, and the reading of a list of fields as
 -- that of the position, sound or not, and of its conditions: a proof goes through the cases.
-use Rattle.std.proofs.Common.{◌≡◌, ℕ, Bool, true, false, cond, List, [], ◌∷◌, get_or, Option, Some, None, Result, Ok, Err, refl}
+use Rattle.std.proofs.Common.{◌≡◌, ℕ, Bool, true, false, cond, ◌==◌, if◌then◌else◌, length, List, [], ◌∷◌, ◌++◌, get_or, arith, Option, Some, None, Result, Ok, Err, refl}
 use Rattle.std.specs.Prelude.{max, codes}
+use Rattle.std.proofs.lemmas.Bool.Decides.{nat_tests}
 use Rattle.std.specs.Option.{ok_or, option_map_or}
 use Rattle.chess_base.specs.declared.fen_fault.FenFault.{FenFault}
 use Rattle.chess_base.specs.declared.fen_fault.FenFault.TheVariants as faults
@@ -12,7 +13,7 @@ use Rattle.chess_base.specs.Faults.{first_failing}
 use Rattle.chess_base.specs.Men.{Men}
 use Rattle.text_lines.specs.Words.{short_number}
 use Rattle.chess_fen.specs.RightNames.{rights_in}
-use Rattle.chess_fen.specs.Reading.{◌>>=◌, side_of, target_of, conditions_of, reading_by, reading_in}
+use Rattle.chess_fen.specs.Reading.{◌>>=◌, side_of, target_of, conditions_of, reading_in}
 use Rattle.chess_fen.specs.Texts.{placement_of, is_castling_field}
 
 -- `castling` is the third field, and `fits` whether it has the form of one
@@ -60,7 +61,7 @@ abbrev pub third : List (List ℕ) → List ℕ
 third fields = get_or fields 2 []
 
 -- the reading of six fields as that of the position, and of its conditions
-pub of_fields : (v : Variant) (a b c d e f : List ℕ) → reading_by v a b c d e f ≡ (denoted_by v a b c d e f >>= if_fit c)
+of_fields : (v : Variant) (a b c d e f : List ℕ) → reading_in v (a ∷ b ∷ c ∷ d ∷ e ∷ f ∷ []) ≡ (denoted_by v a b c d e f >>= if_fit c)
 of_fields v a b c d e f =
     by_steps (placement_of a) (side_of b) (is_castling_field v c) (target_of d) (short_number 6 e) (short_number 6 f)
   where
@@ -93,8 +94,12 @@ of_fields v a b c d e f =
     by_steps (Some men) (Some colour) true (Some target) (Some halfmove) None = refl
     by_steps (Some men) (Some colour) true (Some target) (Some halfmove) (Some fullmove) = refl
 
+-- the fields with the counters, if these are left out
+abbrev with_counters : List (List ℕ) → List (List ℕ)
+with_counters fields = if length fields == 4 then fields ++ (codes "0" ∷ codes "1" ∷ []) else fields
+
 pub reading-steps : (v : Variant) (fields : List (List ℕ))
-    → reading_in v fields ≡ (denoted_in v fields >>= if_fit (third fields))
+    → reading_in v (with_counters fields) ≡ (denoted_in v fields >>= if_fit (third fields))
 reading-steps v [] = refl
 reading-steps v (a ∷ []) = refl
 reading-steps v (a ∷ b ∷ []) = refl
@@ -102,4 +107,6 @@ reading-steps v (a ∷ b ∷ c ∷ []) = refl
 reading-steps v (a ∷ b ∷ c ∷ d ∷ []) = of_fields v a b c d (codes "0") (codes "1")
 reading-steps v (a ∷ b ∷ c ∷ d ∷ e ∷ []) = refl
 reading-steps v (a ∷ b ∷ c ∷ d ∷ e ∷ f ∷ []) = of_fields v a b c d e f
-reading-steps v (a ∷ b ∷ c ∷ d ∷ e ∷ f ∷ g ∷ more) = refl
+reading-steps v (a ∷ b ∷ c ∷ d ∷ e ∷ f ∷ g ∷ more) =
+    let many : (length (a ∷ b ∷ c ∷ d ∷ e ∷ f ∷ g ∷ more) == 4) ≡ false = grind (arith, nat_tests) in
+    rw many refl

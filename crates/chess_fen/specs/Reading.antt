@@ -2,7 +2,7 @@
 -- counters may be left out, and a fullmove number of 0 is read as 1. Denotation and FenFaults say the same of a text
 -- and a position or a fault, with relations for the placement, the side, the target and the order of faults; that both
 -- agree is proved by the clauses `found`, `only`, `fault` and `refused` of `read_fen_as`.
-use Rattle.std.specs.Prelude.{ℕ, max, codes, Bool, List, [], ◌∷◌, ◌++◌, take, drop, map, filter, find, ◌||◌, Option, Some, None, Result, Ok, Err, ◌==◌, if◌then◌else◌}
+use Rattle.std.specs.Prelude.{ℕ, max, codes, Bool, List, [], ◌∷◌, ◌++◌, length, take, drop, map, filter, find, ◌||◌, Option, Some, None, Result, Ok, Err, ◌==◌, if◌then◌else◌}
 use Rattle.std.specs.Option.{ok_or, option_map_or}
 use Rattle.std.specs.Str.{bytes_eq}
 use Rattle.chess_base.specs.declared.man.Colour.{Colour}
@@ -45,9 +45,9 @@ conditions_of letters p =
 
 -- the sound position that the six fields of a FEN denote; or the fault: of the first field, from left to right, that
 -- denotes nothing, or of the first condition that what they denote, the position p, fails. A castling right that is
--- named wrongly is not there, and a fullmove number of 0 is read as 1
-abbrev pub reading_by : Variant → List ℕ → List ℕ → List ℕ → List ℕ → List ℕ → List ℕ → Result Setup FenFault
-reading_by v placement side castling target halfmove fullmove = do
+-- named wrongly is not there, and a fullmove number of 0 is read as 1. Any other number of fields is a fault
+abbrev pub reading_in : Variant → List (List ℕ) → Result Setup FenFault
+reading_in v (placement ∷ side ∷ castling ∷ target ∷ halfmove ∷ fullmove ∷ []) = do
   pieces ← ok_or (placement_of placement) faults.Placement
   colour ← ok_or (side_of side) faults.Side
   named ← if is_castling_field v castling then Ok (rights_in v pieces castling) else Err faults.Castling
@@ -64,18 +64,14 @@ reading_by v placement side castling target halfmove fullmove = do
     fullmove = max number 1;
   })
   option_map_or Err (first_failing (conditions_of castling p)) (Ok p)
-
--- the sound position that a list of a FEN's fields denotes, or the fault. There must be six fields, or four, and then
--- the counters are 0 and 1; any other number of fields is a fault
-abbrev pub reading_in : Variant → List (List ℕ) → Result Setup FenFault
-reading_in v (a ∷ b ∷ c ∷ d ∷ []) = reading_by v a b c d (codes "0") (codes "1")
-reading_in v (a ∷ b ∷ c ∷ d ∷ e ∷ f ∷ []) = reading_by v a b c d e f
 reading_in v _ = Err faults.Fields
 
 -- the sound position that a text denotes as a FEN of variant v; or the fault: a wrong number of fields, the first field
--- that denotes nothing, or the first condition that fails
+-- that denotes nothing, or the first condition that fails. The two counters may be left out; then they are 0 and 1
 abbrev pub fen_reading_as : Variant → List ℕ → Result Setup FenFault
-fen_reading_as v text = reading_in v (fields_of text)
+fen_reading_as v text =
+    let fields = fields_of text in
+    reading_in v (if length fields == 4 then fields ++ (codes "0" ∷ codes "1" ∷ []) else fields)
 
 -- the sound position that a text denotes as a FEN of normal chess, or the fault, as `fen_reading_as` says
 abbrev pub fen_reading : List ℕ → Result Setup FenFault

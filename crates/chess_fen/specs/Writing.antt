@@ -1,6 +1,6 @@
 -- The one FEN that is written for a position (PGN standard of 1994, section 16.1). The target is written as the
 -- position holds it, whether or not it can be captured on; numbers have no leading zeros.
-use Rattle.std.specs.Prelude.{ℕ, Bool, suc, ◌*◌, ◌==◌, if◌then◌else◌, length, List, [], ◌∷◌, ◌++◌, map, take, drop, Option, Some, None, decimal, codes}
+use Rattle.std.specs.Prelude.{ℕ, Bool, suc, ◌*◌, ◌==◌, if◌then◌else◌, length, List, [], ◌∷◌, map, take, drop, Option, Some, None, decimal, codes}
 use Rattle.std.specs.List.{filter_map, join_with_byte}
 use Rattle.std.specs.Option.{option_map, option_map_or}
 use Rattle.chess_base.specs.declared.man.Man.{Man}

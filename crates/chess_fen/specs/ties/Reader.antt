@@ -18,9 +18,10 @@ use Rattle.chess_base.specs.declared.fen_fault.FenFault.TheVariants as faults
 use Rattle.chess_base.specs.Men.{Men, man_at, is_man}
 use Rattle.chess_base.specs.Castling.{home_square, king_square, rook_file, rights_by}
 use Rattle.text_lines.specs.Words.{short_number}
+use Rattle.chess_fen.specs.ties.Runs.{placement_by}
 use Rattle.chess_fen.specs.Reading.{◌>>=◌}
 use Rattle.chess_fen.specs.RightNames.{side_letter, from_edge, is_towards}
-use Rattle.chess_fen.specs.Texts.{placement_of, occurs, first_letter, names_file, may_name_right, is_castling_field}
+use Rattle.chess_fen.specs.Texts.{occurs, first_letter, names_file, may_name_right, is_castling_field}
 
 -- ---- the letters
 
@@ -119,7 +120,7 @@ setup_with v men side castling target halfmove fullmove = do
 -- the position that the six fields of a FEN denote, or the fault of the first field that denotes nothing
 abbrev pub setup_by : Variant → List ℕ → List ℕ → List ℕ → List ℕ → List ℕ → List ℕ → Result Setup FenFault
 setup_by v placement side castling target halfmove fullmove = do
-  men ← ok_or (placement_of placement) faults.Placement
+  men ← ok_or (placement_by placement) faults.Placement
   setup_with v men side castling target halfmove fullmove
 
 -- the position that a list of a FEN's fields denotes, of which there are six or four
