@@ -1,4 +1,5 @@
 mod Words
+mod ByName
 mod Comments
 mod Claims
 mod Responses
