@@ -19,8 +19,8 @@ use Rattle.chess_pgn.specs.declared.read.PgnEnd.{PgnEnd}
 use Rattle.chess_pgn.specs.declared.read.PgnFault.{PgnFault}
 use Rattle.chess_pgn.specs.declared.read.PgnFaultKind.TheVariants.{AfterEnd, TooLong, NoResult}
 use Rattle.chess_pgn.specs.declared.termination.Termination.{Termination}
-use Rattle.chess_pgn.specs.GameRead.{GameRead, Row, Goes_on, Ends, Fails, failed, move_row, row, after_row, moves_read, is_tag, last_start, tagged_variant, read_after_tags, pgn_read}
-use Rattle.chess_pgn.specs.LastTags.{tag_section}
+use Rattle.chess_pgn.specs.GameRead.{GameRead, Row, Goes_on, Ends, Fails, failed, move_row, row, after_row, moves_read, last_start, tagged_variant, read_after_tags, pgn_read}
+use Rattle.chess_pgn.specs.LastTags.{says_nothing, tag_section}
 use Rattle.chess_pgn.specs.Tokens.{Token, Skip, Tag, Word, Bad_tag, Unclosed_comment, Unclosed_variation, Bad, after_byte_order_mark, tokens_from}
 use Rattle.chess_pgn.specs.Words.{outcome_of, is_marks}
 use Rattle.chess_pgn.proofs.GamesByTags.{fens, termination_in}
@@ -141,13 +141,7 @@ moves_words limit total termination s (t ∷ ts) h =
 tags_words : (limit total : ℕ) (s : State) (tags ts : List (ℕ × Token))
     → IsEnd (read_after_tags limit total s tags ts).answer
     → Words limit s (read_after_tags limit total s tags ts).state
-tags_words limit total s tags [] h = absurd (by_tags (list_any is_tag tags) h)
-  where
-    by_tags : (met : Bool)
-        → IsEnd (cond met (failed s (record { kind = NoResult; offset = total }))
-        (record { state = s; answer = Ok None })).answer → ⊥
-    by_tags true h = h
-    by_tags false h = h
+tags_words limit total s tags [] h = absurd h
 tags_words limit total s tags ((left, Skip) ∷ ts) h =
     moves_words limit total (termination_in tags) s ((left, Skip) ∷ ts) h
 tags_words limit total s tags ((left, Tag name string at) ∷ ts) h = absurd h
@@ -165,6 +159,13 @@ by_fault : (limit : ℕ) (s : State) (fault : Option PgnFault) (read : GameRead)
     → Words limit s (option_map_or (failed s) fault read).state
 by_fault limit s (Some f) read later h = absurd h
 by_fault limit s None read later h = later h
+
+by_game : (limit : ℕ) (p s : State) (none : Bool) (read : GameRead)
+    → (IsEnd read.answer → Words limit p read.state)
+    → IsEnd (cond none (record { state = s; answer = Ok None }) read).answer
+    → Words limit p (cond none (record { state = s; answer = Ok None }) read).state
+by_game limit p s true read later h = absurd h
+by_game limit p s false read later h = later h
 
 from_words : (limit : ℕ) (p : Setup) (r : State) (w : Words limit (from_start p) r)
     → AreRead limit (from_start r.start) w.words r.moves
@@ -184,8 +185,11 @@ game_words limit text at end is =
     let p : Setup = last_start (initial_setup_of v) (fens total v tags) in
     let rest : List (ℕ × Token) = drop (length tags) tokens in
     let w : Words limit (from_start p) (pgn_read limit text at).state =
-    by_fault limit (from_start p) (slice_get (filter_map result_err (fens total v tags)) 0)
+    by_game limit (from_start p) (from_start p) (list_all (λ (t : ℕ × Token). says_nothing t.1) tokens)
+    (option_map_or (failed (from_start p)) (slice_get (filter_map result_err (fens total v tags)) 0)
+    (read_after_tags limit total (from_start p) tags rest))
+    (by_fault limit (from_start p) (slice_get (filter_map result_err (fens total v tags)) 0)
     (read_after_tags limit total (from_start p) tags rest)
-    (tags_words limit total (from_start p) tags rest)
+    (tags_words limit total (from_start p) tags rest))
     (subst IsEnd (sym is) tt) in
     (w.words, from_words limit p (pgn_read limit text at).state w)

@@ -26,7 +26,7 @@ use Rattle.chess_pgn.specs.declared.read.PgnFaultKind.{PgnFaultKind}
 use Rattle.chess_pgn.specs.declared.read.PgnFaultKind.TheVariants.{BadTag, BadFen, BadToken, IllegalMove, AmbiguousMove, AfterEnd, TooLong, UnclosedComment, UnclosedVariation, NoResult}
 use Rattle.chess_pgn.specs.declared.termination.Termination.{Termination}
 use Rattle.chess_pgn.specs.Terminations.{termination_named}
-use Rattle.chess_pgn.specs.LastTags.{tag_section, tags_named, last_tag}
+use Rattle.chess_pgn.specs.LastTags.{says_nothing, tag_section, tags_named, last_tag}
 use Rattle.chess_pgn.specs.Tokens.{Token, Skip, Tag, Word, Bad_tag, Unclosed_comment, Unclosed_variation, Bad, after_byte_order_mark, tokens_from}
 use Rattle.chess_pgn.specs.Split.{IsSplit}
 use Rattle.chess_pgn.specs.Words.{outcome_of, is_marks}
@@ -114,11 +114,6 @@ moves_read limit total termination s (t ∷ ts) =
 
 -- ---- the tags: the tokens before the first number, move, outcome or fault
 
--- whether a token is a tag
-abbrev pub is_tag : ℕ × Token → Bool
-is_tag (to_end, Tag name string at_string) = true
-is_tag _ = false
-
 -- what a tag FEN gives in the variant `v`, in a text of `total` bytes: the position that it denotes, or the fault, at
 -- the FEN's first byte. The tag comes as its text and how many bytes are left where that begins
 abbrev pub fen_read : ℕ → Variant → List ℕ × ℕ → Result Setup PgnFault
@@ -146,29 +141,27 @@ tagged_variant tags = option_map_or (λ tag. variant_named tag.0) (last_tag (cod
 -- ---- the game
 
 -- what is read of a game after `tags`, the tokens before its first number, move, outcome or fault, if each of their
--- FENs denotes a position; the last argument is the tokens from that one on. If that is a bad tag, its fault. If no
--- token is left: no game if there is no tag either, otherwise the fault that the game has no outcome. In all other
--- cases the moves are read. `s` is the game at its start, and the text has `total` bytes. The last tag Termination
--- counts, even if its text is none of the standard's values and an earlier one's is
+-- FENs denotes a position; the last argument is the tokens from that one on. If that is a bad tag, its fault; otherwise
+-- the moves are read. `s` is the game at its start, and the text has `total` bytes. The last tag Termination counts,
+-- even if its text is none of the standard's values and an earlier one's is
 abbrev pub read_after_tags : ℕ → ℕ → State → List (ℕ × Token) → List (ℕ × Token) → GameRead
 read_after_tags limit total s tags ((to_end, Bad_tag) ∷ rest) =
     failed s (record { kind = BadTag; offset = total - to_end })
-read_after_tags limit total s tags [] =
-    if list_any is_tag tags then failed s (record { kind = NoResult; offset = total })
-    else record { state = s; answer = Ok None }
 read_after_tags limit total s tags rest = moves_read limit total
     (option_and_then (λ tag. termination_named tag.0) (last_tag (codes "Termination") tags)) s rest
 
 -- what is read of the game at the front of these tokens, of at most `limit` half-moves, in a text of `total` bytes.
 -- `tags` are the tokens before its first number, move, outcome or fault; its tags, which are all among them, give the
--- variant and the start. The fault of the first FEN that has one is the game's; without one see `read_after_tags`
+-- variant and the start. There is no game if no token says anything of one. Otherwise the fault of the first FEN that
+-- has one is the game's; without one see `read_after_tags`
 abbrev pub read_of_split : ℕ → ℕ → List (ℕ × Token) → GameRead
 read_of_split limit total tokens =
     let tags = tag_section tokens in
     let v = tagged_variant tags in
     let fens = map (fen_read total v) (tags_named (codes "FEN") tags) in
     let s = from_start (last_start (initial_setup_of v) fens) in
-    option_map_or (failed s) (slice_get (filter_map result_err fens) 0)
+    if list_all (λ t. says_nothing t.1) tokens then record { state = s; answer = Ok None }
+    else option_map_or (failed s) (slice_get (filter_map result_err fens) 0)
     (read_after_tags limit total s tags (drop (length tags) tokens))
 
 -- what is read of a text from the offset `at` on: the game up to its outcome mark and where it ended, or `None` if no
