@@ -1,12 +1,12 @@
 -- What is read of a game by its tags and moves is what is read token by token.
 use Rattle.std.proofs.Common.{◌≡◌, ℕ, suc, ◌+◌, ◌-◌, Bool, true, false, cond, List, [], ◌∷◌, ◌++◌, length, take, drop, Option, Some, None, Result, Ok, Err, refl, sym, ap, ◌∙◌, arith}
-use Rattle.std.specs.Prelude.{◌||◌, nat_lt, is_some, codes, map, slice_get, option_and_then}
+use Rattle.std.specs.Prelude.{◌&&◌, ◌||◌, nat_lt, is_some, codes, map, slice_get, option_and_then}
 use Rattle.std.specs.List.{list_all, list_any, prefix_len, take_while, filter_map, cons_option, last_or}
 use Rattle.std.specs.Option.{option_map_or, unwrap_or}
 use Rattle.std.specs.Result.{is_ok, result_ok, result_err, result_map_both}
 use Rattle.std.specs.Str.{bytes_eq}
 use Rattle.std.proofs.lemmas.Bool.{and_parts}
-use Rattle.std.proofs.lemmas.List.{take-append-drop}
+use Rattle.std.proofs.lemmas.List.{take-append-drop, append-nil}
 use Rattle.std.proofs.lemmas.List.Folds.{length-prefix_len}
 use Rattle.std.proofs.lemmas.Slice.Eq.{bytes_eq-Decides}
 use Rattle.chess_base.specs.declared.fen_fault.FenFault.{FenFault}
@@ -19,17 +19,17 @@ use Rattle.chess_game.specs.Game.{Seen, State, from_start, played, current, verd
 use Rattle.chess_game.specs.Game.{with_state as left_at}
 use Rattle.chess_pgn.specs.declared.read.PgnEnd.{PgnEnd}
 use Rattle.chess_pgn.specs.declared.read.PgnFault.{PgnFault}
-use Rattle.chess_pgn.specs.declared.read.PgnFaultKind.TheVariants.{BadTag, BadFen, NoResult}
+use Rattle.chess_pgn.specs.declared.read.PgnFaultKind.TheVariants.{BadTag, BadFen}
 use Rattle.chess_game.specs.declared.results.Outcome.{Outcome}
 use Rattle.chess_text.specs.declared.reading.Reading.{Reading}
 use Rattle.chess_text.specs.declared.reading.Reading.TheVariants as reads
 use Rattle.chess_text.specs.Moves.{reading}
 use Rattle.chess_pgn.specs.declared.termination.Termination.{Termination}
 use Rattle.chess_pgn.specs.Terminations.{termination_named}
-use Rattle.chess_pgn.specs.GameRead.{GameRead, tagged_variant, pgn_read, Goes_on, Ends, failed, move_row, row, after_row, moves_read, is_tag, fen_read, last_start, read_after_tags, read_of_split}
+use Rattle.chess_pgn.specs.GameRead.{GameRead, tagged_variant, pgn_read, Goes_on, Ends, failed, move_row, row, after_row, moves_read, fen_read, last_start, read_after_tags, read_of_split}
 use Rattle.chess_pgn.specs.laws.TokenByToken.{SoFar, Step, On, word_step, move_step, fen_step, step, read_rest_with, game_of, termination_after, tokens_read}
 use Rattle.chess_pgn.specs.GameRead.{IsRead}
-use Rattle.chess_pgn.specs.LastTags.{may_precede_tags, tag_section, tags_named, last_tag}
+use Rattle.chess_pgn.specs.LastTags.{says_nothing, may_precede_tags, tag_section, tags_named, last_tag}
 use Rattle.chess_pgn.specs.declared.word_kind.WordKind.{WordKind}
 use Rattle.chess_pgn.specs.declared.word_kind.WordKind.TheVariants.{End, Number, Marks, Move}
 use Rattle.chess_pgn.specs.Words.{outcome_of, is_marks}
@@ -54,7 +54,7 @@ module _ (limit total : ℕ) (termination : Option Termination) (met begun : Boo
   by_reading : (left : ℕ) (word : List ℕ) (over room : Bool) (r : Reading)
       → is_some (verdict_now s) ≡ over → nat_lt (length s.moves) limit ≡ room
       → read_rest_with (move_step limit (so_far met begun termination s) (total - left) r) later
-      ≡ after_row total termination s (left, Word word) (move_row limit s r) next
+      ≡ after_row total termination s left (move_row limit s left r) next
   by_reading left word over room reads.NotAMove o e = refl
   by_reading left word true room (reads.Move m) o e = rw o refl
   by_reading left word false true (reads.Move m) o e = rw (o, e) (same (played s m))
@@ -70,15 +70,15 @@ module _ (limit total : ℕ) (termination : Option Termination) (met begun : Boo
   by_kind : {K : Type 0} (left : ℕ) (word : List ℕ) (end : Outcome → K) (number marks move : K) (steps : K → Step)
       (o : Option Outcome) (is_number is_mark : Bool)
       → ((o : Outcome) → read_rest_with (steps (end o)) later
-      ≡ after_row total termination s (left, Word word) (Ends o (length word)) next)
+      ≡ after_row total termination s left (Ends o (length word)) next)
       → read_rest_with (steps number) later ≡ next s
       → (option_map_or end o (cond is_number number (cond is_mark marks move)) ≡ marks
       → read_rest_with (steps marks) later ≡ next s)
       → read_rest_with (steps move) later
-      ≡ after_row total termination s (left, Word word) (move_row limit s (reading (current s) word)) next
+      ≡ after_row total termination s left (move_row limit s left (reading (current s) word)) next
       → read_rest_with (steps (option_map_or end o (cond is_number number (cond is_mark marks move)))) later
-      ≡ after_row total termination s (left, Word word) (option_map_or (λ k. Ends k (length word)) o
-      (cond (is_number || is_mark) (Goes_on s) (move_row limit s (reading (current s) word)))) next
+      ≡ after_row total termination s left (option_map_or (λ k. Ends k (length word)) o
+      (cond (is_number || is_mark) (Goes_on s) (move_row limit s left (reading (current s) word)))) next
   by_kind left word end number marks move steps (Some o) is_number is_mark e n m r = e o
   by_kind left word end number marks move steps None true is_mark e n m r = n
   by_kind left word end number marks move steps None false true e n m r = m refl
@@ -87,7 +87,7 @@ module _ (limit total : ℕ) (termination : Option Termination) (met begun : Boo
   by_word : (left : ℕ) (word : List ℕ)
       → (word_kind word ≡ Marks → later (so_far met begun termination s) ≡ next s)
       → read_rest_with (step limit total (so_far met begun termination s) left (Word word)) later
-      ≡ after_row total termination s (left, Word word) (row limit s (Word word)) next
+      ≡ after_row total termination s left (row limit s (left, Word word)) next
   by_word left word marks =
       by_kind left word End Number Marks Move
       (λ k. word_step limit (so_far met begun termination s) (total - left) word k) (outcome_of word)
@@ -106,7 +106,7 @@ moves_are limit total termination s (t ∷ ts) =
     by_token : (left : ℕ) (t : Token)
         → ((r : State) → game_of limit total (started termination r) ts ≡ moves_read limit total termination r ts)
         → read_rest_with (step limit total (started termination s) left t) (λ g. game_of limit total g ts)
-        ≡ after_row total termination s (left, t) (row limit s t) (λ r. moves_read limit total termination r ts)
+        ≡ after_row total termination s left (row limit s (left, t)) (λ r. moves_read limit total termination r ts)
     by_token left Skip same = same s
     by_token left (Tag name string at_string) same = refl
     by_token left (Word word) same = by_word limit total termination true true s (λ g. game_of limit total g ts)
@@ -130,23 +130,45 @@ after_tags_by limit total termination s met ((to_end, Bad_tag) ∷ rest) =
 after_tags_by limit total termination s false [] = record { state = s; answer = Ok None }
 after_tags_by limit total termination s met rest = moves_read limit total termination s rest
 
+-- whether a token is a tag
+abbrev is_tag : ℕ × Token → Bool
+is_tag (to_end, Tag name string at_string) = true
+is_tag _ = false
+
+-- if tokens come after the tags, or if there was one
 after_tags_is : (limit total : ℕ) (s : State) (tags rest : List (ℕ × Token))
+    → (rest ≡ [] → list_any is_tag tags ≡ true)
     → read_after_tags limit total s tags rest
     ≡ after_tags_by limit total (termination_in tags) s (list_any is_tag tags) rest
-after_tags_is limit total s tags [] = by_tags (list_any is_tag tags)
+after_tags_is limit total s tags [] met =
+    ap (λ b. after_tags_by limit total (termination_in tags) s b []) (sym (met refl))
+after_tags_is limit total s tags ((left, Skip) ∷ rest) met = refl
+after_tags_is limit total s tags ((left, Tag name string at_string) ∷ rest) met = refl
+after_tags_is limit total s tags ((left, Word word) ∷ rest) met = refl
+after_tags_is limit total s tags ((left, Bad_tag) ∷ rest) met = refl
+after_tags_is limit total s tags ((left, Unclosed_comment brace) ∷ rest) met = refl
+after_tags_is limit total s tags ((left, Unclosed_variation) ∷ rest) met = refl
+after_tags_is limit total s tags ((left, Bad) ∷ rest) met = refl
+
+-- of tokens after which tags may come, one is a tag if one says something
+one_is_tag : (tokens : List (ℕ × Token)) → list_all (λ t. may_precede_tags t.1) tokens ≡ true
+    → list_all (λ t. says_nothing t.1) tokens ≡ false → list_any is_tag tokens ≡ true
+one_is_tag [] all some = absurd (cc)
+one_is_tag ((left, Skip) ∷ ts) all some = one_is_tag ts all some
+one_is_tag ((left, Tag name string at_string) ∷ ts) all some = refl
+one_is_tag ((left, Word word) ∷ ts) all some = by_marks (is_marks word) all some (one_is_tag ts)
   where
-    by_tags : (met : Bool)
-        → cond met (failed s (record { kind = NoResult; offset = total })) (record { state = s; answer = Ok None })
-        ≡ after_tags_by limit total (termination_in tags) s met []
-    by_tags true = refl
-    by_tags false = refl
-after_tags_is limit total s tags ((left, Skip) ∷ rest) = refl
-after_tags_is limit total s tags ((left, Tag name string at_string) ∷ rest) = refl
-after_tags_is limit total s tags ((left, Word word) ∷ rest) = refl
-after_tags_is limit total s tags ((left, Bad_tag) ∷ rest) = refl
-after_tags_is limit total s tags ((left, Unclosed_comment brace) ∷ rest) = refl
-after_tags_is limit total s tags ((left, Unclosed_variation) ∷ rest) = refl
-after_tags_is limit total s tags ((left, Bad) ∷ rest) = refl
+    by_marks : (b : Bool) → b && list_all (λ (t : ℕ × Token). may_precede_tags t.1) ts ≡ true
+        → b && list_all (λ (t : ℕ × Token). says_nothing t.1) ts ≡ false
+        → (list_all (λ (t : ℕ × Token). may_precede_tags t.1) ts ≡ true
+        → list_all (λ (t : ℕ × Token). says_nothing t.1) ts ≡ false → list_any is_tag ts ≡ true)
+        → list_any is_tag ts ≡ true
+    by_marks true h k more = more h k
+    by_marks false h k more = absurd (cc)
+one_is_tag ((left, Bad_tag) ∷ ts) all some = absurd (cc)
+one_is_tag ((left, Unclosed_comment brace) ∷ ts) all some = absurd (cc)
+one_is_tag ((left, Unclosed_variation) ∷ ts) all some = absurd (cc)
+one_is_tag ((left, Bad) ∷ ts) all some = absurd (cc)
 
 abbrev opened : Bool → Option Termination → Setup → SoFar
 opened met termination p = so_far met false termination (from_start p)
@@ -344,22 +366,93 @@ none_before : (o : Option (List ℕ × ℕ)) → option_map_or (λ (tag : List �
 none_before None = refl
 none_before (Some tag) = refl
 
+-- tokens that say nothing of a game
+nothing_read_of : (limit total : ℕ) (v : Variant) (p : Setup) (termination : Option Termination)
+    (tokens : List (ℕ × Token)) → list_all (λ t. says_nothing t.1) tokens ≡ true
+    → game_of limit total (opened false termination p) tokens ≡ record { state = from_start p; answer = Ok None }
+nothing_read_of limit total v p termination [] h = refl
+nothing_read_of limit total v p termination ((left, Skip) ∷ ts) h =
+    nothing_read_of limit total v p termination ts h
+nothing_read_of limit total v p termination ((left, Word word) ∷ ts) h =
+    let both = and_parts (is_marks word) (list_all (λ (t : ℕ × Token). says_nothing t.1) ts) h in
+    ap (λ k. read_rest_with (word_step limit (opened false termination p) (total - left) word k)
+    (λ g. game_of limit total g ts)) (marks_are limit total v [] tt (word_kind word)
+    (sym (marks_by_kind word) ∙ both.0))
+    ∙ nothing_read_of limit total v p termination ts both.1
+nothing_read_of limit total v p termination ((left, Tag name string at_string) ∷ ts) h = absurd (cc)
+nothing_read_of limit total v p termination ((left, Bad_tag) ∷ ts) h = absurd (cc)
+nothing_read_of limit total v p termination ((left, Unclosed_comment brace) ∷ ts) h = absurd (cc)
+nothing_read_of limit total v p termination ((left, Unclosed_variation) ∷ ts) h = absurd (cc)
+nothing_read_of limit total v p termination ((left, Bad) ∷ ts) h = absurd (cc)
+
+-- they give no start
+no_start : (v : Variant) (name : List ℕ) (tokens : List (ℕ × Token)) → list_all (λ t. says_nothing t.1) tokens ≡ true
+    → tags_named name (tag_section tokens) ≡ []
+no_start v name [] h = refl
+no_start v name (t ∷ ts) h =
+    let both = and_parts (says_nothing t.1) (list_all (λ (u : ℕ × Token). says_nothing u.1) ts) h in
+    by_token t.1 both.0 (no_start v name ts both.1)
+  where
+    n : ℕ
+    n = prefix_len (λ (u : ℕ × Token). may_precede_tags u.1) ts
+
+    next : 1 + n ≡ suc n
+    next = omega arith
+
+    by_token : (u : Token) → says_nothing u ≡ true → tags_named name (tag_section ts) ≡ []
+        → tags_named name (tag_section ((t.0, u) ∷ ts)) ≡ []
+    by_token Skip k more = rw next more
+    by_token (Word word) k more = rw (k, next) more
+    by_token (Tag other string at_string) k more = absurd (cc)
+    by_token Bad_tag k more = absurd (cc)
+    by_token (Unclosed_comment brace) k more = absurd (cc)
+    by_token Unclosed_variation k more = absurd (cc)
+    by_token Bad k more = absurd (cc)
+
 -- what tags and moves say of tokens is what is read of them token by token
 pub tokens_are : (limit total : ℕ) (ts : List (ℕ × Token))
     → read_of_split limit total ts ≡ tokens_read limit total ts
-tokens_are limit total ts =
-    let v : Variant = tagged_variant (tag_section ts) in
-    let p : ℕ × Token → Bool = λ (t : ℕ × Token). may_precede_tags t.1 in
-    let tags : List (ℕ × Token) = tag_section ts in
-    let rest : List (ℕ × Token) = drop (length tags) ts in
-    let s : State = from_start (last_start (initial_setup_of v) (fens total v tags)) in
-    ap (λ (r : GameRead). option_map_or (failed s) (slice_get (filter_map result_err (fens total v tags)) 0) r)
-    (after_tags_is limit total s tags rest)
-    ∙ ap (λ e. said limit total e (initial_setup_of v) (fens total v tags) (list_any is_tag tags) rest)
-    (sym (none_before (last_or None (tags_named (codes "Termination") tags))))
-    ∙ sym (all_tags limit total v rest (tags_stop ts) false None (initial_setup_of v) tags (initial_variant v)
-    (run_passes p ts))
-    ∙ ap (game_of limit total (opened false None (initial_setup_of v))) (rest_is p ts)
+tokens_are limit total ts = by_nothing (list_all (λ (t : ℕ × Token). says_nothing t.1) ts) refl
+  where
+    v : Variant
+    v = tagged_variant (tag_section ts)
+
+    p : ℕ × Token → Bool
+    p = λ (t : ℕ × Token). may_precede_tags t.1
+
+    tags : List (ℕ × Token)
+    tags = tag_section ts
+
+    rest : List (ℕ × Token)
+    rest = drop (length tags) ts
+
+    s : State
+    s = from_start (last_start (initial_setup_of v) (fens total v tags))
+
+    met : list_all (λ (t : ℕ × Token). says_nothing t.1) ts ≡ false → rest ≡ [] → list_any is_tag tags ≡ true
+    met some none =
+        let all : tags ≡ ts = sym (ap (λ xs. tags ++ xs) none ∙ append-nil tags) ∙ rest_is p ts in
+        one_is_tag tags (run_passes p ts) (ap (list_all (λ (t : ℕ × Token). says_nothing t.1)) all ∙ some)
+
+    by_nothing : (b : Bool) → list_all (λ (t : ℕ × Token). says_nothing t.1) ts ≡ b
+        → cond b (record { state = s; answer = Ok None })
+        (option_map_or (failed s) (slice_get (filter_map result_err (fens total v tags)) 0)
+        (read_after_tags limit total s tags rest))
+        ≡ tokens_read limit total ts
+    by_nothing true h =
+        ap (λ (tagged : List (List ℕ × ℕ)). record {
+          state = from_start (last_start (initial_setup_of v) (map (fen_read total v) tagged));
+          answer = Ok None;
+        }) (no_start v (codes "FEN") ts h)
+        ∙ sym (nothing_read_of limit total v (initial_setup_of v) None ts h)
+    by_nothing false h =
+        ap (λ (r : GameRead). option_map_or (failed s) (slice_get (filter_map result_err (fens total v tags)) 0) r)
+        (after_tags_is limit total s tags rest (met h))
+        ∙ ap (λ e. said limit total e (initial_setup_of v) (fens total v tags) (list_any is_tag tags) rest)
+        (sym (none_before (last_or None (tags_named (codes "Termination") tags))))
+        ∙ sym (all_tags limit total v rest (tags_stop ts) false None (initial_setup_of v) tags (initial_variant v)
+        (run_passes p ts))
+        ∙ ap (game_of limit total (opened false None (initial_setup_of v))) (rest_is p ts)
 
 -- what is read of a text is what is read of it token by token
 pub reads_alike : (limit : ℕ) (text : List ℕ) (at : ℕ)

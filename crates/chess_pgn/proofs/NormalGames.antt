@@ -1,7 +1,7 @@
 -- On starts of normal chess, and in texts that name no variant, games are written and read as in normal chess.
-use Rattle.std.proofs.Common.{◌≡◌, ℕ, List, ◌++◌, length, drop, Option, None, refl, ap, ◌∙◌}
+use Rattle.std.proofs.Common.{◌≡◌, ℕ, cond, List, ◌++◌, length, drop, Option, None, Ok, refl, ap, ◌∙◌}
 use Rattle.std.specs.Prelude.{codes, slice_get}
-use Rattle.std.specs.List.{filter_map}
+use Rattle.std.specs.List.{filter_map, list_all}
 use Rattle.std.specs.Option.{option_map_or}
 use Rattle.std.specs.Result.{result_err}
 use Rattle.chess_base.specs.declared.man.Variant.{Variant}
@@ -11,7 +11,7 @@ use Rattle.chess_base.specs.Initial.{initial_setup, initial_setup_of}
 use Rattle.chess_game.specs.Game.{from_start, outcome_now}
 use Rattle.chess_pgn.specs.GameRead.{GameRead, failed, last_start, variant_named, read_after_tags, pgn_read}
 use Rattle.chess_pgn.specs.ties.TagGroups.{roster_lines, start_lines_in, last_lines}
-use Rattle.chess_pgn.specs.LastTags.{tag_section, last_tag}
+use Rattle.chess_pgn.specs.LastTags.{says_nothing, tag_section, last_tag}
 use Rattle.chess_pgn.specs.laws.Normal.{normal_read, NormalIsKept}
 use Rattle.chess_pgn.specs.Terminations.{termination_of}
 use Rattle.chess_pgn.proofs.GamesByTags.{fens}
@@ -28,11 +28,13 @@ unfolding pgn_read
 read_so limit text at none =
     let tokens : List (ℕ × Token) = tokens_from text (after_byte_order_mark text at) in
     let tags : List (ℕ × Token) = tag_section tokens in
-    let read : Variant → Setup → GameRead = λ v p. option_map_or (failed (from_start (last_start p
-    (fens (length text) v tags))))
+    let read : Variant → Setup → GameRead = λ v p.
+    cond (list_all (λ (t : ℕ × Token). says_nothing t.1) tokens)
+    (record { state = from_start (last_start p (fens (length text) v tags)); answer = Ok None })
+    (option_map_or (failed (from_start (last_start p (fens (length text) v tags))))
     (slice_get (filter_map result_err (fens (length text) v tags)) 0)
     (read_after_tags limit (length text) (from_start (last_start p (fens (length text) v tags))) tags
-    (drop (length tags) tokens)) in
+    (drop (length tags) tokens))) in
     ap (λ v. read v (initial_setup_of v))
     (ap (λ (tag : Option (List ℕ × ℕ)). option_map_or (λ (t : List ℕ × ℕ). variant_named t.0) tag Normal) none)
     ∙ ap (read Normal) initial_is

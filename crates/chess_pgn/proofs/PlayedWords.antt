@@ -1,7 +1,7 @@
 -- The words of a game that was read: each denotes a move where a move may be played, and these are the game's moves.
 use Rattle.std.proofs.Common.{◌≡◌, ℕ, Bool, true, false, cond, List, [], ◌∷◌, ◌++◌, length, drop, Option, Some, None, is_some, Result, Ok, Err, refl, sym, subst, ◌∙◌, inl, inr, ◌⊎◌, append_assoc, append-nil}
 use Rattle.std.specs.Prelude.{◌||◌, nat_lt, slice_get}
-use Rattle.std.specs.List.{list_all, list_any, filter_map}
+use Rattle.std.specs.List.{list_all, filter_map}
 use Rattle.std.specs.Option.{option_map_or}
 use Rattle.std.specs.Result.{result_err}
 use Rattle.chess_base.specs.declared.man.Move.{Move}
@@ -17,10 +17,10 @@ use Rattle.chess_text.specs.declared.reading.Reading.TheVariants as reads
 use Rattle.chess_text.specs.Moves.{reading}
 use Rattle.chess_pgn.specs.declared.read.PgnEnd.{PgnEnd}
 use Rattle.chess_pgn.specs.declared.read.PgnFault.{PgnFault}
-use Rattle.chess_pgn.specs.declared.read.PgnFaultKind.TheVariants.{AfterEnd, TooLong, NoResult}
+use Rattle.chess_pgn.specs.declared.read.PgnFaultKind.TheVariants.{AfterEnd, TooLong}
 use Rattle.chess_pgn.specs.declared.termination.Termination.{Termination}
-use Rattle.chess_pgn.specs.GameRead.{GameRead, Row, Goes_on, Ends, Fails, failed, move_row, row, after_row, moves_read, is_tag, last_start, tagged_variant, read_after_tags, pgn_read}
-use Rattle.chess_pgn.specs.LastTags.{tag_section}
+use Rattle.chess_pgn.specs.GameRead.{GameRead, Row, Goes_on, Ends, Fails, failed, move_row, row, after_row, moves_read, last_start, tagged_variant, read_after_tags, pgn_read}
+use Rattle.chess_pgn.specs.LastTags.{says_nothing, tag_section}
 use Rattle.chess_pgn.specs.Tokens.{Token, Skip, Tag, Word, Bad_tag, Unclosed_comment, Unclosed_variation, Bad, after_byte_order_mark, tokens_from}
 use Rattle.chess_pgn.specs.Words.{outcome_of, is_marks}
 use Rattle.chess_pgn.proofs.GamesByTags.{fens, termination_in}
@@ -58,51 +58,51 @@ record IsPlayed (limit : ℕ) (s : State) (m : Move) : Type 0 where
   room : nat_lt (length s.moves) limit ≡ true
   denotes : reading (current s) word ≡ reads.Move m
 
-open_row : (over : Option Verdict) (room : Bool) (x : Row) (next : State)
-    → cond (is_some over) (Fails AfterEnd) (cond room x (Fails TooLong)) ≡ Goes_on next
+open_row : (over : Option Verdict) (room : Bool) (left : ℕ) (x : Row) (next : State)
+    → cond (is_some over) (Fails AfterEnd left) (cond room x (Fails TooLong left)) ≡ Goes_on next
     → (over ≡ None) × (room ≡ true) × (x ≡ Goes_on next)
-open_row (Some v) room x next e = absurd (cc)
-open_row None false x next e = absurd (cc)
-open_row None true x next e = (refl, refl, e)
+open_row (Some v) room left x next e = absurd (cc)
+open_row None false left x next e = absurd (cc)
+open_row None true left x next e = (refl, refl, e)
 
 -- a game goes on as it is, or with one move more
 abbrev After : ℕ → State → State → Type 0
 After limit s next = (next ≡ s) ⊎ ((m : Move) × IsPlayed limit s m × (next ≡ played s m))
 
-word_plays : (limit : ℕ) (s : State) (word : List ℕ) (next : State) (r : Reading) → reading (current s) word ≡ r
-    → move_row limit s r ≡ Goes_on next → After limit s next
-word_plays limit s word next reads.NotAMove is e = absurd (cc)
-word_plays limit s word next (reads.Move m) is e =
-    let open_yet = open_row (verdict_now s) (nat_lt (length s.moves) limit) (Goes_on (played s m)) next e in
+word_plays : (limit : ℕ) (s : State) (left : ℕ) (word : List ℕ) (next : State) (r : Reading)
+    → reading (current s) word ≡ r → move_row limit s left r ≡ Goes_on next → After limit s next
+word_plays limit s left word next reads.NotAMove is e = absurd (cc)
+word_plays limit s left word next (reads.Move m) is e =
+    let open_yet = open_row (verdict_now s) (nat_lt (length s.moves) limit) left (Goes_on (played s m)) next e in
     let goes_on : Goes_on (played s m) ≡ Goes_on next = open_yet.2 in
     let same : next ≡ played s m = cc in
     inr (m, record { word = word; unended = open_yet.0; room = open_yet.1; denotes = is }, same)
-word_plays limit s word next reads.Ambiguous is e =
-    let none = (open_row (verdict_now s) (nat_lt (length s.moves) limit) _ next e).2 in absurd (cc)
-word_plays limit s word next reads.NoSuch is e =
-    let none = (open_row (verdict_now s) (nat_lt (length s.moves) limit) _ next e).2 in absurd (cc)
+word_plays limit s left word next reads.Ambiguous is e =
+    let none = (open_row (verdict_now s) (nat_lt (length s.moves) limit) left _ next e).2 in absurd (cc)
+word_plays limit s left word next reads.NoSuch is e =
+    let none = (open_row (verdict_now s) (nat_lt (length s.moves) limit) left _ next e).2 in absurd (cc)
 
 same_game : (s next : State) → Goes_on s ≡ Goes_on next → next ≡ s
 same_game s next e = cc
 
-token_goes_on : (limit : ℕ) (s : State) (t : Token) (next : State) → row limit s t ≡ Goes_on next
+token_goes_on : (limit : ℕ) (s : State) (t : ℕ × Token) (next : State) → row limit s t ≡ Goes_on next
     → After limit s next
-token_goes_on limit s Skip next e = inl (same_game s next e)
-token_goes_on limit s (Tag name string left) next e = absurd (cc)
-token_goes_on limit s (Word word) next e = by_kind (outcome_of word) (list_all is_digit word) (is_marks word) e
+token_goes_on limit s (left, Skip) next e = inl (same_game s next e)
+token_goes_on limit s (left, Tag name string at_string) next e = absurd (cc)
+token_goes_on limit s (left, Word word) next e = by_kind (outcome_of word) (list_all is_digit word) (is_marks word) e
   where
     by_kind : (o : Option Outcome) (is_number is_mark : Bool)
         → option_map_or (λ k. Ends k (length word)) o
-        (cond (is_number || is_mark) (Goes_on s) (move_row limit s (reading (current s) word))) ≡ Goes_on next
+        (cond (is_number || is_mark) (Goes_on s) (move_row limit s left (reading (current s) word))) ≡ Goes_on next
         → After limit s next
     by_kind (Some o) is_number is_mark e = absurd (cc)
     by_kind None true is_mark e = inl (same_game s next e)
     by_kind None false true e = inl (same_game s next e)
-    by_kind None false false e = word_plays limit s word next (reading (current s) word) refl e
-token_goes_on limit s Bad_tag next e = absurd (cc)
-token_goes_on limit s (Unclosed_comment brace) next e = absurd (cc)
-token_goes_on limit s Unclosed_variation next e = absurd (cc)
-token_goes_on limit s Bad next e = absurd (cc)
+    by_kind None false false e = word_plays limit s left word next (reading (current s) word) refl e
+token_goes_on limit s (left, Bad_tag) next e = absurd (cc)
+token_goes_on limit s (left, Unclosed_comment brace) next e = absurd (cc)
+token_goes_on limit s (left, Unclosed_variation) next e = absurd (cc)
+token_goes_on limit s (left, Bad) next e = absurd (cc)
 
 -- ---- the moves
 
@@ -111,14 +111,14 @@ moves_words : (limit total : ℕ) (termination : Option Termination) (s : State)
     → Words limit s (moves_read limit total termination s ts).state
 moves_words limit total termination s [] h = absurd h
 moves_words limit total termination s (t ∷ ts) h =
-    by_row (row limit s t.1) refl (λ n k. moves_words limit total termination n ts k) h
+    by_row (row limit s t) refl (λ n k. moves_words limit total termination n ts k) h
   where
-    by_row : (x : Row) → row limit s t.1 ≡ x
+    by_row : (x : Row) → row limit s t ≡ x
         → ((n : State) → IsEnd (moves_read limit total termination n ts).answer
         → Words limit n (moves_read limit total termination n ts).state)
-        → IsEnd (after_row total termination s t x (λ n. moves_read limit total termination n ts)).answer
-        → Words limit s (after_row total termination s t x (λ n. moves_read limit total termination n ts)).state
-    by_row (Goes_on next) e later k = by_next (token_goes_on limit s t.1 next e) (later next k)
+        → IsEnd (after_row total termination s t.0 x (λ n. moves_read limit total termination n ts)).answer
+        → Words limit s (after_row total termination s t.0 x (λ n. moves_read limit total termination n ts)).state
+    by_row (Goes_on next) e later k = by_next (token_goes_on limit s t next e) (later next k)
       where
         by_next : After limit s next → Words limit next (moves_read limit total termination next ts).state
             → Words limit s (moves_read limit total termination next ts).state
@@ -136,18 +136,12 @@ moves_words limit total termination s (t ∷ ts) h =
             }
     by_row (Ends o len) e later k =
         record { words = []; moves = []; are = tt; all = append-nil s.moves; start = refl }
-    by_row (Fails kind) e later k = absurd k
+    by_row (Fails kind left) e later k = absurd k
 
 tags_words : (limit total : ℕ) (s : State) (tags ts : List (ℕ × Token))
     → IsEnd (read_after_tags limit total s tags ts).answer
     → Words limit s (read_after_tags limit total s tags ts).state
-tags_words limit total s tags [] h = absurd (by_tags (list_any is_tag tags) h)
-  where
-    by_tags : (met : Bool)
-        → IsEnd (cond met (failed s (record { kind = NoResult; offset = total }))
-        (record { state = s; answer = Ok None })).answer → ⊥
-    by_tags true h = h
-    by_tags false h = h
+tags_words limit total s tags [] h = absurd h
 tags_words limit total s tags ((left, Skip) ∷ ts) h =
     moves_words limit total (termination_in tags) s ((left, Skip) ∷ ts) h
 tags_words limit total s tags ((left, Tag name string at) ∷ ts) h = absurd h
@@ -165,6 +159,13 @@ by_fault : (limit : ℕ) (s : State) (fault : Option PgnFault) (read : GameRead)
     → Words limit s (option_map_or (failed s) fault read).state
 by_fault limit s (Some f) read later h = absurd h
 by_fault limit s None read later h = later h
+
+by_game : (limit : ℕ) (p s : State) (none : Bool) (read : GameRead)
+    → (IsEnd read.answer → Words limit p read.state)
+    → IsEnd (cond none (record { state = s; answer = Ok None }) read).answer
+    → Words limit p (cond none (record { state = s; answer = Ok None }) read).state
+by_game limit p s true read later h = absurd h
+by_game limit p s false read later h = later h
 
 from_words : (limit : ℕ) (p : Setup) (r : State) (w : Words limit (from_start p) r)
     → AreRead limit (from_start r.start) w.words r.moves
@@ -184,8 +185,11 @@ game_words limit text at end is =
     let p : Setup = last_start (initial_setup_of v) (fens total v tags) in
     let rest : List (ℕ × Token) = drop (length tags) tokens in
     let w : Words limit (from_start p) (pgn_read limit text at).state =
-    by_fault limit (from_start p) (slice_get (filter_map result_err (fens total v tags)) 0)
+    by_game limit (from_start p) (from_start p) (list_all (λ (t : ℕ × Token). says_nothing t.1) tokens)
+    (option_map_or (failed (from_start p)) (slice_get (filter_map result_err (fens total v tags)) 0)
+    (read_after_tags limit total (from_start p) tags rest))
+    (by_fault limit (from_start p) (slice_get (filter_map result_err (fens total v tags)) 0)
     (read_after_tags limit total (from_start p) tags rest)
-    (tags_words limit total (from_start p) tags rest)
+    (tags_words limit total (from_start p) tags rest))
     (subst IsEnd (sym is) tt) in
     (w.words, from_words limit p (pgn_read limit text at).state w)

@@ -38,13 +38,13 @@ texts_are_split = record {
 -- ---- read
 
 -- a word that denotes one move is played where the game is neither over nor full
-move_plays : (limit : ℕ) (s : State) (m : Move) (r : Reading) → r ≡ reads.Move m → verdict_now s ≡ None
-    → nat_lt (length s.moves) limit ≡ true → move_row limit s r ≡ Goes_on (played s m)
-move_plays limit s m r is open_yet room =
-    ap (move_row limit s) is
-    ∙ ap (λ (o : Option Verdict). cond (is_some o) (Fails AfterEnd)
-    (cond (nat_lt (length s.moves) limit) (Goes_on (played s m)) (Fails TooLong))) open_yet
-    ∙ ap (λ t. cond t (Goes_on (played s m)) (Fails TooLong)) room
+move_plays : (limit : ℕ) (s : State) (left : ℕ) (m : Move) (r : Reading) → r ≡ reads.Move m → verdict_now s ≡ None
+    → nat_lt (length s.moves) limit ≡ true → move_row limit s left r ≡ Goes_on (played s m)
+move_plays limit s left m r is open_yet room =
+    ap (move_row limit s left) is
+    ∙ ap (λ (o : Option Verdict). cond (is_some o) (Fails AfterEnd left)
+    (cond (nat_lt (length s.moves) limit) (Goes_on (played s m)) (Fails TooLong left))) open_yet
+    ∙ ap (λ t. cond t (Goes_on (played s m)) (Fails TooLong left)) room
 
 abbrev start : State
 start = from_start (initial_setup_of Normal)
@@ -63,9 +63,9 @@ unfolding token_at tokens_of tokens_from
 game_is_read m over says = record {
   tokens = tokens;
   split = read_split text 0;
-  is = sym (ap (λ (r : Row). after_row 19 None start (4, Word (codes "e4")) r
+  is = sym (ap (λ (r : Row). after_row 19 None start 4 r
       (λ next. moves_read 1 19 None next ((2, Skip) ∷ (1, Word (codes "*")) ∷ [])))
-      (move_plays 1 start m (reading (current start) (codes "e4")) says over refl));
+      (move_plays 1 start 4 m (reading (current start) (codes "e4")) says over refl));
 }
 
 -- a text is read as its tokens say

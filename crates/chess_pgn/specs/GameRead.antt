@@ -1,7 +1,7 @@
 -- What is read of a game's text (PGN standard of 1994, sections 7 to 9; which words are taken is this project's own): a
 -- game's tokens are its tags, and then its moves. The tags give the start, and each move's word denotes a move in the
 -- position reached by then. The first token that can't be taken is the fault.
-use Rattle.std.specs.Prelude.{◌≡◌, ℕ, ◌+◌, ◌-◌, nat_lt, Bool, true, false, ◌||◌, if◌then◌else◌, List, [], ◌∷◌, length, drop, map, codes, slice_get, Option, Some, None, is_some, Result, Ok, Err, option_and_then}
+use Rattle.std.specs.Prelude.{◌≡◌, ℕ, ◌+◌, ◌-◌, nat_lt, Bool, ◌||◌, if◌then◌else◌, List, [], ◌∷◌, length, drop, map, codes, slice_get, Option, Some, None, is_some, Result, Ok, Err, option_and_then}
 use Rattle.std.specs.List.{list_all, list_any, filter_map, last_or, take_while}
 use Rattle.std.specs.Option.{option_map_or, unwrap_or}
 use Rattle.std.specs.Result.{is_ok, result_ok, result_err, result_map_both}
@@ -26,8 +26,8 @@ use Rattle.chess_pgn.specs.declared.read.PgnFaultKind.{PgnFaultKind}
 use Rattle.chess_pgn.specs.declared.read.PgnFaultKind.TheVariants.{BadTag, BadFen, BadToken, IllegalMove, AmbiguousMove, AfterEnd, TooLong, UnclosedComment, UnclosedVariation, NoResult}
 use Rattle.chess_pgn.specs.declared.termination.Termination.{Termination}
 use Rattle.chess_pgn.specs.Terminations.{termination_named}
-use Rattle.chess_pgn.specs.LastTags.{tag_section, tags_named, last_tag}
-use Rattle.chess_pgn.specs.Tokens.{Token, Skip, Tag, Word, Bad_tag, Unclosed_comment, Unclosed_variation, Bad, after_byte_order_mark, tokens_from}
+use Rattle.chess_pgn.specs.LastTags.{says_nothing, tag_section, tags_named, last_tag}
+use Rattle.chess_pgn.specs.Tokens.{Token, Skip, Word, Bad_tag, Unclosed_comment, Unclosed_variation, Bad, after_byte_order_mark, tokens_from}
 use Rattle.chess_pgn.specs.Split.{IsSplit}
 use Rattle.chess_pgn.specs.Words.{outcome_of, is_marks}
 
@@ -53,71 +53,62 @@ failed s fault = record { state = s; answer = Err fault }
 
 -- ---- after the tags: a row for each kind of token
 
--- what a token does: the game goes on as `next`, the outcome, a word of `len` bytes, ends it, or the token can't be taken
+-- what a token does: the game goes on as `next`; the outcome, a word of `len` bytes, ends it; or the token can't be
+-- taken, and the fault is where `left` bytes of the text are left
 pub data Row : Type 0 where
   Goes_on : (next : State) → Row
   Ends : (o : Outcome) (len : ℕ) → Row
-  Fails : (kind : PgnFaultKind) → Row
+  Fails : (kind : PgnFaultKind) (left : ℕ) → Row
 
--- what a move does in the game `s` of at most `limit` half-moves: where the board has a verdict, it comes after the end;
--- where the game is full, the game is too long; otherwise what `row` says
-abbrev pub unless_over : ℕ → State → Row → Row
-unless_over limit s row =
-    if is_some (verdict_now s) then Fails AfterEnd
-    else if nat_lt (length s.moves) limit then row
-    else Fails TooLong
+-- what a move does in the game `s` of at most `limit` half-moves: where the board has a verdict, it is after the end;
+-- where the game is full, it is one too many; otherwise what `allowed` says. `left` bytes are left at the move
+abbrev pub unless_over : ℕ → State → ℕ → Row → Row
+unless_over limit s left allowed =
+    if is_some (verdict_now s) then Fails AfterEnd left
+    else if nat_lt (length s.moves) limit then allowed
+    else Fails TooLong left
 
 -- what a word does that is taken as a move, by what it denotes in the current position of the game `s` of at most
--- `limit` half-moves. Without a move's shape it is a bad token, also where the game is over or full
-abbrev pub move_row : ℕ → State → Reading → Row
-move_row limit s reads.NotAMove = Fails BadToken
-move_row limit s (reads.Move m) = unless_over limit s (Goes_on (played s m))
-move_row limit s reads.Ambiguous = unless_over limit s (Fails AmbiguousMove)
-move_row limit s reads.NoSuch = unless_over limit s (Fails IllegalMove)
+-- `limit` half-moves. Without a move's shape it is a bad token, also where the game is over or full. `left` bytes are
+-- left at the word
+abbrev pub move_row : ℕ → State → ℕ → Reading → Row
+move_row limit s left reads.NotAMove = Fails BadToken left
+move_row limit s left (reads.Move m) = unless_over limit s left (Goes_on (played s m))
+move_row limit s left reads.Ambiguous = unless_over limit s left (Fails AmbiguousMove left)
+move_row limit s left reads.NoSuch = unless_over limit s left (Fails IllegalMove left)
 
--- what a token does after the tags, in the game `s` of at most `limit` half-moves
-abbrev pub row : ℕ → State → Token → Row
-row limit s Skip = Goes_on s
+-- what a token does after the tags, in the game `s` of at most `limit` half-moves; `left` bytes are left at the token
+abbrev pub row : ℕ → State → ℕ × Token → Row
+row limit s (left, Skip) = Goes_on s
 -- an outcome such as `1-0` ends the game; a number (digits alone) and marks such as `!?` are passed over; any other
 -- word is taken as a move
-row limit s (Word word) = option_map_or (λ o. Ends o (length word)) (outcome_of word)
-    (if list_all is_digit word || is_marks word then Goes_on s else move_row limit s (reading (current s) word))
-row limit s (Unclosed_comment brace) = Fails UnclosedComment
-row limit s Unclosed_variation = Fails UnclosedVariation
-row limit s Bad = Fails BadToken
+row limit s (left, Word word) = option_map_or (λ o. Ends o (length word)) (outcome_of word)
+    (if list_all is_digit word || is_marks word then Goes_on s else move_row limit s left (reading (current s) word))
+-- the fault is at the comment's `{`, which may be inside a variation
+row limit s (left, Unclosed_comment brace) = Fails UnclosedComment brace
+row limit s (left, Unclosed_variation) = Fails UnclosedVariation left
+row limit s (left, Bad) = Fails BadToken left
 -- a tag, even a bad one, is the next game's, so this game has no outcome, which is a fault
-row limit s _ = Fails NoResult
+row limit s (left, _) = Fails NoResult left
 
--- how many bytes the text still has from the place on where this token is reported as a fault. That place is the
--- token's first byte (the pair says how many bytes are left there), but for an unclosed comment the comment's `{`,
--- which may be inside a variation
-abbrev pub left_at_fault : ℕ × Token → ℕ
-left_at_fault (to_end, Unclosed_comment brace) = brace
-left_at_fault (to_end, _) = to_end
-
--- what is read from the token `t` on, which does what the row says; `later` gives what is read of the tokens after it
--- from the game as it is then. `t` is paired with how many bytes are left where it begins, of a text of `total` bytes;
--- `termination` is what the tag Termination names
-abbrev pub after_row : ℕ → Option Termination → State → ℕ × Token → Row → (State → GameRead) → GameRead
-after_row total termination s t (Goes_on next) later = later next
-after_row total termination s t (Ends o len) later = record {
+-- what is read from a token on, which does what the row says; `later` gives what is read of the tokens after it from
+-- the game as it is then. `left` bytes are left at the token, of a text of `total` bytes; `termination` is what the tag
+-- Termination names
+abbrev pub after_row : ℕ → Option Termination → State → ℕ → Row → (State → GameRead) → GameRead
+after_row total termination s left (Goes_on next) later = later next
+after_row total termination s left (Ends o len) later = record {
   state = record s { declared = declared_after (is_some (verdict_now s)) o };
-  answer = Ok (Some (record { outcome = o; termination = termination; offset = total - t.0 + len }));
+  answer = Ok (Some (record { outcome = o; termination = termination; offset = total - left + len }));
 }
-after_row total termination s t (Fails kind) later = failed s (record { kind = kind; offset = total - left_at_fault t })
+after_row total termination s left (Fails kind place) later = failed s (record { kind = kind; offset = total - place })
 
 -- what is read of the tokens after the tags, in a text of `total` bytes, from the game `s` on
 abbrev pub moves_read : ℕ → ℕ → Option Termination → State → List (ℕ × Token) → GameRead
 moves_read limit total termination s [] = failed s (record { kind = NoResult; offset = total })
 moves_read limit total termination s (t ∷ ts) =
-    after_row total termination s t (row limit s t.1) (λ next. moves_read limit total termination next ts)
+    after_row total termination s t.0 (row limit s t) (λ next. moves_read limit total termination next ts)
 
 -- ---- the tags: the tokens before the first number, move, outcome or fault
-
--- whether a token is a tag
-abbrev pub is_tag : ℕ × Token → Bool
-is_tag (to_end, Tag name string at_string) = true
-is_tag _ = false
 
 -- what a tag FEN gives in the variant `v`, in a text of `total` bytes: the position that it denotes, or the fault, at
 -- the FEN's first byte. The tag comes as its text and how many bytes are left where that begins
@@ -146,29 +137,27 @@ tagged_variant tags = option_map_or (λ tag. variant_named tag.0) (last_tag (cod
 -- ---- the game
 
 -- what is read of a game after `tags`, the tokens before its first number, move, outcome or fault, if each of their
--- FENs denotes a position; the last argument is the tokens from that one on. If that is a bad tag, its fault. If no
--- token is left: no game if there is no tag either, otherwise the fault that the game has no outcome. In all other
--- cases the moves are read. `s` is the game at its start, and the text has `total` bytes. The last tag Termination
--- counts, even if its text is none of the standard's values and an earlier one's is
+-- FENs denotes a position; the last argument is the tokens from that one on. If that is a bad tag, its fault; otherwise
+-- the moves are read. `s` is the game at its start, and the text has `total` bytes. The last tag Termination counts,
+-- even if its text is none of the standard's values and an earlier one's is
 abbrev pub read_after_tags : ℕ → ℕ → State → List (ℕ × Token) → List (ℕ × Token) → GameRead
 read_after_tags limit total s tags ((to_end, Bad_tag) ∷ rest) =
     failed s (record { kind = BadTag; offset = total - to_end })
-read_after_tags limit total s tags [] =
-    if list_any is_tag tags then failed s (record { kind = NoResult; offset = total })
-    else record { state = s; answer = Ok None }
 read_after_tags limit total s tags rest = moves_read limit total
     (option_and_then (λ tag. termination_named tag.0) (last_tag (codes "Termination") tags)) s rest
 
 -- what is read of the game at the front of these tokens, of at most `limit` half-moves, in a text of `total` bytes.
 -- `tags` are the tokens before its first number, move, outcome or fault; its tags, which are all among them, give the
--- variant and the start. The fault of the first FEN that has one is the game's; without one see `read_after_tags`
+-- variant and the start. There is no game if no token says anything of one. Otherwise the fault of the first FEN that
+-- has one is the game's; without one see `read_after_tags`
 abbrev pub read_of_split : ℕ → ℕ → List (ℕ × Token) → GameRead
 read_of_split limit total tokens =
     let tags = tag_section tokens in
     let v = tagged_variant tags in
     let fens = map (fen_read total v) (tags_named (codes "FEN") tags) in
     let s = from_start (last_start (initial_setup_of v) fens) in
-    option_map_or (failed s) (slice_get (filter_map result_err fens) 0)
+    if list_all (λ t. says_nothing t.1) tokens then record { state = s; answer = Ok None }
+    else option_map_or (failed s) (slice_get (filter_map result_err fens) 0)
     (read_after_tags limit total s tags (drop (length tags) tokens))
 
 -- what is read of a text from the offset `at` on: the game up to its outcome mark and where it ended, or `None` if no

@@ -8,12 +8,16 @@ use Rattle.chess_pgn.specs.declared.tagged_result.ResultTag.{ResultTag}
 use Rattle.chess_pgn.specs.Tokens.{Token, Skip, Tag, Word}
 use Rattle.chess_pgn.specs.Words.{outcome_of, is_marks}
 
--- after this token more tags of the same game may come: it is skipped, a tag, or marks such as `!?`
+-- a token that says nothing of a game: it is skipped, or marks such as `!?`
+abbrev pub says_nothing : Token → Bool
+says_nothing Skip = true
+says_nothing (Word word) = is_marks word
+says_nothing _ = false
+
+-- after this token more tags of the same game may come: it is a tag, or says nothing of the game
 abbrev pub may_precede_tags : Token → Bool
-may_precede_tags Skip = true
 may_precede_tags (Tag name text to_end) = true
-may_precede_tags (Word word) = is_marks word
-may_precede_tags _ = false
+may_precede_tags token = says_nothing token
 
 -- the text of a token that is a tag with the given name, and how many bytes of the game's text are left where that text
 -- begins; none for any other token

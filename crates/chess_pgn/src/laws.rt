@@ -60,8 +60,8 @@ pub fn half_moves_have_bytes()
 {}
 
 /// States a law and does nothing: from each offset on, a text can be split into tokens in exactly one way, which is
-/// `tokens_from`. A split (`IsSplit`) takes the tokens from left to right, each the longest at its place. It ends at the
-/// text's end, or with a fault at the first offset where no token can be read.
+/// `tokens_from`. A split (`IsSplit`) takes the tokens from left to right, each the longest at its place. It ends at
+/// the text's end, or with a fault at the first offset where no token can be read.
 pub fn a_text_has_one_split()
     ensures read { (text : List ℕ) → (at : ℕ) → IsSplit text at (tokens_from text at) }
     ensures no_other { (text : List ℕ) → (at : ℕ) → (tokens : List (ℕ × Token)) → IsSplit text at tokens

@@ -1,6 +1,6 @@
 -- The definitions that Chess960 widened, as they are for normal chess alone.
-use Rattle.std.specs.Prelude.{◌≡◌, ℕ, ◌-◌, not, List, [], ◌∷◌, ◌++◌, length, drop, map, slice_get, None, codes}
-use Rattle.std.specs.List.{filter_map}
+use Rattle.std.specs.Prelude.{◌≡◌, ℕ, ◌-◌, not, List, [], ◌∷◌, ◌++◌, length, drop, map, slice_get, Ok, None, codes, if◌then◌else◌}
+use Rattle.std.specs.List.{filter_map, list_all}
 use Rattle.std.specs.Option.{option_map_or}
 use Rattle.std.specs.Result.{result_err, result_map_both}
 use Rattle.chess_base.specs.declared.man.Variant.TheVariants.{Normal}
@@ -14,7 +14,7 @@ use Rattle.chess_pgn.specs.declared.tags.Tags.{Tags}
 use Rattle.chess_pgn.specs.declared.read.PgnFaultKind.TheVariants.{BadFen}
 use Rattle.chess_pgn.specs.GameRead.{GameRead, failed, last_start, read_after_tags, pgn_read}
 use Rattle.chess_pgn.specs.GameText.{tag_lines}
-use Rattle.chess_pgn.specs.LastTags.{tag_section, tags_named, last_tag}
+use Rattle.chess_pgn.specs.LastTags.{says_nothing, tag_section, tags_named, last_tag}
 use Rattle.chess_pgn.specs.Terminations.{termination_text, termination_of}
 use Rattle.chess_pgn.specs.Tokens.{Token, after_byte_order_mark, tokens_from}
 use Rattle.chess_pgn.specs.Written.{tag_line}
@@ -38,7 +38,8 @@ normal_read limit total tokens =
     (λ fault. record { kind = BadFen fault; offset = total - tag.1 }) (fen_reading tag.0))
     (tags_named (codes "FEN") tags) in
     let s = from_start (last_start initial_setup fens) in
-    option_map_or (failed s) (slice_get (filter_map result_err fens) 0)
+    if list_all (λ t. says_nothing t.1) tokens then record { state = s; answer = Ok None }
+    else option_map_or (failed s) (slice_get (filter_map result_err fens) 0)
     (read_after_tags limit total s tags (drop (length tags) tokens))
 
 -- a game of normal chess is written, and a text with no tag Variant among the game's own tags is read, as if there were
