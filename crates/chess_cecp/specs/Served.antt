@@ -1,8 +1,8 @@
 -- What a server of lines reads and writes, as a session does, for each of the four ways to end: by a line such as
 -- `quit`, by the input's end, by a read that failed, by a write or a flush that failed.
 use Rattle.std.specs.Prelude.{◌≡◌, ◌≤◌, Bool, true, false, List, ◌∷◌, ◌++◌, length, Result, Ok, Err}
-use Rattle.byte_devices.specs.Transfers.{FromInput, ToOutput, IsWhole, IsCutOff, NoReadFailed, all_of, BreaksOffIn}
-use Rattle.text_lines.specs.Lines.{LineSeen, stream_lines, complete_lines}
+use Rattle.byte_devices.specs.Transfers.{FromInput, ToOutput, IsWhole, IsCutOff, all_of, BreaksOffIn}
+use Rattle.text_lines.specs.Lines.{LineSeen, stream_lines}
 use Rattle.chess_cecp.specs.Serving.{Server, responses}
 use Rattle.chess_cecp.specs.declared.run.End.{End}
 use Rattle.chess_cecp.specs.declared.run.End.TheVariants.{Quit, InputEnded}
@@ -18,7 +18,7 @@ lines_read i = stream_lines COMMAND_LEN i.ended i.text
 -- the lines that were complete (ended by `\n`) before the last successful read; if that read reported the input's end,
 -- all lines that `\n` ended
 abbrev pub early_lines : FromInput → List LineSeen
-early_lines i = complete_lines COMMAND_LEN i.early
+early_lines i = stream_lines COMMAND_LEN false i.early
 
 -- the server `respond` answered the lines that were read: all of them if it ends with none (`ends` is false), otherwise
 -- those up to and including the first with which it ends. The answers, and nothing else, were written and flushed, and
@@ -46,10 +46,10 @@ abbrev pub Served : {S : Type 0} → Server S → S → S → Result End Fault �
 -- no read failed, and the server answered all lines up to one with which it ends. It ends with none of the lines that
 -- were complete before the last read: once the line that ends it was complete, it read no more
 Served respond s s' (Ok Quit) i o =
-    NoReadFailed i × AnswersAll respond s s' true i o × ((responses respond s (early_lines i)).ends ≡ false)
+    (i.failed ≡ false) × AnswersAll respond s s' true i o × ((responses respond s (early_lines i)).ends ≡ false)
 -- the input's end was reported, and no read failed; the server answered all lines, and ends with none of them
 Served respond s s' (Ok InputEnded) i o = IsWhole i × AnswersAll respond s s' false i o
 -- a read failed, and the input's end was not reported; the server answered all complete lines and ends with none
 Served respond s s' (Err Read) i o = IsCutOff i × AnswersAll respond s s' false i o
 -- a write or a flush failed in the answer to a line (`AnswersSome`); no read failed
-Served respond s s' (Err Write) i o = NoReadFailed i × AnswersSome respond s s' i o
+Served respond s s' (Err Write) i o = (i.failed ≡ false) × AnswersSome respond s s' i o
