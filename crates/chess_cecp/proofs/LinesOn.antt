@@ -1,7 +1,7 @@
 -- Lines of bytes that go on, and the responses to lines that go on.
 use Rattle.std.proofs.Common.{◌≡◌, ◌≢◌, ℕ, ◌-◌, ◌≤◌, Bool, true, false, List, [], ◌∷◌, ◌++◌, length, drop, ◌==◌, refl, sym, ap, ◌∙◌, arith, subst}
 use Rattle.std.proofs.lemmas.List.{take-append-drop}
-use Rattle.text_lines.specs.Lines.{LineSeen, lines_from, stream_lines, complete_lines, line_of}
+use Rattle.text_lines.specs.Lines.{LineSeen, lines_from, stream_lines, line_of}
 use Rattle.text_lines.specs.Next.{before_piece}
 use Rattle.text_lines.proofs.shared.LineSteps.{none_from, ten_step, byte_step}
 use Rattle.chess_cecp.specs.Serving.{Response, Server, responses}
@@ -34,7 +34,7 @@ first_of_from n at_end part (c ∷ cs) b = at (c == 10) refl (first_of_from n at
     at false e h k = let other : c ≢ 10 = grind arith in
         moved _ _ _ _ (byte_step n false part c cs other) (byte_step n at_end part c (cs ++ b) other) k
 
-pub first_lines : (n : ℕ) (at_end : Bool) (a b : List ℕ) → GoesOn (complete_lines n a) (stream_lines n at_end (a ++ b))
+pub first_lines : (n : ℕ) (at_end : Bool) (a b : List ℕ) → GoesOn (stream_lines n false a) (stream_lines n at_end (a ++ b))
 first_lines n at_end a b = first_of_from n at_end [] a b
 
 -- ---- responses
@@ -79,9 +79,9 @@ shorter_first (x ∷ xs) ys (u ∷ us) vs e h =
 
 -- the lines that were complete before the last read are the first of those that were read
 pub early_first : (at_end : Bool) (n : ℕ) (text : List ℕ)
-    → GoesOn (complete_lines COMMAND_LEN (before_piece n text)) (stream_lines COMMAND_LEN at_end text)
+    → GoesOn (stream_lines COMMAND_LEN false (before_piece n text)) (stream_lines COMMAND_LEN at_end text)
 early_first at_end n text =
-    subst (λ v. GoesOn (complete_lines COMMAND_LEN (before_piece n text)) (stream_lines COMMAND_LEN at_end v))
+    subst (λ v. GoesOn (stream_lines COMMAND_LEN false (before_piece n text)) (stream_lines COMMAND_LEN at_end v))
     (take-append-drop (length text - n) text)
     (first_lines COMMAND_LEN at_end (before_piece n text) (drop (length text - n) text))
 
@@ -89,8 +89,8 @@ early_first at_end n text =
 pub early_goes_on : {S : Type 0} (respond : Server S) (s : S) (at_end : Bool) (n : ℕ) (text : List ℕ)
     (done : List LineSeen) (line : LineSeen) (after : List LineSeen)
     → stream_lines COMMAND_LEN at_end text ≡ done ++ line ∷ after → (responses respond s done).ends ≡ false
-    → length (complete_lines COMMAND_LEN (before_piece n text)) ≤ length done
-    → (responses respond s (complete_lines COMMAND_LEN (before_piece n text))).ends ≡ false
+    → length (stream_lines COMMAND_LEN false (before_piece n text)) ≤ length done
+    → (responses respond s (stream_lines COMMAND_LEN false (before_piece n text))).ends ≡ false
 early_goes_on respond s at_end n text done line after lines goes_on few =
     let first = early_first at_end n text in
     let within = shorter_first _ first.0 done (line ∷ after) (sym first.1 ∙ lines) few in

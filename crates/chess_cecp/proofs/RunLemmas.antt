@@ -9,7 +9,7 @@ use Rattle.byte_devices.specs.Devices.{InputState, OutputState, Sent, CutShort, 
 use Rattle.byte_devices.specs.Transfers.{FromInput, ToOutput, InputGave, OutputTook, Ran, BreaksOffIn, all_of, saturating_increment_if}
 use Rattle.byte_devices.proofs.shared.Devices.{consumes_more, consumes_none}
 use Rattle.byte_devices.proofs.shared.Transfers.{came, broke, took_nothing, took_all, took_more, took_some_more}
-use Rattle.text_lines.specs.Lines.{LineSeen, Held, nothing_held, stream_lines, lines_held, complete_lines}
+use Rattle.text_lines.specs.Lines.{LineSeen, Held, nothing_held, stream_lines, lines_held}
 use Rattle.text_lines.specs.Next.{before_piece, Waits, GotLine, GotLast, NextLine}
 use Rattle.text_lines.proofs.shared.Lines.{nothing_left}
 use Rattle.chess_cecp.specs.Serving.{Response, Server, responses}
@@ -33,14 +33,14 @@ pub record SoFar {S : Type 0} (respond : Server S) (r r' : InputState) (w w' : O
   pub goes_on : (responses respond s done).ends ≡ false
   pub lines : (reported : Bool) (rest : List ℕ)
       → stream_lines COMMAND_LEN reported (given ++ rest) ≡ done ++ lines_held COMMAND_LEN reported held rest
-  pub on_demand : length (complete_lines COMMAND_LEN (before_piece r'.last_len given)) ≤ length done
+  pub on_demand : length (stream_lines COMMAND_LEN false (before_piece r'.last_len given)) ≤ length done
   pub failures : r'.failure_count ≡ r.failure_count
   pub ends : r'.end_count ≡ r.end_count
 
 pub no_bytes : (n : ℕ) → before_piece n [] ≡ []
 no_bytes n = grind (arith, common_steps)
 
-pub nothing_whole : complete_lines COMMAND_LEN [] ≡ []
+pub nothing_whole : stream_lines COMMAND_LEN false [] ≡ []
 nothing_whole = nothing_left COMMAND_LEN false
 
 pub start : {S : Type 0} (respond : Server S) (r : InputState) (w : OutputState) (s : S)
@@ -51,8 +51,8 @@ start respond r w s = record {
   state = refl;
   goes_on = refl;
   lines = λ reported rest. refl;
-  on_demand = (let e : complete_lines COMMAND_LEN (before_piece r.last_len [])
-      ≡ [] = ap (complete_lines COMMAND_LEN) (no_bytes r.last_len) ∙ nothing_whole in omega (arith, ap length e));
+  on_demand = (let e : stream_lines COMMAND_LEN false (before_piece r.last_len [])
+      ≡ [] = ap (stream_lines COMMAND_LEN false) (no_bytes r.last_len) ∙ nothing_whole in omega (arith, ap length e));
   failures = refl;
   ends = refl;
 }
@@ -61,7 +61,7 @@ start respond r w s = record {
 waited : {S : Type 0} {respond : Server S} (r r' r'' : InputState) {w w' : OutputState} {s s' : S} (held : Held)
     (given more : List ℕ) (done : List LineSeen)
     → SoFar respond r r' w w' s s' held given done → Waits COMMAND_LEN r' r'' held more
-    → length (complete_lines COMMAND_LEN (before_piece r''.last_len (given ++ more))) ≤ length done
+    → length (stream_lines COMMAND_LEN false (before_piece r''.last_len (given ++ more))) ≤ length done
 waited r r' r'' held given more done f (inl (none, same)) =
     let e : before_piece r''.last_len (given ++ more) ≡ before_piece r'.last_len given =
     ap (λ v. before_piece r''.last_len (given ++ v)) none ∙ ap (before_piece r''.last_len) (append-nil given)
@@ -73,8 +73,8 @@ waited r r' r'' held given more done f (inr (few, none)) =
     ap (λ v. take v (given ++ more)) (let at : length (given ++ more) - r''.last_len ≡ length given
     + (length more - r''.last_len) = omega arith in at)
     ∙ take-append-add given more (length more - r''.last_len) in
-    let e : complete_lines COMMAND_LEN (before_piece r''.last_len (given ++ more)) ≡ done =
-    ap (complete_lines COMMAND_LEN) cut ∙ f.lines false (before_piece r''.last_len more) ∙ ap (λ v. done ++ v) none
+    let e : stream_lines COMMAND_LEN false (before_piece r''.last_len (given ++ more)) ≡ done =
+    ap (stream_lines COMMAND_LEN false) cut ∙ f.lines false (before_piece r''.last_len more) ∙ ap (λ v. done ++ v) none
     ∙ append-nil done in
     omega (arith, ap length e)
 
@@ -83,7 +83,7 @@ pub record Reached (r r' : InputState) (given : List ℕ) (reported : Bool) (don
     (after : List LineSeen) : Type 0 where
   pub bytes : Consumes r.known_bytes r'.known_bytes given
   pub lines : stream_lines COMMAND_LEN reported given ≡ done ++ line ∷ after
-  pub on_demand : length (complete_lines COMMAND_LEN (before_piece r'.last_len given)) ≤ length done
+  pub on_demand : length (stream_lines COMMAND_LEN false (before_piece r'.last_len given)) ≤ length done
   pub failures : r'.failure_count ≡ r.failure_count
   pub ends : r'.end_count ≡ saturating_increment_if reported r.end_count
   pub at_end : reported ≡ true → IsAtEnd r'.known_bytes
@@ -368,7 +368,7 @@ by_read {respond} e {r} {r'} {r''} {s} {s'} {given} {done} f (more, bytes, waits
   (
     (refl, refl),
     answers_all respond s s' _ false (came r'' (given ++ more) false true)
-        (done_answered respond s s' done (complete_lines COMMAND_LEN (given ++ more)) f.state f.goes_on
+        (done_answered respond s s' done (stream_lines COMMAND_LEN false (given ++ more)) f.state f.goes_on
         (f.lines false more ∙ ap (λ v. done ++ v) got.whole ∙ append-nil done)),
   ),
 )

@@ -1,8 +1,8 @@
 -- What a server of lines reads and writes, as a session does, for each of the four ways to end: by a line such as
 -- `quit`, by the input's end, by a read that failed, by a write or a flush that failed.
 use Rattle.std.specs.Prelude.{◌≡◌, ◌≤◌, ℕ, Bool, true, false, List, length, take, slice_get, Some, Result, Ok, Err}
-use Rattle.byte_devices.specs.Transfers.{FromInput, ToOutput, IsWhole, IsCutOff, NoReadFailed, all_of, BreaksOffIn}
-use Rattle.text_lines.specs.Lines.{LineSeen, stream_lines, complete_lines}
+use Rattle.byte_devices.specs.Transfers.{FromInput, ToOutput, IsWhole, IsCutOff, all_of, BreaksOffIn}
+use Rattle.text_lines.specs.Lines.{LineSeen, stream_lines}
 use Rattle.chess_cecp.specs.Serving.{Server, responses}
 use Rattle.chess_cecp.specs.declared.run.End.{End}
 use Rattle.chess_cecp.specs.declared.run.End.TheVariants.{Quit, InputEnded}
@@ -28,8 +28,8 @@ abbrev pub Served : {S : Type 0} → Server S → S → S → Result End Fault �
 -- no read failed, and the server answered all lines up to one with which it ends. It ends with none of the lines that
 -- were complete before the last successful read: once the line that ends it was complete, it read no more
 Served respond s s' (Ok Quit) i o =
-    NoReadFailed i × AnswersAll respond s s' true i o
-    × ((responses respond s (complete_lines COMMAND_LEN i.early)).ends ≡ false)
+    (i.failed ≡ false) × AnswersAll respond s s' true i o
+    × ((responses respond s (stream_lines COMMAND_LEN false i.early)).ends ≡ false)
 -- the input's end was reported, and no read failed; the server answered all lines, and ends with none of them
 Served respond s s' (Ok InputEnded) i o = IsWhole i × AnswersAll respond s s' false i o
 -- a read failed, and the input's end was not reported; the server answered all complete lines and ends with none
@@ -40,7 +40,7 @@ Served respond s s' (Err Read) i o = IsCutOff i × AnswersAll respond s s' false
 -- after `line`. The lines that were complete before the last successful read are at most `n`: once `line` was complete,
 -- no more was read before its answer
 Served respond s s' (Err Write) i o =
-    NoReadFailed i × ((n : ℕ) × (line : LineSeen) × (slice_get (lines_read i) n ≡ Some line)
-    × (length (complete_lines COMMAND_LEN i.early) ≤ n)
+    (i.failed ≡ false) × ((n : ℕ) × (line : LineSeen) × (slice_get (lines_read i) n ≡ Some line)
+    × (length (stream_lines COMMAND_LEN false i.early) ≤ n)
     × (let due = responses respond s (take n (lines_read i)) in let last = respond due.state line in
     (due.ends ≡ false) × BreaksOffIn due.text last.text o × (s' ≡ last.state)))

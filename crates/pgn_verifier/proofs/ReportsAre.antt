@@ -19,7 +19,7 @@ use Rattle.chess_pgn.proofs.shared.Tokens.{read_split, split_read}
 use Rattle.pgn_pieces.specs.Pieces.{Piece, pieces}
 use Rattle.pgn_pieces.specs.declared.pieces.TheConstants.{PIECE_LEN}
 use Rattle.pgn_verifier.specs.Collection.{AreCollectionReports}
-use Rattle.pgn_verifier.specs.Explanations.{IsReason, part_offset, explanation}
+use Rattle.pgn_verifier.specs.Explanations.{IsReason, wrong_part, explanation}
 use Rattle.pgn_verifier.specs.GameFaults.{judged, IsJudged}
 use Rattle.pgn_verifier.specs.ties.OnTheWay.{contradiction}
 use Rattle.pgn_verifier.specs.Reports.{Report, Game, Faulty, AreReports, none_left, next_game, last_fault, too_long_report, AreReportsIn}
@@ -64,21 +64,21 @@ ReportsBy strict start text s (Ok (Some end)) reports =
     × (reports ≡ Game (length s.moves) end.outcome end.termination ∷ more)
 ReportsBy strict start text s (Err fault) reports =
     reports ≡ Faulty (record fault { offset = start + fault.offset })
-    (start + fault.offset + part_offset fault.kind (drop fault.offset text))
+    (start + fault.offset + (wrong_part fault.kind (drop fault.offset text)).0)
     (explanation_of s (drop fault.offset text) fault.kind) ∷ []
 
 -- the report on a fault whose reason is given
 fault_report : (start : ℕ) (text : List ℕ) (fault : GameFault) (s : State) (reason : Option (List ℕ))
     → IsReason fault.kind (drop fault.offset text) (verdict_now s) reason
     → Faulty (record fault { offset = start + fault.offset })
-    (start + fault.offset + part_offset fault.kind (drop fault.offset text))
+    (start + fault.offset + (wrong_part fault.kind (drop fault.offset text)).0)
     (explanation s (drop fault.offset text) fault.kind reason) ∷ []
     ≡ Faulty (record fault { offset = start + fault.offset })
-    (start + fault.offset + part_offset fault.kind (drop fault.offset text))
+    (start + fault.offset + (wrong_part fault.kind (drop fault.offset text)).0)
     (explanation_of s (drop fault.offset text) fault.kind) ∷ []
 fault_report start text fault s reason h =
     ap (λ r. Faulty (record fault { offset = start + fault.offset })
-    (start + fault.offset + part_offset fault.kind (drop fault.offset text))
+    (start + fault.offset + (wrong_part fault.kind (drop fault.offset text)).0)
     (explanation s (drop fault.offset text) fault.kind r) ∷ [])
     (only_reason fault.kind (drop fault.offset text) (verdict_now s) reason h)
 
@@ -100,11 +100,11 @@ reports_at {strict} {start} {text} (last_fault {at} {s} {fault} reason j h) =
     let is = only_judged strict text at s (Err fault) j in
     subst (λ r. ReportsBy strict start text (read_at text at).state r
     (Faulty (record fault { offset = start + fault.offset })
-    (start + fault.offset + part_offset fault.kind (drop fault.offset text))
+    (start + fault.offset + (wrong_part fault.kind (drop fault.offset text)).0)
     (explanation s (drop fault.offset text) fault.kind reason) ∷ [])) is.1
     (fault_report start text fault s reason h
     ∙ ap (λ (g : State). Faulty (record fault { offset = start + fault.offset })
-    (start + fault.offset + part_offset fault.kind (drop fault.offset text))
+    (start + fault.offset + (wrong_part fault.kind (drop fault.offset text)).0)
     (explanation_of g (drop fault.offset text) fault.kind) ∷ []) is.0)
 
 one_list : {strict : Bool} {start : ℕ} {text : List ℕ} {at : ℕ} {reports : List Report}
@@ -123,7 +123,7 @@ one_list {strict} {start} {text} (last_fault {at} {s} {fault} reason j h) others
     let is = only_judged strict text at s (Err fault) j in
     subst (λ r. ReportsBy strict start text (read_at text at).state r others) (sym is.1) (reports_at k)
     ∙ ap (λ (g : State). Faulty (record fault { offset = start + fault.offset })
-    (start + fault.offset + part_offset fault.kind (drop fault.offset text))
+    (start + fault.offset + (wrong_part fault.kind (drop fault.offset text)).0)
     (explanation_of g (drop fault.offset text) fault.kind) ∷ []) (sym is.0)
     ∙ sym (fault_report start text fault s reason h)
 

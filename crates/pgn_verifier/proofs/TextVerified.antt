@@ -7,7 +7,7 @@ use Rattle.chess_pgn.specs.declared.read.PgnEnd.{PgnEnd}
 use Rattle.pgn_verifier.specs.declared.game_fault.GameFault.{GameFault}
 use Rattle.pgn_verifier.specs.declared.options.VerifyOptions.{VerifyOptions}
 use Rattle.pgn_verifier.specs.declared.tally.Tally.{Tally}
-use Rattle.pgn_verifier.specs.Explanations.{part_offset}
+use Rattle.pgn_verifier.specs.Explanations.{wrong_part}
 use Rattle.pgn_verifier.specs.Reports.{Report, Game, Faulty, written_line, report_lines}
 use Rattle.pgn_verifier.specs.laws.Reasons.{explanation_of}
 use Rattle.pgn_verifier.specs.laws.Reported.{read_at, judged_at, report_then, reports_from, reports_on}
@@ -123,7 +123,7 @@ module _ (options : VerifyOptions) (start : ℕ) (text : List ℕ) (before : Tal
   -- the report on a fault of the game `g`
   abbrev report : GameFault → State → Report
   report fault g = Faulty (moved start fault)
-      (start + fault.offset + part_offset fault.kind (drop fault.offset text))
+      (start + fault.offset + (wrong_part fault.kind (drop fault.offset text)).0)
       (explanation_of g (drop fault.offset text) fault.kind)
 
   pub fault_written : (E : Type 0) (input : List ℕ) (fault : GameFault) (g : State)

@@ -6,50 +6,42 @@ use Rattle.chess_base.specs.Letters.{byte, new_line}
 use Rattle.chess_fen.specs.Writing.{fen}
 use Rattle.chess_game.specs.Ends.{verdict_result, result_text}
 use Rattle.chess_game.specs.Game.{State, current}
-use Rattle.chess_game.specs.Results.{outcome_text}
+use Rattle.chess_game.specs.Results.{outcome_text, shown_byte}
 use Rattle.chess_game.specs.declared.verdicts.Verdict.{Verdict}
 use Rattle.chess_pgn.specs.Tokens.{is_white_space}
 use Rattle.chess_pgn.specs.declared.read.PgnFaultKind.TheVariants.{BadTag, BadFen, BadToken, AfterEnd}
 use Rattle.pgn_pieces.specs.Places.{line_of, column_of}
 use Rattle.pgn_verifier.specs.declared.game_fault.FaultKind.{FaultKind}
 use Rattle.pgn_verifier.specs.declared.game_fault.FaultKind.TheVariants.{Pgn, ResultDiffers, BoardSaysOtherwise}
-use Rattle.pgn_verifier.specs.WrongParts.{fen_text, from_field, field_at, field_number, IsTagReason, token_reason}
+use Rattle.pgn_verifier.specs.WrongParts.{from_field, field_at, field_number, IsTagReason, token_reason}
 
 -- ---- the text at a fault
 
--- a byte as an explanation shows it: a question mark in place of one that is no visible character (33 to 126)
-abbrev pub visible_byte : ℕ → ℕ
-visible_byte c = if nat_le 33 c && nat_le c 126 then c else byte "?"
-
 -- a word as an explanation shows it, byte by byte; `(end)` in place of an empty one, even if more text follows it
 abbrev pub shown_word : List ℕ → List ℕ
-shown_word word = if length word == 0 then codes "(end)" else map visible_byte word
+shown_word word = if length word == 0 then codes "(end)" else map shown_byte word
 
 -- what an explanation shows of a text: its first word (its bytes before the first white space), but at most 40 bytes;
 -- `(end)` if it is empty or begins with white space
 abbrev pub shown : List ℕ → List ℕ
 shown text = shown_word (take_while (λ c. not (is_white_space c)) (take 40 text))
 
--- ---- the part that is wrong; `text` is the text from the fault's byte on
+-- ---- the part that is wrong
 
--- how many bytes after the fault's byte the wrong part begins; `text` is the text from the fault's byte on. For a bad
--- FEN the wrong part is the field that is shown for its fault; for any other fault it begins at the fault's byte
-abbrev pub part_offset : FaultKind → List ℕ → ℕ
-part_offset (Pgn (BadFen fault)) text =
-    let all = fen_text text in length all - length (from_field (field_number fault all) all)
-part_offset _ text = 0
-
--- what an explanation shows of the wrong part; `text` is the text from the fault's byte on. For a bad FEN it is the
--- field that is shown for its fault, but at most 80 bytes of it; for any other fault the first word of `text`
-abbrev pub shown_part : FaultKind → List ℕ → List ℕ
-shown_part (Pgn (BadFen fault)) text =
-    let all = fen_text text in shown_word (take 80 (field_at (field_number fault all) all))
-shown_part _ text = shown text
+-- the part that is wrong: how many bytes after the fault's byte it begins, and what an explanation shows of it. `text`
+-- is the text from the fault's byte on
+abbrev pub wrong_part : FaultKind → List ℕ → ℕ × List ℕ
+-- of a bad FEN, which goes up to the next quote, it is the field that is shown for its fault, but at most 80 bytes of it
+wrong_part (Pgn (BadFen fault)) text =
+    let all = take_while (λ c. not (c == byte "\"")) text in let number = field_number fault all in
+    (length all - length (from_field number all), shown_word (take 80 (field_at number all)))
+-- of any other fault it is the first word from the fault's byte on
+wrong_part _ text = (0, shown text)
 
 -- ---- the reason
 
--- the reason for a fault, or `None` if none is given. `text` is the text from the fault's byte on, and `verdict` is the
--- board's where reading stopped
+-- `reason` is the reason for a fault, or `None` if none is given. `text` is the text from the fault's byte on, and
+-- `verdict` is the board's where reading stopped
 abbrev pub IsReason : FaultKind → List ℕ → Option Verdict → Option (List ℕ) → Type 0
 -- what a bad tag lacks, and what is wrong with a bad FEN or token
 IsReason (Pgn BadTag) text verdict reason = IsTagReason text reason
@@ -78,7 +70,7 @@ has_position _ = true
 -- is shown, the FEN of the position in which reading stopped, and the reason, such as `Ke3 | ` and a FEN. `s` is the
 -- game as far as it was read, and `text` is the text from the fault's byte on
 abbrev pub explanation : State → List ℕ → FaultKind → Option (List ℕ) → List ℕ
-explanation s text kind reason = shown_part kind text
+explanation s text kind reason = (wrong_part kind text).1
     ++ ((if has_position kind then codes " | " ++ fen (current s) else [])
     ++ option_map_or (λ text. codes " | " ++ text) reason [])
 

@@ -13,7 +13,7 @@ use Rattle.chess_pgn.specs.declared.termination.Termination.{Termination}
 use Rattle.chess_pgn.specs.Terminations.{termination_text}
 use Rattle.pgn_pieces.specs.Pieces.{Piece}
 use Rattle.pgn_pieces.specs.declared.pieces.TheConstants.{PIECE_LEN}
-use Rattle.pgn_verifier.specs.Explanations.{IsReason, shown, part_offset, explanation, explanation_line}
+use Rattle.pgn_verifier.specs.Explanations.{IsReason, shown, wrong_part, explanation, explanation_line}
 use Rattle.pgn_verifier.specs.GameFaults.{IsJudged, fault_name}
 use Rattle.pgn_verifier.specs.declared.game_fault.FaultKind.TheVariants.{Pgn}
 use Rattle.pgn_verifier.specs.declared.game_fault.GameFault.{GameFault}
@@ -50,7 +50,7 @@ pub data AreReports (strict : Bool) (start : ℕ) (text : List ℕ) : ℕ → Li
   last_fault : {at : ℕ} {s : State} {fault : GameFault} (reason : Option (List ℕ))
       → IsJudged strict text at s (Err fault) → IsReason fault.kind (drop fault.offset text) (verdict_now s) reason
       → AreReports strict start text at (Faulty (record fault { offset = start + fault.offset })
-      (start + fault.offset + part_offset fault.kind (drop fault.offset text))
+      (start + fault.offset + (wrong_part fault.kind (drop fault.offset text)).0)
       (explanation s (drop fault.offset text) fault.kind reason) ∷ [])
 
 -- ---- the reports on the games of pieces

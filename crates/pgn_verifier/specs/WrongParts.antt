@@ -11,10 +11,6 @@ use Rattle.chess_pgn.specs.Tokens.{is_word_byte}
 
 -- ---- the fields of a FEN
 
--- the FEN at a text's front: its bytes before the first quote
-abbrev pub fen_text : List ℕ → List ℕ
-fen_text text = take_while (λ c. not (c == byte "\"")) text
-
 -- a text without the bytes at its front that pass the test
 abbrev pub drop_while : (ℕ → Bool) → List ℕ → List ℕ
 drop_while test text = drop (prefix_len test text) text

@@ -10,7 +10,7 @@ ghost use Rattle.chess_game.specs.Ends.{verdict_result, result_text};
 ghost use Rattle.chess_game.specs.Game.{current, verdict_now};
 ghost use Rattle.chess_pgn.specs.declared.read.PgnFaultKind.TheVariants.{TooLong};
 ghost use Rattle.pgn_pieces.specs.Places.{ends_line, line_ends, line_of, column_of};
-ghost use Rattle.pgn_verifier.specs.Explanations.{part_offset, shown_part, has_position, explanation_line, shown};
+ghost use Rattle.pgn_verifier.specs.Explanations.{wrong_part, has_position, explanation_line, shown};
 ghost use Rattle.chess_game.specs.Results.{outcome_text};
 ghost use Rattle.pgn_verifier.specs.declared.game_fault.FaultKind.TheVariants.{Pgn};
 ghost use Rattle.pgn_verifier.specs.laws.Reasons.{reason, explanation_of};
@@ -79,7 +79,7 @@ fn column_after(before: &[u8]) -> usize
 // How many bytes after a fault's byte the part begins that is wrong: of a FEN the field that is shown for its fault,
 // otherwise the byte itself. `text` is the text from the byte on.
 fn part_offset(kind: FaultKind, text: &[u8]) -> usize
-    ensures value { result ≡ part_offset kind text.now }
+    ensures value { result ≡ (wrong_part kind text.now).0 }
     ensures within { result ≤ length text.now }
 {
     match kind {
@@ -90,7 +90,7 @@ fn part_offset(kind: FaultKind, text: &[u8]) -> usize
 
 // What is shown of the part that is wrong; `text` is the text from the fault's byte on.
 fn shown_part(kind: FaultKind, text: &[u8]) -> Shown
-    ensures { result.items ≡ shown_part kind text.now }
+    ensures { result.items ≡ (wrong_part kind text.now).1 }
 {
     match kind {
         FaultKind::Pgn(PgnFaultKind::BadFen(fault)) => {
@@ -252,7 +252,7 @@ pub(crate) fn fault_lines<B: Board>(
     ensures { (input : List ℕ) → StandsIf explain start input text.now
         → result.items ≡ fault_line number (moved start.offset fault)
         ++ (if explain then explanation_line input
-        (start.offset + fault.offset + part_offset fault.kind (drop fault.offset text.now))
+        (start.offset + fault.offset + (wrong_part fault.kind (drop fault.offset text.now)).0)
         (explanation_of game.now.state (drop fault.offset text.now) fault.kind) else []) }
 {
     let mut lines = fault_line(number, fault.moved(start.offset));

@@ -3,7 +3,7 @@
 ghost use Rattle.std.specs.Prelude.{◌≡◌, ◌≤◌, ◌-◌, not, take_while, drop, length, ◌==◌};
 ghost use Rattle.std.specs.List.{prefix_len};
 ghost use Rattle.chess_base.specs.Letters.{byte, space};
-ghost use Rattle.pgn_verifier.specs.WrongParts.{fen_text, drop_while, from_field, field_at, field_number};
+ghost use Rattle.pgn_verifier.specs.WrongParts.{drop_while, from_field, field_at, field_number};
 
 use chess_base::FenFault;
 use text_lines::short_number;
@@ -93,7 +93,7 @@ fn field_number(fault: FenFault, fen: &[u8]) -> usize
 
 /// The FEN at a text's front: its bytes before the first quote.
 pub(crate) fn fen_text(text: &[u8]) -> &[u8]
-    ensures value { result.now ≡ fen_text text.now }
+    ensures value { result.now ≡ take_while (λ c. not (c == byte "\"")) text.now }
     ensures shorter { length result.now ≤ length text.now }
 {
     &text[..fen_len(text)]

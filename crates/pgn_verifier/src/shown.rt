@@ -5,7 +5,8 @@ ghost use Rattle.std.specs.List.{prefix_len};
 ghost use Rattle.arrayvec.specs.ArrayVec.{array_vec_len};
 ghost use Rattle.chess_pgn.specs.Tokens.{is_white_space};
 ghost use Rattle.pgn_verifier.specs.declared.shown.TheConstants.{FIELD_LEN};
-ghost use Rattle.pgn_verifier.specs.Explanations.{visible_byte, shown_word, shown};
+ghost use Rattle.pgn_verifier.specs.Explanations.{shown_word, shown};
+ghost use Rattle.chess_game.specs.Results.{shown_byte};
 
 use arrayvec::ArrayVec;
 use chess_pgn::token_parts::is_white_space;
@@ -46,27 +47,28 @@ fn first_word(text: &[u8]) -> &[u8]
     &text[..word_len(text)]
 }
 
-// A byte as it is shown: `?` in place of one that is no visible character.
-fn visible_byte(byte: u8) -> u8
-    ensures { result ≡ visible_byte byte }
+// A byte as it is shown: `?` in place of one that is no printable ASCII. No space is shown, since none is in a word or
+// in a FEN's field.
+fn shown_byte(byte: u8) -> u8
+    ensures { result ≡ shown_byte byte }
 {
-    if byte.is_ascii_graphic() { byte } else { b'?' }
+    if byte < 32 || byte > 126 { b'?' } else { byte }
 }
 
 // The bytes of a word as they are shown.
 fn shown_bytes(word: &[u8]) -> Shown
     requires { length word.now ≤ FIELD_LEN }
-    ensures text { result.items ≡ map visible_byte word.now }
+    ensures text { result.items ≡ map shown_byte word.now }
     ensures len { array_vec_len result ≡ length word.now }
 {
     let mut shown = Shown::new();
     for byte in word {
-        shown.push(visible_byte(*byte));
+        shown.push(shown_byte(*byte));
     }
     shown
 }
 
-// A word as it is shown: bytes outside 33 to 126 are `?`, and an empty word is `(end)`.
+// A word as it is shown: bytes outside 32 to 126 are `?`, and an empty word is `(end)`.
 fn shown_word(word: &[u8]) -> Shown
     requires { length word.now ≤ FIELD_LEN }
     ensures text { result.items ≡ shown_word word.now }

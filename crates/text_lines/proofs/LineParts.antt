@@ -1,8 +1,9 @@
 -- What has come of a line.
 use Rattle.std.proofs.Common.{◌≡◌, ℕ, ◌+◌, ◌-◌, ◌<◌, ◌≤◌, ◌==◌, ◌&&◌, nat_lt, nat_eq, min, ◌≢◌, Bool, true, false, List, [], ◌∷◌, ◌++◌, length, take, drop, get_or, refl, sym, ap, ◌∙◌, arith, append_assoc, append-nil, length-append, if◌then◌else◌}
 use Rattle.std.specs.List.{list_all, onto_first}
+use Rattle.std.specs.Prelude.{reverse}
 use Rattle.std.proofs.lemmas.List.Splits.{slice_split-cons_yes, slice_split-cons_no, length-slice_split}
-use Rattle.std.proofs.lemmas.List.{take-take, take-append-le, take-append-drop, take_min, take_all, length-take, length-take-le}
+use Rattle.std.proofs.lemmas.List.{take-take, take-append-le, take-append-drop, take_min, take_all, length-take, length-take-le, length-reverse}
 use Rattle.std.proofs.Math.Nat.{min-le_right}
 use Rattle.std.proofs.lemmas.Grind.{common_steps}
 use Rattle.std.proofs.lemmas.Bool.Decides.{nat_tests}
@@ -210,8 +211,10 @@ line_put n e bytes kept text long short front whole = at (nat_lt n (length bytes
         ∙ sym (line_short n e bytes fits)
 
 pub without_end_blanks-short : (xs : List ℕ) → length (without_end_blanks xs) ≤ length xs
-without_end_blanks-short [] = omega arith
-without_end_blanks-short (c ∷ cs) = let on = without_end_blanks-short cs in grind (arith, on)
+without_end_blanks-short xs =
+    let a = length-reverse (without_front_blanks (reverse xs)) in
+    let b = without_front_blanks-short (reverse xs) in
+    let d = length-reverse xs in omega (arith, a, b, d)
 
 pub without_return-short : (xs : List ℕ) → length (without_return xs) ≤ length xs
 without_return-short xs = let l = length-take (length xs - 1) xs in grind (arith, l)

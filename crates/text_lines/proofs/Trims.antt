@@ -1,25 +1,19 @@
 -- Spaces, tabs and a byte 13 at the ends of a list.
-use mathlib.Core.Bool.{and-false}
 use Rattle.std.proofs.Common.{◌≡◌, ℕ, ◌+◌, ◌-◌, ◌<◌, ◌≤◌, true, false, List, [], ◌∷◌, ◌++◌, length, get_or, take, refl, sym, ap, ◌∙◌, ◌==◌, ◌≢◌, arith}
-use Rattle.std.specs.List.{list_all}
-use Rattle.std.proofs.lemmas.List.{take_more}
-use Rattle.text_lines.specs.Lines.{is_blank, without_end_blanks, without_return}
-
-all_with : (xs : List ℕ) (b : ℕ) → is_blank b ≡ true → list_all is_blank (xs ++ b ∷ []) ≡ list_all is_blank xs
-all_with [] b h = rw h refl
-all_with (c ∷ cs) b h = rw (all_with cs b h) refl
-
-all_without : (xs : List ℕ) (b : ℕ) → is_blank b ≡ false → list_all is_blank (xs ++ b ∷ []) ≡ false
-all_without [] b h = rw h refl
-all_without (c ∷ cs) b h = rw (all_without cs b h) (and-false (is_blank c))
+use Rattle.std.specs.Prelude.{if◌then◌else◌, reverse}
+use Rattle.std.proofs.lemmas.List.{take_more, reverse-append, reverse-reverse}
+use Rattle.text_lines.specs.Lines.{is_blank, without_front_blanks, without_end_blanks, without_return}
 
 pub end_blank : (xs : List ℕ) (b : ℕ) → is_blank b ≡ true → without_end_blanks (xs ++ b ∷ []) ≡ without_end_blanks xs
-end_blank [] b h = rw h refl
-end_blank (c ∷ cs) b h = rw (all_with cs b h, end_blank cs b h) refl
+end_blank xs b h =
+    ap (λ ys. reverse (without_front_blanks ys)) (reverse-append xs (b ∷ []))
+    ∙ ap (λ t. reverse (if t then without_front_blanks (reverse xs) else b ∷ reverse xs)) h
 
 pub end_solid : (xs : List ℕ) (b : ℕ) → is_blank b ≡ false → without_end_blanks (xs ++ b ∷ []) ≡ xs ++ b ∷ []
-end_solid [] b h = rw h refl
-end_solid (c ∷ cs) b h = rw (all_without cs b h, and-false (is_blank c), end_solid cs b h) refl
+end_solid xs b h =
+    ap (λ ys. reverse (without_front_blanks ys)) (reverse-append xs (b ∷ []))
+    ∙ ap (λ t. reverse (if t then without_front_blanks (reverse xs) else b ∷ reverse xs)) h
+    ∙ reverse-append (b ∷ []) (reverse xs) ∙ ap (λ ys. ys ++ b ∷ []) (reverse-reverse xs)
 
 -- a list by its last element
 last_of : (xs : List ℕ) (i : ℕ) → 0 < i → i ≤ length xs → take i xs ≡ take (i - 1) xs ++ get_or xs (i - 1) 0 ∷ []

@@ -10,7 +10,7 @@ use Rattle.chess_pgn.specs.Tokens.{after_byte_order_mark, tokens_from}
 use Rattle.chess_pgn.specs.declared.read.PgnEnd.{PgnEnd}
 use Rattle.pgn_pieces.specs.Pieces.{Piece, pieces}
 use Rattle.pgn_pieces.specs.declared.pieces.TheConstants.{PIECE_LEN}
-use Rattle.pgn_verifier.specs.Explanations.{part_offset}
+use Rattle.pgn_verifier.specs.Explanations.{wrong_part}
 use Rattle.pgn_verifier.specs.GameFaults.{judged}
 use Rattle.pgn_verifier.specs.Reports.{Report, Game, Faulty, too_long_report}
 use Rattle.pgn_verifier.specs.declared.game_fault.GameFault.{GameFault}
@@ -36,7 +36,7 @@ report_then start text (Ok (Some end)) s later =
     Game (length s.moves) end.outcome end.termination ∷ later end.offset
 report_then start text (Err fault) s later =
     Faulty (record fault { offset = start + fault.offset })
-    (start + fault.offset + part_offset fault.kind (drop fault.offset text))
+    (start + fault.offset + (wrong_part fault.kind (drop fault.offset text)).0)
     (explanation_of s (drop fault.offset text) fault.kind) ∷ []
 
 -- the reports on at most n games (the third argument) of a text from its offset `at` on, up to its first fault. The

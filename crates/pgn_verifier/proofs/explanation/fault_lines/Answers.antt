@@ -3,7 +3,7 @@ use Rattle.std.proofs.Common.{◌≡◌, ◌≤◌, ◌+◌, ◌-◌, ◌++◌, 
 use Rattle.std.specs.Prelude.{if◌then◌else◌}
 use Rattle.std.proofs.Math.Path.{ap₂}
 use Rattle.pgn_pieces.specs.Places.{line_of, column_of}
-use Rattle.pgn_verifier.specs.Explanations.{part_offset, explanation_line}
+use Rattle.pgn_verifier.specs.Explanations.{wrong_part, explanation_line}
 use Rattle.pgn_verifier.specs.laws.Reasons.{explanation_of}
 use Rattle.pgn_verifier.specs.ties.OnTheWay.{moved, fault_line}
 use Rattle.pgn_verifier.proofs.Placed.{line_there, column_there, rest_is}
@@ -25,16 +25,16 @@ returns-then-explain g c input stands =
     let short = length-drop at text in
     let known = c.requires.within in
     let within : at + c.part_offset.result ≤ length text = omega (arith, few, short, known) in
-    let is : c.part_offset.result ≡ part_offset kind (take (length text - at) rest) = c.part_offset.ensures.value in
+    let is : c.part_offset.result ≡ (wrong_part kind (take (length text - at) rest)).0 = c.part_offset.ensures.value in
     let place : start.offset + (at + c.part_offset.result)
-    ≡ start.offset + at + part_offset kind (take (length text - at) rest) = omega (arith, is) in
+    ≡ start.offset + at + (wrong_part kind (take (length text - at) rest)).0 = omega (arith, is) in
     let line = c.line_after-line.ensures ∙ sym (line_there start input text (at + c.part_offset.result) within here)
     ∙ ap (line_of input) place in
     let column = c.column_after-column.ensures
     ∙ sym (column_there start input text (at + c.part_offset.result) within here) ∙ ap (column_of input) place in
-    c.append_explanation.ensures input (start.offset + at + part_offset kind (take (length text - at) rest)) line column
-    ∙ ap₂ (λ xs t. xs ++ explanation_line input (start.offset + at + part_offset kind t) (explanation_of s t kind)) first
+    c.append_explanation.ensures input (start.offset + at + (wrong_part kind (take (length text - at) rest)).0) line column
+    ∙ ap₂ (λ xs t. xs ++ explanation_line input (start.offset + at + (wrong_part kind t).0) (explanation_of s t kind)) first
     (rest_is at text)
-    ∙ sym (ap (λ b. own ++ (if b then explanation_line input (start.offset + at + part_offset kind rest)
+    ∙ sym (ap (λ b. own ++ (if b then explanation_line input (start.offset + at + (wrong_part kind rest).0)
     (explanation_of s rest kind) else []))
     c.if-explain.true)

@@ -5,7 +5,7 @@ use Rattle.std.specs.Prelude.{if◌then◌else◌}
 use Rattle.byte_devices.specs.Devices.{Took, CutShort}
 use Rattle.byte_devices.specs.declared.traits.WriteFault.{WriteFault}
 use Rattle.pgn_verifier.specs.declared.tally.Tally.{Tally}
-use Rattle.pgn_verifier.specs.Explanations.{part_offset, explanation_line}
+use Rattle.pgn_verifier.specs.Explanations.{wrong_part, explanation_line}
 use Rattle.pgn_verifier.specs.Reports.{Game}
 use Rattle.pgn_verifier.specs.laws.Reasons.{explanation_of}
 use Rattle.pgn_verifier.specs.laws.Reported.{reports_on}
@@ -97,7 +97,7 @@ returns-in-Err-clause-written g c input stands =
     let fault = c.in-Err.fault in
     let s = c.judge_game.new.game.state in
     let more = if c.args.options.explain then explanation_line input
-    (start + fault.offset + part_offset fault.kind (drop fault.offset text)) (explanation_of s (drop fault.offset text) fault.kind) else [] in
+    (start + fault.offset + (wrong_part fault.kind (drop fault.offset text)).0) (explanation_of s (drop fault.offset text) fault.kind) else [] in
     let lines = c.as_slice.ensures.value ∙ c.fault_lines-lines.ensures input stands
     ∙ ap (λ n. fault_line n (moved start fault) ++ more) c.next_number-number.ensures in
     subst (λ (t : Tally). Writes {E = WriteFault} c.args.options input c.args.before w w'' (Ok t)
@@ -116,7 +116,7 @@ returns-in_err-put-in-Err-clause-written g c input stands =
     let fault = c.in-Err.fault in
     let s = c.judge_game.new.game.state in
     let more = if c.args.options.explain then explanation_line input
-    (start + fault.offset + part_offset fault.kind (drop fault.offset text)) (explanation_of s (drop fault.offset text) fault.kind) else [] in
+    (start + fault.offset + (wrong_part fault.kind (drop fault.offset text)).0) (explanation_of s (drop fault.offset text) fault.kind) else [] in
     let lines = c.as_slice.ensures.value ∙ c.fault_lines-lines.ensures input stands
     ∙ ap (λ n. fault_line n (moved start fault) ++ more) c.next_number-number.ensures in
     let p = err_from_is_err_and c.from_residual-in_err-put-in-Err.result c.from_residual-in_err-put-in-Err.ensures.1 in

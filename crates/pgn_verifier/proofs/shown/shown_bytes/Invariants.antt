@@ -1,9 +1,9 @@
 use Rattle.std.proofs.Common.{◌≡◌, length, map, take}
-use Rattle.pgn_verifier.specs.Explanations.{visible_byte}
+use Rattle.chess_game.specs.Results.{shown_byte}
 use Rattle.pgn_verifier.proofs.shown.shown_bytes.Given as goal
 
 abbrev pub invariant-loop-byte : goal.invariant-loop-byte
 invariant-loop-byte l = record {
-  text : l.shown.items ≡ map visible_byte (take l.byte-index l.word);
+  text : l.shown.items ≡ map shown_byte (take l.byte-index l.word);
   len : length l.shown.items ≡ l.byte-index;
 }
