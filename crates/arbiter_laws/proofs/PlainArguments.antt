@@ -15,7 +15,8 @@ use Rattle.byte_devices.specs.Transfers.{Devices, InputGave, Ran, nothing}
 use Rattle.byte_devices.proofs.shared.Transfers.{came, took_nothing}
 use Rattle.byte_devices.proofs.shared.Devices.{consumes_none}
 use Rattle.arbiter_laws.specs.Programs.{PlainArgumentsAreFollowed, ServesSession, VerifiesGames}
-use Rattle.chess_arbiter.specs.Program.{World, Does, RunsSession, VerifiesInput, options_of}
+use Rattle.chess_arbiter.specs.Program.{Does, options_of}
+use Rattle.match_runner.specs.Log.{LogSeen}
 use Rattle.pgn_verifier.specs.Verify.{Verifies}
 use Rattle.pgn_verifier.specs.declared.options.VerifyOptions.{VerifyOptions}
 use Rattle.pgn_verifier.specs.declared.fault.VerifyFault.TheVariants as verifying
@@ -25,7 +26,7 @@ shorter xs ys lt e = let same : length xs ≡ length ys = ap length e in absurd 
 
 -- what was read is what was done
 pub as_followed : PlainArgumentsAreRead → PlainArgumentsAreFollowed
-as_followed law line d d' status plain (read, is, ran) = (read, law line read plain is, ran)
+as_followed law line d d' l l' status plain (read, is, ran) = (read, law line read plain is, ran)
 
 -- a plan that was read of arguments that ask for that command
 read_argument : PlansAreNamed → (arguments : List Text) (name : Text) (plan : Plan) → AskFor arguments name
@@ -83,39 +84,39 @@ not_begun options d d' same kept =
     ) in
     subst (λ (v : Devices). Ran (Verifies options (Err verifying.NoMemory)) d v) (sym (both_same d d' same kept)) here
 
-session_or_want : (fault : WordsFault) (d d' : World) (status : ℕ)
-    → IsWant fault → Does (Err fault) d d' status → RunsSession d.devices d'.devices status
-session_or_want faults.NoMemory d d' status want (same, (kept, is)) =
-    inr (both_same d.devices d'.devices same kept, is)
-session_or_want (faults.Words e) d d' status want ran = absurd want
-session_or_want faults.BadLevel d d' status want ran = absurd want
-session_or_want (faults.BadFen f) d d' status want ran = absurd want
-session_or_want faults.BadDate d d' status want ran = absurd want
+session_or_want : (fault : WordsFault) (d d' : Devices) (l l' : LogSeen) (status : ℕ)
+    → IsWant fault → Does (Err fault) d d' l l' status → Does (Ok Session) d d' l l' status
+session_or_want faults.NoMemory d d' l l' status want (same, (kept, is)) =
+    inr (both_same d d' same kept, is)
+session_or_want (faults.Words e) d d' l l' status want ran = absurd want
+session_or_want faults.BadLevel d d' l l' status want ran = absurd want
+session_or_want (faults.BadFen f) d d' l l' status want ran = absurd want
+session_or_want faults.BadDate d d' l l' status want ran = absurd want
 
-verify_or_want : (fault : WordsFault) (d d' : World) (status : ℕ)
-    → IsWant fault → Does (Err fault) d d' status → VerifiesInput bare_plan d.devices d'.devices status
-verify_or_want faults.NoMemory d d' status want (same, (kept, is)) =
-    (Err verifying.NoMemory, not_begun (options_of bare_plan) d.devices d'.devices same kept, is)
-verify_or_want (faults.Words e) d d' status want ran = absurd want
-verify_or_want faults.BadLevel d d' status want ran = absurd want
-verify_or_want (faults.BadFen f) d d' status want ran = absurd want
-verify_or_want faults.BadDate d d' status want ran = absurd want
+verify_or_want : (fault : WordsFault) (d d' : Devices) (l l' : LogSeen) (status : ℕ)
+    → IsWant fault → Does (Err fault) d d' l l' status → Does (Ok (Verify bare_plan)) d d' l l' status
+verify_or_want faults.NoMemory d d' l l' status want (same, (kept, is)) =
+    (Err verifying.NoMemory, is, not_begun (options_of bare_plan) d d' same kept)
+verify_or_want (faults.Words e) d d' l l' status want ran = absurd want
+verify_or_want faults.BadLevel d d' l l' status want ran = absurd want
+verify_or_want (faults.BadFen f) d d' l l' status want ran = absurd want
+verify_or_want faults.BadDate d d' l l' status want ran = absurd want
 
 serves : PlansAreNamed → (arguments : List Text) → AskFor arguments (codes "session") → (read : Result Plan WordsFault)
     → IsReading arguments read
-    → (d d' : World) (status : ℕ) → Does read d d' status
-    → RunsSession d.devices d'.devices status
-serves named ws a (Ok Session) is d d' status ran = ran
-serves named ws a (Ok (Verify v)) is d d' status ran =
+    → (d d' : Devices) (l l' : LogSeen) (status : ℕ) → Does read d d' l l' status
+    → Does (Ok Session) d d' l l' status
+serves named ws a (Ok Session) is d d' l l' status ran = ran
+serves named ws a (Ok (Verify v)) is d d' l l' status ran =
     absurd (shorter (codes "verify") (codes "session") (lit< tt)
     (sym (read_argument named ws (codes "session") (Verify v) a is)))
-serves named ws a (Ok (Stub s)) is d d' status ran =
+serves named ws a (Ok (Stub s)) is d d' l l' status ran =
     absurd (shorter (codes "stub") (codes "session") (lit< tt)
     (sym (read_argument named ws (codes "session") (Stub s) a is)))
-serves named ws a (Ok (Match m)) is d d' status ran =
+serves named ws a (Ok (Match m)) is d d' l l' status ran =
     absurd (no_match_by_session (read_argument named ws (codes "session") (Match m) a is))
-serves named ws a (Err fault) is d d' status ran =
-    session_or_want fault d d' status (refused_argument ws (codes "session") fault a no_match_by_session is)
+serves named ws a (Err fault) is d d' l l' status ran =
+    session_or_want fault d d' l l' status (refused_argument ws (codes "session") fault a no_match_by_session is)
     ran
 
 -- `verify` alone sets none of its flags
@@ -125,26 +126,26 @@ without_flags denoted ws v bare (names, are, (none, is)) = denoted (said_by (ask
 
 verifies : PlansAreNamed → VerifyIsAsAsked → (arguments : List Text) → AskFor arguments (codes "verify")
     → VerifyAsBare arguments → (read : Result Plan WordsFault) → IsReading arguments read
-    → (d d' : World) (status : ℕ) → Does read d d' status
-    → VerifiesInput bare_plan d.devices d'.devices status
-verifies named denoted ws a bare (Ok Session) is d d' status ran =
+    → (d d' : Devices) (l l' : LogSeen) (status : ℕ) → Does read d d' l l' status
+    → Does (Ok (Verify bare_plan)) d d' l l' status
+verifies named denoted ws a bare (Ok Session) is d d' l l' status ran =
     absurd (shorter (codes "verify") (codes "session") (lit< tt) (read_argument named ws (codes "verify") Session a is))
-verifies named denoted ws a bare (Ok (Verify v)) is d d' status ran =
-    subst (λ (plan : VerifyPlan). VerifiesInput plan d.devices d'.devices status)
+verifies named denoted ws a bare (Ok (Verify v)) is d d' l l' status ran =
+    subst (λ (plan : VerifyPlan). Does (Ok (Verify plan)) d d' l l' status)
     (without_flags denoted ws v bare is) ran
-verifies named denoted ws a bare (Ok (Stub s)) is d d' status ran =
+verifies named denoted ws a bare (Ok (Stub s)) is d d' l l' status ran =
     absurd (shorter (codes "stub") (codes "verify") (lit< tt)
     (sym (read_argument named ws (codes "verify") (Stub s) a is)))
-verifies named denoted ws a bare (Ok (Match m)) is d d' status ran =
+verifies named denoted ws a bare (Ok (Match m)) is d d' l l' status ran =
     absurd (no_match_by_verify (read_argument named ws (codes "verify") (Match m) a is))
-verifies named denoted ws a bare (Err fault) is d d' status ran =
-    verify_or_want fault d d' status (refused_argument ws (codes "verify") fault a no_match_by_verify is) ran
+verifies named denoted ws a bare (Err fault) is d d' l l' status ran =
+    verify_or_want fault d d' l l' status (refused_argument ws (codes "verify") fault a no_match_by_verify is) ran
 
 pub serves_session : PlansAreNamed → (arguments : List Text) → AskFor arguments (codes "session")
     → ServesSession arguments
-serves_session named ws a d d' status (read, is, ran) = serves named ws a read is d d' status ran
+serves_session named ws a d d' l l' status (read, is, ran) = serves named ws a read is d d' l l' status ran
 
 pub verifies_games : PlansAreNamed → VerifyIsAsAsked → (arguments : List Text) → AskFor arguments (codes "verify")
     → VerifyAsBare arguments → VerifiesGames arguments
-verifies_games named denoted ws a bare d d' status (read, is, ran) =
-    verifies named denoted ws a bare read is d d' status ran
+verifies_games named denoted ws a bare d d' l l' status (read, is, ran) =
+    verifies named denoted ws a bare read is d d' l l' status ran

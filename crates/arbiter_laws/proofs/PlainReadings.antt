@@ -21,7 +21,7 @@ use Rattle.chess_base.specs.declared.man.Variant.TheVariants.{Normal, Fischerand
 use Rattle.arbiter_cli.specs.Plans.{IsMatchPlan, IsReadAs, Said, Values, is_date, is_set, level_start_and_date, said_by, start_asked, text_or, variant_in, verify_plan_of}
 use Rattle.arbiter_cli.specs.declared.plan.Plan.{Plan}
 use Rattle.arbiter_cli.specs.declared.plan.Plan.TheVariants.{Session, Verify, Stub, Match}
-use Rattle.arbiter_cli.specs.declared.plan.MatchPlan.{MatchPlan}
+use Rattle.match_runner.specs.declared.plan.GamesPlan.{GamesPlan}
 use Rattle.arbiter_cli.specs.declared.plan.VerifyPlan.{VerifyPlan}
 use Rattle.arbiter_cli.specs.declared.fault.WordsFault.{WordsFault}
 use Rattle.arbiter_cli.specs.declared.fault.WordsFault.TheVariants.{Words, NoMemory, BadLevel, BadFen, BadDate}
@@ -117,7 +117,7 @@ same_start v w a =
     (ap₂ start_by variant a.fen)
     (ap (λ (o : Option Text). unwrap_or o (codes "????.??.??")) a.date) refl
 
-same_match : (v w : Values) → Agrees v w → (plan : MatchPlan) → IsMatchPlan v plan → IsMatchPlan w plan
+same_match : (v w : Values) → Agrees v w → (plan : GamesPlan) → IsMatchPlan v plan → IsMatchPlan w plan
 same_match v w a plan is = record {
   white = sym a.white ∙ is.white;
   black = sym a.black ∙ is.black;

@@ -1,5 +1,5 @@
 -- What arguments do that ask for no plan.
-use Rattle.std.proofs.Common.{◌≡◌, ◌≢◌, ◌∙◌, ◌⊎◌, ℕ, List, [], ◌∷◌, Ok, Err, refl, sym, subst, inl, inr}
+use Rattle.std.proofs.Common.{◌≡◌, ◌≢◌, ◌∙◌, ◌⊎◌, ℕ, List, [], ◌∷◌, Ok, Err, sym, subst, inl, inr}
 use Rattle.clap.specs.Words.{IsAmong, Kinds, Text, kind_of}
 use Rattle.clap.specs.declared.error.kind.ErrorKind.{ErrorKind}
 use Rattle.clap.specs.declared.error.kind.ErrorKind.TheVariants.{DisplayHelp, DisplayVersion}
@@ -10,7 +10,7 @@ use Rattle.arbiter_cli.specs.declared.fault.WordsFault.TheVariants as faults
 use Rattle.arbiter_cli.specs.declared.plan.Plan.{Plan}
 use Rattle.byte_devices.specs.Devices.{OutputState}
 use Rattle.arbiter_laws.specs.Programs.{RefusesArguments, ShowsHelp}
-use Rattle.chess_arbiter.specs.Program.{WritesHelp, ReportsKind, ReportsArguments}
+use Rattle.chess_arbiter.specs.Program.{WritesHelp, ReportsArguments}
 use Rattle.arbiter_laws.proofs.PlainArguments.{both_same}
 
 no_fault : (k : ErrorKind) (kinds : Kinds) → kinds ≡ [] → kinds ≡ k ∷ [] → ⊥
@@ -42,12 +42,18 @@ no_plan ws k plan one (names, are, (none, is)) = no_fault k _ none (one names)
 
 -- ---- help and the version
 
+-- a kind that is that of help or of the version is none of the others
+is_shown : (k x : ErrorKind) → (k ≡ DisplayHelp) ⊎ (k ≡ DisplayVersion) → x ≡ k → x ≢ DisplayHelp → x ≢ DisplayVersion
+    → ⊥
+is_shown k x (inl help) is no_help no_version = no_help (is ∙ help)
+is_shown k x (inr version) is no_help no_version = no_version (is ∙ version)
+
 shown : (k : ErrorKind) (fault : WordsFault) (w w' : OutputState) (status : ℕ)
     → (k ≡ DisplayHelp) ⊎ (k ≡ DisplayVersion) → IsRefusal k fault → ReportsArguments fault w w' status
     → WritesHelp w w' status
-shown k (faults.Words e) w w' status (inl help) is reported = subst (λ x. ReportsKind x w w' status) (is ∙ help) reported
-shown k (faults.Words e) w w' status (inr version) is reported =
-    subst (λ x. ReportsKind x w w' status) (is ∙ version) reported
+shown k (faults.Words e) w w' status help is (inl (asked, writes)) = writes
+shown k (faults.Words e) w w' status help is (inr (no_help, no_version, same, ends)) =
+    absurd (is_shown k (kind_of e) help is no_help no_version)
 shown k faults.NoMemory w w' status help is (same, ends) = inr (same, ends)
 shown k faults.BadLevel w w' status help is reported = absurd is
 shown k (faults.BadFen f) w w' status help is reported = absurd is
@@ -55,23 +61,22 @@ shown k faults.BadDate w w' status help is reported = absurd is
 
 pub shows_help : (ws : List Text) (k : ErrorKind) → (k ≡ DisplayHelp) ⊎ (k ≡ DisplayVersion) → AreRefused ws (k ∷ [])
     → ShowsHelp ws
-shows_help ws k help one d d' status (Ok plan, is, ran) = absurd (no_plan ws k plan one is)
-shows_help ws k help one d d' status (Err fault, is, (same, reported)) =
-    (same, shown k fault d.devices.output d'.devices.output status help (refusal ws k fault one is) reported)
+shows_help ws k help one d d' l l' status (Ok plan, is, ran) = absurd (no_plan ws k plan one is)
+shows_help ws k help one d d' l l' status (Err fault, is, (same, reported)) =
+    (same, shown k fault d.output d'.output status help (refusal ws k fault one is) reported)
 
 -- ---- other kinds
 
-only_status : (k : ErrorKind) (w w' : OutputState) (status : ℕ) → k ≢ DisplayHelp → k ≢ DisplayVersion
-    → ReportsKind k w w' status → (w' ≡ w) × (status ≡ 2)
-only_status DisplayHelp w w' status help version reported = absurd (help refl)
-only_status DisplayVersion w w' status help version reported = absurd (version refl)
-only_status _ w w' status help version reported = reported
+no_help_asked : {A : Type 0} (x : ErrorKind) → (x ≡ DisplayHelp) ⊎ (x ≡ DisplayVersion) → x ≢ DisplayHelp
+    → x ≢ DisplayVersion → A
+no_help_asked x (inl asked) help version = absurd (help asked)
+no_help_asked x (inr asked) help version = absurd (version asked)
 
 refused : (k : ErrorKind) (fault : WordsFault) (w w' : OutputState) (status : ℕ) → k ≢ DisplayHelp → k ≢ DisplayVersion
     → IsRefusal k fault → ReportsArguments fault w w' status → (w' ≡ w) × ((status ≡ 2) ⊎ (status ≡ 1))
-refused k (faults.Words e) w w' status help version is reported =
-    let t = only_status (kind_of e) w w' status (λ x. help (sym is ∙ x)) (λ x. version (sym is ∙ x)) reported in
-    (t.0, inl t.1)
+refused k (faults.Words e) w w' status help version is (inl (asked, writes)) =
+    no_help_asked (kind_of e) asked (λ x. help (sym is ∙ x)) (λ x. version (sym is ∙ x))
+refused k (faults.Words e) w w' status help version is (inr (no_help, no_version, same, ends)) = (same, inl ends)
 refused k faults.NoMemory w w' status help version is (same, ends) = (same, inr ends)
 refused k faults.BadLevel w w' status help version is reported = absurd is
 refused k (faults.BadFen f) w w' status help version is reported = absurd is
@@ -79,8 +84,8 @@ refused k faults.BadDate w w' status help version is reported = absurd is
 
 pub refuses_arguments : (ws : List Text) (k : ErrorKind) → k ≢ DisplayHelp → k ≢ DisplayVersion → AreRefused ws (k ∷ [])
     → RefusesArguments ws
-refuses_arguments ws k help version one d d' status (Ok plan, is, ran) = absurd (no_plan ws k plan one is)
-refuses_arguments ws k help version one d d' status (Err fault, is, (same, reported)) =
-    let t = refused k fault d.devices.output d'.devices.output status help version (refusal ws k fault one is)
+refuses_arguments ws k help version one d d' l l' status (Ok plan, is, ran) = absurd (no_plan ws k plan one is)
+refuses_arguments ws k help version one d d' l l' status (Err fault, is, (same, reported)) =
+    let t = refused k fault d.output d'.output status help version (refusal ws k fault one is)
     reported in
-    (both_same d.devices d'.devices same t.0, t.1)
+    (both_same d d' same t.0, t.1)
