@@ -1,7 +1,7 @@
 -- What a server of lines reads and writes, as a session does, for each of the four ways to end: by a line such as
 -- `quit`, by the input's end, by a read that failed, by a write or a flush that failed.
 use Rattle.std.specs.Prelude.{◌≡◌, ◌≤◌, Bool, true, false, List, ◌∷◌, ◌++◌, length, Result, Ok, Err}
-use Rattle.byte_devices.specs.Transfers.{FromInput, ToOutput, IsWhole, IsCutOff, NoReadFailed, all_of, BreaksOffIn}
+use Rattle.byte_devices.specs.Transfers.{FromInput, ToOutput, IsWhole, all_of, BreaksOffIn}
 use Rattle.text_lines.specs.Lines.{LineSeen, stream_lines, complete_lines}
 use Rattle.chess_cecp.specs.Serving.{Server, responses}
 use Rattle.chess_cecp.specs.declared.run.End.{End}
@@ -46,10 +46,10 @@ abbrev pub Served : {S : Type 0} → Server S → S → S → Result End Fault �
 -- no read failed, and the server answered all lines up to one with which it ends. It ends with none of the lines that
 -- were complete before the last read: once the line that ends it was complete, it read no more
 Served respond s s' (Ok Quit) i o =
-    NoReadFailed i × AnswersAll respond s s' true i o × ((responses respond s (early_lines i)).ends ≡ false)
+    (i.failed ≡ false) × AnswersAll respond s s' true i o × ((responses respond s (early_lines i)).ends ≡ false)
 -- the input's end was reported, and no read failed; the server answered all lines, and ends with none of them
 Served respond s s' (Ok InputEnded) i o = IsWhole i × AnswersAll respond s s' false i o
 -- a read failed, and the input's end was not reported; the server answered all complete lines and ends with none
-Served respond s s' (Err Read) i o = IsCutOff i × AnswersAll respond s s' false i o
+Served respond s s' (Err Read) i o = (i.ended ≡ false) × (i.failed ≡ true) × AnswersAll respond s s' false i o
 -- a write or a flush failed in the answer to a line (`AnswersSome`); no read failed
-Served respond s s' (Err Write) i o = NoReadFailed i × AnswersSome respond s s' i o
+Served respond s s' (Err Write) i o = (i.failed ≡ false) × AnswersSome respond s s' i o

@@ -2,7 +2,7 @@
 -- text of its own; a piece that is too long is a fault. Nothing here depends on how the input is cut into reads.
 use Rattle.std.specs.Prelude.{◌≡◌, ◌≤◌, ◌^◌, ℕ, ◌+◌, Bool, true, false, if◌then◌else◌, List, [], ◌++◌, length, Result, Ok, Err}
 use Rattle.std.specs.List.{flat_map}
-use Rattle.byte_devices.specs.Transfers.{FromInput, ToOutput, IsWhole, IsCutOff, NoReadFailed, all_of, all_unflushed, BreaksOffIn}
+use Rattle.byte_devices.specs.Transfers.{FromInput, ToOutput, IsWhole, all_of, BreaksOffIn}
 use Rattle.pgn_pieces.specs.Pieces.{Piece, pieces}
 use Rattle.pgn_verifier.specs.declared.fault.VerifyFault.{VerifyFault}
 use Rattle.pgn_verifier.specs.declared.fault.VerifyFault.TheVariants.{ReadFailed, WriteFailed, NoMemory, InputTooLong}
@@ -31,7 +31,7 @@ collection_text options ended text reports =
 abbrev pub WritesPart : VerifyOptions → FromInput → ToOutput → Type 0
 WritesPart options i o = (i.ended ≡ false)
     × ((reports : List Report) × AreCollectionReports options.strict false i.text reports
-    × (o ≡ all_unflushed (collection_text options false i.text reports)))
+    × (o ≡ record { flushed = []; left = collection_text options false i.text reports; failed = false }))
 
 -- what verifying a collection reads (`i`) and writes (`o`), by its result. Of the `options`, with `strict` an outcome
 -- mark, such as `1-0`, that contradicts the tag Result or the board's verdict is a fault; with `quiet` only faults have
@@ -44,14 +44,14 @@ VerifiesCollection options (Ok summary) i o = IsWhole i
     × (o ≡ all_of (collection_text options true i.text reports)) × (summary ≡ verified (counts_of reports)))
 -- no read failed, whether the input's end was reported or not; of the lines for what was read (see `collection_text`) a
 -- beginning (it may be empty, or all of them) was written, nothing was flushed, and then a write or the flush failed
-VerifiesCollection options (Err WriteFailed) i o = NoReadFailed i
+VerifiesCollection options (Err WriteFailed) i o = (i.failed ≡ false)
     × ((reports : List Report) × AreCollectionReports options.strict i.ended i.text reports
     × BreaksOffIn [] (collection_text options i.ended i.text reports) o)
 -- a read failed before the input's end was reported, and what was written is as `WritesPart` says
-VerifiesCollection options (Err ReadFailed) i o = IsCutOff i × WritesPart options i o
+VerifiesCollection options (Err ReadFailed) i o = (i.ended ≡ false) × (i.failed ≡ true) × WritesPart options i o
 -- memory ran out before the input's end was reported; no read failed, and what was written is as `WritesPart` says
-VerifiesCollection options (Err NoMemory) i o = NoReadFailed i × WritesPart options i o
+VerifiesCollection options (Err NoMemory) i o = (i.failed ≡ false) × WritesPart options i o
 -- at least 2^63 - 2^16 bytes were read, without the input's end; no read failed, and what was written is as
 -- `WritesPart` says
 VerifiesCollection options (Err InputTooLong) i o =
-    NoReadFailed i × (2 ^ 63 ≤ length i.text + 2 ^ 16) × WritesPart options i o
+    (i.failed ≡ false) × (2 ^ 63 ≤ length i.text + 2 ^ 16) × WritesPart options i o
