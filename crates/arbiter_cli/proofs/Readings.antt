@@ -4,7 +4,7 @@ use Rattle.clap.specs.Words.{HasKind, IsAmong, Kinds, Row, Text, found_of, kind_
 use Rattle.clap.specs.declared.error.Error.{Error}
 use Rattle.clap.specs.declared.parser.matches.ArgMatches.{ArgMatches}
 use Rattle.arbiter_grammar.specs.Grammar.{AreVariants, IsComplete, IsParsed, VariantNames, arbiter_app, asked, faults_in}
-use Rattle.arbiter_cli.specs.Plans.{IsMatchPlan, IsPlanOf, IsReadAs, IsReading, Said, Values, is_date, level_start_and_date, said_by, start_asked, text_or}
+use Rattle.arbiter_cli.specs.Plans.{IsMatchPlan, IsPlanOf, IsReadAs, IsReading, Said, Values, is_date, level_start_and_date, said_by, start_asked}
 use Rattle.arbiter_cli.specs.ties.Requests.{IsJudged, IsJudgedFault, IsMatchOf, IsPlanFault, IsPlanned, IsRequestOf, Refuses, start_of}
 use Rattle.cecp_engine.specs.Levels.{level_of}
 use Rattle.match_runner.specs.declared.plan.GamesPlan.{GamesPlan}
@@ -45,7 +45,7 @@ refused_reading texts e f p fits =
 
 -- a match that was taken as written and then judged is played by what its options denote
 module _ (value : Values) (m : MatchRequest) (is : IsMatchOf value m) where
-  level_is : level_of (text_or (codes "level") value (codes "40 5 0")) ≡ level_of m.level.now
+  level_is : level_of (unwrap_or (value (codes "level")) (codes "40 5 0")) ≡ level_of m.level.now
   level_is = ap level_of (sym is.level)
 
   start_is : start_asked value ≡ start_of m.variant (option_map (λ t. t.now) m.fen)

@@ -35,18 +35,15 @@ pub record Said : Type 0 where
   pub value : Values
   pub replies : List Text
 
--- the value that the option `name` was given, otherwise `default`
-abbrev pub text_or : Text → Values → Text → Text
-text_or name value default = unwrap_or (value name) default
-
 -- the variant that `--variant` asks for: Chess960 for `fischerandom`, normal chess for any other name or none
 abbrev pub variant_in : Values → Variant
 variant_in value =
-    if bytes_eq (text_or (codes "variant") value (codes "normal")) (codes "fischerandom") then Fischerandom else Normal
+    if bytes_eq (unwrap_or (value (codes "variant")) (codes "normal")) (codes "fischerandom") then Fischerandom
+    else Normal
 
 -- whether the flag with this name, such as `quiet` for `--quiet`, was given
 abbrev pub is_set : Text → Values → Bool
-is_set name value = bytes_eq (text_or name value (codes "false")) (codes "true")
+is_set name value = bytes_eq (unwrap_or (value name) (codes "false")) (codes "true")
 
 -- what the flags of `verify` ask for
 abbrev pub verify_plan_of : Values → VerifyPlan
@@ -74,8 +71,8 @@ is_date text = nat_le (length text) 60 && list_all (λ b. nat_le 32 b && nat_le 
 -- date is invalid, the fault of the first that is. Without `--level` the time control is `40 5 0`, 40 moves in 5
 -- minutes without an increment; without `--date` the date is `????.??.??`
 abbrev pub level_start_and_date : Values → Result (LevelSeen × Setup × Text) WordsFault
-level_start_and_date value = let date = text_or (codes "date") value (codes "????.??.??") in do
-  level ← ok_or (level_of (text_or (codes "level") value (codes "40 5 0"))) BadLevel
+level_start_and_date value = let date = unwrap_or (value (codes "date")) (codes "????.??.??") in do
+  level ← ok_or (level_of (unwrap_or (value (codes "level")) (codes "40 5 0"))) BadLevel
   start ← result_map_both (λ setup. setup) BadFen (start_asked value)
   if is_date date then Ok (level, start, date) else Err BadDate
 
@@ -115,8 +112,9 @@ IsReadAs kinds said (Err f) = (kinds ≡ []) × (said.command ≡ codes "match")
 -- ---- by the grammar
 
 -- what arguments say; `p` is the subcommand's name and its options as `clap` matched them. The value of an option is
--- the first that was matched for its name; a flag has `true` if it was given, otherwise `false`. `words` is the name by
--- which `clap` knows the arguments after `stub`; without these, as for any other subcommand, `replies` is `[]`
+-- the first that was matched for its name; a flag of the subcommand has `true` if it was given, otherwise `false`.
+-- `words` is the name by which `clap` knows the arguments after `stub`; without these, as for any other subcommand,
+-- `replies` is `[]`
 abbrev pub said_by : Text × List Row → Said
 said_by p =
     record { command = p.0; value = λ name. first_of name p.1; replies = unwrap_or (all_of (codes "words") p.1) [] }

@@ -3,7 +3,7 @@
 ghost use Rattle.std.specs.Prelude.{◌≡◌, ◌≤◌, [], IfOk, IfSome, IsSome, true, codes, is_some, map, option_map, unwrap_or};
 ghost use Rattle.clap.specs.Words.{all_of, first_of, found_of, rows_of, subcommand_rows_of};
 ghost use Rattle.arbiter_grammar.specs.Grammar.{HasGames, IsCommand, NamesBoth};
-ghost use Rattle.arbiter_cli.specs.Plans.{is_set, said_by, text_or, variant_in, verify_plan_of};
+ghost use Rattle.arbiter_cli.specs.Plans.{is_set, said_by, variant_in, verify_plan_of};
 ghost use Rattle.arbiter_cli.specs.ties.Requests.{IsMatchOf, IsRequestOf, games_in, matched};
 
 use crate::plan::VerifyPlan;
@@ -35,7 +35,7 @@ pub(crate) enum Request<'a> {
 
 // The value that the option `name` was given, otherwise its default; `found` are the options as matched.
 fn text_or<'a>(found: &ArgMatches<'a>, name: &str, default: &'a str) -> &'a str
-    ensures { result.now ≡ text_or name.now (matched (rows_of (found_of found.now))) default.entry.now }
+    ensures { result.now ≡ unwrap_or (first_of name.now (rows_of (found_of found.now))) default.entry.now }
 {
     match found.get_str(name) {
         Some(text) => text,

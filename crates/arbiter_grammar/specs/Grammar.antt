@@ -42,8 +42,7 @@ match_app names = fold with_rule (new_app (codes "match")) (
 -- the subcommand `verify` with its flags `--keep-going`, `--quiet`, `--strict` and `--explain`
 abbrev pub verify_app : App
 verify_app = fold with_rule (new_app (codes "verify"))
-    (flag_rule (codes "keep-going") ∷ flag_rule (codes "quiet") ∷ flag_rule (codes "strict")
-    ∷ flag_rule (codes "explain") ∷ [])
+    (map flag_rule (codes "keep-going" ∷ codes "quiet" ∷ codes "strict" ∷ codes "explain" ∷ []))
 
 -- the subcommand `stub`, which takes any number of positional arguments; `clap` knows them by the name `words`
 abbrev pub stub_app : App

@@ -18,7 +18,7 @@ use Rattle.chess_base.specs.declared.setup.Setup.{Setup}
 use Rattle.chess_base.specs.Initial.{initial_setup_of}
 use Rattle.chess_fen.specs.Reading.{fen_reading_as}
 use Rattle.chess_base.specs.declared.man.Variant.TheVariants.{Normal, Fischerandom}
-use Rattle.arbiter_cli.specs.Plans.{IsMatchPlan, IsReadAs, Said, Values, is_date, is_set, level_start_and_date, said_by, start_asked, text_or, variant_in, verify_plan_of}
+use Rattle.arbiter_cli.specs.Plans.{IsMatchPlan, IsReadAs, Said, Values, is_date, is_set, level_start_and_date, said_by, start_asked, variant_in, verify_plan_of}
 use Rattle.arbiter_cli.specs.declared.plan.Plan.{Plan}
 use Rattle.arbiter_cli.specs.declared.plan.Plan.TheVariants.{Session, Verify, Stub, Match}
 use Rattle.match_runner.specs.declared.plan.GamesPlan.{GamesPlan}
@@ -111,7 +111,7 @@ same_start : (v w : Values) → Agrees v w → level_start_and_date v ≡ level_
 same_start v w a =
     let variant : variant_in v ≡ variant_in w = ap (λ (o : Option Text).
     if bytes_eq (unwrap_or o (codes "normal")) (codes "fischerandom") then Fischerandom else Normal) a.variant in
-    read_as v (level_of (text_or (codes "level") w (codes "40 5 0"))) (start_asked w) (date_asked w)
+    read_as v (level_of (unwrap_or (w (codes "level")) (codes "40 5 0"))) (start_asked w) (date_asked w)
     (is_date (date_asked w))
     (ap (λ (o : Option Text). level_of (unwrap_or o (codes "40 5 0"))) a.level)
     (ap₂ start_by variant a.fen)

@@ -30,10 +30,6 @@ pub record Devices : Type 0 where
   pub input : InputState
   pub output : OutputState
 
--- the count `n`, such as of a device's failures; or, if `rises` is true, one more, but at most 2 ^ 64 - 1
-abbrev pub saturating_increment_if : Bool → ℕ → ℕ
-saturating_increment_if rises n = if rises then saturating_increment n else n
-
 -- from its state `r` to `r'` the input gave just what `i` says
 pub record InputGave (r r' : InputState) (i : FromInput) : Type 0 where
   -- if the bytes to come are known in `r`: they are `i.text` and then those to come in `r'`, which are known, too
@@ -43,9 +39,9 @@ pub record InputGave (r r' : InputState) (i : FromInput) : Type 0 where
   -- if the end was reported, no known byte is left
   pub at_end : i.ended ≡ true → IsAtEnd r'.known_bytes
   -- if the end was reported, one more report of it was counted; otherwise the count stayed
-  pub ends : r'.end_count ≡ saturating_increment_if i.ended r.end_count
+  pub ends : r'.end_count ≡ (if i.ended then saturating_increment r.end_count else r.end_count)
   -- if a read failed, one more failure was counted; otherwise the count stayed
-  pub failures : r'.failure_count ≡ saturating_increment_if i.failed r.failure_count
+  pub failures : r'.failure_count ≡ (if i.failed then saturating_increment r.failure_count else r.failure_count)
 
 -- from its state `w` to `w'` the output took just what `o` says
 pub record OutputTook (w w' : OutputState) (o : ToOutput) : Type 0 where
@@ -54,7 +50,7 @@ pub record OutputTook (w w' : OutputState) (o : ToOutput) : Type 0 where
   -- if no byte is unflushed in `w`, as many are in `w'` as `o.left` has (the count stops at 2 ^ 64 - 1)
   pub unflushed : w.unflushed ≡ 0 → w'.unflushed ≡ min (length o.left) (2 ^ 64 - 1)
   -- if a write or a flush failed, one more failure was counted; otherwise the count stayed
-  pub failures : w'.failure_count ≡ saturating_increment_if o.failed w.failure_count
+  pub failures : w'.failure_count ≡ (if o.failed then saturating_increment w.failure_count else w.failure_count)
 
 -- there are an `i` and an `o` for which `P i o` holds, and from the devices' states `d` to `d'` the input gave just
 -- what `i` says and the output took just what `o` says. Contracts of runs have this form: `P` is what they say of a run
@@ -67,14 +63,6 @@ Ran P d d' = (i : FromInput) × (o : ToOutput) × InputGave d.input d'.input i �
 abbrev pub IsWhole : FromInput → Type 0
 IsWhole i = (i.ended ≡ true) × (i.failed ≡ false)
 
--- a read failed, and the input's end was not reported
-abbrev pub IsCutOff : FromInput → Type 0
-IsCutOff i = (i.ended ≡ false) × (i.failed ≡ true)
-
--- no read failed, whether the input's end was reported or not
-abbrev pub NoReadFailed : FromInput → Type 0
-NoReadFailed i = i.failed ≡ false
-
 -- ---- what went to an output
 
 -- what went to an output: all of this text was written and flushed, and nothing failed
@@ -84,10 +72,6 @@ all_of text = record { flushed = text; left = []; failed = false }
 -- what went to an output: all of this text was written, none of it was flushed, and nothing failed
 abbrev pub all_unflushed : List ℕ → ToOutput
 all_unflushed text = record { flushed = []; left = text; failed = false }
-
--- what went to an output: nothing was written, and nothing failed
-abbrev pub nothing : ToOutput
-nothing = all_of []
 
 -- `o` is what went to an output: all of `before` was written and flushed; then a beginning of `text`, maybe nothing or
 -- all of it, was written and not flushed; and then a write or a flush failed

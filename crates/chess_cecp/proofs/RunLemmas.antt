@@ -6,9 +6,9 @@ use Rattle.std.specs.Io.KnownBytes.{Consumes, IsAtEnd}
 use Rattle.std.specs.Bool.{MatchBool}
 use Rattle.std.proofs.lemmas.Grind.{common_steps}
 use Rattle.byte_devices.specs.Devices.{InputState, OutputState, Sent, CutShort, saturating_increment}
-use Rattle.byte_devices.specs.Transfers.{FromInput, ToOutput, InputGave, OutputTook, Ran, BreaksOffIn, all_of, saturating_increment_if}
+use Rattle.byte_devices.specs.Transfers.{FromInput, ToOutput, InputGave, OutputTook, Ran, BreaksOffIn, all_of}
 use Rattle.byte_devices.proofs.shared.Devices.{consumes_more, consumes_none}
-use Rattle.byte_devices.proofs.shared.Transfers.{came, broke, took_nothing, took_all, took_more, took_some_more}
+use Rattle.byte_devices.proofs.shared.Transfers.{saturating_increment_if, came, broke, took_nothing, took_all, took_more, took_some_more}
 use Rattle.text_lines.specs.Lines.{LineSeen, Held, nothing_held, stream_lines, lines_held}
 use Rattle.text_lines.specs.Next.{before_piece, Waits, GotLine, GotLast, NextLine}
 use Rattle.text_lines.proofs.shared.Lines.{nothing_left}
@@ -366,7 +366,8 @@ by_read {respond} e {r} {r'} {r''} {s} {s'} {given} {done} f (more, bytes, waits
   },
   f.took,
   (
-    (refl, refl),
+    refl,
+    refl,
     answers_all respond s s' _ false (came r'' (given ++ more) false true)
         (done_answered respond s s' done (stream_lines COMMAND_LEN false (given ++ more)) f.state f.goes_on
         (f.lines false more ∙ ap (λ v. done ++ v) got.whole ∙ append-nil done)),

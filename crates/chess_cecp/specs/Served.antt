@@ -1,7 +1,7 @@
 -- What a server of lines reads and writes, as a session does, for each of the four ways to end: by a line such as
 -- `quit`, by the input's end, by a read that failed, by a write or a flush that failed.
 use Rattle.std.specs.Prelude.{◌≡◌, ◌≤◌, ℕ, Bool, true, false, List, length, take, slice_get, Some, Result, Ok, Err}
-use Rattle.byte_devices.specs.Transfers.{FromInput, ToOutput, IsWhole, IsCutOff, all_of, BreaksOffIn}
+use Rattle.byte_devices.specs.Transfers.{FromInput, ToOutput, IsWhole, all_of, BreaksOffIn}
 use Rattle.text_lines.specs.Lines.{LineSeen, stream_lines}
 use Rattle.chess_cecp.specs.Serving.{Server, responses}
 use Rattle.chess_cecp.specs.declared.run.End.{End}
@@ -33,7 +33,7 @@ Served respond s s' (Ok Quit) i o =
 -- the input's end was reported, and no read failed; the server answered all lines, and ends with none of them
 Served respond s s' (Ok InputEnded) i o = IsWhole i × AnswersAll respond s s' false i o
 -- a read failed, and the input's end was not reported; the server answered all complete lines and ends with none
-Served respond s s' (Err Read) i o = IsCutOff i × AnswersAll respond s s' false i o
+Served respond s s' (Err Read) i o = (i.ended ≡ false) × (i.failed ≡ true) × AnswersAll respond s s' false i o
 -- no read failed, but a write or a flush did, in the answer to `line`, before which `n` lines were read. With none of
 -- these the server ends, and their answers were written and flushed. Of the answer to `line` a beginning was written
 -- and not flushed; it may be empty or the whole answer. Lines after `line` were not answered, and `s'` is the state

@@ -7,7 +7,8 @@ use Rattle.std.specs.Io.KnownBytes.{Consumes}
 use Rattle.std.proofs.lemmas.List.{append_cancel_right}
 use Rattle.chess_base.specs.declared.man.Colour.{Colour}
 use Rattle.byte_devices.specs.Devices.{OutputState, saturating_increment}
-use Rattle.byte_devices.specs.Transfers.{FromInput, ToOutput, OutputTook, saturating_increment_if}
+use Rattle.byte_devices.specs.Transfers.{FromInput, ToOutput, OutputTook}
+use Rattle.byte_devices.proofs.shared.Transfers.{saturating_increment_if}
 use Rattle.chess_match.specs.Acts.{Act, Sends, SendFails, Happens}
 use Rattle.chess_match.specs.Events.{Line, Opened, OutputEnds, FailsToRead, FailsToWrite}
 use Rattle.chess_match.specs.ByDevice.{broken_blocks, has_ended, has_failed_read, lines_sent, moments_shown}

@@ -8,8 +8,8 @@ use Rattle.chess_base.specs.Men.{same_colour}
 use Rattle.byte_devices.specs.Devices.{InputState, saturating_increment}
 use Rattle.text_lines.specs.Lines.{LineSeen, Held, nothing_held, stream_lines, lines_held}
 use Rattle.text_lines.specs.Next.{GotLine, GotLast, GotNone, GotFault}
-use Rattle.byte_devices.specs.Transfers.{FromInput, InputGave, saturating_increment_if}
-use Rattle.byte_devices.proofs.shared.Transfers.{came}
+use Rattle.byte_devices.specs.Transfers.{FromInput, InputGave}
+use Rattle.byte_devices.proofs.shared.Transfers.{came, saturating_increment_if}
 use Rattle.chess_match.specs.Acts.{Act, Sends, SendFails, Happens}
 use Rattle.chess_match.specs.Events.{Line, Opened, OutputEnds, FailsToRead, FailsToWrite}
 use Rattle.chess_match.specs.ByDevice.{has_ended, has_failed_read, lines_read}

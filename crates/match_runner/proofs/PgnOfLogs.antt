@@ -110,8 +110,8 @@ logs_give_the_pgn plan number one two h k plain plain' same =
     let a : AreAlike reason reason' H K final final' =
     logs_give_the_game (rules plan) first reason reason' H K final final' p.is_match q.is_match
     p.over q.over shown shown'
-    (ap (λ (l : List Note). log_from first 0 l) p.notes ∙ same ∙ sym (ap (λ (l : List Note). log_from first 0 l) q.notes))
-    in (
+    (ap (λ (l : List Note). log_from first 0 l) p.notes ∙ same
+    ∙ sym (ap (λ (l : List Note). log_from first 0 l) q.notes)) in (
       text_is plan number one.end.white_name two.end.white_name one.end.black_name two.end.black_name one.end.ended
           two.end.ended one.after.game.state two.after.game.state
           (p.white ∙ ap named (a.items White) ∙ sym q.white) (p.black ∙ ap named (a.items Black) ∙ sym q.black)

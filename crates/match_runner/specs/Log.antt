@@ -15,10 +15,10 @@ use Rattle.match_runner.specs.declared.log.Log.{Log}
 -- ---- one line
 
 -- a line of a log as it is written, such as `312 <first : move e2e4`, with `\n` at its end: a moment, which is a
--- reading of the clock in milliseconds or 0 if it was not yet read; a mark; the engine; and a text. The mark is the byte
--- `<` if the engine sent the text; `>` if it was sent the text, even if sending it failed; `!` if the text says what
--- happened. The engine is the one that has the side `side`. The log calls it `first :` if it is that of `--white`, which
--- has the side `first`, and otherwise `second:`. In the text, `?` stands for each byte that is no printable ASCII
+-- reading of the clock in milliseconds, or 0 if it was not yet read; a mark; the engine; and a text. The mark is the
+-- byte `<` if the engine sent the text; `>` if it was sent the text, even if sending it failed; `!` if the text says
+-- what happened. The engine has the side `side`. It is called `first` if it is that of `--white`, which has the side
+-- given as `first`, and otherwise `second`. In the text, `?` stands for each byte that is no printable ASCII
 abbrev pub log_line : Colour → ℕ → ℕ → Colour → List ℕ → List ℕ
 log_line first moment mark side text =
     decimal moment ++ (byte " " ∷ mark ∷ []) ++ (if same_colour side first then codes "first : " else codes "second: ")

@@ -2,7 +2,7 @@
 -- text of its own; a piece that is too long is a fault. Nothing here depends on how the input is cut into reads.
 use Rattle.std.specs.Prelude.{◌≡◌, ◌≤◌, ◌^◌, ℕ, ◌+◌, Bool, true, false, if◌then◌else◌, List, [], ◌++◌, length, Result, Ok, Err}
 use Rattle.std.specs.List.{flat_map}
-use Rattle.byte_devices.specs.Transfers.{FromInput, ToOutput, IsWhole, IsCutOff, all_of, all_unflushed, BreaksOffIn}
+use Rattle.byte_devices.specs.Transfers.{FromInput, ToOutput, IsWhole, all_of, all_unflushed, BreaksOffIn}
 use Rattle.pgn_pieces.specs.Pieces.{Piece, pieces}
 use Rattle.pgn_verifier.specs.declared.fault.VerifyFault.{VerifyFault}
 use Rattle.pgn_verifier.specs.declared.fault.VerifyFault.TheVariants.{ReadFailed, WriteFailed, NoMemory, InputTooLong}
@@ -29,7 +29,7 @@ CollectionEnds text verdict (Ok summary) i o = IsWhole i × (o ≡ all_of text) 
 CollectionEnds text verdict (Err WriteFailed) i o = (i.failed ≡ false) × BreaksOffIn [] text o
 -- a read failed before the input's end was reported. Here and below, all of `text` was written, nothing was flushed, and
 -- no write or flush failed
-CollectionEnds text verdict (Err ReadFailed) i o = IsCutOff i × (o ≡ all_unflushed text)
+CollectionEnds text verdict (Err ReadFailed) i o = (i.ended ≡ false) × (i.failed ≡ true) × (o ≡ all_unflushed text)
 -- memory ran out before the input's end was reported; no read failed
 CollectionEnds text verdict (Err NoMemory) i o = (i.ended ≡ false) × (i.failed ≡ false) × (o ≡ all_unflushed text)
 -- at least 2^63 - 2^16 bytes were read, without the input's end; no read failed

@@ -1,6 +1,6 @@
 -- What verifying a text as a whole reads and writes.
 use Rattle.std.specs.Prelude.{◌≡◌, ◌≤◌, ◌<◌, true, false, List, [], length, Result, Ok, Err}
-use Rattle.byte_devices.specs.Transfers.{FromInput, ToOutput, IsWhole, IsCutOff, all_of, BreaksOffIn}
+use Rattle.byte_devices.specs.Transfers.{FromInput, ToOutput, IsWhole, all_of, BreaksOffIn}
 use Rattle.pgn_pieces.specs.declared.pieces.TheConstants.{PIECE_LEN}
 use Rattle.pgn_verifier.specs.declared.fault.VerifyFault.{VerifyFault}
 use Rattle.pgn_verifier.specs.declared.fault.VerifyFault.TheVariants.{ReadFailed, WriteFailed, NoMemory, InputTooLong}
@@ -25,10 +25,11 @@ Verifies options (Err WriteFailed) i o = IsWhole i × (length i.text ≤ PIECE_L
     × ((reports : List Report) × AreReports options.strict 0 i.text 0 reports
     × BreaksOffIn [] (report_lines options i.text 1 reports) o)
 -- a read failed before the input's end, and nothing was written
-Verifies options (Err ReadFailed) i o = IsCutOff i × (o ≡ all_of [])
+Verifies options (Err ReadFailed) i o = (i.ended ≡ false) × (i.failed ≡ true) × (o ≡ all_of [])
 -- memory ran out before the input's end, or at the end of an input of at most `PIECE_LEN` bytes; no read failed, and
 -- nothing was written
-Verifies options (Err NoMemory) i o = (i.failed ≡ false) × (i.ended ≡ true → length i.text ≤ PIECE_LEN) × (o ≡ all_of [])
+Verifies options (Err NoMemory) i o =
+    (i.failed ≡ false) × (i.ended ≡ true → length i.text ≤ PIECE_LEN) × (o ≡ all_of [])
 -- more than `PIECE_LEN` bytes were read, and the input's end was not reported; no read failed, and nothing was written
 Verifies options (Err InputTooLong) i o =
     (i.failed ≡ false) × (i.ended ≡ false) × (PIECE_LEN < length i.text) × (o ≡ all_of [])

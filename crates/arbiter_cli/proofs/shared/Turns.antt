@@ -1,13 +1,13 @@
 -- A match's level, start and date are read in turn.
 use Rattle.std.proofs.Common.{◌≡◌, ◌∙◌, Bool, ap, codes, Option, Result, Ok, Err}
-use Rattle.std.specs.Prelude.{if◌then◌else◌, ok_or}
+use Rattle.std.specs.Prelude.{if◌then◌else◌, ok_or, unwrap_or}
 use Rattle.std.specs.Result.{result_map_both}
 use Rattle.chess_base.specs.declared.fen_fault.FenFault.{FenFault}
 use Rattle.chess_base.specs.declared.setup.Setup.{Setup}
 use Rattle.chess_fen.specs.Reading.{◌>>=◌}
 use Rattle.clap.specs.Words.{Text}
 use Rattle.cecp_engine.specs.Levels.{LevelSeen, level_of}
-use Rattle.arbiter_cli.specs.Plans.{Values, is_date, level_start_and_date, start_asked, text_or}
+use Rattle.arbiter_cli.specs.Plans.{Values, is_date, level_start_and_date, start_asked}
 use Rattle.arbiter_cli.specs.declared.fault.WordsFault.{WordsFault}
 use Rattle.arbiter_cli.specs.declared.fault.WordsFault.TheVariants.{BadLevel, BadFen, BadDate}
 
@@ -19,10 +19,10 @@ in_turn level start date is_good =
 
 -- the value of `--date`, `????.??.??` if it was not given
 abbrev pub date_asked : Values → Text
-date_asked value = text_or (codes "date") value (codes "????.??.??")
+date_asked value = unwrap_or (value (codes "date")) (codes "????.??.??")
 
 pub read_as : (value : Values) (level : Option LevelSeen) (start : Result Setup FenFault) (date : Text) (is_good : Bool)
-    → level_of (text_or (codes "level") value (codes "40 5 0")) ≡ level → start_asked value ≡ start
+    → level_of (unwrap_or (value (codes "level")) (codes "40 5 0")) ≡ level → start_asked value ≡ start
     → date_asked value ≡ date → is_date date ≡ is_good
     → level_start_and_date value ≡ in_turn level start date is_good
 read_as value level start date is_good l s e d =

@@ -1,5 +1,5 @@
 -- What the arguments ask for as they are written, on the way to a plan.
-use Rattle.std.specs.Prelude.{◌≡◌, ◌≤◌, ℕ, List, codes, map, option_map, Option, Some, None, Result, Ok, Err, true, false, ◌≢◌}
+use Rattle.std.specs.Prelude.{◌≡◌, ◌≤◌, ℕ, List, codes, map, option_map, Option, Some, None, Result, Ok, Err, true, false, ◌≢◌, unwrap_or}
 use Rattle.std.specs.Option.{option_map_or}
 use Rattle.std.specs.Str.Parse.{digits_value, without_leading_plus}
 use Rattle.clap.specs.Words.{Row, Text, first_of, kind_of}
@@ -17,7 +17,7 @@ use Rattle.chess_base.specs.declared.man.Variant.{Variant}
 use Rattle.chess_base.specs.declared.setup.Setup.{Setup}
 use Rattle.chess_fen.specs.Reading.{fen_reading_as}
 use Rattle.cecp_engine.specs.Levels.{LevelSeen, level_of}
-use Rattle.arbiter_cli.specs.Plans.{Said, Values, is_date, is_set, text_or, variant_in, verify_plan_of}
+use Rattle.arbiter_cli.specs.Plans.{Said, Values, is_date, is_set, variant_in, verify_plan_of}
 use Rattle.clap.specs.declared.error.Error.{Error}
 use Rattle.clap.specs.declared.error.kind.ErrorKind.TheVariants.{OutOfMemory}
 
@@ -38,11 +38,11 @@ start_of v fen = option_map_or (fen_reading_as v) fen (Ok (initial_setup_of v))
 pub record IsMatchOf (value : Values) (m : MatchRequest) : Type 0 where
   pub white : value (codes "white") ≡ Some m.white.now
   pub black : value (codes "black") ≡ Some m.black.now
-  pub level : m.level.now ≡ text_or (codes "level") value (codes "40 5 0")
+  pub level : m.level.now ≡ unwrap_or (value (codes "level")) (codes "40 5 0")
   pub fen : option_map (λ t. t.now) m.fen ≡ value (codes "fen")
   pub games : m.games ≡ games_in value
   pub games_range : (1 ≤ m.games) × (m.games ≤ 1000)
-  pub date : m.date.now ≡ text_or (codes "date") value (codes "????.??.??")
+  pub date : m.date.now ≡ unwrap_or (value (codes "date")) (codes "????.??.??")
   pub variant : m.variant ≡ variant_in value
   pub log : m.log ≡ is_set (codes "log") value
 
