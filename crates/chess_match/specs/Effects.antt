@@ -14,7 +14,7 @@ use Rattle.cecp_engine.specs.Items.{Item, items_of, ends_handshake, takes, plays
 use Rattle.cecp_engine.specs.Levels.{allotted}
 use Rattle.chess_match.specs.Events.{Event, Line, Opened, OutputEnds, FailsToRead, FailsToWrite, Seat}
 use Rattle.chess_match.specs.Reasons.{outcome_by_reason, comment_of}
-use Rattle.chess_match.specs.Rules.{Rules, text_of_last, start_fen, has_bare_king}
+use Rattle.chess_match.specs.Rules.{Rules}
 use Rattle.chess_text.specs.San.{is_fischerandom}
 use Rattle.chess_base.specs.Options.{list_if}
 use Rattle.chess_match.specs.Lines.{SentLine, Says, MoveSent, Time, Otim, answers_to, setup_lines, ping}
@@ -24,11 +24,6 @@ use Rattle.chess_match.specs.declared.reason.MatchFault.TheVariants.{Ended, Read
 use Rattle.chess_match.specs.declared.reason.Reason.{Reason}
 use Rattle.chess_match.specs.declared.reason.Reason.TheVariants.{Decided, Claimed, Agreed, MovesIllegally, MovesOutOfTurn, ClaimsFalsely, RejectsLegalMove, Forfeits, ForfeitsToBareKing, GameTooLong, Faulted}
 use Rattle.chess_match.specs.declared.reason.Reason.TheVariants as over_by
-use Rattle.chess_game.specs.Ends.{verdict, claims, draw_claim}
-use Rattle.chess_game.specs.Line.{position_after}
-use Rattle.chess_text.specs.Moves.{reading}
-use Rattle.chess_text.specs.declared.reading.Reading.{Reading}
-use Rattle.chess_text.specs.declared.reading.Reading.TheVariants as reads
 
 -- ---- the state of a match
 
@@ -81,8 +76,8 @@ ping_number m S = length (m.seat S).used + 1
 abbrev pub missing : Rules → List Item → Option MatchFault
 missing r items =
     if not (takes (codes "ping") items) then Some NoPing
-    else if is_some (start_fen r.start) && not (takes (codes "setboard") items) then Some NoSetboard
-    else if is_fischerandom r.start.variant && not (plays_fischerandom items) then Some NoVariant
+    else if is_some r.start_fen && not (takes (codes "setboard") items) then Some NoSetboard
+    else if is_fischerandom r.variant && not (plays_fischerandom items) then Some NoVariant
     else None
 
 -- whether in this phase the side `S` was not yet sent the last move: the other side made it, and has yet to send `pong`
@@ -100,8 +95,7 @@ handshake_lines = Says (codes "xboard") ∷ Says (codes "protover 2") ∷ []
 -- on, and in SAN if it has `san` on. So it is `e2e4`, `usermove e2e4`, `e4` or `usermove e4`
 abbrev pub move_line : Rules → Match → Colour → SentLine
 move_line r m S =
-    MoveSent (takes (codes "usermove") (m.seat S).items)
-    (text_of_last (takes (codes "san") (m.seat S).items) r.start m.played)
+    MoveSent (takes (codes "usermove") (m.seat S).items) (r.move_text (takes (codes "san") (m.seat S).items) m.played)
 
 -- the line that sends the side `S` the last move, as a list of one; empty if no move was made
 abbrev pub last_move : Rules → Match → Colour → List SentLine
@@ -167,7 +161,7 @@ begins_turn r S m = let m' = enter (Opening S) m in sends_to S (opening r m' S) 
 
 -- the end of the match `m`, if the board has a verdict after its moves; otherwise the effect `otherwise`
 abbrev pub unless_decided : Rules → Match → Effect → Effect
-unless_decided r m otherwise = option_map_or (λ v. ends r (Decided v) m) (verdict r.start m.played) otherwise
+unless_decided r m otherwise = option_map_or (λ verdict. ends r (Decided verdict) m) (r.verdict m.played) otherwise
 
 -- ---- a line in a turn
 
@@ -189,8 +183,7 @@ turn_row r S Resigns m = ends r (over_by.Resigns S) m
 -- `offer draw`: see `offer_row`
 turn_row r S OffersDraw m = offer_row r S m
 -- `1/2-1/2`: a draw, if one may be claimed; otherwise an offer of a draw
-turn_row r S ClaimsDraw m =
-    option_map_or (λ claim. ends r (Claimed claim) m) (draw_claim (claims r.start m.played)) (offer_row r S m)
+turn_row r S ClaimsDraw m = option_map_or (λ claim. ends r (Claimed claim) m) (r.claim m.played) (offer_row r S m)
 -- `1-0` or `0-1`: `S` loses, by a false claim if it names itself the winner (a mate ends the match without a claim),
 -- otherwise by resigning
 turn_row r S (ClaimsWin winner) m = ends r (if same_colour winner S then ClaimsFalsely S else over_by.Resigns S) m
@@ -208,31 +201,28 @@ moved S move used m =
     with_seat (other S) (λ s. record s { offers = false }) (with_seat S (λ s. record s { used = s.used ++ used ∷ [] })
     (record m { phase = AfterMove S; played = m.played ++ move ∷ [] }))
 
--- what a line `move M` of the side `S` does, `used` milliseconds after its turn began, by what M denotes
-abbrev pub move_row : Rules → Colour → ℕ → Reading → Match → Effect
--- one legal move: it is made. The board's verdict then ends the match, if there is one; otherwise `S` is sent the next
--- `ping`
-move_row r S used (reads.Move move) m =
+-- what a line `move M` of the side `S` does, `used` milliseconds after its turn began. The option is the one legal move
+-- that M denotes
+abbrev pub move_row : Rules → Colour → ℕ → Option Move → Match → Effect
+-- M denotes no legal move, or several: `S` loses
+move_row r S used None m = ends r (MovesIllegally S) m
+-- the move is made. The board's verdict then ends the match, if there is one; otherwise `S` is sent the next `ping`
+move_row r S used (Some move) m =
     let m' = moved S move used m in unless_decided r m' (sends_to S (ping (ping_number m' S) ∷ []) m')
--- no legal move, or several: `S` loses
-move_row r S used _ m = ends r (MovesIllegally S) m
 
 -- what a line of this kind of the side `S` does, if its move is awaited and its flag has not fallen; its turn began
 -- `used` milliseconds before
 abbrev pub before_move : Rules → Colour → ℕ → LineKind → Match → Effect
 -- `move M`: if there are already as many half-moves as the limit allows, the match ends, whatever M is
 before_move r S used (Moves text) m =
-    if nat_le r.limit (length m.played) then ends r GameTooLong m
-    else move_row r S used (reading (position_after r.start m.played) text) m
+    if nat_le r.limit (length m.played) then ends r GameTooLong m else move_row r S used (r.reading m.played text) m
 -- any line that is no move: see `turn_row`
 before_move r S used kind m = turn_row r S kind m
 
 -- the flag of the side `S` has fallen: it loses, but if the other side has only its king, the game is drawn. Article
 -- 6.9 of the Laws of Chess 2023 has further draws on time; they are not judged here
 abbrev pub flag_row : Rules → Colour → Match → Effect
-flag_row r S m =
-    let bare = has_bare_king (other S) (position_after r.start m.played).men in
-    ends r (if bare then ForfeitsToBareKing else Forfeits S) m
+flag_row r S m = ends r (if r.has_bare_king m.played (other S) then ForfeitsToBareKing else Forfeits S) m
 
 -- ---- a line before the game
 
@@ -270,7 +260,7 @@ handshake_row r S items m =
 -- board has a verdict at the start: that ends the match
 abbrev pub setup_done : Rules → Colour → Match → Effect
 setup_done r White m = sends_to Black (setup_lines r) (enter (Setup Black) m)
-setup_done r Black m = unless_decided r m (begins_turn r r.start.side m)
+setup_done r Black m = unless_decided r m (begins_turn r r.first m)
 
 -- ---- one event
 

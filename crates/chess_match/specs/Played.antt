@@ -19,7 +19,6 @@ use Rattle.chess_match.specs.Table.{Passing, Passes, watched}
 use Rattle.chess_match.specs.declared.reason.Reason.{Reason}
 use Rattle.chess_match.specs.declared.run.MatchEnd.{MatchEnd}
 use Rattle.chess_match.specs.declared.run.Setup.{Setup}
-use Rattle.chess_game.specs.Ends.{verdict}
 
 -- the devices and the game of a match, as contracts see them at one time; a witness, such as the log, is not among them
 pub record World : Type 0 where
@@ -90,7 +89,7 @@ PlayedBy H reason setup end w w' =
     × (w'.game ≡ game.with_state w.game (record {
       start = setup.start;
       moves = final.played;
-      declared = declared_at (verdict r.start final.played) reason;
+      declared = declared_at (r.verdict final.played) reason;
     }))
 
 -- a match was played as `setup` says, from the world `w` to `w'`, and reported as `end`: there are acts and a reason by
@@ -116,5 +115,5 @@ PlayedAt setup end old new g g' =
     × (g' ≡ game.with_state g (record {
       start = setup.start;
       moves = final.played;
-      declared = declared_at (verdict r.start final.played) reason;
+      declared = declared_at (r.verdict final.played) reason;
     }))

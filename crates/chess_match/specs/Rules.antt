@@ -1,4 +1,4 @@
--- What is fixed when a match begins, and what a match asks of the moves played so far.
+-- What a match needs of its game, and how chess gives it.
 use Rattle.std.specs.Prelude.{ℕ, Bool, ◌||◌, ◌&&◌, not, if◌then◌else◌, List, [], ◌∷◌, Option, None, Some}
 use Rattle.std.specs.List.{list_all}
 use Rattle.chess_base.specs.declared.man.Colour.{Colour}
@@ -8,26 +8,49 @@ use Rattle.chess_base.specs.declared.setup.Setup.{Setup}
 use Rattle.chess_base.specs.Men.{Men, is_of, is_man}
 use Rattle.chess_base.specs.Moves.{after}
 use Rattle.chess_fen.specs.Writing.{fen, is_initial}
+use Rattle.chess_game.specs.Ends.{verdict, claims, draw_claim}
+use Rattle.chess_game.specs.Line.{position_after}
+use Rattle.chess_game.specs.declared.verdicts.DrawClaim.{DrawClaim}
+use Rattle.chess_game.specs.declared.verdicts.Verdict.{Verdict}
+use Rattle.chess_text.specs.Moves.{reading}
 use Rattle.chess_text.specs.San.{is_fischerandom, san, shown_move}
+use Rattle.chess_text.specs.declared.reading.Reading.{Reading}
+use Rattle.chess_text.specs.declared.reading.Reading.TheVariants as reads
 use Rattle.cecp_engine.specs.Levels.{LevelSeen}
+use Rattle.chess_base.specs.declared.man.Variant.{Variant}
 
--- what is fixed when a match begins
+-- what a match needs to know of its game: first what is fixed when it begins, then functions of the moves played so
+-- far. From these alone a match learns what a move means. The type allows any values; the comments describe those that
+-- `rules_of`, below, gives for chess
 pub record Rules : Type 0 where
-  -- the position in which its game starts, and by whose variant it is played: normal chess or Chess960
-  pub start : Setup
+  -- normal chess or Chess960
+  pub variant : Variant
+  -- the FEN of the start, for `setboard`; `None` for the initial position of normal chess: then no `setboard` is sent
+  pub start_fen : Option (List ℕ)
+  -- who is on move at the start
+  pub first : Colour
   -- the time control, the same for both sides
   pub level : LevelSeen
   -- how many half-moves can be played at most
   pub limit : ℕ
+  -- the one legal move that a text denotes after these moves; `None` if it denotes none, or more than one
+  pub reading : List Move → List ℕ → Option Move
+  -- why the game is over after these moves (mate, or a draw that nobody need claim); `None` if it is not
+  pub verdict : List Move → Option Verdict
+  -- the draw that may be claimed after these moves (threefold repetition or 50 moves); `None` if none may be
+  pub claim : List Move → Option DrawClaim
+  -- the text of the last of these moves: in SAN if the first argument is `true`, otherwise by its squares (`e2e4`),
+  -- where castling in Chess960 is `O-O` or `O-O-O`. Empty if there is no move
+  pub move_text : Bool → List Move → List ℕ
+  -- whether after these moves that side has no piece but its king
+  pub has_bare_king : List Move → Colour → Bool
 
--- the rules of a match from this start, with this time control, of at most `limit` half-moves
-abbrev pub rules_of : Setup → LevelSeen → ℕ → Rules
-rules_of start level limit = record { start = start; level = level; limit = limit }
+-- ---- chess
 
--- the FEN that engines are sent by `setboard` for a match from this start; `None` for the initial position of normal
--- chess, which `new` sets up. In Chess960 there is always one
-unfoldable pub start_fen : Setup → Option (List ℕ)
-start_fen start = if is_initial start && not (is_fischerandom start.variant) then None else Some (fen start)
+-- the move in the result of reading a text; `None` if the text denotes no legal move, or more than one
+abbrev pub move_read : Reading → Option Move
+move_read (reads.Move m) = Some m
+move_read _ = None
 
 -- the text of the last of these moves, which are made one after another from the position `p` on: in SAN, if `as_san`;
 -- otherwise by squares (`e2e4`), where castling in Chess960 is `O-O` or `O-O-O`. Empty if there is no move
@@ -39,3 +62,21 @@ text_of_last as_san p (m ∷ n ∷ ms) = text_of_last as_san (after p m) (n ∷ 
 -- whether the side `c` has no piece but its king; `men` are the 64 squares. That it has a king is not tested here
 unfoldable pub has_bare_king : Colour → Men → Bool
 has_bare_king c men = list_all (λ man. not (is_of c man) || is_man c King man) men
+
+-- the rules of chess for a game from the position `start`, with this time control, of at most `limit` half-moves. Texts
+-- are read, and bare kings looked for, in the position after the moves played; the verdict, the claim and the text of
+-- the last move depend on the start and all moves. `setboard` sends the FEN of any start but the initial position of
+-- normal chess, which `new` sets up; in Chess960 one is always sent
+unfoldable pub rules_of : Setup → LevelSeen → ℕ → Rules
+rules_of start level limit = record {
+  variant = start.variant;
+  start_fen = if is_initial start && not (is_fischerandom start.variant) then None else Some (fen start);
+  first = start.side;
+  level = level;
+  limit = limit;
+  reading = λ played text. move_read (reading (position_after start played) text);
+  verdict = λ played. verdict start played;
+  claim = λ played. draw_claim (claims start played);
+  move_text = λ as_san played. text_of_last as_san start played;
+  has_bare_king = λ played c. has_bare_king c (position_after start played).men;
+}

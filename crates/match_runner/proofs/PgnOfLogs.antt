@@ -18,7 +18,6 @@ use Rattle.chess_match.specs.ByDevice.{notes_given}
 use Rattle.chess_match.specs.Effects.{Match, Over}
 use Rattle.chess_match.specs.Notes.{Note}
 use Rattle.chess_match.specs.Reasons.{declared_at, ended_by, outcome_by_reason, win_of}
-use Rattle.chess_game.specs.Ends.{verdict}
 use Rattle.chess_match.specs.Rules.{Rules, rules_of}
 use Rattle.chess_match.specs.declared.reason.Reason.{Reason}
 use Rattle.chess_pgn.specs.GameText.{pgn}
@@ -40,7 +39,7 @@ abbrev left : GamesPlan → Reason → List Move → State
 left plan reason moves = record {
   start = plan.start;
   moves = moves;
-  declared = declared_at (verdict plan.start moves) reason;
+  declared = declared_at ((rules plan).verdict moves) reason;
 }
 
 -- an engine's name, by its items
@@ -75,7 +74,7 @@ is_played plan played (limit, (H, reason, notes, (final, passed, reported, game)
     game = subst (λ (n : ℕ). played.after.game.state ≡ (let s : State = record {
       start = plan.start;
       moves = final.played;
-      declared = declared_at (verdict plan.start final.played) reason;
+      declared = declared_at ((rules_of plan.start plan.level n).verdict final.played) reason;
     } in s)) limit (ap (λ (g : Seen). g.state) game);
   },
 )

@@ -17,7 +17,7 @@ use Rattle.cecp_engine.specs.Items.{Item, ends_handshake}
 use Rattle.chess_match.specs.Effects.{Match, Phase, Handshake, Setup, Opening, BeforeMove, AfterMove, Over, Effect, flag_row, before_move, clock, ends, farewell, handshake_done, handshake_row, ignores, is_owed_move, items_said, judged, line_row, missing, move_line, move_row, moved, offer_row, ping_number, sends_nothing, sends_to, setup_done, turn_row, with_answers, with_seat}
 use Rattle.chess_match.specs.Acts.{awaits_line, is_over}
 use Rattle.chess_match.specs.Events.{Seat}
-use Rattle.chess_match.specs.Rules.{Rules, has_bare_king}
+use Rattle.chess_match.specs.Rules.{Rules}
 use Rattle.chess_game.specs.declared.verdicts.DrawClaim.{DrawClaim}
 use Rattle.chess_match.specs.declared.reason.MatchFault.{MatchFault}
 use Rattle.chess_match.specs.declared.reason.MatchFault.TheVariants.{Flood, NoDone}
@@ -26,11 +26,6 @@ use Rattle.chess_match.specs.Lines.{SentLine, Says, answers_to, ping}
 use Rattle.chess_match.specs.Reasons.{is_write_fault_of}
 use Rattle.chess_match.specs.declared.reason.Reason.TheVariants as over_by
 use Rattle.match_runner.specs.laws.ReadBack.{text_of_result}
-use Rattle.chess_game.specs.Ends.{verdict, claims, draw_claim}
-use Rattle.chess_game.specs.Line.{position_after}
-use Rattle.chess_text.specs.Moves.{reading}
-use Rattle.chess_text.specs.declared.reading.Reading.{Reading}
-use Rattle.chess_text.specs.declared.reading.Reading.TheVariants as reads
 
 -- ---- how a match ends
 
@@ -155,7 +150,7 @@ module _ (r : Rules) (S : Colour) (m : Match) (on : is_over m.phase ≡ false) w
   in_turn : (kind : LineKind) → Again (turn_row r S kind m) (turn_row r S kind (again m))
   in_turn Resigns = over_again r (over_by.Resigns S) m (refl, λ c. refl)
   in_turn OffersDraw = offered
-  in_turn ClaimsDraw = at (draw_claim (claims r.start m.played))
+  in_turn ClaimsDraw = at (r.claim m.played)
     where
       at : (c : Option DrawClaim)
           → Again (option_map_or (λ claim. ends r (over_by.Claimed claim) m) c (offer_row r S m))
@@ -188,21 +183,16 @@ module _ (r : Rules) (S : Colour) (m : Match) (on : is_over m.phase ≡ false) w
   before : (used : ℕ) (kind : LineKind) → Again (before_move r S used kind m) (before_move r S 0 kind (again m))
   before used (Moves t) = test_again (nat_le r.limit (length m.played)) _ _ _ _
       (over_again r over_by.GameTooLong m (refl, λ c. refl))
-      (at (reading (position_after r.start m.played) t))
+      (at (r.reading m.played t))
     where
-      illegal : Again (ends r (over_by.MovesIllegally S) m) (ends r (over_by.MovesIllegally S) (again m))
-      illegal = over_again r (over_by.MovesIllegally S) m (refl, λ c. refl)
-
-      at : (read : Reading) → Again (move_row r S used read m) (move_row r S 0 read (again m))
-      at reads.Ambiguous = illegal
-      at reads.NoSuch = illegal
-      at reads.NotAMove = illegal
-      at (reads.Move move) =
-          subst (λ (n : Match). Again (move_row r S used (reads.Move move) m)
-          (option_map_or (λ verdict. ends r (over_by.Decided verdict) n) (verdict r.start (m.played ++ move ∷ []))
+      at : (move : Option Move) → Again (move_row r S used move m) (move_row r S 0 move (again m))
+      at None = over_again r (over_by.MovesIllegally S) m (refl, λ c. refl)
+      at (Some move) =
+          subst (λ (n : Match). Again (move_row r S used (Some move) m)
+          (option_map_or (λ verdict. ends r (over_by.Decided verdict) n) (r.verdict (m.played ++ move ∷ []))
           (sends_to S (ping (ping_number n S) ∷ []) n)))
           (moved_again move used)
-          (decided_again (verdict r.start (m.played ++ move ∷ [])) (moved S move used m) _ _ (on_again _ _ refl refl))
+          (decided_again (r.verdict (m.played ++ move ∷ [])) (moved S move used m) _ _ (on_again _ _ refl refl))
   before used kind = in_turn kind
 
   after : (moment : ℕ) (kind : LineKind)
@@ -219,7 +209,7 @@ module _ (r : Rules) (S : Colour) (m : Match) (on : is_over m.phase ≡ false) w
     where
       ready : (side : Colour) → Again (setup_done r side m) (setup_done r side (again m))
       ready White = on_again _ _ refl refl
-      ready Black = decided_again (verdict r.start m.played) m _ _ (on_again _ _ refl refl)
+      ready Black = decided_again (r.verdict m.played) m _ _ (on_again _ _ refl refl)
   setup moment _ = ignored
 
   handshake : (items : List Item) → Again (handshake_row r S items m) (handshake_row r S items (again m))
@@ -289,7 +279,7 @@ none_less : (n : ℕ) → nat_lt n 0 ≡ false
 none_less n = grind (arith, nat_tests)
 
 flagged : (r : Rules) (S : Colour) (m : Match) → Falls m (flag_row r S m)
-flagged r S m = at (has_bare_king (other S) (position_after r.start m.played).men)
+flagged r S m = at (r.has_bare_king m.played (other S))
   where
     at : (b : Bool) → Falls m (ends r (if b then over_by.ForfeitsToBareKing else over_by.Forfeits S) m)
     at true = (over_by.ForfeitsToBareKing, refl, refl, stops_at r over_by.ForfeitsToBareKing m (λ O. refl))
