@@ -93,8 +93,8 @@ plays_fischerandom items = last_said (λ v. has_word (codes "fischerandom") (val
 
 -- ---- the answer to an item
 
--- whether a feature of this name is answered by `accepted`, otherwise by `rejected`: first those that an arbiter uses,
--- then others that it accepts and doesn't use
+-- whether the arbiter answers a feature of this name by `accepted`, otherwise by `rejected`: first the features that it
+-- uses, then others that it accepts and doesn't use
 unfoldable pub is_known : List ℕ → Bool
 is_known name = has_word name (codes "ping setboard san usermove time draw myname variants done")
     || has_word name (codes "playother sigint sigterm reuse analyze colors debug")

@@ -8,9 +8,8 @@ use Rattle.chess_game.specs.Game as game
 use Rattle.chess_game.specs.Line.{IsLine, position_after}
 use Rattle.chess_text.specs.laws.Laws.{ReadMovesAreLegal}
 use Rattle.cecp_engine.specs.Levels.{LevelSeen}
-use Rattle.chess_match.specs.ByDevice.{lines_read}
 use Rattle.chess_match.specs.Rules.{Rules, rules_of}
-use Rattle.chess_match.specs.laws.Laws.{AreRead, moves_of}
+use Rattle.chess_match.specs.laws.Laws.{AreRead, moves_of, lines_read}
 use Rattle.chess_match.specs.laws.OfActs.{GamesAreLines, MovesAreRead}
 use Rattle.chess_match.proofs.Points.{in_each}
 use Rattle.chess_match.proofs.ReadLaw.{moves_are_read}

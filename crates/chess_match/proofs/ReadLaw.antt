@@ -10,12 +10,12 @@ use Rattle.chess_base.proofs.shared.Men.{other-other}
 use Rattle.cecp_engine.specs.EngineLines.{line_kind, Moves}
 use Rattle.cecp_engine.specs.Items.{ends_handshake}
 use Rattle.chess_match.specs.Acts.{Act, Sends, SendFails, Happens, awaits_line, is_over}
-use Rattle.chess_match.specs.ByDevice.{lines_read}
-use Rattle.chess_match.specs.Effects.{Match, Phase, Handshake, Setup, Opening, BeforeMove, AfterMove, Over, ends, enter, items_said, line_row, moved}
+use Rattle.chess_match.specs.Effects.{Match, Phase, Handshake, Setup, Opening, BeforeMove, AfterMove, Over, ends, line_row, moved}
+use Rattle.chess_match.specs.ties.Parts.{enter}
 use Rattle.chess_match.specs.Rules.{Rules}
 use Rattle.chess_match.specs.declared.reason.MatchFault.TheVariants.{Ended, Read, Write}
 use Rattle.chess_match.specs.declared.reason.Reason.TheVariants.{Decided, Faulted}
-use Rattle.chess_match.specs.laws.Laws.{AreRead, is_pong, lines_after_handshake, lines_after_pong, move_said, moves_said}
+use Rattle.chess_match.specs.laws.Laws.{AreRead, is_pong, lines_after_handshake, lines_after_pong, move_said, moves_said, lines_read, items_in_line}
 use Rattle.chess_match.specs.laws.OfActs.{AtEachMoment, MovesAreRead, only_sends}
 use Rattle.chess_match.proofs.LineCases.{in_turn, line_cases, offering, said_by}
 use Rattle.chess_match.proofs.Points.{Kept, by_points, mover, mover-snoc, turn_in}
@@ -136,7 +136,7 @@ Steps r d t m m' = (final : Match) (lines : Streamed)
     → ReadsOff r m final (with_line d t lines)
 
 handshake_same : (d : Colour) (t : Option (List ℕ)) (lines : Streamed) (S : Colour)
-    → list_any ends_handshake (items_said (line_kind t)) ≡ false
+    → list_any ends_handshake (items_in_line (line_kind t)) ≡ false
     → ahead (Handshake d) S (with_line d t lines S) ≡ ahead (Handshake d) S (lines S)
 handshake_same d t lines S h1 = grind arith
 
@@ -145,12 +145,12 @@ setup_same : (d : Colour) (t : Option (List ℕ)) (lines : Streamed) (S : Colour
 setup_same d t lines S h1 = grind arith
 
 handshake_next : (d : Colour) (t : Option (List ℕ)) (lines : Streamed) (S : Colour) → d ≡ White
-    → list_any ends_handshake (items_said (line_kind t)) ≡ true
+    → list_any ends_handshake (items_in_line (line_kind t)) ≡ true
     → ahead (Handshake d) S (with_line d t lines S) ≡ ahead (Handshake Black) S (lines S)
 handshake_next d t lines S h1 h2 = grind arith
 
 handshake_last : (d : Colour) (t : Option (List ℕ)) (lines : Streamed) (S : Colour) → d ≡ Black
-    → list_any ends_handshake (items_said (line_kind t)) ≡ true
+    → list_any ends_handshake (items_in_line (line_kind t)) ≡ true
     → ahead (Handshake d) S (with_line d t lines S) ≡ ahead (Setup White) S (lines S)
 handshake_last d t lines S h1 h2 = grind arith
 

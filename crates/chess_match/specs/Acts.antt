@@ -68,9 +68,9 @@ abbrev pub blocks_after : Colour → Effect → List Block
 blocks_after S done = blocks_from (if is_over done.after.phase then White else S) done.to
 
 -- these acts, in order, are the rest of a match by the rules `r`: before them its state is `m`, and the blocks `due`
--- are still to be sent; after them it is over, in the state `final`. Each of the first three equations is about the
--- first act: it says when it may come, and from which state and with which blocks due the acts `H` after it are then
--- the rest of the match. While a block is due, nothing is read
+-- are still to be sent; after them it is over, in the state `final`. The list is taken act by act: each row says which act
+-- may come first, and what state and which blocks due it leaves, from which the acts `H` after it are then the rest of
+-- the match. While a block is due, nothing is read
 abbrev pub IsMatchFrom : Rules → Match → List Block → List Act → Match → Type 0
 -- a block is due: the first one due is sent. The state stays, and the other blocks are still due
 IsMatchFrom r m (block ∷ due) (Sends sent ∷ H) final = (block ≡ sent) × IsMatchFrom r m due H final

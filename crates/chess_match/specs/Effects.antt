@@ -130,10 +130,6 @@ sends_nothing m = record { after = m; to = λ S. [] }
 abbrev pub sends_to : Colour → List SentLine → Match → Effect
 sends_to side lines m = record { after = m; to = λ S. list_if (same_colour side S) lines }
 
--- the match `m` at the beginning of this phase: no line was counted in it yet
-abbrev pub enter : Phase → Match → Match
-enter phase m = record m { phase = phase; count = 0 }
-
 -- the match `m` with this change of what is known of the engine of the side `S`
 abbrev pub with_seat : Colour → (Seat → Seat) → Match → Match
 with_seat S change m = record m { seat = λ side. if same_colour side S then change (m.seat side) else m.seat side }
@@ -155,7 +151,7 @@ ignores r S m =
 -- the turn of the side `S` is opened: `S` is sent the lines of `opening`, and no line of the turn is counted yet. Its
 -- time runs from the moment that the clock shows once these are sent; until that is read, the phase is `Opening`
 abbrev pub begins_turn : Rules → Colour → Match → Effect
-begins_turn r S m = let m' = enter (Opening S) m in sends_to S (opening r m' S) m'
+begins_turn r S m = sends_to S (opening r m S) (record m { phase = Opening S; count = 0 })
 
 -- the end of the match `m`, if the board has a verdict after its moves; otherwise the effect `otherwise`
 abbrev pub unless_decided : Rules → Match → Effect → Effect
@@ -173,8 +169,8 @@ offer_row r S m =
     else sends_to (other S) (list_if (takes (codes "draw") (m.seat (other S)).items) (Says (codes "draw") ∷ []))
     (with_seat S (λ s. record s { offers = true }) m)
 
--- what a line of this kind of the side `S` does in the turn of `S`, except where `before_move` (for `move`) and
--- `line_row` (for `move` and `pong` after the move) say otherwise
+-- what a line of this kind of the side `S` does in the turn of `S`, before its move or after it. `move` never comes here,
+-- nor does `pong` after the move: `before_move` and `line_row` have rows of their own for these
 abbrev pub turn_row : Rules → Colour → LineKind → Match → Effect
 -- `resign`: `S` loses
 turn_row r S Resigns m = ends r (over_by.Resigns S) m
@@ -185,8 +181,9 @@ turn_row r S ClaimsDraw m = option_map_or (λ claim. ends r (Claimed claim) m) (
 -- `1-0` or `0-1`: `S` loses, by a false claim if it names itself the winner (a mate ends the match without a claim),
 -- otherwise by resigning
 turn_row r S (ClaimsWin winner) m = ends r (if same_colour winner S then ClaimsFalsely S else over_by.Resigns S) m
--- `Illegal move`: `S` loses, but if it was never sent a move, the line is ignored. What is tested is whether the other
--- side has made a move (`used` has a time for each): in its turn `S` was sent each of these
+-- `Illegal move`: `S` rejects the move that it was sent last, which was legal, as each move was judged before it was
+-- sent; so `S` loses. But if it was never sent a move, the line is ignored. What is tested is whether the other side has
+-- made a move (`used` has a time for each): in its turn `S` was sent each of these
 turn_row r S Rejects m =
     if nat_lt 0 (length (m.seat (other S)).used) then ends r (RejectsLegalMove S) m else ignores r S m
 -- any other line is ignored
@@ -232,45 +229,38 @@ judged r (Some fault) _ m = ends r (Faulted White fault) (record m { count = 0 }
 -- only Black's engine does: the match ends
 judged r None (Some fault) m = ends r (Faulted Black fault) (record m { count = 0 })
 -- neither does: White's setup begins
-judged r None None m = sends_to White (setup_lines r) (enter (Setup White) m)
+judged r None None m = sends_to White (setup_lines r) (record m { phase = Setup White; count = 0 })
 
 -- what follows when the handshake of this side is done: after White's comes Black's, and after that it is judged what
 -- each engine lacks
 abbrev pub handshake_done : Rules → Colour → Match → Effect
-handshake_done r White m = sends_to Black handshake_lines (enter (Handshake Black) m)
+handshake_done r White m = sends_to Black handshake_lines (record m { phase = Handshake Black; count = 0 })
 handshake_done r Black m = judged r (missing r (m.seat White).items) (missing r (m.seat Black).items) m
 
--- the effect `e`, except that the engine of this side is sent, before all else, an answer to each of these items
-abbrev pub with_answers : Colour → List Item → Effect → Effect
-with_answers side items e = record e { to = λ S. list_if (same_colour side S) (answers_to items) ++ e.to S }
-
 -- a line of the side `S` in its handshake, which has these items (none, if it is no `feature` line): they are added to
--- those known of `S`, and each is answered. `done=1` ends the handshake; if the 1,000th line, of whatever kind, comes
--- without it, the match ends
+-- those known of `S`. `done=1` ends the handshake; if the 1,000th line, of whatever kind, comes without it, the match
+-- ends. Before all else (`next`) the engine of `S` is sent an answer to each of these items
 abbrev pub handshake_row : Rules → Colour → List Item → Match → Effect
 handshake_row r S items m =
     let m' = with_seat S (λ s. record s { items = s.items ++ items }) m in
-    with_answers S items (if list_any ends_handshake items then handshake_done r S m'
+    let next = if list_any ends_handshake items then handshake_done r S m'
     else if nat_le 1000 (m.count + 1) then ends r (Faulted S NoDone) m'
-    else sends_nothing (record m' { count = m.count + 1 }))
+    else sends_nothing (record m' { count = m.count + 1 }) in
+    record next { to = λ side. list_if (same_colour S side) (answers_to items) ++ next.to side }
 
 -- what follows when this side is set up: after White's setup comes Black's. Then the first turn begins, unless the
 -- board has a verdict at the start: that ends the match
 abbrev pub setup_done : Rules → Colour → Match → Effect
-setup_done r White m = sends_to Black (setup_lines r) (enter (Setup Black) m)
+setup_done r White m = sends_to Black (setup_lines r) (record m { phase = Setup Black; count = 0 })
 setup_done r Black m = unless_decided r m (begins_turn r r.first m)
 
 -- ---- one event
 
--- the items of a line of this kind: those of a `feature` line, none of any other
-abbrev pub items_said : LineKind → List Item
-items_said (Features text) = items_of text
-items_said _ = []
-
--- what a line of this kind does in the phase given; it was sent by the side that this phase waits for, and came at
--- `moment`, in milliseconds by the clock
+-- what a line of this kind does in the phase given; it was sent by the side `S` that this phase waits for, and came at
+-- `moment`, in milliseconds by the clock. In a handshake only a `feature` line has items
 abbrev pub line_row : Rules → Phase → LineKind → ℕ → Match → Effect
-line_row r (Handshake S) kind _ m = handshake_row r S (items_said kind) m
+line_row r (Handshake S) (Features text) _ m = handshake_row r S (items_of text) m
+line_row r (Handshake S) kind _ m = handshake_row r S [] m
 -- in a setup: `pong 1` ends it; any other line is ignored, even `feature` or `move`
 line_row r (Setup S) (Answers n) _ m = if n == 1 then setup_done r S m else ignores r S m
 line_row r (Setup S) kind _ m = ignores r S m

@@ -6,7 +6,7 @@ use Rattle.byte_devices.specs.Devices.{OutputState}
 use Rattle.byte_devices.specs.Transfers.{ToOutput, OutputTook, saturating_increment_if}
 use Rattle.chess_base.specs.declared.man.Colour.{Colour}
 use Rattle.chess_base.specs.declared.man.Colour.TheVariants.{White, Black}
-use Rattle.chess_match.specs.ByDevice.{broken_blocks, is_broken, lines_sent}
+use Rattle.chess_match.specs.laws.Laws.{broken_blocks, is_broken, lines_sent}
 use Rattle.chess_match.specs.Lines.{SentLine}
 use Rattle.chess_match.specs.Notes.{Note}
 use Rattle.chess_match.specs.Played.{PlayedNoting, WasSent, World}

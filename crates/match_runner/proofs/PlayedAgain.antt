@@ -12,9 +12,10 @@ use Rattle.chess_base.specs.declared.man.Move.{Move}
 use Rattle.chess_base.specs.Men.{other, same_colour}
 use Rattle.chess_base.specs.Options.{list_if}
 use Rattle.chess_game.specs.declared.verdicts.Verdict.{Verdict}
-use Rattle.cecp_engine.specs.EngineLines.{LineKind, Moves, Resigns, OffersDraw, ClaimsDraw, ClaimsWin, Rejects, Answers}
-use Rattle.cecp_engine.specs.Items.{Item, ends_handshake}
-use Rattle.chess_match.specs.Effects.{Match, Phase, Handshake, Setup, Opening, BeforeMove, AfterMove, Over, Effect, flag_row, before_move, clock, ends, farewell, handshake_done, handshake_row, ignores, is_owed_move, items_said, judged, line_row, missing, move_line, move_row, moved, offer_row, ping_number, sends_nothing, sends_to, setup_done, turn_row, with_answers, with_seat}
+use Rattle.cecp_engine.specs.EngineLines.{LineKind, Features, Moves, Resigns, OffersDraw, ClaimsDraw, ClaimsWin, Rejects, Answers}
+use Rattle.cecp_engine.specs.Items.{Item, ends_handshake, items_of}
+use Rattle.chess_match.specs.Effects.{Match, Phase, Handshake, Setup, Opening, BeforeMove, AfterMove, Over, Effect, flag_row, before_move, clock, ends, farewell, handshake_done, handshake_row, ignores, is_owed_move, judged, line_row, missing, move_line, move_row, moved, offer_row, ping_number, sends_nothing, sends_to, setup_done, turn_row, with_seat}
+use Rattle.chess_match.specs.ties.Parts.{with_answers}
 use Rattle.chess_match.specs.Acts.{awaits_line, is_over}
 use Rattle.chess_match.specs.Events.{Seat}
 use Rattle.chess_match.specs.Rules.{Rules}
@@ -268,6 +269,11 @@ module _ (r : Rules) (S : Colour) (m : Match) (on : is_over m.phase ≡ false) w
       at false true = answered _ _ (over_again r (over_by.Faulted S NoDone) met (refl, λ c. refl))
       at false false = answered _ _ (on_again _ _ (counted_again met (m.count + 1)) on)
 
+  shakes : (moment : ℕ) (kind : LineKind)
+      → Again (line_row r (Handshake S) kind moment m) (line_row r (Handshake S) kind 0 (again m))
+  shakes moment (Features text) = handshake (items_of text)
+  shakes moment _ = handshake []
+
 -- ---- a line
 
 -- a flag fell, and the match ended for that
@@ -298,7 +304,7 @@ pub line_again : (r : Rules) (S : Colour) (kind : LineKind) (moment : ℕ) (m : 
     → awaits_line p S ≡ true → is_over m.phase ≡ false
     → Falls m (line_row r p kind moment m)
     ⊎ Again (line_row r p kind moment m) (line_row r (waits p) kind 0 (again m))
-line_again r S kind moment m (Handshake c) aw on = inr (handshake r c m on (items_said kind))
+line_again r S kind moment m (Handshake c) aw on = inr (shakes r c m on moment kind)
 line_again r S kind moment m (Setup c) aw on = inr (setup r c m on moment kind)
 line_again r S kind moment m (BeforeMove c opened) aw on =
     timed r c (moment - opened) kind m on (nat_lt (clock r m c) (moment - opened))

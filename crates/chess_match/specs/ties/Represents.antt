@@ -14,7 +14,8 @@ use Rattle.cecp_engine.specs.Items.{Item, last_said, value_text}
 use Rattle.cecp_engine.specs.Seen.{features_of}
 use Rattle.cecp_engine.specs.Levels.{LevelSeen}
 use Rattle.chess_match.specs.Acts.{is_over}
-use Rattle.chess_match.specs.Effects.{Match, Phase, Handshake, Setup, Opening, BeforeMove, AfterMove, Over, Effect, handshake_lines, is_owed_move, items_said, move_line, opening, ping_number}
+use Rattle.chess_match.specs.Effects.{Match, Phase, Handshake, Setup, Opening, BeforeMove, AfterMove, Over, Effect, handshake_lines, is_owed_move, move_line, opening, ping_number}
+use Rattle.chess_match.specs.laws.Laws.{items_in_line}
 use Rattle.chess_match.specs.Events.{Seat}
 use Rattle.chess_match.specs.Rules.{Rules}
 use Rattle.chess_match.specs.Lines.{SentLine, Says, answers_to, ping, setup_lines}
@@ -99,7 +100,7 @@ nothing_said S = []
 -- the items that each side is to be sent answers to, after a line that comes in this phase: those of the line in a
 -- handshake, in which alone they count
 abbrev pub items_in : CorePhase → LineKind → Colour → List Item
-items_in (core_in.Handshake c) kind = items_to c (items_said kind)
+items_in (core_in.Handshake c) kind = items_to c (items_in_line kind)
 items_in _ kind = nothing_said
 
 -- the lines that end the match `m` for the side `S`; `owed` says whether the last move is among them
