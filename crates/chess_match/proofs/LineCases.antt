@@ -21,6 +21,8 @@ use Rattle.chess_match.specs.Lines.{Says, ping, setup_lines}
 use Rattle.chess_match.specs.Reasons.{is_write_fault_of}
 use Rattle.chess_match.specs.Rules.{Rules}
 use Rattle.chess_text.specs.San.{is_fischerandom}
+use Rattle.chess_text.specs.declared.reading.Reading.{Reading}
+use Rattle.chess_text.specs.declared.reading.Reading.TheVariants as reads
 use Rattle.chess_game.specs.declared.verdicts.DrawClaim.{DrawClaim}
 use Rattle.chess_match.specs.declared.reason.MatchFault.{MatchFault}
 use Rattle.chess_match.specs.declared.reason.MatchFault.TheVariants.{Flood, NoDone, NoPing, NoSetboard, NoVariant}
@@ -98,10 +100,10 @@ pub record LineCases (r : Rules) (S : Colour) (kind : LineKind) (moment : ℕ) (
     pub counts : in_turn m.phase ≡ true → move_said kind ≡ [] → m.count + 1 < 10000 → Q (counting m)
     pub offers : in_turn m.phase ≡ true → move_said kind ≡ [] → (m.seat S).offers ≡ false → Q (offering S m)
     pub plays : (text : List ℕ) (move : Move) (opened : ℕ) → kind ≡ Moves text → m.phase ≡ BeforeMove S opened
-        → r.reading m.played text ≡ Some move → length m.played < r.limit → moment - opened ≤ clock r m S
+        → r.reading m.played text ≡ reads.Move move → length m.played < r.limit → moment - opened ≤ clock r m S
         → r.verdict (m.played ++ move ∷ []) ≡ None → Q (playing S move (moment - opened) m)
     pub decides : (text : List ℕ) (move : Move) (opened : ℕ) (v : Verdict) → kind ≡ Moves text
-        → m.phase ≡ BeforeMove S opened → r.reading m.played text ≡ Some move → length m.played < r.limit
+        → m.phase ≡ BeforeMove S opened → r.reading m.played text ≡ reads.Move move → length m.played < r.limit
         → moment - opened ≤ clock r m S → r.verdict (m.played ++ move ∷ []) ≡ Some v
         → Q (ends r (Decided v) (moved S move (moment - opened) m))
     pub passes : m.phase ≡ AfterMove S → move_said kind ≡ [] → Q (begins_turn r (other S) m)
@@ -169,10 +171,15 @@ module _ (r : Rules) (S : Colour) (kind : LineKind) (moment : ℕ) (m : Match) (
 
   -- before its move
   module _ (opened : ℕ) (p : m.phase ≡ BeforeMove S opened) (timely : moment - opened ≤ clock r m S) where
-    a_move : (text : List ℕ) (read : Option Move) → kind ≡ Moves text → r.reading m.played text ≡ read
+    a_move : (text : List ℕ) (read : Reading) → kind ≡ Moves text → r.reading m.played text ≡ read
         → length m.played < r.limit → Q (move_row r S (moment - opened) read m)
-    a_move text None is e room = l.stops (ap handshakes_done p) (MovesIllegally S) ((λ O. refl), (λ c e. cc), refl)
-    a_move text (Some move) is e room = at (r.verdict (m.played ++ move ∷ [])) refl
+    a_move text reads.Ambiguous is e room = l.stops (ap handshakes_done p) (MovesIllegally S)
+        ((λ O. refl), (λ c e. cc), refl)
+    a_move text reads.NoSuch is e room = l.stops (ap handshakes_done p) (MovesIllegally S)
+        ((λ O. refl), (λ c e. cc), refl)
+    a_move text reads.NotAMove is e room = l.stops (ap handshakes_done p) (MovesIllegally S)
+        ((λ O. refl), (λ c e. cc), refl)
+    a_move text (reads.Move move) is e room = at (r.verdict (m.played ++ move ∷ [])) refl
       where
         at : (v : Option Verdict) → r.verdict (m.played ++ move ∷ []) ≡ v
             → Q (option_map_or (λ v. ends r (Decided v) (moved S move (moment - opened) m)) v

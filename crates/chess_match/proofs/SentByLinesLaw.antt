@@ -5,7 +5,6 @@ use Rattle.std.specs.Prelude.{if◌then◌else◌}
 use Rattle.chess_base.specs.declared.man.Colour.{Colour}
 use Rattle.chess_base.specs.declared.man.Colour.TheVariants.{White, Black}
 use Rattle.chess_base.specs.Men.{other, same_colour}
-use Rattle.cecp_engine.specs.EngineLines.{line_kind}
 use Rattle.cecp_engine.specs.Items.{Item, ends_handshake}
 use Rattle.chess_match.specs.Acts.{Act, awaits_line, is_over}
 use Rattle.chess_match.specs.Effects.{Match, Phase, Handshake, Setup, Opening, BeforeMove, AfterMove, Over, beginning, effect, ends, line_row, moved}
@@ -13,7 +12,7 @@ use Rattle.chess_match.specs.ties.Parts.{enter}
 use Rattle.chess_match.specs.Rules.{Rules}
 use Rattle.chess_match.specs.declared.reason.MatchFault.TheVariants.{Ended, Read, Write}
 use Rattle.chess_match.specs.declared.reason.Reason.TheVariants.{Decided, Faulted}
-use Rattle.chess_match.specs.laws.Laws.{items_in_line, items_said, moves_sent, is_broken, lines_read}
+use Rattle.chess_match.specs.laws.Laws.{items_in_line, items_said, moves_sent, is_broken, lines_read, line_kind}
 use Rattle.chess_match.specs.laws.OfActs.{AtEachMoment, EachIsSentOthersMoves, InEachMatch, ItemsAreSaid, MovesAreRead, MovesAreSent, lines_given, match_after, only_sends, others_moves}
 use Rattle.chess_match.proofs.LineCases.{handshakes_done, line_cases, offering, said_by, turn_done}
 use Rattle.chess_match.proofs.MatchCases.{both_not}

@@ -1,5 +1,5 @@
--- What each act of a match did at each device, and what a witness is given of the acts. `H` stands for a list of acts, in
--- the order in which they were done.
+-- What each act of a match did at each device, and what a witness is given of the acts. `H` stands for a list of acts,
+-- in the order in which they were done.
 use Rattle.std.specs.Prelude.{ℕ, Bool, false, List, [], ◌∷◌, ◌++◌, Option}
 use Rattle.chess_base.specs.declared.man.Colour.{Colour}
 use Rattle.chess_base.specs.Men.{same_colour}

@@ -8,13 +8,15 @@ use Rattle.chess_base.specs.declared.man.Colour.TheVariants.{White, Black}
 use Rattle.chess_base.specs.declared.man.Move.{Move}
 use Rattle.chess_base.specs.Men.{other, same_colour}
 use Rattle.chess_game.specs.Results.{result_text}
-use Rattle.cecp_engine.specs.EngineLines.{LineKind, Features, Moves, Resigns, OffersDraw, ClaimsDraw, ClaimsWin, Rejects, Answers, line_kind}
+use Rattle.cecp_engine.specs.EngineLines.{LineKind, Features, Moves, Resigns, OffersDraw, ClaimsDraw, ClaimsWin, Rejects, Answers, SaysElse, kind_of}
 use Rattle.cecp_engine.specs.Items.{Item, items_of, ends_handshake, takes, plays_fischerandom}
 use Rattle.cecp_engine.specs.Levels.{allotted}
 use Rattle.chess_match.specs.Events.{Event, Line, Opened, OutputEnds, FailsToRead, FailsToWrite, Seat}
 use Rattle.chess_match.specs.Reasons.{outcome_by_reason, comment_of}
 use Rattle.chess_match.specs.Rules.{Rules}
 use Rattle.chess_text.specs.San.{is_fischerandom}
+use Rattle.chess_text.specs.declared.reading.Reading.{Reading}
+use Rattle.chess_text.specs.declared.reading.Reading.TheVariants as reads
 use Rattle.chess_base.specs.Options.{list_if}
 use Rattle.chess_match.specs.Lines.{SentLine, Says, MoveSent, Time, Otim, answers_to, setup_lines, ping}
 use Rattle.chess_match.specs.Reasons.{is_write_fault_of}
@@ -96,29 +98,15 @@ abbrev pub move_line : Rules → Match → Colour → SentLine
 move_line r m S =
     MoveSent (takes (codes "usermove") (m.seat S).items) (r.move_text (takes (codes "san") (m.seat S).items) m.played)
 
--- the line that sends the side `S` the last move, as a list of one; empty if no move was made
-abbrev pub last_move : Rules → Match → Colour → List SentLine
-last_move r m S = list_if (nat_lt 0 (length m.played)) (move_line r m S ∷ [])
-
--- the lines that tell the side `S` the clocks: `time T`, its own, and `otim U`, the other's, in centiseconds, rounded
--- down; no lines if its engine turned these off, as by `time=0`
-abbrev pub clocks : Rules → Match → Colour → List SentLine
-clocks r m S =
-    list_if (takes (codes "time") (m.seat S).items) (Time (clock r m S / 10) ∷ Otim (clock r m (other S) / 10) ∷ [])
-
 -- the lines that open a turn of the side `S`: in its first turn the last move (if one was made), the clocks and `go`;
--- in later turns the clocks and the last move
+-- in later turns the clocks and the last move. The clocks are `time T`, its own, and `otim U`, the other's, in
+-- centiseconds, rounded down; they are left out if its engine turned them off, as by `time=0`
 abbrev pub opening : Rules → Match → Colour → List SentLine
 opening r m S =
-    if nat_lt 0 (length (m.seat S).used) then clocks r m S ++ last_move r m S
-    else last_move r m S ++ (clocks r m S ++ Says (codes "go") ∷ [])
-
--- the lines that end the match for the side `S`, if it ends in the state `m` for this reason: the last move, if `S` was
--- not yet sent it; the result with its comment, such as `result 1-0 {Black resigns}`; and `quit`
-abbrev pub farewell : Rules → Match → Reason → Colour → List SentLine
-farewell r m reason S =
-    list_if (is_owed_move m.phase S) (move_line r m S ∷ [])
-    ++ (Says (codes "result " ++ result_text (outcome_by_reason reason) (comment_of reason)) ∷ Says (codes "quit") ∷ [])
+    let last = list_if (nat_lt 0 (length m.played)) (move_line r m S ∷ []) in
+    let times = Time (clock r m S / 10) ∷ Otim (clock r m (other S) / 10) ∷ [] in
+    let clocks = list_if (takes (codes "time") (m.seat S).items) times in
+    if nat_lt 0 (length (m.seat S).used) then clocks ++ last else last ++ (clocks ++ Says (codes "go") ∷ [])
 
 -- ---- the effects of which rows are made
 
@@ -134,12 +122,14 @@ sends_to side lines m = record { after = m; to = λ S. list_if (same_colour side
 abbrev pub with_seat : Colour → (Seat → Seat) → Match → Match
 with_seat S change m = record m { seat = λ side. if same_colour side S then change (m.seat side) else m.seat side }
 
--- the match `m` ends for this reason. Each side is sent its `farewell`, with the last move if by the phase of `m` it
--- was not yet sent that. But if the reason is that writing to a side failed, that side is sent nothing
+-- the match `m` ends for this reason. Each side is sent the last move, if by the phase of `m` it was not yet sent that;
+-- the result with its comment, such as `result 1-0 {Black resigns}`; and `quit`. But if the reason is that writing to a
+-- side failed, that side is sent nothing
 abbrev pub ends : Rules → Reason → Match → Effect
 ends r reason m = record {
   after = record m { phase = Over reason };
-  to = λ S. if is_write_fault_of reason S then [] else farewell r m reason S;
+  to = λ S. if is_write_fault_of reason S then [] else list_if (is_owed_move m.phase S) (move_line r m S ∷ [])
+      ++ (Says (codes "result " ++ result_text (outcome_by_reason reason) (comment_of reason)) ∷ Says (codes "quit") ∷ []);
 }
 
 -- a line of the side `S` is ignored; the 10,000th ignored line of one setup or turn ends the match
@@ -169,8 +159,8 @@ offer_row r S m =
     else sends_to (other S) (list_if (takes (codes "draw") (m.seat (other S)).items) (Says (codes "draw") ∷ []))
     (with_seat S (λ s. record s { offers = true }) m)
 
--- what a line of this kind of the side `S` does in the turn of `S`, before its move or after it. `move` never comes here,
--- nor does `pong` after the move: `before_move` and `line_row` have rows of their own for these
+-- what a line of this kind of the side `S` does in the turn of `S`, before its move or after it. `move` never comes
+-- here, nor does `pong` after the move: `before_move` and `line_row` have rows of their own for these
 abbrev pub turn_row : Rules → Colour → LineKind → Match → Effect
 -- `resign`: `S` loses
 turn_row r S Resigns m = ends r (over_by.Resigns S) m
@@ -181,9 +171,9 @@ turn_row r S ClaimsDraw m = option_map_or (λ claim. ends r (Claimed claim) m) (
 -- `1-0` or `0-1`: `S` loses, by a false claim if it names itself the winner (a mate ends the match without a claim),
 -- otherwise by resigning
 turn_row r S (ClaimsWin winner) m = ends r (if same_colour winner S then ClaimsFalsely S else over_by.Resigns S) m
--- `Illegal move`: `S` rejects the move that it was sent last, which was legal, as each move was judged before it was
--- sent; so `S` loses. But if it was never sent a move, the line is ignored. What is tested is whether the other side has
--- made a move (`used` has a time for each): in its turn `S` was sent each of these
+-- `Illegal move`: `S` rejects the last move that it was sent, which was legal, since only legal moves are sent on; so
+-- `S` loses. But if it was never sent a move, the line is ignored. What is tested is whether the other side has made a
+-- move (`used` has a time for each): in its turn `S` was sent each of these
 turn_row r S Rejects m =
     if nat_lt 0 (length (m.seat (other S)).used) then ends r (RejectsLegalMove S) m else ignores r S m
 -- any other line is ignored
@@ -196,14 +186,14 @@ moved S move used m =
     with_seat (other S) (λ s. record s { offers = false }) (with_seat S (λ s. record s { used = s.used ++ used ∷ [] })
     (record m { phase = AfterMove S; played = m.played ++ move ∷ [] }))
 
--- what a line `move M` of the side `S` does, `used` milliseconds after its turn began. The option is the one legal move
--- that M denotes
-abbrev pub move_row : Rules → Colour → ℕ → Option Move → Match → Effect
--- M denotes no legal move, or several: `S` loses
-move_row r S used None m = ends r (MovesIllegally S) m
--- the move is made. The board's verdict then ends the match, if there is one; otherwise `S` is sent the next `ping`
-move_row r S used (Some move) m =
+-- what a line `move M` of the side `S` does, `used` milliseconds after its turn began, by what M denotes
+abbrev pub move_row : Rules → Colour → ℕ → Reading → Match → Effect
+-- one legal move: it is made. The board's verdict then ends the match, if there is one; otherwise `S` is sent the next
+-- `ping`
+move_row r S used (reads.Move move) m =
     let m' = moved S move used m in unless_decided r m' (sends_to S (ping (ping_number m' S) ∷ []) m')
+-- no legal move, or more than one: `S` loses
+move_row r S used _ m = ends r (MovesIllegally S) m
 
 -- what a line of this kind of the side `S` does, if its move is awaited and its flag has not fallen; its turn began
 -- `used` milliseconds before
@@ -279,9 +269,9 @@ line_row r _ _ _ m = sends_nothing m
 
 -- what an event does to the match `m`
 abbrev pub effect : Rules → Match → Event → Effect
--- a line. `line_row` takes its side from the phase: only lines of the side that `m` waits for are read (`awaits_line`
--- in Acts)
-effect r m (Line S text moment) = line_row r m.phase (line_kind text) moment m
+-- a line; one that was too long is of the kind `SaysElse`. `line_row` takes its side from the phase: only lines of the
+-- side that `m` waits for are read (`awaits_line` in Acts)
+effect r m (Line S text moment) = line_row r m.phase (option_map_or kind_of text SaysElse) moment m
 -- the lines that open a turn were sent: from this moment on its time runs
 effect r m (Opened S moment) = sends_nothing (record m { phase = BeforeMove S moment })
 -- an engine's output ended, or a read from the engine or a write to it failed: the match ends by that fault

@@ -6,7 +6,7 @@ use Rattle.chess_base.specs.declared.man.Colour.{Colour}
 use Rattle.byte_devices.specs.Transfers.{FromInput, ToOutput, Devices, Ran, all_of, BreaksOffIn}
 use Rattle.chess_game.specs.Game as game
 use Rattle.chess_game.specs.Results.{cut_tag}
-use Rattle.cecp_engine.specs.Items.{last_said, value_text}
+use Rattle.cecp_engine.specs.Items.{last_said}
 use Rattle.chess_match.specs.Acts.{Act, IsMatch}
 use Rattle.chess_match.specs.ByDevice.{line_read, is_end_of, is_failed_read_of, moment_shown, lines_to, broken_block, notes_given}
 use Rattle.chess_match.specs.Effects.{Match, Over}
@@ -76,7 +76,7 @@ pub record ReportedAs (H : List Act) (final : Match) (reason : Reason) (end : Ma
   -- the name of each engine is the value of the last `myname` in its handshake, as a PGN tag keeps it: its first 60
   -- bytes, with `?` in place of what is no printable ASCII; empty if it sent none
   pub name : (S : Colour) → by_colour end.white_name end.black_name S
-      ≡ cut_tag (last_said value_text [] (codes "myname") (final.seat S).items)
+      ≡ cut_tag (last_said (λ v. v.text) [] (codes "myname") (final.seat S).items)
   -- the first fault, and whose it is: the one that ended the match; if none did, a failed write after the end (White's,
   -- if writing to both sides failed); `None` if there was none
   pub fault : end.fault ≡ reported_fault reason (λ S. nat_lt 0 (length (flat_map (broken_block S) H)))

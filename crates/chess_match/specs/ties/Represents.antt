@@ -10,7 +10,7 @@ use Rattle.chess_base.specs.Options.{list_if}
 use Rattle.chess_game.specs.Results.{cut_tag, result_text}
 use Rattle.cecp_engine.specs.Clocks.{ClocksSeen, Spent, charged}
 use Rattle.cecp_engine.specs.EngineLines.{LineKind}
-use Rattle.cecp_engine.specs.Items.{Item, last_said, value_text}
+use Rattle.cecp_engine.specs.Items.{Item, last_said}
 use Rattle.cecp_engine.specs.Seen.{features_of}
 use Rattle.cecp_engine.specs.Levels.{LevelSeen}
 use Rattle.chess_match.specs.Acts.{is_over}
@@ -35,7 +35,7 @@ use Rattle.chess_match.specs.ties.Texts.{AreOfLast, unsent_in}
 -- the name that an engine with these items gave by its last `myname`, cut so that a PGN tag can hold it; empty if it
 -- gave none
 unfoldable pub name_by : List Item → List ℕ
-name_by items = cut_tag (last_said value_text [] (codes "myname") items)
+name_by items = cut_tag (last_said (λ v. v.text) [] (codes "myname") items)
 
 -- what the code keeps of an engine (`kept`: features, name, and whether its offer of a draw is open) is what the
 -- definitions know of it (`known`)
