@@ -1,7 +1,7 @@
 -- What an engine accepts, item by item.
 use Rattle.std.proofs.Common.{◌≡◌, ℕ, ◌+◌, ◌-◌, true, List, [], ◌∷◌, ◌++◌, refl}
 use Rattle.std.specs.Prelude.{codes}
-use Rattle.cecp_engine.specs.Items.{Item, takes, is_one, value_text, has_word, plays_fischerandom}
+use Rattle.cecp_engine.specs.Items.{Item, takes, is_one, has_word, plays_fischerandom}
 use Rattle.cecp_engine.specs.ties.Taken.{said_again, fischerandom_again}
 use Rattle.cecp_engine.specs.Seen.{features_of}
 use Rattle.cecp_engine.specs.declared.features.Features.{Features}
@@ -16,7 +16,7 @@ pub fischerandom-snoc : (items : List Item) (i : Item) → plays_fischerandom (i
     (plays_fischerandom items)
 unfolding plays_fischerandom
 fischerandom-snoc items i =
-    last_said-snoc (λ v. has_word (codes "fischerandom") (value_text v)) true (codes "variants") items i
+    last_said-snoc (λ v. has_word (codes "fischerandom") v.text) true (codes "variants") items i
 
 pub features-snoc : (f : Features) (items : List Item) (i : Item) → f ≡ features_of items
     → record {

@@ -10,10 +10,11 @@ use Rattle.text_lines.specs.Words.{is_name_byte}
 
 -- ---- one item, `NAME=VALUE`
 
--- VALUE in an item `NAME=VALUE` of a `feature` line, as bytes: digits, or the text between two double quotes
-pub data Value : Type 0 where
-  Digits : List ℕ → Value
-  Quoted : List ℕ → Value
+-- VALUE in an item `NAME=VALUE` of a `feature` line: a text between two double quotes, or digits without quotes
+pub record Value : Type 0 where
+  pub quoted : Bool
+  -- the text without the quotes
+  pub text : List ℕ
 
 -- an item of a `feature` line, `NAME=VALUE`: a feature's name, and its value
 pub record Item : Type 0 where
@@ -26,9 +27,10 @@ abbrev pub value_of : List ℕ → Option (Value × List ℕ)
 value_of [] = None
 value_of (c ∷ cs) =
     let closing = position_or_len (λ b. b == byte "\"") cs in
-    if c == byte "\"" && nat_lt closing (length cs) then Some (Quoted (take closing cs), drop (closing + 1) cs)
-    else if is_digit c then Some (Digits (take_while is_digit (c ∷ cs)), drop (prefix_len is_digit (c ∷ cs)) (c ∷ cs))
-    else None
+    let n = prefix_len is_digit (c ∷ cs) in
+    if c == byte "\"" && nat_lt closing (length cs)
+    then Some (record { quoted = true; text = take closing cs }, drop (closing + 1) cs)
+    else if is_digit c then Some (record { quoted = false; text = take n (c ∷ cs) }, drop n (c ∷ cs)) else None
 
 -- the item that a text begins with, such as `ping=1` or `myname="Sjeng"`, and the text after it, without spaces and
 -- tabs at its front. An item is a name of one or more letters, digits or `_`, then `=`, then a value (`value_of`), and
@@ -46,8 +48,7 @@ item_of text =
 
 -- whether a value is the digit 1, without quotes
 abbrev pub is_one : Value → Bool
-is_one (Digits ds) = bytes_eq ds (codes "1")
-is_one (Quoted cs) = false
+is_one v = not v.quoted && bytes_eq v.text (codes "1")
 
 -- whether an item is `done=1`, which ends the handshake
 abbrev pub ends_handshake : Item → Bool
@@ -77,11 +78,6 @@ last_said f default name items = fold (λ before i. if bytes_eq i.name name then
 unfoldable pub takes : List ℕ → List Item → Bool
 takes name items = last_said is_one (bytes_eq name (codes "time") || bytes_eq name (codes "draw")) name items
 
--- a value's text, without quotes
-abbrev pub value_text : Value → List ℕ
-value_text (Digits ds) = ds
-value_text (Quoted cs) = cs
-
 -- whether `text`, a list with commas, spaces or tabs between, such as `normal,fischerandom`, has this word
 unfoldable pub has_word : List ℕ → List ℕ → Bool
 has_word word text = list_any (λ piece. bytes_eq piece word) (slice_split (λ c. is_blank c || (c == byte ",")) text)
@@ -89,12 +85,12 @@ has_word word text = list_any (λ piece. bytes_eq piece word) (slice_split (λ c
 -- whether an engine that sent these items plays Chess960: its last item `variants` names `fischerandom`, or there is no
 -- item `variants` (CECP then assumes that it plays all variants)
 unfoldable pub plays_fischerandom : List Item → Bool
-plays_fischerandom items = last_said (λ v. has_word (codes "fischerandom") (value_text v)) true (codes "variants") items
+plays_fischerandom items = last_said (λ v. has_word (codes "fischerandom") v.text) true (codes "variants") items
 
 -- ---- the answer to an item
 
--- whether a feature of this name is answered by `accepted`, otherwise by `rejected`: first those that an arbiter uses,
--- then others that it accepts and doesn't use
+-- whether the arbiter answers a feature of this name by `accepted`, otherwise by `rejected`: first the features that it
+-- uses, then others that it accepts and doesn't use
 unfoldable pub is_known : List ℕ → Bool
 is_known name = has_word name (codes "ping setboard san usermove time draw myname variants done")
     || has_word name (codes "playother sigint sigterm reuse analyze colors debug")

@@ -1,5 +1,5 @@
 -- What engine lines, items and features are read as.
-use Rattle.std.specs.Prelude.{ℕ, List, codes, Option, None, Some}
+use Rattle.std.specs.Prelude.{ℕ, true, false, List, codes, Option, None, Some}
 use Rattle.std.specs.Borrow.{Bor}
 use Rattle.cecp_engine.specs.EngineLines as kinds
 use Rattle.cecp_engine.specs.EngineLines.{LineKind}
@@ -27,8 +27,8 @@ seen Other = kinds.SaysElse
 -- the value in an item (`NAME=VALUE` of a `feature` line), as the definitions have it, for the code's value: of the
 -- same form (digits, or text between double quotes), with the same bytes
 abbrev pub value_seen : Value → items.Value
-value_seen (Digits text) = items.Digits text.now
-value_seen (Quoted text) = items.Quoted text.now
+value_seen (Digits text) = record { quoted = false; text = text.now }
+value_seen (Quoted text) = record { quoted = true; text = text.now }
 
 -- the item, as the definitions have it, that the code's item stands for
 abbrev pub item_seen : Item → items.Item

@@ -2,7 +2,7 @@
 
 ghost use Rattle.std.specs.Prelude.{◌≡◌, ◌≤◌, ◌<◌, ◌++◌, ◌∷◌, ◌==◌, ◌||◌, [], length, drop, take, List, ℕ};
 ghost use Rattle.chess_base.specs.Letters.{byte, is_digit};
-ghost use Rattle.cecp_engine.specs.Items.{value_of, item_of, is_one, ends_handshake, items_of, is_known, has_word, value_text};
+ghost use Rattle.cecp_engine.specs.Items.{value_of, item_of, is_one, ends_handshake, items_of, is_known, has_word};
 ghost use Rattle.cecp_engine.specs.ties.Taken.{said_again, fischerandom_again, value_read};
 ghost use Rattle.cecp_engine.specs.Seen.{value_seen, item_seen, item_read};
 ghost use Rattle.text_lines.specs.Lines.{is_blank};
@@ -150,7 +150,7 @@ impl<'a> Value<'a> {
 
     /// The value's digits, or the text between its quotes.
     pub fn text(&self) -> &'a [u8]
-        ensures { result.now ≡ value_text (value_seen self.now) }
+        ensures { result.now ≡ (value_seen self.now).text }
     {
         match self {
             Value::Digits(text) => text,

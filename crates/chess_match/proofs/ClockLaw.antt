@@ -5,7 +5,8 @@ use Rattle.chess_base.specs.declared.man.Colour.{Colour}
 use Rattle.chess_base.specs.declared.man.Move.{Move}
 use Rattle.chess_base.specs.Men.{same_colour}
 use Rattle.chess_base.proofs.shared.Men.{same_colour-true}
-use Rattle.cecp_engine.specs.EngineLines.{LineKind, line_kind}
+use Rattle.cecp_engine.specs.EngineLines.{LineKind}
+use Rattle.chess_match.specs.laws.Laws.{line_kind}
 use Rattle.cecp_engine.specs.Levels.{LevelSeen, allotted}
 use Rattle.cecp_engine.proofs.shared.Levels.{allotted_grows}
 use Rattle.chess_match.specs.Acts.{awaits_line}

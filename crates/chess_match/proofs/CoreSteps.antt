@@ -14,7 +14,8 @@ use Rattle.cecp_engine.specs.EngineLines.{LineKind}
 use Rattle.cecp_engine.specs.Items.{Item, takes}
 use Rattle.cecp_engine.specs.Seen.{features_of}
 use Rattle.chess_match.specs.Acts.{awaits_line, is_over}
-use Rattle.chess_match.specs.Effects.{Match, Phase, Opening, BeforeMove, Over, Effect, begins_turn, clock, ends, enter, is_owed_move, line_row, moved, sends_nothing, sends_to, with_answers, with_seat}
+use Rattle.chess_match.specs.Effects.{Match, Phase, Handshake, Opening, BeforeMove, Over, Effect, begins_turn, clock, ends, handshake_row, is_owed_move, line_row, moved, sends_nothing, sends_to, with_seat}
+use Rattle.chess_match.specs.ties.Parts.{enter, with_answers}
 use Rattle.chess_match.specs.Events.{Seat}
 use Rattle.chess_match.specs.Lines.{SentLine, Says, answers_to}
 use Rattle.chess_match.specs.Reasons.{is_write_fault_of}
@@ -28,6 +29,8 @@ use Rattle.chess_match.specs.declared.state.Player.{Player}
 use Rattle.chess_match.specs.declared.texts.LastMove.{LastMove}
 use Rattle.chess_match.specs.declared.texts.MoveTexts.{MoveTexts}
 use Rattle.chess_match.specs.ties.Represents.{Goes, Keeps, Represents, after_answers, clocks_of, given_lines, is_unsent, items_to, last_lines, lines_if_to, name_by, nothing_said, offered_core, phase_lines, phase_of, played_core, player, time_used_by}
+use Rattle.chess_match.specs.laws.Laws.{items_in_line}
+use Rattle.chess_match.proofs.LineCases.{handshake_by_items}
 use Rattle.chess_match.specs.ties.Texts.{all_sent, AreOfLast, AreTexts}
 
 -- ---- what the core keeps of a match
@@ -228,6 +231,14 @@ row_goes r core played given items kind moment m p e h =
     subst (λ (q : Phase). Goes r core played given items (line_row r q kind moment m)) (sym e) h
 
 -- ---- a handshake
+
+-- a line in a handshake, by its items
+pub shaken_goes : (r : Rules) (core : MatchState) (played : List Move) (given : Actions) (items : Colour → List Item)
+    (S : Colour) (kind : LineKind) (moment : ℕ) (m : Match)
+    → Goes r core played given items (handshake_row r S (items_in_line kind) m)
+    → Goes r core played given items (line_row r (Handshake S) kind moment m)
+shaken_goes r core played given items S kind moment m h =
+    subst (λ (e : Effect). Goes r core played given items e) (sym (handshake_by_items r S kind moment m)) h
 
 -- the core once S said more
 abbrev pub items_core : MatchState → Colour → Player → MatchState

@@ -1,7 +1,8 @@
 -- Whose line ended a match.
 use Rattle.std.proofs.Common.{◌≡◌, ℕ, Bool, true, false, List, [], ◌∷◌, ◌++◌, refl, ap, sym, ◌∙◌, Option, None, Some}
 use Rattle.chess_base.specs.declared.man.Colour.{Colour}
-use Rattle.cecp_engine.specs.EngineLines.{LineKind, line_kind}
+use Rattle.cecp_engine.specs.EngineLines.{LineKind}
+use Rattle.chess_match.specs.laws.Laws.{line_kind}
 use Rattle.chess_match.specs.Acts.{Act, Block, IsMatchFrom, Happens, Sends, awaits_line, is_over}
 use Rattle.chess_match.specs.Effects.{Match, Phase, Over, effect, line_row}
 use Rattle.chess_match.specs.Events.{Line, Opened}

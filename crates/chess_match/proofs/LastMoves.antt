@@ -1,19 +1,25 @@
 -- The last move of a line, and its text.
-use Rattle.std.proofs.Common.{◌≡◌, ℕ, Bool, List, [], ◌∷◌, ◌++◌, refl, ap, sym, ◌∙◌}
+use Rattle.std.proofs.Common.{◌≡◌, ℕ, ◌-◌, Bool, List, [], ◌∷◌, ◌++◌, length, length-append, refl, ap, sym, ◌∙◌, Option, None, Some, arith}
+use Rattle.std.specs.List.{last_or}
+use Rattle.std.proofs.Math.Seq.{take-append_seam}
 use Rattle.chess_base.specs.declared.man.Move.{Move}
 use Rattle.chess_base.specs.declared.setup.Setup.{Setup}
 use Rattle.chess_base.specs.Moves.{after}
 use Rattle.chess_game.specs.Line.{position_after}
 use Rattle.chess_text.specs.San.{check_mark, san, shown_move}
-use Rattle.chess_match.specs.Rules.{text_of_last}
+use Rattle.chess_match.specs.ties.Chess.{text_of_last}
 use Rattle.std.specs.Prelude.{if◌then◌else◌}
+
+last_is : (o : Option Move) (ms : List Move) (m : Move) → last_or o (ms ++ m ∷ []) ≡ Some m
+last_is o [] m = refl
+last_is o (x ∷ ms) m = last_is (Some x) ms m
 
 pub text_at_last : (as_san : Bool) (start : Setup) (ms : List Move) (m : Move)
     → text_of_last as_san start (ms ++ m ∷ [])
     ≡ (let p = position_after start ms in if as_san then san p m else shown_move p m)
-text_at_last as_san start [] m = refl
-text_at_last as_san start (x ∷ []) m = refl
-text_at_last as_san start (x ∷ y ∷ ms) m = text_at_last as_san (after start x) (y ∷ ms) m
+text_at_last as_san start ms m =
+    let few : length (ms ++ m ∷ []) - 1 ≡ length ms = omega (arith, length-append ms (m ∷ [])) in
+    rw (few, take-append_seam ms (m ∷ []), last_is None ms m) refl
 
 pub after_last : (start : Setup) (ms : List Move) (m : Move) → position_after start (ms ++ m ∷ [])
     ≡ after (position_after start ms) m

@@ -15,18 +15,21 @@ use Rattle.chess_game.specs.declared.verdicts.Verdict.{Verdict}
 use Rattle.cecp_engine.specs.EngineLines.{LineKind, Features, Moves, Resigns, OffersDraw, ClaimsDraw, ClaimsWin, Rejects, Answers, SaysElse}
 use Rattle.cecp_engine.specs.Items.{Item, ends_handshake, plays_fischerandom, takes}
 use Rattle.chess_match.specs.Acts.{awaits_line}
-use Rattle.chess_match.specs.Effects.{Match, Phase, Handshake, Setup, Opening, BeforeMove, AfterMove, Over, Effect, before_move, begins_turn, clock, ends, enter, flag_row, handshake_done, handshake_lines, handshake_row, ignores, items_said, judged, line_row, missing, move_row, moved, offer_row, ping_number, sends_nothing, sends_to, setup_done, turn_row, with_answers, with_seat}
+use Rattle.chess_match.specs.Effects.{Match, Phase, Handshake, Setup, Opening, BeforeMove, AfterMove, Over, Effect, before_move, begins_turn, clock, ends, flag_row, handshake_done, handshake_lines, handshake_row, ignores, judged, line_row, missing, move_row, moved, offer_row, ping_number, sends_nothing, sends_to, setup_done, turn_row, with_seat}
+use Rattle.chess_match.specs.ties.Parts.{enter, with_answers}
 use Rattle.chess_match.specs.Lines.{Says, ping, setup_lines}
 use Rattle.chess_match.specs.Reasons.{is_write_fault_of}
 use Rattle.chess_match.specs.Rules.{Rules}
 use Rattle.chess_text.specs.San.{is_fischerandom}
+use Rattle.chess_text.specs.declared.reading.Reading.{Reading}
+use Rattle.chess_text.specs.declared.reading.Reading.TheVariants as reads
 use Rattle.chess_game.specs.declared.verdicts.DrawClaim.{DrawClaim}
 use Rattle.chess_match.specs.declared.reason.MatchFault.{MatchFault}
 use Rattle.chess_match.specs.declared.reason.MatchFault.TheVariants.{Flood, NoDone, NoPing, NoSetboard, NoVariant}
 use Rattle.chess_match.specs.declared.reason.Reason.{Reason}
 use Rattle.chess_match.specs.declared.reason.Reason.TheVariants.{Decided, Claimed, Agreed, MovesIllegally, MovesOutOfTurn, ClaimsFalsely, RejectsLegalMove, Forfeits, ForfeitsToBareKing, GameTooLong, Faulted}
 use Rattle.chess_match.specs.declared.reason.Reason.TheVariants as over_by
-use Rattle.chess_match.specs.laws.Laws.{move_said, is_pong}
+use Rattle.chess_match.specs.laws.Laws.{move_said, is_pong, items_in_line}
 use Rattle.chess_match.specs.laws.OfActs.{whose_line}
 
 -- whether a match ended for a verdict of the board
@@ -55,7 +58,7 @@ turn_done p h1 = grind arith
 
 -- the match with the items of a line of S
 abbrev pub said_by : Colour → LineKind → Match → Match
-said_by S kind m = with_seat S (λ s. record s { items = s.items ++ items_said kind }) m
+said_by S kind m = with_seat S (λ s. record s { items = s.items ++ items_in_line kind }) m
 
 -- a line more is counted
 abbrev pub counting : Match → Effect
@@ -75,15 +78,15 @@ pub record LineCases (r : Rules) (S : Colour) (kind : LineKind) (moment : ℕ) (
   where
     -- in its handshake
     pub handshake_stops : m.phase ≡ Handshake S → (reason : Reason) (k : ℕ) → k ≤ m.count → MayStop S reason
-        → Q (with_answers S (items_said kind) (ends r reason (record (said_by S kind m) { count = k })))
-    pub handshake_counts : m.phase ≡ Handshake S → list_any ends_handshake (items_said kind) ≡ false
+        → Q (with_answers S (items_in_line kind) (ends r reason (record (said_by S kind m) { count = k })))
+    pub handshake_counts : m.phase ≡ Handshake S → list_any ends_handshake (items_in_line kind) ≡ false
         → m.count + 1 < 1000
-        → Q (with_answers S (items_said kind) (sends_nothing (record (said_by S kind m) { count = m.count + 1 })))
-    pub handshake_next : m.phase ≡ Handshake S → S ≡ White → list_any ends_handshake (items_said kind) ≡ true
-        → Q (with_answers S (items_said kind)
+        → Q (with_answers S (items_in_line kind) (sends_nothing (record (said_by S kind m) { count = m.count + 1 })))
+    pub handshake_next : m.phase ≡ Handshake S → S ≡ White → list_any ends_handshake (items_in_line kind) ≡ true
+        → Q (with_answers S (items_in_line kind)
         (sends_to Black handshake_lines (enter (Handshake Black) (said_by S kind m))))
-    pub handshake_last : m.phase ≡ Handshake S → S ≡ Black → list_any ends_handshake (items_said kind) ≡ true
-        → Q (with_answers S (items_said kind) (sends_to White (setup_lines r) (enter (Setup White) (said_by S kind m))))
+    pub handshake_last : m.phase ≡ Handshake S → S ≡ Black → list_any ends_handshake (items_in_line kind) ≡ true
+        → Q (with_answers S (items_in_line kind) (sends_to White (setup_lines r) (enter (Setup White) (said_by S kind m))))
     -- in its setup
     pub setup_counts : m.phase ≡ Setup S → is_pong 1 kind ≡ false → m.count + 1 < 10000 → Q (counting m)
     pub setup_next : m.phase ≡ Setup S → S ≡ White → is_pong 1 kind ≡ true
@@ -97,10 +100,10 @@ pub record LineCases (r : Rules) (S : Colour) (kind : LineKind) (moment : ℕ) (
     pub counts : in_turn m.phase ≡ true → move_said kind ≡ [] → m.count + 1 < 10000 → Q (counting m)
     pub offers : in_turn m.phase ≡ true → move_said kind ≡ [] → (m.seat S).offers ≡ false → Q (offering S m)
     pub plays : (text : List ℕ) (move : Move) (opened : ℕ) → kind ≡ Moves text → m.phase ≡ BeforeMove S opened
-        → r.reading m.played text ≡ Some move → length m.played < r.limit → moment - opened ≤ clock r m S
+        → r.reading m.played text ≡ reads.Move move → length m.played < r.limit → moment - opened ≤ clock r m S
         → r.verdict (m.played ++ move ∷ []) ≡ None → Q (playing S move (moment - opened) m)
     pub decides : (text : List ℕ) (move : Move) (opened : ℕ) (v : Verdict) → kind ≡ Moves text
-        → m.phase ≡ BeforeMove S opened → r.reading m.played text ≡ Some move → length m.played < r.limit
+        → m.phase ≡ BeforeMove S opened → r.reading m.played text ≡ reads.Move move → length m.played < r.limit
         → moment - opened ≤ clock r m S → r.verdict (m.played ++ move ∷ []) ≡ Some v
         → Q (ends r (Decided v) (moved S move (moment - opened) m))
     pub passes : m.phase ≡ AfterMove S → move_said kind ≡ [] → Q (begins_turn r (other S) m)
@@ -168,10 +171,15 @@ module _ (r : Rules) (S : Colour) (kind : LineKind) (moment : ℕ) (m : Match) (
 
   -- before its move
   module _ (opened : ℕ) (p : m.phase ≡ BeforeMove S opened) (timely : moment - opened ≤ clock r m S) where
-    a_move : (text : List ℕ) (read : Option Move) → kind ≡ Moves text → r.reading m.played text ≡ read
+    a_move : (text : List ℕ) (read : Reading) → kind ≡ Moves text → r.reading m.played text ≡ read
         → length m.played < r.limit → Q (move_row r S (moment - opened) read m)
-    a_move text None is e room = l.stops (ap handshakes_done p) (MovesIllegally S) ((λ O. refl), (λ c e. cc), refl)
-    a_move text (Some move) is e room = at (r.verdict (m.played ++ move ∷ [])) refl
+    a_move text reads.Ambiguous is e room = l.stops (ap handshakes_done p) (MovesIllegally S)
+        ((λ O. refl), (λ c e. cc), refl)
+    a_move text reads.NoSuch is e room = l.stops (ap handshakes_done p) (MovesIllegally S)
+        ((λ O. refl), (λ c e. cc), refl)
+    a_move text reads.NotAMove is e room = l.stops (ap handshakes_done p) (MovesIllegally S)
+        ((λ O. refl), (λ c e. cc), refl)
+    a_move text (reads.Move move) is e room = at (r.verdict (m.played ++ move ∷ [])) refl
       where
         at : (v : Option Verdict) → r.verdict (m.played ++ move ∷ []) ≡ v
             → Q (option_map_or (λ v. ends r (Decided v) (moved S move (moment - opened) m)) v
@@ -227,26 +235,32 @@ module _ (r : Rules) (S : Colour) (kind : LineKind) (moment : ℕ) (m : Match) (
       (by_test Q (is_pong 1 kind) (set_up S refl p) (λ h. ignored (ap handshakes_done p) (l.setup_counts p h)))
 
   -- in its handshake
-  shaken : (c : Colour) → S ≡ c → m.phase ≡ Handshake S → list_any ends_handshake (items_said kind) ≡ true
-      → Q (with_answers S (items_said kind) (handshake_done r c (said_by S kind m)))
+  shaken : (c : Colour) → S ≡ c → m.phase ≡ Handshake S → list_any ends_handshake (items_in_line kind) ≡ true
+      → Q (with_answers S (items_in_line kind) (handshake_done r c (said_by S kind m)))
   shaken White e p d = l.handshake_next p e d
   shaken Black e p d =
       at (missing r ((said_by S kind m).seat White).items) (missing r ((said_by S kind m).seat Black).items)
       (misses r ((said_by S kind m).seat White).items) (misses r ((said_by S kind m).seat Black).items)
     where
       at : (w b : Option MatchFault) → NoWriteFault w → NoWriteFault b
-          → Q (with_answers S (items_said kind) (judged r w b (said_by S kind m)))
+          → Q (with_answers S (items_in_line kind) (judged r w b (said_by S kind m)))
       at (Some f) b x y = l.handshake_stops p (Faulted White f) 0 (omega arith) (x White, (λ c e. cc), refl)
       at None (Some f) x y = l.handshake_stops p (Faulted Black f) 0 (omega arith) (y Black, (λ c e. cc), refl)
       at None None x y = l.handshake_last p e d
 
-  handshake : m.phase ≡ Handshake S → Q (handshake_row r S (items_said kind) m)
-  handshake p = by_test (λ (e : Effect). Q (with_answers S (items_said kind) e))
-      (list_any ends_handshake (items_said kind))
+  handshake : m.phase ≡ Handshake S → Q (handshake_row r S (items_in_line kind) m)
+  handshake p = by_test (λ (e : Effect). Q (with_answers S (items_in_line kind) e))
+      (list_any ends_handshake (items_in_line kind))
       (shaken S refl p)
-      (λ d. by_test (λ (e : Effect). Q (with_answers S (items_said kind) e)) (nat_le 1000 (m.count + 1))
+      (λ d. by_test (λ (e : Effect). Q (with_answers S (items_in_line kind) e)) (nat_le 1000 (m.count + 1))
       (λ h. l.handshake_stops p (Faulted S NoDone) m.count (omega arith) ((λ O. refl), (λ c e. cc), refl))
       (λ h. l.handshake_counts p d (leb-false 1000 (m.count + 1) h)))
+
+-- a line in a handshake, by its items
+pub handshake_by_items : (r : Rules) (S : Colour) (kind : LineKind) (moment : ℕ) (m : Match)
+    → line_row r (Handshake S) kind moment m ≡ handshake_row r S (items_in_line kind) m
+handshake_by_items r S (Features text) moment m = refl
+handshake_by_items r S _ moment m = refl
 
 pub line_cases : (r : Rules) (S : Colour) (kind : LineKind) (moment : ℕ) (m : Match) (Q : Effect → Type 0)
     → awaits_line m.phase S ≡ true → LineCases r S kind moment m Q → Q (line_row r m.phase kind moment m)
@@ -257,8 +271,9 @@ line_cases r S kind moment m Q aw l = at m.phase refl aw
     here p c q e h = e ∙ ap q (same_colour-true c S h)
 
     at : (p : Phase) → m.phase ≡ p → awaits_line p S ≡ true → Q (line_row r p kind moment m)
-    at (Handshake c) e h = subst (λ (x : Colour). Q (handshake_row r x (items_said kind) m))
-        (sym (same_colour-true c S h)) (handshake r S kind moment m Q l (here m.phase c Handshake e h))
+    at (Handshake c) e h = subst (λ (x : Colour). Q (line_row r (Handshake x) kind moment m))
+        (sym (same_colour-true c S h)) (subst Q (sym (handshake_by_items r S kind moment m))
+        (handshake r S kind moment m Q l (here m.phase c Handshake e h)))
     at (Setup c) e h = subst (λ (x : Colour). Q (line_row r (Setup x) kind moment m)) (sym (same_colour-true c S h))
         (setup r S kind moment m Q l (here m.phase c Setup e h))
     at (BeforeMove c opened) e h = subst (λ (x : Colour). Q (line_row r (BeforeMove x opened) kind moment m))

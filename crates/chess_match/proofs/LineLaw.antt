@@ -4,9 +4,9 @@ use Rattle.chess_base.specs.declared.man.Colour.{Colour}
 use Rattle.chess_base.specs.declared.man.Colour.TheVariants.{White, Black}
 use Rattle.chess_base.specs.Men.{same_colour}
 use Rattle.chess_base.specs.Options.{list_if}
-use Rattle.cecp_engine.specs.EngineLines.{LineKind, line_kind}
+use Rattle.cecp_engine.specs.EngineLines.{LineKind}
 use Rattle.chess_match.specs.Acts.{Act, awaits_line}
-use Rattle.chess_match.specs.ByDevice.{lines_read}
+use Rattle.chess_match.specs.laws.Laws.{lines_read, line_kind}
 use Rattle.chess_match.specs.Effects.{Match, Phase, Handshake, Setup, Opening, BeforeMove, AfterMove, Over, line_row}
 use Rattle.chess_match.specs.Rules.{Rules}
 use Rattle.chess_match.specs.laws.OfActs.{AtEachMoment, LinesAreFew}

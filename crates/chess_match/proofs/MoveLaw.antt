@@ -8,17 +8,16 @@ use Rattle.chess_base.specs.declared.man.Move.{Move}
 use Rattle.chess_base.specs.Men.{other, same_colour}
 use Rattle.chess_base.specs.Options.{list_if}
 use Rattle.chess_base.proofs.shared.Men.{same_colour-true}
-use Rattle.cecp_engine.specs.EngineLines.{line_kind}
 use Rattle.cecp_engine.specs.Items.{takes}
 use Rattle.chess_match.specs.Acts.{Act, Block, IsMatch, IsMatchFrom, Sends, SendFails, Happens, awaits_line, is_over}
-use Rattle.chess_match.specs.ByDevice.{broken_blocks, is_broken, lines_sent}
-use Rattle.chess_match.specs.Effects.{Match, Phase, Handshake, Setup, Opening, BeforeMove, AfterMove, Over, begins_turn, beginning, effect, ends, enter, is_owed_move, moved, opening}
+use Rattle.chess_match.specs.Effects.{Match, Phase, Handshake, Setup, Opening, BeforeMove, AfterMove, Over, begins_turn, beginning, effect, ends, is_owed_move, moved, opening}
+use Rattle.chess_match.specs.ties.Parts.{enter}
 use Rattle.chess_match.specs.Events.{Line, Opened}
 use Rattle.chess_match.specs.Lines.{SentLine}
 use Rattle.chess_match.specs.Reasons.{is_write_fault_of}
 use Rattle.chess_match.specs.Rules.{Rules}
 use Rattle.chess_match.specs.declared.reason.Reason.{Reason}
-use Rattle.chess_match.specs.laws.Laws.{move_sent, moves_sent, texts_from}
+use Rattle.chess_match.specs.laws.Laws.{move_sent, moves_sent, texts_from, broken_blocks, is_broken, lines_sent, line_kind}
 use Rattle.chess_match.specs.laws.OfActs.{AllMovesAreSent, AtEachLine, AtEachMoment, AtEachOpening, InEachMatch, IsSentAllMoves, MovesAreSent, MovesSentAreKnown, lines_given, match_after, others_moves}
 use Rattle.chess_match.proofs.Givings.{Gives, Goes, given_at, grows, sends}
 use Rattle.chess_match.proofs.LineCases.{line_cases}

@@ -18,9 +18,10 @@ use Rattle.chess_game.specs.declared.results.Declared.{Declared}
 use Rattle.chess_game.specs.declared.results.Outcome.{Outcome}
 use Rattle.chess_game.specs.declared.results.Outcome.TheVariants.{Unfinished}
 use Rattle.chess_game.specs.declared.tags.HowEnded.{HowEnded}
-use Rattle.cecp_engine.specs.Items.{Item, last_said, value_text}
+use Rattle.cecp_engine.specs.Items.{Item, last_said}
 use Rattle.cecp_engine.specs.Levels.{LevelSeen}
-use Rattle.chess_match.specs.Acts.{Block, awaits_line, blocks_from, blocks_after, is_over}
+use Rattle.chess_match.specs.Acts.{Block, awaits_line, blocks_from, is_over}
+use Rattle.chess_match.specs.ties.Parts.{blocks_after}
 use Rattle.chess_match.specs.Effects.{Match, Phase, Handshake, Setup as SetupPhase, Opening, BeforeMove, AfterMove, Over, Effect, beginning, effect}
 use Rattle.chess_match.specs.Events.{Event, Line, Opened, OutputEnds, FailsToRead}
 use Rattle.chess_match.specs.Played.{PlayedAt}
@@ -199,7 +200,7 @@ went_less r between new core core' played' m S e due failed' n n' n'' awaits is 
 -- ---- the end
 
 name_kept : (items : List Item) (name : List ℕ) → name ≡ name_by items
-    → name ≡ cut_tag (last_said value_text [] (codes "myname") items)
+    → name ≡ cut_tag (last_said (λ v. v.text) [] (codes "myname") items)
 unfolding name_by
 name_kept items name e = e
 
@@ -275,6 +276,6 @@ played_at setup old new g h h' core reason failed end (m, K, w) over reported wn
     )
   where
     names : (S : Colour) → by_colour end.white_name end.black_name S
-        ≡ cut_tag (last_said value_text [] (codes "myname") (m.seat S).items)
+        ≡ cut_tag (last_said (λ v. v.text) [] (codes "myname") (m.seat S).items)
     names White = name_kept (m.seat White).items end.white_name (wn ∙ w.stands.white.name)
     names Black = name_kept (m.seat Black).items end.black_name (bn ∙ w.stands.black.name)

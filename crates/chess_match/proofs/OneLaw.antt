@@ -8,12 +8,12 @@ use Rattle.chess_base.specs.declared.man.Colour.TheVariants.{White, Black}
 use Rattle.chess_base.specs.Men.{same_colour}
 use Rattle.chess_base.specs.Options.{list_if}
 use Rattle.chess_base.proofs.shared.Men.{same_colour-self}
-use Rattle.chess_match.specs.Acts.{Act, Block, IsMatchFrom, Sends, SendFails, Happens, awaits_line, blocks_after, blocks_from, is_over}
-use Rattle.chess_match.specs.ByDevice.{broken_blocks, has_ended, has_failed_read, is_broken, lines_read, moments_shown}
+use Rattle.chess_match.specs.Acts.{Act, Block, IsMatchFrom, Sends, SendFails, Happens, awaits_line, blocks_from, is_over}
+use Rattle.chess_match.specs.ties.Parts.{blocks_after}
 use Rattle.chess_match.specs.Effects.{Match, Phase, Opening, beginning, effect}
 use Rattle.chess_match.specs.Events.{Event, Line, Opened, OutputEnds, FailsToRead, FailsToWrite}
 use Rattle.chess_match.specs.Rules.{Rules}
-use Rattle.chess_match.specs.laws.Laws.{Streams}
+use Rattle.chess_match.specs.laws.Laws.{Streams, broken_blocks, has_ended, has_failed_read, is_broken, lines_read, moments_shown}
 use Rattle.chess_match.specs.laws.OfActs.{AreOf, OnlyOneMatch}
 use Rattle.chess_match.proofs.MatchCases.{both_not, by_cases, none_read, on_when_read, unread}
 

@@ -11,13 +11,12 @@ use Rattle.byte_devices.specs.Transfers.{FromInput, ToOutput, OutputTook}
 use Rattle.byte_devices.proofs.shared.Transfers.{saturating_increment_if}
 use Rattle.chess_match.specs.Acts.{Act, Sends, SendFails, Happens}
 use Rattle.chess_match.specs.Events.{Line, Opened, OutputEnds, FailsToRead, FailsToWrite}
-use Rattle.chess_match.specs.ByDevice.{broken_blocks, has_ended, has_failed_read, lines_sent, moments_shown}
 use Rattle.chess_match.specs.Effects.{Match}
 use Rattle.chess_match.specs.Lines.{SentLine}
 use Rattle.chess_match.specs.Played.{Passed, SaidBy, WasSent, World}
 use Rattle.chess_match.specs.Rules.{Rules}
 use Rattle.chess_match.specs.Run.{engine_lines}
-use Rattle.chess_match.specs.laws.Laws.{Streams}
+use Rattle.chess_match.specs.laws.Laws.{Streams, broken_blocks, has_ended, has_failed_read, lines_sent, moments_shown}
 use Rattle.chess_match.specs.laws.OfActs.{AreOf, OnlyOneMatchOfARun, ShowsAll}
 use Rattle.chess_match.proofs.AtDesk.{quiet_read}
 use Rattle.chess_match.proofs.OneLaw.{only_one_match}

@@ -6,12 +6,13 @@ use Rattle.chess_base.specs.declared.man.Colour.{Colour}
 use Rattle.cecp_engine.specs.Seen.{seen}
 use Rattle.cecp_engine.specs.declared.engine_line.EngineLine.{EngineLine}
 use Rattle.cecp_engine.specs.declared.engine_line.EngineLine.TheVariants.{Features, Move, Resign, Offer, Draw, Win, Rejection, Pong}
-use Rattle.chess_match.specs.Effects.{Match, Setup, AfterMove, before_move, ignores, items_said, line_row, turn_row}
+use Rattle.chess_match.specs.Effects.{Match, Setup, AfterMove, before_move, ignores, line_row, turn_row}
+use Rattle.chess_match.specs.laws.Laws.{items_in_line}
 use Rattle.chess_match.specs.Rules.{Rules}
 
 -- only a `feature` line has items
 pub no_items_said : (line : EngineLine) → ((text : Bor (List ℕ)) → line ≡ Features text → ⊥)
-    → items_said (seen line) ≡ []
+    → items_in_line (seen line) ≡ []
 no_items_said line h1 = grind arith
 
 -- in a setup, a line that is no answer to a ping

@@ -12,7 +12,7 @@ use Rattle.byte_devices.specs.Transfers.{FromInput, InputGave}
 use Rattle.byte_devices.proofs.shared.Transfers.{came, saturating_increment_if}
 use Rattle.chess_match.specs.Acts.{Act, Sends, SendFails, Happens}
 use Rattle.chess_match.specs.Events.{Line, Opened, OutputEnds, FailsToRead, FailsToWrite}
-use Rattle.chess_match.specs.ByDevice.{has_ended, has_failed_read, lines_read}
+use Rattle.chess_match.specs.laws.Laws.{has_ended, has_failed_read, lines_read}
 use Rattle.chess_base.specs.Options.{list_if}
 use Rattle.chess_match.specs.Played.{SaidBy}
 use Rattle.chess_match.specs.Run.{text_read, engine_lines}

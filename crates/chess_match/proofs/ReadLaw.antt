@@ -7,15 +7,16 @@ use Rattle.chess_base.specs.declared.man.Move.{Move}
 use Rattle.chess_base.specs.Men.{other, same_colour}
 use Rattle.chess_base.specs.Options.{list_if}
 use Rattle.chess_base.proofs.shared.Men.{other-other}
-use Rattle.cecp_engine.specs.EngineLines.{line_kind, Moves}
+use Rattle.cecp_engine.specs.EngineLines.{Moves}
 use Rattle.cecp_engine.specs.Items.{ends_handshake}
 use Rattle.chess_match.specs.Acts.{Act, Sends, SendFails, Happens, awaits_line, is_over}
-use Rattle.chess_match.specs.ByDevice.{lines_read}
-use Rattle.chess_match.specs.Effects.{Match, Phase, Handshake, Setup, Opening, BeforeMove, AfterMove, Over, ends, enter, items_said, line_row, moved}
+use Rattle.chess_match.specs.Effects.{Match, Phase, Handshake, Setup, Opening, BeforeMove, AfterMove, Over, ends, line_row, moved}
+use Rattle.chess_match.specs.ties.Parts.{enter}
+use Rattle.chess_text.specs.declared.reading.Reading.TheVariants as reads
 use Rattle.chess_match.specs.Rules.{Rules}
 use Rattle.chess_match.specs.declared.reason.MatchFault.TheVariants.{Ended, Read, Write}
 use Rattle.chess_match.specs.declared.reason.Reason.TheVariants.{Decided, Faulted}
-use Rattle.chess_match.specs.laws.Laws.{AreRead, is_pong, lines_after_handshake, lines_after_pong, move_said, moves_said}
+use Rattle.chess_match.specs.laws.Laws.{AreRead, is_pong, lines_after_handshake, lines_after_pong, move_said, moves_said, lines_read, items_in_line, line_kind}
 use Rattle.chess_match.specs.laws.OfActs.{AtEachMoment, MovesAreRead, only_sends}
 use Rattle.chess_match.proofs.LineCases.{in_turn, line_cases, offering, said_by}
 use Rattle.chess_match.proofs.Points.{Kept, by_points, mover, mover-snoc, turn_in}
@@ -74,7 +75,7 @@ others_line Black t lines = refl
 reads_move : (r : Rules) (m m' final : Match) (d : Colour) (opened : ℕ) (t : Option (List ℕ)) (text : List ℕ)
     (move : Move) (lines : Streamed) → m.phase ≡ BeforeMove d opened → m'.phase ≡ AfterMove d
     → mover r.first m.played ≡ d → m'.played ≡ m.played ++ move ∷ [] → line_kind t ≡ Moves text
-    → r.reading m.played text ≡ Some move → ReadsOff r m' final lines → ReadsOff r m final (with_line d t lines)
+    → r.reading m.played text ≡ reads.Move move → ReadsOff r m' final lines → ReadsOff r m final (with_line d t lines)
 reads_move r m m' final d opened t text move lines p p' turn played kind reading next c e =
     let (more, same, read) = next (other d) (ap (λ (ms : List Move). mover r.first ms) played
     ∙ mover-snoc r.first m.played move ∙ ap other turn) in
@@ -121,7 +122,7 @@ reads_last r m final d t lines p none c e =
 
 reads_decided : (r : Rules) (m final : Match) (d : Colour) (opened : ℕ) (t : Option (List ℕ)) (text : List ℕ)
     (move : Move) (lines : Streamed) → m.phase ≡ BeforeMove d opened → mover r.first m.played ≡ d
-    → final.played ≡ m.played ++ move ∷ [] → line_kind t ≡ Moves text → r.reading m.played text ≡ Some move
+    → final.played ≡ m.played ++ move ∷ [] → line_kind t ≡ Moves text → r.reading m.played text ≡ reads.Move move
     → ((S : Colour) → lines S ≡ []) → ReadsOff r m final (with_line d t lines)
 reads_decided r m final d opened t text move lines p turn played kind reading none c e =
     rw (sym e ∙ turn, p, own_line d t lines, others_line d t lines, none d, none (other d), kind)
@@ -136,7 +137,7 @@ Steps r d t m m' = (final : Match) (lines : Streamed)
     → ReadsOff r m final (with_line d t lines)
 
 handshake_same : (d : Colour) (t : Option (List ℕ)) (lines : Streamed) (S : Colour)
-    → list_any ends_handshake (items_said (line_kind t)) ≡ false
+    → list_any ends_handshake (items_in_line (line_kind t)) ≡ false
     → ahead (Handshake d) S (with_line d t lines S) ≡ ahead (Handshake d) S (lines S)
 handshake_same d t lines S h1 = grind arith
 
@@ -145,12 +146,12 @@ setup_same : (d : Colour) (t : Option (List ℕ)) (lines : Streamed) (S : Colour
 setup_same d t lines S h1 = grind arith
 
 handshake_next : (d : Colour) (t : Option (List ℕ)) (lines : Streamed) (S : Colour) → d ≡ White
-    → list_any ends_handshake (items_said (line_kind t)) ≡ true
+    → list_any ends_handshake (items_in_line (line_kind t)) ≡ true
     → ahead (Handshake d) S (with_line d t lines S) ≡ ahead (Handshake Black) S (lines S)
 handshake_next d t lines S h1 h2 = grind arith
 
 handshake_last : (d : Colour) (t : Option (List ℕ)) (lines : Streamed) (S : Colour) → d ≡ Black
-    → list_any ends_handshake (items_said (line_kind t)) ≡ true
+    → list_any ends_handshake (items_in_line (line_kind t)) ≡ true
     → ahead (Handshake d) S (with_line d t lines S) ≡ ahead (Setup White) S (lines S)
 handshake_last d t lines S h1 h2 = grind arith
 

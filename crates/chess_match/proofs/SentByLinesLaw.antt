@@ -5,16 +5,14 @@ use Rattle.std.specs.Prelude.{if◌then◌else◌}
 use Rattle.chess_base.specs.declared.man.Colour.{Colour}
 use Rattle.chess_base.specs.declared.man.Colour.TheVariants.{White, Black}
 use Rattle.chess_base.specs.Men.{other, same_colour}
-use Rattle.cecp_engine.specs.EngineLines.{line_kind}
 use Rattle.cecp_engine.specs.Items.{Item, ends_handshake}
 use Rattle.chess_match.specs.Acts.{Act, awaits_line, is_over}
-use Rattle.chess_match.specs.ByDevice.{is_broken, lines_read}
-use Rattle.chess_match.specs.Effects as effects
-use Rattle.chess_match.specs.Effects.{Match, Phase, Handshake, Setup, Opening, BeforeMove, AfterMove, Over, beginning, effect, ends, enter, line_row, moved}
+use Rattle.chess_match.specs.Effects.{Match, Phase, Handshake, Setup, Opening, BeforeMove, AfterMove, Over, beginning, effect, ends, line_row, moved}
+use Rattle.chess_match.specs.ties.Parts.{enter}
 use Rattle.chess_match.specs.Rules.{Rules}
 use Rattle.chess_match.specs.declared.reason.MatchFault.TheVariants.{Ended, Read, Write}
 use Rattle.chess_match.specs.declared.reason.Reason.TheVariants.{Decided, Faulted}
-use Rattle.chess_match.specs.laws.Laws.{items_said, moves_sent}
+use Rattle.chess_match.specs.laws.Laws.{items_in_line, items_said, moves_sent, is_broken, lines_read, line_kind}
 use Rattle.chess_match.specs.laws.OfActs.{AtEachMoment, EachIsSentOthersMoves, InEachMatch, ItemsAreSaid, MovesAreRead, MovesAreSent, lines_given, match_after, only_sends, others_moves}
 use Rattle.chess_match.proofs.LineCases.{handshakes_done, line_cases, offering, said_by, turn_done}
 use Rattle.chess_match.proofs.MatchCases.{both_not}
@@ -53,13 +51,13 @@ done_says d t m m' g g' i lines S over =
 handshake_says : (d : Colour) (t : Option (List ℕ)) (m : Match) (S : Colour) (ls : List (Option (List ℕ)))
     (p : Phase) (rest : List Item) → m.phase ≡ Handshake d
     → said_ahead (Handshake d) S (if same_colour d S then t ∷ ls else ls)
-    ≡ (if same_colour d S then effects.items_said (line_kind t) else []) ++ rest
+    ≡ (if same_colour d S then items_in_line (line_kind t) else []) ++ rest
     → (m.seat S).items ++ said_ahead m.phase S (with_line d t (λ X. ls) S)
     ≡ ((said_by d (line_kind t) m).seat S).items ++ rest
 handshake_says d t m S ls p rest e h =
     ap (λ (q : Phase). (m.seat S).items ++ said_ahead q S (with_line d t (λ X. ls) S)) e
     ∙ ap (λ (is : List Item). (m.seat S).items ++ is) (one (same_colour d S) ∙ h)
-    ∙ sym (append_assoc (m.seat S).items (if same_colour d S then effects.items_said (line_kind t) else []) rest)
+    ∙ sym (append_assoc (m.seat S).items (if same_colour d S then items_in_line (line_kind t) else []) rest)
     ∙ ap (λ (is : List Item). is ++ rest) (sym items)
   where
     one : (b : Bool) → said_ahead (Handshake d) S ((if b then t ∷ [] else []) ++ ls)
@@ -68,30 +66,30 @@ handshake_says d t m S ls p rest e h =
     one false = refl
 
     items : ((said_by d (line_kind t) m).seat S).items
-        ≡ (m.seat S).items ++ (if same_colour d S then effects.items_said (line_kind t) else [])
+        ≡ (m.seat S).items ++ (if same_colour d S then items_in_line (line_kind t) else [])
     items = grind (arith, append-nil)
 
 ahead_on : (d : Colour) (t : Option (List ℕ)) (S : Colour) (ls : List (Option (List ℕ)))
-    → list_any ends_handshake (effects.items_said (line_kind t)) ≡ false
+    → list_any ends_handshake (items_in_line (line_kind t)) ≡ false
     → said_ahead (Handshake d) S (if same_colour d S then t ∷ ls else ls)
-    ≡ (if same_colour d S then effects.items_said (line_kind t) else []) ++ said_ahead (Handshake d) S ls
+    ≡ (if same_colour d S then items_in_line (line_kind t) else []) ++ said_ahead (Handshake d) S ls
 ahead_on d t S ls h1 = grind arith
 
 ahead_next : (d : Colour) (t : Option (List ℕ)) (S : Colour) (ls : List (Option (List ℕ))) → d ≡ White
-    → list_any ends_handshake (effects.items_said (line_kind t)) ≡ true
+    → list_any ends_handshake (items_in_line (line_kind t)) ≡ true
     → said_ahead (Handshake d) S (if same_colour d S then t ∷ ls else ls)
-    ≡ (if same_colour d S then effects.items_said (line_kind t) else []) ++ said_ahead (Handshake Black) S ls
+    ≡ (if same_colour d S then items_in_line (line_kind t) else []) ++ said_ahead (Handshake Black) S ls
 ahead_next d t S ls h1 h2 = grind arith
 
 ahead_last : (d : Colour) (t : Option (List ℕ)) (S : Colour) (ls : List (Option (List ℕ))) → d ≡ Black
-    → list_any ends_handshake (effects.items_said (line_kind t)) ≡ true
+    → list_any ends_handshake (items_in_line (line_kind t)) ≡ true
     → said_ahead (Handshake d) S (if same_colour d S then t ∷ ls else ls)
-    ≡ (if same_colour d S then effects.items_said (line_kind t) else []) ++ []
+    ≡ (if same_colour d S then items_in_line (line_kind t) else []) ++ []
 ahead_last d t S ls h1 h2 = grind arith
 
 ahead_over : (d : Colour) (t : Option (List ℕ)) (S : Colour) (ls : List (Option (List ℕ))) → ls ≡ []
     → said_ahead (Handshake d) S (if same_colour d S then t ∷ ls else ls)
-    ≡ (if same_colour d S then effects.items_said (line_kind t) else []) ++ []
+    ≡ (if same_colour d S then items_in_line (line_kind t) else []) ++ []
 ahead_over d t S ls h1 = grind (arith, append-nil)
 
 lines_say : (r : Rules) (d : Colour) (t : Option (List ℕ)) (n : ℕ) (m : Match) → awaits_line m.phase d ≡ true

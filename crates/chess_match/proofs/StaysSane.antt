@@ -4,7 +4,8 @@ use Rattle.chess_base.specs.declared.man.Colour.{Colour}
 use Rattle.chess_base.specs.declared.man.Colour.TheVariants.{White, Black}
 use Rattle.chess_base.specs.declared.man.Move.{Move}
 use Rattle.chess_base.specs.Men.{other}
-use Rattle.cecp_engine.specs.EngineLines.{LineKind, line_kind}
+use Rattle.cecp_engine.specs.EngineLines.{LineKind}
+use Rattle.chess_match.specs.laws.Laws.{line_kind}
 use Rattle.chess_match.specs.Acts.{awaits_line, is_over}
 use Rattle.chess_match.specs.Effects.{Match, Phase, Handshake, Setup, Opening, Over, beginning, effect, line_row, moved}
 use Rattle.chess_match.specs.Events.{Event, Line, OutputEnds, FailsToRead}

@@ -4,13 +4,14 @@ use Rattle.std.specs.Prelude.{if◌then◌else◌}
 use Rattle.chess_base.specs.declared.man.Colour.{Colour}
 use Rattle.chess_base.specs.declared.man.Colour.TheVariants.{White, Black}
 use Rattle.chess_base.specs.Men.{other, same_colour}
-use Rattle.cecp_engine.specs.EngineLines.{LineKind, line_kind}
+use Rattle.cecp_engine.specs.EngineLines.{LineKind}
 use Rattle.chess_match.specs.Acts.{Act, Sends, SendFails, Happens, awaits_line, is_over}
-use Rattle.chess_match.specs.Effects.{Match, Phase, Handshake, Setup, Opening, BeforeMove, Over, effect, enter, line_row, moved}
+use Rattle.chess_match.specs.Effects.{Match, Phase, Handshake, Setup, Opening, BeforeMove, Over, effect, line_row, moved}
+use Rattle.chess_match.specs.ties.Parts.{enter}
 use Rattle.chess_match.specs.Events.{Line, Opened}
 use Rattle.chess_match.specs.Rules.{Rules}
 use Rattle.chess_match.specs.declared.reason.Reason.TheVariants.{Decided}
-use Rattle.chess_match.specs.laws.Laws.{is_move, move_said}
+use Rattle.chess_match.specs.laws.Laws.{is_move, move_said, line_kind}
 use Rattle.chess_match.specs.laws.OfActs.{AtEachMoment, UsedTimesAreDifferences, move_times, only_sends}
 use Rattle.chess_match.proofs.LineCases.{line_cases, offering, said_by}
 use Rattle.chess_match.proofs.MatchCases.{both_not}

@@ -4,7 +4,7 @@ use Rattle.std.specs.Prelude.{◌≡◌, Bool, true, false, if◌then◌else◌,
 use Rattle.chess_base.specs.declared.man.Colour.{Colour}
 use Rattle.chess_base.specs.declared.man.Colour.TheVariants.{White}
 use Rattle.chess_base.specs.Men.{other, same_colour}
-use Rattle.chess_match.specs.Events.{Event, Opened, FailsToWrite, event_side}
+use Rattle.chess_match.specs.Events.{Event, Line, Opened, OutputEnds, FailsToRead, FailsToWrite}
 use Rattle.chess_match.specs.Rules.{Rules}
 use Rattle.chess_match.specs.Lines.{SentLine}
 use Rattle.chess_match.specs.Effects.{Match, Phase, Handshake, Setup, Opening, BeforeMove, AfterMove, Over, Effect, effect, beginning}
@@ -50,33 +50,36 @@ awaits_line (BeforeMove side opened) S = same_colour side S
 awaits_line (AfterMove side) S = same_colour side S
 awaits_line _ S = false
 
--- this event may come in this phase: `Opened`, if this side's turn is being opened; a line, the end of an output or a
--- failed read, if a line of this side is awaited. A failed write is no act `Happens`, but an act `SendFails`
+-- this event may come in this phase: a line, the end of an output or a failed read, if a line of this side is awaited;
+-- `Opened`, if this side's turn is being opened. A failed write is no act `Happens`, but an act `SendFails`
 abbrev pub MayCome : Phase → Event → Type 0
+MayCome phase (Line S text moment) = awaits_line phase S ≡ true
+MayCome phase (OutputEnds S) = awaits_line phase S ≡ true
+MayCome phase (FailsToRead S) = awaits_line phase S ≡ true
 MayCome phase (Opened S moment) = phase ≡ Opening S
 MayCome phase (FailsToWrite S) = ⊥
-MayCome phase event = awaits_line phase (event_side event) ≡ true
 
 -- whether the match has ended
 abbrev pub is_over : Phase → Bool
 is_over (Over reason) = true
 is_over _ = false
 
--- the blocks that are due after an event of the side `S` had the effect `done`: first the one for `S`, then the other
--- side's; but if the match is over after the event, first White's, then Black's
-abbrev pub blocks_after : Colour → Effect → List Block
-blocks_after S done = blocks_from (if is_over done.after.phase then White else S) done.to
+-- the blocks that are due after this event had the effect `done`: after a line of the side `S` first the one for `S`,
+-- then the other side's; but if the match is over then, and after any other event, first White's, then Black's
+abbrev pub due_after : Event → Effect → List Block
+due_after (Line S text moment) done = blocks_from (if is_over done.after.phase then White else S) done.to
+due_after event done = blocks_from White done.to
 
 -- these acts, in order, are the rest of a match by the rules `r`: before them its state is `m`, and the blocks `due`
--- are still to be sent; after them it is over, in the state `final`. Each of the first three equations is about the
--- first act: it says when it may come, and from which state and with which blocks due the acts `H` after it are then
--- the rest of the match. While a block is due, nothing is read
+-- are still to be sent; after them it is over, in the state `final`. The list is taken act by act: each row says which
+-- act may come first, and what state and which blocks due it leaves, from which the acts `H` after it are then the rest
+-- of the match. While a block is due, nothing is read
 abbrev pub IsMatchFrom : Rules → Match → List Block → List Act → Match → Type 0
 -- a block is due: the first one due is sent. The state stays, and the other blocks are still due
 IsMatchFrom r m (block ∷ due) (Sends sent ∷ H) final = (block ≡ sent) × IsMatchFrom r m due H final
 -- a block is due, and sending the first one due fails. If the match was already over, its state stays, and the other
 -- blocks (`due`) are still sent. Otherwise the failure ends the match: nothing of `due` is sent, and the only block due
--- is the one that reports the end to the other side (its `farewell`). `next` is the new state, and the blocks then due
+-- is the one that reports the end to the other side. `next` is the new state, and the blocks then due
 IsMatchFrom r m (block ∷ due) (SendFails sent ∷ H) final =
     let done = effect r m (FailsToWrite sent.to) in
     let next : Match × List Block = if is_over m.phase then (m, due) else (done.after, blocks_from White done.to) in
@@ -85,7 +88,7 @@ IsMatchFrom r m (block ∷ due) (SendFails sent ∷ H) final =
 -- then due
 IsMatchFrom r m [] (Happens event ∷ H) final =
     let done = effect r m event in
-    MayCome m.phase event × IsMatchFrom r done.after (blocks_after (event_side event) done) H final
+    MayCome m.phase event × IsMatchFrom r done.after (due_after event done) H final
 -- no act is left: no block is due, the match is over, and `final` is its state
 IsMatchFrom r m [] [] final = (is_over m.phase ≡ true) × (final ≡ m)
 -- any other list of acts is not the rest of a match

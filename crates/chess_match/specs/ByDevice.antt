@@ -1,6 +1,6 @@
--- What the acts of a match did at each device, and what a witness is given of them. `H` stands for a list of acts, in
--- the order in which they were done.
-use Rattle.std.specs.Prelude.{ℕ, Bool, false, ◌||◌, nat_lt, List, [], ◌∷◌, ◌++◌, length, Option}
+-- What each act of a match did at each device, and what a witness is given of the acts. `H` stands for a list of acts,
+-- in the order in which they were done.
+use Rattle.std.specs.Prelude.{ℕ, Bool, false, List, [], ◌∷◌, ◌++◌, Option}
 use Rattle.chess_base.specs.declared.man.Colour.{Colour}
 use Rattle.chess_base.specs.Men.{same_colour}
 use Rattle.chess_match.specs.Acts.{Act, Sends, SendFails, Happens}
@@ -13,49 +13,41 @@ use Rattle.chess_match.specs.declared.reason.Reason.{Reason}
 
 -- ---- what was read
 
--- the lines that were read from the engine of the side `S`, in order (`None`: one that was too long)
-abbrev pub lines_read : Colour → List Act → List (Option (List ℕ))
-lines_read S [] = []
-lines_read S (Happens (Line side text moment) ∷ H) = list_if (same_colour side S) (text ∷ []) ++ lines_read S H
-lines_read S (_ ∷ H) = lines_read S H
+-- the line that this act read from the engine of the side `S`, as a list of one (`None`: a line that was too long);
+-- empty if it read none of `S`
+abbrev pub line_read : Colour → Act → List (Option (List ℕ))
+line_read S (Happens (Line side text moment)) = list_if (same_colour side S) (text ∷ [])
+line_read S _ = []
 
--- whether the output of the engine of the side `S` was read up to its end
-abbrev pub has_ended : Colour → List Act → Bool
-has_ended S [] = false
-has_ended S (Happens (OutputEnds side) ∷ H) = same_colour side S || has_ended S H
-has_ended S (_ ∷ H) = has_ended S H
+-- whether by this act the end of the output of the engine of the side `S` was read
+abbrev pub is_end_of : Colour → Act → Bool
+is_end_of S (Happens (OutputEnds side)) = same_colour side S
+is_end_of S _ = false
 
--- whether a read from the engine of the side `S` failed
-abbrev pub has_failed_read : Colour → List Act → Bool
-has_failed_read S [] = false
-has_failed_read S (Happens (FailsToRead side) ∷ H) = same_colour side S || has_failed_read S H
-has_failed_read S (_ ∷ H) = has_failed_read S H
+-- whether this act is a read from the engine of the side `S` that failed
+abbrev pub is_failed_read_of : Colour → Act → Bool
+is_failed_read_of S (Happens (FailsToRead side)) = same_colour side S
+is_failed_read_of S _ = false
 
--- the moments that the clock showed, in milliseconds and in order, whichever side it was read for
-abbrev pub moments_shown : List Act → List ℕ
-moments_shown [] = []
-moments_shown (Happens (Line side text moment) ∷ H) = moment ∷ moments_shown H
-moments_shown (Happens (Opened side moment) ∷ H) = moment ∷ moments_shown H
-moments_shown (_ ∷ H) = moments_shown H
+-- the moment, in milliseconds, that the clock showed in this act, whichever side it was read for, as a list of one;
+-- empty if the clock was not read
+abbrev pub moment_shown : Act → List ℕ
+moment_shown (Happens (Line side text moment)) = moment ∷ []
+moment_shown (Happens (Opened side moment)) = moment ∷ []
+moment_shown _ = []
 
 -- ---- what was written
 
--- the lines of the blocks that the side `S` was sent, one after another; without those of a block that could not be
--- sent
-abbrev pub lines_sent : Colour → List Act → List SentLine
-lines_sent S [] = []
-lines_sent S (Sends block ∷ H) = list_if (same_colour block.to S) block.lines ++ lines_sent S H
-lines_sent S (_ ∷ H) = lines_sent S H
+-- the lines that the side `S` was sent by this act: those of a block for `S` that was sent; otherwise none
+abbrev pub lines_to : Colour → Act → List SentLine
+lines_to S (Sends block) = list_if (same_colour block.to S) block.lines
+lines_to S _ = []
 
--- the blocks for the side `S` that could not be sent, each as its lines; in a match there is at most one
-abbrev pub broken_blocks : Colour → List Act → List (List SentLine)
-broken_blocks S [] = []
-broken_blocks S (SendFails block ∷ H) = list_if (same_colour block.to S) (block.lines ∷ []) ++ broken_blocks S H
-broken_blocks S (_ ∷ H) = broken_blocks S H
-
--- whether sending a block to the side `S` failed
-abbrev pub is_broken : List Act → Colour → Bool
-is_broken H S = nat_lt 0 (length (broken_blocks S H))
+-- the block for the side `S` that this act could not send, as a list of one, and the block as its lines; otherwise
+-- empty. In a match there is at most one such block for each side
+abbrev pub broken_block : Colour → Act → List (List SentLine)
+broken_block S (SendFails block) = list_if (same_colour block.to S) (block.lines ∷ [])
+broken_block S _ = []
 
 -- ---- what was noted
 

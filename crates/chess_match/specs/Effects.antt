@@ -8,14 +8,15 @@ use Rattle.chess_base.specs.declared.man.Colour.TheVariants.{White, Black}
 use Rattle.chess_base.specs.declared.man.Move.{Move}
 use Rattle.chess_base.specs.Men.{other, same_colour}
 use Rattle.chess_game.specs.Ends.{result_text}
-use Rattle.chess_game.specs.declared.results.Declared.{Declared}
-use Rattle.cecp_engine.specs.EngineLines.{LineKind, Features, Moves, Resigns, OffersDraw, ClaimsDraw, ClaimsWin, Rejects, Answers, line_kind}
+use Rattle.cecp_engine.specs.EngineLines.{LineKind, Features, Moves, Resigns, OffersDraw, ClaimsDraw, ClaimsWin, Rejects, Answers, SaysElse, kind_of}
 use Rattle.cecp_engine.specs.Items.{Item, items_of, ends_handshake, takes, plays_fischerandom}
 use Rattle.cecp_engine.specs.Levels.{allotted}
 use Rattle.chess_match.specs.Events.{Event, Line, Opened, OutputEnds, FailsToRead, FailsToWrite, Seat}
-use Rattle.chess_match.specs.Reasons.{outcome_by_reason, comment_of}
+use Rattle.chess_match.specs.Reasons.{result_of}
 use Rattle.chess_match.specs.Rules.{Rules}
 use Rattle.chess_text.specs.San.{is_fischerandom}
+use Rattle.chess_text.specs.declared.reading.Reading.{Reading}
+use Rattle.chess_text.specs.declared.reading.Reading.TheVariants as reads
 use Rattle.chess_base.specs.Options.{list_if}
 use Rattle.chess_match.specs.Lines.{SentLine, Says, MoveSent, Time, Otim, answers_to, setup_lines, ping}
 use Rattle.chess_match.specs.Reasons.{is_write_fault_of}
@@ -97,30 +98,15 @@ abbrev pub move_line : Rules → Match → Colour → SentLine
 move_line r m S =
     MoveSent (takes (codes "usermove") (m.seat S).items) (r.move_text (takes (codes "san") (m.seat S).items) m.played)
 
--- the line that sends the side `S` the last move, as a list of one; empty if no move was made
-abbrev pub last_move : Rules → Match → Colour → List SentLine
-last_move r m S = list_if (nat_lt 0 (length m.played)) (move_line r m S ∷ [])
-
--- the lines that tell the side `S` the clocks: `time T`, its own, and `otim U`, the other's, in centiseconds, rounded
--- down; no lines if its engine turned these off, as by `time=0`
-abbrev pub clocks : Rules → Match → Colour → List SentLine
-clocks r m S =
-    list_if (takes (codes "time") (m.seat S).items) (Time (clock r m S / 10) ∷ Otim (clock r m (other S) / 10) ∷ [])
-
 -- the lines that open a turn of the side `S`: in its first turn the last move (if one was made), the clocks and `go`;
--- in later turns the clocks and the last move
+-- in later turns the clocks and the last move. The clocks are `time T`, its own, and `otim U`, the other's, in
+-- centiseconds, rounded down; they are left out if its engine turned them off, as by `time=0`
 abbrev pub opening : Rules → Match → Colour → List SentLine
 opening r m S =
-    if nat_lt 0 (length (m.seat S).used) then clocks r m S ++ last_move r m S
-    else last_move r m S ++ (clocks r m S ++ Says (codes "go") ∷ [])
-
--- the lines that end the match for the side `S`, if it ends in the state `m` for this reason: the last move, if `S` was
--- not yet sent it; the result with its comment, such as `result 1-0 {Black resigns}`; and `quit`
-abbrev pub farewell : Rules → Match → Reason → Colour → List SentLine
-farewell r m reason S =
-    let result : Declared = record { outcome = outcome_by_reason reason; comment = comment_of reason } in
-    list_if (is_owed_move m.phase S) (move_line r m S ∷ [])
-    ++ (Says (codes "result " ++ result_text result) ∷ Says (codes "quit") ∷ [])
+    let last = list_if (nat_lt 0 (length m.played)) (move_line r m S ∷ []) in
+    let times = Time (clock r m S / 10) ∷ Otim (clock r m (other S) / 10) ∷ [] in
+    let clocks = list_if (takes (codes "time") (m.seat S).items) times in
+    if nat_lt 0 (length (m.seat S).used) then clocks ++ last else last ++ (clocks ++ Says (codes "go") ∷ [])
 
 -- ---- the effects of which rows are made
 
@@ -132,20 +118,18 @@ sends_nothing m = record { after = m; to = λ S. [] }
 abbrev pub sends_to : Colour → List SentLine → Match → Effect
 sends_to side lines m = record { after = m; to = λ S. list_if (same_colour side S) lines }
 
--- the match `m` at the beginning of this phase: no line was counted in it yet
-abbrev pub enter : Phase → Match → Match
-enter phase m = record m { phase = phase; count = 0 }
-
 -- the match `m` with this change of what is known of the engine of the side `S`
 abbrev pub with_seat : Colour → (Seat → Seat) → Match → Match
 with_seat S change m = record m { seat = λ side. if same_colour side S then change (m.seat side) else m.seat side }
 
--- the match `m` ends for this reason. Each side is sent its `farewell`, with the last move if by the phase of `m` it
--- was not yet sent that. But if the reason is that writing to a side failed, that side is sent nothing
+-- the match `m` ends for this reason. Each side is sent the last move, if by the phase of `m` it was not yet sent that;
+-- the result with its comment, such as `result 1-0 {Black resigns}`; and `quit`. But if the reason is that writing to a
+-- side failed, that side is sent nothing
 abbrev pub ends : Rules → Reason → Match → Effect
 ends r reason m = record {
   after = record m { phase = Over reason };
-  to = λ S. if is_write_fault_of reason S then [] else farewell r m reason S;
+  to = λ S. if is_write_fault_of reason S then [] else list_if (is_owed_move m.phase S) (move_line r m S ∷ [])
+      ++ (Says (codes "result " ++ result_text (result_of reason)) ∷ Says (codes "quit") ∷ []);
 }
 
 -- a line of the side `S` is ignored; the 10,000th ignored line of one setup or turn ends the match
@@ -157,7 +141,7 @@ ignores r S m =
 -- the turn of the side `S` is opened: `S` is sent the lines of `opening`, and no line of the turn is counted yet. Its
 -- time runs from the moment that the clock shows once these are sent; until that is read, the phase is `Opening`
 abbrev pub begins_turn : Rules → Colour → Match → Effect
-begins_turn r S m = let m' = enter (Opening S) m in sends_to S (opening r m' S) m'
+begins_turn r S m = sends_to S (opening r m S) (record m { phase = Opening S; count = 0 })
 
 -- the end of the match `m`, if the board has a verdict after its moves; otherwise the effect `otherwise`
 abbrev pub unless_decided : Rules → Match → Effect → Effect
@@ -175,8 +159,8 @@ offer_row r S m =
     else sends_to (other S) (list_if (takes (codes "draw") (m.seat (other S)).items) (Says (codes "draw") ∷ []))
     (with_seat S (λ s. record s { offers = true }) m)
 
--- what a line of this kind of the side `S` does in the turn of `S`, except where `before_move` (for `move`) and
--- `line_row` (for `move` and `pong` after the move) say otherwise
+-- what a line of this kind of the side `S` does in the turn of `S`, before its move or after it. `move` never comes
+-- here, nor does `pong` after the move: `before_move` and `line_row` have rows of their own for these
 abbrev pub turn_row : Rules → Colour → LineKind → Match → Effect
 -- `resign`: `S` loses
 turn_row r S Resigns m = ends r (over_by.Resigns S) m
@@ -187,8 +171,9 @@ turn_row r S ClaimsDraw m = option_map_or (λ claim. ends r (Claimed claim) m) (
 -- `1-0` or `0-1`: `S` loses, by a false claim if it names itself the winner (a mate ends the match without a claim),
 -- otherwise by resigning
 turn_row r S (ClaimsWin winner) m = ends r (if same_colour winner S then ClaimsFalsely S else over_by.Resigns S) m
--- `Illegal move`: `S` loses, but if it was never sent a move, the line is ignored. What is tested is whether the other
--- side has made a move (`used` has a time for each): in its turn `S` was sent each of these
+-- `Illegal move`: `S` rejects the last move that it was sent, which was legal, since only legal moves are sent on; so
+-- `S` loses. But if it was never sent a move, the line is ignored. What is tested is whether the other side has made a
+-- move (`used` has a time for each): in its turn `S` was sent each of these
 turn_row r S Rejects m =
     if nat_lt 0 (length (m.seat (other S)).used) then ends r (RejectsLegalMove S) m else ignores r S m
 -- any other line is ignored
@@ -201,14 +186,14 @@ moved S move used m =
     with_seat (other S) (λ s. record s { offers = false }) (with_seat S (λ s. record s { used = s.used ++ used ∷ [] })
     (record m { phase = AfterMove S; played = m.played ++ move ∷ [] }))
 
--- what a line `move M` of the side `S` does, `used` milliseconds after its turn began. The option is the one legal move
--- that M denotes
-abbrev pub move_row : Rules → Colour → ℕ → Option Move → Match → Effect
--- M denotes no legal move, or several: `S` loses
-move_row r S used None m = ends r (MovesIllegally S) m
--- the move is made. The board's verdict then ends the match, if there is one; otherwise `S` is sent the next `ping`
-move_row r S used (Some move) m =
+-- what a line `move M` of the side `S` does, `used` milliseconds after its turn began, by what M denotes
+abbrev pub move_row : Rules → Colour → ℕ → Reading → Match → Effect
+-- one legal move: it is made. The board's verdict then ends the match, if there is one; otherwise `S` is sent the next
+-- `ping`
+move_row r S used (reads.Move move) m =
     let m' = moved S move used m in unless_decided r m' (sends_to S (ping (ping_number m' S) ∷ []) m')
+-- no legal move, or more than one: `S` loses
+move_row r S used _ m = ends r (MovesIllegally S) m
 
 -- what a line of this kind of the side `S` does, if its move is awaited and its flag has not fallen; its turn began
 -- `used` milliseconds before
@@ -234,45 +219,38 @@ judged r (Some fault) _ m = ends r (Faulted White fault) (record m { count = 0 }
 -- only Black's engine does: the match ends
 judged r None (Some fault) m = ends r (Faulted Black fault) (record m { count = 0 })
 -- neither does: White's setup begins
-judged r None None m = sends_to White (setup_lines r) (enter (Setup White) m)
+judged r None None m = sends_to White (setup_lines r) (record m { phase = Setup White; count = 0 })
 
 -- what follows when the handshake of this side is done: after White's comes Black's, and after that it is judged what
 -- each engine lacks
 abbrev pub handshake_done : Rules → Colour → Match → Effect
-handshake_done r White m = sends_to Black handshake_lines (enter (Handshake Black) m)
+handshake_done r White m = sends_to Black handshake_lines (record m { phase = Handshake Black; count = 0 })
 handshake_done r Black m = judged r (missing r (m.seat White).items) (missing r (m.seat Black).items) m
 
--- the effect `e`, except that the engine of this side is sent, before all else, an answer to each of these items
-abbrev pub with_answers : Colour → List Item → Effect → Effect
-with_answers side items e = record e { to = λ S. list_if (same_colour side S) (answers_to items) ++ e.to S }
-
 -- a line of the side `S` in its handshake, which has these items (none, if it is no `feature` line): they are added to
--- those known of `S`, and each is answered. `done=1` ends the handshake; if the 1,000th line, of whatever kind, comes
--- without it, the match ends
+-- those known of `S`. `done=1` ends the handshake; if the 1,000th line, of whatever kind, comes without it, the match
+-- ends. Before all else (`next`) the engine of `S` is sent an answer to each of these items
 abbrev pub handshake_row : Rules → Colour → List Item → Match → Effect
 handshake_row r S items m =
     let m' = with_seat S (λ s. record s { items = s.items ++ items }) m in
-    with_answers S items (if list_any ends_handshake items then handshake_done r S m'
+    let next = if list_any ends_handshake items then handshake_done r S m'
     else if nat_le 1000 (m.count + 1) then ends r (Faulted S NoDone) m'
-    else sends_nothing (record m' { count = m.count + 1 }))
+    else sends_nothing (record m' { count = m.count + 1 }) in
+    record next { to = λ side. list_if (same_colour S side) (answers_to items) ++ next.to side }
 
 -- what follows when this side is set up: after White's setup comes Black's. Then the first turn begins, unless the
 -- board has a verdict at the start: that ends the match
 abbrev pub setup_done : Rules → Colour → Match → Effect
-setup_done r White m = sends_to Black (setup_lines r) (enter (Setup Black) m)
+setup_done r White m = sends_to Black (setup_lines r) (record m { phase = Setup Black; count = 0 })
 setup_done r Black m = unless_decided r m (begins_turn r r.first m)
 
 -- ---- one event
 
--- the items of a line of this kind: those of a `feature` line, none of any other
-abbrev pub items_said : LineKind → List Item
-items_said (Features text) = items_of text
-items_said _ = []
-
--- what a line of this kind does in the phase given; it was sent by the side that this phase waits for, and came at
--- `moment`, in milliseconds by the clock
+-- what a line of this kind does in the phase given; it was sent by the side `S` that this phase waits for, and came at
+-- `moment`, in milliseconds by the clock. In a handshake only a `feature` line has items
 abbrev pub line_row : Rules → Phase → LineKind → ℕ → Match → Effect
-line_row r (Handshake S) kind _ m = handshake_row r S (items_said kind) m
+line_row r (Handshake S) (Features text) _ m = handshake_row r S (items_of text) m
+line_row r (Handshake S) kind _ m = handshake_row r S [] m
 -- in a setup: `pong 1` ends it; any other line is ignored, even `feature` or `move`
 line_row r (Setup S) (Answers n) _ m = if n == 1 then setup_done r S m else ignores r S m
 line_row r (Setup S) kind _ m = ignores r S m
@@ -291,9 +269,9 @@ line_row r _ _ _ m = sends_nothing m
 
 -- what an event does to the match `m`
 abbrev pub effect : Rules → Match → Event → Effect
--- a line. `line_row` takes its side from the phase: only lines of the side that `m` waits for are read (`awaits_line`
--- in Acts)
-effect r m (Line S text moment) = line_row r m.phase (line_kind text) moment m
+-- a line; one that was too long is of the kind `SaysElse`. `line_row` takes its side from the phase: only lines of the
+-- side that `m` waits for are read (`awaits_line` in Acts)
+effect r m (Line S text moment) = line_row r m.phase (option_map_or kind_of text SaysElse) moment m
 -- the lines that open a turn were sent: from this moment on its time runs
 effect r m (Opened S moment) = sends_nothing (record m { phase = BeforeMove S moment })
 -- an engine's output ended, or a read from the engine or a write to it failed: the match ends by that fault

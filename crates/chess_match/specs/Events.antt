@@ -17,14 +17,6 @@ pub data Event : Type 0 where
   -- a write or a flush to that side's engine failed
   FailsToWrite : (side : Colour) → Event
 
--- the side whose engine the event is about
-abbrev pub event_side : Event → Colour
-event_side (Line side text moment) = side
-event_side (Opened side moment) = side
-event_side (OutputEnds side) = side
-event_side (FailsToRead side) = side
-event_side (FailsToWrite side) = side
-
 -- what is known of the engine of one side
 pub record Seat : Type 0 where
   -- the items of the `feature` lines that were read in its handshake, such as `ping=1`, in order

@@ -1,13 +1,14 @@
 -- What a match that was played did: at its devices, in its game, and in what is reported of it. `H` stands for the list
 -- of its acts, in the order in which they were done.
-use Rattle.std.specs.Prelude.{◌≡◌, ◌||◌, ℕ, true, List, [], ◌∷◌, ◌++◌, codes, Option}
+use Rattle.std.specs.Prelude.{◌≡◌, ◌||◌, ℕ, true, nat_lt, List, [], ◌∷◌, ◌++◌, length, codes, Option}
+use Rattle.std.specs.List.{flat_map, list_any}
 use Rattle.chess_base.specs.declared.man.Colour.{Colour}
 use Rattle.byte_devices.specs.Transfers.{FromInput, ToOutput, Devices, Ran, all_of, BreaksOffIn}
 use Rattle.chess_game.specs.Game as game
 use Rattle.chess_game.specs.Results.{cut_tag}
-use Rattle.cecp_engine.specs.Items.{last_said, value_text}
+use Rattle.cecp_engine.specs.Items.{last_said}
 use Rattle.chess_match.specs.Acts.{Act, IsMatch}
-use Rattle.chess_match.specs.ByDevice.{lines_read, has_ended, has_failed_read, moments_shown, lines_sent, broken_blocks, is_broken, notes_given}
+use Rattle.chess_match.specs.ByDevice.{line_read, is_end_of, is_failed_read_of, moment_shown, lines_to, broken_block, notes_given}
 use Rattle.chess_match.specs.Effects.{Match, Over}
 use Rattle.chess_match.specs.Notes.{Note}
 use Rattle.chess_match.specs.Reasons.{reported, reported_fault, declared_at}
@@ -20,7 +21,9 @@ use Rattle.chess_match.specs.declared.reason.Reason.{Reason}
 use Rattle.chess_match.specs.declared.run.MatchEnd.{MatchEnd}
 use Rattle.chess_match.specs.declared.run.Setup.{Setup}
 
--- the devices and the game of a match, as contracts see them at one time; a witness, such as the log, is not among them
+-- what contracts see, at one time, of the devices of a match and of its game. From such a world before a match and one
+-- after it contracts say what passed at each device. The witness is not among these devices: it is what is given notes
+-- (see Notes) of the events and of the blocks that engines are sent, such as the log
 pub record World : Type 0 where
   -- each engine's devices, named as the arbiter sees them: `input` is the engine's output, which is read, and `output`
   -- is its input, which is written
@@ -36,16 +39,16 @@ pub record World : Type 0 where
 -- `\n` is no line. Nothing is said of `i.early`
 pub record SaidBy (S : Colour) (H : List Act) (i : FromInput) : Type 0 where
   -- the lines that were read are the first lines of these bytes; `rest` are the others
-  pub lines : (rest : List (Option (List ℕ))) × (engine_lines i.text ≡ lines_read S H ++ rest)
+  pub lines : (rest : List (Option (List ℕ))) × (engine_lines i.text ≡ flat_map (line_read S) H ++ rest)
   -- whether the end of the output was read, and whether a read failed, is as in the acts
-  pub ended : i.ended ≡ has_ended S H
-  pub failed : i.failed ≡ has_failed_read S H
+  pub ended : i.ended ≡ list_any (is_end_of S) H
+  pub failed : i.failed ≡ list_any (is_failed_read_of S) H
   -- after an end or a failure: the lines that were read are all lines of these bytes
-  pub all : (i.ended || i.failed) ≡ true → engine_lines i.text ≡ lines_read S H
+  pub all : (i.ended || i.failed) ≡ true → engine_lines i.text ≡ flat_map (line_read S) H
 
 -- `o` is what went to an engine's input, if the lines in the first list were sent to it, and then the blocks in the
 -- second list, each as its lines, could not be sent. In a match the second list has at most one block
--- (`broken_blocks`); of further ones (`more`) nothing is said
+-- (`broken_block`); of further ones (`more`) nothing is said
 abbrev pub WasSent : List SentLine → List (List SentLine) → ToOutput → Type 0
 -- no block failed: all lines `sent`, written and flushed, and nothing more; no call failed
 WasSent sent [] o = o ≡ all_of (bytes_of sent)
@@ -59,10 +62,10 @@ WasSent sent (block ∷ more) o = BreaksOffIn (bytes_of sent) (bytes_of block) o
 pub record Passed (r : Rules) (H : List Act) (final : Match) (w w' : World) : Type 0 where
   pub is_match : IsMatch r H final
   -- for each side: an `i` came from its engine and an `o` went to it that agree with the acts
-  pub passed : (S : Colour) → Ran (λ i o. SaidBy S H i × WasSent (lines_sent S H) (broken_blocks S H) o)
-      (w.engines S) (w'.engines S)
+  pub passed : (S : Colour) → Ran (λ i o. SaidBy S H i
+      × WasSent (flat_map (lines_to S) H) (flat_map (broken_block S) H) o) (w.engines S) (w'.engines S)
   -- the clock was read as often as the acts say, and showed the moments that they name
-  pub moments : ClockReadings w.coming w'.coming (moments_shown H)
+  pub moments : ClockReadings w.coming w'.coming (flat_map moment_shown H)
 
 -- `end` is the report of a match of the acts `H`, which ended for this reason; `final` is its state at the end
 pub record ReportedAs (H : List Act) (final : Match) (reason : Reason) (end : MatchEnd) : Type 0 where
@@ -73,10 +76,10 @@ pub record ReportedAs (H : List Act) (final : Match) (reason : Reason) (end : Ma
   -- the name of each engine is the value of the last `myname` in its handshake, as a PGN tag keeps it: its first 60
   -- bytes, with `?` in place of what is no printable ASCII; empty if it sent none
   pub name : (S : Colour) → by_colour end.white_name end.black_name S
-      ≡ cut_tag (last_said value_text [] (codes "myname") (final.seat S).items)
+      ≡ cut_tag (last_said (λ v. v.text) [] (codes "myname") (final.seat S).items)
   -- the first fault, and whose it is: the one that ended the match; if none did, a failed write after the end (White's,
   -- if writing to both sides failed); `None` if there was none
-  pub fault : end.fault ≡ reported_fault reason (is_broken H)
+  pub fault : end.fault ≡ reported_fault reason (λ S. nat_lt 0 (length (flat_map (broken_block S) H)))
 
 -- a match of the acts `H` was played from the world `w` to `w'`, from the start position and with the time control of
 -- `setup`, for at most as many half-moves as the game's limit. It ended for this reason, and was reported as `end`. In

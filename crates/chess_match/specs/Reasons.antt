@@ -1,5 +1,5 @@
 -- How the end of a match is reported: its outcome, its comment, its fault, and how it came.
-use Rattle.std.specs.Prelude.{ℕ, Bool, false, if◌then◌else◌, List, ◌++◌, codes, Option, None, Some}
+use Rattle.std.specs.Prelude.{ℕ, Bool, false, List, [], ◌∷◌, ◌++◌, codes, Option, None, Some, find, option_map}
 use Rattle.chess_base.specs.declared.man.Colour.{Colour}
 use Rattle.chess_base.specs.declared.man.Colour.TheVariants.{White, Black}
 use Rattle.chess_base.specs.ByColour.{by_colour}
@@ -62,23 +62,26 @@ outcome_by_reason reason = (reported reason).0
 abbrev pub comment_of : Reason → List ℕ
 comment_of reason = (reported reason).1
 
+-- the result of a match that ended for this reason, with its comment
+abbrev pub result_of : Reason → Declared
+result_of reason = record { outcome = (reported reason).0; comment = comment_of reason }
+
 -- how a match that ended for this reason came to its end, for the tag Termination (PGN standard, section 9.8.1)
 abbrev pub ended_by : Reason → HowEnded
 ended_by reason = (reported reason).2
 
 -- the fault that is reported of a match that ended for this reason, and its side: the fault that is the reason itself;
--- otherwise `Write`, if writing the last lines to a side failed (`failed`), and White's if it did for both. `None` if
--- there was no fault
+-- otherwise `Write`, if writing the last lines to a side failed (`failed`), of the first such side, White before Black.
+-- `None` if there was no fault
 abbrev pub reported_fault : Reason → (Colour → Bool) → Option (Colour × MatchFault)
 reported_fault (Faulted c f) failed = Some (c, f)
-reported_fault _ failed =
-    if failed White then Some (White, Write) else if failed Black then Some (Black, Write) else None
+reported_fault _ failed = option_map (λ side. (side, Write)) (find failed (White ∷ Black ∷ []))
 
 -- the result that is declared in the game when the match ends for this reason; `None` if the board has a verdict (the
 -- first argument), since the game has its result by that
 abbrev pub declared_at : Option Verdict → Reason → Option Declared
 declared_at (Some v) reason = None
-declared_at None reason = Some (record { outcome = outcome_by_reason reason; comment = comment_of reason })
+declared_at None reason = Some (result_of reason)
 
 -- whether this reason, for which a match ended, is that writing to the side `S` failed
 abbrev pub is_write_fault_of : Reason → Colour → Bool

@@ -1,12 +1,12 @@
 -- What a match needs of its game, and how chess gives it.
-use Rattle.std.specs.Prelude.{ℕ, Bool, ◌||◌, ◌&&◌, not, if◌then◌else◌, List, [], ◌∷◌, Option, None, Some}
-use Rattle.std.specs.List.{list_all}
+use Rattle.std.specs.Prelude.{ℕ, ◌-◌, Bool, ◌||◌, ◌&&◌, not, if◌then◌else◌, List, [], length, take, Option, None, Some}
+use Rattle.std.specs.List.{last_or, list_all}
+use Rattle.std.specs.Option.{option_map_or}
 use Rattle.chess_base.specs.declared.man.Colour.{Colour}
 use Rattle.chess_base.specs.declared.man.Kind.TheVariants.{King}
 use Rattle.chess_base.specs.declared.man.Move.{Move}
 use Rattle.chess_base.specs.declared.setup.Setup.{Setup}
-use Rattle.chess_base.specs.Men.{Men, is_of, is_man}
-use Rattle.chess_base.specs.Moves.{after}
+use Rattle.chess_base.specs.Men.{is_of, is_man}
 use Rattle.chess_fen.specs.Writing.{fen, is_initial}
 use Rattle.chess_game.specs.Ends.{verdict, claims, draw_claim}
 use Rattle.chess_game.specs.Line.{position_after}
@@ -15,7 +15,6 @@ use Rattle.chess_game.specs.declared.verdicts.Verdict.{Verdict}
 use Rattle.chess_text.specs.Moves.{reading}
 use Rattle.chess_text.specs.San.{is_fischerandom, san, shown_move}
 use Rattle.chess_text.specs.declared.reading.Reading.{Reading}
-use Rattle.chess_text.specs.declared.reading.Reading.TheVariants as reads
 use Rattle.cecp_engine.specs.Levels.{LevelSeen}
 use Rattle.chess_base.specs.declared.man.Variant.{Variant}
 
@@ -33,8 +32,8 @@ pub record Rules : Type 0 where
   pub level : LevelSeen
   -- how many half-moves can be played at most
   pub limit : ℕ
-  -- the one legal move that a text denotes after these moves; `None` if it denotes none, or more than one
-  pub reading : List Move → List ℕ → Option Move
+  -- what a text denotes after these moves: one legal move, or more than one, or none
+  pub reading : List Move → List ℕ → Reading
   -- why the game is over after these moves (mate, or a draw that nobody need claim); `None` if it is not
   pub verdict : List Move → Option Verdict
   -- the draw that may be claimed after these moves (threefold repetition or 50 moves); `None` if none may be
@@ -47,26 +46,11 @@ pub record Rules : Type 0 where
 
 -- ---- chess
 
--- the move in the result of reading a text; `None` if the text denotes no legal move, or more than one
-abbrev pub move_read : Reading → Option Move
-move_read (reads.Move m) = Some m
-move_read _ = None
-
--- the text of the last of these moves, which are made one after another from the position `p` on: in SAN, if `as_san`;
--- otherwise by squares (`e2e4`), where castling in Chess960 is `O-O` or `O-O-O`. Empty if there is no move
-abbrev pub text_of_last : Bool → Setup → List Move → List ℕ
-text_of_last as_san p [] = []
-text_of_last as_san p (m ∷ []) = if as_san then san p m else shown_move p m
-text_of_last as_san p (m ∷ n ∷ ms) = text_of_last as_san (after p m) (n ∷ ms)
-
--- whether the side `c` has no piece but its king; `men` are the 64 squares. That it has a king is not tested here
-unfoldable pub has_bare_king : Colour → Men → Bool
-has_bare_king c men = list_all (λ man. not (is_of c man) || is_man c King man) men
-
 -- the rules of chess for a game from the position `start`, with this time control, of at most `limit` half-moves. Texts
--- are read, and bare kings looked for, in the position after the moves played; the verdict, the claim and the text of
--- the last move depend on the start and all moves. `setboard` sends the FEN of any start but the initial position of
--- normal chess, which `new` sets up; in Chess960 one is always sent
+-- are read, and bare kings looked for, in the position after the moves played (that a side has a king is not tested);
+-- the last move is written as a move in the position before it; the verdict and the claim depend on the start and all
+-- moves. `setboard` sends the FEN of any start but the initial position of normal chess, which `new` sets up; in
+-- Chess960 one is always sent
 unfoldable pub rules_of : Setup → LevelSeen → ℕ → Rules
 rules_of start level limit = record {
   variant = start.variant;
@@ -74,9 +58,11 @@ rules_of start level limit = record {
   first = start.side;
   level = level;
   limit = limit;
-  reading = λ played text. move_read (reading (position_after start played) text);
+  reading = λ played text. reading (position_after start played) text;
   verdict = λ played. verdict start played;
   claim = λ played. draw_claim (claims start played);
-  move_text = λ as_san played. text_of_last as_san start played;
-  has_bare_king = λ played c. has_bare_king c (position_after start played).men;
+  move_text = λ as_san played.
+      let before = position_after start (take (length played - 1) played) in
+      option_map_or (λ move. if as_san then san before move else shown_move before move) (last_or None played) [];
+  has_bare_king = λ played c. list_all (λ man. not (is_of c man) || is_man c King man) (position_after start played).men;
 }

@@ -4,11 +4,11 @@ ghost use Rattle.chess_match.specs.declared.block.TheConstants.{BLOCK_LEN};
 ghost use Rattle.std.specs.Prelude.{◌≡◌, ◌+◌, ◌≤◌, ◌++◌, ◌∷◌, [], List, if◌then◌else◌, codes};
 ghost use Rattle.chess_base.specs.Options.{list_if};
 ghost use Rattle.arrayvec.specs.ArrayVec.{array_vec_len};
-ghost use Rattle.chess_match.specs.Effects.{Match, clocks, last_move, move_line, opening};
+ghost use Rattle.chess_match.specs.Effects.{Match, move_line, opening};
 ghost use Rattle.chess_match.specs.Rules.{Rules};
 ghost use Rattle.chess_base.specs.declared.man.Move.{Move};
 ghost use Rattle.chess_match.specs.Lines.{Says, bytes_of, setup_lines};
-ghost use Rattle.chess_match.specs.ties.Delivering.{variant_command};
+ghost use Rattle.chess_match.specs.ties.Delivering.{variant_command, clocks, last_move};
 ghost use Rattle.chess_match.specs.Reasons.{is_write_fault_of};
 ghost use Rattle.chess_match.specs.ties.Represents.{Represents, is_unsent, last_lines, lines_if_to, phase_lines, player};
 

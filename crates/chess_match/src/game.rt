@@ -12,7 +12,8 @@ ghost use Rattle.chess_base.specs.Initial.{initial_setup};
 ghost use Rattle.chess_game.specs.Game.{current, verdict_now, State};
 ghost use Rattle.chess_game.specs.Ends.{verdict, claims};
 ghost use Rattle.chess_text.specs.Moves.{reading};
-ghost use Rattle.chess_match.specs.Rules.{rules_of, has_bare_king, move_read};
+ghost use Rattle.chess_match.specs.Rules.{rules_of};
+ghost use Rattle.chess_match.specs.ties.Chess.{has_bare_king, move_read};
 
 use crate::block::Block;
 use crate::match_game::MatchGame;
@@ -38,7 +39,7 @@ fn is_king_or_other(colour: Colour, man: Option<Man>) -> bool
 }
 
 // Whether this side has no piece but its king; `men` are the 64 squares.
-#[tactic(auto, unfolding(crate::specs::Rules::has_bare_king))]
+#[tactic(auto, unfolding(crate::specs::ties::Chess::has_bare_king))]
 fn has_bare_king(colour: Colour, men: &[Option<Man>; 64]) -> bool
     ensures { result ≡ has_bare_king colour men.now }
 {
@@ -128,7 +129,7 @@ impl<B: Board> MatchGame for Game<B> {
     }
 
     // Whether this side has no piece but its king in the current position.
-    #[tactic(auto, unfolding(crate::specs::Rules::rules_of))]
+    #[tactic(auto, unfolding(crate::specs::Rules::rules_of, crate::specs::ties::Chess::has_bare_king))]
     fn has_bare_king(&self, side: Colour) -> bool {
         has_bare_king(side, &self.position().setup().men)
     }

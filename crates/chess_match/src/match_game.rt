@@ -5,6 +5,7 @@ ghost use Rattle.std.specs.Prelude.{◌≡◌, ◌<◌, ◌≤◌, ◌+◌, ◌+
 ghost use Rattle.arrayvec.specs.ArrayVec.{array_vec_len};
 ghost use Rattle.chess_match.specs.Rules.{Rules};
 ghost use Rattle.chess_match.specs.Lines.{bytes_of};
+ghost use Rattle.chess_match.specs.ties.Chess.{move_read};
 ghost use Rattle.chess_match.specs.ties.Delivering.{start_lines};
 ghost use Rattle.chess_match.specs.ties.Texts.{AreTexts};
 ghost use Rattle.chess_game.specs.declared.game.TheConstants.{MOST_MOVES};
@@ -49,7 +50,7 @@ pub(crate) trait MatchGame {
 
     /// The one legal move that a text denotes in the current position; `None` if it denotes none, or more than one.
     fn reading(&self, text: &[u8]) -> Option<Move>
-        ensures { (r : Rules) → plays self.now r → result ≡ r.reading (played self.now) text.now };
+        ensures { (r : Rules) → plays self.now r → result ≡ move_read (r.reading (played self.now) text.now) };
 
     /// The board's verdict on the current position, if there is one.
     fn verdict(&self) -> Option<Verdict>
@@ -67,7 +68,7 @@ pub(crate) trait MatchGame {
     /// SAN and by squares.
     fn play(&mut self, chosen: Move) -> MoveTexts
         requires { (r : Rules) × (text : List ℕ) × (plays self.old r) × (r.verdict (played self.old) ≡ None)
-            × (nat_le r.limit (length (played self.old)) ≡ false) × (r.reading (played self.old) text ≡ Some chosen) }
+            × (nat_le r.limit (length (played self.old)) ≡ false) × (move_read (r.reading (played self.old) text) ≡ Some chosen) }
         ensures moves { played self.new ≡ played self.old ++ chosen ∷ [] }
         ensures rules { (r : Rules) → plays self.old r → plays self.new r }
         ensures texts { (r : Rules) → plays self.old r → AreTexts r result (played self.new) }

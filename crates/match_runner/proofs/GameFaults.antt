@@ -1,13 +1,13 @@
 -- Which games of a match have a fault.
-use Rattle.std.proofs.Common.{◌≡◌, ◌∙◌, ◌<◌, ℕ, Bool, true, false, List, [], ◌∷◌, length, Option, Some, None, refl, ap, sym, arith}
-use Rattle.std.specs.Prelude.{if◌then◌else◌, nat_lt}
+use Rattle.std.proofs.Common.{◌≡◌, ◌∙◌, ◌<◌, ℕ, Bool, true, false, List, [], ◌∷◌, length, Option, Some, None, refl, ap, sym, arith, cond}
+use Rattle.std.specs.Prelude.{nat_lt, option_map}
 use Rattle.std.proofs.lemmas.Bool.Decides.{nat_tests}
 use Rattle.byte_devices.specs.Devices.{OutputState}
 use Rattle.byte_devices.specs.Transfers.{ToOutput, OutputTook}
 use Rattle.byte_devices.proofs.shared.Transfers.{saturating_increment_if}
 use Rattle.chess_base.specs.declared.man.Colour.{Colour}
 use Rattle.chess_base.specs.declared.man.Colour.TheVariants.{White, Black}
-use Rattle.chess_match.specs.ByDevice.{broken_blocks, is_broken, lines_sent}
+use Rattle.chess_match.specs.laws.Laws.{broken_blocks, is_broken, lines_sent}
 use Rattle.chess_match.specs.Lines.{SentLine}
 use Rattle.chess_match.specs.Notes.{Note}
 use Rattle.chess_match.specs.Played.{PlayedNoting, WasSent, World}
@@ -22,11 +22,8 @@ use Rattle.match_runner.specs.laws.Faults.{OnlyLastGamesHaveFailedWrites}
 
 -- ---- a match without a fault
 
--- writing to this side failed
-abbrev unwritten : Colour → Option (Colour × MatchFault)
-unwritten S = Some (S, Write)
-
-by_side : (x y : Bool) → (if x then unwritten White else if y then unwritten Black else None) ≡ None
+by_side : (x y : Bool)
+    → option_map {U = Colour × MatchFault} (λ side. (side, Write)) (cond x (Some White) (cond y (Some Black) None)) ≡ None
     → (x ≡ false) × (y ≡ false)
 by_side true y e = absurd cc
 by_side false true e = absurd cc

@@ -5,7 +5,7 @@ use Rattle.std.specs.List.{AllByRecursion, enumerate_from}
 use Rattle.chess_base.specs.declared.man.Colour.{Colour}
 use Rattle.chess_base.specs.declared.man.Colour.TheVariants.{White, Black}
 use Rattle.chess_base.specs.declared.man.Move.{Move}
-use Rattle.cecp_engine.specs.Items.{Item, last_said, value_text}
+use Rattle.cecp_engine.specs.Items.{Item, last_said}
 use Rattle.chess_game.specs.Game.{Seen, State}
 use Rattle.chess_base.specs.Men.{other}
 use Rattle.chess_game.specs.Results.{cut_tag, same_outcome}
@@ -44,7 +44,7 @@ left plan reason moves = record {
 
 -- an engine's name, by its items
 abbrev named : List Item → List ℕ
-named items = cut_tag (last_said value_text [] (codes "myname") items)
+named items = cut_tag (last_said (λ v. v.text) [] (codes "myname") items)
 
 -- a match of these acts was played, ended for this reason and was reported
 record IsPlayed (plan : GamesPlan) (played : GameRecord) (H : List Act) (reason : Reason) (final : Match) : Type 0 where

@@ -12,9 +12,12 @@ use Rattle.chess_base.specs.declared.man.Move.{Move}
 use Rattle.chess_base.specs.Men.{other, same_colour}
 use Rattle.chess_base.specs.Options.{list_if}
 use Rattle.chess_game.specs.declared.verdicts.Verdict.{Verdict}
-use Rattle.cecp_engine.specs.EngineLines.{LineKind, Moves, Resigns, OffersDraw, ClaimsDraw, ClaimsWin, Rejects, Answers}
-use Rattle.cecp_engine.specs.Items.{Item, ends_handshake}
-use Rattle.chess_match.specs.Effects.{Match, Phase, Handshake, Setup, Opening, BeforeMove, AfterMove, Over, Effect, flag_row, before_move, clock, ends, farewell, handshake_done, handshake_row, ignores, is_owed_move, items_said, judged, line_row, missing, move_line, move_row, moved, offer_row, ping_number, sends_nothing, sends_to, setup_done, turn_row, with_answers, with_seat}
+use Rattle.cecp_engine.specs.EngineLines.{LineKind, Features, Moves, Resigns, OffersDraw, ClaimsDraw, ClaimsWin, Rejects, Answers}
+use Rattle.cecp_engine.specs.Items.{Item, ends_handshake, items_of}
+use Rattle.chess_match.specs.Effects.{Match, Phase, Handshake, Setup, Opening, BeforeMove, AfterMove, Over, Effect, flag_row, before_move, clock, ends, handshake_done, handshake_row, ignores, is_owed_move, judged, line_row, missing, move_line, move_row, moved, offer_row, ping_number, sends_nothing, sends_to, setup_done, turn_row, with_seat}
+use Rattle.chess_match.specs.ties.Parts.{with_answers, farewell, move_row_by}
+use Rattle.chess_match.specs.ties.Chess.{move_read}
+use Rattle.chess_match.proofs.shared.Moves.{row_by_move}
 use Rattle.chess_match.specs.Acts.{awaits_line, is_over}
 use Rattle.chess_match.specs.Events.{Seat}
 use Rattle.chess_match.specs.Rules.{Rules}
@@ -183,12 +186,15 @@ module _ (r : Rules) (S : Colour) (m : Match) (on : is_over m.phase ≡ false) w
   before : (used : ℕ) (kind : LineKind) → Again (before_move r S used kind m) (before_move r S 0 kind (again m))
   before used (Moves t) = test_again (nat_le r.limit (length m.played)) _ _ _ _
       (over_again r over_by.GameTooLong m (refl, λ c. refl))
-      (at (r.reading m.played t))
+      (subst (λ (e : Effect). Again e (move_row r S 0 (r.reading m.played t) (again m)))
+      (sym (row_by_move r S used (r.reading m.played t) m))
+      (subst (λ (e : Effect). Again (move_row_by r S used (move_read (r.reading m.played t)) m) e)
+      (sym (row_by_move r S 0 (r.reading m.played t) (again m))) (at (move_read (r.reading m.played t)))))
     where
-      at : (move : Option Move) → Again (move_row r S used move m) (move_row r S 0 move (again m))
+      at : (move : Option Move) → Again (move_row_by r S used move m) (move_row_by r S 0 move (again m))
       at None = over_again r (over_by.MovesIllegally S) m (refl, λ c. refl)
       at (Some move) =
-          subst (λ (n : Match). Again (move_row r S used (Some move) m)
+          subst (λ (n : Match). Again (move_row_by r S used (Some move) m)
           (option_map_or (λ verdict. ends r (over_by.Decided verdict) n) (r.verdict (m.played ++ move ∷ []))
           (sends_to S (ping (ping_number n S) ∷ []) n)))
           (moved_again move used)
@@ -268,6 +274,11 @@ module _ (r : Rules) (S : Colour) (m : Match) (on : is_over m.phase ≡ false) w
       at false true = answered _ _ (over_again r (over_by.Faulted S NoDone) met (refl, λ c. refl))
       at false false = answered _ _ (on_again _ _ (counted_again met (m.count + 1)) on)
 
+  shakes : (moment : ℕ) (kind : LineKind)
+      → Again (line_row r (Handshake S) kind moment m) (line_row r (Handshake S) kind 0 (again m))
+  shakes moment (Features text) = handshake (items_of text)
+  shakes moment _ = handshake []
+
 -- ---- a line
 
 -- a flag fell, and the match ended for that
@@ -298,7 +309,7 @@ pub line_again : (r : Rules) (S : Colour) (kind : LineKind) (moment : ℕ) (m : 
     → awaits_line p S ≡ true → is_over m.phase ≡ false
     → Falls m (line_row r p kind moment m)
     ⊎ Again (line_row r p kind moment m) (line_row r (waits p) kind 0 (again m))
-line_again r S kind moment m (Handshake c) aw on = inr (handshake r c m on (items_said kind))
+line_again r S kind moment m (Handshake c) aw on = inr (shakes r c m on moment kind)
 line_again r S kind moment m (Setup c) aw on = inr (setup r c m on moment kind)
 line_again r S kind moment m (BeforeMove c opened) aw on =
     timed r c (moment - opened) kind m on (nat_lt (clock r m c) (moment - opened))

@@ -11,7 +11,7 @@ use Rattle.text_lines.specs.Lines.{is_blank, without_front_blanks}
 use Rattle.text_lines.proofs.shared.Lines.{without_front_blanks-short}
 use Rattle.text_lines.specs.Words.{is_name_byte}
 use Rattle.std.specs.List.{list_all, position_or_len, prefix_len, take_while, list_any}
-use Rattle.cecp_engine.specs.Items.{Item, Value, Digits, Quoted, value_of, item_of, ends_handshake, first_items, items_of, last_said}
+use Rattle.cecp_engine.specs.Items.{Item, Value, value_of, item_of, ends_handshake, first_items, items_of, last_said}
 
 -- ---- the last value
 
@@ -33,8 +33,8 @@ value_shorter [] p e = cc
 value_shorter (c ∷ cs) p e = by_tests ((c == 34) && nat_lt (quote_at cs) (length cs)) (is_digit c) refl e
   where
     by_tests : (a b : Bool) → is_digit c ≡ b
-        → (if a then Some (Quoted (take (quote_at cs) cs), drop (quote_at cs + 1) cs)
-        else if b then Some (Digits (take_while is_digit (c ∷ cs)), drop (prefix_len is_digit (c ∷ cs)) (c ∷ cs))
+        → (if a then Some (record { quoted = true; text = take (quote_at cs) cs }, drop (quote_at cs + 1) cs)
+        else if b then Some (record { quoted = false; text = take_while is_digit (c ∷ cs) }, drop (prefix_len is_digit (c ∷ cs)) (c ∷ cs))
         else None) ≡ Some p
         → length p.1 < length (c ∷ cs)
     by_tests true b k e =

@@ -1,7 +1,7 @@
 -- What is kept of what an engine said, item by item.
 use Rattle.std.specs.Prelude.{ℕ, Bool, if◌then◌else◌, List, codes, Option, None, Some}
 use Rattle.std.specs.Str.{bytes_eq}
-use Rattle.cecp_engine.specs.Items.{Item, is_one, value_text, has_word}
+use Rattle.cecp_engine.specs.Items.{Item, is_one, has_word}
 use Rattle.std.specs.Borrow.{Bor}
 use Rattle.cecp_engine.specs.Items as items
 use Rattle.cecp_engine.specs.declared.item.Value.{Value}
@@ -16,7 +16,7 @@ said_again name i before = if bytes_eq i.name name then is_one i.value else befo
 -- `variants`, otherwise that stays
 abbrev pub fischerandom_again : Item → Bool → Bool
 fischerandom_again i before = if bytes_eq i.name (codes "variants") then has_word (codes "fischerandom")
-    (value_text i.value) else before
+    i.value.text else before
 
 -- the value and the text after it, as the definitions have them, that the code's function `read_value` returned; `None`
 -- if it returned none

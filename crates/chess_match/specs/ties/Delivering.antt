@@ -1,11 +1,15 @@
 -- Lines that are put in by calls of their own.
-use Rattle.std.specs.Prelude.{ℕ, if◌then◌else◌, List, [], ◌∷◌, ◌++◌, codes, Option}
+use Rattle.std.specs.Prelude.{ℕ, ◌/◌, if◌then◌else◌, nat_lt, List, [], ◌∷◌, ◌++◌, length, codes, Option}
 use Rattle.std.specs.Option.{option_map_or}
+use Rattle.chess_base.specs.declared.man.Colour.{Colour}
 use Rattle.chess_base.specs.declared.man.Variant.{Variant}
+use Rattle.chess_base.specs.Men.{other}
 use Rattle.chess_base.specs.Letters.{new_line}
 use Rattle.chess_base.specs.Options.{list_if}
-use Rattle.cecp_engine.specs.Items.{is_known}
-use Rattle.chess_match.specs.Lines.{SentLine, Says}
+use Rattle.cecp_engine.specs.Items.{is_known, takes}
+use Rattle.chess_match.specs.Effects.{Match, clock, move_line}
+use Rattle.chess_match.specs.Rules.{Rules}
+use Rattle.chess_match.specs.Lines.{SentLine, Says, Time, Otim}
 use Rattle.chess_text.specs.San.{is_fischerandom}
 
 -- the line that answers an item of this name, with its `\n`: `accepted ping`, or `rejected` and the name
@@ -19,3 +23,13 @@ start_lines start = option_map_or (λ fen. Says (codes "setboard " ++ fen) ∷ [
 -- the line `variant fischerandom` if the game is of Chess960, as a list of one; otherwise empty
 abbrev pub variant_command : Variant → List SentLine
 variant_command v = list_if (is_fischerandom v) (Says (codes "variant fischerandom") ∷ [])
+
+-- the line that sends the side `S` the last move, as a list of one; empty if no move was made
+abbrev pub last_move : Rules → Match → Colour → List SentLine
+last_move r m S = list_if (nat_lt 0 (length m.played)) (move_line r m S ∷ [])
+
+-- the lines that tell the side `S` the clocks: `time T`, its own, and `otim U`, the other's, in centiseconds, rounded
+-- down; no lines if its engine turned these off, as by `time=0`
+abbrev pub clocks : Rules → Match → Colour → List SentLine
+clocks r m S =
+    list_if (takes (codes "time") (m.seat S).items) (Time (clock r m S / 10) ∷ Otim (clock r m (other S) / 10) ∷ [])

@@ -12,15 +12,16 @@ use Rattle.chess_game.specs.declared.results.Declared.{Declared}
 use Rattle.chess_game.specs.Results.{cut_tag}
 use Rattle.cecp_engine.specs.Clocks.{ClocksSeen, Spent, charged}
 use Rattle.cecp_engine.specs.EngineLines.{LineKind}
-use Rattle.cecp_engine.specs.Items.{Item, last_said, value_text}
+use Rattle.cecp_engine.specs.Items.{Item, last_said}
 use Rattle.cecp_engine.specs.Seen.{features_of}
 use Rattle.cecp_engine.specs.Levels.{LevelSeen}
 use Rattle.chess_match.specs.Acts.{is_over}
-use Rattle.chess_match.specs.Effects.{Match, Phase, Handshake, Setup, Opening, BeforeMove, AfterMove, Over, Effect, handshake_lines, is_owed_move, items_said, move_line, opening, ping_number}
+use Rattle.chess_match.specs.Effects.{Match, Phase, Handshake, Setup, Opening, BeforeMove, AfterMove, Over, Effect, handshake_lines, is_owed_move, move_line, opening, ping_number}
+use Rattle.chess_match.specs.laws.Laws.{items_in_line}
 use Rattle.chess_match.specs.Events.{Seat}
 use Rattle.chess_match.specs.Rules.{Rules}
 use Rattle.chess_match.specs.Lines.{SentLine, Says, answers_to, ping, setup_lines}
-use Rattle.chess_match.specs.Reasons.{comment_of, is_write_fault_of, outcome_by_reason}
+use Rattle.chess_match.specs.Reasons.{is_write_fault_of, result_of}
 use Rattle.chess_match.specs.declared.phase.Phase.{Phase as CorePhase}
 use Rattle.chess_match.specs.declared.phase.Phase.TheVariants as core_in
 use Rattle.chess_match.specs.declared.reason.Reason.{Reason}
@@ -36,7 +37,7 @@ use Rattle.chess_match.specs.ties.Texts.{AreOfLast, unsent_in}
 -- the name that an engine with these items gave by its last `myname`, cut so that a PGN tag can hold it; empty if it
 -- gave none
 unfoldable pub name_by : List Item → List ℕ
-name_by items = cut_tag (last_said value_text [] (codes "myname") items)
+name_by items = cut_tag (last_said (λ v. v.text) [] (codes "myname") items)
 
 -- what the code keeps of an engine (`kept`: features, name, and whether its offer of a draw is open) is what the
 -- definitions know of it (`known`)
@@ -101,15 +102,13 @@ nothing_said S = []
 -- the items that each side is to be sent answers to, after a line that comes in this phase: those of the line in a
 -- handshake, in which alone they count
 abbrev pub items_in : CorePhase → LineKind → Colour → List Item
-items_in (core_in.Handshake c) kind = items_to c (items_said kind)
+items_in (core_in.Handshake c) kind = items_to c (items_in_line kind)
 items_in _ kind = nothing_said
 
 -- the lines that end the match `m` for the side `S`; `owed` says whether the last move is among them
 abbrev pub last_lines : Rules → Match → Reason → Bool → Colour → List SentLine
-last_lines r m reason owed S =
-    let result : Declared = record { outcome = outcome_by_reason reason; comment = comment_of reason } in
-    list_if owed (move_line r m S ∷ [])
-    ++ (Says (codes "result " ++ result_text result) ∷ Says (codes "quit") ∷ [])
+last_lines r m reason owed S = list_if owed (move_line r m S ∷ [])
+    ++ (Says (codes "result " ++ result_text (result_of reason)) ∷ Says (codes "quit") ∷ [])
 
 -- the lines that the side `S` is sent when the match comes into this phase and is then `m`; `last` is what is kept of
 -- the last move

@@ -18,7 +18,7 @@ use Rattle.match_runner.specs.Games.{GameRecord, IsOfPlan, first_side, game_text
 use Rattle.match_runner.specs.Log.{log_from}
 use Rattle.match_runner.specs.laws.Entries.{Entry, IsShown, entries_from, entries_text}
 use Rattle.chess_match.specs.Lines.{bytes_of}
-use Rattle.chess_match.specs.Reasons.{comment_of, outcome_by_reason}
+use Rattle.chess_match.specs.Reasons.{result_of}
 use Rattle.chess_match.specs.Rules.{Rules}
 use Rattle.chess_match.specs.declared.reason.Reason.{Reason}
 use Rattle.chess_game.specs.Ends.{result_text}
@@ -34,7 +34,7 @@ events_shown (e ∷ es) = e ∷ events_shown es
 -- the line that engines are sent at the end of a match that ended for this reason, such as `result 1-0 {Black resigns}`
 abbrev pub text_of_result : Reason → List ℕ
 text_of_result reason =
-    codes "result " ++ result_text (record { outcome = outcome_by_reason reason; comment = comment_of reason })
+    codes "result " ++ result_text (result_of reason)
 
 -- the event of a line of a log whose mark is `!`, of an engine of this side
 abbrev pub other_event : Colour → ℕ → List ℕ → Event

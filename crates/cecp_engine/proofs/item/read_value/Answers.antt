@@ -1,4 +1,4 @@
--- A quote that is not closed gives no value (ItemRuns.unclosed).
+-- A quote that is not closed gives no value (shared.Items.unclosed).
 use Rattle.cecp_engine.proofs.shared.Items.{unclosed}
 use Rattle.cecp_engine.proofs.item.read_value.Goals as goal
 

@@ -3,7 +3,7 @@
 use Rattle.std.proofs.Common.{◌≡◌, ◌++◌, ◌∷◌, [], append_assoc, true, false, length, arith, lt-ltb, le-ltb}
 use Rattle.std.specs.Prelude.{nat_lt, codes}
 use Rattle.chess_match.specs.Lines.{Says}
-use Rattle.chess_match.specs.Effects.{clocks, last_move}
+use Rattle.chess_match.specs.ties.Delivering.{clocks, last_move}
 use Rattle.chess_match.proofs.CoreSteps.{clocks_moves}
 use Rattle.chess_match.proofs.Sends.{bytes_of-append, go_line}
 use Rattle.chess_match.proofs.compose.add_opening.Goals as goal

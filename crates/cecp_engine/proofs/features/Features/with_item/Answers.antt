@@ -1,5 +1,5 @@
 -- Each feature is set by its name and the item alone, so what it is after one item more follows from what it was
--- (ItemRuns.features-snoc).
+-- (FeatureRuns.features-snoc).
 use Rattle.cecp_engine.specs.Seen.{item_seen}
 use Rattle.cecp_engine.proofs.FeatureRuns.{features-snoc}
 use Rattle.cecp_engine.proofs.features.Features.with_item.Goals as goal

@@ -7,7 +7,8 @@ use Rattle.chess_base.specs.Moves.{after}
 use Rattle.chess_game.specs.Game as game
 use Rattle.chess_game.specs.Game.{current}
 use Rattle.chess_text.specs.San.{check_mark, san, shown_move}
-use Rattle.chess_match.specs.Rules.{Rules, rules_of, text_of_last}
+use Rattle.chess_match.specs.Rules.{Rules, rules_of}
+use Rattle.chess_match.specs.ties.Chess.{text_of_last}
 use Rattle.chess_match.proofs.LastMoves.{texts_of_last}
 use Rattle.chess_match.proofs.Playing.{legal_read, playable}
 use Rattle.chess_match.proofs.game.GameMatchGame.play.Goals as goal

@@ -7,20 +7,20 @@ use Rattle.std.specs.Prelude.{nat_le}
 use Rattle.cecp_engine.specs.Items.{ends_handshake}
 use Rattle.cecp_engine.specs.Seen.{seen}
 use Rattle.chess_match.specs.Acts.{is_over}
-use Rattle.chess_match.specs.Effects.{items_said}
+use Rattle.chess_match.specs.laws.Laws.{items_in_line}
 use Rattle.chess_match.proofs.CoreSteps.{answered_goes, counted_goes}
 use Rattle.chess_match.proofs.state.MatchState.handshake_line.Goals as goal
 
 pub returns-then-take_line_items-clause-goes : goal.returns-then-take_line_items-clause-goes
 returns-then-take_line_items-clause-goes g c r m p at s =
-    let items = items_said (seen c.args.line) in
+    let items = items_in_line (seen c.args.line) in
     let done : list_any ends_handshake items ≡ true = sym c.if-take_line_items.ensures.done in
     rw done (answered_goes r _ _ _ c.args.side items _
     (c.handshake_done.ensures r _ p at (c.if-take_line_items.ensures.taken r _ m s)))
 
 pub returns-then-self-ge-HANDSHAKE_LEN-clause-goes : goal.returns-then-self-ge-HANDSHAKE_LEN-clause-goes
 returns-then-self-ge-HANDSHAKE_LEN-clause-goes g c r m p at s =
-    let items = items_said (seen c.args.line) in
+    let items = items_in_line (seen c.args.line) in
     let done : list_any ends_handshake items ≡ false = sym c.if-take_line_items.ensures.done in
     let many : nat_le 1000 (m.count + 1) ≡ true =
     le-leb 1000 (m.count + 1) (omega (arith, s.count, c.if-take_line_items.ensures.count)) in
@@ -29,7 +29,7 @@ returns-then-self-ge-HANDSHAKE_LEN-clause-goes g c r m p at s =
 
 pub returns-clause-goes : goal.returns-clause-goes
 returns-clause-goes g c r m p at s =
-    let items = items_said (seen c.args.line) in
+    let items = items_in_line (seen c.args.line) in
     let done : list_any ends_handshake items ≡ false = sym c.if-take_line_items.ensures.done in
     let few : nat_le 1000 (m.count + 1) ≡ false =
     lt-leb 1000 (m.count + 1)

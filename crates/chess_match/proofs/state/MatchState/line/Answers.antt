@@ -2,14 +2,15 @@
 -- an opening or at the end no line is read.
 use Rattle.std.proofs.Common.{ap, ◌∙◌}
 use Rattle.chess_match.specs.ties.Represents.{phase_of}
-use Rattle.chess_match.proofs.CoreSteps.{row_goes}
+use Rattle.chess_match.proofs.CoreSteps.{row_goes, shaken_goes}
 use Rattle.chess_match.proofs.Sends.{answers_own}
 use Rattle.chess_match.proofs.state.MatchState.line.Goals as goal
 
 pub returns-in-Handshake-clause-goes : goal.returns-in-Handshake-clause-goes
 returns-in-Handshake-clause-goes g c r m side text p h k s =
     let at = s.phase ∙ ap (phase_of c.args.self.now.opened) c.in-Handshake.is in
-    rw (k, c.in-Handshake.is) (row_goes r _ _ _ _ _ _ m _ at (c.handshake_line.ensures.goes r m p at s))
+    rw (k, c.in-Handshake.is) (row_goes r _ _ _ _ _ _ m _ at
+    (shaken_goes r _ _ _ _ _ _ _ m (c.handshake_line.ensures.goes r m p at s)))
 
 pub returns-in-Setup-clause-goes : goal.returns-in-Setup-clause-goes
 returns-in-Setup-clause-goes g c r m side text p h k s =

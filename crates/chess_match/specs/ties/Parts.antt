@@ -1,0 +1,44 @@
+-- Parts of effects, and what is due after a line, by names that proofs use.
+use Rattle.std.specs.Prelude.{ℕ, if◌then◌else◌, List, [], ◌∷◌, ◌++◌, codes, Option, None, Some}
+use Rattle.chess_base.specs.declared.man.Colour.{Colour}
+use Rattle.chess_base.specs.declared.man.Colour.TheVariants.{White}
+use Rattle.chess_base.specs.declared.man.Move.{Move}
+use Rattle.chess_base.specs.Men.{same_colour}
+use Rattle.chess_base.specs.Options.{list_if}
+use Rattle.cecp_engine.specs.Items.{Item}
+use Rattle.chess_match.specs.Acts.{Block, blocks_from, is_over}
+use Rattle.chess_match.specs.Effects.{Effect, Match, Phase, ends, is_owed_move, move_line, move_row}
+use Rattle.chess_game.specs.Results.{result_text}
+use Rattle.chess_match.specs.Reasons.{result_of}
+use Rattle.chess_match.specs.Rules.{Rules}
+use Rattle.chess_match.specs.declared.reason.Reason.{Reason}
+use Rattle.chess_match.specs.declared.reason.Reason.TheVariants.{MovesIllegally}
+use Rattle.chess_text.specs.declared.reading.Reading.TheVariants as reads
+use Rattle.chess_match.specs.Lines.{SentLine, Says, answers_to}
+
+-- the match `m` at the beginning of this phase: no line was counted in it yet
+abbrev pub enter : Phase → Match → Match
+enter phase m = record m { phase = phase; count = 0 }
+
+-- the effect `e`, except that the engine of this side is sent, before all else, an answer to each of these items
+abbrev pub with_answers : Colour → List Item → Effect → Effect
+with_answers side items e = record e { to = λ S. list_if (same_colour side S) (answers_to items) ++ e.to S }
+
+-- the blocks that are due after a line of the side `S` had the effect `done`: first the one for `S`, then the other
+-- side's; but if the match is over after it, first White's, then Black's
+abbrev pub blocks_after : Colour → Effect → List Block
+blocks_after S done = blocks_from (if is_over done.after.phase then White else S) done.to
+
+-- the lines that end the match for the side `S`, if it ends in the state `m` for this reason and writing to `S` did not
+-- fail: the last move, if `S` was not yet sent it; the result with its comment, such as `result 1-0 {Black resigns}`;
+-- and `quit`
+abbrev pub farewell : Rules → Match → Reason → Colour → List SentLine
+farewell r m reason S =
+    list_if (is_owed_move m.phase S) (move_line r m S ∷ [])
+    ++ (Says (codes "result " ++ result_text (result_of reason)) ∷ Says (codes "quit") ∷ [])
+
+-- what a line `move M` of the side `S` does, `used` milliseconds after its turn began; the option is the one legal move
+-- that M denotes
+abbrev pub move_row_by : Rules → Colour → ℕ → Option Move → Match → Effect
+move_row_by r S used None m = ends r (MovesIllegally S) m
+move_row_by r S used (Some move) m = move_row r S used (reads.Move move) m
