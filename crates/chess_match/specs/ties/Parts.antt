@@ -8,7 +8,7 @@ use Rattle.chess_base.specs.Options.{list_if}
 use Rattle.cecp_engine.specs.Items.{Item}
 use Rattle.chess_match.specs.Acts.{Block, blocks_from, is_over}
 use Rattle.chess_match.specs.Effects.{Effect, Match, Phase, ends, is_owed_move, move_line, move_row}
-use Rattle.chess_game.specs.Results.{result_text}
+use Rattle.chess_game.specs.Ends.{result_text}
 use Rattle.chess_match.specs.Reasons.{result_of}
 use Rattle.chess_match.specs.Rules.{Rules}
 use Rattle.chess_match.specs.declared.reason.Reason.{Reason}

@@ -33,8 +33,7 @@ events_shown (e ∷ es) = e ∷ events_shown es
 
 -- the line that engines are sent at the end of a match that ended for this reason, such as `result 1-0 {Black resigns}`
 abbrev pub text_of_result : Reason → List ℕ
-text_of_result reason =
-    codes "result " ++ result_text (result_of reason)
+text_of_result reason = codes "result " ++ result_text (result_of reason)
 
 -- the event of a line of a log whose mark is `!`, of an engine of this side
 abbrev pub other_event : Colour → ℕ → List ℕ → Event
