@@ -7,8 +7,8 @@ use Rattle.std.specs.Str.{bytes_eq}
 use Rattle.std.proofs.lemmas.Bool.{both_ways, or_left, or_right, eq-eqb, eqb-true}
 use Rattle.std.proofs.lemmas.Bool.Decides.{nat_tests}
 use Rattle.std.proofs.lemmas.Slice.Eq.{bytes_eq-Decides}
-use Rattle.chess_base.specs.MoveList.{squares}
-use Rattle.chess_base.specs.Squares.{rank, from_below}
+use Rattle.chess_base.specs.Squares.{rank, squares}
+use Rattle.chess_base.specs.shared.Below.{from_below}
 use Rattle.chess_base.proofs.shared.Choices.{chosen}
 use Rattle.chess_base.specs.declared.man.Man.{Man}
 use Rattle.chess_base.specs.declared.man.Colour.{Colour}
