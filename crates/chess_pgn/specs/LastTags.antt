@@ -8,7 +8,7 @@ use Rattle.chess_pgn.specs.declared.tagged_result.ResultTag.{ResultTag}
 use Rattle.chess_pgn.specs.Tokens.{Token, Skip, Tag, Word}
 use Rattle.chess_pgn.specs.Words.{outcome_of, is_marks}
 
--- a token that says nothing of a game: it is skipped, or marks such as `!?`
+-- whether a token says nothing of a game: it is skipped, or marks such as `!?`
 abbrev pub says_nothing : Token → Bool
 says_nothing Skip = true
 says_nothing (Word word) = is_marks word

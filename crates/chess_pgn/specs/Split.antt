@@ -64,8 +64,7 @@ pub data IsString : List ℕ → Type 0 where
 
 -- ---- tokens
 
--- the text is this token (see `Token`), and so many bytes come after it (`left`); `b`: its first byte is its line's
--- first
+-- the text is this token (see `Token`), and `left` bytes come after it; `b`: its first byte is its line's first
 pub data IsToken (b : Bool) (left : ℕ) : List ℕ → Token → Type 0 where
   -- a blank or a dot
   blank : {c : ℕ} → (is_white_space c || c == byte ".") ≡ true → IsToken b left (c ∷ []) Skip
@@ -86,7 +85,7 @@ pub data IsToken (b : Bool) (left : ℕ) : List ℕ → Token → Type 0 where
   -- a word (a symbol): bytes of words, at least one
   word : {text : List ℕ} → 0 < length text → list_all is_word_byte text ≡ true → IsToken b left text (Word text)
 
--- at the offset `at` the text has `front`, and this is the token `t`
+-- from the offset `at` on the text begins with `front`, and this is the token `t`
 abbrev pub IsTokenAt : List ℕ → ℕ → List ℕ → Token → Type 0
 IsTokenAt text at front t =
     (rest : List ℕ) × (drop at text ≡ front ++ rest) × IsToken (begins_line text at) (length rest) front t
@@ -102,14 +101,14 @@ pub data HasOpenComment : Bool → List ℕ → ℕ → Type 0 where
   deeper : {b : Bool} {parts inner : List ℕ} {to_end : ℕ} → IsInside b parts → HasOpenComment false inner to_end
       → HasOpenComment b (parts ++ byte "(" ∷ inner) to_end
 
--- this token is the fault of a text that begins with no token (which is not claimed here), by the text's first byte
+-- this token is the fault of a text that begins with no token (which isn't claimed here), by the text's first byte
 pub data IsFaultOf : List ℕ → Token → Type 0 where
   -- a comment isn't closed
   comment : {text : List ℕ} → IsFaultOf (byte "{" ∷ text) (Unclosed_comment (length (byte "{" ∷ text)))
   -- a comment in a variation isn't closed
   inner_comment : {inner : List ℕ} {to_end : ℕ} → HasOpenComment false inner to_end
       → IsFaultOf (byte "(" ∷ inner) (Unclosed_comment to_end)
-  -- any other variation isn't closed
+  -- a variation isn't closed, and all comments in it are
   variation : {inner : List ℕ} → ((to_end : ℕ) → HasOpenComment false inner to_end → ⊥)
       → IsFaultOf (byte "(" ∷ inner) Unclosed_variation
   -- a `[` that begins no tag
