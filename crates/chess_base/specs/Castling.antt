@@ -1,7 +1,7 @@
 -- Castling (Laws of Chess 2023, article 3.8.2): with which rook, between which squares, and when. In Chess960 (Laws of
 -- Chess 2023, Guidelines II) king and rooks begin anywhere on the first rank, the king between the rooks; they end on
 -- the same squares as in normal chess.
-use Rattle.std.specs.Prelude.{ℕ, ◌+◌, ◌*◌, ◌==◌, nat_lt, Bool, true, false, not, ◌&&◌, ◌||◌, Option, Some, None, is_none, List, [], ◌∷◌, find, position, option_and_then}
+use Rattle.std.specs.Prelude.{ℕ, ◌+◌, ◌*◌, ◌==◌, nat_lt, Bool, true, false, not, ◌&&◌, ◌||◌, Option, is_none, [], ◌∷◌, find, position, option_and_then}
 use Rattle.std.specs.Option.{option_map, option_map_or}
 use Rattle.chess_base.specs.declared.castling.Castle.{Castle}
 use Rattle.chess_base.specs.declared.man.Colour.{Colour}
@@ -19,6 +19,11 @@ use Rattle.chess_base.specs.ByColour.{by_colour}
 use Rattle.chess_base.specs.Men.{Men, man_at, is_man, other, first_rank}
 use Rattle.chess_base.specs.Attacks.{is_attacked}
 
+-- the value of the given castling side: the first argument is the king side's value, the second the queen side's
+abbrev pub by_side : {A : Type 0} → A → A → CastlingSide → A
+by_side king_side queen_side KingSide = king_side
+by_side king_side queen_side QueenSide = queen_side
+
 -- ---- squares
 
 -- the square on file f (0 for a) of colour c's first rank: for White and file 4 that is e1
@@ -31,18 +36,15 @@ king_home_file = 4
 
 -- normal chess: the file on which the rook for castling on this side begins, h (7) or a (0) (2.3)
 abbrev pub rook_file : CastlingSide → ℕ
-rook_file KingSide = 7
-rook_file QueenSide = 0
+rook_file = by_side 7 0
 
 -- the file to which castling on this side takes the king, in both variants: g (6) or c (2) (3.8.2)
 abbrev pub castled_king_file : CastlingSide → ℕ
-castled_king_file KingSide = 6
-castled_king_file QueenSide = 2
+castled_king_file = by_side 6 2
 
 -- the file to which castling on this side takes the rook, in both variants: f (5) or d (3) (3.8.2)
 abbrev pub castled_rook_file : CastlingSide → ℕ
-castled_rook_file KingSide = 5
-castled_rook_file QueenSide = 3
+castled_rook_file = by_side 5 3
 
 -- ---- rights (3.8.2.1)
 
@@ -66,8 +68,7 @@ king_square men c = position (λ o. is_man c King o) men
 -- of two squares of one rank, s lies on the given side of `king`, the king's square: towards file h (king side) or
 -- towards file a (queen side). For squares of different ranks the result means nothing
 abbrev pub is_to_side : CastlingSide → ℕ → ℕ → Bool
-is_to_side KingSide king s = nat_lt king s
-is_to_side QueenSide king s = nat_lt s king
+is_to_side w king s = by_side (nat_lt king s) (nat_lt s king) w
 
 -- colour c's king, and a rook of c on square s, are where castling on side w begins. Normal chess: both on their
 -- initial squares, as e1 and h1. Chess960: both on c's first rank, the rook on side w of the king, at any distance;

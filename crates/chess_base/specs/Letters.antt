@@ -1,6 +1,6 @@
 -- The bytes of texts: letters and digits, separators, the letters of kinds of piece and the names of squares.
 use Prim.Native.String.{String as Text}
-use Rattle.std.specs.Prelude.{ℕ, ◌+◌, ◌-◌, ◌*◌, ◌==◌, Bool, ◌&&◌, ◌||◌, if◌then◌else◌, List, [], ◌∷◌, ◌++◌, map, find, Option, Some, None, nat_le, codes}
+use Rattle.std.specs.Prelude.{ℕ, ◌+◌, ◌-◌, ◌*◌, ◌==◌, Bool, ◌&&◌, ◌||◌, if◌then◌else◌, List, [], ◌∷◌, ◌++◌, map, find, Option, Some, None, nat_le, codes, slice_index_or}
 use Rattle.chess_base.specs.declared.man.Colour.{Colour}
 use Rattle.chess_base.specs.declared.man.Colour.TheVariants.{White, Black}
 use Rattle.chess_base.specs.declared.man.Kind.{Kind}
@@ -9,14 +9,9 @@ use Rattle.chess_base.specs.declared.man.Man.{Man}
 use Rattle.chess_base.specs.ByColour.{by_colour}
 use Rattle.chess_base.specs.Squares.{file, rank}
 
--- the first number of a list; 0 for the empty list
-abbrev first_of : List ℕ → ℕ
-first_of [] = 0
-first_of (c ∷ cs) = c
-
 -- the code of a text's first character, 0 for the empty text; it is used for one ASCII character: `byte "A"` is 65
 abbrev pub byte : Text → ℕ
-byte text = first_of (codes text)
+byte text = slice_index_or (codes text) 0 0
 
 -- line feed, byte 10
 abbrev pub new_line : ℕ

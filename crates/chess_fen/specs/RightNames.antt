@@ -14,7 +14,7 @@ use Rattle.chess_base.specs.declared.man.Variant.{Variant}
 use Rattle.chess_base.specs.declared.man.Variant.TheVariants.{Normal, Fischerandom}
 use Rattle.chess_base.specs.Squares.{file}
 use Rattle.chess_base.specs.Men.{Men, man_at, is_man}
-use Rattle.chess_base.specs.Castling.{home_square, king_square, rook_file, rights_by}
+use Rattle.chess_base.specs.Castling.{home_square, king_square, rook_file, rights_by, by_side}
 use Rattle.chess_base.specs.Letters.{letter_by}
 use Rattle.chess_fen.specs.Texts.{occurs, first_letter, names_file}
 
@@ -25,8 +25,7 @@ all_rights = (White, KingSide) ∷ (White, QueenSide) ∷ (Black, KingSide) ∷ 
 -- the letter by which a FEN of normal chess names colour c's castling right on that side: K or Q for White, k or q for
 -- Black
 abbrev pub side_letter : Colour → CastlingSide → ℕ
-side_letter c KingSide = letter_by c King
-side_letter c QueenSide = letter_by c Queen
+side_letter c = by_side (letter_by c King) (letter_by c Queen)
 
 -- the letter that is written for colour c's right on side w, with the rook on square s: in normal chess K, Q, k or q,
 -- in Chess960 the letter of the rook's file, as H for White's rook on h1

@@ -8,7 +8,7 @@ use Rattle.chess_base.specs.declared.man.Kind.{Kind}
 use Rattle.chess_base.specs.declared.man.Kind.TheVariants.{King, Queen, Rook, Bishop, Knight, Pawn}
 use Rattle.chess_base.specs.declared.man.Man.{Man}
 use Rattle.chess_base.specs.Men.{Men, man_at, is_of, is_man, same_colour, same_kind}
-use Rattle.chess_base.specs.Squares.{some_square, each_square}
+use Rattle.chess_base.specs.Squares.{some_square}
 use Rattle.chess_base.specs.shared.Below.{some_below, each_below, from_below}
 use Rattle.chess_base.proofs.shared.Squares.{length-from_below, get_or-from_below, some_square_is, each_square_is}
 use Rattle.chess_moves.specs.Sets.{contains}

@@ -1,5 +1,5 @@
 -- A pawn's legal moves to the en passant target are the legal captures en passant.
-use Rattle.std.proofs.Common.{◌≡◌, ◌<◌, ℕ, inl, inr, Bool, true, not, ◌==◌, ◌&&◌, Option, Some, None, get_or, refl, sym, ap, ◌∙◌, arith}
+use Rattle.std.proofs.Common.{◌≡◌, ◌<◌, ℕ, inl, inr, Bool, true, not, ◌==◌, ◌&&◌, Option, Some, None, refl, sym, ap, ◌∙◌, arith}
 use Rattle.std.proofs.lemmas.Bool.Decides.{nat_tests}
 use Rattle.std.proofs.lemmas.Bool.{eqb-true, and_from, and_parts, both_ways}
 use Rattle.std.specs.List.{list_any}
@@ -18,12 +18,12 @@ use Rattle.chess_base.specs.Sound.{IsSound}
 use Rattle.chess_base.proofs.shared.Changes.{advance_goes, at_target, pawn_no_castling}
 use Rattle.chess_base.proofs.shared.Men.{is_man-colour}
 use Rattle.chess_base.proofs.shared.MoveKinds.{MoveKind, ManMoves, Castles, PawnMoves, Advances, Captures, TakesEnPassant, moves_from_pattern}
-use Rattle.chess_base.proofs.shared.Squares.{length-from_below, get_or-from_below, some_square_same}
+use Rattle.chess_base.proofs.shared.Squares.{some_square_same}
 use Rattle.chess_moves.specs.Promoting.{would_promote}
 use Rattle.chess_moves.specs.Sets.{contains, HasLegalStarts}
 use Rattle.chess_moves.proofs.shared.LegalMoves.{promotes_on_last_rank}
 use Rattle.chess_moves.proofs.shared.AnyMove.{any_by_start}
-use Rattle.chess_game.proofs.SomeKind.{any_square, not_none}
+use Rattle.chess_game.proofs.SomeKind.{not_none}
 
 at_itself : (t : ℕ) → is_at (Some t) t ≡ true
 at_itself t = grind arith

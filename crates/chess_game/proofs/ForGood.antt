@@ -11,7 +11,6 @@ use Rattle.chess_base.specs.declared.setup.Saved.{Saved}
 use Rattle.chess_base.specs.declared.setup.Setup.{Setup}
 use Rattle.chess_base.specs.Men.{Men, man_at, same_colour, same_kind}
 use Rattle.chess_base.specs.Moves.{after}
-use Rattle.chess_base.specs.Squares.{each_square}
 use Rattle.chess_base.specs.shared.Below.{from_below}
 use Rattle.chess_base.specs.laws.Reserve.{reserve, weight, ranks_to_go}
 use Rattle.chess_base.specs.laws.Laws.{ReserveNeverGrows, ReserveFallsForGood}

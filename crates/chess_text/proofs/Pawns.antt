@@ -13,7 +13,7 @@ use Rattle.chess_base.specs.declared.setup.Setup.{Setup}
 use Rattle.chess_base.specs.Attacks.{attacks, could_capture}
 use Rattle.chess_base.specs.Men.{Men, man_at, other, is_of, is_man, forward, pawn_rank}
 use Rattle.chess_base.specs.Moves.{is_double_advance, is_en_passant, pawn_advances, pawn_captures, pawn_moves}
-use Rattle.chess_base.specs.Squares.{file, rank, each_square}
+use Rattle.chess_base.specs.Squares.{file, rank}
 use Rattle.chess_base.specs.Sound.{IsSound, no_pawn_on_end_ranks}
 use Rattle.chess_base.specs.shared.Parts.{is_rank_ahead, pawn_is_allowed}
 use Rattle.chess_base.proofs.shared.Squares.{each_square-at}

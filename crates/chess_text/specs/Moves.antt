@@ -16,7 +16,7 @@ use Rattle.chess_base.specs.Letters.{kinds, square_text}
 use Rattle.chess_base.specs.Options.{list_if}
 use Rattle.chess_base.specs.Men.{man_at, same_kind}
 use Rattle.chess_base.specs.Moves.{captured_square, is_legal}
-use Rattle.chess_base.specs.Castling.{castling}
+use Rattle.chess_base.specs.Castling.{castling, by_side}
 use Rattle.chess_base.specs.MoveList.{promotions, moves}
 use Rattle.chess_base.specs.Squares.{file, rank, squares}
 use Rattle.chess_text.specs.declared.described.Described.{Described}
@@ -83,8 +83,7 @@ texts_of_pawn d = list_if (same_kind Pawn d.man)
 
 -- the texts that denote castling to this side, with the letter O or with the digit 0
 abbrev pub castling_texts : CastlingSide → List (List ℕ)
-castling_texts KingSide = codes "O-O" ∷ codes "0-0" ∷ []
-castling_texts QueenSide = codes "O-O-O" ∷ codes "0-0-0" ∷ []
+castling_texts = by_side (codes "O-O" ∷ codes "0-0" ∷ []) (codes "O-O-O" ∷ codes "0-0-0" ∷ [])
 
 -- the text, but for the marks (+ # ! ?) at its end, denotes the described move: as castling, by its two squares, by its
 -- piece's letter, or as a pawn's

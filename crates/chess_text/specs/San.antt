@@ -6,7 +6,6 @@ use Rattle.std.specs.Prelude.{ℕ, Bool, true, false, not, ◌&&◌, ◌==◌, i
 use Rattle.std.specs.List.{list_any, filter}
 use Rattle.std.specs.Option.{option_map_or}
 use Rattle.chess_base.specs.declared.man.CastlingSide.{CastlingSide}
-use Rattle.chess_base.specs.declared.man.CastlingSide.TheVariants.{KingSide, QueenSide}
 use Rattle.chess_base.specs.declared.man.Kind.TheVariants.{Pawn}
 use Rattle.chess_base.specs.declared.man.Move.{Move}
 use Rattle.chess_base.specs.declared.man.Variant.{Variant}
@@ -17,7 +16,7 @@ use Rattle.chess_base.specs.Coordinates.{coordinate}
 use Rattle.chess_base.specs.Letters.{byte, square_text}
 use Rattle.chess_base.specs.Men.{same_kind}
 use Rattle.chess_base.specs.Moves.{after}
-use Rattle.chess_base.specs.Castling.{castling}
+use Rattle.chess_base.specs.Castling.{castling, by_side}
 use Rattle.chess_base.specs.MoveList.{moves}
 use Rattle.chess_base.specs.Squares.{file, rank}
 use Rattle.chess_text.specs.declared.described.Described.{Described}
@@ -27,8 +26,7 @@ use Rattle.chess_text.specs.Moves.{described}
 
 -- castling to this side, written with the letter O
 abbrev pub castling_text : CastlingSide → List ℕ
-castling_text KingSide = codes "O-O"
-castling_text QueenSide = codes "O-O-O"
+castling_text = by_side (codes "O-O") (codes "O-O-O")
 
 -- the start squares of the rivals of the described move d among the moves `ms` of position p: those that go to d's end
 -- square with a piece of d's kind, but from another square, so that SAN must distinguish d from them. For SAN, `ms` are
@@ -54,7 +52,8 @@ abbrev pub piece_text : List ℕ → Described → List ℕ
 piece_text rivals d =
     (if same_kind d.man Pawn then list_if d.captures (file_text (file d.from))
     else kind_text d.man ++ start_text d.from rivals)
-    ++ (list_if d.captures (codes "x") ++ (square_text d.to ++ option_map_or (λ k. byte "=" ∷ kind_text k) d.promotion []))
+    ++ (list_if d.captures (codes "x")
+    ++ (square_text d.to ++ option_map_or (λ k. byte "=" ∷ kind_text k) d.promotion []))
 
 -- the mark for the position p that a move leads to: `#` for mate (5.1.1), `+` for check (3.9.1), otherwise nothing
 unfoldable pub check_mark : Setup → List ℕ

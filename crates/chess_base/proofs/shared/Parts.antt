@@ -1,5 +1,5 @@
 -- Definitions by their parts (specs/shared): equal to what they say.
-use Rattle.std.proofs.Common.{arith, ◌≡◌, ℕ, ◌==◌, Bool, true, false, not, ◌&&◌, ◌||◌, Option, Some, None, is_none, refl, ◌∙◌, sym}
+use Rattle.std.proofs.Common.{arith, ◌≡◌, ℕ, ◌==◌, Bool, true, not, ◌&&◌, ◌||◌, Option, Some, None, is_none, refl}
 use Rattle.std.proofs.lemmas.Bool.Decides.{nat_tests}
 use Rattle.std.specs.Option.{option_map_or}
 use Rattle.chess_base.specs.declared.castling.Castle.{Castle}
