@@ -21,7 +21,7 @@ use Rattle.chess_text.specs.ties.Reader.{parts_at}
 use Rattle.chess_text.specs.laws.Laws.{CanPromote, AreParts, IsDenoted}
 use Rattle.chess_text.proofs.Grammar.{denoted-parts, parts-denoted}
 use Rattle.chess_base.proofs.shared.Men.{same_kind-self}
-use Rattle.chess_text.proofs.Lists.{IsIn, promotion_in, in-flat_map, in-map, each-flat_map, each-one, each-below, found}
+use Rattle.chess_text.proofs.Lists.{IsIn, promotion_in, in-flat_map, in-map, each-flat_map, each-below, found}
 use Rattle.chess_moves.proofs.shared.AnyMove.{any-square}
 use Rattle.chess_text.proofs.Denotations.{of, by_letter_fits, straight_fits, file_fits, passing, bool_same, denoted_so, denotes_is}
 
