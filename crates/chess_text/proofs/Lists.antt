@@ -28,6 +28,9 @@ in-flat_map g xs x y h k t e = any-flat_map t g xs ∙ h (λ z. list_any t (g z)
 pub in-one : {A B : Type 0} (g : A → B) (xs : List A) (x : A) → IsIn A xs x → IsIn B (flat_map (λ y. g y ∷ []) xs) (g x)
 in-one g xs x h = in-flat_map (λ y. g y ∷ []) xs x (g x) h (λ t e. or_left (t (g x)) _ e)
 
+pub in-map : {A B : Type 0} (g : A → B) (xs : List A) (x : A) → IsIn A xs x → IsIn B (map g xs) (g x)
+in-map g xs x h t e = any-map t g xs ∙ h (λ y. t (g y)) e
+
 pub in-append-left : {A : Type 0} (xs ys : List A) (x : A) → IsIn A xs x → IsIn A (xs ++ ys) x
 in-append-left xs ys x h t e = list_any-append t xs ys ∙ or_left (list_any t xs) (list_any t ys) (h t e)
 

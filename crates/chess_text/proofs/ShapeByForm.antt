@@ -1,5 +1,5 @@
 -- A text has a move's shape where it names castling, or where its parts are those of a form.
-use Rattle.std.proofs.Common.{◌≡◌, ℕ, ◌+◌, ◌*◌, ◌<◌, inl, inr, Bool, true, false, not, ◌||◌, Option, Some, None, List, [], ◌∷◌, refl, sym, ap, ◌∙◌, arith}
+use Rattle.std.proofs.Common.{◌≡◌, ℕ, ◌+◌, ◌*◌, ◌<◌, inl, inr, Bool, true, false, not, ◌||◌, Option, Some, None, List, [], ◌∷◌, map, refl, sym, ap, ◌∙◌, arith}
 use Rattle.std.specs.Prelude.{IfSome, unwrap_or}
 use Rattle.std.specs.Option.{option_map}
 use Rattle.std.specs.List.{AllByRecursion, flat_map}
@@ -8,8 +8,9 @@ use Rattle.chess_base.specs.declared.man.CastlingSide.{CastlingSide}
 use Rattle.chess_base.specs.declared.man.CastlingSide.TheVariants.{KingSide, QueenSide}
 use Rattle.chess_base.specs.declared.man.Kind.{Kind}
 use Rattle.chess_base.specs.declared.man.Kind.TheVariants.{King, Queen, Rook, Bishop, Knight, Pawn}
-use Rattle.chess_base.specs.MoveList.{promotions}
+use Rattle.chess_base.specs.MoveList.{promotions, move_of, all_moves}
 use Rattle.chess_base.specs.Squares.{file, rank, squares}
+use Rattle.chess_base.specs.declared.man.Move.{Move}
 use Rattle.chess_text.specs.declared.described.Described.{Described}
 use Rattle.chess_text.specs.declared.parts.Parts.{Parts}
 use Rattle.chess_text.specs.declared.parts.Promotion.{Promotion}
@@ -20,7 +21,7 @@ use Rattle.chess_text.specs.ties.Reader.{parts_at}
 use Rattle.chess_text.specs.laws.Laws.{CanPromote, AreParts, IsDenoted}
 use Rattle.chess_text.proofs.Grammar.{denoted-parts, parts-denoted}
 use Rattle.chess_base.proofs.shared.Men.{same_kind-self}
-use Rattle.chess_text.proofs.Lists.{IsIn, promotion_in, in-flat_map, in-one, each-flat_map, each-one, each-below, found}
+use Rattle.chess_text.proofs.Lists.{IsIn, promotion_in, in-flat_map, in-map, each-flat_map, each-below, found}
 use Rattle.chess_moves.proofs.shared.AnyMove.{any-square}
 use Rattle.chess_text.proofs.Denotations.{of, by_letter_fits, straight_fits, file_fits, passing, bool_same, denoted_so, denotes_is}
 
@@ -50,24 +51,18 @@ side_in o t e = grind (arith, e)
 abbrev Becomes : Option Kind → Type 0
 Becomes o = IfSome o CanPromote
 
-abbrev with_castles : Kind → ℕ → ℕ → Option Kind → Bool → Option CastlingSide → Described
-with_castles man from to promotion takes castles =
-    record { man = man; from = from; to = to; promotion = promotion; captures = takes; castles = castles }
+abbrev with_castles : Kind → Move → Bool → Option CastlingSide → Described
+with_castles man m takes castles =
+    record { man = man; from = m.from; to = m.to; promotion = m.promotion; captures = takes; castles = castles }
 
-abbrev with_takes : Kind → ℕ → ℕ → Option Kind → Bool → List Described
-with_takes man from to promotion takes = flat_map (λ castles. with_castles man from to promotion takes castles ∷ []) sides
+abbrev with_takes : Kind → Move → Bool → List Described
+with_takes man m takes = map (with_castles man m takes) sides
 
-abbrev with_promotion : Kind → ℕ → ℕ → Option Kind → List Described
-with_promotion man from to promotion = flat_map (with_takes man from to promotion) both
-
-abbrev with_to : Kind → ℕ → ℕ → List Described
-with_to man from to = flat_map (with_promotion man from to) promotions
-
-abbrev with_from : Kind → ℕ → List Described
-with_from man from = flat_map (with_to man from) squares
+abbrev with_move : Kind → Move → List Described
+with_move man m = flat_map (with_takes man m) both
 
 abbrev with_man : Kind → List Described
-with_man man = flat_map (with_from man) squares
+with_man man = flat_map (with_move man) all_moves
 
 record IsOnBoard (d : Described) : Type 0 where
   from_in : d.from < 64
@@ -78,26 +73,71 @@ each_square : AllByRecursion (λ s. s < 64) squares
 unfolding squares
 each_square = each-below (λ s. s < 64) 64 (λ s. s) (λ k l. l)
 
+-- ---- all moves
+
+record MovesOnBoard (m : Move) : Type 0 where
+  from_in : m.from < 64
+  to_in : m.to < 64
+  becomes : Becomes m.promotion
+
+abbrev moves_to : ℕ → ℕ → List Move
+moves_to a b = map (move_of a b) promotions
+
+abbrev moves_from : ℕ → List Move
+moves_from a = flat_map (moves_to a) squares
+
+on_board : (a b : ℕ) (o : Option Kind) → a < 64 → b < 64 → Becomes o → MovesOnBoard (move_of a b o)
+on_board a b o f t h = record { from_in = f; to_in = t; becomes = h }
+
+each_move : AllByRecursion MovesOnBoard all_moves
+unfolding all_moves
+each_move =
+    each-flat_map (λ s. s < 64) MovesOnBoard moves_from squares each_square
+    (λ a f. each-flat_map (λ s. s < 64) MovesOnBoard (moves_to a) squares each_square (λ b t. (
+      on_board a b None f t tt,
+      (
+        on_board a b (Some Queen) f t tt,
+        (
+          on_board a b (Some Rook) f t tt,
+          (on_board a b (Some Bishop) f t tt, (on_board a b (Some Knight) f t tt, tt)),
+        ),
+      ),
+    )))
+
+move_in : (a b : ℕ) (o : Option Kind) → a < 64 → b < 64 → Becomes o → IsIn Move all_moves (move_of a b o)
+unfolding all_moves
+move_in a b o f t h =
+    in-flat_map moves_from squares a (move_of a b o) (λ p. any-square p a f)
+    (in-flat_map (moves_to a) squares b (move_of a b o) (λ p. any-square p b t)
+    (in-map (move_of a b) promotions o (promotion_in o h)))
+
+-- ---- all descriptions of them
+
+described_on_board : (man : Kind) (m : Move) (takes : Bool) (o : Option CastlingSide) → MovesOnBoard m
+    → IsOnBoard (with_castles man m takes o)
+described_on_board man m takes o h = record { from_in = h.from_in; to_in = h.to_in; becomes = h.becomes }
+
 each_described : AllByRecursion IsOnBoard all_described
 unfolding all_described
 each_described =
     each-flat_map (Any Kind) IsOnBoard with_man kinds (tt, (tt, (tt, (tt, (tt, (tt, tt))))))
-    (λ man u. each-flat_map (λ s. s < 64) IsOnBoard (with_from man) squares each_square
-    (λ from f. each-flat_map (λ s. s < 64) IsOnBoard (with_to man from) squares each_square
-    (λ to t. each-flat_map Becomes IsOnBoard (with_promotion man from to) promotions (tt, (tt, (tt, (tt, (tt, tt)))))
-    (λ promotion k. each-flat_map (Any Bool) IsOnBoard (with_takes man from to promotion) both (tt, (tt, tt))
-    (λ takes v. each-one (Any (Option CastlingSide)) IsOnBoard (with_castles man from to promotion takes) sides
-    (tt, (tt, (tt, tt))) (λ castles w. record { from_in = f; to_in = t; becomes = k }))))))
+    (λ man u. each-flat_map MovesOnBoard IsOnBoard (with_move man) all_moves each_move
+    (λ m h. each-flat_map (Any Bool) IsOnBoard (with_takes man m) both (tt, (tt, tt)) (λ takes v. (
+      described_on_board man m takes None h,
+      (
+        described_on_board man m takes (Some KingSide) h,
+        (described_on_board man m takes (Some QueenSide) h, tt),
+      ),
+    ))))
 
 described_in : (d : Described) → IsOnBoard d → IsIn Described all_described d
 unfolding all_described
 described_in d h =
+    let m = move_of d.from d.to d.promotion in
     in-flat_map with_man kinds d.man d (kind_in d.man)
-    (in-flat_map (with_from d.man) squares d.from d (λ t. any-square t d.from h.from_in)
-    (in-flat_map (with_to d.man d.from) squares d.to d (λ t. any-square t d.to h.to_in)
-    (in-flat_map (with_promotion d.man d.from d.to) promotions d.promotion d (promotion_in d.promotion h.becomes)
-    (in-flat_map (with_takes d.man d.from d.to d.promotion) both d.captures d (both_in d.captures)
-    (in-one (with_castles d.man d.from d.to d.promotion d.captures) sides d.castles (side_in d.castles))))))
+    (in-flat_map (with_move d.man) all_moves m d (move_in d.from d.to d.promotion h.from_in h.to_in h.becomes)
+    (in-flat_map (with_takes d.man m) both d.captures d (both_in d.captures)
+    (in-map (with_castles d.man m d.captures) sides d.castles (side_in d.castles))))
 
 -- ---- parts that fit a move have a form
 

@@ -1,7 +1,7 @@
 -- The texts of moves: which moves a text denotes (PGN standard of 1994, section 8.2.3). This project's additions to the
 -- standard: castling with the digit 0, a promotion in a small letter or without `=`, a capture without `x`, more of the
 -- start square than is needed, and any run of marks.
-use Rattle.std.specs.Prelude.{ℕ, ◌==◌, Bool, true, false, ◌||◌, if◌then◌else◌, List, [], ◌∷◌, ◌++◌, Option, Some, None, is_some, IsTrue, codes}
+use Rattle.std.specs.Prelude.{ℕ, ◌==◌, Bool, true, false, ◌||◌, if◌then◌else◌, List, [], ◌∷◌, ◌++◌, map, flat_map, Option, Some, None, is_some, IsTrue, codes}
 use Rattle.std.specs.List.{list_any, filter}
 use Rattle.std.specs.Option.{option_map, option_map_or}
 use Rattle.std.specs.Str.{bytes_eq}
@@ -17,12 +17,12 @@ use Rattle.chess_base.specs.Options.{list_if}
 use Rattle.chess_base.specs.Men.{man_at, same_kind}
 use Rattle.chess_base.specs.Moves.{captured_square, is_legal}
 use Rattle.chess_base.specs.Castling.{castling, by_side}
-use Rattle.chess_base.specs.MoveList.{promotions, moves}
+use Rattle.chess_base.specs.MoveList.{promotions, moves, all_moves}
 use Rattle.chess_base.specs.Squares.{file, rank, squares}
 use Rattle.chess_text.specs.declared.described.Described.{Described}
 use Rattle.chess_text.specs.declared.reading.Reading.{Reading}
 use Rattle.chess_text.specs.declared.reading.Reading.TheVariants as reads
-use Rattle.chess_text.specs.Parts.{unmarked, kind_text, file_text, rank_text, ◌·◌, for_each}
+use Rattle.chess_text.specs.Parts.{unmarked, kind_text, file_text, rank_text, ◌·◌}
 
 -- ---- what a text can say of a move
 
@@ -91,13 +91,13 @@ unfoldable pub denotes_described : List ℕ → Described → Bool
 denotes_described text d = list_any (bytes_eq (unmarked text))
     (option_map_or castling_texts d.castles [] ++ (texts_by_squares d ++ (texts_by_letter d ++ texts_of_pawn d)))
 
--- all combinations of a kind of piece, a start and an end square, a promotion or none, capture or not, and castling to
--- one side or none, whether or not there is such a move
+-- all combinations of a kind of piece, a move (a start and an end square, and a promotion or none), capture or not, and
+-- castling to one side or none, whether or not there is such a move
 unfoldable pub all_described : List Described
 all_described =
-    for_each kinds (λ man. for_each squares (λ from. for_each squares (λ to. for_each promotions (λ promotion.
-    for_each (false ∷ true ∷ []) (λ takes. for_each (None ∷ Some KingSide ∷ Some QueenSide ∷ []) (λ castles.
-    record { man = man; from = from; to = to; promotion = promotion; captures = takes; castles = castles } ∷ []))))))
+    flat_map (λ man. flat_map (λ m. flat_map (λ takes. map (λ castles.
+    record { man = man; from = m.from; to = m.to; promotion = m.promotion; captures = takes; castles = castles })
+    (None ∷ Some KingSide ∷ Some QueenSide ∷ [])) (false ∷ true ∷ [])) all_moves) kinds
 
 -- the text has a move's shape, as Nf3 has and Nf9 has not: it denotes some described move, even one that is legal in no
 -- position

@@ -28,7 +28,3 @@ infixr 66 ◌·◌
 -- each text of xs followed by each text of ys
 abbrev pub ◌·◌ : List (List ℕ) → List (List ℕ) → List (List ℕ)
 xs · ys = flat_map (λ x. map (λ y. x ++ y) ys) xs
-
--- the lists that f gives for the elements of xs, joined
-abbrev pub for_each : {A B : Type 0} → List A → (A → List B) → List B
-for_each xs f = flat_map f xs
