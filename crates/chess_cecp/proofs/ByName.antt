@@ -11,8 +11,8 @@ use Rattle.chess_cecp.specs.Serving.{Response}
 use Rattle.chess_cecp.specs.Session.{answers, row, session_response}
 use Rattle.chess_cecp.specs.declared.command.Command.{Command}
 use Rattle.chess_cecp.specs.declared.command.Command.TheVariants.{BareMove, Unknown}
-use Rattle.chess_cecp.specs.declared.session.Go.TheVariants.{On, Quit}
-use Rattle.chess_cecp.specs.declared.session.Reply.TheVariants.{Text, Moves, Pgn}
+use Rattle.chess_cecp.specs.declared.session.Go.TheVariants.{On}
+use Rattle.chess_cecp.specs.declared.session.Reply.TheVariants.{Text}
 use Rattle.chess_cecp.specs.ties.Ignored.{named_command}
 use Rattle.chess_cecp.specs.ties.Replies.{after_row, unnamed_command, is_quit, is_quit_command, reply_of, reply_to, shows_moves, shows_pgn, asks_for_moves, asks_for_pgn}
 use Rattle.chess_cecp.proofs.Words.{by_name}
