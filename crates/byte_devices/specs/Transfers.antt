@@ -71,10 +71,6 @@ IsWhole i = (i.ended ≡ true) × (i.failed ≡ false)
 abbrev pub IsCutOff : FromInput → Type 0
 IsCutOff i = (i.ended ≡ false) × (i.failed ≡ true)
 
--- no read failed, whether the input's end was reported or not
-abbrev pub NoReadFailed : FromInput → Type 0
-NoReadFailed i = i.failed ≡ false
-
 -- ---- what went to an output
 
 -- what went to an output: all of this text was written and flushed, and nothing failed
@@ -84,10 +80,6 @@ all_of text = record { flushed = text; left = []; failed = false }
 -- what went to an output: all of this text was written, none of it was flushed, and nothing failed
 abbrev pub all_unflushed : List ℕ → ToOutput
 all_unflushed text = record { flushed = []; left = text; failed = false }
-
--- what went to an output: nothing was written, and nothing failed
-abbrev pub nothing : ToOutput
-nothing = all_of []
 
 -- `o` is what went to an output: all of `before` was written and flushed; then a beginning of `text`, maybe nothing or
 -- all of it, was written and not flushed; and then a write or a flush failed

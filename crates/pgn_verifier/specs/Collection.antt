@@ -35,11 +35,11 @@ CollectionEnds text verdict (Err NoMemory) i o = (i.ended ≡ false) × (i.faile
 CollectionEnds text verdict (Err InputTooLong) i o =
     (i.ended ≡ false) × (i.failed ≡ false) × (2 ^ 63 ≤ length i.text + 2 ^ 16) × (o ≡ all_unflushed text)
 
--- what verifying a collection reads (`i`) and writes (`o`), by its result. What is to be written are the lines of the
--- reports on the known pieces of what was read, numbered from 1, and if the input's end was reported the line of counts. The verdict is
--- `FaultReported` if a fault was reported, otherwise `EachGame`. Of the `options`, with `strict` an outcome mark, such as
--- `1-0`, that contradicts the tag Result or the board's verdict is a fault; with `quiet` only faults have a line; with
--- `explain` a second line explains each fault
+-- what verifying a collection reads (`i`) and writes (`o`), by its result. To be written are the lines of the reports on
+-- the known pieces of what was read, numbered from 1, and if the input's end was reported the line of counts. The
+-- verdict is `FaultReported` if a fault was reported, otherwise `EachGame`. Of the `options`, with `strict` an outcome
+-- mark, such as `1-0`, that contradicts the tag Result or the board's verdict is a fault; with `quiet` only faults have a
+-- line; with `explain` a second line explains each fault
 abbrev pub VerifiesCollection : VerifyOptions → Result Verified VerifyFault → FromInput → ToOutput → Type 0
 VerifiesCollection options result i o = (reports : List Report)
     × AreCollectionReports options.strict 0 (known_pieces i.ended i.text) reports

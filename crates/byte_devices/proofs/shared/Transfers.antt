@@ -2,7 +2,7 @@
 use Rattle.std.proofs.Common.{◌≡◌, ℕ, ◌+◌, ◌-◌, ◌^◌, min, Bool, true, List, [], ◌++◌, length, take, zero, suc, refl, sym, ap, subst, ◌∙◌, arith, append_assoc, append-nil}
 use Rattle.std.specs.Io.KnownBytes.{Appends}
 use Rattle.byte_devices.specs.Devices.{InputState, OutputState, Took, TookThenFailed, Sent, saturating_increment, saturating_add}
-use Rattle.byte_devices.specs.Transfers.{FromInput, ToOutput, OutputTook, all_of, all_unflushed, nothing, saturating_increment_if}
+use Rattle.byte_devices.specs.Transfers.{FromInput, ToOutput, OutputTook, all_of, all_unflushed, saturating_increment_if}
 use Rattle.byte_devices.proofs.shared.Devices.{add_some, appends_more, appends_none}
 
 -- ---- counts of bytes
@@ -44,7 +44,7 @@ pub unflushed_by : (n m : ℕ) (text : List ℕ) → n ≡ 0 → m ≡ saturatin
 unflushed_by n m text h e = e ∙ ap (λ v. saturating_add v (length text)) h ∙ added_to_0 (length text)
 
 -- an output that was left as it was
-pub took_nothing : (w : OutputState) → OutputTook w w nothing
+pub took_nothing : (w : OutputState) → OutputTook w w (all_of [])
 took_nothing w =
     record { bytes = appends_none w.known_bytes; unflushed = λ none. none ∙ sym none_left; failures = refl }
 
