@@ -27,7 +27,7 @@ use Rattle.pgn_verifier.specs.declared.fault.VerifyFault.TheVariants.{WriteFaile
 use Rattle.pgn_verifier.specs.Reports.{Faulty, report_lines, counts_line, counts_of}
 use Rattle.pgn_verifier.specs.Collection.{VerifiesCollection}
 use Rattle.pgn_verifier.specs.laws.Reported.{reports_on, reports_in, collection_reports, too_long_report}
-use Rattle.pgn_verifier.specs.ties.OnTheWay.{WritesCollection, Writes, PieceStandsIf, GrowsBy, reports_seen, too_long_seen, reports_of, counted, collection_lines}
+use Rattle.pgn_verifier.specs.ties.OnTheWay.{WritesCollection, Writes, PieceStandsIf, GrowsBy, reports_seen, reports_of, counted, collection_lines}
 use Rattle.pgn_verifier.specs.Faults.{of_piece}
 use Rattle.pgn_verifier.proofs.Placed.{piece_there}
 use Rattle.pgn_verifier.proofs.Verifying.{collection_broke_off, reading_stopped}
