@@ -34,8 +34,8 @@ with_offsets offset [] = []
 with_offsets offset (bytes ∷ rest) =
     record { offset = offset; bytes = bytes } ∷ with_offsets (offset + length bytes) rest
 
--- the pieces that are known (`known_pieces`) of a text of the input that begins at this offset, where a piece begins (the
--- first at 0)
+-- the pieces that are known (`known_pieces`) of a text of the input that begins at this offset, where a piece begins
+-- (the first at 0)
 unfoldable pub pieces : Bool → ℕ → List ℕ → List Piece
 pieces ended offset text = with_offsets offset (known_pieces ended text)
 

@@ -23,11 +23,11 @@ pub data AreCollectionReports (strict : Bool) : ℕ → List (List ℕ) → List
 abbrev pub CollectionEnds : List ℕ → Verified → Result Verified VerifyFault → FromInput → ToOutput → Type 0
 -- the whole input was read; all of `text` was written and flushed
 CollectionEnds text verdict (Ok summary) i o = IsWhole i × (o ≡ all_of text) × (summary ≡ verdict)
--- no read failed, whether the input's end was reported or not; a beginning of `text` (it may be empty, or all of it) was
--- written, nothing was flushed, and then a write or the flush failed
+-- no read failed, whether the input's end was reported or not; a beginning of `text` (it may be empty, or all of it)
+-- was written, nothing was flushed, and then a write or the flush failed
 CollectionEnds text verdict (Err WriteFailed) i o = (i.failed ≡ false) × BreaksOffIn [] text o
--- a read failed before the input's end was reported. Here and below, all of `text` was written, nothing was flushed, and
--- no write or flush failed
+-- a read failed before the input's end was reported. Here and below, all of `text` was written, nothing was flushed,
+-- and no write or flush failed
 CollectionEnds text verdict (Err ReadFailed) i o = IsCutOff i × (o ≡ all_unflushed text)
 -- memory ran out before the input's end was reported; no read failed
 CollectionEnds text verdict (Err NoMemory) i o = (i.ended ≡ false) × (i.failed ≡ false) × (o ≡ all_unflushed text)
@@ -35,13 +35,13 @@ CollectionEnds text verdict (Err NoMemory) i o = (i.ended ≡ false) × (i.faile
 CollectionEnds text verdict (Err InputTooLong) i o =
     (i.ended ≡ false) × (i.failed ≡ false) × (2 ^ 63 ≤ length i.text + 2 ^ 16) × (o ≡ all_unflushed text)
 
--- what verifying a collection reads (`i`) and writes (`o`), by its result. To be written are the lines of the reports on
--- the known pieces of what was read, numbered from 1, and if the input's end was reported the line of counts. The
+-- what verifying a collection reads (`i`) and writes (`o`), by its result. To be written are the lines of the reports
+-- on the known pieces of what was read, numbered from 1, and if the input's end was reported the line of counts. The
 -- verdict is `FaultReported` if a fault was reported, otherwise `EachGame`. Of the `options`, with `strict` an outcome
--- mark, such as `1-0`, that contradicts the tag Result or the board's verdict is a fault; with `quiet` only faults have a
--- line; with `explain` a second line explains each fault
+-- mark, such as `1-0`, that contradicts the tag Result or the board's verdict is a fault; with `quiet` only faults have
+-- a line; with `explain` a second line explains each fault
 abbrev pub VerifiesCollection : VerifyOptions → Result Verified VerifyFault → FromInput → ToOutput → Type 0
 VerifiesCollection options result i o = (reports : List Report)
     × AreCollectionReports options.strict 0 (known_pieces i.ended i.text) reports
-    × CollectionEnds (report_lines options i.text 1 reports ++ (if i.ended then counts_line (counts_of reports) else []))
-    (verified (counts_of reports)) result i o
+    × CollectionEnds (report_lines options i.text 1 reports
+    ++ (if i.ended then counts_line (counts_of reports) else [])) (verified (counts_of reports)) result i o

@@ -32,7 +32,7 @@ shown text = shown_word (take_while (λ c. not (is_white_space c)) (take 40 text
 -- the part that is wrong: how many bytes after the fault's byte it begins, and what an explanation shows of it. `text`
 -- is the text from the fault's byte on
 abbrev pub wrong_part : FaultKind → List ℕ → ℕ × List ℕ
--- of a bad FEN, which goes up to the next quote, it is the field that is shown for its fault, but at most 80 bytes of it
+-- of a bad FEN, which goes up to the next quote, it is the field that is shown for its fault, at most 80 bytes of it
 wrong_part (Pgn (BadFen fault)) text =
     let all = take_while (λ c. not (c == byte "\"")) text in let number = field_number fault all in
     (length all - length (from_field number all), shown_word (take 80 (field_at number all)))

@@ -57,9 +57,9 @@ pub data AreReports (strict : Bool) (start : ℕ) (text : List ℕ) : ℕ → Li
 
 -- these are the reports on a piece, which begins at this offset of the input, and whose bytes (`piece`) are read as a
 -- text of its own: on its games in order, up to the first with a fault; or, if it is too long (it has more than
--- 16,777,216 bytes), one report on the piece: the fault TooLong at its first byte, explained by the text there. A game of
--- more than 20,000 half-moves has the same kind of fault, but at its 20,001st half-move. `strict`: an outcome mark that
--- contradicts the tag Result or the board's verdict is a fault
+-- 16,777,216 bytes), one report on the piece: the fault TooLong at its first byte, explained by the text there. A game
+-- of more than 20,000 half-moves has the same kind of fault, but at its 20,001st half-move. `strict`: an outcome mark
+-- that contradicts the tag Result or the board's verdict is a fault
 abbrev pub AreReportsIn : Bool → ℕ → List ℕ → List Report → Type 0
 AreReportsIn strict offset piece reports =
     MatchBool (nat_le (length piece) PIECE_LEN) (AreReports strict offset piece 0 reports)

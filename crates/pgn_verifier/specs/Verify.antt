@@ -28,7 +28,8 @@ Verifies options (Err WriteFailed) i o = IsWhole i × (length i.text ≤ PIECE_L
 Verifies options (Err ReadFailed) i o = IsCutOff i × (o ≡ all_of [])
 -- memory ran out before the input's end, or at the end of an input of at most `PIECE_LEN` bytes; no read failed, and
 -- nothing was written
-Verifies options (Err NoMemory) i o = (i.failed ≡ false) × (i.ended ≡ true → length i.text ≤ PIECE_LEN) × (o ≡ all_of [])
+Verifies options (Err NoMemory) i o =
+    (i.failed ≡ false) × (i.ended ≡ true → length i.text ≤ PIECE_LEN) × (o ≡ all_of [])
 -- more than `PIECE_LEN` bytes were read, and the input's end was not reported; no read failed, and nothing was written
 Verifies options (Err InputTooLong) i o =
     (i.failed ≡ false) × (i.ended ≡ false) × (PIECE_LEN < length i.text) × (o ≡ all_of [])
