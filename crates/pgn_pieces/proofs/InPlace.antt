@@ -8,8 +8,8 @@ use Rattle.std.proofs.Math.Path.{ap₂}
 use Rattle.std.proofs.Math.Seq.{take-append_seam, drop-append_seam}
 use Rattle.std.proofs.lemmas.List.Folds.{concat-append}
 use Rattle.pgn_pieces.specs.declared.pieces.TheConstants.{PIECE_LEN}
-use Rattle.pgn_pieces.specs.Pieces.{Piece, lines_of, cut, with_offsets, pieces}
-use Rattle.pgn_pieces.specs.Stream.{PieceSeen, piece_at}
+use Rattle.pgn_pieces.specs.Pieces.{lines_of, cut}
+use Rattle.pgn_pieces.specs.Stream.{Piece, with_offsets, pieces, PieceSeen, piece_at}
 use Rattle.pgn_pieces.specs.ties.Cutting.{cut_lines, piece_of}
 use Rattle.pgn_pieces.specs.Places.{ends_line, line_ends}
 use Rattle.pgn_pieces.specs.laws.Places.{IsInPlace, PiecesAreInPlace}

@@ -11,8 +11,8 @@ use Rattle.byte_devices.specs.Devices.{InputState, GavePiece}
 use Rattle.pgn_pieces.specs.declared.piece_end.Seen.{Seen}
 use Rattle.pgn_pieces.specs.declared.pieces.PieceFault.{PieceFault}
 use Rattle.pgn_pieces.specs.declared.pieces.PieceFault.TheVariants.{ReadFailed, NoMemory, InputTooLong}
-use Rattle.pgn_pieces.specs.Pieces.{Piece, with_offsets, pieces, cut, HasRead, IsCause}
-use Rattle.pgn_pieces.specs.Stream.{State, IsStateOf, Next, MayFollow, PieceSeen, piece_at, pieces_seen, past_piece, current, pieces_held}
+use Rattle.pgn_pieces.specs.Pieces.{cut, HasRead, IsCause}
+use Rattle.pgn_pieces.specs.Stream.{Piece, with_offsets, pieces, State, IsStateOf, Next, MayFollow, PieceSeen, piece_at, pieces_seen, past_piece, current, pieces_held}
 use Rattle.pgn_pieces.specs.Places.{line_ends}
 use Rattle.pgn_pieces.specs.ties.Cutting.{piece_of}
 use Rattle.pgn_pieces.specs.ties.Held.{HasSeen, Ends, FindsEnd, SameCounts, IsLike, LetGo, Adds, passed, with_more}

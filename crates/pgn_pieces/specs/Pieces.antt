@@ -1,5 +1,5 @@
 -- A collection of games is cut into pieces: each is read as a text of its own.
-use Rattle.std.specs.Prelude.{◌≡◌, ◌≤◌, ◌^◌, ℕ, ◌+◌, ◌-◌, Bool, true, false, ◌&&◌, ◌||◌, not, ◌==◌, nat_le, nat_lt, if◌then◌else◌, List, [], ◌∷◌, ◌++◌, length, map, reverse, take, drop, codes, Option, Some, None}
+use Rattle.std.specs.Prelude.{◌≡◌, ◌≤◌, ◌^◌, ℕ, ◌+◌, ◌-◌, Bool, true, false, ◌&&◌, ◌||◌, not, ◌==◌, nat_lt, if◌then◌else◌, List, [], ◌∷◌, ◌++◌, length, map, reverse, take, drop, codes}
 use Rattle.std.specs.Char.{is_ascii_alphanumeric}
 use Rattle.std.specs.Io.KnownBytes.{Consumes, IsAtEnd}
 use Rattle.std.specs.List.{onto_first, take_while, prefix_len, list_any, list_all, concat, fold}
@@ -16,13 +16,11 @@ abbrev pub lines_of : List ℕ → List (List ℕ)
 lines_of [] = []
 lines_of (c ∷ cs) = if ends_line c then (c ∷ []) ∷ lines_of cs else onto_first c (lines_of cs)
 
--- a text without the byte order mark of UTF-8 (the bytes EF BB BF) at its front, if it has one there
-abbrev pub without_mark : List ℕ → List ℕ
-without_mark text = if bytes_eq (take 3 text) (239 ∷ 187 ∷ 191 ∷ []) then drop 3 text else text
-
--- the front of a line, which decides the line's kind: its first 256 bytes, without a byte order mark at their beginning
+-- the front of a line, which decides the line's kind: its first 256 bytes, without the byte order mark of UTF-8 (the
+-- bytes EF BB BF) at their beginning, if they have one there
 abbrev pub front_of : List ℕ → List ℕ
-front_of line = without_mark (take 256 line)
+front_of line =
+    let first = take 256 line in if bytes_eq (take 3 first) (239 ∷ 187 ∷ 191 ∷ []) then drop 3 first else first
 
 -- whether a byte is a space or a tab
 abbrev pub is_blank : ℕ → Bool
@@ -51,8 +49,8 @@ abbrev pub is_empty_line : List ℕ → Bool
 is_empty_line line = bytes_eq (take 1 (front_of line)) (codes "%") || bytes_eq (take 1 (front_of line)) (codes ";")
     || list_all (λ c. is_blank c || (c == 13) || ends_line c) (front_of line)
 
--- whether a line counts as one of moves: any line that is neither a tag line nor empty. So does a tag that `is_tag_line`
--- does not take, and a line inside a `{` comment, unless that line is empty or looks like a tag line
+-- whether a line counts as one of moves: any line that is neither a tag line nor empty. So does a tag that
+-- `is_tag_line` does not take, and a line inside a `{` comment, unless that line is empty or looks like a tag line
 abbrev pub is_moves_line : List ℕ → Bool
 is_moves_line line = not (is_tag_line line || is_empty_line line)
 
@@ -76,22 +74,10 @@ with_line (last ∷ before) line =
 abbrev pub cut : List ℕ → List (List ℕ)
 cut text = reverse (map concat (fold with_line [] (lines_of text)))
 
--- a piece: the offset of its first byte in the input, and its bytes
-pub record Piece : Type 0 where
-  pub offset : ℕ
-  pub bytes : List ℕ
-
--- the pieces whose bytes are given, one after another in the input; the first begins at this offset
-abbrev pub with_offsets : ℕ → List (List ℕ) → List Piece
-with_offsets offset [] = []
-with_offsets offset (bytes ∷ rest) =
-    record { offset = offset; bytes = bytes } ∷ with_offsets (offset + length bytes) rest
-
--- the pieces of a text of the input that begins at this offset, where a piece begins (the first at 0). If the input ends
--- after the text (`ended`), these are all that the text is cut into; otherwise all but the last, which may go on
-unfoldable pub pieces : Bool → ℕ → List ℕ → List Piece
-pieces ended offset text =
-    let all = cut text in with_offsets offset (if ended then all else take (length all - 1) all)
+-- the pieces of a text of an input that are known, each as its bytes: if the input ends after the text (`ended`), all
+-- that the text is cut into; otherwise all but the last, which may go on
+abbrev pub known_pieces : Bool → List ℕ → List (List ℕ)
+known_pieces ended text = let all = cut text in if ended then all else take (length all - 1) all
 
 -- ---- what was read of an input
 

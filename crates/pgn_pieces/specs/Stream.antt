@@ -3,7 +3,7 @@ use Rattle.std.specs.Prelude.{◌≡◌, ℕ, ◌+◌, Bool, true, false, nat_le
 use Rattle.byte_devices.specs.Devices.{InputState}
 use Rattle.pgn_pieces.specs.declared.pieces.PieceFault.{PieceFault}
 use Rattle.pgn_pieces.specs.declared.pieces.TheConstants.{PIECE_LEN}
-use Rattle.pgn_pieces.specs.Pieces.{Piece, pieces, HasRead, IsCause}
+use Rattle.pgn_pieces.specs.Pieces.{known_pieces, HasRead, IsCause}
 use Rattle.pgn_pieces.specs.Places.{line_ends}
 
 -- how far an input is cut: the offset at which the current piece begins, its bytes so far, the bytes that were read
@@ -22,6 +22,22 @@ unread = record { offset = 0; part = []; coming = []; ended = false }
 -- the state after the current piece of `s`: the next one begins at that one's end, and has no bytes so far
 abbrev pub past_piece : State → State
 past_piece s = record { offset = s.offset + length s.part; part = []; coming = s.coming; ended = s.ended }
+
+-- a piece: the offset of its first byte in the input, and its bytes
+pub record Piece : Type 0 where
+  pub offset : ℕ
+  pub bytes : List ℕ
+
+-- the pieces whose bytes are given, one after another in the input; the first begins at this offset
+abbrev pub with_offsets : ℕ → List (List ℕ) → List Piece
+with_offsets offset [] = []
+with_offsets offset (bytes ∷ rest) =
+    record { offset = offset; bytes = bytes } ∷ with_offsets (offset + length bytes) rest
+
+-- the pieces that are known (`known_pieces`) of a text of the input that begins at this offset, where a piece begins
+-- (the first at 0)
+unfoldable pub pieces : Bool → ℕ → List ℕ → List Piece
+pieces ended offset text = with_offsets offset (known_pieces ended text)
 
 -- what a caller sees of a piece: the offset of its first byte in the input, its first 40 bytes, how many lines end in
 -- it, and its bytes, or `None` if it has more than 16,777,216

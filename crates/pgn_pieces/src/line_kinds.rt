@@ -9,11 +9,11 @@
 //! The functions that `kind_of` calls are inlined, since `verify --keep-going` calls it for every line of a collection
 //! (the workload collections). What that gains was not measured apart.
 
-ghost use Rattle.std.specs.Prelude.{◌≡◌, ◌≤◌, true, false, ◌||◌, ◌==◌, length, take, drop, codes};
+ghost use Rattle.std.specs.Prelude.{◌≡◌, ◌≤◌, true, false, ◌||◌, ◌==◌, if◌then◌else◌, [], ◌∷◌, length, take, drop, codes};
 ghost use Rattle.std.specs.Char.{is_ascii_alphanumeric};
 ghost use Rattle.std.specs.Str.{bytes_eq};
 ghost use Rattle.std.specs.List.{prefix_len, list_all};
-ghost use Rattle.pgn_pieces.specs.Pieces.{without_mark, front_of, after_name, is_blank, tag_name, is_tag_line, is_event_line, is_moves_line};
+ghost use Rattle.pgn_pieces.specs.Pieces.{front_of, after_name, is_blank, tag_name, is_tag_line, is_event_line, is_moves_line};
 ghost use Rattle.pgn_pieces.specs.Places.{ends_line, line_ends};
 ghost use Rattle.pgn_pieces.specs.ties.Fronts.{begins_tag, is_empty_front};
 
@@ -63,7 +63,7 @@ pub(crate) fn kind_of(line: &[u8]) -> Kind
 // mark too, `after_byte_order_mark`, but of this repository's crates this one uses only byte_devices.
 #[inline(always)]
 fn without_mark(text: &[u8]) -> &[u8]
-    ensures { result.now ≡ without_mark text.now }
+    ensures { result.now ≡ (if bytes_eq (take 3 text.now) (239 ∷ 187 ∷ 191 ∷ []) then drop 3 text.now else text.now) }
 {
     if text.starts_with(b"\xef\xbb\xbf") {
         return &text[3..];

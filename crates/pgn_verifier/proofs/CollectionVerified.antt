@@ -16,19 +16,18 @@ use Rattle.byte_devices.specs.declared.traits.WriteFault.{WriteFault}
 use Rattle.byte_devices.specs.Devices.{InputState, OutputState, Took, CutShort}
 use Rattle.byte_devices.specs.Transfers.{Ran}
 use Rattle.byte_devices.proofs.shared.Devices.{breaks_longer}
-use Rattle.pgn_pieces.specs.Pieces.{Piece, pieces}
 use Rattle.pgn_pieces.specs.declared.pieces.PieceFault.{PieceFault}
-use Rattle.pgn_pieces.specs.Stream.{State, IsStateOf, Next, MayFollow, PieceSeen, piece_at, pieces_seen, past_piece, current, unread, pieces_after_part, pieces_held}
+use Rattle.pgn_pieces.specs.Stream.{Piece, pieces, State, IsStateOf, Next, MayFollow, PieceSeen, piece_at, pieces_seen, past_piece, current, unread, pieces_after_part, pieces_held}
 use Rattle.pgn_pieces.specs.laws.HandedOut.{PiecesAreCut}
 use Rattle.pgn_pieces.specs.laws.Places.{PiecesAreInPlace}
 use Rattle.pgn_pieces.proofs.shared.Inputs.{nothing_read}
 use Rattle.pgn_verifier.specs.declared.options.VerifyOptions.{VerifyOptions}
 use Rattle.pgn_verifier.specs.declared.tally.Tally.{Tally}
 use Rattle.pgn_verifier.specs.declared.fault.VerifyFault.TheVariants.{WriteFailed}
-use Rattle.pgn_verifier.specs.Reports.{Faulty, too_long_report, report_lines, counts_line, counts_of}
+use Rattle.pgn_verifier.specs.Reports.{Faulty, report_lines, counts_line, counts_of}
 use Rattle.pgn_verifier.specs.Collection.{VerifiesCollection}
-use Rattle.pgn_verifier.specs.laws.Reported.{reports_on, reports_in, collection_reports}
-use Rattle.pgn_verifier.specs.ties.OnTheWay.{WritesCollection, Writes, PieceStandsIf, GrowsBy, reports_seen, too_long_seen, reports_of, counted, collection_lines}
+use Rattle.pgn_verifier.specs.laws.Reported.{reports_on, reports_in, collection_reports, too_long_report}
+use Rattle.pgn_verifier.specs.ties.OnTheWay.{WritesCollection, Writes, PieceStandsIf, GrowsBy, reports_seen, reports_of, counted, collection_lines}
 use Rattle.pgn_verifier.specs.Faults.{of_piece}
 use Rattle.pgn_verifier.proofs.Placed.{piece_there}
 use Rattle.pgn_verifier.proofs.Verifying.{collection_broke_off, reading_stopped}

@@ -2,7 +2,6 @@
 use Rattle.std.proofs.Common.{◌≡◌, ℕ, zero, suc, ◌+◌, ◌-◌, ◌<◌, ◌≤◌, Bool, true, false, cond, eqb, not, List, [], ◌∷◌, ◌++◌, length, is_some, get_or, drop, Option, Some, None, Result, Ok, Err, refl, sym, ap, subst, ◌∙◌, inl, inr, ◌⊎◌, append_assoc, append-nil, length-append, arith}
 use Rattle.std.specs.Prelude.{nat_le, if◌then◌else◌}
 use Rattle.std.specs.List.{concat, flat_map, list_all, list_any}
-use Rattle.std.specs.Option.{option_map_or}
 use Rattle.std.proofs.lemmas.Bool.{and_parts, or_parts}
 use Rattle.std.proofs.lemmas.Bool.Decides.{nat_tests}
 use Rattle.std.proofs.lemmas.List.{get_or_at}
@@ -10,10 +9,11 @@ use Rattle.std.proofs.Math.Path.{fun_ext}
 use Rattle.std.proofs.lemmas.List.Folds.{list_all-append, sum_by-zero}
 use Rattle.chess_pgn.specs.Tokens.{after_byte_order_mark, begins_line}
 use Rattle.chess_pgn.specs.declared.read.PgnEnd.{PgnEnd}
-use Rattle.pgn_pieces.specs.Pieces.{cut, with_offsets, pieces}
+use Rattle.pgn_pieces.specs.Pieces.{cut}
+use Rattle.pgn_pieces.specs.Stream.{with_offsets, pieces}
 use Rattle.pgn_pieces.specs.declared.pieces.TheConstants.{PIECE_LEN}
 use Rattle.pgn_pieces.proofs.shared.Cuts.{AreLines, no_texts, last_text, next_text, cut_is_all, cut_ends}
-use Rattle.pgn_verifier.specs.Reports.{Report, Game, Faulty, too_long_report, half_moves_of, counts_of, verified}
+use Rattle.pgn_verifier.specs.Reports.{Report, Game, Faulty, half_moves_of, counts_of, verified}
 use Rattle.pgn_verifier.specs.declared.game_fault.GameFault.{GameFault}
 use Rattle.pgn_verifier.specs.declared.tally.Verified.TheVariants.{EachGame, FaultReported}
 use Rattle.pgn_verifier.specs.laws.NoFaults.{begins_with_mark, FaultlessTextsAreReportedAlike}
@@ -21,7 +21,7 @@ use Rattle.pgn_verifier.specs.laws.Parts.{BeginsAlike, HoldsWhole, no_more, game
 use Rattle.pgn_verifier.proofs.Parts.{next_begins, reported_alike, reported_alone, all_reported_alike}
 use Rattle.pgn_verifier.proofs.PartsAlike.{TokenByToken, no_mark}
 use Rattle.pgn_verifier.proofs.PartsRead.{IsClosed, in_text, skips_to_end}
-use Rattle.pgn_verifier.specs.laws.Reported.{collection_reports, judged_at, read_at, report_then, reports_from, reports_in, reports_on}
+use Rattle.pgn_verifier.specs.laws.Reported.{collection_reports, judged_at, read_at, report_then, reports_from, reports_in, reports_on, too_long_report}
 
 -- ---- reports without a fault
 

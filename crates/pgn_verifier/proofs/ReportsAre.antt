@@ -1,6 +1,6 @@
 -- The reports that are made one after another are those of the definitions, and no others are.
 use Rattle.std.proofs.Common.{◌≡◌, ℕ, zero, suc, ◌+◌, ◌<◌, ◌≤◌, Bool, List, [], ◌∷◌, ◌++◌, length, drop, Option, Some, None, IfSome, true, false, Result, Ok, Err, IfOk, refl, sym, ap, subst, ◌∙◌, arith}
-use Rattle.std.proofs.Math.Path.{fun_ext}
+use Rattle.std.proofs.Math.Path.{ap₂}
 use Rattle.std.specs.List.{flat_map}
 use Rattle.std.specs.Option.{option_map_or}
 use Rattle.std.specs.Prelude.{nat_le, if◌then◌else◌}
@@ -16,17 +16,18 @@ use Rattle.chess_pgn.specs.declared.read.PgnFault.{PgnFault}
 use Rattle.chess_pgn.specs.declared.tagged_result.ResultTag.{ResultTag}
 use Rattle.chess_pgn.proofs.shared.Ends.{ends_in_text}
 use Rattle.chess_pgn.proofs.shared.Tokens.{read_split, split_read}
-use Rattle.pgn_pieces.specs.Pieces.{Piece, pieces}
+use Rattle.pgn_pieces.specs.Pieces.{known_pieces}
+use Rattle.pgn_pieces.specs.Stream.{Piece, with_offsets, pieces}
 use Rattle.pgn_pieces.specs.declared.pieces.TheConstants.{PIECE_LEN}
-use Rattle.pgn_verifier.specs.Collection.{AreCollectionReports}
+use Rattle.pgn_verifier.specs.Collection.{AreCollectionReports, no_piece, next_piece}
 use Rattle.pgn_verifier.specs.Explanations.{IsReason, wrong_part, explanation}
 use Rattle.pgn_verifier.specs.GameFaults.{judged, IsJudged}
 use Rattle.pgn_verifier.specs.ties.OnTheWay.{contradiction}
-use Rattle.pgn_verifier.specs.Reports.{Report, Game, Faulty, AreReports, none_left, next_game, last_fault, too_long_report, AreReportsIn}
+use Rattle.pgn_verifier.specs.Reports.{Report, Game, Faulty, AreReports, none_left, next_game, last_fault, AreReportsIn}
 use Rattle.pgn_verifier.specs.declared.game_fault.GameFault.{GameFault}
 use Rattle.pgn_verifier.specs.laws.Reasons.{reason, explanation_of}
 use Rattle.pgn_verifier.proofs.TagReasons.{reason_is, only_reason}
-use Rattle.pgn_verifier.specs.laws.Reported.{read_at, judged_at, report_then, reports_from, reports_on, reports_in, collection_reports}
+use Rattle.pgn_verifier.specs.laws.Reported.{read_at, judged_at, report_then, reports_from, reports_on, reports_in, collection_reports, too_long_report}
 
 -- ---- one game
 
@@ -181,7 +182,8 @@ only_reports strict start text reports h = one_list (are_reports strict start te
 
 -- ---- pieces
 
-reports_are_in : (strict : Bool) (piece : Piece) → AreReportsIn strict piece (reports_in strict piece)
+reports_are_in : (strict : Bool) (piece : Piece)
+    → AreReportsIn strict piece.offset piece.bytes (reports_in strict piece)
 reports_are_in strict piece = by_test (nat_le (length piece.bytes) PIECE_LEN)
   where
     by_test : (b : Bool) → MatchBool b (AreReports strict piece.offset piece.bytes 0
@@ -191,7 +193,8 @@ reports_are_in strict piece = by_test (nat_le (length piece.bytes) PIECE_LEN)
     by_test true = are_reports strict piece.offset piece.bytes
     by_test false = refl
 
-only_reports_in : (strict : Bool) (piece : Piece) (reports : List Report) → AreReportsIn strict piece reports
+only_reports_in : (strict : Bool) (piece : Piece) (reports : List Report)
+    → AreReportsIn strict piece.offset piece.bytes reports
     → reports ≡ reports_in strict piece
 only_reports_in strict piece reports h = by_test (nat_le (length piece.bytes) PIECE_LEN) h
   where
@@ -201,12 +204,26 @@ only_reports_in strict piece reports h = by_test (nat_le (length piece.bytes) PI
     by_test true h = only_reports strict piece.offset piece.bytes reports h
     by_test false h = h
 
+are_all : (strict : Bool) (offset : ℕ) (all : List (List ℕ))
+    → AreCollectionReports strict offset all (flat_map (reports_in strict) (with_offsets offset all))
+are_all strict offset [] = no_piece
+are_all strict offset (piece ∷ more) =
+    next_piece (reports_in strict (record { offset = offset; bytes = piece }))
+    (reports_are_in strict (record { offset = offset; bytes = piece })) (are_all strict (offset + length piece) more)
+
+only_all : {strict : Bool} {offset : ℕ} {all : List (List ℕ)} {reports : List Report}
+    → AreCollectionReports strict offset all reports
+    → reports ≡ flat_map (reports_in strict) (with_offsets offset all)
+only_all {strict} no_piece = refl
+only_all {strict} (next_piece {offset} {piece} {pieces} reports {more} h rest) =
+    ap₂ (λ xs ys. xs ++ ys) (only_reports_in strict (record { offset = offset; bytes = piece }) reports h) (only_all rest)
+
 pub are_collection_reports : (strict ended : Bool) (text : List ℕ)
-    → AreCollectionReports strict ended text (collection_reports strict ended text)
-are_collection_reports strict ended text = (reports_in strict, reports_are_in strict, refl)
+    → AreCollectionReports strict 0 (known_pieces ended text) (collection_reports strict ended text)
+unfolding pieces
+are_collection_reports strict ended text = are_all strict 0 (known_pieces ended text)
 
 pub only_collection_reports : (strict ended : Bool) (text : List ℕ) (reports : List Report)
-    → AreCollectionReports strict ended text reports → reports ≡ collection_reports strict ended text
-only_collection_reports strict ended text reports (by_piece, each, is) =
-    is ∙ ap (λ f. flat_map f (pieces ended 0 text))
-    (fun_ext (λ piece. only_reports_in strict piece (by_piece piece) (each piece)))
+    → AreCollectionReports strict 0 (known_pieces ended text) reports → reports ≡ collection_reports strict ended text
+unfolding pieces
+only_collection_reports strict ended text reports h = only_all h

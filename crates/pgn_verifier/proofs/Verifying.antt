@@ -4,7 +4,7 @@ use Rattle.std.specs.Prelude.{IfErr}
 use Rattle.byte_devices.specs.Devices.{InputState, OutputState, Took, Sent, CutShort}
 use Rattle.byte_devices.specs.Transfers.{InputGave, Ran, all_of, all_unflushed}
 use Rattle.byte_devices.proofs.shared.Transfers.{came, broke, took_nothing, took_all, took_unflushed, took_some}
-use Rattle.pgn_pieces.specs.Pieces.{HasRead, GaveThenFailed, IsCause}
+use Rattle.pgn_pieces.specs.Pieces.{known_pieces, HasRead, GaveThenFailed, IsCause}
 use Rattle.pgn_pieces.specs.declared.pieces.PieceFault.{PieceFault}
 use Rattle.pgn_pieces.specs.declared.pieces.PieceFault.TheVariants as piece
 use Rattle.pgn_verifier.specs.declared.fault.VerifyFault.{VerifyFault}
@@ -127,7 +127,7 @@ reading_stopped options r r' w w' text fault cause took = by_fault fault cause
     reports : List Report
     reports = collection_reports options.strict false text
 
-    are : AreCollectionReports options.strict false text reports
+    are : AreCollectionReports options.strict 0 (known_pieces false text) reports
     are = are_collection_reports options.strict false text
 
     by_fault : (fault : PieceFault) → IsCause r r' text fault

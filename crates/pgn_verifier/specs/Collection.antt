@@ -1,34 +1,33 @@
 -- What verifying a collection reads and writes. The input is cut into pieces (`pieces`), each of which is verified as a
 -- text of its own; a piece that is too long is a fault. Nothing here depends on how the input is cut into reads.
-use Rattle.std.specs.Prelude.{◌≡◌, ◌≤◌, ◌^◌, ℕ, ◌+◌, Bool, true, false, if◌then◌else◌, List, [], ◌++◌, length, Result, Ok, Err}
-use Rattle.std.specs.List.{flat_map}
+use Rattle.std.specs.Prelude.{◌≡◌, ◌≤◌, ◌^◌, ℕ, ◌+◌, Bool, true, false, if◌then◌else◌, List, [], ◌∷◌, ◌++◌, length, Result, Ok, Err}
 use Rattle.byte_devices.specs.Transfers.{FromInput, ToOutput, IsWhole, all_of, all_unflushed, BreaksOffIn}
-use Rattle.pgn_pieces.specs.Pieces.{Piece, pieces}
+use Rattle.pgn_pieces.specs.Pieces.{known_pieces}
 use Rattle.pgn_verifier.specs.declared.fault.VerifyFault.{VerifyFault}
 use Rattle.pgn_verifier.specs.declared.fault.VerifyFault.TheVariants.{ReadFailed, WriteFailed, NoMemory, InputTooLong}
 use Rattle.pgn_verifier.specs.declared.options.VerifyOptions.{VerifyOptions}
 use Rattle.pgn_verifier.specs.declared.tally.Verified.{Verified}
 use Rattle.pgn_verifier.specs.Reports.{Report, AreReportsIn, report_lines, counts_line, counts_of, verified}
 
--- `reports` are those on the games of a collection of which `text` was read, piece after piece: on all pieces of the
--- text if the collection ends after it (`ended`), otherwise on all but the last piece, which may be incomplete.
--- `strict`: an outcome mark, such as `1-0`, that contradicts the tag Result or the board's verdict is a fault.
--- `by_piece` gives the reports on any one piece
-abbrev pub AreCollectionReports : Bool → Bool → List ℕ → List Report → Type 0
-AreCollectionReports strict ended text reports = (by_piece : Piece → List Report)
-    × ((piece : Piece) → AreReportsIn strict piece (by_piece piece))
-    × (reports ≡ flat_map by_piece (pieces ended 0 text))
+-- these are the reports on the games of these pieces, piece after piece (`AreReportsIn`). Each piece is given by its
+-- bytes, and they follow one another in the input from the offset on that is given before them. `strict`: an outcome
+-- mark, such as `1-0`, that contradicts the tag Result or the board's verdict is a fault
+pub data AreCollectionReports (strict : Bool) : ℕ → List (List ℕ) → List Report → Type 0 where
+  no_piece : {offset : ℕ} → AreCollectionReports strict offset [] []
+  next_piece : {offset : ℕ} {piece : List ℕ} {pieces : List (List ℕ)} (reports : List Report) {more : List Report}
+      → AreReportsIn strict offset piece reports → AreCollectionReports strict (offset + length piece) pieces more
+      → AreCollectionReports strict offset (piece ∷ pieces) (reports ++ more)
 
 -- how verifying a collection ends, by its result: what was read of the input (`i`), and what was written (`o`) of
 -- `text`, which is all that is to be written for what was read. `verdict` is that on the reports
 abbrev pub CollectionEnds : List ℕ → Verified → Result Verified VerifyFault → FromInput → ToOutput → Type 0
 -- the whole input was read; all of `text` was written and flushed
 CollectionEnds text verdict (Ok summary) i o = IsWhole i × (o ≡ all_of text) × (summary ≡ verdict)
--- no read failed, whether the input's end was reported or not; a beginning of `text` (it may be empty, or all of it) was
--- written, nothing was flushed, and then a write or the flush failed
+-- no read failed, whether the input's end was reported or not; a beginning of `text` (it may be empty, or all of it)
+-- was written, nothing was flushed, and then a write or the flush failed
 CollectionEnds text verdict (Err WriteFailed) i o = (i.failed ≡ false) × BreaksOffIn [] text o
--- a read failed before the input's end was reported. Here and below, all of `text` was written, nothing was flushed, and
--- no write or flush failed
+-- a read failed before the input's end was reported. Here and below, all of `text` was written, nothing was flushed,
+-- and no write or flush failed
 CollectionEnds text verdict (Err ReadFailed) i o = (i.ended ≡ false) × (i.failed ≡ true) × (o ≡ all_unflushed text)
 -- memory ran out before the input's end was reported; no read failed
 CollectionEnds text verdict (Err NoMemory) i o = (i.ended ≡ false) × (i.failed ≡ false) × (o ≡ all_unflushed text)
@@ -36,13 +35,13 @@ CollectionEnds text verdict (Err NoMemory) i o = (i.ended ≡ false) × (i.faile
 CollectionEnds text verdict (Err InputTooLong) i o =
     (i.ended ≡ false) × (i.failed ≡ false) × (2 ^ 63 ≤ length i.text + 2 ^ 16) × (o ≡ all_unflushed text)
 
--- what verifying a collection reads (`i`) and writes (`o`), by its result. What is to be written are the lines of the
--- reports on what was read, numbered from 1, and if the input's end was reported the line of counts. The verdict is
--- `FaultReported` if a fault was reported, otherwise `EachGame`. Of the `options`, with `strict` an outcome mark, such as
--- `1-0`, that contradicts the tag Result or the board's verdict is a fault; with `quiet` only faults have a line; with
--- `explain` a second line explains each fault
+-- what verifying a collection reads (`i`) and writes (`o`), by its result. To be written are the lines of the reports
+-- on the known pieces of what was read, numbered from 1, and if the input's end was reported the line of counts. The
+-- verdict is `FaultReported` if a fault was reported, otherwise `EachGame`. Of the `options`, with `strict` an outcome
+-- mark, such as `1-0`, that contradicts the tag Result or the board's verdict is a fault; with `quiet` only faults have
+-- a line; with `explain` a second line explains each fault
 abbrev pub VerifiesCollection : VerifyOptions → Result Verified VerifyFault → FromInput → ToOutput → Type 0
 VerifiesCollection options result i o = (reports : List Report)
-    × AreCollectionReports options.strict i.ended i.text reports
-    × CollectionEnds (report_lines options i.text 1 reports ++ (if i.ended then counts_line (counts_of reports) else []))
-    (verified (counts_of reports)) result i o
+    × AreCollectionReports options.strict 0 (known_pieces i.ended i.text) reports
+    × CollectionEnds (report_lines options i.text 1 reports
+    ++ (if i.ended then counts_line (counts_of reports) else [])) (verified (counts_of reports)) result i o

@@ -1,5 +1,5 @@
 -- What explains a fault: where it is, the text there, the position and the reason.
-use Rattle.std.specs.Prelude.{◌≡◌, ℕ, ◌+◌, ◌-◌, ◌==◌, nat_le, ◌&&◌, Bool, true, false, not, if◌then◌else◌, List, [], ◌∷◌, ◌++◌, length, take, take_while, drop, map, codes, decimal, Option, Some, None}
+use Rattle.std.specs.Prelude.{◌≡◌, ℕ, ◌-◌, ◌==◌, Bool, true, false, not, if◌then◌else◌, List, [], ◌∷◌, ◌++◌, length, take, take_while, map, codes, decimal, Option, Some, None}
 use Rattle.std.specs.Option.{option_map}
 use Rattle.chess_base.specs.Faults.{fen_fault_name}
 use Rattle.chess_base.specs.Letters.{byte, new_line}
@@ -31,7 +31,7 @@ shown text = shown_word (take_while (λ c. not (is_white_space c)) (take 40 text
 -- the part that is wrong: how many bytes after the fault's byte it begins, and what an explanation shows of it. `text`
 -- is the text from the fault's byte on
 abbrev pub wrong_part : FaultKind → List ℕ → ℕ × List ℕ
--- of a bad FEN, which goes up to the next quote, it is the field that is shown for its fault, but at most 80 bytes of it
+-- of a bad FEN, which goes up to the next quote, it is the field that is shown for its fault, at most 80 bytes of it
 wrong_part (Pgn (BadFen fault)) text =
     let all = take_while (λ c. not (c == byte "\"")) text in let number = field_number fault all in
     (length all - length (from_field number all), shown_word (take 80 (field_at number all)))

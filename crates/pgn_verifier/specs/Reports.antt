@@ -11,7 +11,6 @@ use Rattle.chess_pgn.specs.declared.read.PgnEnd.{PgnEnd}
 use Rattle.chess_pgn.specs.declared.read.PgnFaultKind.TheVariants.{TooLong}
 use Rattle.chess_pgn.specs.declared.termination.Termination.{Termination}
 use Rattle.chess_pgn.specs.Terminations.{termination_text}
-use Rattle.pgn_pieces.specs.Pieces.{Piece}
 use Rattle.pgn_pieces.specs.declared.pieces.TheConstants.{PIECE_LEN}
 use Rattle.pgn_verifier.specs.Explanations.{IsReason, shown, wrong_part, explanation, explanation_line}
 use Rattle.pgn_verifier.specs.GameFaults.{IsJudged, fault_name}
@@ -55,18 +54,15 @@ pub data AreReports (strict : Bool) (start : ℕ) (text : List ℕ) : ℕ → Li
 
 -- ---- the reports on the games of pieces
 
--- the report on a piece that is too long: the fault TooLong at its first byte, explained by the text there. A game of
--- more than 20,000 half-moves has the same kind of fault, but at its 20,001st half-move
-abbrev pub too_long_report : Piece → Report
-too_long_report piece =
-    Faulty (record { kind = Pgn TooLong; offset = piece.offset }) piece.offset (shown piece.bytes)
-
--- these are the reports on a piece, whose bytes are read as a text of its own: on its games in order, up to the first
--- with a fault; or, if it is too long (it has more than 16,777,216 bytes), one report on the piece. `strict`: an outcome
--- mark that contradicts the tag Result or the board's verdict is a fault
-abbrev pub AreReportsIn : Bool → Piece → List Report → Type 0
-AreReportsIn strict piece reports = MatchBool (nat_le (length piece.bytes) PIECE_LEN)
-    (AreReports strict piece.offset piece.bytes 0 reports) (reports ≡ too_long_report piece ∷ [])
+-- these are the reports on a piece, which begins at this offset of the input, and whose bytes (`piece`) are read as a
+-- text of its own: on its games in order, up to the first with a fault; or, if it is too long (it has more than
+-- 16,777,216 bytes), one report on the piece: the fault TooLong at its first byte, explained by the text there. A game
+-- of more than 20,000 half-moves has the same kind of fault, but at its 20,001st half-move. `strict`: an outcome mark
+-- that contradicts the tag Result or the board's verdict is a fault
+abbrev pub AreReportsIn : Bool → ℕ → List ℕ → List Report → Type 0
+AreReportsIn strict offset piece reports =
+    MatchBool (nat_le (length piece) PIECE_LEN) (AreReports strict offset piece 0 reports)
+    (reports ≡ Faulty (record { kind = Pgn TooLong; offset = offset }) offset (shown piece) ∷ [])
 
 -- ---- their lines
 

@@ -4,6 +4,7 @@ ghost use Rattle.std.specs.Prelude.{◌≡◌, Bool, List, Option, Result, ℕ};
 ghost use Rattle.chess_game.specs.Game.{State};
 ghost use Rattle.chess_pgn.specs.declared.read.PgnEnd.{PgnEnd};
 ghost use Rattle.pgn_verifier.specs.declared.game_fault.GameFault.{GameFault};
+ghost use Rattle.pgn_pieces.specs.Pieces.{known_pieces};
 ghost use Rattle.pgn_verifier.specs.Collection.{AreCollectionReports};
 ghost use Rattle.pgn_verifier.specs.GameFaults.{IsJudged};
 ghost use Rattle.pgn_verifier.specs.Reports.{AreReports, Report};
@@ -28,9 +29,9 @@ pub fn reports_are_the_only_ones()
     ensures no_other_of_text { (strict : Bool) (start : ℕ) (text : List ℕ) (reports : List Report)
         → AreReports strict start text 0 reports → reports ≡ reports_on strict start text }
     ensures collection { (strict ended : Bool) (text : List ℕ)
-        → AreCollectionReports strict ended text (collection_reports strict ended text) }
+        → AreCollectionReports strict 0 (known_pieces ended text) (collection_reports strict ended text) }
     ensures no_other_of_collection { (strict ended : Bool) (text : List ℕ) (reports : List Report)
-        → AreCollectionReports strict ended text reports → reports ≡ collection_reports strict ended text }
+        → AreCollectionReports strict 0 (known_pieces ended text) reports → reports ≡ collection_reports strict ended text }
 {}
 
 /// States a law and does nothing: the text that `write_pgn` of chess_pgn writes of a game has no fault when it is

@@ -51,7 +51,7 @@ reason (ResultDiffers tag_len outcome) text verdict =
 reason BoardSaysOtherwise text verdict = option_map (λ v. result_text (verdict_result v)) verdict
 reason _ text verdict = None
 
--- the text that explains a fault of this kind, with its reason; `s` is the game as far as it was read, and `text` is the
--- text from the fault's byte on
+-- the text that explains a fault of this kind, with its reason; `s` is the game as far as it was read, and `text` is
+-- the text from the fault's byte on
 abbrev pub explanation_of : State → List ℕ → FaultKind → List ℕ
 explanation_of s text kind = explanation s text kind (reason kind text (verdict_now s))

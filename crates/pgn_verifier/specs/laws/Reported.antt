@@ -8,11 +8,13 @@ use Rattle.chess_pgn.specs.GameRead.{GameRead, pgn_read}
 use Rattle.chess_pgn.specs.LastTags.{result_tag_of}
 use Rattle.chess_pgn.specs.Tokens.{after_byte_order_mark, tokens_from}
 use Rattle.chess_pgn.specs.declared.read.PgnEnd.{PgnEnd}
-use Rattle.pgn_pieces.specs.Pieces.{Piece, pieces}
+use Rattle.chess_pgn.specs.declared.read.PgnFaultKind.TheVariants.{TooLong}
+use Rattle.pgn_verifier.specs.declared.game_fault.FaultKind.TheVariants.{Pgn}
+use Rattle.pgn_pieces.specs.Stream.{Piece, pieces}
 use Rattle.pgn_pieces.specs.declared.pieces.TheConstants.{PIECE_LEN}
-use Rattle.pgn_verifier.specs.Explanations.{wrong_part}
+use Rattle.pgn_verifier.specs.Explanations.{wrong_part, shown}
 use Rattle.pgn_verifier.specs.GameFaults.{judged}
-use Rattle.pgn_verifier.specs.Reports.{Report, Game, Faulty, too_long_report}
+use Rattle.pgn_verifier.specs.Reports.{Report, Game, Faulty}
 use Rattle.pgn_verifier.specs.declared.game_fault.GameFault.{GameFault}
 use Rattle.pgn_verifier.specs.laws.Reasons.{explanation_of}
 
@@ -51,6 +53,11 @@ reports_from strict start (suc n) text at =
 -- `strict`: results are compared. Each game has at least one byte, so `length text + 1` games are enough
 abbrev pub reports_on : Bool → ℕ → List ℕ → List Report
 reports_on strict start text = reports_from strict start (length text + 1) text 0
+
+-- the report on a piece that is too long
+abbrev pub too_long_report : Piece → Report
+too_long_report piece =
+    Faulty (record { kind = Pgn TooLong; offset = piece.offset }) piece.offset (shown piece.bytes)
 
 -- the reports on the games of a piece, which is read as a text of its own; a piece that is too long has one report.
 -- `strict`: results are compared

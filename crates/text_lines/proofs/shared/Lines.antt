@@ -1,6 +1,6 @@
 -- For readers of lines: texts without their spaces and tabs in front, and where no line is left.
-use Rattle.std.proofs.Common.{◌≡◌, ℕ, ◌≤◌, Bool, true, false, List, [], ◌∷◌, length, refl, arith, if◌then◌else◌}
-use Rattle.text_lines.specs.Lines.{lines_from, lines_of_parts, is_blank, without_front_blanks}
+use Rattle.std.proofs.Common.{◌≡◌, ℕ, ◌≤◌, Bool, true, false, List, [], ◌∷◌, length, refl, arith}
+use Rattle.text_lines.specs.Lines.{lines_from, lines_of_parts, without_front_blanks}
 
 pub nothing_left : (n : ℕ) (at_end : Bool) → lines_from n at_end [] [] ≡ []
 unfolding lines_of_parts
