@@ -54,7 +54,7 @@ shown : (k : ErrorKind) (fault : WordsFault) (w w' : OutputState) (status : ℕ)
 shown k (faults.Words e) w w' status help is (inl (asked, writes)) = writes
 shown k (faults.Words e) w w' status help is (inr (no_help, no_version, same, ends)) =
     absurd (is_shown k (kind_of e) help is no_help no_version)
-shown k faults.NoMemory w w' status help is (same, ends) = inr (same, ends)
+shown k faults.NoMemory w w' status help is (same, ends) = inr (ends, inl same)
 shown k faults.BadLevel w w' status help is reported = absurd is
 shown k (faults.BadFen f) w w' status help is reported = absurd is
 shown k faults.BadDate w w' status help is reported = absurd is

@@ -57,15 +57,13 @@ abbrev pub verify_status : Result Verified VerifyFault → ℕ
 verify_status (Ok EachGame) = 0
 verify_status _ = 1
 
--- from the output's state `w` to `w'` some text was written, such as the help (which text, is not said here). All of it
--- was written and flushed, and the exit status `status` is 0; or a beginning of it, maybe nothing or all, was written,
--- then a write or a flush failed, and `status` is 1. Or the output stays as it is, as when memory ran out, and `status`
--- is 1
+-- from the output's state `w` to `w'` some text was written, such as the help (which text, is not said here). With the
+-- exit status 0 all of it was written and flushed. With status 1 the output stays as it is, as when memory ran out; or a
+-- beginning of the text, maybe nothing or all, was written, and then a write or a flush failed
 abbrev pub WritesHelp : OutputState → OutputState → ℕ → Type 0
 WritesHelp w w' status =
-    ((text : List ℕ) × (o : ToOutput) × OutputTook w w' o
-    × (((o ≡ all_of text) × (status ≡ 0)) ⊎ (BreaksOffIn [] text o × (status ≡ 1))))
-    ⊎ ((w' ≡ w) × (status ≡ 1))
+    ((status ≡ 0) × (text : List ℕ) × OutputTook w w' (all_of text))
+    ⊎ ((status ≡ 1) × ((w' ≡ w) ⊎ ((text : List ℕ) × (o : ToOutput) × OutputTook w w' o × BreaksOffIn [] text o)))
 
 -- what is done with arguments for which there is no plan, by the fault that says why. `w` and `w'` are the output
 -- before and after; `status` is the exit status. What is written to the error output is not said here

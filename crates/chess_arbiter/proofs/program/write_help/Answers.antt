@@ -1,25 +1,19 @@
 -- Without memory nothing was written; else the text was sent, all of it or a beginning.
 use Rattle.std.proofs.Common.{[], inl, inr, refl}
-use Rattle.byte_devices.specs.Transfers.{all_of}
 use Rattle.byte_devices.proofs.shared.Transfers.{broke, took_all, took_some}
 use Rattle.chess_arbiter.proofs.Serving.{failed_status}
 use Rattle.chess_arbiter.proofs.program.write_help.Goals as goal
 
 pub returns-in_err-text : goal.returns-in_err-text
-returns-in_err-text g c = inr (refl, failed_status c.from_residual.result c.from_residual.ensures.0)
+returns-in_err-text g c = inr (failed_status c.from_residual.result c.from_residual.ensures.0, inl refl)
 
 pub returns-in_err-send : goal.returns-in_err-send
 returns-in_err-send g c =
     let (start, begins, failing) = c.in_err-send.ensures in
-    inl (
-      _,
-      broke [] start,
-      took_some _ _ start failing,
-      inr (
-        (refl, begins, refl),
-        failed_status c.from_residual-in_err-send.result c.from_residual-in_err-send.ensures.0,
-      ),
+    inr (
+      failed_status c.from_residual-in_err-send.result c.from_residual-in_err-send.ensures.0,
+      inr (_, broke [] start, took_some _ _ start failing, (refl, begins, refl)),
     )
 
 pub returns : goal.returns
-returns g c = inl (_, all_of _, took_all _ _ _ c.in_ok-send.ensures, inl (refl, refl))
+returns g c = inl (refl, _, took_all _ _ _ c.in_ok-send.ensures)
