@@ -21,9 +21,9 @@ use Rattle.chess_match.specs.declared.reason.Reason.{Reason}
 use Rattle.chess_match.specs.declared.run.MatchEnd.{MatchEnd}
 use Rattle.chess_match.specs.declared.run.Setup.{Setup}
 
--- what contracts see, at one time, of the devices of a match and of its game. From such a world before a match and one
--- after it contracts say what passed at each device. The witness is not among these devices: it is what is given notes
--- (see Notes) of the events and of the blocks that engines are sent, such as the log
+-- what contracts see, at one time, of the devices of a match and of its game. A contract names two worlds, one before
+-- the match and one after it, and says of each device what passed there in between. The witness, such as the log, is
+-- not among these devices: it is given notes of the events and of the blocks that engines are sent (see Notes)
 pub record World : Type 0 where
   -- each engine's devices, named as the arbiter sees them: `input` is the engine's output, which is read, and `output`
   -- is its input, which is written
