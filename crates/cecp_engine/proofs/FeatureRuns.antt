@@ -1,5 +1,5 @@
 -- What an engine accepts, item by item.
-use Rattle.std.proofs.Common.{◌≡◌, ℕ, ◌+◌, ◌-◌, true, List, [], ◌∷◌, ◌++◌, refl}
+use Rattle.std.proofs.Common.{◌≡◌, ℕ, true, List, [], ◌∷◌, ◌++◌, refl}
 use Rattle.std.specs.Prelude.{codes}
 use Rattle.cecp_engine.specs.Items.{Item, takes, is_one, has_word, plays_fischerandom}
 use Rattle.cecp_engine.specs.ties.Taken.{said_again, fischerandom_again}

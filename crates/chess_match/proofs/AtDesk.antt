@@ -9,8 +9,7 @@ use Rattle.chess_base.specs.Men.{other}
 use Rattle.text_lines.specs.Lines.{Held, LineSeen, nothing_held}
 use Rattle.text_lines.specs.Next.{NextLine}
 use Rattle.chess_match.specs.Acts.{Act, Block, Sends, SendFails, Happens}
-use Rattle.chess_match.specs.ByDevice.{notes_given}
-use Rattle.chess_match.specs.laws.Laws.{has_ended, has_failed_read, lines_read, moments_shown}
+use Rattle.chess_match.specs.laws.Laws.{has_ended, has_failed_read, lines_read, moments_shown, notes_given}
 use Rattle.chess_match.specs.Events.{Line, Opened, OutputEnds, FailsToRead, FailsToWrite}
 use Rattle.chess_base.specs.Options.{list_if}
 use Rattle.chess_match.specs.Lines.{SentLine, bytes_of}

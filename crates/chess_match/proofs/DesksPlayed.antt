@@ -10,8 +10,7 @@ use Rattle.chess_base.specs.Men.{same_colour}
 use Rattle.chess_game.specs.Game as game
 use Rattle.text_lines.specs.Lines.{Held, nothing_held}
 use Rattle.chess_match.specs.Acts.{Act, IsMatch, Sends, SendFails, Happens}
-use Rattle.chess_match.specs.ByDevice.{notes_given}
-use Rattle.chess_match.specs.laws.Laws.{broken_blocks, lines_sent}
+use Rattle.chess_match.specs.laws.Laws.{broken_blocks, lines_sent, notes_given}
 use Rattle.chess_match.specs.Effects as effects
 use Rattle.chess_base.specs.Options.{list_if}
 use Rattle.chess_match.specs.Lines.{SentLine, bytes_of}

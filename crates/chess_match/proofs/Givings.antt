@@ -16,7 +16,8 @@ use Rattle.chess_match.specs.Acts.{Act, Block, IsMatch, IsMatchFrom, awaits_line
 use Rattle.chess_match.specs.Effects.{Match, Handshake, Setup, Opening, BeforeMove, AfterMove, Effect, beginning, begins_turn, effect, ends, handshake_lines, line_row, moved}
 use Rattle.chess_match.specs.ties.Parts.{enter, blocks_after}
 use Rattle.chess_match.specs.Events.{Line}
-use Rattle.chess_match.specs.Lines.{SentLine, Says, MoveSent, Time, Otim, answers_to, setup_lines}
+use Rattle.chess_match.specs.Lines.{SentLine, Says, MoveSent, Time, Otim, setup_lines}
+use Rattle.chess_match.specs.ties.Delivering.{answers_to}
 use Rattle.chess_match.specs.Rules.{Rules}
 use Rattle.chess_match.specs.declared.reason.Reason.{Reason}
 use Rattle.chess_match.specs.declared.reason.Reason.TheVariants.{Decided}

@@ -6,7 +6,6 @@ use Rattle.chess_base.specs.declared.man.Colour.TheVariants.{White, Black}
 use Rattle.chess_base.specs.Men.{same_colour}
 use Rattle.chess_base.specs.Options.{list_if}
 use Rattle.chess_match.specs.Acts.{Act, Block, Sends, SendFails, Happens, blocks_from, is_over}
-use Rattle.chess_match.specs.ByDevice.{notes_given}
 use Rattle.chess_match.specs.Effects.{Match, Phase, Over, beginning, effect}
 use Rattle.chess_match.specs.ties.Parts.{farewell}
 use Rattle.chess_match.specs.Events.{Event, Line, Opened, OutputEnds, FailsToRead, FailsToWrite}
@@ -17,7 +16,7 @@ use Rattle.chess_match.specs.Rules.{Rules}
 use Rattle.chess_match.specs.declared.reason.MatchFault.TheVariants.{Write}
 use Rattle.chess_match.specs.declared.reason.Reason.{Reason}
 use Rattle.chess_match.specs.declared.reason.Reason.TheVariants.{Faulted}
-use Rattle.chess_match.specs.laws.Laws.{events_in, given_in, lines_noted, moments_noted, lines_read}
+use Rattle.chess_match.specs.laws.Laws.{events_in, given_in, lines_noted, moments_noted, lines_read, notes_given}
 use Rattle.chess_match.specs.laws.OfActs.{NotesHaveAllLines, NotesHaveLinesRead, NotesHaveMoments, NotesHaveTheEvents, after_events, lines_given}
 use Rattle.chess_match.proofs.Leading.{unwritten}
 use Rattle.chess_match.proofs.MatchCases.{both_not, by_cases, on_when_read}

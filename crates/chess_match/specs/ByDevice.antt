@@ -1,6 +1,5 @@
--- What each act of a match did at each device, and what a witness is given of the acts. `H` stands for a list of acts,
--- in the order in which they were done.
-use Rattle.std.specs.Prelude.{ℕ, Bool, false, List, [], ◌∷◌, ◌++◌, Option}
+-- What each act of a match did at each device, and what a witness is given of it.
+use Rattle.std.specs.Prelude.{ℕ, Bool, false, List, [], ◌∷◌, Option}
 use Rattle.chess_base.specs.declared.man.Colour.{Colour}
 use Rattle.chess_base.specs.Men.{same_colour}
 use Rattle.chess_match.specs.Acts.{Act, Sends, SendFails, Happens}
@@ -44,23 +43,21 @@ lines_to S (Sends block) = list_if (same_colour block.to S) block.lines
 lines_to S _ = []
 
 -- the block for the side `S` that this act could not send, as a list of one, and the block as its lines; otherwise
--- empty. In a match there is at most one such block for each side
+-- empty. In a match there is at most one such act for each side
 abbrev pub broken_block : Colour → Act → List (List SentLine)
 broken_block S (SendFails block) = list_if (same_colour block.to S) (block.lines ∷ [])
 broken_block S _ = []
 
 -- ---- what was noted
 
--- the notes that a witness, such as the log, is given of these acts, in order, if they are a match that ended for this
--- reason: the bytes of each block, and each event, except a failed write after the end
-abbrev pub notes_given : Reason → List Act → List Note
-notes_given reason [] = []
+-- the notes that a witness, such as the log, is given of this act of a match that ended for this reason: the bytes of a
+-- block, or an event; but none of a failed write after the end
+abbrev pub notes_of : Reason → Act → List Note
 -- a block that was sent: its bytes
-notes_given reason (Sends block ∷ H) = Gives block.to (bytes_of block.lines) ∷ notes_given reason H
+notes_of reason (Sends block) = Gives block.to (bytes_of block.lines) ∷ []
 -- a block that could not be sent: all its bytes; then the failure, but only if the match ended by it
 -- (`is_write_fault_of`)
-notes_given reason (SendFails block ∷ H) =
-    Gives block.to (bytes_of block.lines)
-    ∷ (list_if (is_write_fault_of reason block.to) (Happened (FailsToWrite block.to) ∷ []) ++ notes_given reason H)
+notes_of reason (SendFails block) = Gives block.to (bytes_of block.lines)
+    ∷ list_if (is_write_fault_of reason block.to) (Happened (FailsToWrite block.to) ∷ [])
 -- an event that was read: itself
-notes_given reason (Happens event ∷ H) = Happened event ∷ notes_given reason H
+notes_of reason (Happens event) = Happened event ∷ []

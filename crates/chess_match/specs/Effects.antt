@@ -1,6 +1,6 @@
 -- What each event of a match does: the match after it, and the lines that each side is then sent. A definition with the
 -- name `.._row` is the effect of a line, or of one kind of line.
-use Rattle.std.specs.Prelude.{ℕ, ◌+◌, ◌-◌, ◌/◌, ◌==◌, ◌&&◌, nat_le, nat_lt, Bool, true, false, not, if◌then◌else◌, List, [], ◌∷◌, ◌++◌, length, codes, sum, Option, None, Some, is_some}
+use Rattle.std.specs.Prelude.{ℕ, ◌+◌, ◌-◌, ◌/◌, ◌==◌, ◌&&◌, nat_le, nat_lt, Bool, true, false, not, if◌then◌else◌, List, [], ◌∷◌, ◌++◌, length, codes, sum, Option, None, Some, is_some, map}
 use Rattle.std.specs.List.{list_any}
 use Rattle.std.specs.Option.{option_map_or}
 use Rattle.chess_base.specs.declared.man.Colour.{Colour}
@@ -9,7 +9,7 @@ use Rattle.chess_base.specs.declared.man.Move.{Move}
 use Rattle.chess_base.specs.Men.{other, same_colour}
 use Rattle.chess_game.specs.Ends.{result_text}
 use Rattle.cecp_engine.specs.EngineLines.{LineKind, Features, Moves, Resigns, OffersDraw, ClaimsDraw, ClaimsWin, Rejects, Answers, SaysElse, kind_of}
-use Rattle.cecp_engine.specs.Items.{Item, items_of, ends_handshake, takes, plays_fischerandom}
+use Rattle.cecp_engine.specs.Items.{Item, items_of, ends_handshake, takes, plays_fischerandom, is_known}
 use Rattle.cecp_engine.specs.Levels.{allotted}
 use Rattle.chess_match.specs.Events.{Event, Line, Opened, OutputEnds, FailsToRead, FailsToWrite, Seat}
 use Rattle.chess_match.specs.Reasons.{result_of}
@@ -18,7 +18,7 @@ use Rattle.chess_text.specs.San.{is_fischerandom}
 use Rattle.chess_text.specs.declared.reading.Reading.{Reading}
 use Rattle.chess_text.specs.declared.reading.Reading.TheVariants as reads
 use Rattle.chess_base.specs.Options.{list_if}
-use Rattle.chess_match.specs.Lines.{SentLine, Says, MoveSent, Time, Otim, answers_to, setup_lines, ping}
+use Rattle.chess_match.specs.Lines.{SentLine, Says, MoveSent, Time, Otim, setup_lines, ping}
 use Rattle.chess_match.specs.Reasons.{is_write_fault_of}
 use Rattle.chess_match.specs.declared.reason.MatchFault.{MatchFault}
 use Rattle.chess_match.specs.declared.reason.MatchFault.TheVariants.{Ended, Read, Write, NoDone, NoPing, NoSetboard, Flood, NoVariant}
@@ -229,14 +229,17 @@ handshake_done r Black m = judged r (missing r (m.seat White).items) (missing r 
 
 -- a line of the side `S` in its handshake, which has these items (none, if it is no `feature` line): they are added to
 -- those known of `S`. `done=1` ends the handshake; if the 1,000th line, of whatever kind, comes without it, the match
--- ends. Before all else (`next`) the engine of `S` is sent an answer to each of these items
+-- ends. Before all that follows (`next`) the engine of `S` is sent an answer to each of these items, in their order and
+-- whatever the item's value: `accepted` and its name, such as `accepted ping`, if the arbiter knows the name
+-- (`is_known`); otherwise `rejected` and the name
 abbrev pub handshake_row : Rules → Colour → List Item → Match → Effect
 handshake_row r S items m =
+    let answers = map (λ i. Says ((if is_known i.name then codes "accepted " else codes "rejected ") ++ i.name)) items in
     let m' = with_seat S (λ s. record s { items = s.items ++ items }) m in
     let next = if list_any ends_handshake items then handshake_done r S m'
     else if nat_le 1000 (m.count + 1) then ends r (Faulted S NoDone) m'
     else sends_nothing (record m' { count = m.count + 1 }) in
-    record next { to = λ side. list_if (same_colour S side) (answers_to items) ++ next.to side }
+    record next { to = λ side. list_if (same_colour S side) answers ++ next.to side }
 
 -- what follows when this side is set up: after White's setup comes Black's. Then the first turn begins, unless the
 -- board has a verdict at the start: that ends the match

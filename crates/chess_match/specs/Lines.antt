@@ -1,9 +1,8 @@
 -- The lines that engines are sent.
-use Rattle.std.specs.Prelude.{ℕ, Bool, if◌then◌else◌, List, [], ◌∷◌, ◌++◌, map, codes, decimal}
+use Rattle.std.specs.Prelude.{ℕ, Bool, List, [], ◌∷◌, ◌++◌, codes, decimal}
 use Rattle.std.specs.Option.{option_map_or}
 use Rattle.chess_base.specs.Letters.{new_line}
 use Rattle.chess_base.specs.Options.{list_if}
-use Rattle.cecp_engine.specs.Items.{Item, is_known}
 use Rattle.cecp_engine.specs.Levels.{level_text}
 use Rattle.chess_match.specs.Rules.{Rules}
 use Rattle.chess_text.specs.San.{is_fischerandom}
@@ -30,12 +29,6 @@ text_of (Otim n) = codes "otim " ++ decimal n
 unfoldable pub bytes_of : List SentLine → List ℕ
 bytes_of [] = []
 bytes_of (l ∷ ls) = text_of l ++ new_line ∷ bytes_of ls
-
--- the lines that answer these items of `feature` lines, one for each, in their order, whatever the item's value:
--- `accepted` and its name, such as `accepted ping`, if the arbiter knows the name (`is_known`); otherwise `rejected`
--- and the name
-abbrev pub answers_to : List Item → List SentLine
-answers_to items = map (λ i. Says ((if is_known i.name then codes "accepted " else codes "rejected ") ++ i.name)) items
 
 -- the line `ping N` with this number
 abbrev pub ping : ℕ → SentLine

@@ -8,7 +8,7 @@ use Rattle.chess_game.specs.Game as game
 use Rattle.chess_game.specs.Results.{cut_tag}
 use Rattle.cecp_engine.specs.Items.{last_said}
 use Rattle.chess_match.specs.Acts.{Act, IsMatch}
-use Rattle.chess_match.specs.ByDevice.{line_read, is_end_of, is_failed_read_of, moment_shown, lines_to, broken_block, notes_given}
+use Rattle.chess_match.specs.ByDevice.{line_read, is_end_of, is_failed_read_of, moment_shown, lines_to, broken_block, notes_of}
 use Rattle.chess_match.specs.Effects.{Match, Over}
 use Rattle.chess_match.specs.Notes.{Note}
 use Rattle.chess_match.specs.Reasons.{reported, reported_fault, declared_at}
@@ -21,9 +21,9 @@ use Rattle.chess_match.specs.declared.reason.Reason.{Reason}
 use Rattle.chess_match.specs.declared.run.MatchEnd.{MatchEnd}
 use Rattle.chess_match.specs.declared.run.Setup.{Setup}
 
--- what contracts see, at one time, of the devices of a match and of its game. From such a world before a match and one
--- after it contracts say what passed at each device. The witness is not among these devices: it is what is given notes
--- (see Notes) of the events and of the blocks that engines are sent, such as the log
+-- what contracts see, at one time, of the devices of a match and of its game. A contract names two worlds, one before
+-- the match and one after it, and says of each device what passed there in between. The witness, such as the log, is
+-- not among these devices: it is given notes of the events and of the blocks that engines are sent (see Notes)
 pub record World : Type 0 where
   -- each engine's devices, named as the arbiter sees them: `input` is the engine's output, which is read, and `output`
   -- is its input, which is written
@@ -101,11 +101,11 @@ abbrev pub Played : Setup → MatchEnd → World → World → Type 0
 Played setup end w w' = (H : List Act) × (reason : Reason) × PlayedBy H reason setup end w w'
 
 -- a match was played as `setup` says, from the world `w` to `w'`, and reported as `end`: `PlayedBy` holds for some acts
--- and reason, and the claim `noted` for the notes that a witness is given of these acts (`notes_given`). The claim may
+-- and reason, and the claim `noted` for the notes that a witness is given of these acts (`notes_of`). The claim may
 -- be, for example, that the log was given exactly these notes
 abbrev pub PlayedNoting : (List Note → Type 0) → Setup → MatchEnd → World → World → Type 0
 PlayedNoting noted setup end w w' =
-    (H : List Act) × (reason : Reason) × noted (notes_given reason H) × PlayedBy H reason setup end w w'
+    (H : List Act) × (reason : Reason) × noted (flat_map (notes_of reason) H) × PlayedBy H reason setup end w w'
 
 -- a match was played at a table as `setup` says, and reported as `end`. From the state `old` of the table to `new`
 -- just the steps of the match's acts passed, in order, and its notes (`watched`). The game was `g` before. It is `g'`

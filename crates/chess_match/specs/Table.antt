@@ -32,7 +32,7 @@ reads (Opened S moment) = ReadsClock S moment ∷ []
 reads event = Does (Happens event) ∷ []
 
 -- the steps of a match that ended for this reason: those of its acts, in order, and the note of each (the notes are
--- those of `notes_given`)
+-- those of `notes_of`)
 abbrev pub watched : Reason → List Act → List Step
 watched reason [] = []
 -- the bytes of a block are noted before it is sent

@@ -11,13 +11,12 @@ use Rattle.chess_base.specs.Options.{list_if}
 use Rattle.chess_base.specs.declared.man.Colour.{Colour}
 use Rattle.chess_base.specs.Men.{same_colour}
 use Rattle.chess_match.specs.Acts.{Act, Sends, SendFails, Happens}
-use Rattle.chess_match.specs.ByDevice.{notes_given}
 use Rattle.chess_match.specs.Effects.{Match, beginning}
 use Rattle.chess_match.specs.Events.{Event, Line, Opened, OutputEnds, FailsToRead, FailsToWrite}
 use Rattle.chess_match.specs.Lines.{SentLine, bytes_of, text_of}
 use Rattle.chess_match.specs.Notes.{Note, Happened, Gives}
 use Rattle.chess_match.specs.Reasons.{is_write_fault_of}
-use Rattle.chess_match.specs.laws.Laws.{events_in}
+use Rattle.chess_match.specs.laws.Laws.{events_in, notes_given}
 use Rattle.chess_match.specs.laws.OfActs.{lines_given}
 use Rattle.chess_match.specs.declared.reason.Reason.{Reason}
 use Rattle.match_runner.specs.Log.{lines_in, moment_after}

@@ -14,7 +14,7 @@ use Rattle.chess_game.specs.declared.results.Outcome.{Outcome}
 use Rattle.chess_game.specs.declared.results.Outcome.TheVariants.{Draw, Unfinished}
 use Rattle.chess_game.specs.declared.tags.HowEnded.{HowEnded}
 use Rattle.chess_match.specs.Acts.{Act, IsMatch}
-use Rattle.chess_match.specs.ByDevice.{notes_given}
+use Rattle.chess_match.specs.laws.Laws.{notes_given}
 use Rattle.chess_match.specs.Effects.{Match, Over}
 use Rattle.chess_match.specs.Notes.{Note}
 use Rattle.chess_match.specs.Reasons.{declared_at, ended_by, outcome_by_reason, win_of}

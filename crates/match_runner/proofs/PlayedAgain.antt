@@ -25,7 +25,8 @@ use Rattle.chess_game.specs.declared.verdicts.DrawClaim.{DrawClaim}
 use Rattle.chess_match.specs.declared.reason.MatchFault.{MatchFault}
 use Rattle.chess_match.specs.declared.reason.MatchFault.TheVariants.{Flood, NoDone}
 use Rattle.chess_match.specs.declared.reason.Reason.{Reason}
-use Rattle.chess_match.specs.Lines.{SentLine, Says, answers_to, ping}
+use Rattle.chess_match.specs.Lines.{SentLine, Says, ping}
+use Rattle.chess_match.specs.ties.Delivering.{answers_to}
 use Rattle.chess_match.specs.Reasons.{is_write_fault_of}
 use Rattle.chess_match.specs.declared.reason.Reason.TheVariants as over_by
 use Rattle.match_runner.specs.laws.ReadBack.{text_of_result}

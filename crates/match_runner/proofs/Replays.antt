@@ -9,7 +9,6 @@ use Rattle.chess_base.specs.Men.{other}
 use Rattle.chess_base.specs.Options.{list_if}
 use Rattle.chess_match.specs.Acts.{Act, Block, Sends, SendFails, Happens, IsMatch, IsMatchFrom, awaits_line, block_of, blocks_from, is_over}
 use Rattle.chess_match.specs.ties.Parts.{blocks_after}
-use Rattle.chess_match.specs.ByDevice.{notes_given}
 use Rattle.chess_match.specs.Effects.{Match, Phase, Opening, Over, beginning, effect, ends, is_owed_move, move_line}
 use Rattle.chess_match.specs.Events.{Event, Line, Opened, OutputEnds, FailsToRead, FailsToWrite}
 use Rattle.chess_match.specs.Lines.{SentLine, bytes_of}
@@ -19,7 +18,7 @@ use Rattle.chess_match.specs.Rules.{Rules}
 use Rattle.chess_match.specs.declared.reason.MatchFault.TheVariants.{Ended, Read, Write}
 use Rattle.chess_match.specs.declared.reason.Reason.{Reason}
 use Rattle.chess_match.specs.declared.reason.Reason.TheVariants.{Faulted}
-use Rattle.chess_match.specs.laws.Laws.{events_in, line_kind}
+use Rattle.chess_match.specs.laws.Laws.{events_in, line_kind, notes_given}
 use Rattle.match_runner.specs.laws.ReadBack.{events_shown}
 use Rattle.match_runner.proofs.PlayedAgain.{Again, Falls, Stops, again, ends_by_flag, last_lines, line_again, opened, over_again, waits}
 

@@ -14,7 +14,7 @@ use Rattle.chess_base.specs.declared.man.Colour.TheVariants.{White, Black}
 use Rattle.byte_devices.specs.Devices.{OutputState}
 use Rattle.byte_devices.specs.Transfers.{ToOutput, OutputTook, all_of, BreaksOffIn}
 use Rattle.chess_match.specs.Acts.{Act}
-use Rattle.chess_match.specs.ByDevice.{notes_given}
+use Rattle.chess_match.specs.ByDevice.{notes_of}
 use Rattle.chess_match.specs.Reasons.{comment_of, win_of}
 use Rattle.chess_match.specs.Notes.{Note}
 use Rattle.chess_match.specs.Played.{World, PlayedBy}
@@ -69,7 +69,7 @@ pub record GameRecord : Type 0 where
   pub after : World
   -- how it ended
   pub end : MatchEnd
-  -- the events, and the bytes of each block for an engine, even if sending it failed, in order (`notes_given`); the log
+  -- the events, and the bytes of each block for an engine, even if sending it failed, in order (`notes_of`); the log
   -- is made from these
   pub notes : List Note
 
@@ -78,7 +78,7 @@ pub record GameRecord : Type 0 where
 -- same acts `H`, which ended for the same reason. Which engines played it is not said here
 abbrev pub IsOfPlan : GamesPlan → GameRecord → Type 0
 IsOfPlan plan played = (played.before.game.limit ≡ MOST_MOVES)
-    × ((H : List Act) × (reason : Reason) × (notes_given reason H ≡ played.notes)
+    × ((H : List Act) × (reason : Reason) × (flat_map (notes_of reason) H ≡ played.notes)
     × PlayedBy H reason (record { start = plan.start; level = plan.level }) played.end played.before played.after)
 
 -- the PGN of the game `played`, which has this number: its tags, and its moves and result. `[]`: no line has a prefix

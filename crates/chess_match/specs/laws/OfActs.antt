@@ -10,10 +10,9 @@ use Rattle.chess_game.specs.Line.{IsLine}
 use Rattle.chess_game.specs.declared.verdicts.Verdict.{Verdict}
 use Rattle.cecp_engine.specs.Items.{Item, takes}
 use Rattle.cecp_engine.specs.Levels.{LevelSeen, allotted}
-use Rattle.chess_match.specs.ByDevice.{notes_given}
 use Rattle.chess_base.specs.Options.{list_if}
 use Rattle.chess_match.specs.Lines.{SentLine, bytes_of}
-use Rattle.chess_match.specs.laws.Laws.{Streams, AreRead, events_in, given_in, lines_noted, moments_noted, is_move, moves_of, items_said, moves_sent, texts_from, time_sent, otim_sent, centiseconds, lines_read, has_ended, has_failed_read, moments_shown, lines_sent, is_broken, line_kind}
+use Rattle.chess_match.specs.laws.Laws.{Streams, AreRead, events_in, given_in, lines_noted, moments_noted, is_move, moves_of, items_said, moves_sent, texts_from, time_sent, otim_sent, centiseconds, lines_read, has_ended, has_failed_read, moments_shown, lines_sent, is_broken, line_kind, notes_given}
 use Rattle.chess_match.specs.Acts.{Act, Block, Sends, SendFails, Happens, IsMatch, IsMatchFrom, is_over}
 use Rattle.chess_match.specs.Effects.{Match, Over, beginning, clock, effect}
 use Rattle.chess_match.specs.Events.{Event, Line, Opened, FailsToWrite}

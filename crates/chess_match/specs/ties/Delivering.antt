@@ -1,12 +1,12 @@
 -- Lines that are put in by calls of their own.
-use Rattle.std.specs.Prelude.{ℕ, ◌/◌, if◌then◌else◌, nat_lt, List, [], ◌∷◌, ◌++◌, length, codes, Option}
+use Rattle.std.specs.Prelude.{ℕ, ◌/◌, if◌then◌else◌, nat_lt, List, [], ◌∷◌, ◌++◌, length, map, codes, Option}
 use Rattle.std.specs.Option.{option_map_or}
 use Rattle.chess_base.specs.declared.man.Colour.{Colour}
 use Rattle.chess_base.specs.declared.man.Variant.{Variant}
 use Rattle.chess_base.specs.Men.{other}
 use Rattle.chess_base.specs.Letters.{new_line}
 use Rattle.chess_base.specs.Options.{list_if}
-use Rattle.cecp_engine.specs.Items.{is_known, takes}
+use Rattle.cecp_engine.specs.Items.{Item, is_known, takes}
 use Rattle.chess_match.specs.Effects.{Match, clock, move_line}
 use Rattle.chess_match.specs.Rules.{Rules}
 use Rattle.chess_match.specs.Lines.{SentLine, Says, Time, Otim}
@@ -15,6 +15,12 @@ use Rattle.chess_text.specs.San.{is_fischerandom}
 -- the line that answers an item of this name, with its `\n`: `accepted ping`, or `rejected` and the name
 abbrev pub answer_line : List ℕ → List ℕ
 answer_line name = ((if is_known name then codes "accepted " else codes "rejected ") ++ name) ++ new_line ∷ []
+
+-- the lines that answer these items of `feature` lines, one for each, in their order, whatever the item's value:
+-- `accepted` and its name, such as `accepted ping`, if the arbiter knows the name (`is_known`); otherwise `rejected`
+-- and the name
+abbrev pub answers_to : List Item → List SentLine
+answers_to items = map (λ i. Says ((if is_known i.name then codes "accepted " else codes "rejected ") ++ i.name)) items
 
 -- the line `setboard FEN` with this FEN of the start position, as a list of one; empty for `None`
 abbrev pub start_lines : Option (List ℕ) → List SentLine

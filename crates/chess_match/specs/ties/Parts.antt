@@ -14,7 +14,8 @@ use Rattle.chess_match.specs.Rules.{Rules}
 use Rattle.chess_match.specs.declared.reason.Reason.{Reason}
 use Rattle.chess_match.specs.declared.reason.Reason.TheVariants.{MovesIllegally}
 use Rattle.chess_text.specs.declared.reading.Reading.TheVariants as reads
-use Rattle.chess_match.specs.Lines.{SentLine, Says, answers_to}
+use Rattle.chess_match.specs.Lines.{SentLine, Says}
+use Rattle.chess_match.specs.ties.Delivering.{answers_to}
 
 -- the match `m` at the beginning of this phase: no line was counted in it yet
 abbrev pub enter : Phase → Match → Match

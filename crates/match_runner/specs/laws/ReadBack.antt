@@ -8,10 +8,9 @@ use Rattle.chess_base.specs.Men.{same_colour}
 use Rattle.chess_base.specs.Options.{list_if}
 use Rattle.chess_base.specs.declared.man.Colour.{Colour}
 use Rattle.chess_match.specs.Acts.{Act, IsMatch}
-use Rattle.chess_match.specs.ByDevice.{notes_given}
 use Rattle.chess_match.specs.Effects.{Match, Over}
 use Rattle.chess_match.specs.Events.{Event, Line, Opened, OutputEnds, FailsToRead, FailsToWrite}
-use Rattle.chess_match.specs.laws.Laws.{events_in}
+use Rattle.chess_match.specs.laws.Laws.{events_in, notes_given}
 use Rattle.chess_match.specs.laws.OfActs.{lines_given}
 use Rattle.match_runner.specs.declared.plan.GamesPlan.{GamesPlan}
 use Rattle.match_runner.specs.Games.{GameRecord, IsOfPlan, first_side, game_text, game_texts, score_line}

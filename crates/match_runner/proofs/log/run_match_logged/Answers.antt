@@ -1,5 +1,5 @@
 -- The match was watched from the beginning of its log to its end (Logged.notes_logged).
-use Rattle.chess_match.specs.ByDevice.{notes_given}
+use Rattle.chess_match.specs.laws.Laws.{notes_given}
 use Rattle.match_runner.proofs.Logged.{notes_logged}
 use Rattle.match_runner.proofs.log.run_match_logged.Goals as goal
 

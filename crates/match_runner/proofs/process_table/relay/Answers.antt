@@ -1,7 +1,7 @@
 -- A game that is not logged has notes too.
 use Rattle.std.proofs.Common.{◌≡◌, Option, None, Some, refl, rules, subst, sym}
 use Rattle.chess_base.specs.declared.man.Colour.{Colour}
-use Rattle.chess_match.specs.ByDevice.{notes_given}
+use Rattle.chess_match.specs.laws.Laws.{notes_given}
 use Rattle.match_runner.specs.Games.{LogsGame}
 use Rattle.match_runner.specs.Log.{log_seen}
 use Rattle.match_runner.proofs.process_table.relay.Goals as goal

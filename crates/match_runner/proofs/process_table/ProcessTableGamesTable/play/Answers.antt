@@ -1,6 +1,6 @@
 -- The match was played over the engines' pipes, and its notes were logged.
 use Rattle.std.proofs.Common.{refl}
-use Rattle.chess_match.specs.ByDevice.{notes_given}
+use Rattle.chess_match.specs.laws.Laws.{notes_given}
 use Rattle.match_runner.proofs.process_table.ProcessTableGamesTable.play.Goals as goal
 
 pub returns : goal.returns
