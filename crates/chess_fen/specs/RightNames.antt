@@ -13,7 +13,7 @@ use Rattle.chess_base.specs.declared.man.Rights.{Rights}
 use Rattle.chess_base.specs.declared.man.Variant.{Variant}
 use Rattle.chess_base.specs.declared.man.Variant.TheVariants.{Normal, Fischerandom}
 use Rattle.std.specs.Int.{abs_diff}
-use Rattle.chess_base.specs.Squares.{file, from_below}
+use Rattle.chess_base.specs.Squares.{file}
 use Rattle.chess_base.specs.Men.{Men, man_at, is_man}
 use Rattle.chess_base.specs.Castling.{home_square, king_square, rook_file, rights_by, by_side}
 use Rattle.chess_base.specs.Letters.{letter_by}
@@ -36,10 +36,10 @@ right_letter Fischerandom c w s = first_letter c + file s
 
 -- ---- Chess960
 
--- the squares of colour c's first rank, sorted by their distance from the corner on side w (`rook_file`): for White's
--- king side from h1 to a1
+-- the squares of colour c's first rank from the board's edge on side w to the other: for White's king side from h1 to a1
 abbrev pub from_edge : Colour → CastlingSide → List ℕ
-from_edge c w = from_below 8 (λ distance. home_square c (abs_diff (rook_file w) distance))
+from_edge c w = map (home_square c)
+    (by_side (7 ∷ 6 ∷ 5 ∷ 4 ∷ 3 ∷ 2 ∷ 1 ∷ 0 ∷ []) (0 ∷ 1 ∷ 2 ∷ 3 ∷ 4 ∷ 5 ∷ 6 ∷ 7 ∷ []) w)
 
 -- square s is on that side of the king, whose square is `king`; both are on one rank, which is not tested. Queen side:
 -- s is left of the king (nearer to the a-file). King side: it is not; so the king's own square is on the king side, and
