@@ -234,12 +234,12 @@ handshake_done r Black m = judged r (missing r (m.seat White).items) (missing r 
 -- (`is_known`); otherwise `rejected` and the name
 abbrev pub handshake_row : Rules → Colour → List Item → Match → Effect
 handshake_row r S items m =
-    let answers = map (λ i. Says ((if is_known i.name then codes "accepted " else codes "rejected ") ++ i.name)) items in
+    let reply = map (λ i. Says ((if is_known i.name then codes "accepted " else codes "rejected ") ++ i.name)) items in
     let m' = with_seat S (λ s. record s { items = s.items ++ items }) m in
     let next = if list_any ends_handshake items then handshake_done r S m'
     else if nat_le 1000 (m.count + 1) then ends r (Faulted S NoDone) m'
     else sends_nothing (record m' { count = m.count + 1 }) in
-    record next { to = λ side. list_if (same_colour S side) answers ++ next.to side }
+    record next { to = λ side. list_if (same_colour S side) reply ++ next.to side }
 
 -- what follows when this side is set up: after White's setup comes Black's. Then the first turn begins, unless the
 -- board has a verdict at the start: that ends the match

@@ -64,5 +64,6 @@ rules_of start level limit = record {
   move_text = λ as_san played.
       let before = position_after start (take (length played - 1) played) in
       option_map_or (λ move. if as_san then san before move else shown_move before move) (last_or None played) [];
-  has_bare_king = λ played c. list_all (λ man. not (is_of c man) || is_man c King man) (position_after start played).men;
+  has_bare_king = λ played c.
+      list_all (λ man. not (is_of c man) || is_man c King man) (position_after start played).men;
 }
