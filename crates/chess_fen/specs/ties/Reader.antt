@@ -1,5 +1,6 @@
--- How code reads the castling rights of a FEN, letter by letter. A right that is named wrongly is kept as one whose
--- rook is on a square where no rook can have it, so that the position is refused as unsound.
+-- How code reads the fields of a FEN: the side and the target by their bytes, and the castling rights letter by letter.
+-- A right that is named wrongly is kept as one whose rook is on a square where no rook can have it, so that the
+-- position is refused as unsound.
 use Rattle.std.specs.Prelude.{ℕ, max, codes, count_by, length, nat_lt, nat_le, ◌+◌, ◌-◌, ◌*◌, ◌==◌, Bool, ◌&&◌, ◌||◌, List, [], ◌∷◌, map, find, Option, Some, None, Result, Ok, Err, unwrap_or, if◌then◌else◌}
 use Rattle.std.specs.Bool.{then_some}
 use Rattle.std.specs.List.{fold, list_all}
