@@ -10,6 +10,7 @@ use Rattle.chess_match.specs.ties.Represents.{Represents, phase_of}
 use Rattle.chess_match.specs.ties.Sane.{IsSane, in_turn}
 use Rattle.chess_match.specs.declared.state.MatchState.{MatchState}
 use Rattle.chess_match.proofs.CoreSteps.{clocks_moves}
+use Rattle.chess_game.specs.Ends.{verdict}
 
 pub both_sides : (P : Colour → Type 0) → P White → P Black → (S : Colour) → P S
 both_sides P w b White = w
@@ -28,6 +29,6 @@ few r core played m s sane S =
 
 pub undecided : (r : Rules) (core : MatchState) (played : List Move) (m : Match)
     → Represents r core played m → IsSane r m → in_turn (phase_of core.opened core.phase) ≡ true
-    → r.verdict played ≡ None
-undecided r core played m s sane h = ap (λ (ms : List Move). r.verdict ms) s.moves
+    → verdict r.start played ≡ None
+undecided r core played m s sane h = ap (λ (ms : List Move). verdict r.start ms) s.moves
     ∙ sane.undecided (ap in_turn s.phase ∙ h)

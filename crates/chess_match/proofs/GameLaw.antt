@@ -38,5 +38,5 @@ line_from legal start level limit before (m ∷ ms) mine theirs (text, rest, e, 
 pub games_are_lines : ReadMovesAreLegal → GamesAreLines
 games_are_lines legal start level limit H final is_match =
     let r : Rules = rules_of start level limit in
-    line_from legal start level limit [] final.played (moves_of (lines_read r.first H))
-    (moves_of (lines_read (other r.first) H)) (in_each MovesAreRead moves_are_read r H final is_match)
+    line_from legal start level limit [] final.played (moves_of (lines_read r.start.side H))
+    (moves_of (lines_read (other r.start.side) H)) (in_each MovesAreRead moves_are_read r H final is_match)

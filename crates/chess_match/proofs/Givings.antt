@@ -112,7 +112,7 @@ pub record Gives {A : Type 0} (f : SentLine → List A) (r : Rules) (O : Colour)
   pub offers : (m : Match) (S : Colour) (rest : List A) → Rest m rest
       → (all (offering S m).after ≡ all m) × Rest (offering S m).after rest
   pub begins : (m : Match) (S : Colour) (rest : List A) → m.phase ≡ Setup S → length rest ≤ 1 → Kept r m → Rest m rest
-      → Goes all Rest m rest (flat_map f ((begins_turn r r.first m).to O)) (begins_turn r r.first m).after
+      → Goes all Rest m rest (flat_map f ((begins_turn r r.start.side m).to O)) (begins_turn r r.start.side m).after
   pub passes : (m : Match) (S : Colour) (rest : List A) → m.phase ≡ AfterMove S → length rest ≤ 1 → Kept r m
       → Rest m rest
       → Goes all Rest m rest (flat_map f ((begins_turn r (other S) m).to O)) (begins_turn r (other S) m).after
@@ -269,7 +269,7 @@ module _ {A : Type 0} (f : SentLine → List A) (says : (text : List ℕ) → f 
     setup_counts = λ p pong few on some. refl;
     setup_next = λ p s pong on some. quiet (list_if (same_colour Black (other S)) (setup_lines r))
         (if_says (same_colour Black (other S)) (setup_lines r) (setup_says r));
-    setup_last = λ p s pong v. apart_turn S r.first m;
+    setup_last = λ p s pong v. apart_turn S r.start.side m;
     setup_decides = λ p v e on some. absurd cc;
     stops = λ g reason w on some. absurd cc;
     counts = λ on none few on' some. refl;

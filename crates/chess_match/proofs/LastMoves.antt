@@ -7,7 +7,7 @@ use Rattle.chess_base.specs.declared.setup.Setup.{Setup}
 use Rattle.chess_base.specs.Moves.{after}
 use Rattle.chess_game.specs.Line.{position_after}
 use Rattle.chess_text.specs.San.{check_mark, san, shown_move}
-use Rattle.chess_match.specs.ties.Chess.{text_of_last}
+use Rattle.chess_match.specs.Rules.{text_of_last}
 use Rattle.std.specs.Prelude.{if◌then◌else◌}
 
 last_is : (o : Option Move) (ms : List Move) (m : Move) → last_or o (ms ++ m ∷ []) ≡ Some m

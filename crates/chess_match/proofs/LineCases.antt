@@ -19,7 +19,7 @@ use Rattle.chess_match.specs.Effects.{Match, Phase, Handshake, Setup, Opening, B
 use Rattle.chess_match.specs.ties.Parts.{enter, with_answers}
 use Rattle.chess_match.specs.Lines.{Says, ping, setup_lines}
 use Rattle.chess_match.specs.Reasons.{is_write_fault_of}
-use Rattle.chess_match.specs.Rules.{Rules}
+use Rattle.chess_match.specs.Rules.{Rules, start_fen, has_bare_king}
 use Rattle.chess_text.specs.San.{is_fischerandom}
 use Rattle.chess_text.specs.declared.reading.Reading.{Reading}
 use Rattle.chess_text.specs.declared.reading.Reading.TheVariants as reads
@@ -31,6 +31,9 @@ use Rattle.chess_match.specs.declared.reason.Reason.TheVariants.{Decided, Claime
 use Rattle.chess_match.specs.declared.reason.Reason.TheVariants as over_by
 use Rattle.chess_match.specs.laws.Laws.{move_said, is_pong, items_in_line}
 use Rattle.chess_match.specs.laws.OfActs.{whose_line}
+use Rattle.chess_game.specs.Ends.{verdict, claims, draw_claim}
+use Rattle.chess_game.specs.Line.{position_after}
+use Rattle.chess_text.specs.Moves.{reading}
 
 -- whether a match ended for a verdict of the board
 abbrev pub is_decided : Reason → Bool
@@ -91,20 +94,20 @@ pub record LineCases (r : Rules) (S : Colour) (kind : LineKind) (moment : ℕ) (
     pub setup_counts : m.phase ≡ Setup S → is_pong 1 kind ≡ false → m.count + 1 < 10000 → Q (counting m)
     pub setup_next : m.phase ≡ Setup S → S ≡ White → is_pong 1 kind ≡ true
         → Q (sends_to Black (setup_lines r) (enter (Setup Black) m))
-    pub setup_last : m.phase ≡ Setup S → S ≡ Black → is_pong 1 kind ≡ true → r.verdict m.played ≡ None
-        → Q (begins_turn r r.first m)
-    pub setup_decides : m.phase ≡ Setup S → (v : Verdict) → r.verdict m.played ≡ Some v → Q (ends r (Decided v) m)
+    pub setup_last : m.phase ≡ Setup S → S ≡ Black → is_pong 1 kind ≡ true → verdict r.start m.played ≡ None
+        → Q (begins_turn r r.start.side m)
+    pub setup_decides : m.phase ≡ Setup S → (v : Verdict) → verdict r.start m.played ≡ Some v → Q (ends r (Decided v) m)
     -- in its setup or in its turn
     pub stops : handshakes_done m.phase ≡ true → (reason : Reason) → MayStop S reason → Q (ends r reason m)
     -- in its turn
     pub counts : in_turn m.phase ≡ true → move_said kind ≡ [] → m.count + 1 < 10000 → Q (counting m)
     pub offers : in_turn m.phase ≡ true → move_said kind ≡ [] → (m.seat S).offers ≡ false → Q (offering S m)
     pub plays : (text : List ℕ) (move : Move) (opened : ℕ) → kind ≡ Moves text → m.phase ≡ BeforeMove S opened
-        → r.reading m.played text ≡ reads.Move move → length m.played < r.limit → moment - opened ≤ clock r m S
-        → r.verdict (m.played ++ move ∷ []) ≡ None → Q (playing S move (moment - opened) m)
+        → reading (position_after r.start \1) text ≡ reads.Move move → length m.played < r.limit → moment - opened ≤ clock r m S
+        → verdict r.start (m.played ++ move ∷ []) ≡ None → Q (playing S move (moment - opened) m)
     pub decides : (text : List ℕ) (move : Move) (opened : ℕ) (v : Verdict) → kind ≡ Moves text
-        → m.phase ≡ BeforeMove S opened → r.reading m.played text ≡ reads.Move move → length m.played < r.limit
-        → moment - opened ≤ clock r m S → r.verdict (m.played ++ move ∷ []) ≡ Some v
+        → m.phase ≡ BeforeMove S opened → reading (position_after r.start \1) text ≡ reads.Move move → length m.played < r.limit
+        → moment - opened ≤ clock r m S → verdict r.start (m.played ++ move ∷ []) ≡ Some v
         → Q (ends r (Decided v) (moved S move (moment - opened) m))
     pub passes : m.phase ≡ AfterMove S → move_said kind ≡ [] → Q (begins_turn r (other S) m)
 
@@ -124,8 +127,8 @@ if_fault false x y p q = q
 
 misses : (r : Rules) (items : List Item) → NoWriteFault (missing r items)
 misses r items = if_fault (not (takes (codes "ping") items)) (Some NoPing) _ (λ c O. refl)
-    (if_fault (is_some r.start_fen && not (takes (codes "setboard") items)) (Some NoSetboard) _ (λ c O. refl)
-    (if_fault (is_fischerandom r.variant && not (plays_fischerandom items)) (Some NoVariant) None (λ c O. refl) tt))
+    (if_fault (is_some (start_fen r.start) && not (takes (codes "setboard") items)) (Some NoSetboard) _ (λ c O. refl)
+    (if_fault (is_fischerandom r.start.variant && not (plays_fischerandom items)) (Some NoVariant) None (λ c O. refl) tt))
 
 setup_by_pong : (r : Rules) (S : Colour) (kind : LineKind) (moment : ℕ) (m : Match)
     → line_row r (Setup S) kind moment m ≡ (if is_pong 1 kind then setup_done r S m else ignores r S m)
@@ -148,7 +151,7 @@ module _ (r : Rules) (S : Colour) (kind : LineKind) (moment : ℕ) (m : Match) (
     turn : (k : LineKind) → Q (turn_row r S k m)
     turn Resigns = l.stops (turn_done m.phase on) (over_by.Resigns S) ((λ O. refl), (λ c e. cc), refl)
     turn OffersDraw = offered
-    turn ClaimsDraw = at (r.claim m.played)
+    turn ClaimsDraw = at (draw_claim (claims r.start m.played))
       where
         at : (claim : Option DrawClaim) → Q (option_map_or (λ c. ends r (Claimed c) m) claim (offer_row r S m))
         at (Some c) = l.stops (turn_done m.phase on) (Claimed c) ((λ O. refl), (λ c e. cc), refl)
@@ -171,7 +174,7 @@ module _ (r : Rules) (S : Colour) (kind : LineKind) (moment : ℕ) (m : Match) (
 
   -- before its move
   module _ (opened : ℕ) (p : m.phase ≡ BeforeMove S opened) (timely : moment - opened ≤ clock r m S) where
-    a_move : (text : List ℕ) (read : Reading) → kind ≡ Moves text → r.reading m.played text ≡ read
+    a_move : (text : List ℕ) (read : Reading) → kind ≡ Moves text → reading (position_after r.start \1) text ≡ read
         → length m.played < r.limit → Q (move_row r S (moment - opened) read m)
     a_move text reads.Ambiguous is e room = l.stops (ap handshakes_done p) (MovesIllegally S)
         ((λ O. refl), (λ c e. cc), refl)
@@ -179,9 +182,9 @@ module _ (r : Rules) (S : Colour) (kind : LineKind) (moment : ℕ) (m : Match) (
         ((λ O. refl), (λ c e. cc), refl)
     a_move text reads.NotAMove is e room = l.stops (ap handshakes_done p) (MovesIllegally S)
         ((λ O. refl), (λ c e. cc), refl)
-    a_move text (reads.Move move) is e room = at (r.verdict (m.played ++ move ∷ [])) refl
+    a_move text (reads.Move move) is e room = at (verdict r.start (m.played ++ move ∷ [])) refl
       where
-        at : (v : Option Verdict) → r.verdict (m.played ++ move ∷ []) ≡ v
+        at : (v : Option Verdict) → verdict r.start (m.played ++ move ∷ []) ≡ v
             → Q (option_map_or (λ v. ends r (Decided v) (moved S move (moment - opened) m)) v
             (playing S move (moment - opened) m))
         at None h = l.plays text move opened is p e room timely h
@@ -190,7 +193,7 @@ module _ (r : Rules) (S : Colour) (kind : LineKind) (moment : ℕ) (m : Match) (
     before : (k : LineKind) → kind ≡ k → Q (before_move r S (moment - opened) k m)
     before (Moves text) e = by_test Q (nat_le r.limit (length m.played))
         (λ h. l.stops (ap handshakes_done p) GameTooLong ((λ O. refl), (λ c e. cc), refl))
-        (λ h. a_move text (r.reading m.played text) e refl (leb-false r.limit (length m.played) h))
+        (λ h. a_move text (reading (position_after r.start \1) text) e refl (leb-false r.limit (length m.played) h))
     before (Features t) e = turn (ap in_turn p) (said_none (Features t) e refl) (Features t)
     before Resigns e = turn (ap in_turn p) (said_none Resigns e refl) Resigns
     before OffersDraw e = turn (ap in_turn p) (said_none OffersDraw e refl) OffersDraw
@@ -201,7 +204,7 @@ module _ (r : Rules) (S : Colour) (kind : LineKind) (moment : ℕ) (m : Match) (
     before SaysElse e = turn (ap in_turn p) (said_none SaysElse e refl) SaysElse
 
   flagged : handshakes_done m.phase ≡ true → Q (flag_row r S m)
-  flagged done = at (r.has_bare_king m.played (other S))
+  flagged done = at (has_bare_king (other S) (position_after r.start m.played).men)
     where
       at : (bare : Bool) → Q (ends r (if bare then ForfeitsToBareKing else Forfeits S) m)
       at true = l.stops done ForfeitsToBareKing ((λ O. refl), (λ c e. cc), refl)
@@ -223,10 +226,10 @@ module _ (r : Rules) (S : Colour) (kind : LineKind) (moment : ℕ) (m : Match) (
   -- in its setup
   set_up : (c : Colour) → S ≡ c → m.phase ≡ Setup S → is_pong 1 kind ≡ true → Q (setup_done r c m)
   set_up White e p pong = l.setup_next p e pong
-  set_up Black e p pong = at (r.verdict m.played) refl
+  set_up Black e p pong = at (verdict r.start m.played) refl
     where
-      at : (v : Option Verdict) → r.verdict m.played ≡ v
-          → Q (option_map_or (λ v. ends r (Decided v) m) v (begins_turn r r.first m))
+      at : (v : Option Verdict) → verdict r.start m.played ≡ v
+          → Q (option_map_or (λ v. ends r (Decided v) m) v (begins_turn r r.start.side m))
       at (Some v) h = l.setup_decides p v h
       at None h = l.setup_last p e pong h
 

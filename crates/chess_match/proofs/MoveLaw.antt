@@ -15,7 +15,7 @@ use Rattle.chess_match.specs.ties.Parts.{enter}
 use Rattle.chess_match.specs.Events.{Line, Opened}
 use Rattle.chess_match.specs.Lines.{SentLine}
 use Rattle.chess_match.specs.Reasons.{is_write_fault_of}
-use Rattle.chess_match.specs.Rules.{Rules}
+use Rattle.chess_match.specs.Rules.{Rules, text_of_last}
 use Rattle.chess_match.specs.declared.reason.Reason.{Reason}
 use Rattle.chess_match.specs.laws.Laws.{move_sent, moves_sent, texts_from, broken_blocks, is_broken, lines_sent, line_kind}
 use Rattle.chess_match.specs.laws.OfActs.{AllMovesAreSent, AtEachLine, AtEachMoment, AtEachOpening, InEachMatch, IsSentAllMoves, MovesAreSent, MovesSentAreKnown, lines_given, match_after, others_moves}
@@ -28,27 +28,27 @@ use Rattle.chess_match.proofs.Points.{by_points, whole, mover, moved_items, offe
 
 texts-snoc : (r : Rules) (as_san : Bool) (S c : Colour) (before ms : List Move) (m : Move)
     → texts_from r as_san S c before (ms ++ m ∷ [])
-    ≡ texts_from r as_san S c before ms ++ (if same_colour (mover c ms) S then r.move_text as_san
+    ≡ texts_from r as_san S c before ms ++ (if same_colour (mover c ms) S then text_of_last as_san r.start
     (before ++ (ms ++ m ∷ [])) ∷ [] else [])
 texts-snoc r as_san S c before [] m = append-nil
-    (if same_colour c S then r.move_text as_san (before ++ m ∷ []) ∷ [] else [])
+    (if same_colour c S then text_of_last as_san r.start (before ++ m ∷ []) ∷ [] else [])
 texts-snoc r as_san S c before (x ∷ ms) m =
     rw (texts-snoc r as_san S (other c) (before ++ x ∷ []) ms m, append_assoc before (x ∷ []) (ms ++ m ∷ []))
-    (sym (append_assoc (if same_colour c S then r.move_text as_san (before ++ x ∷ []) ∷ [] else [])
+    (sym (append_assoc (if same_colour c S then text_of_last as_san r.start (before ++ x ∷ []) ∷ [] else [])
     (texts_from r as_san S (other c) (before ++ x ∷ []) ms)
-    (if same_colour (mover (other c) ms) S then r.move_text as_san (before ++ (x ∷ (ms ++ m ∷ []))) ∷ [] else [])))
+    (if same_colour (mover (other c) ms) S then text_of_last as_san r.start (before ++ (x ∷ (ms ++ m ∷ []))) ∷ [] else [])))
 
 texts-length : (r : Rules) (as_san : Bool) (C c : Colour) (before ms : List Move)
     → length (texts_from r as_san C c before ms) ≡ turns_of C c ms
 texts-length r as_san C c before [] = refl
 texts-length r as_san C c before (m ∷ ms) =
-    length-append (if same_colour c C then r.move_text as_san (before ++ m ∷ []) ∷ [] else [])
+    length-append (if same_colour c C then text_of_last as_san r.start (before ++ m ∷ []) ∷ [] else [])
     (texts_from r as_san C (other c) (before ++ m ∷ []) ms)
-    ∙ ap (λ (n : ℕ). length (if same_colour c C then r.move_text as_san (before ++ m ∷ []) ∷ [] else []) + n)
+    ∙ ap (λ (n : ℕ). length (if same_colour c C then text_of_last as_san r.start (before ++ m ∷ []) ∷ [] else []) + n)
     (texts-length r as_san C (other c) (before ++ m ∷ []) ms)
     ∙ ap (λ (n : ℕ). n + turns_of C (other c) ms) (at (same_colour c C))
   where
-    at : (b : Bool) → length (if b then r.move_text as_san (before ++ m ∷ []) ∷ [] else []) ≡ (if b then 1 else 0)
+    at : (b : Bool) → length (if b then text_of_last as_san r.start (before ++ m ∷ []) ∷ [] else []) ≡ (if b then 1 else 0)
     at true = refl
     at false = refl
 
@@ -56,7 +56,7 @@ texts-length r as_san C c before (m ∷ ms) =
 
 -- the text of the last move, as a list of one
 abbrev last_text : Rules → Colour → Match → List (List ℕ)
-last_text r O m = r.move_text (takes (codes "san") (m.seat O).items) m.played ∷ []
+last_text r O m = text_of_last (takes (codes "san") (m.seat O).items) r.start m.played ∷ []
 
 -- in this phase `rest` is what O is still to be sent
 abbrev OwedIn : Colour → List (List ℕ) → Phase → List (List ℕ) → Type 0
@@ -130,18 +130,18 @@ gives r O = record {
     ap (λ is. others_moves r O is m.played) (offered_items S O m),
     rw (offered_items S O m) h,
   );
-  begins = λ m S rest p l q h. begins r O r.first m rest l (owed_in r O m (Setup S) rest p h
-      ∙ rw (turn_in r m (Setup S) p q) (none (same_colour r.first O)));
+  begins = λ m S rest p l q h. begins r O r.start.side m rest l (owed_in r O m (Setup S) rest p h
+      ∙ rw (turn_in r m (Setup S) p q) (none (same_colour r.start.side O)));
   passes = λ m S rest p l q h. begins r O (other S) m rest l (owed_in r O m (AfterMove S) rest p h
       ∙ rw (lt-ltb 0 (length m.played) (turn_in r m (AfterMove S) p q).1) refl);
   plays = λ m S move opened used rest p l q h.
       let as_san : Bool = takes (codes "san") (m.seat O).items in
-      let text : List (List ℕ) = r.move_text as_san (m.played ++ move ∷ []) ∷ [] in
+      let text : List (List ℕ) = text_of_last as_san r.start (m.played ++ move ∷ []) ∷ [] in
       grows (all_texts r O) (Owed r O) m (moved S move used m) rest (if same_colour (other S) O then text else []) []
       (if same_colour (other S) O then text else [])
       (owed_in r O m (BeforeMove S opened) rest p h) (short (same_colour (other S) O) _)
       (ap (λ is. others_moves r O is (m.played ++ move ∷ [])) (moved_items S O move used m)
-      ∙ texts-snoc r as_san (other O) r.first [] m.played move
+      ∙ texts-snoc r as_san (other O) r.start.side [] m.played move
       ∙ ap (λ (b : Bool). all_texts r O m ++ (if b then text else []))
       (ap (λ c. same_colour c (other O)) (turn_in r m (BeforeMove S opened) p q) ∙ turned S O))
       refl (rw (moved_items S O move used m) refl);
@@ -324,9 +324,9 @@ all_sent_at_openings r H after S moment final g =
 
 -- there is a used time for each move
 used_are_turns : (r : Rules) (C : Colour) (H K : List Act) (final : Match) → IsMatch r (H ++ K) final
-    → (let m = match_after r beginning.after H in length (m.seat C).used ≡ turns_of C r.first m.played)
+    → (let m = match_after r beginning.after H in length (m.seat C).used ≡ turns_of C r.start.side m.played)
 used_are_turns r C H K final g = by_points r
-    (λ m due H n. length (n.seat C).used ≡ turns_of C r.first n.played) (record {
+    (λ m due H n. length (n.seat C).used ≡ turns_of C r.start.side n.played) (record {
       sends = λ m n b due H p. p;
       fails = λ m n b due H on q only same p. p;
       fails_late = λ m n b due H o only same p. p;
@@ -340,5 +340,5 @@ pub moves_sent_are_known : AtEachLine MovesSentAreKnown
 moves_sent_are_known r H after S text moment final g =
     let m = match_after r beginning.after H in
     ap (λ (l : ℕ). nat_lt 0 l) (used_are_turns r (other S) H (Happens (Line S text moment) ∷ after) final g
-    ∙ sym (texts-length r (takes (codes "san") (m.seat S).items) (other S) r.first [] m.played)
+    ∙ sym (texts-length r (takes (codes "san") (m.seat S).items) (other S) r.start.side [] m.played)
     ∙ ap (λ (l : List (List ℕ)). length l) (sym (all_sent_at_lines r H after S text moment final g)))

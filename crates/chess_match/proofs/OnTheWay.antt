@@ -68,7 +68,6 @@ steps_left (Over reason) n = 0
 -- ---- the start
 
 pub rules_level : (begin : Setup) (level : LevelSeen) (limit : ℕ) → (rules_of begin level limit).level ≡ level
-unfolding rules_of
 rules_level begin level limit = refl
 
 pub plays_anew : (g h : game.Seen) (begin : Setup) (level : LevelSeen) → h ≡ game.with_state g (from_start begin)
@@ -224,9 +223,8 @@ game_kept : (g h h' : game.Seen) (start : Setup) (level : LevelSeen) (m : Match)
     → h' ≡ game.with_state g (record {
       start = start;
       moves = m.played;
-      declared = declared_at ((rules_of start level g.limit).verdict m.played) reason;
+      declared = declared_at (verdict start m.played) reason;
     })
-unfolding rules_of
 game_kept g h h' start level m reason s l k e =
     e
     ∙ ap (λ (n : ℕ). ended n h.state.start h.state.moves reason) l

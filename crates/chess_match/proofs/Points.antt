@@ -51,11 +51,11 @@ TurnIn first (Over reason) played = Unit {0}
 
 -- and each side has a time for each of its moves
 abbrev pub Kept : Rules → Match → Type 0
-Kept r m = TurnIn r.first m.phase m.played
-    × ((C : Colour) → length (m.seat C).used ≡ turns_of C r.first m.played)
+Kept r m = TurnIn r.start.side m.phase m.played
+    × ((C : Colour) → length (m.seat C).used ≡ turns_of C r.start.side m.played)
 
-pub turn_in : (r : Rules) (m : Match) (p : Phase) → m.phase ≡ p → Kept r m → TurnIn r.first p m.played
-turn_in r m p e k = subst (λ (q : Phase). TurnIn r.first q m.played) e k.0
+pub turn_in : (r : Rules) (m : Match) (p : Phase) → m.phase ≡ p → Kept r m → TurnIn r.start.side p m.played
+turn_in r m p e k = subst (λ (q : Phase). TurnIn r.start.side q m.played) e k.0
 
 pub said_used : (S C : Colour) (kind : LineKind) (m : Match) → ((said_by S kind m).seat C).used ≡ (m.seat C).used
 said_used S C kind m = grind arith
@@ -97,23 +97,23 @@ kept_line r S kind moment m aw k = line_cases r S kind moment m (λ e. Kept r e.
   handshake_last = λ p s d. (turn_in r m (Handshake S) p k, said);
   setup_counts = λ p pong few. k;
   setup_next = λ p s pong. (turn_in r m (Setup S) p k, k.1);
-  setup_last = λ p s pong v. (ap (λ (ms : List Move). mover r.first ms) (turn_in r m (Setup S) p k), k.1);
+  setup_last = λ p s pong v. (ap (λ (ms : List Move). mover r.start.side ms) (turn_in r m (Setup S) p k), k.1);
   setup_decides = λ p v e. (tt, k.1);
   stops = λ g reason w. (tt, k.1);
   counts = λ on none few. k;
   offers = λ on none own. (k.0, λ C. ap length (offered_used S C m) ∙ k.1 C);
   plays = λ text move opened is p read room timely verdict. let e = turn_in r m (BeforeMove S opened) p k in (
-    (mover-snoc r.first m.played move ∙ ap other e, some_move m.played move),
-    λ C. moved_turns S C r.first move (moment - opened) m e (k.1 C),
+    (mover-snoc r.start.side m.played move ∙ ap other e, some_move m.played move),
+    λ C. moved_turns S C r.start.side move (moment - opened) m e (k.1 C),
   );
   decides = λ text move opened v is p read room timely verdict. (
     tt,
-    λ C. moved_turns S C r.first move (moment - opened) m (turn_in r m (BeforeMove S opened) p k) (k.1 C),
+    λ C. moved_turns S C r.start.side move (moment - opened) m (turn_in r m (BeforeMove S opened) p k) (k.1 C),
   );
   passes = λ p none. ((turn_in r m (AfterMove S) p k).0, k.1);
 })
   where
-    said : (C : Colour) → length ((said_by S kind m).seat C).used ≡ turns_of C r.first m.played
+    said : (C : Colour) → length ((said_by S kind m).seat C).used ≡ turns_of C r.start.side m.played
     said C = ap length (said_used S C kind m) ∙ k.1 C
 
 -- ---- at each moment

@@ -20,6 +20,8 @@ use Rattle.chess_match.specs.laws.Laws.{AreRead, is_pong, lines_after_handshake,
 use Rattle.chess_match.specs.laws.OfActs.{AtEachMoment, MovesAreRead, only_sends}
 use Rattle.chess_match.proofs.LineCases.{in_turn, line_cases, offering, said_by}
 use Rattle.chess_match.proofs.Points.{Kept, by_points, mover, mover-snoc, turn_in}
+use Rattle.chess_game.specs.Line.{position_after}
+use Rattle.chess_text.specs.Moves.{reading}
 
 -- the `move` lines to come of an engine, in this phase
 abbrev ahead : Phase → Colour → List (Option (List ℕ)) → List (List ℕ)
@@ -43,7 +45,7 @@ Streamed = Colour → List (Option (List ℕ))
 -- from here on the moves of a match are read off these lines
 abbrev ReadsOff : Rules → Match → Match → Streamed → Type 0
 ReadsOff r m final lines =
-    (c : Colour) → mover r.first m.played ≡ c → (more : List Move) × (final.played ≡ m.played ++ more)
+    (c : Colour) → mover r.start.side m.played ≡ c → (more : List Move) × (final.played ≡ m.played ++ more)
     × AreRead r m.played more (ahead m.phase c (lines c)) (ahead m.phase (other c) (lines (other c)))
 
 -- S's line, and what follows it
@@ -55,7 +57,7 @@ reads_on : (r : Rules) (m m' final : Match) (lines lines' : Streamed) → m'.pla
     → ((S : Colour) → ahead m.phase S (lines S) ≡ ahead m'.phase S (lines' S)) → ReadsOff r m' final lines'
     → ReadsOff r m final lines
 reads_on r m m' final lines lines' p same next c e =
-    let n = next c (ap (λ (ms : List Move). mover r.first ms) p ∙ e) in (
+    let n = next c (ap (λ (ms : List Move). mover r.start.side ms) p ∙ e) in (
       n.0,
       n.1 ∙ ap (λ (ms : List Move). ms ++ n.0) p,
       subst (λ (ms : List Move). AreRead r ms n.0 (ahead m.phase c (lines c))
@@ -74,11 +76,11 @@ others_line Black t lines = refl
 -- the side on move plays
 reads_move : (r : Rules) (m m' final : Match) (d : Colour) (opened : ℕ) (t : Option (List ℕ)) (text : List ℕ)
     (move : Move) (lines : Streamed) → m.phase ≡ BeforeMove d opened → m'.phase ≡ AfterMove d
-    → mover r.first m.played ≡ d → m'.played ≡ m.played ++ move ∷ [] → line_kind t ≡ Moves text
-    → r.reading m.played text ≡ reads.Move move → ReadsOff r m' final lines → ReadsOff r m final (with_line d t lines)
+    → mover r.start.side m.played ≡ d → m'.played ≡ m.played ++ move ∷ [] → line_kind t ≡ Moves text
+    → reading (position_after r.start \1) text ≡ reads.Move move → ReadsOff r m' final lines → ReadsOff r m final (with_line d t lines)
 reads_move r m m' final d opened t text move lines p p' turn played kind reading next c e =
-    let (more, same, read) = next (other d) (ap (λ (ms : List Move). mover r.first ms) played
-    ∙ mover-snoc r.first m.played move ∙ ap other turn) in
+    let (more, same, read) = next (other d) (ap (λ (ms : List Move). mover r.start.side ms) played
+    ∙ mover-snoc r.start.side m.played move ∙ ap other turn) in
     rw (sym e ∙ turn, p, own_line d t lines, others_line d t lines, kind) (
       move ∷ more,
       same ∙ ap (λ (ms : List Move). ms ++ more) played ∙ append_assoc m.played (move ∷ []) more,
@@ -121,8 +123,8 @@ reads_last r m final d t lines p none c e =
     ([], p ∙ sym (append-nil m.played), rw (none c, none (other c)) (few_left m.phase d c t))
 
 reads_decided : (r : Rules) (m final : Match) (d : Colour) (opened : ℕ) (t : Option (List ℕ)) (text : List ℕ)
-    (move : Move) (lines : Streamed) → m.phase ≡ BeforeMove d opened → mover r.first m.played ≡ d
-    → final.played ≡ m.played ++ move ∷ [] → line_kind t ≡ Moves text → r.reading m.played text ≡ reads.Move move
+    (move : Move) (lines : Streamed) → m.phase ≡ BeforeMove d opened → mover r.start.side m.played ≡ d
+    → final.played ≡ m.played ++ move ∷ [] → line_kind t ≡ Moves text → reading (position_after r.start \1) text ≡ reads.Move move
     → ((S : Colour) → lines S ≡ []) → ReadsOff r m final (with_line d t lines)
 reads_decided r m final d opened t text move lines p turn played kind reading none c e =
     rw (sym e ∙ turn, p, own_line d t lines, others_line d t lines, none d, none (other d), kind)
@@ -192,8 +194,8 @@ line_steps r d t n m aw k = line_cases r d (line_kind t) n m (λ e. Steps r d t 
       lines refl (λ S. rw p (setup_same d t lines S h));
   setup_next = λ p s h final lines o. reads_on r m (enter (Setup Black) m) final (with_line d t lines) lines refl
       (λ S. rw p (setup_next d t lines S s h));
-  setup_last = λ p s h v final lines o. reads_on r m (enter (Opening r.first) m) final (with_line d t lines) lines refl
-      (λ S. rw p (setup_last d r.first t lines S s h));
+  setup_last = λ p s h v final lines o. reads_on r m (enter (Opening r.start.side) m) final (with_line d t lines) lines refl
+      (λ S. rw p (setup_last d r.start.side t lines S s h));
   setup_decides = λ p v e final lines o next. stopped final lines (record m { phase = Over (Decided v) }) refl o;
   stops = λ g reason w final lines o next. stopped final lines (record m { phase = Over reason }) refl o;
   counts = λ on none few final lines o. reads_on r m (record m { count = m.count + 1 }) final (with_line d t lines)
@@ -238,9 +240,9 @@ moves_are_read r H K final g =
           (λ X. rw o refl) p;
       output_ends = λ m n S H aw q only same p. stopped m n H (ends r (Faulted S Ended) m).after refl same only;
       read_fails = λ m n S H aw q only same p. stopped m n H (ends r (Faulted S Read) m).after refl same only;
-    }) H K final (λ m due q g. reads_none r m m no_lines refl (λ S. refl)) g r.first refl in
-    subst (λ (ms : List Move). AreRead r [] ms (ahead (Handshake White) r.first (lines_read r.first H))
-    (ahead (Handshake White) (other r.first) (lines_read (other r.first) H))) (sym same) read
+    }) H K final (λ m due q g. reads_none r m m no_lines refl (λ S. refl)) g r.start.side refl in
+    subst (λ (ms : List Move). AreRead r [] ms (ahead (Handshake White) r.start.side (lines_read r.start.side H))
+    (ahead (Handshake White) (other r.start.side) (lines_read (other r.start.side) H))) (sym same) read
   where
     stopped : (m n : Match) (H : List Act) (m' : Match) → m'.played ≡ m.played → n ≡ m' → only_sends H ≡ true
         → ReadsOff r m n (lines_in H)

@@ -109,7 +109,7 @@ lines_say r d t n m aw = line_cases r d (line_kind t) n m (λ e. Says d t m e.af
   setup_counts = λ p h few. done_says d t m (record m { count = m.count + 1 }) (ap handshakes_done p)
       (ap handshakes_done p) (λ S. refl);
   setup_next = λ p s h. done_says d t m (enter (Setup Black) m) (ap handshakes_done p) refl (λ S. refl);
-  setup_last = λ p s h v. done_says d t m (enter (Opening r.first) m) (ap handshakes_done p) refl (λ S. refl);
+  setup_last = λ p s h v. done_says d t m (enter (Opening r.start.side) m) (ap handshakes_done p) refl (λ S. refl);
   setup_decides = λ p v e. done_says d t m (record m { phase = Over (Decided v) }) (ap handshakes_done p) refl
       (λ S. refl);
   stops = λ g reason w. done_says d t m (record m { phase = Over reason }) g refl (λ S. refl);

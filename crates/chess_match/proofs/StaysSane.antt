@@ -18,6 +18,7 @@ use Rattle.chess_match.specs.ties.Sane.{IsSane, IsWritten, in_turn}
 use Rattle.chess_match.proofs.CoreSteps.{on_awaiting}
 use Rattle.chess_match.proofs.LineCases.{line_cases, offering, said_by}
 use Rattle.chess_match.proofs.Points.{offered_used, said_used}
+use Rattle.chess_game.specs.Ends.{verdict}
 
 pub sane_start : (r : Rules) → IsSane r beginning.after
 sane_start r = record { undecided = λ h. absurd cc; few = λ S. omega arith; count = omega arith }
@@ -43,7 +44,7 @@ on_fine r m on s = (s, λ why e S. let no : true ≡ false = sym (ap is_over e) 
 
 -- in a phase that is no turn
 entered_fine : (r : Rules) (m : Match) (p : Phase) → is_over p ≡ false
-    → (in_turn p ≡ true → r.verdict m.played ≡ None) → IsSane r m → Fine r (record m { phase = p; count = 0 })
+    → (in_turn p ≡ true → verdict r.start m.played ≡ None) → IsSane r m → Fine r (record m { phase = p; count = 0 })
 entered_fine r m p on none s =
     on_fine r _ on (record { undecided = none; few = s.few; count = omega arith })
 
@@ -67,7 +68,7 @@ line_fine r S kind moment m aw s = line_cases r S kind moment m (λ e. Fine r e.
   handshake_last = λ p t d. entered_fine r n (Setup White) refl (λ h. absurd cc) said;
   setup_counts = λ p pong few. counted few;
   setup_next = λ p t pong. entered_fine r m (Setup Black) refl (λ h. absurd cc) s;
-  setup_last = λ p t pong v. entered_fine r m (Opening r.first) refl (λ h. v) s;
+  setup_last = λ p t pong v. entered_fine r m (Opening r.start.side) refl (λ h. v) s;
   setup_decides = λ p v e. over_fine r m (Decided v) s (λ X. refl);
   stops = λ g reason w. over_fine r m reason s w.0;
   counts = λ t none few. counted few;

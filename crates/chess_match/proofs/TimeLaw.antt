@@ -84,7 +84,7 @@ pending false (AfterMove c) S t = if same_colour c S then [] else t
 pending own p S t = []
 
 abbrev is_whole : Bool → Rules → Colour → Bool
-is_whole own r S = own || same_colour S r.first
+is_whole own r S = own || same_colour S r.start.side
 
 -- before the game nothing is to be sent
 abbrev AllIn : Bool → Rules → Colour → Phase → Bool → List ℕ → List ℕ
@@ -225,15 +225,15 @@ gives own r O = record {
       let tk : Bool = takes_time m O in
       let last : List ℕ = last_shown r tk us in
       let all : List ℕ = all_shown (is_whole own r O) r tk us in
-      rw (opened_times own r O r.first m)
-      (grows (AllOf own r O) (RestIs own r O) m (begins_turn r r.first m).after rest all
-      (if same_colour r.first O then last else []) (pending own (Opening r.first) O last) e.0
+      rw (opened_times own r O r.start.side m)
+      (grows (AllOf own r O) (RestIs own r O) m (begins_turn r r.start.side m).after rest all
+      (if same_colour r.start.side O then last else []) (pending own (Opening r.start.side) O last) e.0
       (subst (λ us. length (all_shown (is_whole own r O) r tk us) ≤ 1) (sym e.1)
       (all_short (is_whole own r O) r tk))
       (ap (λ (q : Phase). AllIn own r O q tk us ++ all) (sym p))
       (subst (λ us. all_shown (is_whole own r O) r tk us
-      ≡ (if same_colour r.first O then last_shown r tk us else [])
-      ++ pending own (Opening r.first) O (last_shown r tk us)) (sym e.1) (opens_times own r O r.first tk))
+      ≡ (if same_colour r.start.side O then last_shown r tk us else [])
+      ++ pending own (Opening r.start.side) O (last_shown r tk us)) (sym e.1) (opens_times own r O r.start.side tk))
       refl);
   passes = λ m S rest p l q h.
       let e = rest_in own r O m (AfterMove S) rest p h in
@@ -363,7 +363,7 @@ times_are_clocks r H K final g S = shown_at true r S H K final g
 pub other_times_are_clocks : AtEachMoment OtherTimesAreClocks
 other_times_are_clocks r H K final g S =
     let m = match_after r beginning.after H in
-    let h = shown_at false r S H K final g in (h.0, h.1, h.2 ∙ at (same_colour S r.first) m)
+    let h = shown_at false r S H K final g in (h.0, h.1, h.2 ∙ at (same_colour S r.start.side) m)
   where
     at : (b : Bool) (m : Match) → all_shown b r (takes_time m S) (m.seat (other S)).used
         ≡ (if takes_time m S then (if b then centiseconds r.level 0 0 (m.seat (other S)).used

@@ -114,7 +114,7 @@ lines_grow r S c kind n m aw = line_cases r c kind n m (λ e. Grows S kind n m e
   setup_counts = λ p pong few. apart_grow S kind n m (record m { count = m.count + 1 }) (ap (awaited S) p)
       (ap (awaited S) p) refl;
   setup_next = λ p s pong. apart_grow S kind n m (enter (Setup Black) m) (ap (awaited S) p) refl refl;
-  setup_last = λ p s pong v. apart_grow S kind n m (enter (Opening r.first) m) (ap (awaited S) p) refl refl;
+  setup_last = λ p s pong v. apart_grow S kind n m (enter (Opening r.start.side) m) (ap (awaited S) p) refl refl;
   setup_decides = λ p v e. ends_grow S kind n m (record m { phase = Over (Decided v) }) refl refl;
   stops = λ g reason w. ends_grow S kind n m (record m { phase = Over reason }) refl refl;
   counts = λ on none few. stays_grow S kind n m (record m { count = m.count + 1 }) refl refl (not_move kind none);

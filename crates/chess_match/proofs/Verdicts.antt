@@ -16,20 +16,21 @@ use Rattle.chess_match.specs.declared.reason.Reason.TheVariants.{Decided}
 use Rattle.chess_match.specs.laws.OfActs.{DecidedByTheBoard, VerdictsEndMatches}
 use Rattle.chess_match.proofs.LineCases.{is_decided, line_cases}
 use Rattle.chess_match.proofs.MatchCases.{by_cases, on_when_read}
+use Rattle.chess_game.specs.Ends.{verdict}
 
 -- whether a move was played and the board has a verdict
 abbrev has_verdict : Rules → List Move → Bool
-has_verdict r played = nat_lt 0 (length played) && is_some (r.verdict played)
+has_verdict r played = nat_lt 0 (length played) && is_some (verdict r.start played)
 
 -- a match in this phase that ended for a verdict has it; any other has none once a move was played
 abbrev ByBoard : Rules → List Move → Phase → Type 0
-ByBoard r played (Over (Decided v)) = r.verdict played ≡ Some v
+ByBoard r played (Over (Decided v)) = verdict r.start played ≡ Some v
 ByBoard r played _ = has_verdict r played ≡ false
 
 abbrev Judged : Rules → Match → Type 0
 Judged r m = ByBoard r m.played m.phase
 
-undecided : (r : Rules) (played : List Move) → r.verdict played ≡ None → has_verdict r played ≡ false
+undecided : (r : Rules) (played : List Move) → verdict r.start played ≡ None → has_verdict r played ≡ false
 undecided r played e = grind (arith, e)
 
 on_undecided : (r : Rules) (played : List Move) (p : Phase) → is_over p ≡ false → ByBoard r played p
@@ -83,7 +84,7 @@ verdicts_end_matches r v H final g some e = at final.phase (judged_at_end r H fi
     has : has_verdict r final.played ≡ true
     has = rw (lt-ltb 0 (length final.played) some, e) refl
 
-    same : (w : Verdict) → r.verdict final.played ≡ Some w → Over (Decided w) ≡ Over (Decided v)
+    same : (w : Verdict) → verdict r.start final.played ≡ Some w → Over (Decided w) ≡ Over (Decided v)
     same w q = let s : Some w ≡ Some v = sym q ∙ e in cc
 
     -- a match that ended for nothing else has no verdict

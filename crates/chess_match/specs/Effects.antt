@@ -7,13 +7,13 @@ use Rattle.chess_base.specs.declared.man.Colour.{Colour}
 use Rattle.chess_base.specs.declared.man.Colour.TheVariants.{White, Black}
 use Rattle.chess_base.specs.declared.man.Move.{Move}
 use Rattle.chess_base.specs.Men.{other, same_colour}
-use Rattle.chess_game.specs.Ends.{result_text}
+use Rattle.chess_game.specs.Ends.{result_text, verdict, claims, draw_claim}
 use Rattle.cecp_engine.specs.EngineLines.{LineKind, Features, Moves, Resigns, OffersDraw, ClaimsDraw, ClaimsWin, Rejects, Answers, SaysElse, kind_of}
 use Rattle.cecp_engine.specs.Items.{Item, items_of, ends_handshake, takes, plays_fischerandom, is_known}
 use Rattle.cecp_engine.specs.Levels.{allotted}
 use Rattle.chess_match.specs.Events.{Event, Line, Opened, OutputEnds, FailsToRead, FailsToWrite, Seat}
 use Rattle.chess_match.specs.Reasons.{result_of}
-use Rattle.chess_match.specs.Rules.{Rules}
+use Rattle.chess_match.specs.Rules.{Rules, text_of_last, start_fen, has_bare_king}
 use Rattle.chess_text.specs.San.{is_fischerandom}
 use Rattle.chess_text.specs.declared.reading.Reading.{Reading}
 use Rattle.chess_text.specs.declared.reading.Reading.TheVariants as reads
@@ -25,6 +25,8 @@ use Rattle.chess_match.specs.declared.reason.MatchFault.TheVariants.{Ended, Read
 use Rattle.chess_match.specs.declared.reason.Reason.{Reason}
 use Rattle.chess_match.specs.declared.reason.Reason.TheVariants.{Decided, Claimed, Agreed, MovesIllegally, MovesOutOfTurn, ClaimsFalsely, RejectsLegalMove, Forfeits, ForfeitsToBareKing, GameTooLong, Faulted}
 use Rattle.chess_match.specs.declared.reason.Reason.TheVariants as over_by
+use Rattle.chess_game.specs.Line.{position_after}
+use Rattle.chess_text.specs.Moves.{reading}
 
 -- ---- the state of a match
 
@@ -77,8 +79,8 @@ ping_number m S = length (m.seat S).used + 1
 abbrev pub missing : Rules → List Item → Option MatchFault
 missing r items =
     if not (takes (codes "ping") items) then Some NoPing
-    else if is_some r.start_fen && not (takes (codes "setboard") items) then Some NoSetboard
-    else if is_fischerandom r.variant && not (plays_fischerandom items) then Some NoVariant
+    else if is_some (start_fen r.start) && not (takes (codes "setboard") items) then Some NoSetboard
+    else if is_fischerandom r.start.variant && not (plays_fischerandom items) then Some NoVariant
     else None
 
 -- whether in this phase the side `S` was not yet sent the last move: the other side made it, and has yet to send `pong`
@@ -96,7 +98,8 @@ handshake_lines = Says (codes "xboard") ∷ Says (codes "protover 2") ∷ []
 -- on, and in SAN if it has `san` on. So it is `e2e4`, `usermove e2e4`, `e4` or `usermove e4`
 abbrev pub move_line : Rules → Match → Colour → SentLine
 move_line r m S =
-    MoveSent (takes (codes "usermove") (m.seat S).items) (r.move_text (takes (codes "san") (m.seat S).items) m.played)
+    MoveSent (takes (codes "usermove") (m.seat S).items)
+    (text_of_last (takes (codes "san") (m.seat S).items) r.start m.played)
 
 -- the lines that open a turn of the side `S`: in its first turn the last move (if one was made), the clocks and `go`;
 -- in later turns the clocks and the last move. The clocks are `time T`, its own, and `otim U`, the other's, in
@@ -145,7 +148,7 @@ begins_turn r S m = sends_to S (opening r m S) (record m { phase = Opening S; co
 
 -- the end of the match `m`, if the board has a verdict after its moves; otherwise the effect `otherwise`
 abbrev pub unless_decided : Rules → Match → Effect → Effect
-unless_decided r m otherwise = option_map_or (λ verdict. ends r (Decided verdict) m) (r.verdict m.played) otherwise
+unless_decided r m otherwise = option_map_or (λ v. ends r (Decided v) m) (verdict r.start m.played) otherwise
 
 -- ---- a line in a turn
 
@@ -167,7 +170,8 @@ turn_row r S Resigns m = ends r (over_by.Resigns S) m
 -- `offer draw`: see `offer_row`
 turn_row r S OffersDraw m = offer_row r S m
 -- `1/2-1/2`: a draw, if one may be claimed; otherwise an offer of a draw
-turn_row r S ClaimsDraw m = option_map_or (λ claim. ends r (Claimed claim) m) (r.claim m.played) (offer_row r S m)
+turn_row r S ClaimsDraw m =
+    option_map_or (λ claim. ends r (Claimed claim) m) (draw_claim (claims r.start m.played)) (offer_row r S m)
 -- `1-0` or `0-1`: `S` loses, by a false claim if it names itself the winner (a mate ends the match without a claim),
 -- otherwise by resigning
 turn_row r S (ClaimsWin winner) m = ends r (if same_colour winner S then ClaimsFalsely S else over_by.Resigns S) m
@@ -200,14 +204,16 @@ move_row r S used _ m = ends r (MovesIllegally S) m
 abbrev pub before_move : Rules → Colour → ℕ → LineKind → Match → Effect
 -- `move M`: if there are already as many half-moves as the limit allows, the match ends, whatever M is
 before_move r S used (Moves text) m =
-    if nat_le r.limit (length m.played) then ends r GameTooLong m else move_row r S used (r.reading m.played text) m
+    if nat_le r.limit (length m.played) then ends r GameTooLong m else move_row r S used (reading (position_after r.start \1) text) m
 -- any line that is no move: see `turn_row`
 before_move r S used kind m = turn_row r S kind m
 
 -- the flag of the side `S` has fallen: it loses, but if the other side has only its king, the game is drawn. Article
 -- 6.9 of the Laws of Chess 2023 has further draws on time; they are not judged here
 abbrev pub flag_row : Rules → Colour → Match → Effect
-flag_row r S m = ends r (if r.has_bare_king m.played (other S) then ForfeitsToBareKing else Forfeits S) m
+flag_row r S m =
+    let bare = has_bare_king (other S) (position_after r.start m.played).men in
+    ends r (if bare then ForfeitsToBareKing else Forfeits S) m
 
 -- ---- a line before the game
 
@@ -245,7 +251,7 @@ handshake_row r S items m =
 -- board has a verdict at the start: that ends the match
 abbrev pub setup_done : Rules → Colour → Match → Effect
 setup_done r White m = sends_to Black (setup_lines r) (record m { phase = Setup Black; count = 0 })
-setup_done r Black m = unless_decided r m (begins_turn r r.first m)
+setup_done r Black m = unless_decided r m (begins_turn r r.start.side m)
 
 -- ---- one event
 

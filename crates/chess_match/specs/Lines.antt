@@ -4,7 +4,7 @@ use Rattle.std.specs.Option.{option_map_or}
 use Rattle.chess_base.specs.Letters.{new_line}
 use Rattle.chess_base.specs.Options.{list_if}
 use Rattle.cecp_engine.specs.Levels.{level_text}
-use Rattle.chess_match.specs.Rules.{Rules}
+use Rattle.chess_match.specs.Rules.{Rules, start_fen}
 use Rattle.chess_text.specs.San.{is_fischerandom}
 
 -- a line that is sent to an engine
@@ -38,6 +38,7 @@ ping n = Says (codes "ping " ++ decimal n)
 -- is of Chess960, `level` with the time control, as in `level 40 5 0`, `nopost`, `easy`, `force`, `setboard FEN` except
 -- for the initial position of normal chess (which `new` sets up), `ping 1`
 unfoldable pub setup_lines : Rules → List SentLine
-setup_lines r = Says (codes "new") ∷ (list_if (is_fischerandom r.variant) (Says (codes "variant fischerandom") ∷ [])
+setup_lines r =
+    Says (codes "new") ∷ (list_if (is_fischerandom r.start.variant) (Says (codes "variant fischerandom") ∷ [])
     ++ (Says (codes "level " ++ level_text r.level) ∷ Says (codes "nopost") ∷ Says (codes "easy") ∷ Says (codes "force")
-    ∷ (option_map_or (λ fen. Says (codes "setboard " ++ fen) ∷ []) r.start_fen [] ++ ping 1 ∷ [])))
+    ∷ (option_map_or (λ fen. Says (codes "setboard " ++ fen) ∷ []) (start_fen r.start) [] ++ ping 1 ∷ [])))

@@ -20,6 +20,7 @@ use Rattle.chess_match.specs.Table.{Passing, Passes, watched}
 use Rattle.chess_match.specs.declared.reason.Reason.{Reason}
 use Rattle.chess_match.specs.declared.run.MatchEnd.{MatchEnd}
 use Rattle.chess_match.specs.declared.run.Setup.{Setup}
+use Rattle.chess_game.specs.Ends.{verdict}
 
 -- what contracts see, at one time, of the devices of a match and of its game. A contract names two worlds, one before
 -- the match and one after it, and says of each device what passed there in between. The witness, such as the log, is
@@ -92,7 +93,7 @@ PlayedBy H reason setup end w w' =
     × (w'.game ≡ game.with_state w.game (record {
       start = setup.start;
       moves = final.played;
-      declared = declared_at (r.verdict final.played) reason;
+      declared = declared_at (verdict r.start final.played) reason;
     }))
 
 -- a match was played as `setup` says, from the world `w` to `w'`, and reported as `end`: there are acts and a reason by
@@ -118,5 +119,5 @@ PlayedAt setup end old new g g' =
     × (g' ≡ game.with_state g (record {
       start = setup.start;
       moves = final.played;
-      declared = declared_at (r.verdict final.played) reason;
+      declared = declared_at (verdict r.start final.played) reason;
     }))

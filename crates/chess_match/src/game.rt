@@ -12,8 +12,9 @@ ghost use Rattle.chess_base.specs.Initial.{initial_setup};
 ghost use Rattle.chess_game.specs.Game.{current, verdict_now, State};
 ghost use Rattle.chess_game.specs.Ends.{verdict, claims};
 ghost use Rattle.chess_text.specs.Moves.{reading};
-ghost use Rattle.chess_match.specs.Rules.{rules_of};
-ghost use Rattle.chess_match.specs.ties.Chess.{has_bare_king, move_read};
+ghost use Rattle.chess_match.specs.Rules.{start_fen};
+ghost use Rattle.chess_match.specs.ties.Chess.{move_read};
+ghost use Rattle.chess_match.specs.Rules.{has_bare_king};
 
 use crate::block::Block;
 use crate::match_game::MatchGame;
@@ -39,7 +40,7 @@ fn is_king_or_other(colour: Colour, man: Option<Man>) -> bool
 }
 
 // Whether this side has no piece but its king; `men` are the 64 squares.
-#[tactic(auto, unfolding(crate::specs::ties::Chess::has_bare_king))]
+#[tactic(auto, unfolding(crate::specs::Rules::has_bare_king))]
 fn has_bare_king(colour: Colour, men: &[Option<Man>; 64]) -> bool
     ensures { result ≡ has_bare_king colour men.now }
 {
@@ -48,9 +49,9 @@ fn has_bare_king(colour: Colour, men: &[Option<Man>; 64]) -> bool
 
 // The FEN that `setboard` sends to the engines for this start; `None` for the initial position of normal chess, in
 // which `new` starts anyway.
+#[tactic(auto, unfolding(crate::specs::Rules::start_fen))]
 fn start_text(start: &Position) -> Option<FenText>
-    ensures text { option_map (λ t. t.items) result
-        ≡ (if is_initial start.now && not (is_fischerandom start.now.variant) then None else Some (fen start.now)) }
+    ensures text { option_map (λ t. t.items) result ≡ start_fen start.now }
     ensures short { IfSome result (λ t. array_vec_len t ≤ 100) }
 {
     match start.variant() {
@@ -87,56 +88,47 @@ impl<B: Board> MatchGame for Game<B> {
     ghost origin = { λ g. (g.state.start, g.limit) };
 
     // Which side moves first: the one on move in the game's start.
-    #[tactic(auto, unfolding(crate::specs::Rules::rules_of))]
     fn first(&self) -> Colour {
         self.start_side()
     }
 
     // Whether the start is sent to the engines by `setboard`: it is not if it is the initial position of normal chess.
-    #[tactic(auto, unfolding(crate::specs::Rules::rules_of))]
     fn has_start(&self) -> bool {
         start_text(&self.start()).is_some()
     }
 
     // The variant of the start.
-    #[tactic(auto, unfolding(crate::specs::Rules::rules_of))]
     fn variant(&self) -> Variant {
         Game::variant(self)
     }
 
     // Whether the game has as many half-moves as its limit allows, so that no move can be played any more.
-    #[tactic(auto, unfolding(crate::specs::Rules::rules_of))]
     fn is_full(&self) -> bool {
         Game::is_full(self)
     }
 
     // The one legal move that a text denotes in the current position; `None` if it denotes none, or more than one.
-    #[tactic(auto, unfolding(crate::specs::Rules::rules_of))]
     fn reading(&self, text: &[u8]) -> Option<Move> {
         move_read(read_move(self.board(), text))
     }
 
     // The board's verdict on the current position, if there is one.
-    #[tactic(auto, unfolding(crate::specs::Rules::rules_of))]
     fn verdict(&self) -> Option<Verdict> {
         Game::verdict(self)
     }
 
     // The draw that may be claimed now, if there is one.
-    #[tactic(auto, unfolding(crate::specs::Rules::rules_of))]
     fn claim(&self) -> Option<DrawClaim> {
         self.claims().draw_claim()
     }
 
     // Whether this side has no piece but its king in the current position.
-    #[tactic(auto, unfolding(crate::specs::Rules::rules_of, crate::specs::ties::Chess::has_bare_king))]
     fn has_bare_king(&self, side: Colour) -> bool {
         has_bare_king(side, &self.position().setup().men)
     }
 
     // Plays a legal move, and returns its two texts, in SAN and by squares. The SAN is begun before the move is played,
     // and its check mark added after it.
-    #[tactic(auto, unfolding(crate::specs::Rules::rules_of))]
     fn play(&mut self, chosen: Move) -> MoveTexts {
         // The prover wants this law: the move that a text is read as is legal.
         read_moves_are_legal();
@@ -151,7 +143,7 @@ impl<B: Board> MatchGame for Game<B> {
     }
 
     // Appends the line `setboard FEN` to the block, unless the start is the initial position of normal chess.
-    #[tactic(auto, unfolding(crate::specs::Rules::rules_of, crate::specs::Lines::bytes_of))]
+    #[tactic(auto, unfolding(crate::specs::Lines::bytes_of))]
     fn add_start(&self, block: &mut Block) {
         match start_text(&self.start()) {
             None => {}

@@ -3,12 +3,15 @@
 ghost use Rattle.chess_match.specs.declared.block.TheConstants.{BLOCK_LEN};
 ghost use Rattle.std.specs.Prelude.{◌≡◌, ◌<◌, ◌≤◌, ◌+◌, ◌++◌, ◌∷◌, [], List, ℕ, length, nat_le, is_some, Some, None, false};
 ghost use Rattle.arrayvec.specs.ArrayVec.{array_vec_len};
-ghost use Rattle.chess_match.specs.Rules.{Rules};
+ghost use Rattle.chess_match.specs.Rules.{Rules, start_fen, has_bare_king};
 ghost use Rattle.chess_match.specs.Lines.{bytes_of};
 ghost use Rattle.chess_match.specs.ties.Chess.{move_read};
 ghost use Rattle.chess_match.specs.ties.Delivering.{start_lines};
 ghost use Rattle.chess_match.specs.ties.Texts.{AreTexts};
 ghost use Rattle.chess_game.specs.declared.game.TheConstants.{MOST_MOVES};
+ghost use Rattle.chess_game.specs.Ends.{verdict, claims, draw_claim};
+ghost use Rattle.chess_game.specs.Line.{position_after};
+ghost use Rattle.chess_text.specs.Moves.{reading};
 
 use crate::block::Block;
 use crate::texts::MoveTexts;
@@ -33,15 +36,15 @@ pub(crate) trait MatchGame {
 
     /// Which side moves first: the one on move in the game's start.
     fn first(&self) -> Colour
-        ensures { (r : Rules) → plays self.now r → result ≡ r.first };
+        ensures { (r : Rules) → plays self.now r → result ≡ r.start.side };
 
     /// Whether the start is sent by `setboard`: it is not if it is the initial position of normal chess.
     fn has_start(&self) -> bool
-        ensures { (r : Rules) → plays self.now r → result ≡ is_some r.start_fen };
+        ensures { (r : Rules) → plays self.now r → result ≡ is_some (start_fen r.start) };
 
     /// The variant of the game: normal chess or Chess960.
     fn variant(&self) -> Variant
-        ensures { (r : Rules) → plays self.now r → result ≡ r.variant };
+        ensures { (r : Rules) → plays self.now r → result ≡ r.start.variant };
 
     /// Whether the game has as many half-moves as its limit allows, so that no move can be played any more.
     fn is_full(&self) -> bool
@@ -50,25 +53,25 @@ pub(crate) trait MatchGame {
 
     /// The one legal move that a text denotes in the current position; `None` if it denotes none, or more than one.
     fn reading(&self, text: &[u8]) -> Option<Move>
-        ensures { (r : Rules) → plays self.now r → result ≡ move_read (r.reading (played self.now) text.now) };
+        ensures { (r : Rules) → plays self.now r → result ≡ move_read (reading (position_after r.start \1) text.now) };
 
     /// The board's verdict on the current position, if there is one.
     fn verdict(&self) -> Option<Verdict>
-        ensures { (r : Rules) → plays self.now r → result ≡ r.verdict (played self.now) };
+        ensures { (r : Rules) → plays self.now r → result ≡ verdict r.start (played self.now) };
 
     /// The draw that may be claimed now, if there is one.
     fn claim(&self) -> Option<DrawClaim>
-        ensures { (r : Rules) → plays self.now r → result ≡ r.claim (played self.now) };
+        ensures { (r : Rules) → plays self.now r → result ≡ draw_claim (claims r.start (played self.now)) };
 
     /// Whether that side has no piece but its king.
     fn has_bare_king(&self, side: Colour) -> bool
-        ensures { (r : Rules) → plays self.now r → result ≡ r.has_bare_king (played self.now) side };
+        ensures { (r : Rules) → plays self.now r → result ≡ has_bare_king side (position_after r.start (played self.now)).men };
 
     /// Plays a move, which some text denotes, in a game that is not over and has room, and returns its two texts, in
     /// SAN and by squares.
     fn play(&mut self, chosen: Move) -> MoveTexts
-        requires { (r : Rules) × (text : List ℕ) × (plays self.old r) × (r.verdict (played self.old) ≡ None)
-            × (nat_le r.limit (length (played self.old)) ≡ false) × (move_read (r.reading (played self.old) text) ≡ Some chosen) }
+        requires { (r : Rules) × (text : List ℕ) × (plays self.old r) × (verdict r.start (played self.old) ≡ None)
+            × (nat_le r.limit (length (played self.old)) ≡ false) × (move_read (reading (position_after r.start \1) text) ≡ Some chosen) }
         ensures moves { played self.new ≡ played self.old ++ chosen ∷ [] }
         ensures rules { (r : Rules) → plays self.old r → plays self.new r }
         ensures texts { (r : Rules) → plays self.old r → AreTexts r result (played self.new) }
@@ -78,6 +81,6 @@ pub(crate) trait MatchGame {
     fn add_start(&self, block: &mut Block)
         requires { array_vec_len block.old + 110 ≤ BLOCK_LEN }
         ensures text { (r : Rules) → plays self.now r
-            → block.new.items ≡ block.old.items ++ bytes_of (start_lines r.start_fen) }
+            → block.new.items ≡ block.old.items ++ bytes_of (start_lines (start_fen r.start)) }
         ensures len { array_vec_len block.new ≤ array_vec_len block.old + 110 };
 }

@@ -30,6 +30,7 @@ use Rattle.match_runner.specs.laws.Entries.{IsShown, entries_from}
 use Rattle.match_runner.specs.laws.ReadBack.{AreAlike, LogsGiveTheOutput, LogsGiveThePgn}
 use Rattle.match_runner.proofs.GamesWritten.{score_text_is}
 use Rattle.match_runner.proofs.LogsRead.{logs_give_the_game}
+use Rattle.chess_game.specs.Ends.{verdict}
 
 abbrev rules : GamesPlan → Rules
 rules plan = rules_of plan.start plan.level MOST_MOVES
@@ -39,7 +40,7 @@ abbrev left : GamesPlan → Reason → List Move → State
 left plan reason moves = record {
   start = plan.start;
   moves = moves;
-  declared = declared_at ((rules plan).verdict moves) reason;
+  declared = declared_at (verdict plan.start moves) reason;
 }
 
 -- an engine's name, by its items
@@ -74,7 +75,7 @@ is_played plan played (limit, (H, reason, notes, (final, passed, reported, game)
     game = subst (λ (n : ℕ). played.after.game.state ≡ (let s : State = record {
       start = plan.start;
       moves = final.played;
-      declared = declared_at ((rules_of plan.start plan.level n).verdict final.played) reason;
+      declared = declared_at (verdict plan.start final.played) reason;
     } in s)) limit (ap (λ (g : Seen). g.state) game);
   },
 )

@@ -20,7 +20,7 @@ use Rattle.chess_match.specs.ties.Chess.{move_read}
 use Rattle.chess_match.proofs.shared.Moves.{row_by_move}
 use Rattle.chess_match.specs.Acts.{awaits_line, is_over}
 use Rattle.chess_match.specs.Events.{Seat}
-use Rattle.chess_match.specs.Rules.{Rules}
+use Rattle.chess_match.specs.Rules.{Rules, has_bare_king}
 use Rattle.chess_game.specs.declared.verdicts.DrawClaim.{DrawClaim}
 use Rattle.chess_match.specs.declared.reason.MatchFault.{MatchFault}
 use Rattle.chess_match.specs.declared.reason.MatchFault.TheVariants.{Flood, NoDone}
@@ -30,6 +30,9 @@ use Rattle.chess_match.specs.ties.Delivering.{answers_to}
 use Rattle.chess_match.specs.Reasons.{is_write_fault_of}
 use Rattle.chess_match.specs.declared.reason.Reason.TheVariants as over_by
 use Rattle.match_runner.specs.laws.ReadBack.{text_of_result}
+use Rattle.chess_game.specs.Ends.{verdict, claims, draw_claim}
+use Rattle.chess_game.specs.Line.{position_after}
+use Rattle.chess_text.specs.Moves.{reading}
 
 -- ---- how a match ends
 
@@ -154,7 +157,7 @@ module _ (r : Rules) (S : Colour) (m : Match) (on : is_over m.phase ≡ false) w
   in_turn : (kind : LineKind) → Again (turn_row r S kind m) (turn_row r S kind (again m))
   in_turn Resigns = over_again r (over_by.Resigns S) m (refl, λ c. refl)
   in_turn OffersDraw = offered
-  in_turn ClaimsDraw = at (r.claim m.played)
+  in_turn ClaimsDraw = at (draw_claim (claims r.start m.played))
     where
       at : (c : Option DrawClaim)
           → Again (option_map_or (λ claim. ends r (over_by.Claimed claim) m) c (offer_row r S m))
@@ -187,19 +190,19 @@ module _ (r : Rules) (S : Colour) (m : Match) (on : is_over m.phase ≡ false) w
   before : (used : ℕ) (kind : LineKind) → Again (before_move r S used kind m) (before_move r S 0 kind (again m))
   before used (Moves t) = test_again (nat_le r.limit (length m.played)) _ _ _ _
       (over_again r over_by.GameTooLong m (refl, λ c. refl))
-      (subst (λ (e : Effect). Again e (move_row r S 0 (r.reading m.played t) (again m)))
-      (sym (row_by_move r S used (r.reading m.played t) m))
-      (subst (λ (e : Effect). Again (move_row_by r S used (move_read (r.reading m.played t)) m) e)
-      (sym (row_by_move r S 0 (r.reading m.played t) (again m))) (at (move_read (r.reading m.played t)))))
+      (subst (λ (e : Effect). Again e (move_row r S 0 (reading (position_after r.start \1) t) (again m)))
+      (sym (row_by_move r S used (reading (position_after r.start \1) t) m))
+      (subst (λ (e : Effect). Again (move_row_by r S used (move_read (reading (position_after r.start \1) t)) m) e)
+      (sym (row_by_move r S 0 (reading (position_after r.start \1) t) (again m))) (at (move_read (reading (position_after r.start \1) t)))))
     where
       at : (move : Option Move) → Again (move_row_by r S used move m) (move_row_by r S 0 move (again m))
       at None = over_again r (over_by.MovesIllegally S) m (refl, λ c. refl)
       at (Some move) =
           subst (λ (n : Match). Again (move_row_by r S used (Some move) m)
-          (option_map_or (λ verdict. ends r (over_by.Decided verdict) n) (r.verdict (m.played ++ move ∷ []))
+          (option_map_or (λ verdict. ends r (over_by.Decided verdict) n) (verdict r.start (m.played ++ move ∷ []))
           (sends_to S (ping (ping_number n S) ∷ []) n)))
           (moved_again move used)
-          (decided_again (r.verdict (m.played ++ move ∷ [])) (moved S move used m) _ _ (on_again _ _ refl refl))
+          (decided_again (verdict r.start (m.played ++ move ∷ [])) (moved S move used m) _ _ (on_again _ _ refl refl))
   before used kind = in_turn kind
 
   after : (moment : ℕ) (kind : LineKind)
@@ -216,7 +219,7 @@ module _ (r : Rules) (S : Colour) (m : Match) (on : is_over m.phase ≡ false) w
     where
       ready : (side : Colour) → Again (setup_done r side m) (setup_done r side (again m))
       ready White = on_again _ _ refl refl
-      ready Black = decided_again (r.verdict m.played) m _ _ (on_again _ _ refl refl)
+      ready Black = decided_again (verdict r.start m.played) m _ _ (on_again _ _ refl refl)
   setup moment _ = ignored
 
   handshake : (items : List Item) → Again (handshake_row r S items m) (handshake_row r S items (again m))
@@ -291,7 +294,7 @@ none_less : (n : ℕ) → nat_lt n 0 ≡ false
 none_less n = grind (arith, nat_tests)
 
 flagged : (r : Rules) (S : Colour) (m : Match) → Falls m (flag_row r S m)
-flagged r S m = at (r.has_bare_king m.played (other S))
+flagged r S m = at (has_bare_king (other S) (position_after r.start m.played).men)
   where
     at : (b : Bool) → Falls m (ends r (if b then over_by.ForfeitsToBareKing else over_by.Forfeits S) m)
     at true = (over_by.ForfeitsToBareKing, refl, refl, stops_at r over_by.ForfeitsToBareKing m (λ O. refl))

@@ -22,6 +22,7 @@ use Rattle.chess_match.specs.Rules.{Rules, rules_of}
 use Rattle.chess_match.specs.Table.{Step, ReadsLine, ReadsClock, Notes, watched}
 use Rattle.chess_match.specs.declared.reason.Reason.{Reason}
 use Rattle.chess_match.specs.declared.reason.Reason.TheVariants.{Decided, Resigns, MovesIllegally, MovesOutOfTurn, ClaimsFalsely, RejectsLegalMove, Forfeits}
+use Rattle.chess_game.specs.Ends.{verdict}
 
 -- ---- each match, and each moment of one
 
@@ -112,13 +113,13 @@ OnlyOneMatchOfARun = (r : Rules) (H K : List Act) (final final' : Match) (w w' :
 -- in every match that ended for the verdict `v` of the board: `v` is the verdict after the moves played
 abbrev pub DecidedByTheBoard : Type 0
 DecidedByTheBoard = (r : Rules) (v : Verdict) (H : List Act) (final : Match) → IsMatch r H final
-    → final.phase ≡ Over (Decided v) → r.verdict final.played ≡ Some v
+    → final.phase ≡ Over (Decided v) → verdict r.start final.played ≡ Some v
 
 -- in every match in which a move was played: if the board has a verdict `v` after the moves played, the match ended for
 -- it. (Before a move the match may have ended for something else, such as a fault in a handshake.)
 abbrev pub VerdictsEndMatches : Type 0
 VerdictsEndMatches = (r : Rules) (v : Verdict) (H : List Act) (final : Match) → IsMatch r H final
-    → 0 < length final.played → r.verdict final.played ≡ Some v → final.phase ≡ Over (Decided v)
+    → 0 < length final.played → verdict r.start final.played ≡ Some v → final.phase ≡ Over (Decided v)
 
 -- the side whose line ended a match for this reason; `None` for any other reason, also for a flood of lines
 abbrev pub whose_line : Reason → Option Colour
@@ -150,7 +151,7 @@ LastLineIsTheirs = (r : Rules) (reason : Reason) (S : Colour) (H : List Act) (fi
 -- the moves played are what the two engines' `move` lines after their setup denote in turn, beginning with the side
 -- that moves first; at most one `move` line is left over
 abbrev pub MovesAreRead : Rules → List Act → Match → Type 0
-MovesAreRead r H m = AreRead r [] m.played (moves_of (lines_read r.first H)) (moves_of (lines_read (other r.first) H))
+MovesAreRead r H m = AreRead r [] m.played (moves_of (lines_read r.start.side H)) (moves_of (lines_read (other r.start.side) H))
 
 -- the items known of the engine of each side `S` are those of its `feature` lines, up to and with the line that has
 -- `done=1`
@@ -167,7 +168,7 @@ lines_given S (_ ∷ H) = lines_given S H
 -- the texts of the moves `ms` that the side `O` is to be sent, those of the other side, in the notation that its engine
 -- asked for with these items
 abbrev pub others_moves : Rules → Colour → List Item → List Move → List (List ℕ)
-others_moves r O items ms = texts_from r (takes (codes "san") items) (other O) r.first [] ms
+others_moves r O items ms = texts_from r (takes (codes "san") items) (other O) r.start.side [] ms
 
 -- each side `O` is sent the other side's moves, each once and in order (a block that could not be sent counts); `rest`
 -- is what `O` was not sent yet, at most the last of them
@@ -182,7 +183,7 @@ MovesAreSent r H m = (O : Colour) → (rest : List (List ℕ)) × (length rest �
 -- block for `O` was sent
 abbrev pub EachIsSentOthersMoves : Bool → Rules → List Act → Match → Type 0
 EachIsSentOthersMoves whole r H m =
-    (ms : List Move) × AreRead r [] ms (moves_of (lines_read r.first H)) (moves_of (lines_read (other r.first) H))
+    (ms : List Move) × AreRead r [] ms (moves_of (lines_read r.start.side H)) (moves_of (lines_read (other r.start.side) H))
     × ((O : Colour) → (rest : List (List ℕ)) × (length rest ≤ 1)
     × (whole ≡ true → is_broken H O ≡ false → rest ≡ [])
     × (moves_sent (lines_given O H) ++ rest ≡ others_moves r O (items_said (lines_read O H)) ms))
@@ -224,7 +225,7 @@ abbrev pub OtherTimesAreClocks : Rules → List Act → Match → Type 0
 OtherTimesAreClocks r H m = (S : Colour) → (rest : List ℕ) × (length rest ≤ 1)
     × (flat_map otim_sent (lines_given S H) ++ rest
     ≡ (if takes (codes "time") (m.seat S).items
-    then (if same_colour S r.first
+    then (if same_colour S r.start.side
     then centiseconds r.level 0 0 (m.seat (other S)).used
     else drop 1 (centiseconds r.level 0 0 (m.seat (other S)).used))
     else []))

@@ -2,7 +2,7 @@
 use Rattle.std.specs.Prelude.{◌≡◌, ℕ, ◌<◌, Bool, if◌then◌else◌, List, [], length, Option, None, Some}
 use Rattle.chess_base.specs.declared.man.Colour.{Colour}
 use Rattle.chess_base.specs.declared.man.Move.{Move}
-use Rattle.chess_match.specs.Rules.{Rules}
+use Rattle.chess_match.specs.Rules.{Rules, text_of_last}
 use Rattle.chess_match.specs.declared.texts.LastMove.{LastMove}
 use Rattle.chess_match.specs.declared.texts.MoveTexts.{MoveTexts}
 
@@ -12,7 +12,7 @@ text_in t as_san = if as_san then t.san.items else t.squares.items
 
 -- the texts `t`, in SAN and by squares, are those of the last of the moves `played`
 abbrev pub AreTexts : Rules → MoveTexts → List Move → Type 0
-AreTexts r t played = (as_san : Bool) → text_in t as_san ≡ r.move_text as_san played
+AreTexts r t played = (as_san : Bool) → text_in t as_san ≡ text_of_last as_san r.start played
 
 -- the texts of the last of the moves `played` are kept, if there is a move; `None` if there is none
 abbrev pub AreOfLast : Rules → Option LastMove → List Move → Type 0

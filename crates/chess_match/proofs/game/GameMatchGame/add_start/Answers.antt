@@ -3,7 +3,7 @@ use Rattle.std.proofs.Common.{◌≡◌, ℕ, ◌&&◌, not, if◌then◌else◌
 use Rattle.chess_base.specs.declared.setup.Setup.{Setup}
 use Rattle.chess_fen.specs.Writing.{fen, is_initial}
 use Rattle.chess_text.specs.San.{is_fischerandom}
-use Rattle.chess_match.specs.Rules.{Rules, rules_of}
+use Rattle.chess_match.specs.Rules.{Rules, rules_of, start_fen}
 use Rattle.chess_match.specs.Lines.{bytes_of}
 use Rattle.chess_match.proofs.game.GameMatchGame.add_start.Goals as goal
 
@@ -12,11 +12,10 @@ in_parts items front text =
     ap (λ (l : List ℕ). l ++ 10 ∷ []) (append_assoc items front text) ∙ append_assoc items (front ++ text) (10 ∷ [])
 
 pub returns-in-Some-clause-text : goal.returns-in-Some-clause-text
-unfolding rules_of bytes_of
+unfolding bytes_of
 returns-in-Some-clause-text g c r p =
-    let sent : Some c.in-Some.text.items ≡ r.start_fen =
-    c.in-Some.ensures.text ∙ ap (λ (s : Setup). if is_initial s && not (is_fischerandom s.variant) then None else Some (fen s)) c.start.ensures
-    ∙ ap (λ (x : Rules). x.start_fen) (sym p.1) in
+    let sent : Some c.in-Some.text.items ≡ start_fen r.start =
+    c.in-Some.ensures.text ∙ ap start_fen c.start.ensures ∙ ap (λ (x : Rules). start_fen x.start) (sym p.1) in
     rw (
       ← sent,
       c.append-in-Some-2.ensures.text,

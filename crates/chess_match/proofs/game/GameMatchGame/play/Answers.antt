@@ -8,7 +8,7 @@ use Rattle.chess_game.specs.Game as game
 use Rattle.chess_game.specs.Game.{current}
 use Rattle.chess_text.specs.San.{check_mark, san, shown_move}
 use Rattle.chess_match.specs.Rules.{Rules, rules_of}
-use Rattle.chess_match.specs.ties.Chess.{text_of_last}
+use Rattle.chess_match.specs.Rules.{text_of_last}
 use Rattle.chess_match.proofs.LastMoves.{texts_of_last}
 use Rattle.chess_match.proofs.Playing.{legal_read, playable}
 use Rattle.chess_match.proofs.game.GameMatchGame.play.Goals as goal
@@ -23,7 +23,6 @@ unmarked_san-san-requires g c = rw c.board.ensures
     c.requires.5)
 
 pub returns-clause-texts : goal.returns-clause-texts
-unfolding rules_of
 returns-clause-texts g c r p as_san =
     let start : Setup = c.args.self.now.state.start in
     let before : List Move = c.args.self.now.state.moves in
@@ -37,4 +36,4 @@ returns-clause-texts g c r p as_san =
     c.add_check_mark.ensures.text
     (c.move_text-squares.ensures.text ∙ ap (λ (q : Setup). shown_move q c.args.chosen) c.position.ensures.value) as_san
     ∙ ap (λ (ms : List Move). text_of_last as_san start ms) (sym moves)
-    ∙ ap (λ (x : Rules). x.move_text as_san c.play_legal.new.self.state.moves) (sym p.1)
+    ∙ ap (λ (x : Rules). text_of_last as_san x.start c.play_legal.new.self.state.moves) (sym p.1)

@@ -6,12 +6,14 @@ use Rattle.chess_match.specs.Acts.{is_over}
 use Rattle.chess_match.proofs.CoreSteps.{flag_kept}
 use Rattle.chess_match.proofs.OtherLines.{before_other}
 use Rattle.chess_match.proofs.state.MatchState.before_line.Goals as goal
+use Rattle.chess_game.specs.Line.{position_after}
+use Rattle.chess_match.specs.Rules.{has_bare_king}
 
 pub returns-then-has_bare_king-clause-goes : goal.returns-then-has_bare_king-clause-goes
 returns-then-has_bare_king-clause-goes g c r m p at s =
     let flag = flag_kept r _ _ m c.args.side _ _ _ _ s c.saturating_sub-used.ensures c.is_flagged.ensures
     c.if-is_flagged.true in
-    let bare : r.has_bare_king m.played (other c.args.side) ≡ true =
+    let bare : has_bare_king (other c.args.side) (position_after r.start m.played).men ≡ true =
     rw (← s.moves, ← c.other.ensures) (sym (c.if-has_bare_king.ensures r p)) in
     rw (flag, bare) (c.finish.ensures r _ m (ap is_over at) s)
 
@@ -19,7 +21,7 @@ pub returns-else-has_bare_king-clause-goes : goal.returns-else-has_bare_king-cla
 returns-else-has_bare_king-clause-goes g c r m p at s =
     let flag = flag_kept r _ _ m c.args.side _ _ _ _ s c.saturating_sub-used.ensures c.is_flagged.ensures
     c.if-is_flagged.true in
-    let bare : r.has_bare_king m.played (other c.args.side) ≡ false =
+    let bare : has_bare_king (other c.args.side) (position_after r.start m.played).men ≡ false =
     rw (← s.moves, ← c.other.ensures) (sym (c.if-has_bare_king.ensures r p)) in
     rw (flag, bare) (c.finish-else-has_bare_king.ensures r _ m (ap is_over at) s)
 

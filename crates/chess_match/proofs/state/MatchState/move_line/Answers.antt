@@ -7,6 +7,9 @@ use Rattle.chess_match.specs.ties.Chess.{move_read}
 use Rattle.chess_match.proofs.shared.Moves.{row_by_move}
 use Rattle.chess_match.proofs.CoreSteps.{moved_stands, pinged_goes}
 use Rattle.chess_match.proofs.state.MatchState.move_line.Goals as goal
+use Rattle.chess_game.specs.Ends.{verdict}
+use Rattle.chess_game.specs.Line.{position_after}
+use Rattle.chess_text.specs.Moves.{reading}
 
 pub returns-then-is_full-clause-goes : goal.returns-then-is_full-clause-goes
 returns-then-is_full-clause-goes g c r m p on s =
@@ -16,19 +19,19 @@ returns-then-is_full-clause-goes g c r m p on s =
 pub returns-in-None-clause-goes : goal.returns-in-None-clause-goes
 returns-in-None-clause-goes g c r m p on s =
     let full : nat_le r.limit (length m.played) ≡ false = rw (← s.moves) (sym (c.if-is_full.ensures.value r p)) in
-    let says : move_read (r.reading m.played c.args.text.now) ≡ None = rw (← s.moves) (sym (c.in-None.ensures r p)) in
-    rw (full, row_by_move r c.args.side c.args.used (r.reading m.played c.args.text.now) m, says)
+    let says : move_read (reading (position_after r.start \1) c.args.text.now) ≡ None = rw (← s.moves) (sym (c.in-None.ensures r p)) in
+    rw (full, row_by_move r c.args.side c.args.used (reading (position_after r.start \1) c.args.text.now) m, says)
     (c.finish-in-None.ensures r _ m on s)
 
 pub returns-in-Some-verdict-clause-goes : goal.returns-in-Some-verdict-clause-goes
 returns-in-Some-verdict-clause-goes g c r m p on s =
     let full : nat_le r.limit (length m.played) ≡ false = rw (← s.moves) (sym (c.if-is_full.ensures.value r p)) in
-    let says : move_read (r.reading m.played c.args.text.now) ≡ Some c.in-Some.chosen =
+    let says : move_read (reading (position_after r.start \1) c.args.text.now) ≡ Some c.in-Some.chosen =
     rw (← s.moves) (sym (c.in-Some.ensures r p)) in
-    let row = row_by_move r c.args.side c.args.used (r.reading m.played c.args.text.now) m in
+    let row = row_by_move r c.args.side c.args.used (reading (position_after r.start \1) c.args.text.now) m in
     let now : g.G.MatchGame.played c.play-texts.new.self ≡ m.played ++ c.in-Some.chosen ∷ [] =
     rw (← s.moves) c.play-texts.ensures.moves in
-    let decided : r.verdict (m.played ++ c.in-Some.chosen ∷ []) ≡ Some c.in-Some-verdict.verdict =
+    let decided : verdict r.start (m.played ++ c.in-Some.chosen ∷ []) ≡ Some c.in-Some-verdict.verdict =
     rw (← now) (sym (c.in-Some-verdict.ensures r (c.play-texts.ensures.rules r p))) in
     let stands = moved_stands r c.args.self.now (g.G.MatchGame.played c.args.game.now) c.args.side c.in-Some.chosen
     c.args.used m c.play-texts.result s (rw c.play-texts.ensures.moves at (c.play-texts.ensures.texts r p)) in
@@ -39,12 +42,12 @@ returns-in-Some-verdict-clause-goes g c r m p on s =
 pub returns-in-None-verdict-clause-goes : goal.returns-in-None-verdict-clause-goes
 returns-in-None-verdict-clause-goes g c r m p on s =
     let full : nat_le r.limit (length m.played) ≡ false = rw (← s.moves) (sym (c.if-is_full.ensures.value r p)) in
-    let says : move_read (r.reading m.played c.args.text.now) ≡ Some c.in-Some.chosen =
+    let says : move_read (reading (position_after r.start \1) c.args.text.now) ≡ Some c.in-Some.chosen =
     rw (← s.moves) (sym (c.in-Some.ensures r p)) in
-    let row = row_by_move r c.args.side c.args.used (r.reading m.played c.args.text.now) m in
+    let row = row_by_move r c.args.side c.args.used (reading (position_after r.start \1) c.args.text.now) m in
     let now : g.G.MatchGame.played c.play-texts.new.self ≡ m.played ++ c.in-Some.chosen ∷ [] =
     rw (← s.moves) c.play-texts.ensures.moves in
-    let open_still : r.verdict (m.played ++ c.in-Some.chosen ∷ []) ≡ None =
+    let open_still : verdict r.start (m.played ++ c.in-Some.chosen ∷ []) ≡ None =
     rw (← now) (sym (c.in-None-verdict.ensures r (c.play-texts.ensures.rules r p))) in
     let stands = moved_stands r c.args.self.now (g.G.MatchGame.played c.args.game.now) c.args.side c.in-Some.chosen
     c.args.used m c.play-texts.result s (rw c.play-texts.ensures.moves at (c.play-texts.ensures.texts r p)) in

@@ -5,6 +5,7 @@ use Rattle.chess_match.specs.Acts.{is_over}
 use Rattle.chess_match.specs.Effects.{is_owed_move}
 use Rattle.chess_match.proofs.CoreSteps.{first_opens}
 use Rattle.chess_match.proofs.state.MatchState.ready.Goals as goal
+use Rattle.chess_game.specs.Ends.{verdict}
 
 pub returns-in-White : goal.returns-in-White
 returns-in-White g c r m p at s =
@@ -12,10 +13,10 @@ returns-in-White g c r m p at s =
 
 pub returns-in-Some : goal.returns-in-Some
 returns-in-Some g c r m p at s =
-    let says : r.verdict m.played ≡ Some c.in-Some.verdict = rw (← s.moves) (sym (c.in-Some.ensures r p)) in
+    let says : verdict r.start m.played ≡ Some c.in-Some.verdict = rw (← s.moves) (sym (c.in-Some.ensures r p)) in
     rw (c.in-Black.is, says) (c.finish.ensures r _ m (ap is_over at) s)
 
 pub returns-in-None : goal.returns-in-None
 returns-in-None g c r m p at s =
-    let says : r.verdict m.played ≡ None = rw (← s.moves) (sym (c.in-None.ensures r p)) in
+    let says : verdict r.start m.played ≡ None = rw (← s.moves) (sym (c.in-None.ensures r p)) in
     rw (c.in-Black.is, says) (first_opens r _ _ _ m _ _ (c.first.ensures r p) (c.open_turn.ensures r _ m s))

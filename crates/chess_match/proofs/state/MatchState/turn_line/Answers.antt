@@ -6,6 +6,7 @@ use Rattle.chess_base.specs.Men.{other, same_colour}
 use Rattle.chess_match.proofs.CoreSteps.{clocks_moves}
 use Rattle.chess_match.proofs.OtherLines.{ignored_other}
 use Rattle.chess_match.proofs.state.MatchState.turn_line.Goals as goal
+use Rattle.chess_game.specs.Ends.{claims, draw_claim}
 
 pub returns-in-Resign : goal.returns-in-Resign
 returns-in-Resign g c r m p on s = rw c.in-Resign.is (c.finish.ensures r _ m on s)
@@ -15,12 +16,12 @@ returns-in-Offer g c r m p on s = rw c.in-Offer.is (c.offer.ensures r _ m on s)
 
 pub returns-in-Some : goal.returns-in-Some
 returns-in-Some g c r m p on s =
-    let says : r.claim m.played ≡ Some c.in-Some.claim = rw (← s.moves) (sym (c.in-Some.ensures r p)) in
+    let says : draw_claim (claims r.start m.played) ≡ Some c.in-Some.claim = rw (← s.moves) (sym (c.in-Some.ensures r p)) in
     rw (c.in-Draw.is, says) (c.finish-in-Some.ensures r _ m on s)
 
 pub returns-in-None : goal.returns-in-None
 returns-in-None g c r m p on s =
-    let says : r.claim m.played ≡ None = rw (← s.moves) (sym (c.in-None.ensures r p)) in
+    let says : draw_claim (claims r.start m.played) ≡ None = rw (← s.moves) (sym (c.in-None.ensures r p)) in
     rw (c.in-Draw.is, says) (c.offer-in-None.ensures r _ m on s)
 
 pub returns-then-same_colour : goal.returns-then-same_colour
