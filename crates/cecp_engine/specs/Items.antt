@@ -89,8 +89,8 @@ plays_fischerandom items = last_said (λ v. has_word (codes "fischerandom") v.te
 
 -- ---- the answer to an item
 
--- whether the arbiter answers a feature of this name by `accepted`, otherwise by `rejected`: first the features that it
--- uses, then others that it accepts and doesn't use
+-- whether the arbiter answers a feature of this name by `accepted` (otherwise by `rejected`). The first list has the
+-- features that it uses, the second those that it accepts but doesn't use
 unfoldable pub is_known : List ℕ → Bool
 is_known name = has_word name (codes "ping setboard san usermove time draw myname variants done")
     || has_word name (codes "playother sigint sigterm reuse analyze colors debug")

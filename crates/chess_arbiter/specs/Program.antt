@@ -69,7 +69,8 @@ WritesHelp w w' status =
 -- before and after; `status` is the exit status. What is written to the error output is not said here
 abbrev pub ReportsArguments : WordsFault → OutputState → OutputState → ℕ → Type 0
 -- an error of `clap`, the parser of arguments. If they ask for help or for the version, which `clap` counts among the
--- errors, the text asked for is written; otherwise the output stays as it is, and the status is 2
+-- errors, some text is written, or writing it fails (`WritesHelp`, which gives the status); otherwise the output stays
+-- as it is, and the status is 2
 ReportsArguments (faults.Words e) w w' status =
     (((kind_of e ≡ DisplayHelp) ⊎ (kind_of e ≡ DisplayVersion)) × WritesHelp w w' status)
     ⊎ ((kind_of e ≢ DisplayHelp) × (kind_of e ≢ DisplayVersion) × (w' ≡ w) × (status ≡ 2))
@@ -93,7 +94,7 @@ Does (Ok Session) d d' l l' status =
 -- (`Verifies`)
 Does (Ok (Verify plan)) d d' l l' status =
     (result : Result Verified VerifyFault) × (status ≡ verify_status result)
-    × Ran (cond plan.keep_going VerifiesCollection Verifies (options_of plan) result) d d'
+    × Ran ((cond plan.keep_going VerifiesCollection Verifies) (options_of plan) result) d d'
 -- a stub engine, which plays the arguments that it is given, ran on input and output
 Does (Ok (Stub arguments)) d d' l l' status = Serves stub_response (waiting arguments.items) d d' status
 -- nothing of the input was read, and the games of the match were played, written and logged as `PlaysGames` says. The
@@ -103,7 +104,7 @@ Does (Ok (Stub arguments)) d d' l l' status = Serves stub_response (waiting argu
 Does (Ok (Match plan)) d d' l l' status =
     (d'.input ≡ d.input) × ((result : Result (Unit {0}) GamesFault) × (logged : LogSeen)
     × PlaysGames plan result d.output d'.output l logged × (status ≡ status_of result) × (status ≡ 0 → l' ≡ logged))
--- no plan: nothing of the input is read; help or the version is written, otherwise the output stays as it is
+-- no plan: nothing of the input is read; what is written is as `ReportsArguments` says
 Does (Err fault) d d' l l' status = (d'.input ≡ d.input) × ReportsArguments fault d.output d'.output status
 
 -- the program ran with these arguments: there is a right reading of them (`IsReading`), a plan or a fault, for which

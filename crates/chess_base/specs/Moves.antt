@@ -78,8 +78,8 @@ is_pseudo_legal p m = nat_lt m.from 64 && nat_lt m.to 64 && moves_as p m (man_at
 abbrev pub arriving_man : Option Man → Option Kind → Option Man
 arriving_man o k = option_map (λ (x : Man). record x { kind = unwrap_or k x.kind }) o
 
--- the square of the piece that move m captures: m's end square, or by en passant the square one step back from it,
--- ahead for the other colour (e5 if White captures on e6); none if m captures nothing
+-- the square of the piece that move m captures: m's end square, or en passant the square one step back from it, which
+-- is one step ahead for the other colour (e5 if White captures on e6); none if m captures nothing
 unfoldable pub captured_square : Setup → Move → Option ℕ
 captured_square p m =
     if is_en_passant p m then Some (forward (other p.side) m.to)

@@ -9,18 +9,17 @@ use Rattle.chess_cecp.specs.declared.command.Command.{Command}
 use Rattle.chess_cecp.specs.declared.command.Command.TheVariants.{New, SetBoard, UserMove, BareMove, Undo, Remove, Declare, Claim, Ping, Protover, Variant, Go, ShowFen, ShowMoves, ShowState, ShowPgn, Quit, Silent, BadNumber, Unknown}
 use Rattle.text_lines.specs.Words.{word_of, argument_of, command_number}
 
--- the first words of lines that an arbiter accepts without an effect or an answer: that of an empty line, which is
--- empty; and the names of commands to an engine that plays. These are of the protocol and of how the engine plays (from
--- `xboard` to `?`, which is "move now"), of the engine's opponent (from `computer` to `draw`), and of clocks and limits
--- of search (from `level` to `otim`)
+-- the first words of lines that an arbiter accepts without an effect or an answer: the empty one, of an empty line; and
+-- the names of commands that concern only an engine that plays: the handshake and how it plays (`xboard` to `?`, which
+-- is "move now"), its opponent (`computer` to `draw`), and clocks and limits of search (`level` to `otim`)
 abbrev pub ignored_words : List (List ℕ)
 ignored_words =
     [] ∷ codes "xboard" ∷ codes "accepted" ∷ codes "rejected" ∷ codes "force" ∷ codes "random" ∷ codes "hard"
     ∷ codes "easy" ∷ codes "post" ∷ codes "nopost" ∷ codes "?" ∷ codes "computer" ∷ codes "name" ∷ codes "rating"
     ∷ codes "ics" ∷ codes "draw" ∷ codes "level" ∷ codes "st" ∷ codes "sd" ∷ codes "time" ∷ codes "otim" ∷ []
 
--- the commands: each first word of a line, with the command of a line that has this word and `argument` after it. It is
--- `Silent`, which an arbiter ignores, for each ignored word. `usermove` with nothing after it is `Unknown`; `ping` and
+-- the commands: each first word that names one, with the command of a line that has this word and `argument` after it.
+-- An ignored word names `Silent`, which has no effect. `usermove` with nothing after it is `Unknown`; `ping` and
 -- `protover` without a number of 1 to 9 digits are `BadNumber`
 abbrev pub commands : List ℕ → List (List ℕ × Command)
 commands argument =

@@ -34,13 +34,13 @@ use Rattle.chess_game.specs.declared.results.Outcome.TheVariants.{Draw}
 use Rattle.chess_cecp.specs.declared.command.Command.{Command}
 use Rattle.chess_cecp.specs.declared.command.Command.TheVariants.{New, SetBoard, UserMove, BareMove, Undo, Remove, Declare, Claim, Ping, Protover, Variant, Go, ShowFen, ShowMoves, ShowState, ShowPgn, Quit, Silent, BadNumber, Unknown}
 
--- the line made of `front` and `text` is answered, such as `Illegal move: e5` or `pong 7`, with `\n` at its end, and the
--- game `s` does not change
+-- the answer is the line made of `front` and `text`, such as `Illegal move: e5` or `pong 7`, with `\n` at its end, and
+-- the game `s` does not change
 abbrev pub answers : State → List ℕ → List ℕ → Response State
 answers s front text = says s (front ++ (text ++ new_line ∷ []))
 
--- the game becomes `s`, and the answer is the line of the board's verdict on it, such as `1-0 {White mates}`; nothing is
--- answered if there is none
+-- the game becomes `s`, and the answer is the line of the board's verdict on it, such as `1-0 {White mates}`; there is
+-- no answer if there is no verdict
 abbrev pub becomes_judged : State → Response State
 becomes_judged s = says s (option_map_or (λ v. result_text (verdict_result v) ++ new_line ∷ []) (verdict_now s) [])
 
@@ -54,7 +54,8 @@ moves_text p ms = decimal (length ms) ++ flat_map (λ m. space ∷ shown_move p 
 abbrev pub setboard_row : State → Result Setup FenFault → Response State
 -- the game starts anew from the position `start`, and the board's verdict on it is answered, if there is one
 setboard_row s (Ok start) = becomes_judged (from_start start)
--- the FEN is refused by its fault, as `tellusererror Illegal position (kings)`, and the game does not change
+-- the FEN is refused with the name of its fault, as `tellusererror Illegal position (kings)`, and the game does not
+-- change
 setboard_row s (Err fault) = answers s (codes "tellusererror Illegal position (") (fen_fault_name fault ++ codes ")")
 
 -- the line that answers `protover 2` and each later version, with `\n` at its end: the CECP features with the arbiter's
@@ -97,7 +98,7 @@ result_row s text (Some d) =
     if contradicts_verdict (verdict_now s) d.outcome then answers s (codes "Error (the board says otherwise): ") text
     else becomes (record s { declared = Some d })
 
--- the result `d` is declared in the game `s`, and answered, as `1/2-1/2 {50-move rule}`
+-- the result `d` is declared in the game `s`, and the answer is its line, such as `1/2-1/2 {50-move rule}`
 abbrev pub declares : State → Declared → Response State
 declares s d = says (record s { declared = Some d }) (result_text d ++ new_line ∷ [])
 
@@ -132,6 +133,7 @@ row tags limit s text argument Remove = take_back_row 2 (codes "remove") s
 row tags limit s text argument Declare = result_row s text (read_result argument)
 row tags limit s text argument Claim = claim_row s
 row tags limit s text argument (Ping n) = answers s (codes "pong ") (decimal n)
+-- below version 2 the protocol has no features, so `protover 1` has no answer
 row tags limit s text argument (Protover n) = if nat_lt n 2 then becomes s else says s features_line
 row tags limit s text argument Variant = variant_row s text argument
 row tags limit s text argument Go = answers s (codes "Error (the arbiter plays no side): ") (codes "go")

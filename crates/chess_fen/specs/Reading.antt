@@ -42,9 +42,9 @@ abbrev pub conditions_of : List ℕ → Setup → List (FenFault × Bool)
 conditions_of letters p =
     take 4 (conditions p) ++ ((faults.Castling, names_rights_well p.variant p.men letters) ∷ drop 4 (conditions p))
 
--- the sound position that the six fields of a FEN denote; or the fault: of the first field, from left to right, that
--- denotes nothing, or of the first condition that what they denote, the position p, fails. A castling right that is
--- named wrongly is not there, and a fullmove number of 0 is read as 1. Any other number of fields is a fault
+-- the sound position p that the six fields of a FEN denote; or the fault: of the first field, from left to right, that
+-- denotes nothing, or else of the first condition that p fails (`conditions_of`). A castling right that is named
+-- wrongly is not there in p, and a fullmove number of 0 is read as 1. Any other number of fields is a fault
 abbrev pub reading_in : Variant → List (List ℕ) → Result Setup FenFault
 reading_in v (placement ∷ side ∷ castling ∷ target ∷ halfmove ∷ fullmove ∷ []) = do
   pieces ← ok_or (placement_of placement) faults.Placement

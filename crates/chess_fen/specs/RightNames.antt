@@ -18,7 +18,7 @@ use Rattle.chess_base.specs.Castling.{home_square, king_square, rook_file, right
 use Rattle.chess_base.specs.Letters.{letter_by}
 use Rattle.chess_fen.specs.Texts.{occurs, first_letter, names_file}
 
--- the four castling rights, each by its colour and its side, in the order in which a FEN names them
+-- the four castling rights, each by its colour and its side, in the order in which `fen` writes them
 abbrev pub all_rights : List (Colour × CastlingSide)
 all_rights = (White, KingSide) ∷ (White, QueenSide) ∷ (Black, KingSide) ∷ (Black, QueenSide) ∷ []
 
@@ -47,10 +47,10 @@ abbrev pub is_towards : CastlingSide → Option ℕ → ℕ → Bool
 is_towards QueenSide king s = option_map_or (λ k. nat_lt s k) king false
 is_towards KingSide king s = not (option_map_or (λ k. nat_lt s k) king false)
 
--- the rook's square by which the letter names colour c's right on side w; `None` if it names another right, `Some None`
--- if it names this one, but there is no rook. c's letter of that side (K or Q, k or q) names the rook of c on its first
--- rank that is nearest to the board's edge on side w. c's letter (A to H, a to h) of a file on that side of c's king
--- names the square on that file of c's first rank, with or without a rook
+-- whether the letter names colour c's right on side w (`None` if not), and the square of the rook that it names for it.
+-- c's letter of that side (K or Q, k or q) names the rook of c on its first rank that is nearest to the board's edge on
+-- side w: `Some None` if there is none. c's letter (A to H, a to h) of a file on that side of c's king names the square
+-- on that file of c's first rank, with or without a rook
 abbrev pub rook_named : Men → Colour → CastlingSide → ℕ → Option (Option ℕ)
 rook_named men c w letter =
     let s = home_square c (letter - first_letter c) in
@@ -67,16 +67,17 @@ right_by _ = None
 
 -- ---- both
 
--- colour c's castling right on side w by the letters of a castling field: its rook's square, or `Some None` if it is
--- not there. In normal chess it is there if its letter (K, Q, k or q) is, with the rook in the corner. `None` if the
--- letters name it wrongly (`right_by`), which they never do in normal chess
+-- colour c's castling right on side w by the letters of a castling field: its rook's square, or `Some None` if c does
+-- not have it. In normal chess c has it if its letter (K, Q, k or q) is among them, and the rook's square is the
+-- corner. `None` if the letters name it wrongly (`right_by`), which they never do in normal chess
 abbrev pub right_in : Variant → Men → List ℕ → Colour → CastlingSide → Option (Option ℕ)
 right_in Normal men letters c w = Some (then_some (occurs (side_letter c w) letters) (home_square c (rook_file w)))
 right_in Fischerandom men letters c w = right_by (filter_map (rook_named men c w) letters)
 
--- whether a castling field's letters name no right wrongly. In Chess960 two letters for one right do, and a side's
--- letter (K, Q, k or q) does if its colour has no rook on its first rank; whether a file's letter finds a rook is not
--- tested here. A right without a letter is not there, which is no fault. In normal chess no right is named wrongly
+-- whether the letters of a castling field name each right well (`right_by`): in Chess960 a right is named wrongly by
+-- several letters, or by a side's letter (K, Q, k or q) if its colour has no rook on its first rank; whether there is a
+-- rook on the file of a file's letter is not tested here. A right without a letter is not there, which is no fault. In
+-- normal chess no right is named wrongly
 abbrev pub names_rights_well : Variant → Men → List ℕ → Bool
 names_rights_well v men letters = list_all (λ r. is_some (right_in v men letters r.0 r.1)) all_rights
 

@@ -16,8 +16,8 @@ use Rattle.chess_base.specs.Letters.{byte, space, man_with_letter}
 
 -- ---- ranks
 
--- the squares that one byte of a rank's text denotes: n empty ones by a digit n from 1 to 8, one with a piece by the
--- piece's letter; no square for any other byte
+-- the squares that one byte of a rank's text stands for: a digit n from 1 to 8 for n empty ones, a piece's letter for
+-- one with that piece, any other byte for none
 abbrev pub squares_of : ℕ → List (Option Man)
 squares_of c = if nat_le (byte "1") c && nat_le c (byte "8") then replicate (c - byte "0") None
     else option_to_list (option_map Some (man_with_letter c))

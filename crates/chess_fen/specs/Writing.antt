@@ -37,8 +37,8 @@ placement_text men = join_with_byte (byte "/")
 abbrev pub side_text : Colour → List ℕ
 side_text = by_colour (codes "w") (codes "b")
 
--- a FEN's third field: of the four castling rights those that are there, each by its letter (`right_letter`), or a
--- dash. In normal chess they come in the order KQkq
+-- a FEN's third field: the letters (`right_letter`) of the castling rights that are there, in the order of
+-- `all_rights`, in normal chess KQkq; a dash if there are none
 abbrev pub rights_text : Variant → Rights → List ℕ
 rights_text v rights =
     let letters = filter_map (λ r. option_map (right_letter v r.0 r.1) (right_of rights r.0 r.1)) all_rights in

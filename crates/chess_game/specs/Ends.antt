@@ -42,9 +42,9 @@ has_insufficient_material men =
     && not (has_bishop_on 0 men && has_bishop_on 1 men)))
 
 -- why the game from `start` by the moves ms is over without a declared result. It is the first of these that holds: no
--- legal move (in check the other side has mated, otherwise stalemate); insufficient material; the present position is
--- there at least for the fifth time; the halfmove clock, which continues from that of `start`, is at least 150 (75 moves
--- of each side) without a pawn move or capture. `None` if none holds
+-- legal move (in check the other side has mated, otherwise stalemate); insufficient material; the present position has
+-- occurred at least five times; the halfmove clock, which continues from that of `start`, is at least 150 (75 moves of
+-- each side without a pawn move or capture). `None` if none holds
 unfoldable pub verdict : Setup → List Move → Option Verdict
 verdict start ms =
     let p = position_after start ms in
@@ -60,8 +60,8 @@ verdict start ms =
 unfoldable pub result_text : Declared → List ℕ
 result_text d = outcome_text d.outcome ++ (codes " {" ++ (d.comment ++ codes "}"))
 
--- the result that a verdict gives, written as in `1-0 {White mates}`: a win of the side that mates, otherwise a draw,
--- and the comment on it
+-- the result that a verdict gives: a win of the side that mates, otherwise a draw, with a comment. `result_text` writes
+-- it, as in `1-0 {White mates}`
 abbrev pub verdict_result : Verdict → Declared
 verdict_result WhiteMates = record { outcome = WhiteWins; comment = codes "White mates" }
 verdict_result BlackMates = record { outcome = BlackWins; comment = codes "Black mates" }

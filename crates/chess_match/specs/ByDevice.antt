@@ -42,8 +42,8 @@ abbrev pub lines_to : Colour → Act → List SentLine
 lines_to S (Sends block) = list_if (same_colour block.to S) block.lines
 lines_to S _ = []
 
--- the block for the side `S` that this act could not send, as a list of one, and the block as its lines; otherwise
--- empty. In a match there is at most one such act for each side
+-- the block for the side `S` that this act failed to send, given by its lines, as a list of one; otherwise empty. In a
+-- match there is at most one such block for each side
 abbrev pub broken_block : Colour → Act → List (List SentLine)
 broken_block S (SendFails block) = list_if (same_colour block.to S) (block.lines ∷ [])
 broken_block S _ = []

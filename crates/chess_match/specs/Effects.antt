@@ -125,7 +125,7 @@ sends_to side lines m = record { after = m; to = λ S. list_if (same_colour side
 abbrev pub with_seat : Colour → (Seat → Seat) → Match → Match
 with_seat S change m = record m { seat = λ side. if same_colour side S then change (m.seat side) else m.seat side }
 
--- the match `m` ends for this reason. Each side is sent the last move, if by the phase of `m` it was not yet sent that;
+-- the match `m` ends for this reason. Each side is sent the last move, if by the phase of `m` it has yet to be sent it;
 -- the result with its comment, such as `result 1-0 {Black resigns}`; and `quit`. But if the reason is that writing to a
 -- side failed, that side is sent nothing
 abbrev pub ends : Rules → Reason → Match → Effect
@@ -233,10 +233,10 @@ abbrev pub handshake_done : Rules → Colour → Match → Effect
 handshake_done r White m = sends_to Black handshake_lines (record m { phase = Handshake Black; count = 0 })
 handshake_done r Black m = judged r (missing r (m.seat White).items) (missing r (m.seat Black).items) m
 
--- a line of the side `S` in its handshake, which has these items (none, if it is no `feature` line): they are added to
--- those known of `S`. `done=1` ends the handshake; if the 1,000th line, of whatever kind, comes without it, the match
--- ends. Before all that follows (`next`) the engine of `S` is sent an answer to each of these items, in their order and
--- whatever the item's value: `accepted` and its name, such as `accepted ping`, if the arbiter knows the name
+-- what a line of the side `S` does in its handshake; it has these items (none, if it is no `feature` line). They are
+-- added to those known of `S`. `done=1` ends the handshake; if the 1,000th line, of whatever kind, comes without it,
+-- the match ends. Before all that follows (`next`) the engine of `S` is sent an answer to each of these items, in their
+-- order and whatever the item's value: `accepted` and its name, such as `accepted ping`, if the arbiter knows the name
 -- (`is_known`); otherwise `rejected` and the name
 abbrev pub handshake_row : Rules → Colour → List Item → Match → Effect
 handshake_row r S items m =

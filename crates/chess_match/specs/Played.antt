@@ -22,9 +22,9 @@ use Rattle.chess_match.specs.declared.run.MatchEnd.{MatchEnd}
 use Rattle.chess_match.specs.declared.run.Setup.{Setup}
 use Rattle.chess_game.specs.Ends.{verdict}
 
--- what contracts see, at one time, of the devices of a match and of its game. A contract names two worlds, one before
--- the match and one after it, and says of each device what passed there in between. The witness, such as the log, is
--- not among these devices: it is given notes of the events and of the blocks that engines are sent (see Notes)
+-- what contracts see, at one time, of the devices of a match and of its game. Given the world before a match and the
+-- one after it, contracts say what passed at each device. The witness of the match, such as the log, is not among these
+-- devices; it is given notes of the events and of the blocks that engines are sent (see Notes)
 pub record World : Type 0 where
   -- each engine's devices, named as the arbiter sees them: `input` is the engine's output, which is read, and `output`
   -- is its input, which is written
@@ -72,10 +72,10 @@ pub record Passed (r : Rules) (H : List Act) (final : Match) (w w' : World) : Ty
 pub record ReportedAs (H : List Act) (final : Match) (reason : Reason) (end : MatchEnd) : Type 0 where
   -- the reason is that of the last state
   pub ended : final.phase ≡ Over reason
-  -- the outcome, the comment and the value of the tag Termination (`end.ended`) are those of the reason
+  -- the outcome, the comment, and how the match ended (`end.ended`, for the tag Termination) are those of the reason
   pub report : reported reason ≡ (end.outcome, end.comment, end.ended)
   -- the name of each engine is the value of the last `myname` in its handshake, as a PGN tag keeps it: its first 60
-  -- bytes, with `?` in place of what is no printable ASCII; empty if it sent none
+  -- bytes, with `?` in place of what is not printable ASCII; empty if it sent none
   pub name : (S : Colour) → by_colour end.white_name end.black_name S
       ≡ cut_tag (last_said (λ v. v.text) [] (codes "myname") (final.seat S).items)
   -- the first fault, and whose it is: the one that ended the match; if none did, a failed write after the end (White's,

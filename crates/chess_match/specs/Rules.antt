@@ -14,7 +14,7 @@ use Rattle.cecp_engine.specs.Levels.{LevelSeen}
 
 -- what is fixed when a match begins
 pub record Rules : Type 0 where
-  -- the position in which its game starts. Its variant, normal chess or Chess960, is that of the game
+  -- the position in which its game starts, and with it the variant: normal chess or Chess960
   pub start : Setup
   -- the time control, the same for both sides
   pub level : LevelSeen

@@ -60,8 +60,9 @@ pub data Row : Type 0 where
   Ends : (o : Outcome) (len : ℕ) → Row
   Fails : (kind : PgnFaultKind) (left : ℕ) → Row
 
--- what a move does in the game `s` of at most `limit` half-moves: where the board has a verdict, it is after the end;
--- where the game is full, it is one too many; otherwise what `allowed` says. `left` bytes are left at the move
+-- what a move does in the game `s` of at most `limit` half-moves: a fault if the board has a verdict (a move after the
+-- end) or if the game already has `limit` half-moves (too long); otherwise what `allowed` says. `left` bytes are left
+-- at the move
 abbrev pub unless_over : ℕ → State → ℕ → Row → Row
 unless_over limit s left allowed =
     if is_some (verdict_now s) then Fails AfterEnd left
@@ -102,7 +103,9 @@ after_row total termination s left (Ends o len) later = record {
 }
 after_row total termination s left (Fails kind place) later = failed s (record { kind = kind; offset = total - place })
 
--- what is read of the tokens after the tags, in a text of `total` bytes, from the game `s` on
+-- what is read of the tokens after the tags, in a text of `total` bytes, from the game `s` of at most `limit`
+-- half-moves on; `termination` is what the tag Termination names. If the tokens end without an outcome mark, that is a
+-- fault at the text's end
 abbrev pub moves_read : ℕ → ℕ → Option Termination → State → List (ℕ × Token) → GameRead
 moves_read limit total termination s [] = failed s (record { kind = NoResult; offset = total })
 moves_read limit total termination s (t ∷ ts) =
@@ -136,10 +139,10 @@ tagged_variant tags = option_map_or (λ tag. variant_named tag.0) (last_tag (cod
 
 -- ---- the game
 
--- what is read of a game after `tags`, the tokens before its first number, move, outcome or fault, if each of their
--- FENs denotes a position; the last argument is the tokens from that one on. If that is a bad tag, its fault; otherwise
--- the moves are read. `s` is the game at its start, and the text has `total` bytes. The last tag Termination counts,
--- even if its text is none of the standard's values and an earlier one's is
+-- what is read of a game of at most `limit` half-moves after `tags`, the tokens before its first number, move, outcome
+-- or fault, if each of their FENs denotes a position; the last argument is the tokens after `tags`. If the first of
+-- these is a bad tag, its fault; otherwise the moves are read. `s` is the game at its start, and the text has `total`
+-- bytes. The last tag Termination counts, even if its text is none of the standard's values and an earlier one's is
 abbrev pub read_after_tags : ℕ → ℕ → State → List (ℕ × Token) → List (ℕ × Token) → GameRead
 read_after_tags limit total s tags ((to_end, Bad_tag) ∷ rest) =
     failed s (record { kind = BadTag; offset = total - to_end })

@@ -52,8 +52,8 @@ pub data OpensTag (name : List ℕ) : List ℕ → Type 0 where
   opens : {before after : List ℕ} → IsGap false before → 0 < length name → list_all is_name_byte name ≡ true
       → IsGap false after → OpensTag name (byte "[" ∷ (before ++ (name ++ (after ++ codes "\""))))
 
--- the bytes between a string's quotes (section 7): any but quotes and line ends, where a backslash keeps the byte after
--- it, even a quote or a backslash, from ending the string
+-- the bytes between a string's quotes (section 7): any but line ends. A backslash keeps the byte after it, even a quote
+-- or a backslash, from ending the string; no quote is there without one before it
 pub data IsString : List ℕ → Type 0 where
   nothing : IsString []
   -- a backslash and the byte that it keeps
@@ -66,13 +66,13 @@ pub data IsString : List ℕ → Type 0 where
 
 -- the text is this token (see `Token`), and `left` bytes come after it; `b`: its first byte is its line's first
 pub data IsToken (b : Bool) (left : ℕ) : List ℕ → Token → Type 0 where
-  -- a blank or a dot
+  -- a byte of white space, or a dot
   blank : {c : ℕ} → (is_white_space c || c == byte ".") ≡ true → IsToken b left (c ∷ []) Skip
   -- a `%` line, or from `;` to the end of the line
   line : {c : ℕ} {text : List ℕ} → skips_line b c ≡ true → lacks new_line text ≡ true → IsToken b left (c ∷ text) Skip
   -- a comment from `{` to the next `}`
   comment : (text : List ℕ) → lacks (byte "}") text ≡ true → IsToken b left (byte "{" ∷ text ++ byte "}" ∷ []) Skip
-  -- a numeric annotation glyph: `$` and digits
+  -- a numeric annotation glyph: `$` and digits, maybe none
   glyph : {digits : List ℕ} → list_all is_digit digits ≡ true → IsToken b left (byte "$" ∷ digits) Skip
   -- a variation, from `(` to its own `)`
   variation : {inner : List ℕ} → IsInside false inner → IsToken b left (byte "(" ∷ inner ++ byte ")" ∷ []) Skip
@@ -101,9 +101,10 @@ pub data HasOpenComment : Bool → List ℕ → ℕ → Type 0 where
   deeper : {b : Bool} {parts inner : List ℕ} {to_end : ℕ} → IsInside b parts → HasOpenComment false inner to_end
       → HasOpenComment b (parts ++ byte "(" ∷ inner) to_end
 
--- this token is the fault of a text that begins with no token (which isn't claimed here), by the text's first byte
+-- this token is the fault of the text, told by the text's first byte. That no token begins the text is not claimed
+-- here; where this is used (`IsSplit`), it is
 pub data IsFaultOf : List ℕ → Token → Type 0 where
-  -- a comment isn't closed
+  -- a comment isn't closed; the number is how many bytes are left at its `{`
   comment : {text : List ℕ} → IsFaultOf (byte "{" ∷ text) (Unclosed_comment (length (byte "{" ∷ text)))
   -- a comment in a variation isn't closed
   inner_comment : {inner : List ℕ} {to_end : ℕ} → HasOpenComment false inner to_end

@@ -56,8 +56,8 @@ abbrev pub promotion_texts : List (List ℕ) → Option Kind → List (List ℕ)
 promotion_texts signs None = [] ∷ []
 promotion_texts signs (Some k) = signs · (kind_text k ∷ small_letter_text k ∷ [])
 
--- the texts of the described move by its two squares, as g1f3, e7e8q or e7e8Q (but not e7e8=Q); castling too, as e1g1,
--- and in Chess960, where the end square is the rook's, as e1h1
+-- the texts of the described move by its two squares, as g1f3, e7e8q or e7e8Q (e7e8=Q is one of `texts_of_pawn`);
+-- castling too, as e1g1, and in Chess960, where the end square is the rook's, as e1h1
 abbrev pub texts_by_squares : Described → List (List ℕ)
 texts_by_squares d = (square_text d.from ∷ []) · (square_text d.to ∷ []) · promotion_texts ([] ∷ []) d.promotion
 
@@ -67,9 +67,9 @@ texts_by_letter d =
     if same_kind d.man Pawn || is_some d.castles then []
     else (kind_text d.man ∷ []) · start_texts d.from · capture_texts d.captures · (square_text d.to ∷ [])
 
--- what may come before the end square of a pawn's move: its file or its start square, for a capture also with `x` after
--- it; nothing too if the pawn stays on its file. So e2e4 may be written e4, ee4 or e2e4, and the capture e4d5 as ed5,
--- exd5, e4d5 or e4xd5
+-- what may come before the end square of a pawn's move: the file or the square where it starts, for a capture also with
+-- `x` after it; if the pawn stays on its file, also nothing. So e2e4 may be written e4, ee4 or e2e4, and the capture
+-- e4d5 as ed5, exd5, e4d5 or e4xd5
 abbrev pub pawn_starts : Described → List (List ℕ)
 pawn_starts d =
     list_if (file d.from == file d.to) ([] ∷ [])

@@ -172,11 +172,11 @@ WritesGames plan (Err fault) games None o = FaultlessGames plan games × (length
 -- no other result comes with a game that was played and could not be written
 WritesGames plan _ games (Some unwritten) o = ⊥
 
--- what playing a match does, by its result: games were played, maybe none, or memory ran out before the first one, and
--- nothing was written or logged. The PGN of `games` was written; `unwritten` was played after them, but its PGN could
--- not be written (`None`: there is no such game). The output, which was `w` and is now `w'`, was written to as
--- `WritesGames` says. If the plan asks for a log, all these games were logged, `unwritten` too; the log was `l` and is
--- now `l'`
+-- what playing a match does, by its result. Either games were played, maybe none: the PGN of `games` was written;
+-- `unwritten` was played after them, but its PGN could not be written (`None`: there is no such game); the output,
+-- which was `w` and is now `w'`, was written to as `WritesGames` says; and if the plan asks for a log, all these games
+-- were logged, `unwritten` too (the log was `l` and is now `l'`). Or memory ran out before the first game, and nothing
+-- was written or logged
 abbrev pub PlaysGames : GamesPlan → Result (Unit {0}) GamesFault → OutputState → OutputState → LogSeen → LogSeen
     → Type 0
 PlaysGames plan result w w' l l' =

@@ -53,7 +53,7 @@ moment_after moment _ = moment
 
 -- what the log has for these notes, one after another. `first` is the side of the engine of `--white`; `moment` is the
 -- clock's reading at the last `Line` or `Opened` before these notes, or 0 if there was none. With 0 and all notes of a
--- game it is the whole log of the game: the clock was not yet read in it as engines were sent their first lines
+-- game it is the whole log of the game: the clock is first read in it after engines were sent their first lines
 abbrev pub log_from : Colour → ℕ → List Note → List ℕ
 log_from first moment [] = []
 log_from first moment (n ∷ notes) = note_text first moment n ++ log_from first (moment_after moment n) notes

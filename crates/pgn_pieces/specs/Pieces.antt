@@ -49,8 +49,8 @@ abbrev pub is_empty_line : List ℕ → Bool
 is_empty_line line = bytes_eq (take 1 (front_of line)) (codes "%") || bytes_eq (take 1 (front_of line)) (codes ";")
     || list_all (λ c. is_blank c || (c == 13) || ends_line c) (front_of line)
 
--- whether a line counts as one of moves: any line that is neither a tag line nor empty. So does a tag that
--- `is_tag_line` does not take, and a line inside a `{` comment, unless that line is empty or looks like a tag line
+-- whether a line counts as one of moves: any line that is neither a tag line nor empty. That includes a tag that
+-- `is_tag_line` does not take, and a line inside a `{` comment, unless it is empty or looks like a tag line
 abbrev pub is_moves_line : List ℕ → Bool
 is_moves_line line = not (is_tag_line line || is_empty_line line)
 

@@ -21,7 +21,7 @@ pub data AreCollectionReports (strict : Bool) : ℕ → List (List ℕ) → List
 -- how verifying a collection ends, by its result: what was read of the input (`i`), and what was written (`o`) of
 -- `text`, which is all that is to be written for what was read. `verdict` is that on the reports
 abbrev pub CollectionEnds : List ℕ → Verified → Result Verified VerifyFault → FromInput → ToOutput → Type 0
--- the whole input was read; all of `text` was written and flushed
+-- the whole input was read; all of `text` was written and flushed; the summary is `verdict`
 CollectionEnds text verdict (Ok summary) i o = IsWhole i × (o ≡ all_of text) × (summary ≡ verdict)
 -- no read failed, whether the input's end was reported or not; a beginning of `text` (it may be empty, or all of it)
 -- was written, nothing was flushed, and then a write or the flush failed

@@ -1,6 +1,6 @@
 -- What explains a fault: where it is, the text there, the position and the reason.
 use Rattle.std.specs.Prelude.{◌≡◌, ℕ, ◌-◌, ◌==◌, Bool, true, false, not, if◌then◌else◌, List, [], ◌∷◌, ◌++◌, length, take, take_while, map, codes, decimal, Option, Some, None}
-use Rattle.std.specs.Option.{option_map}
+use Rattle.std.specs.Option.{option_map, option_map_or}
 use Rattle.chess_base.specs.Faults.{fen_fault_name}
 use Rattle.chess_base.specs.Letters.{byte, new_line}
 use Rattle.chess_fen.specs.Writing.{fen}
@@ -17,7 +17,8 @@ use Rattle.pgn_verifier.specs.WrongParts.{from_field, field_at, field_number, Is
 
 -- ---- the text at a fault
 
--- a word as an explanation shows it, byte by byte; `(end)` in place of an empty one, even if more text follows it
+-- a word as an explanation shows it, with `?` for each byte that is not printable ASCII; `(end)` in place of an empty
+-- one, even if more text follows it
 abbrev pub shown_word : List ℕ → List ℕ
 shown_word word = if length word == 0 then codes "(end)" else map shown_byte word
 
@@ -66,17 +67,17 @@ has_position (Pgn BadTag) = false
 has_position (Pgn (BadFen fault)) = false
 has_position _ = true
 
--- the text that explains a fault of this kind, with this reason, if any: the wrong part as it is shown, and then, if it
--- is shown, the FEN of the position in which reading stopped, and the reason, such as `Ke3 | ` and a FEN. `s` is the
--- game as far as it was read, and `text` is the text from the fault's byte on
+-- the text that explains a fault of this kind: the wrong part as it is shown, the FEN of the position in which reading
+-- stopped (unless `has_position` is false), and the reason, if there is one; with ` | ` between, such as `Ke3 | ` and a
+-- FEN. `s` is the game as far as it was read, and `text` is the text from the fault's byte on
 abbrev pub explanation : State → List ℕ → FaultKind → Option (List ℕ) → List ℕ
 explanation s text kind reason = (wrong_part kind text).1
     ++ ((if has_position kind then codes " | " ++ fen (current s) else [])
-    ++ option_map_or (λ text. codes " | " ++ text) reason [])
+    ++ option_map_or (λ why. codes " | " ++ why) reason [])
 
--- the line that explains a fault, such as `# line 2 column 4 ` and the text that explains it (`explanation`). The line
--- and the column are those of the wrong part, which begins at the offset `begin` of the input; both are counted from 1
+-- the line that explains a fault by this text (`explanation`), such as `# line 2 column 4 ` and the text. The line and
+-- the column are those of the wrong part, which begins at the offset `begin` of the input; both are counted from 1
 unfoldable pub explanation_line : List ℕ → ℕ → List ℕ → List ℕ
-explanation_line input begin explanation =
+explanation_line input begin text =
     codes "# line " ++ (decimal (line_of input begin) ++ (codes " column " ++ (decimal (column_of input begin)
-    ++ (codes " " ++ (explanation ++ new_line ∷ [])))))
+    ++ (codes " " ++ (text ++ new_line ∷ [])))))

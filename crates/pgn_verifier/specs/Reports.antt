@@ -2,7 +2,7 @@
 use Rattle.std.specs.Prelude.{◌≡◌, ℕ, ◌+◌, ◌==◌, nat_le, Bool, not, if◌then◌else◌, List, [], ◌∷◌, ◌++◌, length, drop, codes, decimal, is_some, Option, Some, None, Ok, Err}
 use Rattle.std.specs.List.{count_by, sum_by}
 use Rattle.std.specs.Bool.{MatchBool}
-use Rattle.std.specs.Option.{unwrap_or}
+use Rattle.std.specs.Option.{unwrap_or, option_map_or}
 use Rattle.chess_base.specs.Letters.{new_line}
 use Rattle.chess_game.specs.Game.{State, verdict_now}
 use Rattle.chess_game.specs.Results.{outcome_text}
@@ -34,9 +34,9 @@ pub data Report : Type 0 where
 
 -- ---- the reports on the games of a text
 
--- these are the reports on the games of `text` from its offset `at` on, which is the number before the list, up to and
--- including the first game with a fault. The text begins at the offset `start` of the input. `strict`: an outcome mark
--- that contradicts the tag Result or the board's verdict is a fault
+-- these are the reports on the games of `text` from its offset `at` on, up to and including the first game with a
+-- fault; the last two arguments are `at` and the reports. The text begins at the offset `start` of the input. `strict`:
+-- an outcome mark that contradicts the tag Result or the board's verdict is a fault
 pub data AreReports (strict : Bool) (start : ℕ) (text : List ℕ) : ℕ → List Report → Type 0 where
   -- no game comes from `at` on
   none_left : {at : ℕ} {s : State} → IsJudged strict text at s (Ok None) → AreReports strict start text at []
@@ -55,10 +55,10 @@ pub data AreReports (strict : Bool) (start : ℕ) (text : List ℕ) : ℕ → Li
 -- ---- the reports on the games of pieces
 
 -- these are the reports on a piece, which begins at this offset of the input, and whose bytes (`piece`) are read as a
--- text of its own: on its games in order, up to the first with a fault; or, if it is too long (it has more than
--- 16,777,216 bytes), one report on the piece: the fault TooLong at its first byte, explained by the text there. A game
--- of more than 20,000 half-moves has the same kind of fault, but at its 20,001st half-move. `strict`: an outcome mark
--- that contradicts the tag Result or the board's verdict is a fault
+-- text of its own: on its games in order, up to the first with a fault; or, if it is too long (more than 16,777,216
+-- bytes), one report on the piece: the fault TooLong at its first byte, explained by the first word there (`shown`). A
+-- game of more than 20,000 half-moves has the same kind of fault, but at its 20,001st half-move. `strict`: an outcome
+-- mark that contradicts the tag Result or the board's verdict is a fault
 abbrev pub AreReportsIn : Bool → ℕ → List ℕ → List Report → Type 0
 AreReportsIn strict offset piece reports =
     MatchBool (nat_le (length piece) PIECE_LEN) (AreReports strict offset piece 0 reports)

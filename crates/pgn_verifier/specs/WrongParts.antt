@@ -65,7 +65,7 @@ pub data IsTagReason (text : List ℕ) : Option (List ℕ) → Type 0 where
 
 -- ---- tokens
 
--- what is wrong with a bad token, from its first byte on: if that is a byte of a word, this is a word that is not a
--- move; otherwise the byte begins no token
+-- the reason for a bad token; `text` is the text from its first byte on. If that is a byte of a word, the token is a
+-- word that is not a move; otherwise no token begins with it
 abbrev pub token_reason : List ℕ → List ℕ
 token_reason text = if list_any is_word_byte (take 1 text) then codes "not a move" else codes "begins no token"

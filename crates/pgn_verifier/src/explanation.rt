@@ -2,7 +2,7 @@
 
 ghost use Rattle.std.specs.Prelude.{◌≡◌, ◌≤◌, ◌<◌, ◌+◌, ◌^◌, ◌++◌, ◌∷◌, [], true, not, if◌then◌else◌, List, ℕ, length, take, drop, decimal, codes, Some, None};
 ghost use Rattle.std.specs.List.{count_by, suffix_len};
-ghost use Rattle.std.specs.Option.{option_map};
+ghost use Rattle.std.specs.Option.{option_map, option_map_or};
 ghost use Rattle.arrayvec.specs.ArrayVec.{array_vec_len};
 ghost use Rattle.chess_base.specs.Letters.{new_line};
 ghost use Rattle.chess_fen.specs.Writing.{fen};

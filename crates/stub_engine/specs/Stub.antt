@@ -74,7 +74,7 @@ turn (argument ∷ arguments) =
 unfoldable pub stub_row : StubState → List ℕ → Command → Response StubState
 stub_row s text (Protover n) = says s (codes "feature ping=1 setboard=1 usermove=1 myname=\"stub\" done=1\n")
 stub_row s text (Ping n) = says s (codes "pong " ++ (decimal n ++ new_line ∷ []))
--- it plays no side until `go`, and does not use again the arguments that it has used
+-- after `new` it plays no side until `go`; the arguments that it has used are not used again
 stub_row s text New = becomes (waiting s.arguments)
 stub_row s text Go = turn s.arguments
 stub_row s text Quit = record (becomes s) { ends = true }
