@@ -103,10 +103,10 @@ pub record LineCases (r : Rules) (S : Colour) (kind : LineKind) (moment : ℕ) (
     pub counts : in_turn m.phase ≡ true → move_said kind ≡ [] → m.count + 1 < 10000 → Q (counting m)
     pub offers : in_turn m.phase ≡ true → move_said kind ≡ [] → (m.seat S).offers ≡ false → Q (offering S m)
     pub plays : (text : List ℕ) (move : Move) (opened : ℕ) → kind ≡ Moves text → m.phase ≡ BeforeMove S opened
-        → reading (position_after r.start \1) text ≡ reads.Move move → length m.played < r.limit → moment - opened ≤ clock r m S
+        → reading (position_after r.start m.played) text ≡ reads.Move move → length m.played < r.limit → moment - opened ≤ clock r m S
         → verdict r.start (m.played ++ move ∷ []) ≡ None → Q (playing S move (moment - opened) m)
     pub decides : (text : List ℕ) (move : Move) (opened : ℕ) (v : Verdict) → kind ≡ Moves text
-        → m.phase ≡ BeforeMove S opened → reading (position_after r.start \1) text ≡ reads.Move move → length m.played < r.limit
+        → m.phase ≡ BeforeMove S opened → reading (position_after r.start m.played) text ≡ reads.Move move → length m.played < r.limit
         → moment - opened ≤ clock r m S → verdict r.start (m.played ++ move ∷ []) ≡ Some v
         → Q (ends r (Decided v) (moved S move (moment - opened) m))
     pub passes : m.phase ≡ AfterMove S → move_said kind ≡ [] → Q (begins_turn r (other S) m)
@@ -174,7 +174,7 @@ module _ (r : Rules) (S : Colour) (kind : LineKind) (moment : ℕ) (m : Match) (
 
   -- before its move
   module _ (opened : ℕ) (p : m.phase ≡ BeforeMove S opened) (timely : moment - opened ≤ clock r m S) where
-    a_move : (text : List ℕ) (read : Reading) → kind ≡ Moves text → reading (position_after r.start \1) text ≡ read
+    a_move : (text : List ℕ) (read : Reading) → kind ≡ Moves text → reading (position_after r.start m.played) text ≡ read
         → length m.played < r.limit → Q (move_row r S (moment - opened) read m)
     a_move text reads.Ambiguous is e room = l.stops (ap handshakes_done p) (MovesIllegally S)
         ((λ O. refl), (λ c e. cc), refl)
@@ -193,7 +193,7 @@ module _ (r : Rules) (S : Colour) (kind : LineKind) (moment : ℕ) (m : Match) (
     before : (k : LineKind) → kind ≡ k → Q (before_move r S (moment - opened) k m)
     before (Moves text) e = by_test Q (nat_le r.limit (length m.played))
         (λ h. l.stops (ap handshakes_done p) GameTooLong ((λ O. refl), (λ c e. cc), refl))
-        (λ h. a_move text (reading (position_after r.start \1) text) e refl (leb-false r.limit (length m.played) h))
+        (λ h. a_move text (reading (position_after r.start m.played) text) e refl (leb-false r.limit (length m.played) h))
     before (Features t) e = turn (ap in_turn p) (said_none (Features t) e refl) (Features t)
     before Resigns e = turn (ap in_turn p) (said_none Resigns e refl) Resigns
     before OffersDraw e = turn (ap in_turn p) (said_none OffersDraw e refl) OffersDraw

@@ -77,7 +77,7 @@ others_line Black t lines = refl
 reads_move : (r : Rules) (m m' final : Match) (d : Colour) (opened : ℕ) (t : Option (List ℕ)) (text : List ℕ)
     (move : Move) (lines : Streamed) → m.phase ≡ BeforeMove d opened → m'.phase ≡ AfterMove d
     → mover r.start.side m.played ≡ d → m'.played ≡ m.played ++ move ∷ [] → line_kind t ≡ Moves text
-    → reading (position_after r.start \1) text ≡ reads.Move move → ReadsOff r m' final lines → ReadsOff r m final (with_line d t lines)
+    → reading (position_after r.start m.played) text ≡ reads.Move move → ReadsOff r m' final lines → ReadsOff r m final (with_line d t lines)
 reads_move r m m' final d opened t text move lines p p' turn played kind reading next c e =
     let (more, same, read) = next (other d) (ap (λ (ms : List Move). mover r.start.side ms) played
     ∙ mover-snoc r.start.side m.played move ∙ ap other turn) in
@@ -124,7 +124,7 @@ reads_last r m final d t lines p none c e =
 
 reads_decided : (r : Rules) (m final : Match) (d : Colour) (opened : ℕ) (t : Option (List ℕ)) (text : List ℕ)
     (move : Move) (lines : Streamed) → m.phase ≡ BeforeMove d opened → mover r.start.side m.played ≡ d
-    → final.played ≡ m.played ++ move ∷ [] → line_kind t ≡ Moves text → reading (position_after r.start \1) text ≡ reads.Move move
+    → final.played ≡ m.played ++ move ∷ [] → line_kind t ≡ Moves text → reading (position_after r.start m.played) text ≡ reads.Move move
     → ((S : Colour) → lines S ≡ []) → ReadsOff r m final (with_line d t lines)
 reads_decided r m final d opened t text move lines p turn played kind reading none c e =
     rw (sym e ∙ turn, p, own_line d t lines, others_line d t lines, none d, none (other d), kind)

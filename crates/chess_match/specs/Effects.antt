@@ -204,7 +204,8 @@ move_row r S used _ m = ends r (MovesIllegally S) m
 abbrev pub before_move : Rules → Colour → ℕ → LineKind → Match → Effect
 -- `move M`: if there are already as many half-moves as the limit allows, the match ends, whatever M is
 before_move r S used (Moves text) m =
-    if nat_le r.limit (length m.played) then ends r GameTooLong m else move_row r S used (reading (position_after r.start \1) text) m
+    if nat_le r.limit (length m.played) then ends r GameTooLong m
+    else move_row r S used (reading (position_after r.start m.played) text) m
 -- any line that is no move: see `turn_row`
 before_move r S used kind m = turn_row r S kind m
 

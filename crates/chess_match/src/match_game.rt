@@ -18,14 +18,14 @@ use crate::texts::MoveTexts;
 use chess_base::{Colour, Move, Variant};
 use chess_game::{DrawClaim, Verdict};
 
-/// The game of a match, as the match sees it: without any chess.
+/// The game of a match, as the match sees it.
 pub(crate) trait MatchGame {
     ghost use Rattle.std.specs.Prelude.{List, ℕ};
     ghost use Rattle.chess_base.specs.declared.man.Move.{Move};
     ghost use Rattle.chess_base.specs.declared.setup.Setup.{Setup};
     ghost use Rattle.chess_match.specs.Rules.{Rules};
 
-    /// It is played by these rules, and no result was declared.
+    /// It has the start and the limit of these rules, and no result was declared.
     ghost plays: { Self → Rules → Type 0 };
 
     /// The moves so far.
@@ -53,7 +53,8 @@ pub(crate) trait MatchGame {
 
     /// The one legal move that a text denotes in the current position; `None` if it denotes none, or more than one.
     fn reading(&self, text: &[u8]) -> Option<Move>
-        ensures { (r : Rules) → plays self.now r → result ≡ move_read (reading (position_after r.start \1) text.now) };
+        ensures { (r : Rules) → plays self.now r
+            → result ≡ move_read (reading (position_after r.start (played self.now)) text.now) };
 
     /// The board's verdict on the current position, if there is one.
     fn verdict(&self) -> Option<Verdict>
@@ -65,13 +66,15 @@ pub(crate) trait MatchGame {
 
     /// Whether that side has no piece but its king.
     fn has_bare_king(&self, side: Colour) -> bool
-        ensures { (r : Rules) → plays self.now r → result ≡ has_bare_king side (position_after r.start (played self.now)).men };
+        ensures { (r : Rules) → plays self.now r
+            → result ≡ has_bare_king side (position_after r.start (played self.now)).men };
 
     /// Plays a move, which some text denotes, in a game that is not over and has room, and returns its two texts, in
     /// SAN and by squares.
     fn play(&mut self, chosen: Move) -> MoveTexts
         requires { (r : Rules) × (text : List ℕ) × (plays self.old r) × (verdict r.start (played self.old) ≡ None)
-            × (nat_le r.limit (length (played self.old)) ≡ false) × (move_read (reading (position_after r.start \1) text) ≡ Some chosen) }
+            × (nat_le r.limit (length (played self.old)) ≡ false)
+            × (move_read (reading (position_after r.start (played self.old)) text) ≡ Some chosen) }
         ensures moves { played self.new ≡ played self.old ++ chosen ∷ [] }
         ensures rules { (r : Rules) → plays self.old r → plays self.new r }
         ensures texts { (r : Rules) → plays self.old r → AreTexts r result (played self.new) }

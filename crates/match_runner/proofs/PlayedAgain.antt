@@ -190,10 +190,10 @@ module _ (r : Rules) (S : Colour) (m : Match) (on : is_over m.phase ≡ false) w
   before : (used : ℕ) (kind : LineKind) → Again (before_move r S used kind m) (before_move r S 0 kind (again m))
   before used (Moves t) = test_again (nat_le r.limit (length m.played)) _ _ _ _
       (over_again r over_by.GameTooLong m (refl, λ c. refl))
-      (subst (λ (e : Effect). Again e (move_row r S 0 (reading (position_after r.start \1) t) (again m)))
-      (sym (row_by_move r S used (reading (position_after r.start \1) t) m))
-      (subst (λ (e : Effect). Again (move_row_by r S used (move_read (reading (position_after r.start \1) t)) m) e)
-      (sym (row_by_move r S 0 (reading (position_after r.start \1) t) (again m))) (at (move_read (reading (position_after r.start \1) t)))))
+      (subst (λ (e : Effect). Again e (move_row r S 0 (reading (position_after r.start m.played) t) (again m)))
+      (sym (row_by_move r S used (reading (position_after r.start m.played) t) m))
+      (subst (λ (e : Effect). Again (move_row_by r S used (move_read (reading (position_after r.start m.played) t)) m) e)
+      (sym (row_by_move r S 0 (reading (position_after r.start m.played) t) (again m))) (at (move_read (reading (position_after r.start m.played) t)))))
     where
       at : (move : Option Move) → Again (move_row_by r S used move m) (move_row_by r S 0 move (again m))
       at None = over_again r (over_by.MovesIllegally S) m (refl, λ c. refl)

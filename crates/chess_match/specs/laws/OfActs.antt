@@ -151,7 +151,8 @@ LastLineIsTheirs = (r : Rules) (reason : Reason) (S : Colour) (H : List Act) (fi
 -- the moves played are what the two engines' `move` lines after their setup denote in turn, beginning with the side
 -- that moves first; at most one `move` line is left over
 abbrev pub MovesAreRead : Rules → List Act → Match → Type 0
-MovesAreRead r H m = AreRead r [] m.played (moves_of (lines_read r.start.side H)) (moves_of (lines_read (other r.start.side) H))
+MovesAreRead r H m =
+    AreRead r [] m.played (moves_of (lines_read r.start.side H)) (moves_of (lines_read (other r.start.side) H))
 
 -- the items known of the engine of each side `S` are those of its `feature` lines, up to and with the line that has
 -- `done=1`
@@ -183,7 +184,8 @@ MovesAreSent r H m = (O : Colour) → (rest : List (List ℕ)) × (length rest �
 -- block for `O` was sent
 abbrev pub EachIsSentOthersMoves : Bool → Rules → List Act → Match → Type 0
 EachIsSentOthersMoves whole r H m =
-    (ms : List Move) × AreRead r [] ms (moves_of (lines_read r.start.side H)) (moves_of (lines_read (other r.start.side) H))
+    (ms : List Move)
+    × AreRead r [] ms (moves_of (lines_read r.start.side H)) (moves_of (lines_read (other r.start.side) H))
     × ((O : Colour) → (rest : List (List ℕ)) × (length rest ≤ 1)
     × (whole ≡ true → is_broken H O ≡ false → rest ≡ [])
     × (moves_sent (lines_given O H) ++ rest ≡ others_moves r O (items_said (lines_read O H)) ms))

@@ -19,16 +19,16 @@ returns-then-is_full-clause-goes g c r m p on s =
 pub returns-in-None-clause-goes : goal.returns-in-None-clause-goes
 returns-in-None-clause-goes g c r m p on s =
     let full : nat_le r.limit (length m.played) ≡ false = rw (← s.moves) (sym (c.if-is_full.ensures.value r p)) in
-    let says : move_read (reading (position_after r.start \1) c.args.text.now) ≡ None = rw (← s.moves) (sym (c.in-None.ensures r p)) in
-    rw (full, row_by_move r c.args.side c.args.used (reading (position_after r.start \1) c.args.text.now) m, says)
+    let says : move_read (reading (position_after r.start m.played) c.args.text.now) ≡ None = rw (← s.moves) (sym (c.in-None.ensures r p)) in
+    rw (full, row_by_move r c.args.side c.args.used (reading (position_after r.start m.played) c.args.text.now) m, says)
     (c.finish-in-None.ensures r _ m on s)
 
 pub returns-in-Some-verdict-clause-goes : goal.returns-in-Some-verdict-clause-goes
 returns-in-Some-verdict-clause-goes g c r m p on s =
     let full : nat_le r.limit (length m.played) ≡ false = rw (← s.moves) (sym (c.if-is_full.ensures.value r p)) in
-    let says : move_read (reading (position_after r.start \1) c.args.text.now) ≡ Some c.in-Some.chosen =
+    let says : move_read (reading (position_after r.start m.played) c.args.text.now) ≡ Some c.in-Some.chosen =
     rw (← s.moves) (sym (c.in-Some.ensures r p)) in
-    let row = row_by_move r c.args.side c.args.used (reading (position_after r.start \1) c.args.text.now) m in
+    let row = row_by_move r c.args.side c.args.used (reading (position_after r.start m.played) c.args.text.now) m in
     let now : g.G.MatchGame.played c.play-texts.new.self ≡ m.played ++ c.in-Some.chosen ∷ [] =
     rw (← s.moves) c.play-texts.ensures.moves in
     let decided : verdict r.start (m.played ++ c.in-Some.chosen ∷ []) ≡ Some c.in-Some-verdict.verdict =
@@ -42,9 +42,9 @@ returns-in-Some-verdict-clause-goes g c r m p on s =
 pub returns-in-None-verdict-clause-goes : goal.returns-in-None-verdict-clause-goes
 returns-in-None-verdict-clause-goes g c r m p on s =
     let full : nat_le r.limit (length m.played) ≡ false = rw (← s.moves) (sym (c.if-is_full.ensures.value r p)) in
-    let says : move_read (reading (position_after r.start \1) c.args.text.now) ≡ Some c.in-Some.chosen =
+    let says : move_read (reading (position_after r.start m.played) c.args.text.now) ≡ Some c.in-Some.chosen =
     rw (← s.moves) (sym (c.in-Some.ensures r p)) in
-    let row = row_by_move r c.args.side c.args.used (reading (position_after r.start \1) c.args.text.now) m in
+    let row = row_by_move r c.args.side c.args.used (reading (position_after r.start m.played) c.args.text.now) m in
     let now : g.G.MatchGame.played c.play-texts.new.self ≡ m.played ++ c.in-Some.chosen ∷ [] =
     rw (← s.moves) c.play-texts.ensures.moves in
     let open_still : verdict r.start (m.played ++ c.in-Some.chosen ∷ []) ≡ None =
