@@ -15,10 +15,10 @@ use Rattle.cecp_engine.specs.Items.{Item, takes}
 use Rattle.cecp_engine.specs.Seen.{features_of}
 use Rattle.chess_match.specs.Acts.{awaits_line, is_over}
 use Rattle.chess_match.specs.Effects.{Match, Phase, Handshake, Opening, BeforeMove, Over, Effect, begins_turn, clock, ends, handshake_row, is_owed_move, line_row, moved, sends_nothing, sends_to, with_seat}
-use Rattle.chess_match.specs.ties.Parts.{enter, with_answers}
+use Rattle.chess_match.specs.shared.Parts.{enter, with_answers}
 use Rattle.chess_match.specs.Events.{Seat}
 use Rattle.chess_match.specs.Lines.{SentLine, Says}
-use Rattle.chess_match.specs.ties.Delivering.{answers_to}
+use Rattle.chess_match.specs.shared.Parts.{answers_to}
 use Rattle.chess_match.specs.Reasons.{is_write_fault_of}
 use Rattle.chess_match.specs.Rules.{Rules}
 use Rattle.chess_match.specs.declared.phase.Phase.{Phase as CorePhase}

@@ -8,7 +8,7 @@ use Rattle.chess_base.specs.ByColour.{by_colour}
 use Rattle.chess_base.specs.Men.{other, same_colour}
 use Rattle.chess_base.proofs.shared.Men.{same_colour-other, same_colour-self}
 use Rattle.chess_match.specs.Acts.{Block, block_of, blocks_from, is_over}
-use Rattle.chess_match.specs.ties.Parts.{blocks_after}
+use Rattle.chess_match.specs.shared.Parts.{blocks_after}
 use Rattle.chess_match.specs.Effects.{Match, Effect, effect}
 use Rattle.chess_match.specs.Events.{FailsToWrite}
 use Rattle.chess_match.specs.Lines.{SentLine}

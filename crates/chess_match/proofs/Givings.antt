@@ -14,10 +14,10 @@ use Rattle.chess_match.specs.laws.Laws.{line_kind}
 use Rattle.cecp_engine.specs.Items.{Item}
 use Rattle.chess_match.specs.Acts.{Act, Block, IsMatch, IsMatchFrom, awaits_line, is_over, block_of, blocks_from}
 use Rattle.chess_match.specs.Effects.{Match, Handshake, Setup, Opening, BeforeMove, AfterMove, Effect, beginning, begins_turn, effect, ends, handshake_lines, line_row, moved}
-use Rattle.chess_match.specs.ties.Parts.{enter, blocks_after}
+use Rattle.chess_match.specs.shared.Parts.{enter, blocks_after}
 use Rattle.chess_match.specs.Events.{Line}
 use Rattle.chess_match.specs.Lines.{SentLine, Says, MoveSent, Time, Otim, setup_lines}
-use Rattle.chess_match.specs.ties.Delivering.{answers_to}
+use Rattle.chess_match.specs.shared.Parts.{answers_to}
 use Rattle.chess_match.specs.Rules.{Rules}
 use Rattle.chess_match.specs.declared.reason.Reason.{Reason}
 use Rattle.chess_match.specs.declared.reason.Reason.TheVariants.{Decided}

@@ -6,7 +6,7 @@ use Rattle.chess_base.specs.declared.man.Colour.{Colour}
 use Rattle.chess_base.specs.declared.man.Colour.TheVariants.{White}
 use Rattle.chess_base.specs.Men.{same_colour}
 use Rattle.chess_match.specs.Acts.{Act, Block, Sends, SendFails, Happens, IsMatch, IsMatchFrom, awaits_line, is_over, blocks_from}
-use Rattle.chess_match.specs.ties.Parts.{blocks_after}
+use Rattle.chess_match.specs.shared.Parts.{blocks_after}
 use Rattle.chess_match.specs.Effects.{Match, Phase, Opening, effect, beginning}
 use Rattle.chess_match.specs.Events.{Line, Opened, OutputEnds, FailsToRead, FailsToWrite}
 use Rattle.chess_match.specs.Lines.{SentLine}

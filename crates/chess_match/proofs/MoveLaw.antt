@@ -11,7 +11,7 @@ use Rattle.chess_base.proofs.shared.Men.{same_colour-true}
 use Rattle.cecp_engine.specs.Items.{takes}
 use Rattle.chess_match.specs.Acts.{Act, Block, IsMatch, IsMatchFrom, Sends, SendFails, Happens, awaits_line, is_over}
 use Rattle.chess_match.specs.Effects.{Match, Phase, Handshake, Setup, Opening, BeforeMove, AfterMove, Over, begins_turn, beginning, effect, ends, is_owed_move, moved, opening}
-use Rattle.chess_match.specs.ties.Parts.{enter}
+use Rattle.chess_match.specs.shared.Parts.{enter}
 use Rattle.chess_match.specs.Events.{Line, Opened}
 use Rattle.chess_match.specs.Lines.{SentLine}
 use Rattle.chess_match.specs.Reasons.{is_write_fault_of}

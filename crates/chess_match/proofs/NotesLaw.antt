@@ -7,7 +7,7 @@ use Rattle.chess_base.specs.Men.{same_colour}
 use Rattle.chess_base.specs.Options.{list_if}
 use Rattle.chess_match.specs.Acts.{Act, Block, Sends, SendFails, Happens, blocks_from, is_over}
 use Rattle.chess_match.specs.Effects.{Match, Phase, Over, beginning, effect}
-use Rattle.chess_match.specs.ties.Parts.{farewell}
+use Rattle.chess_match.specs.shared.Parts.{farewell}
 use Rattle.chess_match.specs.Events.{Event, Line, Opened, OutputEnds, FailsToRead, FailsToWrite}
 use Rattle.chess_match.specs.Lines.{SentLine, bytes_of}
 use Rattle.chess_match.specs.Notes.{Note, Happened}

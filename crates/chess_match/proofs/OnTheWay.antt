@@ -21,7 +21,7 @@ use Rattle.chess_game.specs.declared.tags.HowEnded.{HowEnded}
 use Rattle.cecp_engine.specs.Items.{Item, last_said}
 use Rattle.cecp_engine.specs.Levels.{LevelSeen}
 use Rattle.chess_match.specs.Acts.{Block, awaits_line, blocks_from, is_over}
-use Rattle.chess_match.specs.ties.Parts.{blocks_after}
+use Rattle.chess_match.specs.shared.Parts.{blocks_after}
 use Rattle.chess_match.specs.Effects.{Match, Phase, Handshake, Setup as SetupPhase, Opening, BeforeMove, AfterMove, Over, Effect, beginning, effect}
 use Rattle.chess_match.specs.Events.{Event, Line, Opened, OutputEnds, FailsToRead}
 use Rattle.chess_match.specs.Played.{PlayedAt}

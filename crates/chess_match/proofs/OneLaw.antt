@@ -9,7 +9,7 @@ use Rattle.chess_base.specs.Men.{same_colour}
 use Rattle.chess_base.specs.Options.{list_if}
 use Rattle.chess_base.proofs.shared.Men.{same_colour-self}
 use Rattle.chess_match.specs.Acts.{Act, Block, IsMatchFrom, Sends, SendFails, Happens, awaits_line, blocks_from, is_over}
-use Rattle.chess_match.specs.ties.Parts.{blocks_after}
+use Rattle.chess_match.specs.shared.Parts.{blocks_after}
 use Rattle.chess_match.specs.Effects.{Match, Phase, Opening, beginning, effect}
 use Rattle.chess_match.specs.Events.{Event, Line, Opened, OutputEnds, FailsToRead, FailsToWrite}
 use Rattle.chess_match.specs.Rules.{Rules}

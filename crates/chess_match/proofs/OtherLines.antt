@@ -6,9 +6,13 @@ use Rattle.chess_base.specs.declared.man.Colour.{Colour}
 use Rattle.cecp_engine.specs.Seen.{seen}
 use Rattle.cecp_engine.specs.declared.engine_line.EngineLine.{EngineLine}
 use Rattle.cecp_engine.specs.declared.engine_line.EngineLine.TheVariants.{Features, Move, Resign, Offer, Draw, Win, Rejection, Pong}
-use Rattle.chess_match.specs.Effects.{Match, Setup, AfterMove, before_move, ignores, line_row, turn_row}
+use Rattle.chess_match.specs.Effects.{Match, Setup, AfterMove, before_move, ends, ignores, line_row, move_row, turn_row}
 use Rattle.chess_match.specs.laws.Laws.{items_in_line}
 use Rattle.chess_match.specs.Rules.{Rules}
+use Rattle.chess_match.specs.declared.reason.Reason.TheVariants.{MovesIllegally}
+use Rattle.chess_base.specs.declared.man.Move as chess
+use Rattle.chess_text.specs.declared.reading.Reading.{Reading}
+use Rattle.chess_text.specs.declared.reading.Reading.TheVariants as reads
 
 -- only a `feature` line has items
 pub no_items_said : (line : EngineLine) → ((text : Bor (List ℕ)) → line ≡ Features text → ⊥)
@@ -31,6 +35,12 @@ pub after_other : (r : Rules) (S : Colour) (line : EngineLine) (moment : ℕ) (n
     → ((text : Bor (List ℕ)) → line ≡ Move text → ⊥) → ((k : ℕ) → line ≡ Pong k → ⊥)
     → line_row r (AfterMove S) (seen line) moment n ≡ turn_row r S (seen line) n
 after_other r S line moment n h1 h2 = grind arith
+
+-- a text that is read as no legal move
+pub illegal_move : (r : Rules) (S : Colour) (used : ℕ) (x : Reading) (n : Match)
+    → ((chosen : chess.Move) → x ≡ reads.Move chosen → ⊥)
+    → move_row r S used x n ≡ ends r (MovesIllegally S) n
+illegal_move r S used x n h1 = grind arith
 
 -- a line that means nothing in a turn
 pub ignored_other : (r : Rules) (S : Colour) (line : EngineLine) (n : Match) → (line ≡ Resign → ⊥)

@@ -11,7 +11,7 @@ use Rattle.cecp_engine.specs.EngineLines.{Moves}
 use Rattle.cecp_engine.specs.Items.{ends_handshake}
 use Rattle.chess_match.specs.Acts.{Act, Sends, SendFails, Happens, awaits_line, is_over}
 use Rattle.chess_match.specs.Effects.{Match, Phase, Handshake, Setup, Opening, BeforeMove, AfterMove, Over, ends, line_row, moved}
-use Rattle.chess_match.specs.ties.Parts.{enter}
+use Rattle.chess_match.specs.shared.Parts.{enter}
 use Rattle.chess_text.specs.declared.reading.Reading.TheVariants as reads
 use Rattle.chess_match.specs.Rules.{Rules}
 use Rattle.chess_match.specs.declared.reason.MatchFault.TheVariants.{Ended, Read, Write}

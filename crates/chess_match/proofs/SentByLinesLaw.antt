@@ -8,7 +8,7 @@ use Rattle.chess_base.specs.Men.{other, same_colour}
 use Rattle.cecp_engine.specs.Items.{Item, ends_handshake}
 use Rattle.chess_match.specs.Acts.{Act, awaits_line, is_over}
 use Rattle.chess_match.specs.Effects.{Match, Phase, Handshake, Setup, Opening, Over, beginning, ends, line_row, moved}
-use Rattle.chess_match.specs.ties.Parts.{enter}
+use Rattle.chess_match.specs.shared.Parts.{enter}
 use Rattle.chess_match.specs.Rules.{Rules}
 use Rattle.chess_match.specs.declared.reason.MatchFault.TheVariants.{Ended, Read, Write}
 use Rattle.chess_match.specs.declared.reason.Reason.TheVariants.{Decided, Faulted}

@@ -10,7 +10,7 @@ use Rattle.chess_match.specs.Acts.{Happens, awaits_line}
 use Rattle.chess_match.specs.Effects.{Match, effect}
 use Rattle.chess_match.specs.Events.{Event, OutputEnds, FailsToRead}
 use Rattle.chess_match.specs.Lines.{bytes_of}
-use Rattle.chess_match.specs.ties.Delivering.{answers_to}
+use Rattle.chess_match.specs.shared.Parts.{answers_to}
 use Rattle.chess_match.specs.Rules.{Rules}
 use Rattle.chess_match.specs.Run.{text_read}
 use Rattle.chess_match.specs.Table.{Does, ReadsLine, Passing, Passes, reading_of}

@@ -14,7 +14,7 @@ use Rattle.cecp_engine.specs.Items.{takes}
 use Rattle.cecp_engine.specs.Levels.{LevelSeen, allotted}
 use Rattle.chess_match.specs.Acts.{Act, IsMatch, is_over}
 use Rattle.chess_match.specs.Effects.{Match, Phase, Handshake, Setup, Opening, BeforeMove, AfterMove, Over, begins_turn, beginning, ends, moved, opening}
-use Rattle.chess_match.specs.ties.Parts.{enter}
+use Rattle.chess_match.specs.shared.Parts.{enter}
 use Rattle.chess_match.specs.Lines.{SentLine, Says}
 use Rattle.chess_match.specs.Rules.{Rules}
 use Rattle.chess_match.specs.declared.reason.Reason.{Reason}

@@ -7,7 +7,7 @@ use Rattle.chess_base.specs.Men.{other, same_colour}
 use Rattle.cecp_engine.specs.EngineLines.{LineKind}
 use Rattle.chess_match.specs.Acts.{Act, Sends, SendFails, Happens, awaits_line, is_over}
 use Rattle.chess_match.specs.Effects.{Match, Phase, Handshake, Setup, Opening, BeforeMove, Over, effect, line_row, moved}
-use Rattle.chess_match.specs.ties.Parts.{enter}
+use Rattle.chess_match.specs.shared.Parts.{enter}
 use Rattle.chess_match.specs.Events.{Line, Opened}
 use Rattle.chess_match.specs.Rules.{Rules}
 use Rattle.chess_match.specs.declared.reason.Reason.TheVariants.{Decided}

@@ -1,7 +1,6 @@
 -- What only joins code to the definitions: no claim rests on it.
 pub mod Texts
 pub mod Represents
-pub mod Parts
 pub mod Chess
 pub mod Sane
 pub mod Reported

@@ -13,7 +13,6 @@ ghost use Rattle.chess_game.specs.Game.{current, verdict_now, State};
 ghost use Rattle.chess_game.specs.Ends.{verdict, claims};
 ghost use Rattle.chess_text.specs.Moves.{reading};
 ghost use Rattle.chess_match.specs.Rules.{start_fen};
-ghost use Rattle.chess_match.specs.ties.Chess.{move_read};
 ghost use Rattle.chess_match.specs.Rules.{has_bare_king};
 
 use crate::block::Block;
@@ -66,18 +65,6 @@ fn start_text(start: &Position) -> Option<FenText>
     }
 }
 
-// The move that a text was read as, if it denotes exactly one legal move; otherwise `None`.
-fn move_read(reading: Reading) -> Option<Move>
-    ensures { result ≡ move_read reading }
-{
-    match reading {
-        Reading::Move(chosen) => Some(chosen),
-        Reading::Ambiguous => None,
-        Reading::NoSuch => None,
-        Reading::NotAMove => None,
-    }
-}
-
 impl<B: Board> MatchGame for Game<B> {
     ghost use Rattle.chess_match.specs.ties.Chess.{Plays};
 
@@ -107,9 +94,9 @@ impl<B: Board> MatchGame for Game<B> {
         Game::is_full(self)
     }
 
-    // The one legal move that a text denotes in the current position; `None` if it denotes none, or more than one.
-    fn reading(&self, text: &[u8]) -> Option<Move> {
-        move_read(read_move(self.board(), text))
+    // What a text denotes in the current position.
+    fn reading(&self, text: &[u8]) -> Reading {
+        read_move(self.board(), text)
     }
 
     // The board's verdict on the current position, if there is one.

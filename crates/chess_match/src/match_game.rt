@@ -5,7 +5,7 @@ ghost use Rattle.std.specs.Prelude.{◌≡◌, ◌<◌, ◌≤◌, ◌+◌, ◌+
 ghost use Rattle.arrayvec.specs.ArrayVec.{array_vec_len};
 ghost use Rattle.chess_match.specs.Rules.{Rules, start_fen, has_bare_king};
 ghost use Rattle.chess_match.specs.Lines.{bytes_of};
-ghost use Rattle.chess_match.specs.ties.Chess.{move_read};
+ghost use Rattle.chess_text.specs.declared.reading.Reading.TheVariants as reads;
 ghost use Rattle.chess_match.specs.ties.Delivering.{start_lines};
 ghost use Rattle.chess_match.specs.ties.Texts.{AreTexts};
 ghost use Rattle.chess_game.specs.declared.game.TheConstants.{MOST_MOVES};
@@ -17,6 +17,7 @@ use crate::block::Block;
 use crate::texts::MoveTexts;
 use chess_base::{Colour, Move, Variant};
 use chess_game::{DrawClaim, Verdict};
+use chess_text::Reading;
 
 /// The game of a match, as the match sees it.
 pub(crate) trait MatchGame {
@@ -51,10 +52,10 @@ pub(crate) trait MatchGame {
         ensures value { (r : Rules) → plays self.now r → result ≡ nat_le r.limit (length (played self.now)) }
         ensures few { result ≡ false → length (played self.now) < MOST_MOVES };
 
-    /// The one legal move that a text denotes in the current position; `None` if it denotes none, or more than one.
-    fn reading(&self, text: &[u8]) -> Option<Move>
+    /// What a text denotes in the current position.
+    fn reading(&self, text: &[u8]) -> Reading
         ensures { (r : Rules) → plays self.now r
-            → result ≡ move_read (reading (position_after r.start (played self.now)) text.now) };
+            → result ≡ reading (position_after r.start (played self.now)) text.now };
 
     /// The board's verdict on the current position, if there is one.
     fn verdict(&self) -> Option<Verdict>
@@ -74,7 +75,7 @@ pub(crate) trait MatchGame {
     fn play(&mut self, chosen: Move) -> MoveTexts
         requires { (r : Rules) × (text : List ℕ) × (plays self.old r) × (verdict r.start (played self.old) ≡ None)
             × (nat_le r.limit (length (played self.old)) ≡ false)
-            × (move_read (reading (position_after r.start (played self.old)) text) ≡ Some chosen) }
+            × (reading (position_after r.start (played self.old)) text ≡ reads.Move chosen) }
         ensures moves { played self.new ≡ played self.old ++ chosen ∷ [] }
         ensures rules { (r : Rules) → plays self.old r → plays self.new r }
         ensures texts { (r : Rules) → plays self.old r → AreTexts r result (played self.new) }

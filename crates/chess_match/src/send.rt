@@ -7,7 +7,7 @@ ghost use Rattle.cecp_engine.specs.Items.{Item};
 ghost use Rattle.chess_match.specs.declared.block.TheConstants.{ANSWERS_LEN, BLOCK_LEN};
 ghost use Rattle.chess_match.specs.Effects.{Effect, Match};
 ghost use Rattle.chess_match.specs.Lines.{SentLine, bytes_of};
-ghost use Rattle.chess_match.specs.ties.Delivering.{answers_to};
+ghost use Rattle.chess_match.specs.shared.Parts.{answers_to};
 ghost use Rattle.chess_match.specs.Rules.{Rules};
 ghost use Rattle.chess_match.specs.Table.{Passes};
 ghost use Rattle.chess_match.specs.ties.Driving.{giving};

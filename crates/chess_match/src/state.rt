@@ -11,7 +11,7 @@ ghost use Rattle.chess_match.specs.ties.Represents.{name_by, Represents};
 ghost use Rattle.chess_match.specs.Effects.{beginning};
 ghost use Rattle.chess_match.specs.Rules.{Rules};
 ghost use Rattle.chess_match.specs.Lines.{bytes_of};
-ghost use Rattle.chess_match.specs.ties.Delivering.{answers_to};
+ghost use Rattle.chess_match.specs.shared.Parts.{answers_to};
 ghost use Rattle.chess_match.specs.ties.Texts.{unsent_in};
 
 use crate::block::{Block, add_answer};

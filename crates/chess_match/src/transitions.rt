@@ -5,7 +5,7 @@ ghost use Rattle.chess_base.specs.declared.man.Colour.{Colour};
 ghost use Rattle.chess_base.specs.declared.man.Move.{Move};
 ghost use Rattle.chess_match.specs.Acts.{is_over};
 ghost use Rattle.chess_match.specs.Effects.{Match, begins_turn, ends, ignores, is_owed_move};
-ghost use Rattle.chess_match.specs.ties.Parts.{enter};
+ghost use Rattle.chess_match.specs.shared.Parts.{enter};
 ghost use Rattle.chess_match.specs.Rules.{Rules};
 ghost use Rattle.chess_match.specs.ties.Represents.{Represents, Goes, is_unsent, nothing_said, phase_lines, phase_of};
 ghost use Rattle.chess_match.specs.ties.Texts.{all_sent};

@@ -15,9 +15,9 @@ use Rattle.chess_game.specs.declared.verdicts.Verdict.{Verdict}
 use Rattle.cecp_engine.specs.EngineLines.{LineKind, Features, Moves, Resigns, OffersDraw, ClaimsDraw, ClaimsWin, Rejects, Answers}
 use Rattle.cecp_engine.specs.Items.{Item, ends_handshake, items_of}
 use Rattle.chess_match.specs.Effects.{Match, Phase, Handshake, Setup, Opening, BeforeMove, AfterMove, Over, Effect, flag_row, before_move, clock, ends, handshake_done, handshake_row, ignores, is_owed_move, judged, line_row, missing, move_line, move_row, moved, offer_row, ping_number, sends_nothing, sends_to, setup_done, turn_row, with_seat}
-use Rattle.chess_match.specs.ties.Parts.{with_answers, farewell, move_row_by}
-use Rattle.chess_match.specs.ties.Chess.{move_read}
-use Rattle.chess_match.proofs.shared.Moves.{row_by_move}
+use Rattle.chess_match.specs.shared.Parts.{with_answers, farewell}
+use Rattle.chess_text.specs.declared.reading.Reading.{Reading}
+use Rattle.chess_text.specs.declared.reading.Reading.TheVariants as reads
 use Rattle.chess_match.specs.Acts.{awaits_line, is_over}
 use Rattle.chess_match.specs.Events.{Seat}
 use Rattle.chess_match.specs.Rules.{Rules, has_bare_king}
@@ -26,7 +26,7 @@ use Rattle.chess_match.specs.declared.reason.MatchFault.{MatchFault}
 use Rattle.chess_match.specs.declared.reason.MatchFault.TheVariants.{Flood, NoDone}
 use Rattle.chess_match.specs.declared.reason.Reason.{Reason}
 use Rattle.chess_match.specs.Lines.{SentLine, Says, ping}
-use Rattle.chess_match.specs.ties.Delivering.{answers_to}
+use Rattle.chess_match.specs.shared.Parts.{answers_to}
 use Rattle.chess_match.specs.Reasons.{is_write_fault_of}
 use Rattle.chess_match.specs.declared.reason.Reason.TheVariants as over_by
 use Rattle.match_runner.specs.laws.ReadBack.{text_of_result}
@@ -190,15 +190,17 @@ module _ (r : Rules) (S : Colour) (m : Match) (on : is_over m.phase ≡ false) w
   before : (used : ℕ) (kind : LineKind) → Again (before_move r S used kind m) (before_move r S 0 kind (again m))
   before used (Moves t) = test_again (nat_le r.limit (length m.played)) _ _ _ _
       (over_again r over_by.GameTooLong m (refl, λ c. refl))
-      (subst (λ (e : Effect). Again e (move_row r S 0 (reading (position_after r.start m.played) t) (again m)))
-      (sym (row_by_move r S used (reading (position_after r.start m.played) t) m))
-      (subst (λ (e : Effect). Again (move_row_by r S used (move_read (reading (position_after r.start m.played) t)) m) e)
-      (sym (row_by_move r S 0 (reading (position_after r.start m.played) t) (again m))) (at (move_read (reading (position_after r.start m.played) t)))))
+      (at (reading (position_after r.start m.played) t))
     where
-      at : (move : Option Move) → Again (move_row_by r S used move m) (move_row_by r S 0 move (again m))
-      at None = over_again r (over_by.MovesIllegally S) m (refl, λ c. refl)
-      at (Some move) =
-          subst (λ (n : Match). Again (move_row_by r S used (Some move) m)
+      illegal : Again (ends r (over_by.MovesIllegally S) m) (ends r (over_by.MovesIllegally S) (again m))
+      illegal = over_again r (over_by.MovesIllegally S) m (refl, λ c. refl)
+
+      at : (read : Reading) → Again (move_row r S used read m) (move_row r S 0 read (again m))
+      at reads.Ambiguous = illegal
+      at reads.NoSuch = illegal
+      at reads.NotAMove = illegal
+      at (reads.Move move) =
+          subst (λ (n : Match). Again (move_row r S used (reads.Move move) m)
           (option_map_or (λ verdict. ends r (over_by.Decided verdict) n) (verdict r.start (m.played ++ move ∷ []))
           (sends_to S (ping (ping_number n S) ∷ []) n)))
           (moved_again move used)

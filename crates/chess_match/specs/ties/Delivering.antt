@@ -16,12 +16,6 @@ use Rattle.chess_text.specs.San.{is_fischerandom}
 abbrev pub answer_line : List ℕ → List ℕ
 answer_line name = ((if is_known name then codes "accepted " else codes "rejected ") ++ name) ++ new_line ∷ []
 
--- the lines that answer these items of `feature` lines, one for each, in their order, whatever the item's value:
--- `accepted` and its name, such as `accepted ping`, if the arbiter knows the name (`is_known`); otherwise `rejected`
--- and the name
-abbrev pub answers_to : List Item → List SentLine
-answers_to items = map (λ i. Says ((if is_known i.name then codes "accepted " else codes "rejected ") ++ i.name)) items
-
 -- the line `setboard FEN` with this FEN of the start position, as a list of one; empty for `None`
 abbrev pub start_lines : Option (List ℕ) → List SentLine
 start_lines start = option_map_or (λ fen. Says (codes "setboard " ++ fen) ∷ []) start []

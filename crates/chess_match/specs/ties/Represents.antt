@@ -21,7 +21,7 @@ use Rattle.chess_match.specs.laws.Laws.{items_in_line}
 use Rattle.chess_match.specs.Events.{Seat}
 use Rattle.chess_match.specs.Rules.{Rules}
 use Rattle.chess_match.specs.Lines.{SentLine, Says, ping, setup_lines}
-use Rattle.chess_match.specs.ties.Delivering.{answers_to}
+use Rattle.chess_match.specs.shared.Parts.{answers_to}
 use Rattle.chess_match.specs.Reasons.{is_write_fault_of, result_of}
 use Rattle.chess_match.specs.declared.phase.Phase.{Phase as CorePhase}
 use Rattle.chess_match.specs.declared.phase.Phase.TheVariants as core_in

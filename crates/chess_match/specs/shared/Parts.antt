@@ -1,25 +1,27 @@
--- Parts of effects, and what is due after a line, by names that proofs use.
-use Rattle.std.specs.Prelude.{ℕ, if◌then◌else◌, List, [], ◌∷◌, ◌++◌, codes, Option, None, Some}
+-- Parts of effects, and what is due after a line, by names that proofs use, also those of match_runner.
+use Rattle.std.specs.Prelude.{ℕ, if◌then◌else◌, List, [], ◌∷◌, ◌++◌, map, codes}
 use Rattle.chess_base.specs.declared.man.Colour.{Colour}
 use Rattle.chess_base.specs.declared.man.Colour.TheVariants.{White}
-use Rattle.chess_base.specs.declared.man.Move.{Move}
 use Rattle.chess_base.specs.Men.{same_colour}
 use Rattle.chess_base.specs.Options.{list_if}
-use Rattle.cecp_engine.specs.Items.{Item}
+use Rattle.cecp_engine.specs.Items.{Item, is_known}
 use Rattle.chess_match.specs.Acts.{Block, blocks_from, is_over}
-use Rattle.chess_match.specs.Effects.{Effect, Match, Phase, ends, is_owed_move, move_line, move_row}
+use Rattle.chess_match.specs.Effects.{Effect, Match, Phase, is_owed_move, move_line}
 use Rattle.chess_game.specs.Ends.{result_text}
 use Rattle.chess_match.specs.Reasons.{result_of}
 use Rattle.chess_match.specs.Rules.{Rules}
 use Rattle.chess_match.specs.declared.reason.Reason.{Reason}
-use Rattle.chess_match.specs.declared.reason.Reason.TheVariants.{MovesIllegally}
-use Rattle.chess_text.specs.declared.reading.Reading.TheVariants as reads
 use Rattle.chess_match.specs.Lines.{SentLine, Says}
-use Rattle.chess_match.specs.ties.Delivering.{answers_to}
 
 -- the match `m` at the beginning of this phase: no line was counted in it yet
 abbrev pub enter : Phase → Match → Match
 enter phase m = record m { phase = phase; count = 0 }
+
+-- the lines that answer these items of `feature` lines, one for each, in their order, whatever the item's value:
+-- `accepted` and its name, such as `accepted ping`, if the arbiter knows the name (`is_known`); otherwise `rejected`
+-- and the name
+abbrev pub answers_to : List Item → List SentLine
+answers_to items = map (λ i. Says ((if is_known i.name then codes "accepted " else codes "rejected ") ++ i.name)) items
 
 -- the effect `e`, except that the engine of this side is sent, before all else, an answer to each of these items
 abbrev pub with_answers : Colour → List Item → Effect → Effect
@@ -37,9 +39,3 @@ abbrev pub farewell : Rules → Match → Reason → Colour → List SentLine
 farewell r m reason S =
     list_if (is_owed_move m.phase S) (move_line r m S ∷ [])
     ++ (Says (codes "result " ++ result_text (result_of reason)) ∷ Says (codes "quit") ∷ [])
-
--- what a line `move M` of the side `S` does, `used` milliseconds after its turn began; the option is the one legal move
--- that M denotes
-abbrev pub move_row_by : Rules → Colour → ℕ → Option Move → Match → Effect
-move_row_by r S used None m = ends r (MovesIllegally S) m
-move_row_by r S used (Some move) m = move_row r S used (reads.Move move) m
