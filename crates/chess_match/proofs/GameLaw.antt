@@ -1,5 +1,5 @@
 -- The moves of a match are legal, each in the position to which those before it lead.
-use Rattle.std.proofs.Common.{◌≡◌, ℕ, List, [], ◌∷◌, ◌++◌, refl, subst, None}
+use Rattle.std.proofs.Common.{◌≡◌, ℕ, List, [], ◌∷◌, ◌++◌, refl, subst, None, ap}
 use Rattle.chess_base.specs.Men.{other}
 use Rattle.chess_base.specs.Moves.{after}
 use Rattle.chess_base.specs.declared.man.Move.{Move}
@@ -8,9 +8,8 @@ use Rattle.chess_game.specs.Game as game
 use Rattle.chess_game.specs.Line.{IsLine, position_after}
 use Rattle.chess_text.specs.laws.Laws.{ReadMovesAreLegal}
 use Rattle.cecp_engine.specs.Levels.{LevelSeen}
-use Rattle.chess_match.specs.ByDevice.{lines_read}
 use Rattle.chess_match.specs.Rules.{Rules, rules_of}
-use Rattle.chess_match.specs.laws.Laws.{AreRead, moves_of}
+use Rattle.chess_match.specs.laws.Laws.{AreRead, moves_of, lines_read}
 use Rattle.chess_match.specs.laws.OfActs.{GamesAreLines, MovesAreRead}
 use Rattle.chess_match.proofs.Points.{in_each}
 use Rattle.chess_match.proofs.ReadLaw.{moves_are_read}
@@ -25,12 +24,12 @@ line_from : ReadMovesAreLegal → (start : Setup) (level : LevelSeen) (limit : �
     (mine theirs : List (List ℕ)) → AreRead (rules_of start level limit) before ms mine theirs
     → IsLine (position_after start before) ms
 line_from legal start level limit before [] mine theirs h = tt
-line_from legal start level limit before (m ∷ ms) mine theirs (text, rest, e, reads, more) =
+line_from legal start level limit before (m ∷ ms) mine theirs (text, rest, e, denoted, more) =
     let g : game.Seen = record {
       limit = limit;
       state = record { start = start; moves = before; declared = None };
     } in (
-      legal_read legal g (rules_of start level limit) text m (level, refl, refl) reads,
+      legal_read legal g (rules_of start level limit) text m (level, refl, refl) denoted,
       subst (λ (p : Setup). IsLine p ms) (one_after start before m)
           (line_from legal start level limit (before ++ m ∷ []) ms theirs rest more),
     )
