@@ -58,8 +58,8 @@ verify_status (Ok EachGame) = 0
 verify_status _ = 1
 
 -- from the output's state `w` to `w'` some text was written, such as the help (which text, is not said here). With the
--- exit status 0 all of it was written and flushed. With status 1 the output stays as it is, as when memory ran out; or a
--- beginning of the text, maybe nothing or all, was written, and then a write or a flush failed
+-- exit status 0 all of it was written and flushed. With status 1 the output stays as it is, as when memory ran out; or
+-- a beginning of the text, maybe nothing or all, was written, and then a write or a flush failed
 abbrev pub WritesHelp : OutputState → OutputState → ℕ → Type 0
 WritesHelp w w' status =
     ((status ≡ 0) × (text : List ℕ) × OutputTook w w' (all_of text))

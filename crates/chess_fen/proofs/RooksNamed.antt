@@ -1,4 +1,4 @@
--- A right of Chess960 by the letters that name it, and the rooks that these name: a proof takes them one after the other.
+-- A right of Chess960 by the letters that name it, and the rooks that these name: a proof takes them one by one.
 use Rattle.std.proofs.Common.{◌≡◌, ℕ, Bool, true, false, List, [], ◌∷◌, map, Option, Some, refl, sym, ap, ◌∙◌}
 use Rattle.std.specs.Prelude.{find, ◌&&◌, ◌||◌, ◌==◌, ◌-◌, if◌then◌else◌}
 use Rattle.std.specs.List.{filter, filter_map}

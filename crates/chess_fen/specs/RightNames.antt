@@ -35,7 +35,8 @@ right_letter Fischerandom c w s = first_letter c + file s
 
 -- ---- Chess960
 
--- the squares of colour c's first rank from the board's edge on side w to the other: for White's king side from h1 to a1
+-- the squares of colour c's first rank from the board's edge on side w to the other: for White's king side from h1 to
+-- a1
 abbrev pub from_edge : Colour → CastlingSide → List ℕ
 from_edge c w = map (home_square c)
     (by_side (7 ∷ 6 ∷ 5 ∷ 4 ∷ 3 ∷ 2 ∷ 1 ∷ 0 ∷ []) (0 ∷ 1 ∷ 2 ∷ 3 ∷ 4 ∷ 5 ∷ 6 ∷ 7 ∷ []) w)

@@ -48,13 +48,14 @@ pub fn a_rank_has_one_text()
     ensures no_other { (row : List (Option Man)) → (text : List ℕ) → IsRankText row text → text ≡ fen_rank row }
 {}
 
-/// A law: the contract says it, and the function does nothing. Small texts worked out: what a text of six fields denotes;
-/// a rank's text; and how letters name rights of Chess960, where White's king is on c1 and White's rooks are on b1, f1
-/// and h1.
+/// A law: the contract says it, and the function does nothing. Small texts worked out: what a text of six fields is
+/// read as; a rank's text; and how letters name rights of Chess960, where White's king is on c1 and White's rooks are on
+/// b1, f1 and h1.
 pub fn fens_are_worked_out()
     // The third field names no right, and no right wrongly.
     ensures fields { (fields_of (codes "4k3/8/8/8/8/8/4P3/4K3 b - - 5 39")
         ≡ codes "4k3/8/8/8/8/8/4P3/4K3" ∷ codes "b" ∷ codes "-" ∷ codes "-" ∷ codes "5" ∷ codes "39" ∷ [])
+        × (fen_reading_as Normal (codes "4k3/8/8/8/8/8/4P3/4K3 b - - 5 39") ≡ Ok kings_and_pawn)
         × DenotesFenAs Normal (codes "4k3/8/8/8/8/8/4P3/4K3 b - - 5 39") kings_and_pawn }
     ensures rank { IsRankText (replicate 4 None ++ (man_of White Pawn ∷ replicate 3 None)) (codes "4P3") }
     // The outermost rook on the king's side is on h1, the only one on the queen's side on b1.

@@ -43,8 +43,8 @@ has_insufficient_material men =
 
 -- why the game from `start` by the moves ms is over without a declared result. It is the first of these that holds: no
 -- legal move (in check the other side has mated, otherwise stalemate); insufficient material; the present position has
--- occurred at least five times; the halfmove clock, which continues from that of `start`, is at least 150 (75 moves of
--- each side without a pawn move or capture). `None` if none holds
+-- occurred at least five times; the halfmove clock, which continues from that of `start`, is at least 150, which is 75
+-- moves of each side without a pawn move or capture. `None` if none holds
 unfoldable pub verdict : Setup → List Move → Option Verdict
 verdict start ms =
     let p = position_after start ms in

@@ -22,7 +22,8 @@ use Rattle.chess_text.specs.declared.parts.Promotion.{Promotion}
 use Rattle.chess_base.specs.Options.{list_if}
 use Rattle.chess_text.specs.Parts.{unmarked, kind_text, file_text, rank_text, ◌·◌}
 use Rattle.chess_text.specs.Moves.{denotes_described, castling_texts, start_texts, capture_texts, promotion_texts, texts_by_squares, texts_by_letter, texts_of_pawn}
-use Rattle.chess_text.specs.ties.Fitting.{is_castling_text, passes, promotion_text, parts_text, admits, names, names_kind, promotes_so, has_equals, is_by_squares, is_by_letter, is_straight, is_by_file, parts_fit, has_parts, fits_text}
+use Rattle.chess_text.specs.ties.Fitting.{passes, promotion_text, parts_text, admits, names, names_kind, promotes_so, has_equals, is_by_squares, is_by_letter, is_straight, is_by_file, parts_fit, has_parts, fits_text}
+use Rattle.chess_text.specs.laws.CastlingTexts.{is_castling_text}
 use Rattle.chess_text.specs.ties.Reader.{parts_at}
 use Rattle.chess_text.specs.laws.Laws.{HasLetter, CanPromote, AreParts, IsDenoted}
 use Rattle.chess_text.proofs.Lists.{IsIn, in-flat_map, in-one, in-append-left, in-append-right, each-append, each-flat_map, each-one, found}

@@ -20,7 +20,8 @@ use mathlib.Core.Bool.{or-false}
 use Rattle.chess_text.specs.Parts.{unmarked}
 use Rattle.chess_text.specs.ties.Reader.{parts_at}
 use Rattle.chess_text.specs.Moves.{castling_texts, shape, denotes_described, denotes, one_of, reading, IsLegalReading}
-use Rattle.chess_text.specs.ties.Fitting.{is_castling_text, passes, is_form, parts_fit, has_parts, has_form, fits_text}
+use Rattle.chess_text.specs.ties.Fitting.{passes, is_form, parts_fit, has_parts, has_form, fits_text}
+use Rattle.chess_text.specs.laws.CastlingTexts.{is_castling_text}
 use Rattle.chess_text.specs.ties.Forms.{form_of_parts, form_at, form_of, same_side, form_fits, is_denoted}
 use Rattle.chess_text.proofs.AllMoves.{filter-both}
 use Rattle.chess_text.proofs.Legal.{legal_move, described_as, described_is}

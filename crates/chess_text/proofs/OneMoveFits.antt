@@ -15,7 +15,8 @@ use Rattle.chess_text.specs.declared.parts.Promotion.{Promotion}
 use Rattle.chess_text.specs.declared.reading.Reading.TheVariants as reads
 use Rattle.chess_text.specs.laws.Laws.{DenotesAlone, IsShaped, AreParts, CanPromote}
 use Rattle.chess_text.specs.Parts.{unmarked}
-use Rattle.chess_text.specs.ties.Fitting.{is_castling_text, passes, parts_text, has_parts}
+use Rattle.chess_text.specs.ties.Fitting.{passes, parts_text, has_parts}
+use Rattle.chess_text.specs.laws.CastlingTexts.{is_castling_text}
 use Rattle.chess_text.specs.ties.Reader.{parts_at}
 use Rattle.chess_text.specs.Moves.{shape, denotes_described, denotes, one_of, reading}
 use Rattle.chess_text.specs.ties.Fitting.{is_form, parts_fit, promotes_so, has_form, fits_text}

@@ -16,7 +16,8 @@ use Rattle.chess_text.specs.declared.parts.Parts.{Parts}
 use Rattle.chess_text.specs.declared.parts.Promotion.{Promotion}
 use Rattle.chess_text.specs.Parts.{unmarked}
 use Rattle.chess_text.specs.Moves.{denotes_described, all_described, shape}
-use Rattle.chess_text.specs.ties.Fitting.{is_castling_text, passes, parts_text, admits, promotes_so, is_by_squares, is_by_letter, is_straight, is_by_file, parts_fit, is_form, has_parts, has_form, fits_text}
+use Rattle.chess_text.specs.ties.Fitting.{passes, parts_text, admits, promotes_so, is_by_squares, is_by_letter, is_straight, is_by_file, parts_fit, is_form, has_parts, has_form, fits_text}
+use Rattle.chess_text.specs.laws.CastlingTexts.{is_castling_text}
 use Rattle.chess_text.specs.ties.Reader.{parts_at}
 use Rattle.chess_text.specs.laws.Laws.{CanPromote, AreParts, IsDenoted}
 use Rattle.chess_text.proofs.Grammar.{denoted-parts, parts-denoted}

@@ -1,3 +1,4 @@
 -- Claims about the definitions: each is the contract of a function that does nothing.
+pub mod CastlingTexts
 pub mod Laws
 pub mod Normal

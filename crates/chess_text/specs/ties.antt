@@ -1,5 +1,5 @@
 -- What joins code to the definitions. Of the claims only that of `texts_have_parts` (laws/Laws) speaks of it, by the
--- castling that a text denotes and by the parts of a text.
+-- parts of a text.
 pub mod Forms
 pub mod Reader
 pub mod SanParts

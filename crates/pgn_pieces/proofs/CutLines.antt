@@ -111,7 +111,8 @@ tag_some : (line : List ℕ) → is_tag_line line ≡ true → 0 < length (conca
 tag_some [] h = absurd (cc)
 tag_some (c ∷ cs) h = omega arith
 
--- after the pieces `before`, of which the last comes first, and the lines `last`, these lines are cut from the first one on
+-- after the pieces `before`, of which the last comes first, and the lines `last`, these lines are cut from the first
+-- one on
 cut_on : (lines last : List (List ℕ)) (before : List (List (List ℕ))) → 0 < length (concat last)
     → texts (fold with_line (last ∷ before) lines) ≡ texts before ++ cut_lines last lines
 cut_on [] last before some =

@@ -120,7 +120,8 @@ fn append_verdict(lines: &mut FaultLines, verdict: Option<Verdict>)
 fn append_part(lines: &mut FaultLines, reason: &[u8])
     requires room { array_vec_len lines.old + 80 ≤ FAULT_LINES_LEN }
     requires short { length reason.now ≤ 77 }
-    ensures text { lines.new.items ≡ lines.old.items ++ option_map_or (λ text. codes " | " ++ text) (Some reason.now) [] }
+    ensures text { lines.new.items
+        ≡ lines.old.items ++ option_map_or (λ text. codes " | " ++ text) (Some reason.now) [] }
     ensures len { array_vec_len lines.new ≤ array_vec_len lines.old + 80 }
 {
     append(lines, b" | ");
@@ -136,7 +137,8 @@ fn append_pgn_reason(
     verdict: Option<Verdict>,
 )
     requires { array_vec_len lines.old + 80 ≤ FAULT_LINES_LEN }
-    ensures text { lines.new.items ≡ lines.old.items ++ option_map_or (λ text. codes " | " ++ text) (reason (Pgn kind) text.now verdict) [] }
+    ensures text { lines.new.items
+        ≡ lines.old.items ++ option_map_or (λ text. codes " | " ++ text) (reason (Pgn kind) text.now verdict) [] }
     ensures len { array_vec_len lines.new ≤ array_vec_len lines.old + 80 }
 {
     match kind {
@@ -165,7 +167,8 @@ fn append_results(lines: &mut FaultLines, tag: &[u8], outcome: Outcome)
 // Appends ` | ` and the reason for a fault; nothing if there is none. `text` is the text from its byte on.
 fn append_reason(lines: &mut FaultLines, kind: FaultKind, text: &[u8], verdict: Option<Verdict>)
     requires { array_vec_len lines.old + 80 ≤ FAULT_LINES_LEN }
-    ensures text { lines.new.items ≡ lines.old.items ++ option_map_or (λ text. codes " | " ++ text) (reason kind text.now verdict) [] }
+    ensures text { lines.new.items
+        ≡ lines.old.items ++ option_map_or (λ text. codes " | " ++ text) (reason kind text.now verdict) [] }
     ensures len { array_vec_len lines.new ≤ array_vec_len lines.old + 80 }
 {
     match kind {

@@ -31,7 +31,8 @@ pub fn reports_are_the_only_ones()
     ensures collection { (strict ended : Bool) (text : List ℕ)
         → AreCollectionReports strict 0 (known_pieces ended text) (collection_reports strict ended text) }
     ensures no_other_of_collection { (strict ended : Bool) (text : List ℕ) (reports : List Report)
-        → AreCollectionReports strict 0 (known_pieces ended text) reports → reports ≡ collection_reports strict ended text }
+        → AreCollectionReports strict 0 (known_pieces ended text) reports
+        → reports ≡ collection_reports strict ended text }
 {}
 
 /// States a law and does nothing: the text that `write_pgn` of chess_pgn writes of a game has no fault when it is

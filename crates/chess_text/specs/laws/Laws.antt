@@ -15,7 +15,8 @@ use Rattle.chess_text.specs.Parts.{unmarked}
 use Rattle.chess_text.specs.ties.Fitting.{parts_text}
 use Rattle.chess_text.specs.ties.Reader.{parts_at}
 use Rattle.chess_text.specs.Moves.{denotes_described, denotes, shape, reading}
-use Rattle.chess_text.specs.ties.Fitting.{is_castling_text, is_form, parts_fit}
+use Rattle.chess_text.specs.ties.Fitting.{is_form, parts_fit}
+use Rattle.chess_text.specs.laws.CastlingTexts.{is_castling_text}
 use Rattle.chess_text.specs.San.{san, shown_move}
 use Rattle.chess_base.specs.declared.man.Kind.{Kind}
 use Rattle.chess_base.specs.declared.man.Kind.TheVariants.{King, Pawn}

@@ -17,17 +17,12 @@ use Rattle.chess_text.specs.declared.parts.Parts.{Parts}
 use Rattle.chess_text.specs.declared.parts.Promotion.{Promotion}
 use Rattle.chess_base.specs.Options.{list_if}
 use Rattle.chess_text.specs.Parts.{unmarked, kind_text, file_text, rank_text}
-use Rattle.chess_text.specs.Moves.{castling_texts}
+use Rattle.chess_text.specs.laws.CastlingTexts.{is_castling_text}
 use Rattle.chess_text.specs.ties.Reader.{parts_at}
 
 -- the optional value `o` is there, and the test holds for it
 abbrev pub passes : {A : Type 0} → (A → Bool) → Option A → Bool
 passes test o = option_map_or test o false
-
--- the text, but for the marks (+ # ! ?) at its end, is castling to side w: O-O or 0-0 on the king's side, O-O-O or
--- 0-0-0 on the queen's
-unfoldable pub is_castling_text : List ℕ → CastlingSide → Bool
-is_castling_text text w = list_any (bytes_eq (unmarked text)) (castling_texts w)
 
 -- ---- the text of parts
 

@@ -1,9 +1,15 @@
-use Rattle.std.proofs.Common.{refl}
+use Rattle.std.proofs.Common.{◌≡◌, refl, Ok}
 use Rattle.std.specs.Prelude.{◌∷◌, ◌++◌, replicate, codes, None}
 use Rattle.chess_base.specs.declared.man.Colour.TheVariants.{White}
 use Rattle.chess_base.specs.declared.man.Kind.TheVariants.{Pawn}
-use Rattle.chess_base.specs.Castling.{king_square}
-use Rattle.chess_base.specs.Men.{is_man}
+use Rattle.chess_base.specs.Attacks.{is_clear, could_capture, attacks, is_attacked, is_in_check}
+use Rattle.chess_base.specs.Castling.{king_square, right_is_sound}
+use Rattle.chess_base.specs.Faults.{rights_are_sound}
+use Rattle.chess_base.specs.Men.{is_of, is_man}
+use Rattle.chess_base.specs.Sound.{has_one_king, no_pawn_on_end_ranks, has_at_most_16, target_is_sound}
+use Rattle.chess_base.specs.Squares.{squares, some_square, each_square, is_between}
+use Rattle.chess_fen.specs.Reading.{fen_reading_as}
+use Rattle.chess_fen.specs.laws.Examples.{kings_and_pawn}
 use Rattle.chess_base.specs.Initial.{man_of}
 use Rattle.chess_fen.specs.Texts.{may_name_right}
 use Rattle.chess_base.specs.declared.man.Variant.TheVariants.{Normal}
@@ -11,10 +17,18 @@ use Rattle.chess_fen.proofs.DenotedFen.{text_outcome}
 use Rattle.chess_fen.proofs.OneRankText.{rank_text_is}
 use Rattle.chess_fen.proofs.laws.fens_are_worked_out.Goals as goal
 
+-- by computing each condition of a sound position
+read_so : fen_reading_as Normal (codes "4k3/8/8/8/8/8/4P3/4K3 b - - 5 39") ≡ Ok kings_and_pawn
+unfolding may_name_right has_one_king no_pawn_on_end_ranks has_at_most_16 rights_are_sound right_is_sound
+    target_is_sound is_in_check is_attacked attacks could_capture is_clear is_between is_of is_man some_square
+    each_square squares
+read_so = refl
+
 pub returns-clause-fields : goal.returns-clause-fields
 unfolding may_name_right
 returns-clause-fields c = (
   refl,
+  read_so,
   (
     codes "-",
     text_outcome Normal (codes "4k3/8/8/8/8/8/4P3/4K3 b - - 5 39"),
