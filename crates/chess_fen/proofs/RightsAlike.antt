@@ -19,7 +19,6 @@ use Rattle.chess_base.specs.Men.{Men, man_at, is_man}
 use Rattle.chess_base.specs.Castling.{home_square, king_square, are_placed_for_castling, right_is_sound, rights_by}
 use Rattle.chess_base.specs.shared.Parts.{is_on_side_of_king}
 use Rattle.chess_base.specs.Faults.{conditions, rights_are_sound, first_failing, setup_fault}
-use Rattle.chess_base.specs.Faults as base
 use Rattle.chess_base.specs.Sound.{IsSound}
 use Rattle.chess_base.proofs.shared.Sound.{no_fault_from_IsSound}
 use Rattle.text_lines.specs.Words.{short_number}

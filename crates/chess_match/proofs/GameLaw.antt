@@ -1,5 +1,5 @@
 -- The moves of a match are legal, each in the position to which those before it lead.
-use Rattle.std.proofs.Common.{◌≡◌, ℕ, List, [], ◌∷◌, ◌++◌, refl, subst, None, ap}
+use Rattle.std.proofs.Common.{◌≡◌, ℕ, List, [], ◌∷◌, ◌++◌, refl, subst, None}
 use Rattle.chess_base.specs.Men.{other}
 use Rattle.chess_base.specs.Moves.{after}
 use Rattle.chess_base.specs.declared.man.Move.{Move}

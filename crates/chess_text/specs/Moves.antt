@@ -17,8 +17,8 @@ use Rattle.chess_base.specs.Options.{list_if}
 use Rattle.chess_base.specs.Men.{man_at, same_kind}
 use Rattle.chess_base.specs.Moves.{captured_square, is_legal}
 use Rattle.chess_base.specs.Castling.{castling, by_side}
-use Rattle.chess_base.specs.MoveList.{promotions, moves, all_moves}
-use Rattle.chess_base.specs.Squares.{file, rank, squares}
+use Rattle.chess_base.specs.MoveList.{moves, all_moves}
+use Rattle.chess_base.specs.Squares.{file, rank}
 use Rattle.chess_text.specs.declared.described.Described.{Described}
 use Rattle.chess_text.specs.declared.reading.Reading.{Reading}
 use Rattle.chess_text.specs.declared.reading.Reading.TheVariants as reads

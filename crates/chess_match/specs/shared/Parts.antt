@@ -1,5 +1,5 @@
 -- Parts of effects, and what is due after a line, by names that proofs use, also those of match_runner.
-use Rattle.std.specs.Prelude.{ℕ, if◌then◌else◌, List, [], ◌∷◌, ◌++◌, map, codes}
+use Rattle.std.specs.Prelude.{if◌then◌else◌, List, [], ◌∷◌, ◌++◌, map, codes}
 use Rattle.chess_base.specs.declared.man.Colour.{Colour}
 use Rattle.chess_base.specs.declared.man.Colour.TheVariants.{White}
 use Rattle.chess_base.specs.Men.{same_colour}

@@ -1,12 +1,12 @@
 -- Lines that are put in by calls of their own.
-use Rattle.std.specs.Prelude.{ℕ, ◌/◌, if◌then◌else◌, nat_lt, List, [], ◌∷◌, ◌++◌, length, map, codes, Option}
+use Rattle.std.specs.Prelude.{ℕ, ◌/◌, if◌then◌else◌, nat_lt, List, [], ◌∷◌, ◌++◌, length, codes, Option}
 use Rattle.std.specs.Option.{option_map_or}
 use Rattle.chess_base.specs.declared.man.Colour.{Colour}
 use Rattle.chess_base.specs.declared.man.Variant.{Variant}
 use Rattle.chess_base.specs.Men.{other}
 use Rattle.chess_base.specs.Letters.{new_line}
 use Rattle.chess_base.specs.Options.{list_if}
-use Rattle.cecp_engine.specs.Items.{Item, is_known, takes}
+use Rattle.cecp_engine.specs.Items.{is_known, takes}
 use Rattle.chess_match.specs.Effects.{Match, clock, move_line}
 use Rattle.chess_match.specs.Rules.{Rules}
 use Rattle.chess_match.specs.Lines.{SentLine, Says, Time, Otim}

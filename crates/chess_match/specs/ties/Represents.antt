@@ -8,7 +8,6 @@ use Rattle.chess_base.specs.ByColour.{of_colour, with_colour}
 use Rattle.chess_base.specs.Men.{other, same_colour}
 use Rattle.chess_base.specs.Options.{list_if}
 use Rattle.chess_game.specs.Ends.{result_text}
-use Rattle.chess_game.specs.declared.results.Declared.{Declared}
 use Rattle.chess_game.specs.Results.{cut_tag}
 use Rattle.cecp_engine.specs.Clocks.{ClocksSeen, Spent, charged}
 use Rattle.cecp_engine.specs.EngineLines.{LineKind}

@@ -1,9 +1,6 @@
 -- The start that is sent is that of the rules, and its line is put in three parts.
-use Rattle.std.proofs.Common.{◌≡◌, ℕ, ◌&&◌, not, if◌then◌else◌, List, [], ◌∷◌, ◌++◌, ap, sym, ◌∙◌, append_assoc, None, Some}
-use Rattle.chess_base.specs.declared.setup.Setup.{Setup}
-use Rattle.chess_fen.specs.Writing.{fen, is_initial}
-use Rattle.chess_text.specs.San.{is_fischerandom}
-use Rattle.chess_match.specs.Rules.{Rules, rules_of, start_fen}
+use Rattle.std.proofs.Common.{◌≡◌, ℕ, List, [], ◌∷◌, ◌++◌, ap, sym, ◌∙◌, append_assoc, Some}
+use Rattle.chess_match.specs.Rules.{Rules, start_fen}
 use Rattle.chess_match.specs.Lines.{bytes_of}
 use Rattle.chess_match.proofs.game.GameMatchGame.add_start.Goals as goal
 

@@ -7,7 +7,7 @@ use Rattle.chess_base.specs.Moves.{after}
 use Rattle.chess_game.specs.Game as game
 use Rattle.chess_game.specs.Game.{current}
 use Rattle.chess_text.specs.San.{check_mark, san, shown_move}
-use Rattle.chess_match.specs.Rules.{Rules, rules_of}
+use Rattle.chess_match.specs.Rules.{Rules}
 use Rattle.chess_match.specs.Rules.{text_of_last}
 use Rattle.chess_match.proofs.LastMoves.{texts_of_last}
 use Rattle.chess_match.proofs.Playing.{legal_read, playable}
