@@ -95,7 +95,7 @@ Does (Ok Session) d d' l l' status =
 Does (Ok (Verify plan)) d d' l l' status =
     (result : Result Verified VerifyFault) × (status ≡ verify_status result)
     × Ran ((cond plan.keep_going VerifiesCollection Verifies) (options_of plan) result) d d'
--- a stub engine, which plays the arguments that it is given, ran on input and output
+-- a stub engine, which plays the moves in its arguments, ran on input and output
 Does (Ok (Stub arguments)) d d' l l' status = Serves stub_response (waiting arguments.items) d d' status
 -- nothing of the input was read, and the games of the match were played, written and logged as `PlaysGames` says. The
 -- status is 0 if all were played without a fault and were written, and the score too; otherwise 1. `logged` is the

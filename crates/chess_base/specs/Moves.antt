@@ -58,9 +58,9 @@ pawn_moves p m =
 unfoldable pub man_moves : Setup → Move → Bool
 man_moves p m = is_none m.promotion && attacks p.men m.from m.to && not (is_of p.side (man_at p.men m.to))
 
--- the content of m's start square (the last argument) is a piece of the side on move that can make move m: a pawn by
--- `pawn_moves`, another piece by `castles` if m is castling, otherwise by `man_moves`. False for an enemy piece and for
--- an empty square (`None`)
+-- the content of m's start square (the last argument) is a piece of the side on move for which m is pseudo-legal: a
+-- pawn by `pawn_moves`, another piece by `castles` if m is castling, otherwise by `man_moves`. False for an enemy piece
+-- and for an empty square (`None`)
 abbrev pub moves_as : Setup → Move → Option Man → Bool
 moves_as p m None = false
 moves_as p m (Some x) =

@@ -41,8 +41,8 @@ blocks_from first lines = block_of first (lines first) ++ block_of (other first)
 
 -- ---- what may come next
 
--- whether a line of the side `S` is awaited in this phase: always of the side that the phase names, but of neither side
--- while a turn is opened (`Opening`) and after the end (`Over`). What the other side sends meanwhile is not read yet
+-- whether a line of the side `S` is awaited in this phase: only one of the side that the phase names, and none while a
+-- turn is opened (`Opening`) or after the end (`Over`). What the other side sends meanwhile is not read yet
 abbrev pub awaits_line : Phase → Colour → Bool
 awaits_line (Handshake side) S = same_colour side S
 awaits_line (Setup side) S = same_colour side S
@@ -71,9 +71,8 @@ due_after (Line S text moment) done = blocks_from (if is_over done.after.phase t
 due_after event done = blocks_from White done.to
 
 -- these acts, in order, are the rest of a match by the rules `r`: before them its state is `m`, and the blocks `due`
--- are still to be sent; after them it is over, in the state `final`. The list is taken act by act: each row says which
--- act may come first, and what state and which blocks due it leaves, from which the acts `H` after it are then the rest
--- of the match. While a block is due, nothing is read
+-- are still to be sent; after them it is over, in the state `final`. Each row says which act may come first, and which
+-- state and blocks due it leaves for the acts `H` after it. While a block is due, nothing is read
 abbrev pub IsMatchFrom : Rules → Match → List Block → List Act → Match → Type 0
 -- a block is due: the first one due is sent. The state stays, and the other blocks are still due
 IsMatchFrom r m (block ∷ due) (Sends sent ∷ H) final = (block ≡ sent) × IsMatchFrom r m due H final

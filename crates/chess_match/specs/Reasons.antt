@@ -24,8 +24,8 @@ colour_name c = by_colour (codes "White") (codes "Black") c
 abbrev pub win_of : Colour → Outcome
 win_of c = by_colour WhiteWins BlackWins c
 
--- what the comment says of an engine with this fault, after the name of its side: ` has no ping`, as in `White has no
--- ping`
+-- what the comment says of an engine with this fault, after the name of its side: ` has no ping`, as in
+-- `White has no ping`
 abbrev pub fault_comment : MatchFault → List ℕ
 fault_comment Ended = codes " ended its output"
 fault_comment Read = codes " can not be read"

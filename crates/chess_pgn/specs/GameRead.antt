@@ -34,9 +34,9 @@ use Rattle.chess_pgn.specs.Words.{outcome_of, is_marks}
 -- ---- what is read in the end
 
 -- what is read of a game's text. `state`: the game as far as it was read. After a fault that is the moves before it,
--- and after a bad FEN the start by the FENs before it; where there is no game it is the initial position. `answer`: `Ok
--- (Some end)` with the outcome of the game's outcome mark, what its last tag Termination names, and the offset after
--- the mark; `Ok None` if the text has no more games; `Err` with the first fault
+-- and after a bad FEN the start by the FENs before it; where there is no game it is the initial position. `answer`:
+-- `Ok (Some end)` with the outcome of the game's outcome mark, what its last tag Termination names, and the offset
+-- after the mark; `Ok None` if the text has no more games; `Err` with the first fault
 pub record GameRead : Type 0 where
   pub state : State
   pub answer : Result (Option PgnEnd) PgnFault

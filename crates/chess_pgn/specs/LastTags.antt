@@ -19,8 +19,8 @@ abbrev pub may_precede_tags : Token → Bool
 may_precede_tags (Tag name text to_end) = true
 may_precede_tags token = says_nothing token
 
--- the text of a token that is a tag with the given name, and how many bytes of the game's text are left where that text
--- begins; none for any other token
+-- the text of a token that is a tag with the given name, and how many bytes are left, to the end of the whole text,
+-- where that begins; none for any other token
 abbrev pub named_tag : List ℕ → Token → Option (List ℕ × ℕ)
 named_tag name (Tag other text to_end) = if bytes_eq other name then Some (text, to_end) else None
 named_tag name _ = None
@@ -35,7 +35,7 @@ tag_section tokens = take_while (λ t. may_precede_tags t.1) tokens
 abbrev pub tags_named : List ℕ → List (ℕ × Token) → List (List ℕ × ℕ)
 tags_named name tags = filter_map (λ t. named_tag name t.1) tags
 
--- the last tag of this name
+-- the last tag of this name, given as in `tags_named`; none if there is no such tag
 abbrev pub last_tag : List ℕ → List (ℕ × Token) → Option (List ℕ × ℕ)
 last_tag name tags = last_or None (tags_named name tags)
 

@@ -14,8 +14,8 @@ use Rattle.chess_pgn.specs.Tokens.{Token, Skip, Tag, Word, Bad_tag, Unclosed_com
 abbrev pub lacks : ℕ → List ℕ → Bool
 lacks b text = list_all (λ c. not (c == b)) text
 
--- whether the byte c begins a line that is skipped to its end: `;` anywhere (section 5), `%` at the front of a line
--- (section 6), where `line_begins` says that c is its line's first byte
+-- whether the byte c begins what is skipped up to the end of its line: `;` anywhere (section 5), or `%` as the line's
+-- first byte (section 6), which `line_begins` says that c is
 abbrev pub skips_line : Bool → ℕ → Bool
 skips_line line_begins c = line_begins && c == byte "%" || c == byte ";"
 
@@ -52,13 +52,13 @@ pub data OpensTag (name : List ℕ) : List ℕ → Type 0 where
   opens : {before after : List ℕ} → IsGap false before → 0 < length name → list_all is_name_byte name ≡ true
       → IsGap false after → OpensTag name (byte "[" ∷ (before ++ (name ++ (after ++ codes "\""))))
 
--- the bytes between a string's quotes (section 7): any but line ends. A backslash keeps the byte after it, even a quote
--- or a backslash, from ending the string; no quote is there without one before it
+-- the bytes between a string's quotes (section 7): any but `\n`. A backslash keeps the byte after it, even a quote or a
+-- backslash, from ending the string; each quote has such a backslash before it
 pub data IsString : List ℕ → Type 0 where
   nothing : IsString []
   -- a backslash and the byte that it keeps
   kept : {c : ℕ} {more : List ℕ} → (c == new_line) ≡ false → IsString more → IsString (byte "\\" ∷ c ∷ more)
-  -- any other byte: no backslash, quote or line end
+  -- any other byte: no backslash, quote or `\n`
   other : {c : ℕ} {more : List ℕ} → list_any (λ k. c == k) (byte "\\" ∷ byte "\"" ∷ new_line ∷ []) ≡ false
       → IsString more → IsString (c ∷ more)
 
@@ -101,8 +101,8 @@ pub data HasOpenComment : Bool → List ℕ → ℕ → Type 0 where
   deeper : {b : Bool} {parts inner : List ℕ} {to_end : ℕ} → IsInside b parts → HasOpenComment false inner to_end
       → HasOpenComment b (parts ++ byte "(" ∷ inner) to_end
 
--- this token is the fault of the text, told by the text's first byte. That no token begins the text is not claimed
--- here; where this is used (`IsSplit`), it is
+-- this token is the fault of the text, told by its first byte and, after `(`, by whether a comment inside isn't closed.
+-- That no token begins the text is not claimed here; where this is used (`IsSplit`), it is
 pub data IsFaultOf : List ℕ → Token → Type 0 where
   -- a comment isn't closed; the number is how many bytes are left at its `{`
   comment : {text : List ℕ} → IsFaultOf (byte "{" ∷ text) (Unclosed_comment (length (byte "{" ∷ text)))

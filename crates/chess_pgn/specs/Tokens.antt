@@ -168,7 +168,7 @@ tokens_of (suc most) line_begins (c ∷ rest) =
 abbrev pub after_byte_order_mark : List ℕ → ℕ → ℕ
 after_byte_order_mark text at = if (at == 0) && bytes_eq (take 3 text) (239 ∷ 187 ∷ 191 ∷ []) then 3 else at
 
--- whether a line begins at an offset: it is 0, or `\n` comes before it
+-- whether a line begins at an offset: it is 0, or `\n` comes before it. None begins right after a byte order mark
 abbrev pub begins_line : List ℕ → ℕ → Bool
 begins_line text offset = (offset == 0) || (slice_index text (offset - 1) == new_line)
 

@@ -13,8 +13,8 @@ with_token [] token = token ∷ []
 with_token (line ∷ earlier) token =
     if nat_le (length (line ++ space ∷ token)) 79 then (line ++ space ∷ token) ∷ earlier else token ∷ line ∷ earlier
 
--- these tokens, one after another, in lines of at most 79 characters, each as full as it can be (the law
--- `games_are_laid_out`)
+-- these tokens, none of more than 79 characters, one after another with a space between, in lines of at most 79
+-- characters, each as full as it can be (the law `lines_are_filled`)
 abbrev pub lines_of : List (List ℕ) → List (List ℕ)
 lines_of tokens = reverse (fold with_token [] tokens)
 
@@ -24,7 +24,7 @@ lines_of tokens = reverse (fold with_token [] tokens)
 abbrev pub escaped : List ℕ → List ℕ
 escaped text = flat_map (λ c. if c == byte "\"" || c == byte "\\" then byte "\\" ∷ c ∷ [] else c ∷ []) text
 
--- the line of a tag with this name and text, without its end, such as `[Event "a"]`
+-- the line of a tag with this name and text, without the `\n` at its end, such as `[Event "a"]`
 abbrev pub tag_line : List ℕ → List ℕ → List ℕ
 tag_line name text = codes "[" ++ name ++ codes " \"" ++ escaped text ++ codes "\"]"
 

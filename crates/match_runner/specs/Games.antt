@@ -118,9 +118,9 @@ LogsGames true l l' games = Logged l l' (flat_map (λ g. log_from (first_side g.
 abbrev pub count_of : (ℕ → Outcome) → List GameRecord → ℕ
 count_of wanted games = count_by (λ g. same_outcome g.1.end.outcome (wanted g.0)) (enumerate_from 1 games)
 
--- the last line that a match of these games writes to the output, such as `score first 1 second 0 drawn 2 unfinished
--- 0`: the wins of each engine, the draws, and the games that are unfinished. The games are numbered from 1: in the odd
--- ones the first engine, that of `--white`, has White
+-- the last line that a match of these games writes to the output, such as
+-- `score first 1 second 0 drawn 2 unfinished 0`: the wins of each engine, the draws, and the games that are unfinished.
+-- The games are numbered from 1: in the odd ones the first engine, that of `--white`, has White
 abbrev pub score_line : List GameRecord → List ℕ
 score_line games =
     codes "score first " ++ decimal (count_of (λ number. win_of (first_side number)) games)

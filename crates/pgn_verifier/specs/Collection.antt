@@ -10,8 +10,8 @@ use Rattle.pgn_verifier.specs.declared.tally.Verified.{Verified}
 use Rattle.pgn_verifier.specs.Reports.{Report, AreReportsIn, report_lines, counts_line, counts_of, verified}
 
 -- these are the reports on the games of these pieces, piece after piece (`AreReportsIn`). Each piece is given by its
--- bytes, and they follow one another in the input from the offset on that is given before them. `strict`: an outcome
--- mark, such as `1-0`, that contradicts the tag Result or the board's verdict is a fault
+-- bytes; the first begins at the given offset of the input, and each other one where the one before it ends. `strict`:
+-- an outcome mark, such as `1-0`, that contradicts the tag Result or the board's verdict is a fault
 pub data AreCollectionReports (strict : Bool) : ℕ → List (List ℕ) → List Report → Type 0 where
   no_piece : {offset : ℕ} → AreCollectionReports strict offset [] []
   next_piece : {offset : ℕ} {piece : List ℕ} {pieces : List (List ℕ)} (reports : List Report) {more : List Report}
@@ -19,7 +19,7 @@ pub data AreCollectionReports (strict : Bool) : ℕ → List (List ℕ) → List
       → AreCollectionReports strict offset (piece ∷ pieces) (reports ++ more)
 
 -- how verifying a collection ends, by its result: what was read of the input (`i`), and what was written (`o`) of
--- `text`, which is all that is to be written for what was read. `verdict` is that on the reports
+-- `text`, which is all that is to be written for what was read. `verdict` says whether a fault is among the reports
 abbrev pub CollectionEnds : List ℕ → Verified → Result Verified VerifyFault → FromInput → ToOutput → Type 0
 -- the whole input was read; all of `text` was written and flushed; the summary is `verdict`
 CollectionEnds text verdict (Ok summary) i o = IsWhole i × (o ≡ all_of text) × (summary ≡ verdict)
