@@ -234,11 +234,11 @@ abbrev pub handshake_done : Rules → Colour → Match → Effect
 handshake_done r White m = sends_to Black handshake_lines (record m { phase = Handshake Black; count = 0 })
 handshake_done r Black m = judged r (missing r (m.seat White).items) (missing r (m.seat Black).items) m
 
--- what a line of the side `S` does in its handshake; `items` are those of the line, none if it is no `feature` line. They
--- are added to those known of `S`. `done=1` ends the handshake; if the 1,000th line, of whatever kind, comes without it,
--- the match ends. Before all that follows (`next`) the engine of `S` is sent an answer to each of these items, in their
--- order and whatever the item's value: `accepted` and its name, such as `accepted ping`, if the arbiter knows the name
--- (`is_known`); otherwise `rejected` and the name
+-- what a line of the side `S` does in its handshake; `items` are those of the line, none if it is no `feature` line.
+-- They are added to those known of `S`. `done=1` ends the handshake; if the 1,000th line, of whatever kind, comes
+-- without it, the match ends. Before all that follows (`next`) the engine of `S` is sent an answer to each of these
+-- items, in their order and whatever the item's value: `accepted` and its name, such as `accepted ping`, if the arbiter
+-- knows the name (`is_known`); otherwise `rejected` and the name
 abbrev pub handshake_row : Rules → Colour → List Item → Match → Effect
 handshake_row r S items m =
     let reply = map (λ i. Says ((if is_known i.name then codes "accepted " else codes "rejected ") ++ i.name)) items in
