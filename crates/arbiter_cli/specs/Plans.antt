@@ -119,9 +119,9 @@ abbrev pub said_by : Text × List Row → Said
 said_by p =
     record { command = p.0; value = λ name. first_of name p.1; replies = unwrap_or (all_of (codes "words") p.1) [] }
 
--- the result of reading these arguments, which come without the program's name, is right by the grammar of the command
--- line. The grammar contains a reference to the list of names that `--variant` takes; `names` is some reference to the
--- list `normal`, `fischerandom`, and it does not matter where in memory that is
+-- the result of reading these arguments, which come without the program's name, is right (`IsReadAs`) by the grammar of
+-- the command line: by the faults that `clap` finds in them (`faults_in`), and by what they say (`asked`, `said_by`).
+-- The grammar refers to the list `normal`, `fischerandom`; `names` is some reference to it, anywhere in memory
 abbrev pub IsReading : List Text → Result Plan WordsFault → Type 0
 IsReading arguments result = (names : VariantNames) × AreVariants names
     × IsReadAs (faults_in names arguments) (said_by (asked names arguments)) result

@@ -73,9 +73,10 @@ pub record GameRecord : Type 0 where
   -- is made from these
   pub notes : List Note
 
--- the game `played` was played from the start of `plan`, with its time control and with at most 20,000 half-moves
--- (`MOST_MOVES`). The fields `before`, `after`, `end` and `notes` are of one and the same game: they are those of the
--- same acts `H`, which ended for the same reason. Which engines played it is not said here
+-- `played` is the record of one game, which was played from the start of `plan`, with its time control and with at most
+-- 20,000 half-moves (`MOST_MOVES`): there are acts `H` and a reason why the game ended, by which `before` became
+-- `after`; `end` is what is reported of them, and `notes` are their notes. Which engines played it is said neither here
+-- nor in any other definition that `RanProgram` uses
 abbrev pub IsOfPlan : GamesPlan → GameRecord → Type 0
 IsOfPlan plan played = (played.before.game.limit ≡ MOST_MOVES)
     × ((H : List Act) × (reason : Reason) × (flat_map (notes_of reason) H ≡ played.notes)

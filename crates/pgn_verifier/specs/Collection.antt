@@ -19,27 +19,26 @@ pub data AreCollectionReports (strict : Bool) : ℕ → List (List ℕ) → List
       → AreCollectionReports strict offset (piece ∷ pieces) (reports ++ more)
 
 -- how verifying a collection ends, by its result: what was read of the input (`i`), and what was written (`o`) of
--- `text`, which is all that is to be written for what was read. `verdict` says whether a fault is among the reports
+-- `text`, which is all that is to be written for what was read. `expected` is the summary that the reports give
 abbrev pub CollectionEnds : List ℕ → Verified → Result Verified VerifyFault → FromInput → ToOutput → Type 0
--- the whole input was read; all of `text` was written and flushed; the summary is `verdict`
-CollectionEnds text verdict (Ok summary) i o = IsWhole i × (o ≡ all_of text) × (summary ≡ verdict)
+-- the whole input was read; all of `text` was written and flushed; the summary is `expected`
+CollectionEnds text expected (Ok summary) i o = IsWhole i × (o ≡ all_of text) × (summary ≡ expected)
 -- no read failed, whether the input's end was reported or not; a beginning of `text` (it may be empty, or all of it)
 -- was written, nothing was flushed, and then a write or the flush failed
-CollectionEnds text verdict (Err WriteFailed) i o = (i.failed ≡ false) × BreaksOffIn [] text o
+CollectionEnds text expected (Err WriteFailed) i o = (i.failed ≡ false) × BreaksOffIn [] text o
 -- a read failed before the input's end was reported. Here and below, all of `text` was written, nothing was flushed,
 -- and no write or flush failed
-CollectionEnds text verdict (Err ReadFailed) i o = (i.ended ≡ false) × (i.failed ≡ true) × (o ≡ all_unflushed text)
+CollectionEnds text expected (Err ReadFailed) i o = (i.ended ≡ false) × (i.failed ≡ true) × (o ≡ all_unflushed text)
 -- memory ran out before the input's end was reported; no read failed
-CollectionEnds text verdict (Err NoMemory) i o = (i.ended ≡ false) × (i.failed ≡ false) × (o ≡ all_unflushed text)
+CollectionEnds text expected (Err NoMemory) i o = (i.ended ≡ false) × (i.failed ≡ false) × (o ≡ all_unflushed text)
 -- at least 2^63 - 2^16 bytes were read, without the input's end; no read failed
-CollectionEnds text verdict (Err InputTooLong) i o =
+CollectionEnds text expected (Err InputTooLong) i o =
     (i.ended ≡ false) × (i.failed ≡ false) × (2 ^ 63 ≤ length i.text + 2 ^ 16) × (o ≡ all_unflushed text)
 
--- what verifying a collection reads (`i`) and writes (`o`), by its result. To be written are the lines of the reports
--- on the known pieces of what was read, numbered from 1, and if the input's end was reported the line of counts. The
--- verdict is `FaultReported` if a fault was reported, otherwise `EachGame`. Of the `options`, with `strict` an outcome
--- mark, such as `1-0`, that contradicts the tag Result or the board's verdict is a fault; with `quiet` only faults have
--- a line; with `explain` a second line explains each fault
+-- what verifying a collection reads (`i`) and writes (`o`), by its result (`CollectionEnds`). What is to be written are
+-- the lines of the reports on the pieces, numbered from 1; then, if the input's end was reported, the line of counts.
+-- Before the end the last piece read is left out, since it may go on (`known_pieces`). The summary is `FaultReported`
+-- if a fault was reported, otherwise `EachGame`. `options`: see `Verifies`; with `explain` each fault has a second line
 abbrev pub VerifiesCollection : VerifyOptions → Result Verified VerifyFault → FromInput → ToOutput → Type 0
 VerifiesCollection options result i o = (reports : List Report)
     × AreCollectionReports options.strict 0 (known_pieces i.ended i.text) reports
