@@ -13,8 +13,8 @@ use Rattle.chess_base.specs.declared.fen_fault.FenFault.{FenFault}
 use Rattle.chess_base.specs.declared.fen_fault.FenFault.TheVariants as faults
 use Rattle.text_lines.specs.Words.{short_number}
 use Rattle.chess_fen.specs.RightNames.{names_rights_well}
-use Rattle.chess_fen.specs.Texts.{placement_of, is_castling_field, fields_of}
-use Rattle.chess_fen.specs.Reading.{◌>>=◌, side_of, target_of, conditions_of, fen_reading_as}
+use Rattle.chess_fen.specs.Texts.{placement_of, is_castling_field, target_of, fields_of}
+use Rattle.chess_fen.specs.Reading.{◌>>=◌, side_of, conditions_of, fen_reading_as}
 use Rattle.chess_fen.specs.Denotation.{DenotesCounters, DenotesFields, DenotesText, DenotesFenAs}
 use Rattle.chess_fen.specs.FenFaults.{DenotesSomeMen, DenotesSomeSide, IsFieldFault, HasWrongFieldCount, IsMalformed, IsFaultAs}
 use Rattle.chess_fen.proofs.DenotedFields.{denoted-placement, placement-denoted, denoted-side, side-denoted, denoted-target, target-denoted}

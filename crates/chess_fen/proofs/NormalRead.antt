@@ -12,9 +12,9 @@ use Rattle.chess_base.specs.declared.setup.Setup.{Setup}
 use Rattle.chess_base.specs.Faults.{conditions, rights_are_sound, first_failing, setup_fault}
 use Rattle.chess_base.specs.Men.{Men}
 use Rattle.chess_base.proofs.shared.Normal.{normal_kept}
-use Rattle.chess_fen.specs.Reading.{◌>>=◌, side_of, target_of, fen_reading_as}
+use Rattle.chess_fen.specs.Reading.{◌>>=◌, side_of, fen_reading_as}
 use Rattle.text_lines.specs.Words.{short_number}
-use Rattle.chess_fen.specs.Texts.{may_name_right, placement_of, fields_of, is_castling_field}
+use Rattle.chess_fen.specs.Texts.{may_name_right, placement_of, target_of, fields_of, is_castling_field}
 use Rattle.chess_fen.specs.laws.Normal.{normal_rights_named, normal_setup_by, normal_setup_in, normal_rights_are_sound, normal_fault, normal_sound, normal_fen_reading}
 use Rattle.chess_fen.proofs.DenotedFen.{reading_in_variant}
 use Rattle.chess_fen.proofs.Steps.{steps, denoted_by, unless_fault, if_fit, denoted_in, third, reading-steps}

@@ -22,14 +22,11 @@ use Rattle.chess_base.specs.Faults.{conditions, rights_are_sound, first_failing,
 use Rattle.chess_base.specs.Sound.{IsSound}
 use Rattle.chess_base.proofs.shared.Sound.{no_fault_from_IsSound}
 use Rattle.text_lines.specs.Words.{short_number}
-use Rattle.chess_fen.specs.Texts.{first_letter, names_file, placement_of, is_castling_field, fields_of}
+use Rattle.chess_fen.specs.Texts.{first_letter, names_file, placement_of, is_castling_field, target_of, fields_of}
 use Rattle.chess_fen.specs.RightNames.{side_letter, from_edge, is_towards, right_by, right_in, names_rights_well, rights_in}
 use Rattle.chess_fen.proofs.RooksNamed.{names_right, rook_by, in_chess960}
-use Rattle.chess_fen.specs.Reading.{◌>>=◌, side_of, target_of, fen_reading_as}
-use Rattle.chess_fen.specs.ties.Reader.{side_by, nowhere, outer_rook, named_square, one_or_nowhere, right_by_letters, setup_by, setup_in}
-use Rattle.chess_fen.specs.ties.Runs.{placement_by}
-use Rattle.chess_fen.proofs.PlacementAlike.{placement_is}
-use Rattle.chess_fen.proofs.DenotedFields.{side_is, target_is}
+use Rattle.chess_fen.specs.Reading.{◌>>=◌, side_of, fen_reading_as}
+use Rattle.chess_fen.specs.ties.Reader.{nowhere, outer_rook, named_square, one_or_nowhere, right_by_letters, setup_by, setup_in}
 use Rattle.chess_fen.proofs.Steps.{steps, denoted_by, unless_fault, if_fit, denoted_in, third, reading-steps}
 
 -- a right that is named wrongly as a right whose rook is nowhere
@@ -217,12 +214,6 @@ fields_are : (v : Variant) (a b c d h f : List ℕ)
     → (denoted_by v a b c d h f >>= if_fit c) ≡ (setup_by v a b c d h f >>= if_sound)
 fields_are v a b c d h f =
     by_steps (placement_of a) (side_of b) (is_castling_field v c) (target_of d) (short_number 6 h) (short_number 6 f)
-    ∙ ap (λ men. read_by men (side_of b) (is_castling_field v c) (target_of d) (short_number 6 h)
-    (short_number 6 f) >>= if_sound) (placement_is a)
-    ∙ ap (λ side. read_by (placement_by a) side (is_castling_field v c) (target_of d) (short_number 6 h)
-    (short_number 6 f) >>= if_sound) (side_is b)
-    ∙ ap (λ target. read_by (placement_by a) (side_by b) (is_castling_field v c) target (short_number 6 h)
-    (short_number 6 f) >>= if_sound) (target_is d)
   where
     read_by : Option Men → Option Colour → Bool → Option (Option ℕ) → Option ℕ → Option ℕ → Result Setup FenFault
     read_by men side fits target halfmove fullmove = do

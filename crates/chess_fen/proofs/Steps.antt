@@ -13,8 +13,8 @@ use Rattle.chess_base.specs.Faults.{first_failing}
 use Rattle.chess_base.specs.Men.{Men}
 use Rattle.text_lines.specs.Words.{short_number}
 use Rattle.chess_fen.specs.RightNames.{rights_in}
-use Rattle.chess_fen.specs.Reading.{◌>>=◌, side_of, target_of, conditions_of, reading_in}
-use Rattle.chess_fen.specs.Texts.{placement_of, is_castling_field}
+use Rattle.chess_fen.specs.Reading.{◌>>=◌, side_of, conditions_of, reading_in}
+use Rattle.chess_fen.specs.Texts.{placement_of, is_castling_field, target_of}
 
 -- `castling` is the third field, and `fits` whether it has the form of one
 abbrev pub steps : Variant → List ℕ → Option Men → Option Colour → Bool → Option (Option ℕ) → Option ℕ → Option ℕ
