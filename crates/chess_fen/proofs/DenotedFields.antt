@@ -49,15 +49,7 @@ side-text Black = refl
 
 pub denoted-side : (text : List ℕ) (colour : Colour) → side_of text ≡ Some colour → text ≡ side_text colour
 denoted-side [] colour e = absurd cc
-denoted-side (c ∷ []) colour e = by_tests (eqb c 119) refl (eqb c 98) refl e
-  where
-    by_tests : (w : Bool) → eqb c 119 ≡ w → (b : Bool) → eqb c 98 ≡ b
-        → cond w (Some White) (cond b (Some Black) None) ≡ Some colour → c ∷ [] ≡ side_text colour
-    by_tests true p b q e = let at : c ≡ 119 = grind (arith, nat_tests) in let is : White ≡ colour =
-        cc in ap (λ x. x ∷ []) at ∙ ap side_text is
-    by_tests false p true q e = let at : c ≡ 98 = grind (arith, nat_tests) in let is : Black ≡ colour =
-        cc in ap (λ x. x ∷ []) at ∙ ap side_text is
-    by_tests false p false q e = absurd cc
+denoted-side (c ∷ []) colour e = grind (arith, nat_tests, e)
 denoted-side (c ∷ d ∷ cs) colour e = absurd cc
 
 pub side-denoted : (text : List ℕ) (colour : Colour) → text ≡ side_text colour → side_of text ≡ Some colour

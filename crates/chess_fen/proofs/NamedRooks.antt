@@ -239,31 +239,15 @@ one_of men c w l (x ∷ xs) e = by_test (names_right men c w x) refl e (one_of m
 no_letters : (men : Men) (c : Colour) (w : CastlingSide) (ls : List ℕ)
     → right_by (map (rook_by men c w) ls) ≡ Some None → ls ≡ []
 no_letters men c w [] e = refl
-no_letters men c w (x ∷ []) e = by_rook (rook_by men c w x) e
-  where
-    by_rook : (o : Option ℕ) → right_by (o ∷ []) ≡ Some None → x ∷ [] ≡ []
-    by_rook None h = absurd cc
-    by_rook (Some s) h = absurd cc
-no_letters men c w (x ∷ y ∷ ls) e = by_rook (rook_by men c w x) e
-  where
-    by_rook : (o : Option ℕ) → right_by (o ∷ map (rook_by men c w) (y ∷ ls)) ≡ Some None → x ∷ y ∷ ls ≡ []
-    by_rook None h = absurd cc
-    by_rook (Some s) h = absurd cc
+no_letters men c w (x ∷ []) e = grind (arith, e)
+no_letters men c w (x ∷ y ∷ ls) e = grind (arith, e)
 
 one_letter : (men : Men) (c : Colour) (w : CastlingSide) (s : ℕ) (ls : List ℕ)
     → right_by (map (rook_by men c w) ls) ≡ Some (Some s)
     → (l : ℕ) × (ls ≡ l ∷ []) × (rook_by men c w l ≡ Some s)
 one_letter men c w s [] e = absurd cc
-one_letter men c w s (x ∷ []) e = (x, refl, by_rook (rook_by men c w x) e)
-  where
-    by_rook : (o : Option ℕ) → right_by (o ∷ []) ≡ Some (Some s) → o ≡ Some s
-    by_rook None h = absurd cc
-    by_rook (Some t) h = cc
-one_letter men c w s (x ∷ y ∷ ls) e = absurd (by_rook (rook_by men c w x) e)
-  where
-    by_rook : (o : Option ℕ) → right_by (o ∷ map (rook_by men c w) (y ∷ ls)) ≡ Some (Some s) → ⊥
-    by_rook None h = absurd cc
-    by_rook (Some t) h = absurd cc
+one_letter men c w s (x ∷ []) e = (x, refl, grind (arith, e))
+one_letter men c w s (x ∷ y ∷ ls) e = grind (arith, e)
 
 -- ---- the right
 

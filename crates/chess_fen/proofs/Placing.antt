@@ -20,20 +20,7 @@ no_board = None
 
 -- each byte that stands for squares stands for at least one
 some_squares : (c : ℕ) (s : List (Option Man)) → squares_of c ≡ Some s → 0 < length s
-some_squares c s is = by_test (leb 49 c && leb c 56) refl is
-  where
-    by_man : (o : Option Man) → option_map (λ m. Some m ∷ []) o ≡ Some s → 0 < length s
-    by_man None e = absurd cc
-    by_man (Some m) e = let at : Some m ∷ [] ≡ s = cc in rw (sym at) (omega arith)
-
-    by_test : (b : Bool) → (leb 49 c && leb c 56) ≡ b
-        → cond b (Some (replicate (c - 48) no_man)) (option_map (λ m. Some m ∷ []) (man_with_letter c)) ≡ Some s
-        → 0 < length s
-    by_test true t e =
-        let low : 49 ≤ c = grind (arith, nat_tests) in
-        let at : replicate (c - 48) no_man ≡ s = cc in
-        rw (sym at) (omega (arith, length-replicate (c - 48) no_man))
-    by_test false t e = by_man (man_with_letter c) e
+some_squares c s is = grind (arith, nat_tests, is, length-replicate (c - 48) no_man)
 
 -- where eight squares are followed by more
 full : (left : ℕ) (row above : List (Option Man)) (c : ℕ) (cs : List ℕ) → length row ≡ 8
@@ -119,11 +106,7 @@ last_part zero row above =
 last_part (suc lower) row above = let e : eqb 0 (suc lower) ≡ false = grind (arith, nat_tests) in rw e refl
 
 eqb-suc : (a b : ℕ) → eqb (suc a) (suc b) ≡ eqb a b
-eqb-suc a b = by_test (eqb a b) refl
-  where
-    by_test : (t : Bool) → eqb a b ≡ t → eqb (suc a) (suc b) ≡ t
-    by_test true e = grind (arith, nat_tests)
-    by_test false e = grind (arith, nat_tests)
+eqb-suc a b = grind (arith, nat_tests)
 
 next_part : (left : ℕ) (row above : List (Option Man)) (parts : List (List ℕ)) (f : ℕ → Option (List (Option Man)))
     → 0 < length parts → ((lower : ℕ) → f lower ≡ by_parts lower [] (row ++ above) parts)

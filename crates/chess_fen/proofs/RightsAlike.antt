@@ -41,17 +41,7 @@ module _ (men : Men) (c : Colour) (w : CastlingSide) where
   named_is : (letter : ℕ) → named_square men c w letter
       ≡ cond (names_right men c w letter) (or_nowhere (rook_by men c w letter)) None
   unfolding outer_rook
-  named_is letter = by_test (letter == side_letter c w)
-      (names_file c letter && is_towards w (king_square men c) (home_square c (letter - first_letter c)))
-    where
-      s : ℕ
-      s = home_square c (letter - first_letter c)
-
-      by_test : (t u : Bool) → cond t (Some (outer_rook men c w)) (cond u (Some s) None)
-          ≡ cond (t || u) (or_nowhere (cond t (find (λ k. is_man c Rook (man_at men k)) (from_edge c w)) (Some s))) None
-      by_test true u = refl
-      by_test false true = refl
-      by_test false false = refl
+  named_is letter = grind arith
 
   skip_none : (o : Option ℕ) → one_or_nowhere o None ≡ o
   skip_none None = refl
@@ -62,19 +52,8 @@ module _ (men : Men) (c : Colour) (w : CastlingSide) where
       ≡ fold one_or_nowhere acc (map or_nowhere (map (rook_by men c w) (filter (names_right men c w) letters)))
   only_named acc [] = refl
   only_named acc (letter ∷ letters) =
-      ap (λ o. fold one_or_nowhere (one_or_nowhere acc o) (map (named_square men c w) letters)) (named_is letter)
-      ∙ by_test (names_right men c w letter) (λ o. only_named o letters)
-    where
-      by_test : (t : Bool)
-          → ((o : Option ℕ) → fold one_or_nowhere o (map (named_square men c w) letters)
-          ≡ fold one_or_nowhere o (map or_nowhere (map (rook_by men c w) (filter (names_right men c w) letters))))
-          → fold one_or_nowhere (one_or_nowhere acc (cond t (or_nowhere (rook_by men c w letter)) None))
-          (map (named_square men c w) letters)
-          ≡ fold one_or_nowhere acc (map or_nowhere (map (rook_by men c w)
-          (cond t (letter ∷ filter (names_right men c w) letters) (filter (names_right men c w) letters))))
-      by_test true more = more (one_or_nowhere acc (or_nowhere (rook_by men c w letter)))
-      by_test false more =
-          ap (λ o. fold one_or_nowhere o (map (named_square men c w) letters)) (skip_none acc) ∙ more acc
+      let first = one_or_nowhere acc (or_nowhere (rook_by men c w letter)) in
+      grind (arith, named_is letter, skip_none acc, only_named first letters, only_named acc letters)
 
 stays : (os : List (Option ℕ)) → fold one_or_nowhere (Some nowhere) (map or_nowhere os) ≡ Some nowhere
 stays [] = refl
@@ -164,10 +143,7 @@ module _ (men : Men) (colour : Colour) (target : Option ℕ) (halfmove fullmove 
       → (placed White KingSide a ≡ false) ⊎ (placed White QueenSide b ≡ false) ⊎ (placed Black KingSide c ≡ false)
       ⊎ (placed Black QueenSide d ≡ false) → rights_are_sound (setup_with Fischerandom (rights_of_four a b c d)) ≡ false
   unfolding rights_are_sound right_is_sound
-  one_nowhere a b c d (inl e) = grind (arith, e)
-  one_nowhere a b c d (inr (inl e)) = grind (arith, e)
-  one_nowhere a b c d (inr (inr (inl e))) = grind (arith, e)
-  one_nowhere a b c d (inr (inr (inr e))) = grind (arith, e)
+  one_nowhere a b c d e = grind (arith, e)
 
   named_alike : (a b c d : Option (Option ℕ))
       → said Fischerandom (rights_of_four (flat a) (flat b) (flat c) (flat d)) (four_some a b c d)

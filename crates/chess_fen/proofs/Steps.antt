@@ -16,17 +16,18 @@ use Rattle.chess_fen.specs.RightNames.{rights_in}
 use Rattle.chess_fen.specs.Reading.{◌>>=◌, side_of, conditions_of, reading_in}
 use Rattle.chess_fen.specs.Texts.{placement_of, is_castling_field, target_of}
 
--- `castling` is the third field, and `fits` whether it has the form of one
-abbrev pub steps : Variant → List ℕ → Option Men → Option Colour → Bool → Option (Option ℕ) → Option ℕ → Option ℕ
-    → Result Setup FenFault
-steps v castling men side fits target halfmove fullmove = do
+-- the steps up to the position, with which `end` goes on; `castling` is the third field, and `fits` whether it has the
+-- form of one
+abbrev steps_to : (Setup → Result Setup FenFault) → Variant → List ℕ → Option Men → Option Colour → Bool
+    → Option (Option ℕ) → Option ℕ → Option ℕ → Result Setup FenFault
+steps_to end v castling men side fits target halfmove fullmove = do
   pieces ← ok_or men faults.Placement
   colour ← ok_or side faults.Side
   named ← cond fits (Ok (rights_in v pieces castling)) (Err faults.Castling)
   passed ← ok_or target faults.EnPassant
   clock ← ok_or halfmove faults.Counters
   number ← ok_or fullmove faults.Counters
-  Ok (record {
+  end (record {
     variant = v;
     men = pieces;
     side = colour;
@@ -35,6 +36,10 @@ steps v castling men side fits target halfmove fullmove = do
     halfmove = clock;
     fullmove = max number 1;
   })
+
+abbrev pub steps : Variant → List ℕ → Option Men → Option Colour → Bool → Option (Option ℕ) → Option ℕ → Option ℕ
+    → Result Setup FenFault
+steps = steps_to Ok
 
 -- the position that the six fields of a FEN denote, sound or not; or the fault of the first field that denotes nothing
 abbrev pub denoted_by : Variant → List ℕ → List ℕ → List ℕ → List ℕ → List ℕ → List ℕ → Result Setup FenFault
@@ -65,34 +70,11 @@ of_fields : (v : Variant) (a b c d e f : List ℕ) → reading_in v (a ∷ b ∷
 of_fields v a b c d e f =
     by_steps (placement_of a) (side_of b) (is_castling_field v c) (target_of d) (short_number 6 e) (short_number 6 f)
   where
-    read_by : Option Men → Option Colour → Bool → Option (Option ℕ) → Option ℕ → Option ℕ → Result Setup FenFault
-    read_by men side fits target halfmove fullmove = do
-      pieces ← ok_or men faults.Placement
-      colour ← ok_or side faults.Side
-      named ← cond fits (Ok (rights_in v pieces c)) (Err faults.Castling)
-      passed ← ok_or target faults.EnPassant
-      clock ← ok_or halfmove faults.Counters
-      number ← ok_or fullmove faults.Counters
-      if_fit c (record {
-        variant = v;
-        men = pieces;
-        side = colour;
-        rights = named;
-        target = passed;
-        halfmove = clock;
-        fullmove = max number 1;
-      })
-
     by_steps : (men : Option Men) (side : Option Colour) (fits : Bool) (target : Option (Option ℕ))
         (halfmove fullmove : Option ℕ)
-        → read_by men side fits target halfmove fullmove ≡ (steps v c men side fits target halfmove fullmove >>= if_fit c)
-    by_steps None side fits target halfmove fullmove = refl
-    by_steps (Some men) None fits target halfmove fullmove = refl
-    by_steps (Some men) (Some colour) false target halfmove fullmove = refl
-    by_steps (Some men) (Some colour) true None halfmove fullmove = refl
-    by_steps (Some men) (Some colour) true (Some target) None fullmove = refl
-    by_steps (Some men) (Some colour) true (Some target) (Some halfmove) None = refl
-    by_steps (Some men) (Some colour) true (Some target) (Some halfmove) (Some fullmove) = refl
+        → steps_to (if_fit c) v c men side fits target halfmove fullmove
+        ≡ (steps v c men side fits target halfmove fullmove >>= if_fit c)
+    by_steps men side fits target halfmove fullmove = grind arith
 
 -- the fields with the counters, if these are left out
 abbrev with_counters : List (List ℕ) → List (List ℕ)
