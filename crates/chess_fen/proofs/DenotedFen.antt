@@ -224,14 +224,11 @@ reading_outcome v text =
     )
     by_conditions p s (Some f) e = inr (inr (p, castling, s, e))
 
-    first_two : (f : FenFault) → HasWrongFieldCount text f ⊎ IsMalformed v text f → IsFaultAs v text f
-    first_two f (inl h) = inl h
-    first_two f (inr h) = inr (inl h)
-
     by_fields : (r : Result Setup FenFault) → TextOutcome v text r
         → ReadingOutcome v text (r >>= if_fit castling)
     by_fields (Ok p) s = by_conditions p s (first_failing (conditions_of castling p)) refl
-    by_fields (Err f) s = first_two f s
+    by_fields (Err f) (inl h) = inl h
+    by_fields (Err f) (inr h) = inr (inl h)
 
 -- what is read is of the variant
 pub reading_in_variant : (v : Variant) (text : List ℕ) → IfOk (fen_reading_as v text) (λ p. p.variant ≡ v)

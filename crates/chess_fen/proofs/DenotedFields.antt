@@ -1,5 +1,5 @@
 -- A field is read exactly where it is well written.
-use Rattle.std.proofs.Common.{◌≡◌, ℕ, ◌+◌, ◌-◌, ◌*◌, ◌/◌, ◌%◌, ◌≤◌, ◌⊎◌, inl, inr, Bool, true, false, cond, eqb, leb, ◌&&◌, ◌||◌, List, [], ◌∷◌, length, map, Option, Some, None, refl, sym, ap, subst, ◌∙◌, arith}
+use Rattle.std.proofs.Common.{◌≡◌, ℕ, ◌+◌, ◌-◌, ◌*◌, ◌/◌, ◌%◌, ◌≤◌, ◌⊎◌, true, eqb, leb, ◌&&◌, ◌||◌, List, [], ◌∷◌, length, map, Option, Some, None, refl, sym, ap, subst, ◌∙◌, arith}
 use Rattle.std.specs.Prelude.{IfSome}
 use Rattle.std.specs.List.{slice_split}
 use Rattle.std.specs.Option.{option_map}
@@ -70,17 +70,12 @@ denoted-target (f ∷ r ∷ []) target e =
     let high : f ≤ 104 = grind (arith, nat_tests, h.0) in
     let rank : (r ≡ 51) ⊎ (r ≡ 54) = grind (arith, nat_tests, h.0) in
     let is : Some (8 * (r - 49) + (f - 97)) ≡ target = cc in
-    subst (DenotesTarget (f ∷ r ∷ [])) is (at_rank low high rank)
-  where
-    at_rank : 97 ≤ f → f ≤ 104 → (r ≡ 51) ⊎ (r ≡ 54) → DenotesTarget (f ∷ r ∷ []) (Some (8 * (r - 49) + (f - 97)))
-    at_rank low high (inl e) =
-        let file : f ≡ 97 + (8 * (r - 49) + (f - 97)) % 8 = omega arith in
-        let rank : r ≡ 49 + (8 * (r - 49) + (f - 97)) / 8 = omega arith in
-        (ap (λ x. x ∷ r ∷ []) file ∙ ap (λ x. (97 + (8 * (r - 49) + (f - 97)) % 8) ∷ x ∷ []) rank, inl (omega arith))
-    at_rank low high (inr e) =
-        let file : f ≡ 97 + (8 * (r - 49) + (f - 97)) % 8 = omega arith in
-        let rank : r ≡ 49 + (8 * (r - 49) + (f - 97)) / 8 = omega arith in
-        (ap (λ x. x ∷ r ∷ []) file ∙ ap (λ x. (97 + (8 * (r - 49) + (f - 97)) % 8) ∷ x ∷ []) rank, inr (omega arith))
+    let t : ℕ = 8 * (r - 49) + (f - 97) in
+    let file_is : f ≡ 97 + t % 8 = omega arith in
+    let rank_is : r ≡ 49 + t / 8 = grind (arith, low, rank) in
+    let on : (t / 8 ≡ 2) ⊎ (t / 8 ≡ 5) = grind (arith, low, high, rank) in
+    subst (DenotesTarget (f ∷ r ∷ [])) is
+    (ap (λ x. x ∷ r ∷ []) file_is ∙ ap (λ x. (97 + t % 8) ∷ x ∷ []) rank_is, on)
 denoted-target (f ∷ r ∷ c ∷ cs) target e = absurd cc
 
 target_read : (f r t : ℕ) → 97 ≤ f → f ≤ 104 → (r ≡ 51) ⊎ (r ≡ 54) → t ≡ 8 * (r - 49) + (f - 97)

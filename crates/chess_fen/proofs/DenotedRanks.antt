@@ -37,13 +37,7 @@ squares-letter man = squares-letter_by man.colour man.kind
 -- what a search finds passes its test
 found : (men : List Man) (c : ℕ) (man : Man) → find (λ m. eqb (letter m) c) men ≡ Some man → c ≡ letter man
 found [] c man e = absurd cc
-found (m ∷ men) c man e = by_test (λ h. found men c man h) (eqb (letter m) c) refl e
-  where
-    by_test : (find (λ n. eqb (letter n) c) men ≡ Some man → c ≡ letter man) → (b : Bool) → eqb (letter m) c ≡ b
-        → cond b (Some m) (find (λ n. eqb (letter n) c) men) ≡ Some man → c ≡ letter man
-    by_test later true t e = let same : m ≡ man = cc in let at : letter m ≡ c =
-        grind (arith, nat_tests) in sym at ∙ ap letter same
-    by_test later false t e = later e
+found (m ∷ men) c man e = grind (arith, nat_tests, e, found men c man)
 
 -- ---- a byte
 

@@ -1,5 +1,5 @@
 -- Reading a placement byte by byte, up to the first space.
-use Rattle.std.proofs.Common.{◌≡◌, ℕ, zero, suc, ◌+◌, ◌-◌, ◌*◌, ◌<◌, ◌≤◌, Bool, true, false, cond, eqb, leb, ◌&&◌, List, [], ◌∷◌, ◌++◌, length, map, get_or, take, drop, Option, Some, None, refl, sym, ap, ◌∙◌, ◌≢◌, append_assoc, append-nil, arith, length-append}
+use Rattle.std.proofs.Common.{◌≡◌, ℕ, zero, suc, ◌+◌, ◌-◌, ◌*◌, ◌<◌, ◌≤◌, Bool, true, false, cond, eqb, List, [], ◌∷◌, ◌++◌, length, map, get_or, take, drop, Option, Some, None, refl, sym, ap, ◌∙◌, ◌≢◌, append_assoc, append-nil, arith, length-append}
 use Rattle.std.specs.Prelude.{replicate, option_and_then}
 use Rattle.std.specs.Option.{option_map}
 use Rattle.std.specs.List.{slice_split, onto_first, position_or_len, before_first}
@@ -7,7 +7,6 @@ use Rattle.std.proofs.lemmas.Bool.Decides.{nat_tests}
 use Rattle.std.proofs.lemmas.List.{take-replicate, drop-replicate, length-replicate, drop-take, take-take}
 use Rattle.std.proofs.lemmas.List.Splits.{length-slice_split}
 use Rattle.chess_base.specs.declared.man.Man.{Man}
-use Rattle.chess_base.specs.Letters.{man_with_letter}
 use Rattle.chess_fen.specs.Texts.{squares_of, all_there, rank_of, from_top, placement_of}
 use Rattle.chess_fen.specs.ties.Runs.{at_lower, last_rank, placing, from_space, NoRankIsRead, RankIsPlaced, SlashIsRead, NoSlashIsRead, Ends, PlacementIsRead}
 use Rattle.chess_fen.proofs.DenotedRanks.{joined, eight}
@@ -75,34 +74,21 @@ by_parts left row above (part ∷ parts) =
 
 one_more : (above : List (Option Man)) (part : List ℕ) (parts : List (List ℕ))
     → below above (part ∷ parts) ≡ option_and_then (λ r. below (r ++ above) parts) (rank_of part)
-one_more above part parts = by_row (rank_of part)
+one_more above part parts = by_row (rank_of part) (all_there (map rank_of parts))
   where
-    by_rest : (row : List (Option Man)) (o : Option (List (List (Option Man))))
-        → option_map (λ rows. from_top rows ++ above) (option_map (λ rows. row ∷ rows) o)
-        ≡ option_map (λ rows. from_top rows ++ (row ++ above)) o
-    by_rest row None = refl
-    by_rest row (Some rows) = ap Some (append_assoc (from_top rows) row above)
-
-    by_row : (o : Option (List (Option Man)))
-        → option_map (λ rows. from_top rows ++ above)
-        (option_and_then (λ r. option_map (λ rows. r ∷ rows) (all_there (map rank_of parts))) o)
-        ≡ option_and_then (λ r. below (r ++ above) parts) o
-    by_row None = refl
-    by_row (Some row) = by_rest row (all_there (map rank_of parts))
+    by_row : (o : Option (List (Option Man))) (rest : Option (List (List (Option Man))))
+        → option_map (λ rows. from_top rows ++ above) (option_and_then (λ r. option_map (λ rows. r ∷ rows) rest) o)
+        ≡ option_and_then (λ r. option_map (λ rows. from_top rows ++ (r ++ above)) rest) o
+    by_row None rest = refl
+    by_row (Some row) None = refl
+    by_row (Some row) (Some rows) = ap Some (append_assoc (from_top rows) row above)
 
 none_either : (b : Bool) → cond b no_board no_board ≡ None
 none_either true = refl
 none_either false = refl
 
 last_part : (left : ℕ) (row above : List (Option Man)) → last_rank left row above ≡ by_parts left row above ([] ∷ [])
-last_part zero row above =
-    by_test (eqb (length row) 8)
-    ∙ ap (λ squares. option_and_then (λ r. below (r ++ above) []) (eight (Some squares))) (sym (append-nil row))
-  where
-    by_test : (b : Bool) → cond b (Some (row ++ above)) None
-        ≡ option_and_then (λ r. below (r ++ above) []) (cond b (Some row) None)
-    by_test true = refl
-    by_test false = refl
+last_part zero row above = grind (arith, append-nil row)
 last_part (suc lower) row above = let e : eqb 0 (suc lower) ≡ false = grind (arith, nat_tests) in rw e refl
 
 eqb-suc : (a b : ℕ) → eqb (suc a) (suc b) ≡ eqb a b

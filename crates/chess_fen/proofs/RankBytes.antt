@@ -3,7 +3,6 @@ use Rattle.std.proofs.Common.{◌≡◌, ℕ, zero, suc, ◌+◌, ◌-◌, ◌<�
 use Rattle.std.proofs.Math.Seq.{take-length}
 use Rattle.std.specs.Prelude.{replicate, option_and_then}
 use Rattle.std.specs.List.{position_or_len}
-use Rattle.std.proofs.lemmas.Bool.{eqb-true}
 use Rattle.std.proofs.lemmas.Bool.Decides.{nat_tests}
 use Rattle.std.proofs.lemmas.List.{at_drop_more, at_drop_all, take-replicate, drop-replicate, drop-drop, length-take, length-replicate, take-set, drop-set, drop-set-lt, length-set}
 use Rattle.std.proofs.Math.Seq.{take-add}
@@ -33,9 +32,7 @@ not_lower (suc left) b f e = rw e refl
 -- nothing comes of a byte if nothing comes of it as a space, as a slash, and as squares
 pub all_none : (a b : Bool) (x y z : Option (List (Option Man))) → x ≡ None → y ≡ None → z ≡ None
     → cond a x (cond b y z) ≡ None
-all_none true b x y z ex ey ez = ex
-all_none false true x y z ex ey ez = ey
-all_none false false x y z ex ey ez = ez
+all_none a b x y z ex ey ez = grind (arith, ex, ey, ez)
 
 stuck : (left : ℕ) (row above : List (Option Man)) (c : ℕ) (cs : List ℕ) → eqb (length row) 8 ≡ false
     → option_and_then (λ squares. placing left (row ++ squares) above cs) (squares_of c) ≡ None
@@ -64,11 +61,7 @@ placing_over left row above (c ∷ cs) h =
 
 -- a byte that stands for squares is another than one that stands for none
 another : (c k : ℕ) (s : List (Option Man)) → squares_of k ≡ None → squares_of c ≡ Some s → eqb c k ≡ false
-another c k s none is = by_test (eqb c k) refl
-  where
-    by_test : (b : Bool) → eqb c k ≡ b → b ≡ false
-    by_test true e = let same : c ≡ k = eqb-true c k e in absurd cc
-    by_test false e = refl
+another c k s none is = grind (arith, nat_tests, none, is)
 
 pub goes_on : (left : ℕ) (row above : List (Option Man)) (c : ℕ) (cs : List ℕ) (s : List (Option Man))
     → squares_of c ≡ Some s → placing left row above (c ∷ cs) ≡ placing left (row ++ s) above cs

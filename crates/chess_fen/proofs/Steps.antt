@@ -1,12 +1,13 @@
 -- The position that the six fields of a FEN denote, by what each of them denotes, and the reading of a list of fields as
 -- that of the position, sound or not, and of its conditions: a proof goes through the cases.
-use Rattle.std.proofs.Common.{◌≡◌, ℕ, Bool, true, false, cond, ◌==◌, if◌then◌else◌, length, List, [], ◌∷◌, ◌++◌, get_or, arith, Option, Some, None, Result, Ok, Err, refl}
+use Rattle.std.proofs.Common.{◌≡◌, ℕ, Bool, false, cond, ◌==◌, if◌then◌else◌, length, List, [], ◌∷◌, ◌++◌, get_or, arith, Option, Result, Ok, Err, refl}
 use Rattle.std.specs.Prelude.{max, codes}
 use Rattle.std.proofs.lemmas.Bool.Decides.{nat_tests}
 use Rattle.std.specs.Option.{ok_or, option_map_or}
 use Rattle.chess_base.specs.declared.fen_fault.FenFault.{FenFault}
 use Rattle.chess_base.specs.declared.fen_fault.FenFault.TheVariants as faults
 use Rattle.chess_base.specs.declared.man.Colour.{Colour}
+use Rattle.chess_base.specs.declared.man.Rights.{Rights}
 use Rattle.chess_base.specs.declared.man.Variant.{Variant}
 use Rattle.chess_base.specs.declared.setup.Setup.{Setup}
 use Rattle.chess_base.specs.Faults.{first_failing}
@@ -16,14 +17,13 @@ use Rattle.chess_fen.specs.RightNames.{rights_in}
 use Rattle.chess_fen.specs.Reading.{◌>>=◌, side_of, conditions_of, reading_in}
 use Rattle.chess_fen.specs.Texts.{placement_of, is_castling_field, target_of}
 
--- the steps up to the position, with which `end` goes on; `castling` is the third field, and `fits` whether it has the
--- form of one
-abbrev steps_to : (Setup → Result Setup FenFault) → Variant → List ℕ → Option Men → Option Colour → Bool
-    → Option (Option ℕ) → Option ℕ → Option ℕ → Result Setup FenFault
-steps_to end v castling men side fits target halfmove fullmove = do
+-- the steps up to the position, with which `end` goes on; the rights are read when the pieces are known
+abbrev pub steps_to : (Setup → Result Setup FenFault) → Variant → (Men → Result Rights FenFault) → Option Men
+    → Option Colour → Option (Option ℕ) → Option ℕ → Option ℕ → Result Setup FenFault
+steps_to end v rights men side target halfmove fullmove = do
   pieces ← ok_or men faults.Placement
   colour ← ok_or side faults.Side
-  named ← cond fits (Ok (rights_in v pieces castling)) (Err faults.Castling)
+  named ← rights pieces
   passed ← ok_or target faults.EnPassant
   clock ← ok_or halfmove faults.Counters
   number ← ok_or fullmove faults.Counters
@@ -37,9 +37,14 @@ steps_to end v castling men side fits target halfmove fullmove = do
     fullmove = max number 1;
   })
 
+-- the rights by the third field, `castling`, where `fits` says whether it has the form of one
+abbrev rights_if : Variant → List ℕ → Bool → Men → Result Rights FenFault
+rights_if v castling fits men = cond fits (Ok (rights_in v men castling)) (Err faults.Castling)
+
 abbrev pub steps : Variant → List ℕ → Option Men → Option Colour → Bool → Option (Option ℕ) → Option ℕ → Option ℕ
     → Result Setup FenFault
-steps = steps_to Ok
+steps v castling men side fits target halfmove fullmove =
+    steps_to Ok v (rights_if v castling fits) men side target halfmove fullmove
 
 -- the position that the six fields of a FEN denote, sound or not; or the fault of the first field that denotes nothing
 abbrev pub denoted_by : Variant → List ℕ → List ℕ → List ℕ → List ℕ → List ℕ → List ℕ → Result Setup FenFault
@@ -72,7 +77,7 @@ of_fields v a b c d e f =
   where
     by_steps : (men : Option Men) (side : Option Colour) (fits : Bool) (target : Option (Option ℕ))
         (halfmove fullmove : Option ℕ)
-        → steps_to (if_fit c) v c men side fits target halfmove fullmove
+        → steps_to (if_fit c) v (rights_if v c fits) men side target halfmove fullmove
         ≡ (steps v c men side fits target halfmove fullmove >>= if_fit c)
     by_steps men side fits target halfmove fullmove = grind arith
 
