@@ -9,11 +9,7 @@ use Rattle.chess_fen.specs.Texts.{fields_of}
 
 pub place_le : {A : Type 0} (p : A → Bool) (xs : List A) → position_or_len p xs ≤ length xs
 place_le p [] = omega arith
-place_le p (x ∷ xs) = by_test (p x) (position_or_len p xs) (length xs) (place_le p xs)
-  where
-    by_test : (b : Bool) (n m : ℕ) → n ≤ m → cond (not b) (1 + n) 0 ≤ suc m
-    by_test true n m h = omega arith
-    by_test false n m h = omega arith
+place_le p (x ∷ xs) = grind (arith, place_le p xs)
 
 pub place_or_len : {A : Type 0} (p : A → Bool) (xs : List A)
     → unwrap_or (position p xs) (length xs) ≡ position_or_len p xs

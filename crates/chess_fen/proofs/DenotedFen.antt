@@ -13,8 +13,8 @@ use Rattle.chess_base.specs.declared.fen_fault.FenFault.{FenFault}
 use Rattle.chess_base.specs.declared.fen_fault.FenFault.TheVariants as faults
 use Rattle.text_lines.specs.Words.{short_number}
 use Rattle.chess_fen.specs.RightNames.{names_rights_well}
-use Rattle.chess_fen.specs.Texts.{placement_of, is_castling_field, fields_of}
-use Rattle.chess_fen.specs.Reading.{◌>>=◌, side_of, target_of, conditions_of, fen_reading_as}
+use Rattle.chess_fen.specs.Texts.{placement_of, is_castling_field, target_of, fields_of}
+use Rattle.chess_fen.specs.Reading.{◌>>=◌, side_of, conditions_of, fen_reading_as}
 use Rattle.chess_fen.specs.Denotation.{DenotesCounters, DenotesFields, DenotesText, DenotesFenAs}
 use Rattle.chess_fen.specs.FenFaults.{DenotesSomeMen, DenotesSomeSide, IsFieldFault, HasWrongFieldCount, IsMalformed, IsFaultAs}
 use Rattle.chess_fen.proofs.DenotedFields.{denoted-placement, placement-denoted, denoted-side, side-denoted, denoted-target, target-denoted}
@@ -224,14 +224,11 @@ reading_outcome v text =
     )
     by_conditions p s (Some f) e = inr (inr (p, castling, s, e))
 
-    first_two : (f : FenFault) → HasWrongFieldCount text f ⊎ IsMalformed v text f → IsFaultAs v text f
-    first_two f (inl h) = inl h
-    first_two f (inr h) = inr (inl h)
-
     by_fields : (r : Result Setup FenFault) → TextOutcome v text r
         → ReadingOutcome v text (r >>= if_fit castling)
     by_fields (Ok p) s = by_conditions p s (first_failing (conditions_of castling p)) refl
-    by_fields (Err f) s = first_two f s
+    by_fields (Err f) (inl h) = inl h
+    by_fields (Err f) (inr h) = inr (inl h)
 
 -- what is read is of the variant
 pub reading_in_variant : (v : Variant) (text : List ℕ) → IfOk (fen_reading_as v text) (λ p. p.variant ≡ v)

@@ -11,13 +11,13 @@ use Rattle.chess_base.specs.declared.man.Kind.TheVariants.{Pawn, Knight, Bishop,
 use Rattle.chess_base.specs.declared.man.Colour.{Colour}
 use Rattle.chess_base.specs.declared.man.Colour.TheVariants.{White, Black}
 use Rattle.chess_base.specs.Letters.{letter, letter_by, man_with_letter, all_men}
-use Rattle.chess_fen.specs.ties.Runs.{squares_by, all_there, rank_by}
+use Rattle.chess_fen.specs.Texts.{squares_of, all_there, rank_of}
 use Rattle.chess_fen.specs.Denotation.{StandsFor, DenotesRank}
 use Rattle.chess_fen.proofs.RankBytes.{squares-digit}
 
 -- a piece's letter is read as the piece
 squares-letter_by : (colour : Colour) (kind : Kind)
-    → squares_by (letter_by colour kind) ≡ Some (Some (record { colour = colour; kind = kind }) ∷ [])
+    → squares_of (letter_by colour kind) ≡ Some (Some (record { colour = colour; kind = kind }) ∷ [])
 squares-letter_by White Pawn = refl
 squares-letter_by White Knight = refl
 squares-letter_by White Bishop = refl
@@ -31,23 +31,17 @@ squares-letter_by Black Rook = refl
 squares-letter_by Black Queen = refl
 squares-letter_by Black King = refl
 
-pub squares-letter : (man : Man) → squares_by (letter man) ≡ Some (Some man ∷ [])
+pub squares-letter : (man : Man) → squares_of (letter man) ≡ Some (Some man ∷ [])
 squares-letter man = squares-letter_by man.colour man.kind
 
 -- what a search finds passes its test
 found : (men : List Man) (c : ℕ) (man : Man) → find (λ m. eqb (letter m) c) men ≡ Some man → c ≡ letter man
 found [] c man e = absurd cc
-found (m ∷ men) c man e = by_test (λ h. found men c man h) (eqb (letter m) c) refl e
-  where
-    by_test : (find (λ n. eqb (letter n) c) men ≡ Some man → c ≡ letter man) → (b : Bool) → eqb (letter m) c ≡ b
-        → cond b (Some m) (find (λ n. eqb (letter n) c) men) ≡ Some man → c ≡ letter man
-    by_test later true t e = let same : m ≡ man = cc in let at : letter m ≡ c =
-        grind (arith, nat_tests) in sym at ∙ ap letter same
-    by_test later false t e = later e
+found (m ∷ men) c man e = grind (arith, nat_tests, e, found men c man)
 
 -- ---- a byte
 
-pub denoted_squares : (c : ℕ) (squares : List (Option Man)) → squares_by c ≡ Some squares → StandsFor c squares
+pub denoted_squares : (c : ℕ) (squares : List (Option Man)) → squares_of c ≡ Some squares → StandsFor c squares
 denoted_squares c squares e = by_test (leb 49 c && leb c 56) refl e
   where
     by_man : (o : Option Man) → man_with_letter c ≡ o → option_map (λ m. Some m ∷ []) o ≡ Some squares
@@ -64,8 +58,8 @@ denoted_squares c squares e = by_test (leb 49 c && leb c 56) refl e
         inr (c - 48, omega arith, omega arith, omega arith, cc)
     by_test false t e = by_man (man_with_letter c) refl e
 
-pub squares-denoted : (c : ℕ) (squares : List (Option Man)) → StandsFor c squares → squares_by c ≡ Some squares
-squares-denoted c squares (inl m) = ap squares_by m.1 ∙ squares-letter m.0 ∙ ap Some (sym m.2)
+pub squares-denoted : (c : ℕ) (squares : List (Option Man)) → StandsFor c squares → squares_of c ≡ Some squares
+squares-denoted c squares (inl m) = ap squares_of m.1 ∙ squares-letter m.0 ∙ ap Some (sym m.2)
 squares-denoted c squares (inr d) = squares-digit c (omega (arith, d.1, d.3)) (omega (arith, d.2, d.3))
     ∙ digits (omega (arith, d.3))
   where
@@ -112,21 +106,21 @@ joined parts = flat_map (λ part. part) parts
 abbrev pub eight : Option (List (Option Man)) → Option (List (Option Man))
 eight o = option_and_then (λ (row : List (Option Man)). cond (eqb (length row) 8) (Some row) None) o
 
-pub denoted-rank : (text : List ℕ) (row : List (Option Man)) → rank_by text ≡ Some row → DenotesRank text row
-denoted-rank text row e = by_parts (all_there (map squares_by text)) refl e
+pub denoted-rank : (text : List ℕ) (row : List (Option Man)) → rank_of text ≡ Some row → DenotesRank text row
+denoted-rank text row e = by_parts (all_there (map squares_of text)) refl e
   where
-    by_parts : (o : Option (List (List (Option Man)))) → all_there (map squares_by text) ≡ o
+    by_parts : (o : Option (List (List (Option Man)))) → all_there (map squares_of text) ≡ o
         → eight (option_map joined o) ≡ Some row → DenotesRank text row
     by_parts None is e = absurd cc
     by_parts (Some parts) is e =
         let h = chosen (eqb (length (joined parts)) 8) (Some (joined parts)) row e in
         let whole : joined parts ≡ row = cc in
         let count : length (joined parts) ≡ 8 = grind (arith, nat_tests, h.0) in (
-          (parts, there-zip squares_by StandsFor denoted_squares text parts is, sym whole),
+          (parts, there-zip squares_of StandsFor denoted_squares text parts is, sym whole),
           ap length (sym whole) ∙ count,
         )
 
-pub rank-of_denoted : (text : List ℕ) (row : List (Option Man)) → DenotesRank text row → rank_by text ≡ Some row
+pub rank-of_denoted : (text : List ℕ) (row : List (Option Man)) → DenotesRank text row → rank_of text ≡ Some row
 rank-of_denoted text row s =
-    ap (λ o. eight (option_map joined o)) (zip-there squares_by StandsFor squares-denoted text s.0.0 s.0.1)
+    ap (λ o. eight (option_map joined o)) (zip-there squares_of StandsFor squares-denoted text s.0.0 s.0.1)
     ∙ ap (λ r. eight (Some r)) (sym s.0.2) ∙ ap (λ n. cond (eqb n 8) (Some row) None) s.1

@@ -1,9 +1,8 @@
 -- The bytes of a FEN that is written: no field has a space, and no rank a slash; all of them are ASCII.
-use Rattle.std.proofs.Common.{sym, ◌≡◌, ℕ, zero, suc, ◌+◌, ◌*◌, ◌/◌, ◌%◌, ◌<◌, ◌≤◌, ◌⊎◌, inl, inr, true, eqb, List, [], ◌∷◌, ◌++◌, length, take, drop, map, Option, Some, None, subst, arith, rules, ◌∙◌}
+use Rattle.std.proofs.Common.{sym, ◌≡◌, ℕ, zero, suc, ◌+◌, ◌*◌, ◌/◌, ◌%◌, ◌<◌, ◌≤◌, ◌⊎◌, true, List, [], ◌∷◌, ◌++◌, length, take, drop, map, Option, Some, None, subst, arith, rules, ◌∙◌}
 use Rattle.std.specs.Prelude.{decimal, IfSome}
 use Rattle.std.specs.List.{AllByRecursion}
 use Rattle.std.specs.Str.{IsAscii, IsUtf8}
-use Rattle.std.proofs.lemmas.Bool.{eqb-true}
 use Rattle.std.proofs.lemmas.Bool.Decides.{nat_tests}
 use Rattle.std.proofs.lemmas.List.{append-nil, length-take}
 use Rattle.std.proofs.lemmas.Fmt.{digits_decimal}
@@ -21,9 +20,9 @@ use Rattle.chess_base.specs.declared.man.Variant.{Variant}
 use Rattle.chess_base.specs.declared.man.Variant.TheVariants.{Normal, Fischerandom}
 use Rattle.chess_base.specs.declared.setup.Setup.{Setup}
 use Rattle.chess_base.specs.Letters.{white_letter, letter, letter_by}
-use Rattle.chess_base.specs.Men.{Men, other}
+use Rattle.chess_base.specs.Men.{Men}
 use Rattle.chess_base.specs.Sound.{IsSound}
-use Rattle.chess_base.specs.shared.Parts.{crossed_rank, target_is_sound_at}
+use Rattle.chess_base.specs.shared.Parts.{target_is_sound_at}
 use Rattle.chess_fen.specs.ties.Loops.{or_dash, right_text}
 use Rattle.chess_fen.proofs.RightLetters.{rights_are}
 use Rattle.chess_base.proofs.shared.Parts.{target_is_sound_is}
@@ -139,11 +138,7 @@ rights_plain v r =
 target_rank : (men : Men) (c : Colour) (target : Option ℕ) → target_is_sound_at men c target ≡ true
     → IfSome target (λ square. (square / 8 ≡ 2) ⊎ (square / 8 ≡ 5))
 target_rank men c None e = tt
-target_rank men c (Some t) e = by_colour c (grind (arith, e))
-  where
-    by_colour : (d : Colour) → eqb (t / 8) (crossed_rank (other d)) ≡ true → (t / 8 ≡ 2) ⊎ (t / 8 ≡ 5)
-    by_colour White h = inr (eqb-true (t / 8) 5 h)
-    by_colour Black h = inl (eqb-true (t / 8) 2 h)
+target_rank men c (Some t) e = grind (arith, nat_tests, e)
 
 pub target_fits : (p : Setup) → IsSound p → IfSome p.target (λ square. (square / 8 ≡ 2) ⊎ (square / 8 ≡ 5))
 target_fits p h = target_rank p.men p.side p.target (sym (target_is_sound_is p) ∙ h.target)
@@ -153,12 +148,8 @@ target_plain : (target : Option ℕ) → IfSome target (λ square. (square / 8 �
 target_plain None h = dash
 target_plain (Some t) h = (
   high 45 (97 + t % 8) (omega arith) (omega arith) (omega arith),
-  (rank_plain h, tt),
+  (low 45 (49 + t / 8) (omega arith) (omega arith) (grind (arith, h)), tt),
 )
-  where
-    rank_plain : (t / 8 ≡ 2) ⊎ (t / 8 ≡ 5) → IsPlain 45 (49 + t / 8)
-    rank_plain (inl e) = low 45 (49 + t / 8) (omega arith) (omega arith) (omega arith)
-    rank_plain (inr e) = low 45 (49 + t / 8) (omega arith) (omega arith) (omega arith)
 
 -- ---- the text
 

@@ -7,8 +7,8 @@ use Rattle.chess_base.specs.declared.fen_fault.FenFault.TheVariants as faults
 use Rattle.chess_base.specs.declared.man.Man.{Man}
 use Rattle.chess_base.specs.declared.man.Variant.{Variant}
 use Rattle.chess_fen.specs.ties.Reader.{setup_with, setup_by}
-use Rattle.chess_fen.specs.Texts.{fields_of}
-use Rattle.chess_fen.specs.ties.Runs.{placement_by, PlacementIsRead, from_space}
+use Rattle.chess_fen.specs.Texts.{placement_of, fields_of}
+use Rattle.chess_fen.specs.ties.Runs.{PlacementIsRead, from_space}
 use Rattle.chess_fen.proofs.CutFields.{no_fields, next_fields}
 
 -- a text without its first spaces
@@ -25,11 +25,11 @@ heads x y xs ys e = cc
 
 -- where the field at the front denotes no pieces, the first field doesn't
 pub first_is_menless : (text front : List ℕ) → front ≡ skipped text
-    → placement_by (before_first (λ b. eqb b 32) front) ≡ None
-    → (field : List ℕ) → (fields : List (List ℕ)) → fields_of text ≡ field ∷ fields → placement_by field ≡ None
+    → placement_of (before_first (λ b. eqb b 32) front) ≡ None
+    → (field : List ℕ) → (fields : List (List ℕ)) → fields_of text ≡ field ∷ fields → placement_of field ≡ None
 first_is_menless text front is none field fields all =
     elim (cases_lt 0 (length front)) [
-      | inl some ↦ ap placement_by (heads _ field _ fields (sym (first_of text front is some) ∙ all)) ∙ none
+      | inl some ↦ ap placement_of (heads _ field _ fields (sym (first_of text front is some) ∙ all)) ∙ none
       | inr short ↦ (let empty : length front ≡ 0 = omega (arith, short) in
           let nothing : [] ≡ field ∷ fields = sym (no_fields text front is empty) ∙ all in absurd cc)
     ]
@@ -43,15 +43,15 @@ fields-read text front men rest is read =
       | inl some ↦ (first_of text front is some
           ∙ ap (λ ys. before_first (λ b. eqb b 32) front ∷ fields_of ys) (sym read.back))
       | inr short ↦ (let none : front ≡ [] = nil_from_length front (omega (arith, short)) in
-          let empty : None ≡ Some men = ap (λ xs. placement_by (before_first (λ b. eqb b 32) xs)) (sym none)
+          let empty : None ≡ Some men = ap (λ xs. placement_of (before_first (λ b. eqb b 32) xs)) (sym none)
           ∙ read.denotes in absurd cc)
     ]
 
 -- the pieces of the first field, and then the others
 pub setup-with : (v : Variant) (placement a b c d e : List ℕ) (men : List (Option Man))
-    → placement_by placement ≡ Some men → setup_by v placement a b c d e ≡ setup_with v men a b c d e
+    → placement_of placement ≡ Some men → setup_by v placement a b c d e ≡ setup_with v men a b c d e
 setup-with v placement a b c d e men is = rw is refl
 
-pub setup-menless : (v : Variant) (placement a b c d e : List ℕ) → placement_by placement ≡ None
+pub setup-menless : (v : Variant) (placement a b c d e : List ℕ) → placement_of placement ≡ None
     → setup_by v placement a b c d e ≡ Err faults.Placement
 setup-menless v placement a b c d e is = rw is refl

@@ -8,7 +8,6 @@ mod FirstField
 mod DenotedRanks
 mod RunTable
 mod RookAmong
-mod PlacementAlike
 mod RooksNamed
 mod RightLetters
 mod RightsBack

@@ -123,22 +123,17 @@ file_home c l e = let b : l < first_letter c + 8 = grind (arith, nat_tests, e) i
 abbrev IsFileTowards : Men → Colour → CastlingSide → ℕ → Bool
 IsFileTowards men c w l = names_file c l && is_towards w (king_square men c) (home_square c (l - first_letter c))
 
-away_by : (men : Men) (c : Colour) (w : CastlingSide) (s : ℕ) → rank s ≡ first_rank c
-    → names_right men c w (first_letter c + file s) ≡ false
-    → (b : Bool) → is_towards w (king_square men c) s ≡ b → is_towards w (king_square men c) s ≡ false
-away_by men c w s home e true t =
-    let v : names_right men c w (first_letter c + file s) ≡ true =
-    rw (no_side_letter c c w (file s) (file_in s), own_file c (file s) (file_in s), file_back c s home, t) refl in
-    let f : true ≡ false = sym v ∙ e in
-    absurd cc
-away_by men c w s home e false t = t
+away : (men : Men) (c : Colour) (w : CastlingSide) (s : ℕ) → rank s ≡ first_rank c
+    → names_right men c w (first_letter c + file s) ≡ false → is_towards w (king_square men c) s ≡ false
+away men c w s home e =
+    let back = ap (is_towards w (king_square men c)) (file_back c s home) in
+    grind (arith, e, no_side_letter c c w (file s) (file_in s), own_file c (file s) (file_in s), back)
 
 none_says : (men : Men) (c : Colour) (w : CastlingSide) (l : ℕ) → names_right men c w l ≡ false → NamesNone men c w l
 none_says men c w l e = record {
   not_side = λ at. (let f : true ≡ false = sym (ap (λ b. b || IsFileTowards men c w l) (eq-eqb l (side_letter c w) at))
       ∙ e in absurd cc);
-  not_file = λ s home at. away_by men c w s home (ap (names_right men c w) (sym at) ∙ e)
-      (is_towards w (king_square men c) s) refl;
+  not_file = λ s home at. away men c w s home (ap (names_right men c w) (sym at) ∙ e);
 }
 
 unnamed_by : (men : Men) (c : Colour) (w : CastlingSide) (l : ℕ) → NamesNone men c w l → (a b : Bool)
@@ -239,31 +234,15 @@ one_of men c w l (x ∷ xs) e = by_test (names_right men c w x) refl e (one_of m
 no_letters : (men : Men) (c : Colour) (w : CastlingSide) (ls : List ℕ)
     → right_by (map (rook_by men c w) ls) ≡ Some None → ls ≡ []
 no_letters men c w [] e = refl
-no_letters men c w (x ∷ []) e = by_rook (rook_by men c w x) e
-  where
-    by_rook : (o : Option ℕ) → right_by (o ∷ []) ≡ Some None → x ∷ [] ≡ []
-    by_rook None h = absurd cc
-    by_rook (Some s) h = absurd cc
-no_letters men c w (x ∷ y ∷ ls) e = by_rook (rook_by men c w x) e
-  where
-    by_rook : (o : Option ℕ) → right_by (o ∷ map (rook_by men c w) (y ∷ ls)) ≡ Some None → x ∷ y ∷ ls ≡ []
-    by_rook None h = absurd cc
-    by_rook (Some s) h = absurd cc
+no_letters men c w (x ∷ []) e = grind (arith, e)
+no_letters men c w (x ∷ y ∷ ls) e = grind (arith, e)
 
 one_letter : (men : Men) (c : Colour) (w : CastlingSide) (s : ℕ) (ls : List ℕ)
     → right_by (map (rook_by men c w) ls) ≡ Some (Some s)
     → (l : ℕ) × (ls ≡ l ∷ []) × (rook_by men c w l ≡ Some s)
 one_letter men c w s [] e = absurd cc
-one_letter men c w s (x ∷ []) e = (x, refl, by_rook (rook_by men c w x) e)
-  where
-    by_rook : (o : Option ℕ) → right_by (o ∷ []) ≡ Some (Some s) → o ≡ Some s
-    by_rook None h = absurd cc
-    by_rook (Some t) h = cc
-one_letter men c w s (x ∷ y ∷ ls) e = absurd (by_rook (rook_by men c w x) e)
-  where
-    by_rook : (o : Option ℕ) → right_by (o ∷ map (rook_by men c w) (y ∷ ls)) ≡ Some (Some s) → ⊥
-    by_rook None h = absurd cc
-    by_rook (Some t) h = absurd cc
+one_letter men c w s (x ∷ []) e = (x, refl, grind (arith, e))
+one_letter men c w s (x ∷ y ∷ ls) e = grind (arith, e)
 
 -- ---- the right
 

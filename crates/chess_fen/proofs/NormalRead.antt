@@ -12,12 +12,12 @@ use Rattle.chess_base.specs.declared.setup.Setup.{Setup}
 use Rattle.chess_base.specs.Faults.{conditions, rights_are_sound, first_failing, setup_fault}
 use Rattle.chess_base.specs.Men.{Men}
 use Rattle.chess_base.proofs.shared.Normal.{normal_kept}
-use Rattle.chess_fen.specs.Reading.{◌>>=◌, side_of, target_of, fen_reading_as}
+use Rattle.chess_fen.specs.Reading.{◌>>=◌, side_of, fen_reading_as}
 use Rattle.text_lines.specs.Words.{short_number}
-use Rattle.chess_fen.specs.Texts.{may_name_right, placement_of, fields_of, is_castling_field}
+use Rattle.chess_fen.specs.Texts.{may_name_right, placement_of, target_of, fields_of, is_castling_field}
 use Rattle.chess_fen.specs.laws.Normal.{normal_rights_named, normal_setup_by, normal_setup_in, normal_rights_are_sound, normal_fault, normal_sound, normal_fen_reading}
 use Rattle.chess_fen.proofs.DenotedFen.{reading_in_variant}
-use Rattle.chess_fen.proofs.Steps.{steps, denoted_by, unless_fault, if_fit, denoted_in, third, reading-steps}
+use Rattle.chess_fen.proofs.Steps.{steps_to, steps, denoted_by, unless_fault, if_fit, denoted_in, third, reading-steps}
 
 stand_kept : (p : Setup) → p.variant ≡ Normal → rights_are_sound p ≡ normal_rights_are_sound p
 unfolding rights_are_sound
@@ -42,22 +42,10 @@ fault_kept p e =
 -- of one
 abbrev normal_steps : List ℕ → Option Men → Option Colour → Bool → Option (Option ℕ) → Option ℕ → Option ℕ
     → Result Setup FenFault
-normal_steps castling men side fits target halfmove fullmove = do
-  pieces ← ok_or men faults.Placement
-  colour ← ok_or side faults.Side
-  rights ← ok_or (if fits then Some (normal_rights_named castling) else None) faults.Castling
-  passed ← ok_or target faults.EnPassant
-  clock ← ok_or halfmove faults.Counters
-  number ← ok_or fullmove faults.Counters
-  Ok (record {
-    variant = Normal;
-    men = pieces;
-    side = colour;
-    rights = rights;
-    target = passed;
-    halfmove = clock;
-    fullmove = max number 1;
-  })
+normal_steps castling men side fits target halfmove fullmove =
+    steps_to Ok Normal
+    (λ pieces. ok_or (if fits then Some (normal_rights_named castling) else None) faults.Castling)
+    men side target halfmove fullmove
 
 steps_kept : (c : List ℕ) (men : Option Men) (side : Option Colour) (fits : Bool) (target : Option (Option ℕ))
     (halfmove fullmove : Option ℕ)

@@ -1,5 +1,5 @@
 -- Reading a placement byte by byte, up to the first space.
-use Rattle.std.proofs.Common.{◌≡◌, ℕ, zero, suc, ◌+◌, ◌-◌, ◌*◌, ◌<◌, ◌≤◌, Bool, true, false, cond, eqb, leb, ◌&&◌, List, [], ◌∷◌, ◌++◌, length, map, get_or, take, drop, Option, Some, None, refl, sym, ap, ◌∙◌, ◌≢◌, append_assoc, append-nil, arith, length-append}
+use Rattle.std.proofs.Common.{◌≡◌, ℕ, zero, suc, ◌+◌, ◌-◌, ◌*◌, ◌<◌, ◌≤◌, Bool, true, false, cond, eqb, List, [], ◌∷◌, ◌++◌, length, map, get_or, take, drop, Option, Some, None, refl, sym, ap, ◌∙◌, ◌≢◌, append_assoc, append-nil, arith, length-append}
 use Rattle.std.specs.Prelude.{replicate, option_and_then}
 use Rattle.std.specs.Option.{option_map}
 use Rattle.std.specs.List.{slice_split, onto_first, position_or_len, before_first}
@@ -7,9 +7,8 @@ use Rattle.std.proofs.lemmas.Bool.Decides.{nat_tests}
 use Rattle.std.proofs.lemmas.List.{take-replicate, drop-replicate, length-replicate, drop-take, take-take}
 use Rattle.std.proofs.lemmas.List.Splits.{length-slice_split}
 use Rattle.chess_base.specs.declared.man.Man.{Man}
-use Rattle.chess_base.specs.Letters.{man_with_letter}
-use Rattle.chess_fen.specs.Texts.{from_top}
-use Rattle.chess_fen.specs.ties.Runs.{squares_by, all_there, rank_by, placement_by, at_lower, last_rank, placing, from_space, NoRankIsRead, RankIsPlaced, SlashIsRead, NoSlashIsRead, Ends, PlacementIsRead}
+use Rattle.chess_fen.specs.Texts.{squares_of, all_there, rank_of, from_top, placement_of}
+use Rattle.chess_fen.specs.ties.Runs.{at_lower, last_rank, placing, from_space, NoRankIsRead, RankIsPlaced, SlashIsRead, NoSlashIsRead, Ends, PlacementIsRead}
 use Rattle.chess_fen.proofs.DenotedRanks.{joined, eight}
 use Rattle.chess_fen.proofs.RankBytes.{no_man, all_none, placing_over}
 
@@ -19,28 +18,15 @@ no_board = None
 -- ---- after a rank
 
 -- each byte that stands for squares stands for at least one
-some_squares : (c : ℕ) (s : List (Option Man)) → squares_by c ≡ Some s → 0 < length s
-some_squares c s is = by_test (leb 49 c && leb c 56) refl is
-  where
-    by_man : (o : Option Man) → option_map (λ m. Some m ∷ []) o ≡ Some s → 0 < length s
-    by_man None e = absurd cc
-    by_man (Some m) e = let at : Some m ∷ [] ≡ s = cc in rw (sym at) (omega arith)
-
-    by_test : (b : Bool) → (leb 49 c && leb c 56) ≡ b
-        → cond b (Some (replicate (c - 48) no_man)) (option_map (λ m. Some m ∷ []) (man_with_letter c)) ≡ Some s
-        → 0 < length s
-    by_test true t e =
-        let low : 49 ≤ c = grind (arith, nat_tests) in
-        let at : replicate (c - 48) no_man ≡ s = cc in
-        rw (sym at) (omega (arith, length-replicate (c - 48) no_man))
-    by_test false t e = by_man (man_with_letter c) e
+some_squares : (c : ℕ) (s : List (Option Man)) → squares_of c ≡ Some s → 0 < length s
+some_squares c s is = grind (arith, nat_tests, is, length-replicate (c - 48) no_man)
 
 -- where eight squares are followed by more
 full : (left : ℕ) (row above : List (Option Man)) (c : ℕ) (cs : List ℕ) → length row ≡ 8
-    → option_and_then (λ s. placing left (row ++ s) above cs) (squares_by c) ≡ None
-full left row above c cs eight = by_squares (squares_by c) refl
+    → option_and_then (λ s. placing left (row ++ s) above cs) (squares_of c) ≡ None
+full left row above c cs eight = by_squares (squares_of c) refl
   where
-    by_squares : (o : Option (List (Option Man))) → squares_by c ≡ o
+    by_squares : (o : Option (List (Option Man))) → squares_of c ≡ o
         → option_and_then (λ s. placing left (row ++ s) above cs) o ≡ None
     by_squares None is = refl
     by_squares (Some s) is =
@@ -74,11 +60,11 @@ parted text = slice_split (λ c. eqb c 47) (before_first (λ b. eqb b 32) text)
 
 -- the eight squares of a rank, of which `row` are read and `part` is the text that is left
 abbrev begun : List (Option Man) → List ℕ → Option (List (Option Man))
-begun row part = eight (option_map (λ squares. row ++ joined squares) (all_there (map squares_by part)))
+begun row part = eight (option_map (λ squares. row ++ joined squares) (all_there (map squares_of part)))
 
 -- the squares of whole ranks, and then those above them
 abbrev below : List (Option Man) → List (List ℕ) → Option (List (Option Man))
-below above parts = option_map (λ rows. from_top rows ++ above) (all_there (map rank_by parts))
+below above parts = option_map (λ rows. from_top rows ++ above) (all_there (map rank_of parts))
 
 -- the squares by the parts still to be read, the first of them begun
 abbrev by_parts : ℕ → List (Option Man) → List (Option Man) → List (List ℕ) → Option (List (Option Man))
@@ -87,43 +73,26 @@ by_parts left row above (part ∷ parts) =
     cond (eqb (length parts) left) (option_and_then (λ r. below (r ++ above) parts) (begun row part)) None
 
 one_more : (above : List (Option Man)) (part : List ℕ) (parts : List (List ℕ))
-    → below above (part ∷ parts) ≡ option_and_then (λ r. below (r ++ above) parts) (rank_by part)
-one_more above part parts = by_row (rank_by part)
+    → below above (part ∷ parts) ≡ option_and_then (λ r. below (r ++ above) parts) (rank_of part)
+one_more above part parts = by_row (rank_of part) (all_there (map rank_of parts))
   where
-    by_rest : (row : List (Option Man)) (o : Option (List (List (Option Man))))
-        → option_map (λ rows. from_top rows ++ above) (option_map (λ rows. row ∷ rows) o)
-        ≡ option_map (λ rows. from_top rows ++ (row ++ above)) o
-    by_rest row None = refl
-    by_rest row (Some rows) = ap Some (append_assoc (from_top rows) row above)
-
-    by_row : (o : Option (List (Option Man)))
-        → option_map (λ rows. from_top rows ++ above)
-        (option_and_then (λ r. option_map (λ rows. r ∷ rows) (all_there (map rank_by parts))) o)
-        ≡ option_and_then (λ r. below (r ++ above) parts) o
-    by_row None = refl
-    by_row (Some row) = by_rest row (all_there (map rank_by parts))
+    by_row : (o : Option (List (Option Man))) (rest : Option (List (List (Option Man))))
+        → option_map (λ rows. from_top rows ++ above) (option_and_then (λ r. option_map (λ rows. r ∷ rows) rest) o)
+        ≡ option_and_then (λ r. option_map (λ rows. from_top rows ++ (r ++ above)) rest) o
+    by_row None rest = refl
+    by_row (Some row) None = refl
+    by_row (Some row) (Some rows) = ap Some (append_assoc (from_top rows) row above)
 
 none_either : (b : Bool) → cond b no_board no_board ≡ None
 none_either true = refl
 none_either false = refl
 
 last_part : (left : ℕ) (row above : List (Option Man)) → last_rank left row above ≡ by_parts left row above ([] ∷ [])
-last_part zero row above =
-    by_test (eqb (length row) 8)
-    ∙ ap (λ squares. option_and_then (λ r. below (r ++ above) []) (eight (Some squares))) (sym (append-nil row))
-  where
-    by_test : (b : Bool) → cond b (Some (row ++ above)) None
-        ≡ option_and_then (λ r. below (r ++ above) []) (cond b (Some row) None)
-    by_test true = refl
-    by_test false = refl
+last_part zero row above = grind (arith, append-nil row)
 last_part (suc lower) row above = let e : eqb 0 (suc lower) ≡ false = grind (arith, nat_tests) in rw e refl
 
 eqb-suc : (a b : ℕ) → eqb (suc a) (suc b) ≡ eqb a b
-eqb-suc a b = by_test (eqb a b) refl
-  where
-    by_test : (t : Bool) → eqb a b ≡ t → eqb (suc a) (suc b) ≡ t
-    by_test true e = grind (arith, nat_tests)
-    by_test false e = grind (arith, nat_tests)
+eqb-suc a b = grind (arith, nat_tests)
 
 next_part : (left : ℕ) (row above : List (Option Man)) (parts : List (List ℕ)) (f : ℕ → Option (List (Option Man)))
     → 0 < length parts → ((lower : ℕ) → f lower ≡ by_parts lower [] (row ++ above) parts)
@@ -146,10 +115,10 @@ next_part (suc lower) row above (part ∷ parts) f some on =
 
 same_part : (left : ℕ) (row above : List (Option Man)) (c : ℕ) (cs : List ℕ) (parts : List (List ℕ))
     → 0 < length parts → ((row : List (Option Man)) → placing left row above cs ≡ by_parts left row above parts)
-    → option_and_then (λ s. placing left (row ++ s) above cs) (squares_by c)
+    → option_and_then (λ s. placing left (row ++ s) above cs) (squares_of c)
     ≡ by_parts left row above (onto_first c parts)
 same_part left row above c cs [] some on = absurd (omega (arith, some))
-same_part left row above c cs (part ∷ parts) some on = by_squares (squares_by c)
+same_part left row above c cs (part ∷ parts) some on = by_squares (squares_of c)
   where
     by_rest : (s : List (Option Man)) (o : Option (List (List (Option Man))))
         → option_map (λ squares. (row ++ s) ++ joined squares) o
@@ -160,12 +129,12 @@ same_part left row above c cs (part ∷ parts) some on = by_squares (squares_by 
     by_squares : (o : Option (List (Option Man))) → option_and_then (λ s. placing left (row ++ s) above cs) o
         ≡ cond (eqb (length parts) left) (option_and_then (λ r. below (r ++ above) parts)
         (eight (option_map (λ squares. row ++ joined squares)
-        (option_and_then (λ s. option_map (λ squares. s ∷ squares) (all_there (map squares_by part))) o)))) None
+        (option_and_then (λ s. option_map (λ squares. s ∷ squares) (all_there (map squares_of part))) o)))) None
     by_squares None = sym (none_either (eqb (length parts) left))
     by_squares (Some s) =
         on (row ++ s)
         ∙ ap (λ o. cond (eqb (length parts) left) (option_and_then (λ r. below (r ++ above) parts) (eight o)) None)
-        (by_rest s (all_there (map squares_by part)))
+        (by_rest s (all_there (map squares_of part)))
 
 some_parts : (text : List ℕ) → 0 < length (parted text)
 some_parts text = omega (arith, length-slice_split (λ c. eqb c 47) (before_first (λ b. eqb b 32) text))
@@ -196,7 +165,7 @@ placing-parts left row above (c ∷ cs) = by_space (λ left row above. placing-p
     by_space on true t = rw t (last_part left row above)
     by_space on false t = by_stroke on (eqb c 47) t refl
 
-pub placing-read : (text : List ℕ) → placing 7 [] [] text ≡ placement_by (before_first (λ b. eqb b 32) text)
+pub placing-read : (text : List ℕ) → placing 7 [] [] text ≡ placement_of (before_first (λ b. eqb b 32) text)
 placing-read text = placing-parts 7 [] [] text ∙ by_list (parted text) (some_parts text)
   where
     on_nothing : (o : Option (List (List (Option Man))))
@@ -205,11 +174,11 @@ placing-read text = placing-parts 7 [] [] text ∙ by_list (parted text) (some_p
     on_nothing (Some rows) = ap Some (append-nil (from_top rows))
 
     by_list : (parts : List (List ℕ)) → 0 < length parts
-        → by_parts 7 [] [] parts ≡ cond (eqb (length parts) 8) (option_map from_top (all_there (map rank_by parts))) None
+        → by_parts 7 [] [] parts ≡ cond (eqb (length parts) 8) (option_map from_top (all_there (map rank_of parts))) None
     by_list [] some = absurd (omega (arith, some))
     by_list (part ∷ parts) some =
         rw (eqb-suc (length parts) 7) (ap (λ o. cond (eqb (length parts) 7) o None)
-        (sym (one_more [] part parts) ∙ on_nothing (all_there (map rank_by (part ∷ parts)))))
+        (sym (one_more [] part parts) ∙ on_nothing (all_there (map rank_of (part ∷ parts)))))
 
 -- What is left of the text gives the same board, on top of which the ranks so far are; so many ranks are left, and
 -- their squares are still empty
@@ -229,21 +198,21 @@ rank_empty rank men empty =
 
 -- where no rank follows
 pub no_rank : (text men rest : _) (left : ℕ) → Placing text men rest left → NoRankIsRead rest
-    → placement_by (before_first (λ b. eqb b 32) text) ≡ None
+    → placement_of (before_first (λ b. eqb b 32) text) ≡ None
 no_rank text men rest left so_far none =
     sym (placing-read text) ∙ sym so_far.on ∙ none (left - 1) (drop (8 * left) men)
 
 -- what is read by a rank, before what comes after it
 by_rank : (text men new rest ended : _) (left : ℕ) → 0 < left → Placing text men rest left
     → (p : RankIsPlaced rest (left - 1) men new ended)
-    → placing (left - 1) p.row (drop (8 * left) men) ended ≡ placement_by (before_first (λ b. eqb b 32) text)
+    → placing (left - 1) p.row (drop (8 * left) men) ended ≡ placement_of (before_first (λ b. eqb b 32) text)
 by_rank text men new rest ended left some so_far p =
     sym (p.read.on (left - 1) (drop (8 * left) men)) ∙ so_far.on ∙ placing-read text
 
 -- where no slash follows, and another rank should
 pub no_more : (text men new rest ended : _) (left : ℕ) → 1 < left → Placing text men rest left
     → RankIsPlaced rest (left - 1) men new ended → NoSlashIsRead ended
-    → placement_by (before_first (λ b. eqb b 32) text) ≡ None
+    → placement_of (before_first (λ b. eqb b 32) text) ≡ None
 no_more text men new rest ended left some so_far p none =
     let lower : left - 1 ≡ suc (left - 2) = omega arith in
     sym (by_rank text men new rest ended left (omega arith) so_far p)
@@ -284,6 +253,6 @@ placed_whole text men new rest ended left last so_far p end =
 
 pub too_many : (text men new rest ended : _) (left : ℕ) → left ≡ 1 → Placing text men rest left
     → RankIsPlaced rest 0 men new ended → Ends false ended
-    → placement_by (before_first (λ b. eqb b 32) text) ≡ None
+    → placement_of (before_first (λ b. eqb b 32) text) ≡ None
 too_many text men new rest ended left last so_far p past =
     sym (placing-read text) ∙ sym so_far.on ∙ rw last (p.read.on 0 (drop 8 men) ∙ past p.row (drop 8 men) p.read.eight)

@@ -3,20 +3,20 @@ use Rattle.std.proofs.Common.{◌≡◌, ℕ, zero, suc, ◌+◌, ◌-◌, ◌<�
 use Rattle.std.proofs.Math.Seq.{take-length}
 use Rattle.std.specs.Prelude.{replicate, option_and_then}
 use Rattle.std.specs.List.{position_or_len}
-use Rattle.std.proofs.lemmas.Bool.{eqb-true}
 use Rattle.std.proofs.lemmas.Bool.Decides.{nat_tests}
 use Rattle.std.proofs.lemmas.List.{at_drop_more, at_drop_all, take-replicate, drop-replicate, drop-drop, length-take, length-replicate, take-set, drop-set, drop-set-lt, length-set}
 use Rattle.std.proofs.Math.Seq.{take-add}
 use Rattle.chess_base.specs.declared.man.Man.{Man}
 use Rattle.chess_fen.specs.declared.letters.Run.{Run}
-use Rattle.chess_fen.specs.ties.Runs.{squares_by, squares_in, at_lower, last_rank, placing, from_space, RankIsRead, NoRankIsRead}
+use Rattle.chess_fen.specs.Texts.{squares_of}
+use Rattle.chess_fen.specs.ties.Runs.{squares_in, at_lower, last_rank, placing, from_space, RankIsRead, NoRankIsRead}
 
 abbrev pub no_man : Option Man
 no_man = None
 
 -- ---- a byte
 
-pub squares-digit : (c : ℕ) → 49 ≤ c → c ≤ 56 → squares_by c ≡ Some (replicate (c - 48) None)
+pub squares-digit : (c : ℕ) → 49 ≤ c → c ≤ 56 → squares_of c ≡ Some (replicate (c - 48) None)
 squares-digit c low high = grind (arith, nat_tests)
 
 -- a rank that has not eight squares isn't the last, and none follows it
@@ -32,17 +32,15 @@ not_lower (suc left) b f e = rw e refl
 -- nothing comes of a byte if nothing comes of it as a space, as a slash, and as squares
 pub all_none : (a b : Bool) (x y z : Option (List (Option Man))) → x ≡ None → y ≡ None → z ≡ None
     → cond a x (cond b y z) ≡ None
-all_none true b x y z ex ey ez = ex
-all_none false true x y z ex ey ez = ey
-all_none false false x y z ex ey ez = ez
+all_none a b x y z ex ey ez = grind (arith, ex, ey, ez)
 
 stuck : (left : ℕ) (row above : List (Option Man)) (c : ℕ) (cs : List ℕ) → eqb (length row) 8 ≡ false
-    → option_and_then (λ squares. placing left (row ++ squares) above cs) (squares_by c) ≡ None
+    → option_and_then (λ squares. placing left (row ++ squares) above cs) (squares_of c) ≡ None
     → placing left row above (c ∷ cs) ≡ None
 stuck left row above c cs e none =
     all_none (eqb c 32) (eqb c 47) (last_rank left row above)
     (at_lower left (λ lower. cond (eqb (length row) 8) (placing lower [] (row ++ above) cs) None))
-    (option_and_then (λ squares. placing left (row ++ squares) above cs) (squares_by c)) (not_last left row above e)
+    (option_and_then (λ squares. placing left (row ++ squares) above cs) (squares_of c)) (not_last left row above e)
     (not_lower left (eqb (length row) 8) (λ lower. placing lower [] (row ++ above) cs) e) none
 
 -- more than eight squares are no rank
@@ -52,7 +50,7 @@ placing_over left row above [] h =
     let e : eqb (length row) 8 ≡ false = grind (arith, nat_tests) in not_last left row above e
 placing_over left row above (c ∷ cs) h =
     let e : eqb (length row) 8 ≡ false = grind (arith, nat_tests) in
-    stuck left row above c cs e (by_squares (squares_by c) (λ s. placing_over left (row ++ s) above cs
+    stuck left row above c cs e (by_squares (squares_of c) (λ s. placing_over left (row ++ s) above cs
     (omega (arith, length-append row s))))
   where
     by_squares : (o : Option (List (Option Man)))
@@ -62,15 +60,11 @@ placing_over left row above (c ∷ cs) h =
     by_squares (Some s) more = more s
 
 -- a byte that stands for squares is another than one that stands for none
-another : (c k : ℕ) (s : List (Option Man)) → squares_by k ≡ None → squares_by c ≡ Some s → eqb c k ≡ false
-another c k s none is = by_test (eqb c k) refl
-  where
-    by_test : (b : Bool) → eqb c k ≡ b → b ≡ false
-    by_test true e = let same : c ≡ k = eqb-true c k e in absurd cc
-    by_test false e = refl
+another : (c k : ℕ) (s : List (Option Man)) → squares_of k ≡ None → squares_of c ≡ Some s → eqb c k ≡ false
+another c k s none is = grind (arith, nat_tests, none, is)
 
 pub goes_on : (left : ℕ) (row above : List (Option Man)) (c : ℕ) (cs : List ℕ) (s : List (Option Man))
-    → squares_by c ≡ Some s → placing left row above (c ∷ cs) ≡ placing left (row ++ s) above cs
+    → squares_of c ≡ Some s → placing left row above (c ∷ cs) ≡ placing left (row ++ s) above cs
 goes_on left row above c cs s is =
     let space : eqb c 32 ≡ false = another c 32 s refl is in
     let stroke : eqb c 47 ≡ false = another c 47 s refl is in
@@ -124,7 +118,7 @@ still_empty row file n first eight empty some fits =
 
 -- how the next byte goes on, if its squares are not too many
 step : (text : List ℕ) (row : List (Option Man)) (file i : ℕ) (r : Run) → RowSoFar text row file i → i < length text
-    → squares_by (get_or text i 0) ≡ squares_in r → 0 < r.squares → file + r.squares ≤ 8
+    → squares_of (get_or text i 0) ≡ squares_in r → 0 < r.squares → file + r.squares ≤ 8
     → ((left : ℕ) → (above : List (Option Man))
     → placing left (take (file + r.squares) (set row file r.first)) above (drop (i + 1) text)
     ≡ placing left [] above text)
@@ -132,7 +126,7 @@ step : (text : List ℕ) (row : List (Option Man)) (file i : ℕ) (r : Run) → 
 step text row file i r so_far h at some fits =
     let c = get_or text i 0 in
     let s = r.first ∷ replicate (r.squares - 1) None in
-    let is : squares_by c ≡ Some s = at ∙ filled r some (omega arith) in
+    let is : squares_of c ≡ Some s = at ∙ filled r some (omega arith) in
     let taken : take (file + r.squares) (set row file r.first) ≡ take file row ++ s =
     put row file r.squares r.first so_far.eight so_far.empty some fits in (
       (λ left above. rw taken (sym (at_drop_more (placing left (take file row) above) text i 0 h
@@ -142,7 +136,7 @@ step text row file i r so_far h at some fits =
     )
 
 pub more : (text : List ℕ) (row : List (Option Man)) (file i : ℕ) (r : Run) → RowSoFar text row file i → i < length text
-    → squares_by (get_or text i 0) ≡ squares_in r → 0 < r.squares → file + r.squares < 8
+    → squares_of (get_or text i 0) ≡ squares_in r → 0 < r.squares → file + r.squares < 8
     → RowSoFar text (set row file r.first) (file + r.squares) (i + 1)
 more text row file i r so_far h at some fits =
     let s = step text row file i r so_far h at some (omega arith) in
@@ -155,7 +149,7 @@ more text row file i r so_far h at some fits =
     }
 
 pub whole : (text : List ℕ) (row : List (Option Man)) (file i : ℕ) (r : Run) → RowSoFar text row file i
-    → i < length text → squares_by (get_or text i 0) ≡ squares_in r → 0 < r.squares → file + r.squares ≡ 8
+    → i < length text → squares_of (get_or text i 0) ≡ squares_in r → 0 < r.squares → file + r.squares ≡ 8
     → RankIsRead text (set row file r.first) (drop (i + 1) text)
 whole text row file i r so_far h at some is =
     let s = step text row file i r so_far h at some (omega arith) in
@@ -170,7 +164,7 @@ whole text row file i r so_far h at some is =
 
 -- where the next byte brings more than eight squares, or stands for none
 pub overfull : (text : List ℕ) (row : List (Option Man)) (file i : ℕ) (r : Run) → RowSoFar text row file i
-    → i < length text → squares_by (get_or text i 0) ≡ squares_in r → 0 < r.squares → 8 < file + r.squares
+    → i < length text → squares_of (get_or text i 0) ≡ squares_in r → 0 < r.squares → 8 < file + r.squares
     → NoRankIsRead text
 overfull text row file i r so_far h at some over = λ left above.
     sym (so_far.on left above) ∙ at_drop_more (placing left (take file row) above) text i 0 h
@@ -189,7 +183,7 @@ overfull text row file i r so_far h at some over = λ left above.
     too_many t = rw t refl
 
     by_test : (b : Bool) → leb r.squares 8 ≡ b → (left : ℕ) → (above : List (Option Man))
-        → option_and_then (λ s. placing left (take file row ++ s) above (drop (i + 1) text)) (squares_by c) ≡ None
+        → option_and_then (λ s. placing left (take file row ++ s) above (drop (i + 1) text)) (squares_of c) ≡ None
     by_test true t left above =
         let few : r.squares ≤ 8 = grind (arith, nat_tests) in
         let s = r.first ∷ replicate (r.squares - 1) None in

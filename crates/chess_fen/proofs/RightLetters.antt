@@ -1,11 +1,17 @@
 -- The letters of the rights, one after another, as code writes them and as proofs take them apart.
-use Rattle.std.proofs.Common.{◌≡◌, ℕ, false, List, [], ◌∷◌, ◌++◌, ◌==◌, if◌then◌else◌, length, Option, Some, None, refl, arith}
+use Rattle.std.proofs.Common.{◌≡◌, ℕ, false, List, [], ◌∷◌, ◌++◌, ◌==◌, if◌then◌else◌, length, Option, Some, None, refl, sym, ap, ◌∙◌, append_assoc, append-nil, arith}
 use Rattle.std.specs.Prelude.{codes}
+use Rattle.std.specs.List.{cons_option, filter_map}
+use Rattle.std.specs.Option.{option_map}
 use Rattle.std.proofs.lemmas.Bool.Decides.{nat_tests}
+use Rattle.chess_base.specs.Castling.{right_of}
+use Rattle.chess_base.specs.declared.man.CastlingSide.{CastlingSide}
 use Rattle.chess_base.specs.declared.man.CastlingSide.TheVariants.{KingSide, QueenSide}
+use Rattle.chess_base.specs.declared.man.Colour.{Colour}
 use Rattle.chess_base.specs.declared.man.Colour.TheVariants.{White, Black}
 use Rattle.chess_base.specs.declared.man.Rights.{Rights}
 use Rattle.chess_base.specs.declared.man.Variant.{Variant}
+use Rattle.chess_fen.specs.RightNames.{all_rights, right_letter}
 use Rattle.chess_fen.specs.Writing.{rights_text}
 use Rattle.chess_fen.specs.ties.Loops.{or_dash, right_text}
 
@@ -15,33 +21,19 @@ letters v r =
     right_text v White KingSide r.white.king_side ++ right_text v White QueenSide r.white.queen_side
     ++ right_text v Black KingSide r.black.king_side ++ right_text v Black QueenSide r.black.queen_side
 
-abbrev of_four : Option ℕ → Option ℕ → Option ℕ → Option ℕ → Rights
-of_four a b c d = record {
-  white = record { king_side = a; queen_side = b };
-  black = record { king_side = c; queen_side = d };
-}
-
-by_four : (v : Variant) (a b c d : Option ℕ) → rights_text v (of_four a b c d) ≡ or_dash (letters v (of_four a b c d))
-by_four v (Some a) (Some b) (Some c) (Some d) = refl
-by_four v (Some a) (Some b) (Some c) None = refl
-by_four v (Some a) (Some b) None (Some d) = refl
-by_four v (Some a) (Some b) None None = refl
-by_four v (Some a) None (Some c) (Some d) = refl
-by_four v (Some a) None (Some c) None = refl
-by_four v (Some a) None None (Some d) = refl
-by_four v (Some a) None None None = refl
-by_four v None (Some b) (Some c) (Some d) = refl
-by_four v None (Some b) (Some c) None = refl
-by_four v None (Some b) None (Some d) = refl
-by_four v None (Some b) None None = refl
-by_four v None None (Some c) (Some d) = refl
-by_four v None None (Some c) None = refl
-by_four v None None None (Some d) = refl
-by_four v None None None None = refl
+-- the letter of a right that may be there, after others and before others
+after : (v : Variant) (c : Colour) (w : CastlingSide) (right : Option ℕ) (xs ys : List ℕ)
+    → xs ++ cons_option (option_map (right_letter v c w) right) ys ≡ (xs ++ right_text v c w right) ++ ys
+after v c w None xs ys = ap (λ zs. zs ++ ys) (sym (append-nil xs))
+after v c w (Some s) xs ys = sym (append_assoc xs (right_letter v c w s ∷ []) ys)
 
 pub dashed : (text : List ℕ) → or_dash text ≡ (if length text == 0 then codes "-" else text)
 dashed [] = refl
 dashed (c ∷ cs) = let some : (length (c ∷ cs) == 0) ≡ false = grind (arith, nat_tests) in rw some refl
 
 pub rights_are : (v : Variant) (r : Rights) → rights_text v r ≡ or_dash (letters v r)
-rights_are v r = by_four v r.white.king_side r.white.queen_side r.black.king_side r.black.queen_side
+rights_are v r =
+    sym (dashed (filter_map (λ p. option_map (right_letter v p.0 p.1) (right_of r p.0 p.1)) all_rights))
+    ∙ ap or_dash (after v White KingSide r.white.king_side [] _ ∙ after v White QueenSide r.white.queen_side _ _
+    ∙ after v Black KingSide r.black.king_side _ _ ∙ after v Black QueenSide r.black.queen_side _ []
+    ∙ append-nil (letters v r))

@@ -1,10 +1,9 @@
 -- A FEN is read as it denotes. Rights that are named wrongly are refused by both: by the definition with a condition of
 -- their own, by the reader as rights whose rook is on a square that is no rook's.
 use Rattle.std.proofs.Common.{◌≡◌, ℕ, ◌⊎◌, inl, inr, Bool, true, false, cond, List, [], ◌∷◌, ◌++◌, map, take, drop, Option, Some, None, Result, Ok, Err, refl, sym, ap, ◌∙◌, arith}
-use Rattle.std.specs.Prelude.{find, ◌&&◌, ◌||◌, is_some, ◌==◌, max, codes, ◌-◌, IsOk, IfOk, IfErr, ◌↔◌}
+use Rattle.std.specs.Prelude.{◌&&◌, is_some, max, codes, IsOk, IfOk, IfErr, ◌↔◌}
 use Rattle.std.specs.List.{filter, fold}
 use Rattle.std.specs.Option.{option_flatten, option_map_or, ok_or, unwrap_or}
-use Rattle.chess_base.specs.declared.man.Kind.TheVariants.{Rook}
 use Rattle.chess_base.specs.declared.man.Colour.{Colour}
 use Rattle.chess_base.specs.declared.man.Colour.TheVariants.{White, Black}
 use Rattle.chess_base.specs.declared.man.CastlingSide.{CastlingSide}
@@ -15,22 +14,18 @@ use Rattle.chess_base.specs.declared.man.Rights.{Rights}
 use Rattle.chess_base.specs.declared.setup.Setup.{Setup}
 use Rattle.chess_base.specs.declared.fen_fault.FenFault.{FenFault}
 use Rattle.chess_base.specs.declared.fen_fault.FenFault.TheVariants as faults
-use Rattle.chess_base.specs.Men.{Men, man_at, is_man}
-use Rattle.chess_base.specs.Castling.{home_square, king_square, are_placed_for_castling, right_is_sound, rights_by}
-use Rattle.chess_base.specs.shared.Parts.{is_on_side_of_king}
+use Rattle.chess_base.specs.Men.{Men}
+use Rattle.chess_base.specs.Castling.{are_placed_for_castling, right_is_sound, rights_by}
 use Rattle.chess_base.specs.Faults.{conditions, rights_are_sound, first_failing, setup_fault}
 use Rattle.chess_base.specs.Sound.{IsSound}
 use Rattle.chess_base.proofs.shared.Sound.{no_fault_from_IsSound}
 use Rattle.text_lines.specs.Words.{short_number}
-use Rattle.chess_fen.specs.Texts.{first_letter, names_file, placement_of, is_castling_field, fields_of}
-use Rattle.chess_fen.specs.RightNames.{side_letter, from_edge, is_towards, right_by, right_in, names_rights_well, rights_in}
+use Rattle.chess_fen.specs.Texts.{placement_of, is_castling_field, target_of, fields_of}
+use Rattle.chess_fen.specs.RightNames.{right_by, right_in, names_rights_well, rights_in}
 use Rattle.chess_fen.proofs.RooksNamed.{names_right, rook_by, in_chess960}
-use Rattle.chess_fen.specs.Reading.{◌>>=◌, side_of, target_of, fen_reading_as}
-use Rattle.chess_fen.specs.ties.Reader.{side_by, nowhere, outer_rook, named_square, one_or_nowhere, right_by_letters, setup_by, setup_in}
-use Rattle.chess_fen.specs.ties.Runs.{placement_by}
-use Rattle.chess_fen.proofs.PlacementAlike.{placement_is}
-use Rattle.chess_fen.proofs.DenotedFields.{side_is, target_is}
-use Rattle.chess_fen.proofs.Steps.{steps, denoted_by, unless_fault, if_fit, denoted_in, third, reading-steps}
+use Rattle.chess_fen.specs.Reading.{◌>>=◌, side_of, fen_reading_as}
+use Rattle.chess_fen.specs.ties.Reader.{nowhere, outer_rook, named_square, one_or_nowhere, right_by_letters, setup_by, setup_in}
+use Rattle.chess_fen.proofs.Steps.{steps_to, steps, denoted_by, unless_fault, if_fit, denoted_in, third, reading-steps}
 
 -- a right that is named wrongly as a right whose rook is nowhere
 abbrev sentinel : Option (Option ℕ) → Option ℕ
@@ -44,17 +39,7 @@ module _ (men : Men) (c : Colour) (w : CastlingSide) where
   named_is : (letter : ℕ) → named_square men c w letter
       ≡ cond (names_right men c w letter) (or_nowhere (rook_by men c w letter)) None
   unfolding outer_rook
-  named_is letter = by_test (letter == side_letter c w)
-      (names_file c letter && is_towards w (king_square men c) (home_square c (letter - first_letter c)))
-    where
-      s : ℕ
-      s = home_square c (letter - first_letter c)
-
-      by_test : (t u : Bool) → cond t (Some (outer_rook men c w)) (cond u (Some s) None)
-          ≡ cond (t || u) (or_nowhere (cond t (find (λ k. is_man c Rook (man_at men k)) (from_edge c w)) (Some s))) None
-      by_test true u = refl
-      by_test false true = refl
-      by_test false false = refl
+  named_is letter = grind arith
 
   skip_none : (o : Option ℕ) → one_or_nowhere o None ≡ o
   skip_none None = refl
@@ -65,19 +50,8 @@ module _ (men : Men) (c : Colour) (w : CastlingSide) where
       ≡ fold one_or_nowhere acc (map or_nowhere (map (rook_by men c w) (filter (names_right men c w) letters)))
   only_named acc [] = refl
   only_named acc (letter ∷ letters) =
-      ap (λ o. fold one_or_nowhere (one_or_nowhere acc o) (map (named_square men c w) letters)) (named_is letter)
-      ∙ by_test (names_right men c w letter) (λ o. only_named o letters)
-    where
-      by_test : (t : Bool)
-          → ((o : Option ℕ) → fold one_or_nowhere o (map (named_square men c w) letters)
-          ≡ fold one_or_nowhere o (map or_nowhere (map (rook_by men c w) (filter (names_right men c w) letters))))
-          → fold one_or_nowhere (one_or_nowhere acc (cond t (or_nowhere (rook_by men c w letter)) None))
-          (map (named_square men c w) letters)
-          ≡ fold one_or_nowhere acc (map or_nowhere (map (rook_by men c w)
-          (cond t (letter ∷ filter (names_right men c w) letters) (filter (names_right men c w) letters))))
-      by_test true more = more (one_or_nowhere acc (or_nowhere (rook_by men c w letter)))
-      by_test false more =
-          ap (λ o. fold one_or_nowhere o (map (named_square men c w) letters)) (skip_none acc) ∙ more acc
+      let first = one_or_nowhere acc (or_nowhere (rook_by men c w letter)) in
+      grind (arith, named_is letter, skip_none acc, only_named first letters, only_named acc letters)
 
 stays : (os : List (Option ℕ)) → fold one_or_nowhere (Some nowhere) (map or_nowhere os) ≡ Some nowhere
 stays [] = refl
@@ -99,13 +73,7 @@ right_is men letters c w =
 -- ---- nowhere is no rook's square
 
 no_rook : (men : Men) (c : Colour) (w : CastlingSide) → are_placed_for_castling Fischerandom men c w nowhere ≡ false
-no_rook men c w = by_king c (king_square men c)
-  where
-    by_king : (c : Colour) (king : Option ℕ) → (is_on_side_of_king c w king nowhere && is_man c Rook (man_at men nowhere))
-        ≡ false
-    by_king c None = refl
-    by_king White (Some k) = grind arith
-    by_king Black (Some k) = grind arith
+no_rook men c w = grind arith
 
 -- ---- the position, or the fault
 
@@ -167,10 +135,7 @@ module _ (men : Men) (colour : Colour) (target : Option ℕ) (halfmove fullmove 
       → (placed White KingSide a ≡ false) ⊎ (placed White QueenSide b ≡ false) ⊎ (placed Black KingSide c ≡ false)
       ⊎ (placed Black QueenSide d ≡ false) → rights_are_sound (setup_with Fischerandom (rights_of_four a b c d)) ≡ false
   unfolding rights_are_sound right_is_sound
-  one_nowhere a b c d (inl e) = grind (arith, e)
-  one_nowhere a b c d (inr (inl e)) = grind (arith, e)
-  one_nowhere a b c d (inr (inr (inl e))) = grind (arith, e)
-  one_nowhere a b c d (inr (inr (inr e))) = grind (arith, e)
+  one_nowhere a b c d e = grind (arith, e)
 
   named_alike : (a b c d : Option (Option ℕ))
       → said Fischerandom (rights_of_four (flat a) (flat b) (flat c) (flat d)) (four_some a b c d)
@@ -217,22 +182,11 @@ fields_are : (v : Variant) (a b c d h f : List ℕ)
     → (denoted_by v a b c d h f >>= if_fit c) ≡ (setup_by v a b c d h f >>= if_sound)
 fields_are v a b c d h f =
     by_steps (placement_of a) (side_of b) (is_castling_field v c) (target_of d) (short_number 6 h) (short_number 6 f)
-    ∙ ap (λ men. read_by men (side_of b) (is_castling_field v c) (target_of d) (short_number 6 h)
-    (short_number 6 f) >>= if_sound) (placement_is a)
-    ∙ ap (λ side. read_by (placement_by a) side (is_castling_field v c) (target_of d) (short_number 6 h)
-    (short_number 6 f) >>= if_sound) (side_is b)
-    ∙ ap (λ target. read_by (placement_by a) (side_by b) (is_castling_field v c) target (short_number 6 h)
-    (short_number 6 f) >>= if_sound) (target_is d)
   where
     read_by : Option Men → Option Colour → Bool → Option (Option ℕ) → Option ℕ → Option ℕ → Result Setup FenFault
-    read_by men side fits target halfmove fullmove = do
-      pieces ← ok_or men faults.Placement
-      mover ← ok_or side faults.Side
-      rights ← ok_or (cond fits (Some (rights_by (right_by_letters v pieces c))) None) faults.Castling
-      square ← ok_or target faults.EnPassant
-      clock ← ok_or halfmove faults.Counters
-      number ← ok_or fullmove faults.Counters
-      Ok (setup_with pieces mover square clock (max number 1) v rights)
+    read_by men side fits target halfmove fullmove =
+        steps_to Ok v (λ pieces. ok_or (cond fits (Some (rights_by (right_by_letters v pieces c))) None) faults.Castling)
+        men side target halfmove fullmove
 
     by_steps : (men : Option Men) (side : Option Colour) (fits : Bool) (target : Option (Option ℕ))
         (halfmove fullmove : Option ℕ)

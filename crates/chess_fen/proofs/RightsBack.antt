@@ -1,5 +1,5 @@
 -- In Chess960, the letters that are written for available rights name them.
-use Rattle.std.proofs.Common.{◌≡◌, ℕ, ◌+◌, ◌-◌, ◌%◌, ◌<◌, ◌≤◌, ◌⊎◌, inl, inr, Bool, true, false, cond, eqb, leb, ltb, List, [], ◌∷◌, ◌++◌, length, map, Option, Some, None, refl, sym, ap, ◌∙◌, append-nil, arith}
+use Rattle.std.proofs.Common.{◌≡◌, ℕ, ◌+◌, ◌-◌, ◌<◌, ◌≤◌, ◌⊎◌, inl, inr, Bool, true, false, cond, eqb, leb, ltb, List, [], ◌∷◌, ◌++◌, length, map, Option, Some, None, refl, sym, ap, ◌∙◌, append-nil, arith}
 use Rattle.std.specs.Prelude.{IsTrue}
 use Rattle.std.specs.List.{AllByRecursion, filter, list_all}
 use Rattle.std.proofs.lemmas.Bool.{and_parts, eqb-true, ltb-true}
@@ -137,10 +137,7 @@ colour_text men c w u (Some s) = ap (λ b. cond b ((first_letter c + file s) ∷
 
 after-dash : (men : Men) (c : Colour) (w : CastlingSide) (xs : List ℕ)
     → filter (names_right men c w) (or_dash xs) ≡ filter (names_right men c w) xs
-after-dash men White KingSide [] = refl
-after-dash men White QueenSide [] = refl
-after-dash men Black KingSide [] = refl
-after-dash men Black QueenSide [] = refl
+after-dash men c w [] = grind arith
 after-dash men c w (x ∷ xs) = refl
 
 abbrev A : Rights → List ℕ
@@ -241,21 +238,12 @@ record Placed (men : Men) (c : Colour) (w : CastlingSide) (n : ℕ) : Type 0 whe
 
 placed : (men : Men) (c : Colour) (w : CastlingSide) (s : ℕ) → Beside men c w s
     → Placed men c w (first_letter c + file s)
-placed men c KingSide s b = record {
+placed men c w s b = record {
   king = b.king;
   at = b.at;
   low = omega arith;
   high = omega arith;
-  side = (let l = ltb-true b.king s b.side in let t : first_letter c + b.king % 8 < first_letter c + s % 8 =
-      omega (arith, b.king_rank, b.rook_rank, l) in grind (arith, nat_tests, t));
-}
-placed men c QueenSide s b = record {
-  king = b.king;
-  at = b.at;
-  low = omega arith;
-  high = omega arith;
-  side = (let l = ltb-true s b.king b.side in let t : first_letter c + s % 8 < first_letter c + b.king % 8 =
-      omega (arith, b.king_rank, b.rook_rank, l) in grind (arith, nat_tests, t));
+  side = (let side = b.side in grind (arith, nat_tests, b.king_rank, b.rook_rank, side));
 }
 
 times-cons : (c x : ℕ) (xs : List ℕ) → times c (x ∷ xs) ≡ cond (eqb x c) 1 0 + times c xs

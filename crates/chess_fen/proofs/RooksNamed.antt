@@ -1,5 +1,5 @@
 -- A right of Chess960 by the letters that name it, and the rooks that these name: a proof takes them one by one.
-use Rattle.std.proofs.Common.{◌≡◌, ℕ, Bool, true, false, List, [], ◌∷◌, map, Option, Some, refl, sym, ap, ◌∙◌}
+use Rattle.std.proofs.Common.{◌≡◌, ℕ, Bool, List, [], ◌∷◌, map, Option, Some, refl, ap, arith}
 use Rattle.std.specs.Prelude.{find, ◌&&◌, ◌||◌, ◌==◌, ◌-◌, if◌then◌else◌}
 use Rattle.std.specs.List.{filter, filter_map}
 use Rattle.chess_base.specs.declared.man.CastlingSide.{CastlingSide}
@@ -23,30 +23,10 @@ rook_by men c w letter =
     else Some (home_square c (letter - first_letter c))
 
 module _ (men : Men) (c : Colour) (w : CastlingSide) where
-  -- is the letter that of a file on that side of the king
-  abbrev by_file : ℕ → Bool
-  by_file letter = names_file c letter && is_towards w (king_square men c) (home_square c (letter - first_letter c))
-
   rooks : (letters : List ℕ) → filter_map (rook_named men c w) letters
       ≡ map (rook_by men c w) (filter (names_right men c w) letters)
   rooks [] = refl
-  rooks (letter ∷ letters) = by_tests (letter == side_letter c w) refl (by_file letter) refl (rooks letters)
-    where
-      by_tests : (t : Bool) → (letter == side_letter c w) ≡ t → (u : Bool) → by_file letter ≡ u
-          → filter_map (rook_named men c w) letters ≡ map (rook_by men c w) (filter (names_right men c w) letters)
-          → filter_map (rook_named men c w) (letter ∷ letters)
-          ≡ map (rook_by men c w) (filter (names_right men c w) (letter ∷ letters))
-      by_tests true e u h more =
-          let outer = find (λ s. is_man c Rook (man_at men s)) (from_edge c w) in
-          let own : rook_by men c w letter ≡ outer = rw e refl in
-          rw e (ap (λ xs. outer ∷ xs) more
-          ∙ ap (λ o. o ∷ map (rook_by men c w) (filter (names_right men c w) letters)) (sym own))
-      by_tests false e true h more =
-          let at : Option ℕ = Some (home_square c (letter - first_letter c)) in
-          let own : rook_by men c w letter ≡ at = rw e refl in
-          rw (e, h) (ap (λ xs. at ∷ xs) more
-          ∙ ap (λ o. o ∷ map (rook_by men c w) (filter (names_right men c w) letters)) (sym own))
-      by_tests false e false h more = rw (e, h) more
+  rooks (letter ∷ letters) = let more = rooks letters in grind (arith, more)
 
   pub in_chess960 : (letters : List ℕ) → right_in Fischerandom men letters c w
       ≡ right_by (map (rook_by men c w) (filter (names_right men c w) letters))

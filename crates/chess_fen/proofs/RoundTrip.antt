@@ -17,7 +17,7 @@ use Rattle.chess_base.specs.declared.man.Rights.{Rights}
 use Rattle.chess_base.specs.declared.man.Variant.{Variant}
 use Rattle.chess_base.specs.declared.man.Variant.TheVariants.{Normal, Fischerandom}
 use Rattle.chess_base.specs.declared.setup.Setup.{Setup}
-use Rattle.chess_base.specs.Letters.{byte, is_digit, letter}
+use Rattle.chess_base.specs.Letters.{is_digit, letter}
 use Rattle.chess_base.specs.Men.{Men}
 use Rattle.chess_base.specs.Sound.{IsSound}
 use Rattle.chess_base.specs.Castling.{home_square, rook_file, right_of, right_is_sound}
@@ -56,36 +56,40 @@ number-decimal n h =
 
 -- ---- rights and target
 
-abbrev text_by : Option ℕ → Option ℕ → Option ℕ → Option ℕ → List ℕ
-text_by a b c d =
-    rights_text Normal
-    (record { white = record { king_side = a; queen_side = b }; black = record { king_side = c; queen_side = d } })
+abbrev rights_of_four : Option ℕ → Option ℕ → Option ℕ → Option ℕ → Rights
+rights_of_four a b c d = record {
+  white = record { king_side = a; queen_side = b };
+  black = record { king_side = c; queen_side = d };
+}
 
--- what is written for the rights of normal chess has the form of a castling field, in which K, Q, k and q occur for the
--- rights that are there
-abbrev Says : Option ℕ → Option ℕ → Option ℕ → Option ℕ → Type 0
-Says a b c d = (is_castling_field Normal (text_by a b c d) ≡ true) × (occurs (byte "K") (text_by a b c d) ≡ is_some a)
-    × (occurs (byte "Q") (text_by a b c d) ≡ is_some b) × (occurs (byte "k") (text_by a b c d) ≡ is_some c)
-    × (occurs (byte "q") (text_by a b c d) ≡ is_some d)
-
-says : (a b c d : Option ℕ) → Says a b c d
+-- what is written for the rights of normal chess has the form of a castling field
+is_castling : (a b c d : Option ℕ) → is_castling_field Normal (rights_text Normal (rights_of_four a b c d)) ≡ true
 unfolding may_name_right
-says (Some a) (Some b) (Some c) (Some d) = (refl, refl, refl, refl, refl)
-says (Some a) (Some b) (Some c) None = (refl, refl, refl, refl, refl)
-says (Some a) (Some b) None (Some d) = (refl, refl, refl, refl, refl)
-says (Some a) (Some b) None None = (refl, refl, refl, refl, refl)
-says (Some a) None (Some c) (Some d) = (refl, refl, refl, refl, refl)
-says (Some a) None (Some c) None = (refl, refl, refl, refl, refl)
-says (Some a) None None (Some d) = (refl, refl, refl, refl, refl)
-says (Some a) None None None = (refl, refl, refl, refl, refl)
-says None (Some b) (Some c) (Some d) = (refl, refl, refl, refl, refl)
-says None (Some b) (Some c) None = (refl, refl, refl, refl, refl)
-says None (Some b) None (Some d) = (refl, refl, refl, refl, refl)
-says None (Some b) None None = (refl, refl, refl, refl, refl)
-says None None (Some c) (Some d) = (refl, refl, refl, refl, refl)
-says None None (Some c) None = (refl, refl, refl, refl, refl)
-says None None None (Some d) = (refl, refl, refl, refl, refl)
-says None None None None = (refl, refl, refl, refl, refl)
+is_castling (Some a) (Some b) (Some c) (Some d) = refl
+is_castling (Some a) (Some b) (Some c) None = refl
+is_castling (Some a) (Some b) None (Some d) = refl
+is_castling (Some a) (Some b) None None = refl
+is_castling (Some a) None (Some c) (Some d) = refl
+is_castling (Some a) None (Some c) None = refl
+is_castling (Some a) None None (Some d) = refl
+is_castling (Some a) None None None = refl
+is_castling None (Some b) (Some c) (Some d) = refl
+is_castling None (Some b) (Some c) None = refl
+is_castling None (Some b) None (Some d) = refl
+is_castling None (Some b) None None = refl
+is_castling None None (Some c) (Some d) = refl
+is_castling None None (Some c) None = refl
+is_castling None None None (Some d) = refl
+is_castling None None None None = refl
+
+-- and in it K, Q, k and q occur for the rights that are there
+says : (a b c d : Option ℕ) (k : Colour) (w : CastlingSide)
+    → occurs (side_letter k w) (rights_text Normal (rights_of_four a b c d))
+    ≡ is_some (right_of (rights_of_four a b c d) k w)
+says a b c d White KingSide = grind arith
+says a b c d White QueenSide = grind arith
+says a b c d Black KingSide = grind arith
+says a b c d Black QueenSide = grind arith
 
 -- an available right in normal chess has its rook on its corner
 on_corner : (men : Men) (c : Colour) (w : CastlingSide) (right : Option ℕ) → right_is_sound_at Normal men c w right
@@ -96,18 +100,9 @@ on_corner men c w (Some s) e =
 
 right_read : (men : Men) (r : Rights) → Stand Normal men r → (c : Colour) (w : CastlingSide)
     → right_named (rights_text Normal r) (side_letter c w) (home_square c (rook_file w)) ≡ right_of r c w
-right_read men r s White KingSide = ap (λ b. then_some b 7)
-    (says r.white.king_side r.white.queen_side r.black.king_side r.black.queen_side).1
-    ∙ on_corner men White KingSide r.white.king_side (s White KingSide)
-right_read men r s White QueenSide = ap (λ b. then_some b 0)
-    (says r.white.king_side r.white.queen_side r.black.king_side r.black.queen_side).2
-    ∙ on_corner men White QueenSide r.white.queen_side (s White QueenSide)
-right_read men r s Black KingSide = ap (λ b. then_some b 63)
-    (says r.white.king_side r.white.queen_side r.black.king_side r.black.queen_side).3
-    ∙ on_corner men Black KingSide r.black.king_side (s Black KingSide)
-right_read men r s Black QueenSide = ap (λ b. then_some b 56)
-    (says r.white.king_side r.white.queen_side r.black.king_side r.black.queen_side).4
-    ∙ on_corner men Black QueenSide r.black.queen_side (s Black QueenSide)
+right_read men r s c w = ap (λ b. then_some b (home_square c (rook_file w)))
+    (says r.white.king_side r.white.queen_side r.black.king_side r.black.queen_side c w)
+    ∙ on_corner men c w (right_of r c w) (s c w)
 
 -- what is written for the rights of a position has the form of a castling field, and names them
 record ReadBack (v : Variant) (men : Men) (r : Rights) : Type 0 where
@@ -117,7 +112,7 @@ record ReadBack (v : Variant) (men : Men) (r : Rights) : Type 0 where
 are_read : (v : Variant) (men : Men) (r : Rights) → Stand v men r → ReadBack v men r
 are_read Normal men r s =
     record {
-      castling = (says r.white.king_side r.white.queen_side r.black.king_side r.black.queen_side).0;
+      castling = is_castling r.white.king_side r.white.queen_side r.black.king_side r.black.queen_side;
       rights = λ c w. ap Some (right_read men r s c w);
     }
 are_read Fischerandom men r s = record {

@@ -8,7 +8,8 @@ use Rattle.chess_base.specs.declared.man.Man.{Man}
 use Rattle.chess_fen.specs.declared.letters.Run.{Run}
 use Rattle.chess_fen.specs.declared.letters.TheConstants.{RUNS}
 use Rattle.chess_base.specs.Letters.{letter, man_with_letter}
-use Rattle.chess_fen.specs.ties.Runs.{squares_by, squares_in}
+use Rattle.chess_fen.specs.Texts.{squares_of}
+use Rattle.chess_fen.specs.ties.Runs.{squares_in}
 use Rattle.chess_fen.proofs.RankBytes.{no_man, squares-digit}
 use Rattle.chess_fen.proofs.DenotedRanks.{squares-letter}
 
@@ -42,7 +43,7 @@ first_of (suc n) h = ap (λ k. no_man ∷ replicate k no_man) (less n)
 
 -- a byte that fits stands for the squares
 stands_by : (first : Option Man) (squares b : ℕ) → fits_by first squares b ≡ true
-    → (squares_by b ≡ squares_in (record { first = first; squares = squares })) × (0 < squares)
+    → (squares_of b ≡ squares_in (record { first = first; squares = squares })) × (0 < squares)
 stands_by (Some m) squares b h =
     let both = and_parts (eqb (letter m) b) (eqb squares 1) h in
     let byte : letter m ≡ b = eqb-true (letter m) b both.0 in
@@ -56,7 +57,7 @@ stands_by None squares b h = by_digit (leb 49 b && leb b 56) refl h
 
     by_digit : (t : Bool) → (leb 49 b && leb b 56) ≡ t
         → cond t (eqb squares (b - 48)) (leb 9 squares && is_none (man_with_letter b)) ≡ true
-        → (squares_by b ≡ squares_in (record { first = None; squares = squares })) × (0 < squares)
+        → (squares_of b ≡ squares_in (record { first = None; squares = squares })) × (0 < squares)
     by_digit true t e =
         let low : 49 ≤ b = grind (arith, nat_tests) in
         let high : b ≤ 56 = grind (arith, nat_tests) in
@@ -74,7 +75,7 @@ stands_by None squares b h = by_digit (leb 49 b && leb b 56) refl h
         let some : 0 < squares = grind (arith, nat_tests, both.0) in
         (rw (t, many) (by_man (man_with_letter b) both.1), some)
 
-pub run_stands : (b : ℕ) → b < 256 → squares_by b ≡ squares_in (get_or RUNS b nothing)
+pub run_stands : (b : ℕ) → b < 256 → squares_of b ≡ squares_in (get_or RUNS b nothing)
 run_stands b lt =
     let run = get_or RUNS b nothing in
     (stands_by run.first run.squares b (fit_at b lt)).0

@@ -1,32 +1,33 @@
 -- The position that the six fields of a FEN denote, by what each of them denotes, and the reading of a list of fields as
 -- that of the position, sound or not, and of its conditions: a proof goes through the cases.
-use Rattle.std.proofs.Common.{◌≡◌, ℕ, Bool, true, false, cond, ◌==◌, if◌then◌else◌, length, List, [], ◌∷◌, ◌++◌, get_or, arith, Option, Some, None, Result, Ok, Err, refl}
+use Rattle.std.proofs.Common.{◌≡◌, ℕ, Bool, false, cond, ◌==◌, if◌then◌else◌, length, List, [], ◌∷◌, ◌++◌, get_or, arith, Option, Result, Ok, Err, refl}
 use Rattle.std.specs.Prelude.{max, codes}
 use Rattle.std.proofs.lemmas.Bool.Decides.{nat_tests}
 use Rattle.std.specs.Option.{ok_or, option_map_or}
 use Rattle.chess_base.specs.declared.fen_fault.FenFault.{FenFault}
 use Rattle.chess_base.specs.declared.fen_fault.FenFault.TheVariants as faults
 use Rattle.chess_base.specs.declared.man.Colour.{Colour}
+use Rattle.chess_base.specs.declared.man.Rights.{Rights}
 use Rattle.chess_base.specs.declared.man.Variant.{Variant}
 use Rattle.chess_base.specs.declared.setup.Setup.{Setup}
 use Rattle.chess_base.specs.Faults.{first_failing}
 use Rattle.chess_base.specs.Men.{Men}
 use Rattle.text_lines.specs.Words.{short_number}
 use Rattle.chess_fen.specs.RightNames.{rights_in}
-use Rattle.chess_fen.specs.Reading.{◌>>=◌, side_of, target_of, conditions_of, reading_in}
-use Rattle.chess_fen.specs.Texts.{placement_of, is_castling_field}
+use Rattle.chess_fen.specs.Reading.{◌>>=◌, side_of, conditions_of, reading_in}
+use Rattle.chess_fen.specs.Texts.{placement_of, is_castling_field, target_of}
 
--- `castling` is the third field, and `fits` whether it has the form of one
-abbrev pub steps : Variant → List ℕ → Option Men → Option Colour → Bool → Option (Option ℕ) → Option ℕ → Option ℕ
-    → Result Setup FenFault
-steps v castling men side fits target halfmove fullmove = do
+-- the steps up to the position, with which `end` goes on; the rights are read when the pieces are known
+abbrev pub steps_to : (Setup → Result Setup FenFault) → Variant → (Men → Result Rights FenFault) → Option Men
+    → Option Colour → Option (Option ℕ) → Option ℕ → Option ℕ → Result Setup FenFault
+steps_to end v rights men side target halfmove fullmove = do
   pieces ← ok_or men faults.Placement
   colour ← ok_or side faults.Side
-  named ← cond fits (Ok (rights_in v pieces castling)) (Err faults.Castling)
+  named ← rights pieces
   passed ← ok_or target faults.EnPassant
   clock ← ok_or halfmove faults.Counters
   number ← ok_or fullmove faults.Counters
-  Ok (record {
+  end (record {
     variant = v;
     men = pieces;
     side = colour;
@@ -35,6 +36,15 @@ steps v castling men side fits target halfmove fullmove = do
     halfmove = clock;
     fullmove = max number 1;
   })
+
+-- the rights by the third field, `castling`, where `fits` says whether it has the form of one
+abbrev rights_if : Variant → List ℕ → Bool → Men → Result Rights FenFault
+rights_if v castling fits men = cond fits (Ok (rights_in v men castling)) (Err faults.Castling)
+
+abbrev pub steps : Variant → List ℕ → Option Men → Option Colour → Bool → Option (Option ℕ) → Option ℕ → Option ℕ
+    → Result Setup FenFault
+steps v castling men side fits target halfmove fullmove =
+    steps_to Ok v (rights_if v castling fits) men side target halfmove fullmove
 
 -- the position that the six fields of a FEN denote, sound or not; or the fault of the first field that denotes nothing
 abbrev pub denoted_by : Variant → List ℕ → List ℕ → List ℕ → List ℕ → List ℕ → List ℕ → Result Setup FenFault
@@ -65,34 +75,11 @@ of_fields : (v : Variant) (a b c d e f : List ℕ) → reading_in v (a ∷ b ∷
 of_fields v a b c d e f =
     by_steps (placement_of a) (side_of b) (is_castling_field v c) (target_of d) (short_number 6 e) (short_number 6 f)
   where
-    read_by : Option Men → Option Colour → Bool → Option (Option ℕ) → Option ℕ → Option ℕ → Result Setup FenFault
-    read_by men side fits target halfmove fullmove = do
-      pieces ← ok_or men faults.Placement
-      colour ← ok_or side faults.Side
-      named ← cond fits (Ok (rights_in v pieces c)) (Err faults.Castling)
-      passed ← ok_or target faults.EnPassant
-      clock ← ok_or halfmove faults.Counters
-      number ← ok_or fullmove faults.Counters
-      if_fit c (record {
-        variant = v;
-        men = pieces;
-        side = colour;
-        rights = named;
-        target = passed;
-        halfmove = clock;
-        fullmove = max number 1;
-      })
-
     by_steps : (men : Option Men) (side : Option Colour) (fits : Bool) (target : Option (Option ℕ))
         (halfmove fullmove : Option ℕ)
-        → read_by men side fits target halfmove fullmove ≡ (steps v c men side fits target halfmove fullmove >>= if_fit c)
-    by_steps None side fits target halfmove fullmove = refl
-    by_steps (Some men) None fits target halfmove fullmove = refl
-    by_steps (Some men) (Some colour) false target halfmove fullmove = refl
-    by_steps (Some men) (Some colour) true None halfmove fullmove = refl
-    by_steps (Some men) (Some colour) true (Some target) None fullmove = refl
-    by_steps (Some men) (Some colour) true (Some target) (Some halfmove) None = refl
-    by_steps (Some men) (Some colour) true (Some target) (Some halfmove) (Some fullmove) = refl
+        → steps_to (if_fit c) v (rights_if v c fits) men side target halfmove fullmove
+        ≡ (steps v c men side fits target halfmove fullmove >>= if_fit c)
+    by_steps men side fits target halfmove fullmove = grind arith
 
 -- the fields with the counters, if these are left out
 abbrev with_counters : List (List ℕ) → List (List ℕ)

@@ -2,9 +2,8 @@
 -- counters may be left out, and a fullmove number of 0 is read as 1. Denotation and FenFaults say the same of a text
 -- and a position or a fault, with relations for the placement, the side, the target and the order of faults; that both
 -- agree is proved by the clauses `found`, `only`, `fault` and `refused` of `read_fen_as`.
-use Rattle.std.specs.Prelude.{ℕ, max, codes, Bool, List, [], ◌∷◌, ◌++◌, length, take, drop, map, filter, find, ◌||◌, Option, Some, None, Result, Ok, Err, ◌==◌, if◌then◌else◌}
+use Rattle.std.specs.Prelude.{ℕ, max, codes, Bool, List, [], ◌∷◌, ◌++◌, length, take, drop, Option, Some, None, Result, Ok, Err, ◌==◌, if◌then◌else◌}
 use Rattle.std.specs.Option.{ok_or, option_map_or}
-use Rattle.std.specs.Str.{bytes_eq}
 use Rattle.chess_base.specs.declared.man.Colour.{Colour}
 use Rattle.chess_base.specs.declared.man.Colour.TheVariants.{White, Black}
 use Rattle.chess_base.specs.declared.man.Variant.{Variant}
@@ -13,11 +12,10 @@ use Rattle.chess_base.specs.declared.setup.Setup.{Setup}
 use Rattle.chess_base.specs.Faults.{conditions, first_failing}
 use Rattle.chess_base.specs.declared.fen_fault.FenFault.{FenFault}
 use Rattle.chess_base.specs.declared.fen_fault.FenFault.TheVariants as faults
-use Rattle.chess_base.specs.Squares.{rank, squares}
+use Rattle.chess_base.specs.Letters.{byte}
 use Rattle.text_lines.specs.Words.{short_number}
 use Rattle.chess_fen.specs.RightNames.{names_rights_well, rights_in}
-use Rattle.chess_fen.specs.Texts.{placement_of, is_castling_field, fields_of}
-use Rattle.chess_fen.specs.Writing.{side_text, target_text}
+use Rattle.chess_fen.specs.Texts.{placement_of, is_castling_field, target_of, fields_of}
 
 infixl 10 ◌>>=◌
 -- goes on with f from a step's value, or stops with its error: so a chain of steps gives the first error
@@ -27,13 +25,8 @@ abbrev pub ◌>>=◌ : {A B E : Type 0} → Result A E → (A → Result B E) �
 
 -- the side that a FEN's second field denotes, by w or b; none for any other text
 abbrev pub side_of : List ℕ → Option Colour
-side_of text = find (λ colour. bytes_eq text (side_text colour)) (White ∷ Black ∷ [])
-
--- what a FEN's fourth field denotes: a dash denotes no target (`Some None`), the name of a square on rank 3 or 6 that
--- square (e3 is `Some (Some 20)`). `None` for any other text
-abbrev pub target_of : List ℕ → Option (Option ℕ)
-target_of text = find (λ target. bytes_eq text (target_text target))
-    (None ∷ map Some (filter (λ s. (rank s == 2) || (rank s == 5)) squares))
+side_of (c ∷ []) = if c == byte "w" then Some White else (if c == byte "b" then Some Black else None)
+side_of _ = None
 
 -- each fault with the condition whose failure it reports, in the order in which they are checked: the seven conditions
 -- of soundness (`conditions`), and between the fourth and the fifth, which is about castling rights, that the castling

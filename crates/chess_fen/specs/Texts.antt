@@ -1,10 +1,9 @@
 -- What the fields of a FEN stand for (PGN standard of 1994, section 16.1.3). This project's additions to the standard:
 -- several spaces between fields and at both ends, digits of empty squares one after the other, letters of rights in any
 -- order, leading zeros. Its own limit: a counter has at most six digits.
-use Rattle.std.specs.Prelude.{ℕ, codes, count_by, ◌+◌, ◌-◌, Bool, ◌&&◌, ◌||◌, List, [], ◌∷◌, ◌++◌, length, map, replicate, Option, Some, None, nat_lt, nat_le, ◌==◌, if◌then◌else◌}
+use Rattle.std.specs.Prelude.{ℕ, codes, count_by, ◌+◌, ◌-◌, ◌*◌, Bool, ◌&&◌, ◌||◌, List, [], ◌∷◌, ◌++◌, length, map, replicate, Option, Some, None, nat_lt, nat_le, ◌==◌, if◌then◌else◌, option_and_then}
 use Rattle.std.specs.List.{slice_split, list_all, list_any, flat_map, filter}
-use Rattle.std.specs.Bool.{then_some}
-use Rattle.std.specs.Option.{option_map, option_to_list}
+use Rattle.std.specs.Option.{option_map}
 use Rattle.std.specs.Str.{bytes_eq}
 use Rattle.chess_base.specs.declared.man.Variant.{Variant}
 use Rattle.chess_base.specs.declared.man.Variant.TheVariants.{Normal, Fischerandom}
@@ -16,15 +15,22 @@ use Rattle.chess_base.specs.Letters.{byte, space, man_with_letter}
 
 -- ---- ranks
 
--- the squares that one byte of a rank's text stands for: a digit n from 1 to 8 for n empty ones, a piece's letter for
--- one with that piece, any other byte for none
-abbrev pub squares_of : ℕ → List (Option Man)
-squares_of c = if nat_le (byte "1") c && nat_le c (byte "8") then replicate (c - byte "0") None
-    else option_to_list (option_map Some (man_with_letter c))
+-- the squares that one byte of a rank's text denotes: n empty ones by a digit n from 1 to 8, one with a piece by the
+-- piece's letter; none for any other byte
+abbrev pub squares_of : ℕ → Option (List (Option Man))
+squares_of c = if nat_le (byte "1") c && nat_le c (byte "8") then Some (replicate (c - byte "0") None) else option_map
+    (λ m. Some m ∷ []) (man_with_letter c)
 
--- the text is that of a rank, as "4P3": each byte denotes squares, and in all they are eight
-abbrev pub is_rank : List ℕ → Bool
-is_rank text = list_all (λ c. nat_lt 0 (length (squares_of c))) text && (length (flat_map squares_of text) == 8)
+-- the values in a list of options, in their order; `None` if one of the options is `None`
+abbrev pub all_there : {A : Type 0} → List (Option A) → Option (List A)
+all_there [] = Some []
+all_there (o ∷ os) = option_and_then (λ x. option_map (λ xs. x ∷ xs) (all_there os)) o
+
+-- the eight squares that a rank's text denotes, from file a to file h, as by "4P3": those of its bytes, one after
+-- another; none if a byte denotes nothing, or if they are not eight
+abbrev pub rank_of : List ℕ → Option (List (Option Man))
+rank_of text = option_and_then (λ row. if length row == 8 then Some row else None)
+    (option_map (λ parts. flat_map (λ squares. squares) parts) (all_there (map squares_of text)))
 
 -- ---- placement
 
@@ -33,12 +39,11 @@ abbrev pub from_top : List (List (Option Man)) → List (Option Man)
 from_top [] = []
 from_top (row ∷ rows) = from_top rows ++ row
 
--- what is on the 64 squares, from a1 to h8, as a FEN's first field denotes it: by the texts of eight ranks, rank 8
--- first and each from file a to file h, with a slash between them. `None` for any other text
+-- what is on the 64 squares, from a1 to h8, as a FEN's first field denotes it: by eight ranks, rank 8 first, with a
+-- slash between them. `None` for any other text
 abbrev pub placement_of : List ℕ → Option (List (Option Man))
-placement_of text =
-    let ranks = slice_split (λ c. c == byte "/") text in
-    then_some (length ranks == 8 && list_all is_rank ranks) (from_top (map (flat_map squares_of) ranks))
+placement_of text = let ranks = slice_split (λ c. c == byte "/") text in
+    if length ranks == 8 then option_map from_top (all_there (map rank_of ranks)) else None
 
 -- ---- castling
 
@@ -65,6 +70,16 @@ abbrev pub is_castling_field : Variant → List ℕ → Bool
 is_castling_field v text = bytes_eq text (codes "-")
     || (nat_lt 0 (length text) && nat_le (length text) 4
     && list_all (λ c. may_name_right v c && (count_by (λ b. b == c) text == 1)) text)
+
+-- ---- target
+
+-- what a FEN's fourth field denotes: a dash denotes no target (`Some None`), the name of a square on rank 3 or 6 that
+-- square (e3 is `Some (Some 20)`). `None` for any other text
+abbrev pub target_of : List ℕ → Option (Option ℕ)
+target_of (c ∷ []) = if c == byte "-" then Some None else None
+target_of (f ∷ r ∷ []) = if nat_le (byte "a") f && nat_le f (byte "h")
+    && (r == byte "3" || r == byte "6") then Some (Some (8 * (r - byte "1") + (f - byte "a"))) else None
+target_of _ = None
 
 -- ---- fields
 

@@ -1,7 +1,8 @@
 //! What each byte of a rank's text stands for.
 
 ghost use Rattle.std.specs.Prelude.{◌≡◌, ◌<◌};
-ghost use Rattle.chess_fen.specs.ties.Runs.{squares_by, squares_in};
+ghost use Rattle.chess_fen.specs.Texts.{squares_of};
+ghost use Rattle.chess_fen.specs.ties.Runs.{squares_in};
 
 use chess_base::{Colour, Kind, Man};
 
@@ -104,7 +105,7 @@ static RUNS: [Run; 256] = [
 // What a byte of a rank's text stands for. Inlined, since it is one look into the table.
 #[inline(always)]
 pub(crate) fn run_of(byte: u8) -> Run
-    ensures squares { squares_by byte ≡ squares_in result }
+    ensures squares { squares_of byte ≡ squares_in result }
     ensures some { 0 < result.squares }
 {
     RUNS[byte as usize]

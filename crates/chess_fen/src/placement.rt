@@ -3,7 +3,8 @@
 ghost use Rattle.std.specs.Prelude.{◌≡◌, ◌<◌, ◌+◌, ◌*◌, ◌==◌, take, replicate, None, IfSome, IfNone};
 ghost use Rattle.std.specs.List.{before_first};
 ghost use Rattle.chess_base.specs.Letters.{space};
-ghost use Rattle.chess_fen.specs.ties.Runs.{placement_by, NoRankIsRead, RankIsPlaced, SlashIsRead, NoSlashIsRead, Ends, PlacementIsRead};
+ghost use Rattle.chess_fen.specs.Texts.{placement_of};
+ghost use Rattle.chess_fen.specs.ties.Runs.{NoRankIsRead, RankIsPlaced, SlashIsRead, NoSlashIsRead, Ends, PlacementIsRead};
 
 use crate::rank::read_rank;
 use chess_base::Man;
@@ -46,7 +47,7 @@ fn ends_field(text: &[u8]) -> bool
 pub(crate) fn read_placement<'t>(text: &'t [u8], men: &mut [Option<Man>; 64]) -> Option<&'t [u8]>
     requires empty { men.old ≡ replicate 64 None }
     ensures read { IfSome result (λ rest. PlacementIsRead text.now men.new rest.now) }
-    ensures none { IfNone result (placement_by (before_first (λ b. b == space) text.now) ≡ None) }
+    ensures none { IfNone result (placement_of (before_first (λ b. b == space) text.now) ≡ None) }
 {
     let mut rest = text;
     for rank in (1..8).rev() {

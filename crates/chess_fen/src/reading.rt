@@ -5,11 +5,10 @@ ghost use Rattle.chess_base.specs.declared.man.Variant.{Variant};
 ghost use Rattle.chess_base.specs.declared.setup.Setup.{Setup};
 ghost use Rattle.chess_base.specs.Sound.{IsSound};
 ghost use Rattle.chess_base.specs.declared.fen_fault.FenFault.{FenFault};
-ghost use Rattle.chess_fen.specs.ties.Runs.{placement_by};
 ghost use Rattle.chess_fen.specs.FenFaults.{IsFault, IsFaultAs};
-ghost use Rattle.chess_fen.specs.Texts.{fields_of};
-ghost use Rattle.chess_fen.specs.Reading.{fen_reading, fen_reading_as};
-ghost use Rattle.chess_fen.specs.ties.Reader.{side_by, rights_of, setup_with, setup_in};
+ghost use Rattle.chess_fen.specs.Texts.{placement_of, fields_of};
+ghost use Rattle.chess_fen.specs.Reading.{side_of, fen_reading, fen_reading_as};
+ghost use Rattle.chess_fen.specs.ties.Reader.{rights_of, setup_with, setup_in};
 ghost use Rattle.chess_fen.specs.Denotation.{DenotesFen, DenotesFenAs};
 
 use crate::castling_rights::{are_right_letters, rights_by_letters};
@@ -21,7 +20,7 @@ use chess_base::{Colour, FenFault, Man, Position, Rights, Setup, Square, Variant
 
 // The side that a FEN's second field denotes, by `w` or `b`; none for any other text.
 fn read_side(text: &[u8]) -> Option<Colour>
-    ensures { result ≡ side_by text.now }
+    ensures { result ≡ side_of text.now }
 {
     match text {
         b"w" => Some(Colour::White),
@@ -76,7 +75,7 @@ fn setup_with(
 #[inline(never)]
 fn no_pieces_fault(text: &[u8]) -> FenFault
     requires { (field : List ℕ) → (fields : List (List ℕ)) → fields_of text.now ≡ field ∷ fields
-        → placement_by field ≡ None }
+        → placement_of field ≡ None }
     ensures { (v : Variant) → setup_in v (fields_of text.now) ≡ Err result }
 {
     let Some((_, rest)) = next_field(text) else {

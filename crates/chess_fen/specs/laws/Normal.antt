@@ -21,8 +21,8 @@ use Rattle.chess_base.specs.Men.{other}
 use Rattle.chess_base.specs.Sound.{has_one_king, no_pawn_on_end_ranks, has_at_most_16, target_is_sound}
 use Rattle.chess_base.specs.laws.Normal.{normal_right_is_sound_at}
 use Rattle.text_lines.specs.Words.{short_number}
-use Rattle.chess_fen.specs.Reading.{◌>>=◌, side_of, target_of}
-use Rattle.chess_fen.specs.Texts.{placement_of, fields_of, occurs}
+use Rattle.chess_fen.specs.Reading.{◌>>=◌, side_of}
+use Rattle.chess_fen.specs.Texts.{placement_of, target_of, fields_of, occurs}
 use Rattle.chess_fen.specs.Writing.{placement_text, side_text, target_text}
 
 -- ---- written

@@ -1,14 +1,11 @@
--- How code reads the fields of a FEN: the side and the target by their bytes, and the castling rights letter by letter.
--- A right that is named wrongly is kept as one whose rook is on a square where no rook can have it, so that the
--- position is refused as unsound.
-use Rattle.std.specs.Prelude.{ℕ, max, codes, count_by, length, nat_lt, nat_le, ◌+◌, ◌-◌, ◌*◌, ◌==◌, Bool, ◌&&◌, ◌||◌, List, [], ◌∷◌, map, find, Option, Some, None, Result, Ok, Err, unwrap_or, if◌then◌else◌}
+-- How code reads the castling rights of a FEN, letter by letter. A right that is named wrongly is kept as one whose
+-- rook is on a square where no rook can have it, so that the position is refused as unsound.
+use Rattle.std.specs.Prelude.{ℕ, max, codes, count_by, length, nat_lt, nat_le, ◌-◌, ◌==◌, Bool, ◌&&◌, List, [], ◌∷◌, map, find, Option, Some, None, Result, Ok, Err, unwrap_or, if◌then◌else◌}
 use Rattle.std.specs.Bool.{then_some}
 use Rattle.std.specs.List.{fold, list_all}
 use Rattle.std.specs.Option.{ok_or}
 use Rattle.chess_base.specs.declared.man.Kind.TheVariants.{Rook}
 use Rattle.chess_base.specs.declared.man.Colour.{Colour}
-use Rattle.chess_base.specs.declared.man.Colour.TheVariants.{White, Black}
-use Rattle.chess_base.specs.Letters.{byte}
 use Rattle.chess_base.specs.declared.man.CastlingSide.{CastlingSide}
 use Rattle.chess_base.specs.declared.man.Rights.{Rights}
 use Rattle.chess_base.specs.declared.man.Variant.{Variant}
@@ -19,10 +16,9 @@ use Rattle.chess_base.specs.declared.fen_fault.FenFault.TheVariants as faults
 use Rattle.chess_base.specs.Men.{Men, man_at, is_man}
 use Rattle.chess_base.specs.Castling.{home_square, king_square, rook_file, rights_by}
 use Rattle.text_lines.specs.Words.{short_number}
-use Rattle.chess_fen.specs.ties.Runs.{placement_by}
-use Rattle.chess_fen.specs.Reading.{◌>>=◌}
+use Rattle.chess_fen.specs.Reading.{◌>>=◌, side_of}
 use Rattle.chess_fen.specs.RightNames.{side_letter, from_edge, is_towards}
-use Rattle.chess_fen.specs.Texts.{occurs, first_letter, names_file, may_name_right, is_castling_field}
+use Rattle.chess_fen.specs.Texts.{placement_of, occurs, first_letter, names_file, may_name_right, is_castling_field, target_of}
 
 -- ---- the letters
 
@@ -76,18 +72,6 @@ right_after_letters men c w found letters = fold one_or_nowhere found (map (name
 
 -- ---- the fields
 
--- the side that a FEN's second field denotes, by its byte
-abbrev pub side_by : List ℕ → Option Colour
-side_by (c ∷ []) = if c == byte "w" then Some White else (if c == byte "b" then Some Black else None)
-side_by _ = None
-
--- what a FEN's fourth field denotes, by its bytes
-abbrev pub target_by : List ℕ → Option (Option ℕ)
-target_by (c ∷ []) = if c == byte "-" then Some None else None
-target_by (f ∷ r ∷ []) = if nat_le (byte "a") f && nat_le f (byte "h")
-    && (r == byte "3" || r == byte "6") then Some (Some (8 * (r - byte "1") + (f - byte "a"))) else None
-target_by _ = None
-
 -- colour c's castling right on side w that a castling field's letters name, as the square of its rook; none if they
 -- don't name it
 abbrev pub right_by_letters : Variant → Men → List ℕ → Colour → CastlingSide → Option ℕ
@@ -103,9 +87,9 @@ rights_of v men text = if is_castling_field v text then Some (rights_by (right_b
 -- them that denotes nothing
 abbrev pub setup_with : Variant → Men → List ℕ → List ℕ → List ℕ → List ℕ → List ℕ → Result Setup FenFault
 setup_with v men side castling target halfmove fullmove = do
-  colour ← ok_or (side_by side) faults.Side
+  colour ← ok_or (side_of side) faults.Side
   rights ← ok_or (rights_of v men castling) faults.Castling
-  passed ← ok_or (target_by target) faults.EnPassant
+  passed ← ok_or (target_of target) faults.EnPassant
   clock ← ok_or (short_number 6 halfmove) faults.Counters
   number ← ok_or (short_number 6 fullmove) faults.Counters
   Ok (record {
@@ -121,7 +105,7 @@ setup_with v men side castling target halfmove fullmove = do
 -- the position that the six fields of a FEN denote, or the fault of the first field that denotes nothing
 abbrev pub setup_by : Variant → List ℕ → List ℕ → List ℕ → List ℕ → List ℕ → List ℕ → Result Setup FenFault
 setup_by v placement side castling target halfmove fullmove = do
-  men ← ok_or (placement_by placement) faults.Placement
+  men ← ok_or (placement_of placement) faults.Placement
   setup_with v men side castling target halfmove fullmove
 
 -- the position that a list of a FEN's fields denotes, of which there are six or four

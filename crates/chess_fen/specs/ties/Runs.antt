@@ -1,35 +1,10 @@
--- What a rank's text and a placement denote by steps that may fail, what a byte of a rank's text stands for, as code
--- keeps it, and placements read byte by byte.
-use Rattle.std.specs.Prelude.{◌≡◌, ◌&&◌, map, ℕ, zero, suc, ◌+◌, ◌-◌, ◌*◌, ◌==◌, nat_le, Bool, true, false, List, [], ◌∷◌, ◌++◌, length, take, drop, replicate, Option, Some, None, if◌then◌else◌, option_and_then}
-use Rattle.std.specs.List.{position_or_len, before_first, flat_map, slice_split}
-use Rattle.std.specs.Option.{option_map}
+-- What a byte of a rank's text stands for, as code keeps it, and placements read byte by byte.
+use Rattle.std.specs.Prelude.{◌≡◌, ℕ, zero, suc, ◌+◌, ◌-◌, ◌*◌, ◌==◌, nat_le, Bool, true, false, List, [], ◌∷◌, ◌++◌, length, take, drop, replicate, Option, Some, None, if◌then◌else◌, option_and_then}
+use Rattle.std.specs.List.{position_or_len, before_first}
 use Rattle.chess_base.specs.declared.man.Man.{Man}
-use Rattle.chess_base.specs.Letters.{byte, man_with_letter, space}
+use Rattle.chess_base.specs.Letters.{byte, space}
 use Rattle.chess_fen.specs.declared.letters.Run.{Run}
-use Rattle.chess_fen.specs.Texts.{from_top}
-
--- the squares that one byte of a rank's text denotes: n empty ones by a digit n from 1 to 8, one with a piece by the
--- piece's letter; none for any other byte
-abbrev pub squares_by : ℕ → Option (List (Option Man))
-squares_by c = if nat_le (byte "1") c && nat_le c (byte "8") then Some (replicate (c - byte "0") None) else option_map
-    (λ m. Some m ∷ []) (man_with_letter c)
-
--- the values in a list of options, in their order; `None` if one of the options is `None`
-abbrev pub all_there : {A : Type 0} → List (Option A) → Option (List A)
-all_there [] = Some []
-all_there (o ∷ os) = option_and_then (λ x. option_map (λ xs. x ∷ xs) (all_there os)) o
-
--- the eight squares that a rank's text denotes, from file a to file h, as by "4P3": those of its bytes, one after
--- another; none if a byte denotes nothing, or if they are not eight
-abbrev pub rank_by : List ℕ → Option (List (Option Man))
-rank_by text = option_and_then (λ row. if length row == 8 then Some row else None)
-    (option_map (λ parts. flat_map (λ squares. squares) parts) (all_there (map squares_by text)))
-
--- what is on the 64 squares, from a1 to h8, as a FEN's first field denotes it: by eight ranks, rank 8 first, with a
--- slash between them. `None` for any other text
-abbrev pub placement_by : List ℕ → Option (List (Option Man))
-placement_by text = let ranks = slice_split (λ c. c == byte "/") text in
-    if length ranks == 8 then option_map from_top (all_there (map rank_by ranks)) else None
+use Rattle.chess_fen.specs.Texts.{squares_of, placement_of}
 
 -- the squares of a run, the first with its piece and the others empty; none if they are more than a rank has
 abbrev pub squares_in : Run → Option (List (Option Man))
@@ -54,7 +29,7 @@ placing left row above (c ∷ cs) =
     if c == space then last_rank left row above
     else if c == byte "/" then at_lower left (λ lower.
     if length row == 8 then placing lower [] (row ++ above) cs else None)
-    else option_and_then (λ squares. placing left (row ++ squares) above cs) (squares_by c)
+    else option_and_then (λ squares. placing left (row ++ squares) above cs) (squares_of c)
 
 -- a text from its first space on
 abbrev pub from_space : List ℕ → List ℕ
@@ -97,5 +72,5 @@ Ends false text = (row above : List (Option Man)) → length row ≡ 8 → placi
 
 -- the field at the front of a text denotes these pieces, and `rest` is the text from the first space on
 pub record PlacementIsRead (text : List ℕ) (men : List (Option Man)) (rest : List ℕ) : Type 0 where
-  pub denotes : placement_by (before_first (λ b. b == space) text) ≡ Some men
+  pub denotes : placement_of (before_first (λ b. b == space) text) ≡ Some men
   pub back : rest ≡ from_space text
