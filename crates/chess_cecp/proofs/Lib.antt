@@ -1,5 +1,4 @@
 mod Words
-mod ByName
 mod Comments
 mod Claims
 mod Responses
