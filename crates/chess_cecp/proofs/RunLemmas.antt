@@ -6,7 +6,7 @@ use Rattle.std.specs.Io.KnownBytes.{Consumes, IsAtEnd}
 use Rattle.std.specs.Bool.{MatchBool}
 use Rattle.std.proofs.lemmas.Grind.{common_steps}
 use Rattle.byte_devices.specs.Devices.{InputState, OutputState, Sent, CutShort, saturating_increment}
-use Rattle.byte_devices.specs.Transfers.{FromInput, ToOutput, InputGave, OutputTook, Ran, BreaksOffIn, all_of}
+use Rattle.byte_devices.specs.Transfers.{FromInput, InputGave, OutputTook, Ran, all_of}
 use Rattle.byte_devices.proofs.shared.Devices.{consumes_more, consumes_none}
 use Rattle.byte_devices.proofs.shared.Transfers.{saturating_increment_if, came, broke, took_nothing, took_all, took_more, took_some_more}
 use Rattle.text_lines.specs.Lines.{LineSeen, Held, nothing_held, stream_lines, lines_held}
@@ -96,21 +96,6 @@ pub of_false : (b : Bool) (P Q : Type 0) → b ≡ false → MatchBool b P Q →
 of_false true P Q e p = cc
 of_false false P Q e p = p
 
-pub reached_ended : {S : Type 0} {respond : Server S} (r r' r'' : InputState) {w w' : OutputState} {s s' : S}
-    (held held' : Held) (given more : List ℕ) (done : List LineSeen) (line : LineSeen)
-    → SoFar respond r r' w w' s s' held given done → Consumes r'.known_bytes r''.known_bytes more
-    → Waits COMMAND_LEN r' r'' held more → GotLine COMMAND_LEN r' r'' held held' more line
-    → Reached r r'' (given ++ more) false done line (lines_held COMMAND_LEN false held' [])
-reached_ended r r' r'' held held' given more done line f bytes waits got = record {
-  bytes = consumes_more r.known_bytes r'.known_bytes r''.known_bytes given more f.bytes bytes;
-  lines = f.lines false more ∙ ap (λ v. done ++ lines_held COMMAND_LEN false held v) (sym (append-nil more))
-      ∙ ap (λ v. done ++ v) (got.lines false []);
-  on_demand = waited r r' r'' held given more done f waits;
-  failures = got.failures ∙ f.failures;
-  ends = got.ends ∙ f.ends;
-  at_end = λ e. cc;
-}
-
 pub reached_last : {S : Type 0} {respond : Server S} (r r' r'' : InputState) {w w' : OutputState} {s s' : S}
     (held held' : Held) (given more : List ℕ) (done : List LineSeen) (line : LineSeen)
     → SoFar respond r r' w w' s s' held given done → Consumes r'.known_bytes r''.known_bytes more
@@ -134,12 +119,21 @@ reached_by : {S : Type 0} {respond : Server S} (b : Bool) (E : Type 0) (r r' r''
     {s s' : S} (held held' : Held) (given : List ℕ) (done : List LineSeen) (line : LineSeen)
     → SoFar respond r r' w w' s s' held given done → NextLine {E = E} COMMAND_LEN r' r'' held held' (Ok (Some line))
     → line.ended ≡ b → IsReached r r'' done line
-reached_by true E r r' r'' held held' given done line f (more, bytes, waits, got) e = (
-  given ++ more,
-  false,
-  lines_held COMMAND_LEN false held' [],
-  reached_ended r r' r'' held held' given more done line f bytes waits (of_true line.ended _ _ e got),
-)
+reached_by true E r r' r'' held held' given done line f (more, bytes, waits, got) e =
+    let g : GotLine COMMAND_LEN r' r'' held held' more line = of_true line.ended _ _ e got in (
+      given ++ more,
+      false,
+      lines_held COMMAND_LEN false held' [],
+      record {
+        bytes = consumes_more r.known_bytes r'.known_bytes r''.known_bytes given more f.bytes bytes;
+        lines = f.lines false more ∙ ap (λ v. done ++ lines_held COMMAND_LEN false held v) (sym (append-nil more))
+            ∙ ap (λ v. done ++ v) (g.lines false []);
+        on_demand = waited r r' r'' held given more done f waits;
+        failures = g.failures ∙ f.failures;
+        ends = g.ends ∙ f.ends;
+        at_end = λ e. cc;
+      },
+    )
 reached_by false E r r' r'' held held' given done line f (more, bytes, waits, got) e = (
   given ++ more,
   true,
@@ -261,13 +255,6 @@ line_there : (done : List LineSeen) (line : LineSeen) (after : List LineSeen)
 line_there [] line after = refl
 line_there (x ∷ done) line after = line_there done line after
 
--- a line's answer was broken off, after the answers to those before it, which are done
-abbrev BreaksOff : {S : Type 0} → Server S → S → S → LineSeen → ToOutput → List LineSeen → Type 0
-BreaksOff respond s s' line o done =
-    ((responses respond s done).ends ≡ false)
-    × BreaksOffIn (responses respond s done).text (respond (responses respond s done).state line).text o
-    × (s' ≡ (respond (responses respond s done).state line).state)
-
 -- a run that ends at a write that failed
 pub by_write : {S : Type 0} {respond : Server S} {r r' r'' : InputState} {w w' w'' : OutputState} {s s' s'' : S}
     {held : Held} {given : List ℕ} {done : List LineSeen} (line : LineSeen)
@@ -275,15 +262,9 @@ pub by_write : {S : Type 0} {respond : Server S} {r r' r'' : InputState} {w w' w
     → CutShort w' w'' (respond s' line).text → s'' ≡ (respond s' line).state
     → Ran (Served respond s s'' (Err Write)) (record { input = r; output = w }) (record { input = r''; output = w'' })
 by_write {respond} {r''} {w} {w'} {w''} {s} {s''} {done} line f (all, reported, after, at)
-    (begun, (rest, is), broke_off) next =
-    let out : ToOutput = broke (responses respond s done).text begun in
-    let here : BreaksOff respond s s'' line out done = (
-      f.goes_on,
-      (refl, (rest, is ∙ ap (λ v. (respond v line).text) f.state), refl),
-      next ∙ ap (λ v. (respond v line).state) f.state,
-    ) in (
+    (begun, (rest, is), broke_off) next = (
       came r'' all reported false,
-      out,
+      broke (responses respond s done).text begun,
       gave at,
       took_some_more w w' w'' (responses respond s done).text begun f.took broke_off,
       (
@@ -291,10 +272,13 @@ by_write {respond} {r''} {w} {w'} {w''} {s} {s''} {done} line f (all, reported, 
         (
           length done,
           line,
-          ap (λ v. slice_get v (length done)) at.lines ∙ line_there done line after,
+          rw at.lines (line_there done line after),
           at.on_demand,
-          subst (BreaksOff respond s s'' line out)
-              (sym (ap (take (length done)) at.lines ∙ take-append_seam done (line ∷ after))) here,
+          rw (at.lines, take-append_seam done (line ∷ after)) (
+            f.goes_on,
+            (refl, (rest, is ∙ ap (λ v. (respond v line).text) f.state), refl),
+            next ∙ ap (λ v. (respond v line).state) f.state,
+          ),
         ),
       ),
     )
