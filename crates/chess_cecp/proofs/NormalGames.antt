@@ -3,7 +3,6 @@
 use Rattle.std.proofs.Common.{◌≡◌, ℕ, cond, Bool, ◌||◌, List, [], ◌∷◌, ◌++◌, codes, None, refl, ap, ◌∙◌, if◌then◌else◌}
 use Rattle.std.specs.Prelude.{count_by, not}
 use Rattle.std.specs.List.{list_any}
-use Rattle.std.specs.Str.{bytes_eq}
 use Rattle.std.proofs.lemmas.List.Sums.{sum_by-cons}
 use Rattle.chess_base.specs.declared.man.Move.{Move}
 use Rattle.chess_base.specs.declared.man.Variant.{Variant}
@@ -15,7 +14,6 @@ use Rattle.chess_base.specs.Options.{list_if}
 use Rattle.chess_base.specs.laws.Normal.{normal_after}
 use Rattle.chess_base.proofs.shared.Normal.{normal_kept as rules_kept}
 use Rattle.chess_fen.specs.Writing.{fen, is_initial}
-use Rattle.chess_fen.specs.laws.Normal.{normal_fen}
 use Rattle.chess_fen.proofs.shared.Normal.{fen_kept}
 use Rattle.chess_text.specs.San.{is_fischerandom}
 use Rattle.chess_text.proofs.shared.Normal.{normal_kept as texts_kept}
@@ -82,8 +80,7 @@ counted q h p e (m ∷ ms) =
 pub rep_kept : (p : Setup) → p.variant ≡ Normal → (ms : List Move) → repetition_count p ms ≡ normal_rep p ms
 unfolding repetition_count normal_rep
 rep_kept p e ms =
-    counted (position_after p ms) (last_stays p ms ∙ e) p e ms
-    ∙ ap (λ q. count_by (λ x. normal_same x q) (normal_line p ms)) (last_kept p e ms)
+    rw (counted (position_after p ms) (last_stays p ms ∙ e) p e ms, last_kept p e ms)
 
 -- ---- ends
 
@@ -92,7 +89,7 @@ unfolding verdict normal_verdict
 verdict_kept p e ms =
     rw ((texts_kept (position_after p ms) (last_stays p ms ∙ e)).moves, last_kept p e ms, rep_kept p e ms)
 
-pub outcome_kept : (s : State) → s.start.variant ≡ Normal → outcome_now s ≡ normal_outcome_now s
+outcome_kept : (s : State) → s.start.variant ≡ Normal → outcome_now s ≡ normal_outcome_now s
 outcome_kept s e = rw (verdict_kept s.start e s.moves)
 
 -- ---- the text
@@ -102,9 +99,7 @@ unfolding initial_setup initial_setup_of
 initial_is_normal = refl
 
 is_initial_kept : (p : Setup) → p.variant ≡ Normal → is_initial p ≡ normal_is_initial p
-is_initial_kept p e =
-    ap (λ text. bytes_eq text (fen initial_setup)) (fen_kept p e)
-    ∙ ap (bytes_eq (normal_fen p)) (fen_kept initial_setup initial_is_normal ∙ ap normal_fen initial_kept)
+is_initial_kept p e = rw (fen_kept p e, fen_kept initial_setup initial_is_normal, initial_kept)
 
 -- the lines of a game's tags by what they depend on: its outcome, its start's variant, whether the start is the
 -- initial position, and the start's FEN

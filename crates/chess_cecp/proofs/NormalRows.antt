@@ -14,7 +14,6 @@ use Rattle.chess_fen.specs.laws.Normal.{normal_fen, normal_fen_reading}
 use Rattle.chess_fen.proofs.shared.Normal.{reading_kept, reading_is_normal, fen_kept}
 use Rattle.chess_text.specs.declared.reading.Reading.{Reading}
 use Rattle.chess_text.specs.declared.reading.Reading.TheVariants as reads
-use Rattle.chess_text.specs.Moves.{reading}
 use Rattle.chess_text.specs.San.{shown_move}
 use Rattle.chess_text.specs.laws.Normal.{normal_moves, normal_reading}
 use Rattle.chess_text.proofs.shared.Normal.{normal_kept as texts_kept}
@@ -54,17 +53,12 @@ reading_by : (s : State) → s.start.variant ≡ Normal → (text : List ℕ) (r
 reading_by s e text (reads.Move m) = judged_kept (played s m) e
 reading_by s e text _ = refl
 
-current_reading : (s : State) → s.start.variant ≡ Normal → (text : List ℕ)
-    → reading (current s) text ≡ normal_reading (normal_current s) text
-current_reading s e text =
-    (texts_kept (current s) (last_stays s.start s.moves ∙ e)).reading text
-    ∙ ap (λ p. normal_reading p text) (last_kept s.start e s.moves)
-
 move_kept : (limit : ℕ) (s : State) → s.start.variant ≡ Normal → (text : List ℕ)
     → move_row limit s text ≡ normal_move_row limit s text
 move_kept limit s e text =
     rw (
-      current_reading s e text,
+      (texts_kept (current s) (last_stays s.start s.moves ∙ e)).reading text,
+      last_kept s.start e s.moves,
       verdict_kept s.start e s.moves,
       reading_by s e text (normal_reading (normal_current s) text),
     )
@@ -77,8 +71,7 @@ result_kept s e text None = refl
 result_kept s e text (Some d) = rw (verdict_kept s.start e s.moves)
 
 claim_kept : (s : State) → s.start.variant ≡ Normal → claim_row s ≡ normal_claim_row s
-claim_kept s e =
-    rw (verdict_kept s.start e s.moves, rep_kept s.start e s.moves, last_kept s.start e s.moves)
+claim_kept s e = rw (verdict_kept s.start e s.moves, rep_kept s.start e s.moves, last_kept s.start e s.moves)
 
 -- ---- what is shown
 

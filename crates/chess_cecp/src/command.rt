@@ -112,6 +112,7 @@ fn is_opponent_or_clock_command(word: &[u8]) -> bool
 }
 
 // Whether a word is the name of a command that an arbiter accepts and ignores, such as `xboard` or `time`.
+#[tactic(auto, using(crate::proofs::Words::ignored_parts))]
 fn is_ignored(word: &[u8]) -> bool
     ensures { result ≡ is_ignored word.now }
 {
