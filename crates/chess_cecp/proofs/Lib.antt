@@ -1,14 +1,11 @@
 mod Words
-mod ByName
 mod Comments
-mod Claims
 mod Responses
 mod LinesOn
 mod RunLemmas
 mod KnownInputs
-mod Refusals
+mod Rows
 mod OwnRows
-mod Ends
 mod NormalGames
 mod NormalRows
 mod Accepted

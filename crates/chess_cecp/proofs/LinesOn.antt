@@ -4,9 +4,8 @@ use Rattle.std.proofs.lemmas.List.{take-append-drop}
 use Rattle.text_lines.specs.Lines.{LineSeen, lines_from, stream_lines, line_of}
 use Rattle.text_lines.specs.Next.{before_piece}
 use Rattle.text_lines.proofs.shared.LineSteps.{none_from, ten_step, byte_step}
-use Rattle.chess_cecp.specs.Serving.{Response, Server, responses}
+use Rattle.chess_cecp.specs.Serving.{Response, Server, and_then, responses}
 use Rattle.chess_cecp.specs.declared.session.TheConstants.{COMMAND_LEN}
-use Rattle.chess_cecp.proofs.Responses.{with_front, passes, stops}
 
 -- the lines that are complete in some bytes are the first lines of these and more
 abbrev pub GoesOn : List LineSeen → List LineSeen → Type 0
@@ -39,33 +38,23 @@ first_lines n at_end a b = first_of_from n at_end [] a b
 
 -- ---- responses
 
+-- a response before two others, which are one if the second of them ends
+on_both : {S : Type 0} (r a b : Response S) → (b.ends ≡ true → a ≡ b) → (and_then r b).ends ≡ true
+    → and_then r a ≡ and_then r b
+on_both r a b same h = grind arith
+
 -- once the server has ended, more lines change nothing
 pub stays_ended : {S : Type 0} (respond : Server S) (s : S) (xs ys : List LineSeen)
     → (responses respond s xs).ends ≡ true → responses respond s (xs ++ ys) ≡ responses respond s xs
 stays_ended respond s [] ys h = cc
-stays_ended {S} respond s (x ∷ xs) ys h =
-    by (λ k. stays_ended respond (respond s x).state xs ys k) (respond s x).ends refl
-  where
-    by : ((responses respond (respond s x).state xs).ends ≡ true
-        → responses respond (respond s x).state (xs ++ ys) ≡ responses respond (respond s x).state xs)
-        → (b : Bool) → (respond s x).ends ≡ b → responses respond s (x ∷ (xs ++ ys)) ≡ responses respond s (x ∷ xs)
-    by on true e = stops (respond s x) (responses respond (respond s x).state (xs ++ ys)) e
-        ∙ sym (stops (respond s x) (responses respond (respond s x).state xs) e)
-    by on false e =
-        let p = passes (respond s x) (responses respond (respond s x).state xs) e in
-        let k : (responses respond (respond s x).state xs).ends ≡ true = ap (λ (v : Response S). v.ends) (sym p) ∙ h in
-        passes (respond s x) (responses respond (respond s x).state (xs ++ ys)) e
-        ∙ ap (with_front (respond s x).text) (on k) ∙ sym p
+stays_ended respond s (x ∷ xs) ys h =
+    on_both (respond s x) (responses respond (respond s x).state (xs ++ ys))
+    (responses respond (respond s x).state xs) (stays_ended respond (respond s x).state xs ys) h
 
 -- what did not end with lines did not end with the first of them
 pub had_not_ended : {S : Type 0} (respond : Server S) (s : S) (xs ys : List LineSeen)
     → (responses respond s (xs ++ ys)).ends ≡ false → (responses respond s xs).ends ≡ false
-had_not_ended {S} respond s xs ys h = by (responses respond s xs).ends refl
-  where
-    by : (b : Bool) → (responses respond s xs).ends ≡ b → (responses respond s xs).ends ≡ false
-    by true e = let k = ap (λ (v : Response S). v.ends) (stays_ended respond s xs ys e) in
-        let t : true ≡ false = sym e ∙ sym k ∙ h in cc
-    by false e = e
+had_not_ended respond s xs ys h = grind (arith, stays_ended respond s xs ys)
 
 -- of two beginnings of a list the shorter is a beginning of the longer
 pub shorter_first : (xs ys us vs : List LineSeen) → xs ++ ys ≡ us ++ vs → length xs ≤ length us → GoesOn xs us

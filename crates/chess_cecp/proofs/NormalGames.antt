@@ -1,45 +1,33 @@
 -- In a game of normal chess each position is of normal chess, so what is said of the game and its text is what is said
 -- for normal chess alone.
-use Rattle.std.proofs.Common.{◌≡◌, ℕ, ◌+◌, ◌==◌, cond, nat_le, Bool, ◌&&◌, ◌||◌, List, [], ◌∷◌, ◌++◌, length, codes, Option, None, Some, is_some, refl, sym, ap, ◌∙◌, if◌then◌else◌}
-use Rattle.std.specs.Prelude.{count_by, decimal, not}
+use Rattle.std.proofs.Common.{◌≡◌, ℕ, cond, Bool, ◌||◌, List, [], ◌∷◌, ◌++◌, codes, None, refl, ap, ◌∙◌, if◌then◌else◌}
+use Rattle.std.specs.Prelude.{count_by, not}
 use Rattle.std.specs.List.{list_any}
-use Rattle.std.specs.Option.{option_map, option_map_or, option_or}
-use Rattle.std.specs.Str.{bytes_eq}
 use Rattle.std.proofs.lemmas.List.Sums.{sum_by-cons}
-use Rattle.chess_base.specs.declared.man.Colour.TheVariants.{White, Black}
 use Rattle.chess_base.specs.declared.man.Move.{Move}
 use Rattle.chess_base.specs.declared.man.Variant.{Variant}
 use Rattle.chess_base.specs.declared.man.Variant.TheVariants.{Normal}
 use Rattle.chess_base.specs.declared.setup.Setup.{Setup}
-use Rattle.chess_base.specs.Attacks.{is_in_check}
-use Rattle.chess_base.specs.ByColour.{by_colour}
 use Rattle.chess_base.specs.Initial.{initial_setup, initial_setup_of}
-use Rattle.chess_base.specs.Men.{other, same_colour}
 use Rattle.chess_base.specs.Moves.{after, is_en_passant}
 use Rattle.chess_base.specs.Options.{list_if}
 use Rattle.chess_base.specs.laws.Normal.{normal_after}
 use Rattle.chess_base.proofs.shared.Normal.{normal_kept as rules_kept}
 use Rattle.chess_fen.specs.Writing.{fen, is_initial}
-use Rattle.chess_fen.specs.laws.Normal.{normal_fen}
 use Rattle.chess_fen.proofs.shared.Normal.{fen_kept}
 use Rattle.chess_text.specs.San.{is_fischerandom}
-use Rattle.chess_text.specs.laws.Normal.{normal_moves, normal_san}
 use Rattle.chess_text.proofs.shared.Normal.{normal_kept as texts_kept}
-use Rattle.chess_game.specs.declared.verdicts.Verdict.{Verdict}
-use Rattle.chess_game.specs.declared.verdicts.Verdict.TheVariants.{WhiteMates, BlackMates, Stalemate, InsufficientMaterial, FivefoldRepetition, SeventyFiveMoves}
-use Rattle.chess_game.specs.declared.results.Declared.{Declared}
 use Rattle.chess_game.specs.declared.results.Outcome.{Outcome}
-use Rattle.chess_game.specs.declared.results.Outcome.TheVariants.{Unfinished}
-use Rattle.chess_game.specs.Ends.{has_insufficient_material, verdict, verdict_result, claims}
-use Rattle.chess_game.specs.Game.{State, is_over, outcome_now}
+use Rattle.chess_game.specs.Ends.{verdict}
+use Rattle.chess_game.specs.Game.{State, outcome_now}
 use Rattle.chess_game.specs.Line.{positions_of, position_after}
 use Rattle.chess_game.specs.Results.{outcome_text}
-use Rattle.chess_game.specs.Same.{legal_en_passant_square, is_same_position, same_men, same_rights, same_square, repetition_count}
+use Rattle.chess_game.specs.Same.{legal_en_passant_square, is_same_position, repetition_count}
 use Rattle.chess_pgn.specs.declared.tags.Tags.{Tags}
 use Rattle.chess_pgn.specs.GameText.{tag_lines, move_tokens, game_tokens, pgn}
 use Rattle.chess_pgn.specs.Terminations.{termination_text, termination_of}
 use Rattle.chess_pgn.specs.Written.{tag_line, ended, lines_of}
-use Rattle.chess_cecp.specs.laws.NormalGame.{normal_initial, normal_line, normal_last, normal_legal_en_passant_square, normal_same, normal_rep, normal_verdict, normal_claims, normal_is_over, normal_outcome_now}
+use Rattle.chess_cecp.specs.laws.NormalGame.{normal_initial, normal_line, normal_last, normal_legal_en_passant_square, normal_same, normal_rep, normal_verdict, normal_outcome_now}
 use Rattle.chess_cecp.specs.laws.NormalPgn.{normal_is_initial, normal_tag_lines, normal_move_tokens, normal_game_tokens, normal_pgn}
 
 pub initial_kept : initial_setup ≡ normal_initial
@@ -70,20 +58,13 @@ target_kept p e = ap (λ ms. if list_any (λ m. is_en_passant p m) ms then p.tar
 
 same_kept : (p q : Setup) → p.variant ≡ Normal → q.variant ≡ Normal → is_same_position p q ≡ normal_same p q
 unfolding is_same_position normal_same
-same_kept p q e h =
-    ap (λ t. same_colour p.side q.side && same_men p.men q.men && same_rights p.rights q.rights
-    && same_square t (legal_en_passant_square q)) (target_kept p e)
-    ∙ ap (λ t. same_colour p.side q.side && same_men p.men q.men && same_rights p.rights q.rights
-    && same_square (normal_legal_en_passant_square p) t) (target_kept q h)
+same_kept p q e h = rw (target_kept p e, target_kept q h)
 
 -- one more, where the first is the same
 counted_one : (f g : Setup → Bool) (p : Setup) (ps qs : List Setup) → f p ≡ g p → count_by f ps ≡ count_by g qs
     → count_by f (p ∷ ps) ≡ count_by g (p ∷ qs)
 counted_one f g p ps qs e h =
-    sum_by-cons (λ x. cond (f x) 1 0) p ps
-    ∙ ap (λ b. cond b 1 0 + count_by f ps) e
-    ∙ ap (λ (n : ℕ). cond (g p) 1 0 + n) h
-    ∙ sym (sum_by-cons (λ x. cond (g x) 1 0) p qs)
+    rw (sum_by-cons (λ x. cond (f x) 1 0) p ps, sum_by-cons (λ x. cond (g x) 1 0) p qs, e, h)
 
 counted : (q : Setup) → q.variant ≡ Normal → (p : Setup) → p.variant ≡ Normal → (ms : List Move)
     → count_by (λ x. is_same_position x q) (positions_of p ms) ≡ count_by (λ x. normal_same x q) (normal_line p ms)
@@ -99,43 +80,17 @@ counted q h p e (m ∷ ms) =
 pub rep_kept : (p : Setup) → p.variant ≡ Normal → (ms : List Move) → repetition_count p ms ≡ normal_rep p ms
 unfolding repetition_count normal_rep
 rep_kept p e ms =
-    counted (position_after p ms) (last_stays p ms ∙ e) p e ms
-    ∙ ap (λ q. count_by (λ x. normal_same x q) (normal_line p ms)) (last_kept p e ms)
+    rw (counted (position_after p ms) (last_stays p ms ∙ e) p e ms, last_kept p e ms)
 
 -- ---- ends
 
--- the verdict, by what it is judged of
-judged : Setup → List Move → ℕ → Option Verdict
-judged p ms n =
-    if length ms == 0
-    then Some (if is_in_check p.men p.side then by_colour WhiteMates BlackMates (other p.side) else Stalemate)
-    else if has_insufficient_material p.men then Some InsufficientMaterial
-    else if nat_le 5 n then Some FivefoldRepetition
-    else if nat_le 150 p.halfmove then Some SeventyFiveMoves
-    else None
-
 pub verdict_kept : (p : Setup) → p.variant ≡ Normal → (ms : List Move) → verdict p ms ≡ normal_verdict p ms
-unfolding verdict normal_verdict judged
+unfolding verdict normal_verdict
 verdict_kept p e ms =
-    ap (λ all. judged (position_after p ms) all (repetition_count p ms))
-    (texts_kept (position_after p ms) (last_stays p ms ∙ e)).moves
-    ∙ ap (λ q. judged q (normal_moves q) (repetition_count p ms)) (last_kept p e ms)
-    ∙ ap (judged (normal_last p ms) (normal_moves (normal_last p ms))) (rep_kept p e ms)
+    rw ((texts_kept (position_after p ms) (last_stays p ms ∙ e)).moves, last_kept p e ms, rep_kept p e ms)
 
-pub claims_kept : (p : Setup) → p.variant ≡ Normal → (ms : List Move) → claims p ms ≡ normal_claims p ms
-claims_kept p e ms =
-    ap (λ (n : ℕ). record { threefold = nat_le 3 n; fifty_moves = nat_le 100 (position_after p ms).halfmove })
-    (rep_kept p e ms)
-    ∙ ap (λ (q : Setup). record { threefold = nat_le 3 (normal_rep p ms); fifty_moves = nat_le 100 q.halfmove })
-    (last_kept p e ms)
-
-pub over_kept : (s : State) → s.start.variant ≡ Normal → is_over s ≡ normal_is_over s
-over_kept s e = ap (λ v. is_some v || is_some s.declared) (verdict_kept s.start e s.moves)
-
-pub outcome_kept : (s : State) → s.start.variant ≡ Normal → outcome_now s ≡ normal_outcome_now s
-outcome_kept s e =
-    ap (λ v. option_map_or (λ (d : Declared). d.outcome) (option_or (option_map verdict_result v) s.declared) Unfinished)
-    (verdict_kept s.start e s.moves)
+outcome_kept : (s : State) → s.start.variant ≡ Normal → outcome_now s ≡ normal_outcome_now s
+outcome_kept s e = rw (verdict_kept s.start e s.moves)
 
 -- ---- the text
 
@@ -144,9 +99,7 @@ unfolding initial_setup initial_setup_of
 initial_is_normal = refl
 
 is_initial_kept : (p : Setup) → p.variant ≡ Normal → is_initial p ≡ normal_is_initial p
-is_initial_kept p e =
-    ap (λ text. bytes_eq text (fen initial_setup)) (fen_kept p e)
-    ∙ ap (bytes_eq (normal_fen p)) (fen_kept initial_setup initial_is_normal ∙ ap normal_fen initial_kept)
+is_initial_kept p e = rw (fen_kept p e, fen_kept initial_setup initial_is_normal, initial_kept)
 
 -- the lines of a game's tags by what they depend on: its outcome, its start's variant, whether the start is the
 -- initial position, and the start's FEN
@@ -170,17 +123,10 @@ tags_kept t s e =
 moves_kept : (p : Setup) → p.variant ≡ Normal → (ms : List Move) → move_tokens p ms ≡ normal_move_tokens p ms
 moves_kept p e [] = refl
 moves_kept p e (m ∷ ms) =
-    let number : List (List ℕ) = list_if (same_colour p.side White) ((decimal p.fullmove ++ codes ".") ∷ []) in
-    ap (λ text. number ++ text ∷ move_tokens (after p m) ms) ((texts_kept p e).san m)
-    ∙ ap (λ tokens. number ++ normal_san p m ∷ tokens)
-    (moves_kept (after p m) (stays p m ∙ e) ms ∙ ap (λ q. normal_move_tokens q ms) ((rules_kept p e).after m))
+    rw ((texts_kept p e).san m, moves_kept (after p m) (stays p m ∙ e) ms, (rules_kept p e).after m)
 
 tokens_kept : (s : State) → s.start.variant ≡ Normal → game_tokens s ≡ normal_game_tokens s
-tokens_kept s e =
-    let first : List (List ℕ) = list_if (same_colour s.start.side Black && not (length s.moves == 0))
-    ((decimal s.start.fullmove ++ codes "...") ∷ []) in
-    ap (λ tokens. first ++ (tokens ++ outcome_text (outcome_now s) ∷ [])) (moves_kept s.start e s.moves)
-    ∙ ap (λ o. first ++ (normal_move_tokens s.start s.moves ++ outcome_text o ∷ [])) (outcome_kept s e)
+tokens_kept s e = rw (moves_kept s.start e s.moves, verdict_kept s.start e s.moves)
 
 pub pgn_kept : (prefix : List ℕ) (t : Tags) (s : State) → s.start.variant ≡ Normal
     → pgn prefix t s ≡ normal_pgn prefix t s

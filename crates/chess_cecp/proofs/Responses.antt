@@ -1,5 +1,5 @@
 -- Responses to lines one after another.
-use Rattle.std.proofs.Common.{◌≡◌, ℕ, Bool, true, false, List, [], ◌∷◌, ◌++◌, refl, sym, ap, ◌∙◌, append_assoc, append-nil, if◌then◌else◌}
+use Rattle.std.proofs.Common.{◌≡◌, ℕ, Bool, true, false, List, [], ◌∷◌, ◌++◌, refl, sym, ap, ◌∙◌, append_assoc, append-nil, if◌then◌else◌, arith}
 use Rattle.text_lines.specs.Lines.{LineSeen}
 use Rattle.chess_cecp.specs.Serving.{Response, Server, and_then, responses}
 
@@ -10,29 +10,15 @@ with_front text r = record r { text = text ++ r.text }
 fronts : {S : Type 0} (a b : List ℕ) (r : Response S) → with_front a (with_front b r) ≡ with_front (a ++ b) r
 fronts a b r = ap (λ t. record r { text = t }) (sym (append_assoc a b r.text))
 
-passes_by : {S : Type 0} (b : Bool) (r next : Response S) → b ≡ false
-    → (if b then r else with_front r.text next) ≡ with_front r.text next
-passes_by true r next e = cc
-passes_by false r next e = refl
-
 pub passes : {S : Type 0} (r next : Response S) → r.ends ≡ false → and_then r next ≡ with_front r.text next
-passes r next e = passes_by r.ends r next e
-
-stops_by : {S : Type 0} (b : Bool) (r next : Response S) → b ≡ true → (if b then r else with_front r.text next) ≡ r
-stops_by true r next e = refl
-stops_by false r next e = cc
+passes r next e = rw e
 
 pub stops : {S : Type 0} (r next : Response S) → r.ends ≡ true → and_then r next ≡ r
-stops r next e = stops_by r.ends r next e
+stops r next e = rw e
 
 -- where the responses go on, the first does
-first_by : {S : Type 0} (b : Bool) (r next : Response S) → r.ends ≡ b
-    → (if b then r else with_front r.text next).ends ≡ false → b ≡ false
-first_by true r next e h = sym e ∙ h
-first_by false r next e h = refl
-
 first_goes : {S : Type 0} (r next : Response S) → (and_then r next).ends ≡ false → r.ends ≡ false
-first_goes r next h = first_by r.ends r next refl h
+first_goes r next h = grind arith
 
 alone_by : {S : Type 0} (b : Bool) (r : Response S) → r.ends ≡ b
     → (if b then r else with_front r.text (record { text = []; state = r.state; ends = false })) ≡ r
@@ -61,10 +47,3 @@ responses_on {S} respond s (x ∷ xs) ys h =
     ∙ ap (with_front r.text) (responses_on respond r.state xs ys m)
     ∙ fronts r.text rest.text (responses respond rest.state ys)
     ∙ ap (λ (v : Response S). with_front v.text (responses respond v.state ys)) (sym is)
-
--- a response after that text, by its fields
-pub by_fields : {S : Type 0} (front : List ℕ) (r : Response S) (s : S) (ends : Bool) → s ≡ r.state → r.ends ≡ ends
-    → with_front front r ≡ record { text = front ++ r.text; state = s; ends = ends }
-by_fields front r s ends is e =
-    ap (λ b. record { text = front ++ r.text; state = r.state; ends = b }) e
-    ∙ ap (λ v. record { text = front ++ r.text; state = v; ends = ends }) (sym is)

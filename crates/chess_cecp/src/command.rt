@@ -2,9 +2,9 @@
 
 ghost use Rattle.std.specs.Prelude.{◌≡◌, ◌+◌, ◌<◌, ◌≤◌, ◌++◌, length};
 ghost use Rattle.text_lines.specs.Lines.{is_blank};
-ghost use Rattle.chess_cecp.specs.Commands.{command_of};
+ghost use Rattle.chess_cecp.specs.Commands.{command_of, named_command, is_ignored};
 ghost use Rattle.text_lines.specs.Words.{word_of, argument_of, command_number};
-ghost use Rattle.chess_cecp.specs.ties.Ignored.{is_engine_command, is_opponent_or_clock_command, is_ignored, named_command};
+ghost use Rattle.chess_cecp.specs.ties.Ignored.{is_engine_command, is_opponent_or_clock_command};
 ghost use Rattle.std.specs.Option.{option_map_or};
 
 use chess_text::has_move_shape;
@@ -112,6 +112,7 @@ fn is_opponent_or_clock_command(word: &[u8]) -> bool
 }
 
 // Whether a word is the name of a command that an arbiter accepts and ignores, such as `xboard` or `time`.
+#[tactic(auto, using(crate::proofs::Words::ignored_parts))]
 fn is_ignored(word: &[u8]) -> bool
     ensures { result ≡ is_ignored word.now }
 {
@@ -120,7 +121,7 @@ fn is_ignored(word: &[u8]) -> bool
 
 // The command that a line's first word names, by its argument: `Silent` for one that is ignored and for an empty line;
 // `None` if the word is no command's name, as in a bare `e2e4`.
-#[tactic(auto, unfolding(crate::specs::ties::Ignored::named_command))]
+#[tactic(auto, unfolding(crate::specs::Commands::named_command))]
 pub(crate) fn named_command(word: &[u8], argument: &[u8]) -> Option<Command>
     ensures { result ≡ named_command word.now argument.now }
 {

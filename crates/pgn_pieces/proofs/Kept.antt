@@ -47,9 +47,6 @@ line_ends_known first ends plain =
     let c = all_line_ends ends in
     let d = no_line_ends plain in omega (arith, a, b, c, d)
 
-pub line_ends_are : (first : List ℕ) (ends plain : ℕ) → line_ends first + ends ≡ line_ends (known first ends plain)
-line_ends_are first ends plain = sym (line_ends_known first ends plain)
-
 -- a text after what is known, of which the first `k` bytes are kept
 module _ (first bytes : List ℕ) (ends plain k : ℕ) (few : length first ≤ 40)
     (none : length first < 40 → ends + plain ≡ 0) (within : k ≤ length bytes) (room : length first + k ≤ 40)

@@ -122,22 +122,6 @@ pub record Looked (s s' : State) (seen : Seen) (r1 r2 : InputState) : Type 0 whe
   pub over : s.ended ≡ true → (s'.ended ≡ true) × (more ≡ [])
   pub stands : (r : InputState) (text : List ℕ) → IsStateOf s r r1 text → IsStateOf s' r r2 (text ++ more)
 
-pub looked_none : (s : State) (seen : Seen) (r1 : InputState) → HasSeen seen [] → Looked s (past_piece s) seen r1 r1
-looked_none s seen r1 lines = record {
-  piece = [];
-  more = [];
-  lines = lines;
-  like = (record { len = refl; beginning = refl; line_ends = refl }, λ few. refl);
-  same = append-nil s.coming;
-  begins = refl;
-  over = λ h. (h, refl);
-  stands = λ r text stands. (let all = stands.all in record {
-    read = subst (HasRead s.ended r r1) (sym (append-nil text)) stands.read;
-    all = subst (λ xs. s.offset + length s.part + (0 + length s.coming) ≡ length xs) (sym (append-nil text))
-        (omega (arith, all));
-  });
-}
-
 -- a step changed neither the piece's offset nor how many bytes are held
 pub record Keeps (s s' : State) : Type 0 where
   pub offset : s'.offset ≡ s.offset

@@ -1,4 +1,4 @@
-use Rattle.chess_cecp.proofs.Refusals.{refused_keeps}
+use Rattle.chess_cecp.proofs.Rows.{refused_keeps}
 use Rattle.chess_cecp.proofs.laws.refusals_change_nothing.Goals as goal
 
 pub returns : goal.returns

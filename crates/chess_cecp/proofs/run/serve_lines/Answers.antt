@@ -16,18 +16,18 @@ loop-server-init g c =
 
 pub returns-then-not-branch : goal.returns-then-not-branch
 returns-then-not-branch g c =
-    let n = rw c.if-not-branch.true at c.in_ok-read_line.ensures.next in by_end ReadFault c.loop-server.invariant.2 n
+    let n = rw c.if-not-branch.true at c.in_ok-read_line.ensures.next in by_end c.loop-server.invariant.2 ReadFault n
 
 pub returns-in_err-read_line : goal.returns-in_err-read_line
 returns-in_err-read_line g c =
     let p = err_from_is_err_and c.from_residual.result c.from_residual.ensures.1 in
-    rw (p.1, p.2) (by_read c.in_err-read_line.field-0.0 c.loop-server.invariant.2 c.in_err-read_line.ensures.next)
+    rw (p.1, p.2) (by_read c.loop-server.invariant.2 c.in_err-read_line.field-0.0 c.in_err-read_line.ensures.next)
 
 pub returns-in-Quit : goal.returns-in-Quit
 returns-in-Quit g c =
     let n = rw c.if-not-branch.false at c.in_ok-read_line.ensures.next in
-    by_line c.read_line.new.line c.loop-server.invariant.2
-    (reached ReadFault _ c.read_line.new.line c.loop-server.invariant.2 n)
+    by_line c.loop-server.invariant.2 c.read_line.new.line
+    (reached c.loop-server.invariant.2 ReadFault _ c.read_line.new.line n)
     c.in_ok-answer_line.ensures.written c.in_ok-answer_line.ensures.next
     (over_said _ c.in_ok-answer_line.field-0 c.in_ok-answer_line.ensures.go c.in-Quit.is)
 
@@ -36,15 +36,15 @@ returns-in_err-answer_line g c =
     let n = rw c.if-not-branch.false at c.in_ok-read_line.ensures.next in
     let p = err_from_is_err_and c.from_residual-in_err-answer_line.result c.from_residual-in_err-answer_line.ensures.1
     in
-    rw (p.1, p.2) (by_write c.read_line.new.line c.loop-server.invariant.2
-    (reached ReadFault _ c.read_line.new.line c.loop-server.invariant.2 n)
+    rw (p.1, p.2) (by_write c.loop-server.invariant.2 c.read_line.new.line
+    (reached c.loop-server.invariant.2 ReadFault _ c.read_line.new.line n)
     c.in_err-answer_line.ensures.written c.in_err-answer_line.ensures.next)
 
 pub returns-then-not-is_ended : goal.returns-then-not-is_ended
 returns-then-not-is_ended g c =
     let n = rw c.if-not-branch.false at c.in_ok-read_line.ensures.next in
     let h = c.if-not-is_ended.ensures in
-    by_last ReadFault _ c.read_line.new.line c.loop-server.invariant.2 n (sym h)
+    by_last c.loop-server.invariant.2 ReadFault _ c.read_line.new.line n (sym h)
     c.in_ok-answer_line.ensures.written c.in_ok-answer_line.ensures.next
     (on_said _ c.in_ok-answer_line.field-0 c.in_ok-answer_line.ensures.go c.in-On.is)
 
@@ -52,7 +52,7 @@ pub loop-server-preserved : goal.loop-server-preserved
 loop-server-preserved g c =
     let n = rw c.if-not-branch.false at c.in_ok-read_line.ensures.next in
     let h = c.if-not-is_ended.ensures in
-    let on = go_on ReadFault {held' = c.read_line.new.self} c.read_line.new.line c.loop-server.invariant.2 n (sym h)
+    let on = go_on c.loop-server.invariant.2 ReadFault {held' = c.read_line.new.self} c.read_line.new.line n (sym h)
     c.in_ok-answer_line.ensures.written c.in_ok-answer_line.ensures.next
     (on_said _ c.in_ok-answer_line.field-0 c.in_ok-answer_line.ensures.go c.in-On.is) in
     (on.0, _, on.1)
