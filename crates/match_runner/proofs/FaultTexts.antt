@@ -22,21 +22,8 @@ is_text bytes h = IsUtf8-from_ascii bytes (IsAscii-from_all bytes
 
 is_ascii_comment : (side : Colour) (fault : MatchFault) → list_all is_ascii (comment_of (Faulted side fault)) ≡ true
 is_ascii_comment White Ended = refl
-is_ascii_comment White Read = refl
-is_ascii_comment White Write = refl
-is_ascii_comment White NoDone = refl
-is_ascii_comment White NoPing = refl
-is_ascii_comment White NoSetboard = refl
-is_ascii_comment White Flood = refl
-is_ascii_comment White NoVariant = refl
 is_ascii_comment Black Ended = refl
-is_ascii_comment Black Read = refl
-is_ascii_comment Black Write = refl
-is_ascii_comment Black NoDone = refl
-is_ascii_comment Black NoPing = refl
-is_ascii_comment Black NoSetboard = refl
-is_ascii_comment Black Flood = refl
-is_ascii_comment Black NoVariant = refl
+is_ascii_comment _ _ = refl
 
 pub comment_is_text : (side : Colour) (fault : MatchFault) (bytes : List ℕ) → bytes ≡ comment_of (Faulted side fault)
     → IsUtf8 bytes

@@ -36,18 +36,8 @@ by_sides failed e Black = e.1
 
 none_failed : (reason : Reason) (failed : Colour → Bool) → reported_fault reason failed ≡ None
     → (failed White ≡ false) × (failed Black ≡ false)
-none_failed (Decided v) failed e = by_side (failed White) (failed Black) e
-none_failed (Claimed c) failed e = by_side (failed White) (failed Black) e
-none_failed Agreed failed e = by_side (failed White) (failed Black) e
-none_failed (Resigns c) failed e = by_side (failed White) (failed Black) e
-none_failed (MovesIllegally c) failed e = by_side (failed White) (failed Black) e
-none_failed (MovesOutOfTurn c) failed e = by_side (failed White) (failed Black) e
-none_failed (ClaimsFalsely c) failed e = by_side (failed White) (failed Black) e
-none_failed (RejectsLegalMove c) failed e = by_side (failed White) (failed Black) e
-none_failed (Forfeits c) failed e = by_side (failed White) (failed Black) e
-none_failed ForfeitsToBareKing failed e = by_side (failed White) (failed Black) e
-none_failed GameTooLong failed e = by_side (failed White) (failed Black) e
 none_failed (Faulted c f) failed e = absurd cc
+none_failed _ failed e = by_side (failed White) (failed Black) e
 
 none_above : (n : ℕ) → 0 < n → nat_lt 0 n ≡ false → ⊥
 none_above n h e = grind (arith, nat_tests)

@@ -59,10 +59,8 @@ start_fault : (white black : List ℕ) (fault : GamesFault) → FailsToStart whi
     → IsStartFault white black fault
 start_fault white black (CanNotStart command) h = h
 start_fault white black NoMemory h = refl
-start_fault white black WriteFailed (inl h) = absurd h
-start_fault white black WriteFailed (inr h) = absurd h
-start_fault white black (Game number text) (inl h) = absurd h
-start_fault white black (Game number text) (inr h) = absurd h
+start_fault white black _ (inl h) = absurd h
+start_fault white black _ (inr h) = absurd h
 
 pub start_faults : {A : Type 0} (white black : List ℕ) (r : Result A GamesFault)
     → IfErr r (λ f. FailsToStart white f ⊎ FailsToStart black f) → IfErr r (IsStartFault white black)
@@ -82,9 +80,7 @@ plan_fault plan number (CanNotStart command) (inl e) =
     either (same_colour White (first_side number)) command.now plan.white.now plan.black.now e
 plan_fault plan number (CanNotStart command) (inr e) =
     either (same_colour Black (first_side number)) command.now plan.white.now plan.black.now e
-plan_fault plan number NoMemory h = h
-plan_fault plan number WriteFailed h = h
-plan_fault plan number (Game k text) h = h
+plan_fault plan number _ h = h
 
 -- ---- steps
 
@@ -118,17 +114,12 @@ module _ (plan : GamesPlan) (number : ℕ) (p p1 p2 p3 p4 : GamesPassing) (w w' 
       → StepsPass p p4 (Starts (engine_command plan number White) (engine_command plan number Black) ∷ Plays played
       ∷ write (game_text plan number played) ∷ Finishes ∷ [])
   all_steps write writes =
-      subst (λ (t : List ℕ). StepsPass p p4 (Starts (engine_command plan number White)
-      (engine_command plan number Black) ∷ Plays played ∷ write t ∷ Finishes ∷ [])) tagged_text
-      (subst (λ (b : List ℕ). StepsPass p p4 (Starts (engine_command plan number White) b ∷ Plays played
-      ∷ write (pgn [] tags played.after.game.state) ∷ Finishes ∷ [])) for_black
-      (subst (λ (a : List ℕ). StepsPass p p4 (Starts a black ∷ Plays played
-      ∷ write (pgn [] tags played.after.game.state) ∷ Finishes ∷ [])) for_white
-      (steps_more p p1 p4 (Starts white black ∷ [])
+      rw (← tagged_text, ← for_white, ← for_black) (
+      steps_more p p1 p4 (Starts white black ∷ [])
       (Plays played ∷ write (pgn [] tags played.after.game.state) ∷ Finishes ∷ []) starts
       (steps_more p1 p2 p4 (Plays played ∷ [])
       (write (pgn [] tags played.after.game.state) ∷ Finishes ∷ []) plays
-      (steps_more p2 p3 p4 (write (pgn [] tags played.after.game.state) ∷ []) (Finishes ∷ []) writes finishes)))))
+      (steps_more p2 p3 p4 (write (pgn [] tags played.after.game.state) ∷ []) (Finishes ∷ []) writes finishes)))
 
   pub was_written : IsOfPlan plan played → Sent w w' (pgn [] tags played.after.game.state)
       → StepsPass p2 p3 (Writes (pgn [] tags played.after.game.state) ∷ [])
@@ -160,18 +151,13 @@ pub was_not_started : (plan : GamesPlan) (number : ℕ) (p p' : GamesPassing) (w
     → StepsPass p p' (StartFails white black ∷ []) → PlayedGame plan number p p' w w l l (Err fault)
 was_not_started plan number p p' w l white black fault for_white for_black is steps =
     at fault
-    (plan_fault plan number fault
-    (subst (λ (b : List ℕ). IsStartFault (engine_command plan number White) b fault) for_black
-    (subst (λ (a : List ℕ). IsStartFault a black fault) for_white is)))
-    (subst (λ (b : List ℕ). StepsPass p p' (StartFails (engine_command plan number White) b ∷ [])) for_black
-    (subst (λ (a : List ℕ). StepsPass p p' (StartFails a black ∷ [])) for_white steps))
+    (plan_fault plan number fault (rw (← for_white, ← for_black) is)) (rw (← for_white, ← for_black) steps)
   where
     at : (f : GamesFault) → IsStartFault plan.white.now plan.black.now f
         → StepsPass p p' (unstarted_steps plan number) → PlayedGame plan number p p' w w l l (Err f)
     at NoMemory h k = (h, refl, refl, k)
     at (CanNotStart command) h k = (h, refl, refl, k)
-    at WriteFailed h k = absurd (cc)
-    at (Game n text) h k = absurd (cc)
+    at _ h k = absurd (cc)
 
 -- ---- games with their numbers
 
@@ -257,8 +243,7 @@ scores a b c d = record { first = a; second = b; drawn = c; unfinished = d }
 
 scores_are : (a a' b b' c c' d d' : ℕ) → a ≡ a' → b ≡ b' → c ≡ c' → d ≡ d' → scores a b c d ≡ scores a' b' c' d'
 scores_are a a' b b' c c' d d' e f g h =
-    ap (λ v. scores v b c d) e ∙ ap (λ v. scores a' v c d) f ∙ ap (λ v. scores a' b' v d) g
-    ∙ ap (λ v. scores a' b' c' v) h
+    cc
 
 score_more : (games : List GameRecord) (g : GameRecord) → length games < 65535
     → score_after (first_side (1 + length games)) g.end.outcome (score_of games) ≡ score_of (games ++ g ∷ [])
@@ -425,13 +410,11 @@ module _ (plan : GamesPlan) (p p' p'' : GamesPassing) (w w' w'' : OutputState) (
   pub broke_off : (fault : GamesFault) → number ≤ plan.games → PlayedGame plan number p' p'' w' w'' l' l'' (Err fault)
       → HasPlayed plan p p'' w w'' l l'' (Err fault)
   broke_off WriteFailed le (next, of, breaks, log, steps) = not_written next le of breaks log steps
-  broke_off NoMemory le (is, same, log, steps) =
-      let (games, o, writes, took, logs, passes) = not_started NoMemory le is same log steps in
-      (games, is, (o, writes, took, logs), passes)
-  broke_off (CanNotStart command) le (is, same, log, steps) =
-      let (games, o, writes, took, logs, passes) = not_started (CanNotStart command) le is same log steps in
-      (games, is, (o, writes, took, logs), passes)
   broke_off (Game k text) le (is, same, log, steps) = absurd (cc)
+  broke_off fault le played =
+      let (is, same, log, steps) = played in
+      let (games, o, writes, took, logs, passes) = not_started fault le is same log steps in
+      (games, is, (o, writes, took, logs), passes)
 
 pub all_played : (plan : GamesPlan) (p p' : GamesPassing) (w w' : OutputState) (l l' : LogSeen) (number : ℕ)
     (score : Score) (games : List GameRecord) → SoFar plan p p' w w' l l' number score games → plan.games < number
@@ -447,9 +430,8 @@ all_played plan p p' w w' l l' number score games s past =
 pub broke_at_table : (plan : GamesPlan) (p p' : GamesPassing) (w w' : OutputState) (l l' : LogSeen) (fault : GamesFault)
     → HasPlayed plan p p' w w' l l' (Err fault) → PlaysGamesAt plan (Err fault) p p' (outputs w l) (outputs w' l')
 broke_at_table plan p p' w w' l l' WriteFailed (games, unwritten, these, steps) = (games, Some unwritten, these, steps)
-broke_at_table plan p p' w w' l l' NoMemory (games, is, these, steps) = (games, None, these, steps)
-broke_at_table plan p p' w w' l l' (CanNotStart command) (games, is, these, steps) = (games, None, these, steps)
 broke_at_table plan p p' w w' l l' (Game number text) (games, is, these, steps) = absurd (cc)
+broke_at_table plan p p' w w' l l' _ (games, is, these, steps) = (games, None, these, steps)
 
 module _ (plan : GamesPlan) (p p' : GamesPassing) (w w' w'' : OutputState) (l l' : LogSeen) (played : GamesPlayed)
     (h : HasPlayed plan p p' w w' l l' (Ok played)) where

@@ -105,12 +105,6 @@ logged_more l l' l'' x y h k =
 
 -- ---- pending bytes
 
-pub adds_none : (o : OutputState) (p : Pending) → Adds o o p p []
-adds_none o p = record {
-  after = λ from text h. subst (λ (t : List ℕ). LogsPending from.broken p.broken from.output o p.bytes.items t)
-      (sym (append-nil text)) h;
-}
-
 pub adds_more : (o o' o'' : OutputState) (p p' p'' : Pending) (a b : List ℕ) → Adds o o' p p' a → Adds o' o'' p' p'' b
     → Adds o o'' p p'' (a ++ b)
 adds_more o o' o'' p p' p'' a b x y = record {
@@ -290,9 +284,8 @@ seen_again : (first : Colour) (known : Option (List ℕ)) (failures unflushed : 
       broken = broken;
     }
 seen_again first None failures unflushed false = refl
-seen_again first None failures unflushed true = refl
 seen_again first (Some bytes) failures unflushed false = refl
-seen_again first (Some bytes) failures unflushed true = refl
+seen_again first _ failures unflushed _ = refl
 
 -- a witness was given these notes from the beginning of its log on
 pub notes_logged : (first side side' : Colour) (from l l' : LogSeen) (moment moment' : ℕ) (notes : List Note)

@@ -47,9 +47,7 @@ events_read moment (Happened (Line c (Some text) now) ∷ notes) =
     event_more (Line c (Some text) now) _ _ (events_read now notes)
 events_read moment (Happened (Line c None now) ∷ notes) = event_more (Line c None now) _ _ (events_read now notes)
 events_read moment (Happened (Opened c now) ∷ notes) = events_read now notes
-events_read moment (Happened (OutputEnds c) ∷ notes) = event_more (OutputEnds c) _ _ (events_read moment notes)
-events_read moment (Happened (FailsToRead c) ∷ notes) = event_more (FailsToRead c) _ _ (events_read moment notes)
-events_read moment (Happened (FailsToWrite c) ∷ notes) = event_more (FailsToWrite c) _ _ (events_read moment notes)
+events_read moment (Happened event ∷ notes) = event_more event _ _ (events_read moment notes)
 events_read moment (Gives c bytes ∷ notes) =
     flat_map-append entry_event (map (sent_entry moment c) (lines_in bytes)) (entries_from moment notes)
     ∙ ap (λ (l : List Event). l ++ flat_map entry_event (entries_from moment notes))
@@ -183,9 +181,7 @@ given_read S moment reason (SendFails b ∷ H) =
 given_read S moment reason (Happens (Line c (Some t) now) ∷ H) = given_read S now reason H
 given_read S moment reason (Happens (Line c None now) ∷ H) = given_read S now reason H
 given_read S moment reason (Happens (Opened c now) ∷ H) = given_read S now reason H
-given_read S moment reason (Happens (OutputEnds c) ∷ H) = given_read S moment reason H
-given_read S moment reason (Happens (FailsToRead c) ∷ H) = given_read S moment reason H
-given_read S moment reason (Happens (FailsToWrite c) ∷ H) = given_read S moment reason H
+given_read S moment reason (Happens _ ∷ H) = given_read S moment reason H
 
 -- ---- the result
 

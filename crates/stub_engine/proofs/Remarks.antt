@@ -6,8 +6,8 @@ use Rattle.byte_devices.proofs.shared.Devices.{took_none, took_more, breaks_more
 use Rattle.std.specs.Prelude.{codes, cond, flat_map, take}
 use Rattle.std.specs.List.{prefix_len}
 use Rattle.std.specs.Str.{bytes_eq}
-use Rattle.chess_cecp.specs.Serving.{Response}
-use Rattle.stub_engine.specs.Stub.{StubState, Arguments, after_remarks, is_remark, played_text, remark, remarks, turn}
+use Rattle.chess_cecp.specs.Serving.{says}
+use Rattle.stub_engine.specs.Stub.{Arguments, after_remarks, is_remark, playing, remark, remarks, turn}
 
 -- ---- arguments
 
@@ -146,77 +146,14 @@ after_end arguments at past =
 
 -- ---- a turn
 
--- no argument is left
-pub turn_none : (arguments : Arguments) (at : ℕ) → length arguments ≤ at → turn (drop at arguments) ≡ turn []
-turn_none arguments at past = at_drop_all turn arguments at past
-
--- the next argument
-pub turn_next : (arguments : Arguments) (at : ℕ) (d : Bor (List ℕ)) → at < length arguments
-    → turn (drop at arguments) ≡ turn (get_or arguments at d ∷ drop (at + 1) arguments)
-turn_next arguments at d lt = ap turn (drop_more arguments at d lt)
-
--- it is `end`, or another
-pub turn_end : (arguments : Arguments) (at : ℕ) (d : Bor (List ℕ)) → at < length arguments
-    → bytes_eq (get_or arguments at d).now (codes "end") ≡ true
-    → turn (drop at arguments) ≡ record {
-      text = codes "mov";
-      state = record { arguments = drop (at + 1) arguments; plays = true };
-      ends = true;
-    }
-turn_end arguments at d lt is =
-    turn_next arguments at d lt
-    ∙ ap (λ (b : Bool). if b then record {
-      text = codes "mov";
-      state = record { arguments = drop (at + 1) arguments; plays = true };
-      ends = true;
-    }
-    else record {
-      text = played_text (get_or arguments at d).now ++ remarks (drop (at + 1) arguments);
-      state = record { arguments = after_remarks (drop (at + 1) arguments); plays = true };
-      ends = false;
-    }) is
-
-pub turn_played : (arguments : Arguments) (at : ℕ) (d : Bor (List ℕ)) → at < length arguments
-    → bytes_eq (get_or arguments at d).now (codes "end") ≡ false
-    → turn (drop at arguments) ≡ record {
-      text = played_text (get_or arguments at d).now ++ remarks (drop (at + 1) arguments);
-      state = record { arguments = after_remarks (drop (at + 1) arguments); plays = true };
-      ends = false;
-    }
-turn_played arguments at d lt is =
-    turn_next arguments at d lt
-    ∙ ap (λ (b : Bool). if b then record {
-      text = codes "mov";
-      state = record { arguments = drop (at + 1) arguments; plays = true };
-      ends = true;
-    }
-    else record {
-      text = played_text (get_or arguments at d).now ++ remarks (drop (at + 1) arguments);
-      state = record { arguments = after_remarks (drop (at + 1) arguments); plays = true };
-      ends = false;
-    }) is
-
--- a turn always has the stub play
-either_plays : (b : Bool) (r q : Response StubState) → r.state.plays ≡ true → q.state.plays ≡ true
-    → (if b then r else q).state.plays ≡ true
-either_plays true r q h k = h
-either_plays false r q h k = k
-
-pub turn_plays : (arguments : Arguments) → (turn arguments).state.plays ≡ true
-turn_plays [] = refl
-turn_plays (argument ∷ arguments) =
-    either_plays (bytes_eq argument.now (codes "end"))
-    (record { text = codes "mov"; state = record { arguments = arguments; plays = true }; ends = true })
-    (record {
-      text = played_text argument.now ++ remarks arguments;
-      state = record { arguments = after_remarks arguments; plays = true };
-      ends = false;
-    })
-    refl refl
-
 -- the state after a turn, by its arguments
+turned : (b : Bool) (a t left : Arguments) (x y : List ℕ)
+    → left ≡ (if b then record (says (playing a) x) { ends = true } else says (playing t) y).state.arguments
+    → playing left ≡ (if b then record (says (playing a) x) { ends = true } else says (playing t) y).state
+turned true a t left x y is = ap playing is
+turned false a t left x y is = ap playing is
+
 pub turn_state : (arguments left : Arguments) → left ≡ (turn arguments).state.arguments
-    → record { arguments = left; plays = true } ≡ (turn arguments).state
-turn_state arguments left is =
-    ap (λ (v : Arguments). record { arguments = v; plays = true }) is
-    ∙ ap (λ (b : Bool). record { arguments = (turn arguments).state.arguments; plays = b }) (sym (turn_plays arguments))
+    → playing left ≡ (turn arguments).state
+turn_state [] left is = ap playing is
+turn_state (argument ∷ arguments) left is = turned (bytes_eq argument.now (codes "end")) _ _ left _ _ is
