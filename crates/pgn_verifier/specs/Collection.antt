@@ -35,12 +35,17 @@ CollectionEnds text expected (Err NoMemory) i o = (i.ended ≡ false) × (i.fail
 CollectionEnds text expected (Err InputTooLong) i o =
     (i.ended ≡ false) × (i.failed ≡ false) × (2 ^ 63 ≤ length i.text + 2 ^ 16) × (o ≡ all_unflushed text)
 
--- what verifying a collection reads (`i`) and writes (`o`), by its result (`CollectionEnds`). What is to be written are
--- the lines of the reports on the pieces, numbered from 1; then, if the input's end was reported, the line of counts.
--- Before the end the last piece read is left out, since it may go on (`known_pieces`). The summary is `FaultReported`
--- if a fault was reported, otherwise `EachGame`. `options`: see `Verifies`; with `explain` each fault has a second line
+-- what is to be written for these reports: their lines, numbered from 1; then, if the input's end was reported, the line
+-- of counts
+abbrev pub collection_text : VerifyOptions → List Report → FromInput → List ℕ
+collection_text options reports i =
+    report_lines options i.text 1 reports ++ (if i.ended then counts_line (counts_of reports) else [])
+
+-- what verifying a collection reads (`i`) and writes (`o`), by its result (`CollectionEnds`): the reports on its pieces,
+-- where a fault ends only its own piece. Before the input's end the last piece read is left out, since it may go on
+-- (`known_pieces`). The summary is `FaultReported` if a fault was reported, otherwise `EachGame`. `options`: see
+-- `Verifies` (Verify.antt); with `explain` each fault has a second line
 abbrev pub VerifiesCollection : VerifyOptions → Result Verified VerifyFault → FromInput → ToOutput → Type 0
 VerifiesCollection options result i o = (reports : List Report)
     × AreCollectionReports options.strict 0 (known_pieces i.ended i.text) reports
-    × CollectionEnds (report_lines options i.text 1 reports
-    ++ (if i.ended then counts_line (counts_of reports) else [])) (verified (counts_of reports)) result i o
+    × CollectionEnds (collection_text options reports i) (verified (counts_of reports)) result i o
