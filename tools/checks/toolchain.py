@@ -9,12 +9,21 @@ from declared import Types
 from sources import IMPORTS, Specs, imports_of, place_of
 
 PASSED_ON = re.compile(r"pub use (\S+?)(?: as (\w+))?$")
+# Where the toolchain's first page names the folder of the guides; KIT is the page's own folder.
+GUIDES = re.compile(r"the guides \(in `KIT/([^`]+)`\)")
+
+
+def printed(*words):
+    """What a command of the toolchain prints."""
+    return subprocess.run(["rt", *words], stdout=subprocess.PIPE, encoding="utf-8").stdout.strip()
 
 
 def guides():
-    """The folder of the toolchain's guides and published sources, or None if no toolchain is on the path."""
-    command = shutil.which("rt")
-    folder = Path(command).resolve().parents[1] / "rattle" if command else None
+    """The folder of the toolchain's guides and published sources, which its first page names, or None if no toolchain is
+    on the path."""
+    page = Path(printed("doc")) if shutil.which("rt") else None
+    named = GUIDES.search(page.read_text(encoding="utf-8")) if page and page.is_file() else None
+    folder = page.parent.joinpath(named[1]) if named else None
     return folder if folder and folder.is_dir() else None
 
 
@@ -28,7 +37,7 @@ class Toolchain(Specs):
 
     def version(self):
         """The name of the toolchain's version, such as `rattle-kit-13b`."""
-        return subprocess.run(["rt", "version"], stdout=subprocess.PIPE, encoding="utf-8").stdout.split()[0]
+        return printed("version").split()[0]
 
     def lines_of(self, crate, module):
         path = self.folder / crate / "specs" / f"{module.replace('.', '/')}.antt"
