@@ -1,12 +1,13 @@
-# Copies the crates that the program needs to a folder where `rt all check` proves several at a time, and builds it by
-# `rt run` there. Both take over what their earlier runs proved. The script `arbiter` reads this file where the program
-# is not built.
+# Takes the program that `rt run` or `rt ci` proved in this checkout, if no source was changed since. Otherwise it copies
+# the crates that the program needs to a folder where `rt all check` proves several at a time, and builds it by `rt run`
+# there. Both take over what their earlier runs proved. The script `arbiter` reads this file where the program is not built.
 
 # The copies are outside the checkout: there `rt ci` refuses sources that are not in crates/.
 copies=~/.cache
 [[ ${XDG_CACHE_HOME-} != /* ]] || copies=$XDG_CACHE_HOME
 copies+=/chess_arbiter/${top##*/}-$(sha256sum <<<"$top" | head -c 16)
 log=$copies/log
+no_copy="the sources can't be copied to $copies"
 
 say() { echo "arbiter: $*" >&2; }
 fail() { say "$*: the program was not built"; exit 1; }
@@ -20,15 +21,28 @@ choose() {
     for it in ${line#*:}; do choose "$it" || return; done
 }
 
-# Copies src, specs and proofs of the crates that the program needs anew, after listing them. What rt keeps beside the
-# copies stays as long as the crate is needed.
-copy() {
-    local it
-    : >"$copies/crates.txt" && choose arbiter && [ -s "$copies/crates.txt" ] && cp -p "$top/HANDLES" "$copies" || return
+# Lists the crates that the program needs, their folders, and the sources as they are.
+list() {
+    : >"$copies/crates.txt" && choose arbiter && [ -s "$copies/crates.txt" ] || return
     sed 's,[: ].*,,; s,.*,crates/&/src\ncrates/&/specs\ncrates/&/proofs,' "$copies/crates.txt" >"$out/folders" || return
-    for it in "$copies"/crates/*; do grep -q "^${it##*/}[: ]" "$copies/crates.txt" || rm -rf "$it"; done
     # A source that is edited from here on will differ from this list, so the next start builds again.
     before=$(sources)
+}
+
+# Whether a program was proved in this checkout, and no source, and no folder of sources, was changed since.
+is_proved() {
+    local folders
+    mapfile -t folders <"$out/folders"
+    [ -x "$proved" ] && [ -s "$proved" ] && cd "$top" &&
+        [ -z "$(find -L crates.txt HANDLES "${folders[@]}" -newercm "$proved" -print -quit 2>/dev/null)" ]
+}
+
+# Copies src, specs and proofs of the crates that the program needs anew. What rt keeps beside the copies stays as long as
+# the crate is needed.
+copy() {
+    local it
+    cp -p "$top/HANDLES" "$copies" || return
+    for it in "$copies"/crates/*; do grep -q "^${it##*/}[: ]" "$copies/crates.txt" || rm -rf "$it"; done
     for it in "$copies"/crates/*; do
         rm -rf "$it"/[sp]* && cp -pR "$top/crates/${it##*/}"/[sp]* "$it" || return
     done
@@ -79,9 +93,20 @@ fail_by() {
     esac
 }
 
+# Proves and builds the program in the copies.
+build_in_copies() {
+    copy 2>"$log" || fail_by "$no_copy" 0
+    say "proving and building the program (README says how long the first build takes); the log is $log"
+    prove 2>&1 9<&- | tee "$log" | grep -a --line-buffered -e '^== ' -e '^rt: .*waiting' |
+        follow "$(grep -c '' "$copies/crates.txt")"
+    set -- "${PIPESTATUS[@]:0:2}"
+    proved=$copies/crates/arbiter/out/arbiter
+    [ "$1" -eq 0 ] && [ -x "$proved" ] || fail_by "$@"
+}
+
 # Builds once nothing else does. The lock is on the folder of this file, since git replaces files.
 build() {
-    local before kills
+    local before kills proved=$top/crates/arbiter/out/arbiter
     trap '' PIPE TTOU
     for it in rt flock find sort grep sed; do command -v "$it" >/dev/null || fail "$it is not on the path"; done
     find "$top/crates.txt" -printf '' 2>/dev/null || fail "find is not GNU find"
@@ -90,15 +115,11 @@ build() {
     ! is_built || return 0
     mkdir -p "$out" "$copies" && : >"$log" || fail "$out or $copies can't be written"
     kills=$(grep -s '^oom_kill ' /proc/vmstat)
-    copy 2>"$log" || fail_by "the sources can't be copied to $copies" 0
-    say "proving and building the program (README says how long the first build takes); the log is $log"
-    prove 2>&1 9<&- | tee "$log" | grep -a --line-buffered -e '^== ' -e '^rt: .*waiting' |
-        follow "$(grep -c '' "$copies/crates.txt")"
-    set -- "${PIPESTATUS[@]:0:2}" "$copies/crates/arbiter/out/arbiter"
-    [ "$1" -eq 0 ] && [ -x "$3" ] || fail_by "$@"
+    list 2>"$log" || fail_by "$no_copy" 0
+    is_proved || build_in_copies
     # Until now the former program has the former list. A part of a list, from a full disk, differs from the sources.
     # The program gets the time when its sources were listed: what was edited since is newer, as tools/check asks.
-    rm -f "$out/sources" && cp --remove-destination "$3" "$out" && touch -r "$out/folders" "$out/arbiter" &&
+    rm -f "$out/sources" && cp --remove-destination "$proved" "$out" && touch -r "$out/folders" "$out/arbiter" &&
         printf '%s\n' "$before" >"$out/sources" || fail "$out can't be written"
 }
 
