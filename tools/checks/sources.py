@@ -499,8 +499,13 @@ def reading_order(text):
     return [f"crates/{crate}/specs/{file}.antt" for crate, files in lists for file in re.split(r",\s+", files)]
 
 
+def beneath(crate, own):
+    """All crates below one, by the crates that each uses."""
+    return own[crate].union(*(beneath(used, own) for used in own[crate]))
+
+
 def direct_uses():
-    """The crates of this repository that each crate uses directly, by crates.txt: not those that another of them uses."""
+    """The crates of this repository that each crate uses directly, by crates.txt: not those below another one of them."""
     uses = used_crates()
     own = {crate: {used for used in all_used if used in uses} for crate, all_used in uses.items()}
-    return {crate: {u for u in used if not any(u in own[other] for other in used)} for crate, used in own.items()}
+    return {crate: used - set().union(*(beneath(it, own) for it in used)) for crate, used in own.items()}
