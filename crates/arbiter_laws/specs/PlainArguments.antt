@@ -49,7 +49,7 @@ arguments_of (verify options) = codes "verify" ∷ flat_map written options
 arguments_of (stub replies) = codes "stub" ∷ replies
 arguments_of (match options) = codes "match" ∷ flat_map written options
 
--- what it says; no arguments say what `session` does
+-- what it says; an empty command line says the same as `session`
 abbrev pub said_in : CommandLine → Said
 said_in empty = record { command = codes "session"; value = λ name. None; replies = [] }
 said_in session = record { command = codes "session"; value = λ name. None; replies = [] }

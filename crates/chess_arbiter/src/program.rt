@@ -223,7 +223,8 @@ fn matched<P: Processes + Clock, W: Output, E: Output>(
 /// - `verify`: the games of the input, one line for each up to the first fault. With `--keep-going` an input of any
 ///   length, cut into pieces: one begins at the first byte, at a tag line after a line of moves, and at a second Event
 ///   tag line. A fault ends only its piece, and totals follow at the end. `--quiet` leaves out games without a fault;
-///   with `--strict` a result that contradicts the tag Result or the final position is a fault too.
+///   with `--strict` a result that contradicts the tag Result or the final position is a fault too; with `--explain` a
+///   second line explains each fault.
 /// - `match` with `--white`, `--black` and perhaps `--games`, `--level`, `--fen`, `--variant`, `--date` and `--log`:
 ///   games between two engines that are started as processes, the text of each game, and then the score. The
 ///   input is left untouched.
@@ -236,9 +237,10 @@ fn matched<P: Processes + Clock, W: Output, E: Output>(
 /// other arguments.
 ///
 /// The contract says what was read and written, and the status. After a match with status 0 the error output has just
-/// the logs of its games if `--log` was given, up to a failed write, and otherwise nothing. Only tests show which
-/// programs a match ran, and what else is written to the error output: `arbiter: FAULT`, after the logs if there are
-/// any; what `clap` says of invalid arguments; and nothing if a game verified has a fault.
+/// the logs of its games if `--log` was given, up to a failed write, and otherwise nothing. Only tests show that a
+/// match starts its programs, that games and logs are theirs, and what else is written to the error output:
+/// `arbiter: FAULT`, after the logs if there are any; what `clap` says of invalid arguments; and nothing if a game
+/// verified has a fault.
 pub fn run_program<'a, P: Processes + Clock, R: Input, W: Output, E: Output>(
     rt: &P,
     alloc: Global,

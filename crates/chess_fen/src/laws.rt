@@ -49,8 +49,8 @@ pub fn a_rank_has_one_text()
 {}
 
 /// A law: the contract says it, and the function does nothing. Small texts worked out: what a text of six fields is
-/// read as; a rank's text; and how letters name rights of Chess960, where White's king is on c1 and White's rooks are on
-/// b1, f1 and h1.
+/// read as; a rank's text; and how letters name rights of Chess960, where White's king is on c1 and White's rooks are
+/// on b1, f1 and h1.
 pub fn fens_are_worked_out()
     // The third field names no right, and no right wrongly.
     ensures fields { (fields_of (codes "4k3/8/8/8/8/8/4P3/4K3 b - - 5 39")

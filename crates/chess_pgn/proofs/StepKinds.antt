@@ -37,7 +37,7 @@ pub data StepIs (g : SoFar) (left total : ℕ) : Step → Type 0 where
       → StepIs g left total (fails g kind offset)
   finishes : (o : Outcome) (len : ℕ) → 0 < len → len ≤ left → StepIs g left total (ends g o (total - left + len))
 
--- an outcome mark has bytes
+-- a termination marker has bytes
 pub outcome_mark_has_bytes : (word : List ℕ) (o : Outcome) → End o ≡ word_kind word → 0 < length word
 outcome_mark_has_bytes [] o h = cc
 outcome_mark_has_bytes (c ∷ word) o h = search rules

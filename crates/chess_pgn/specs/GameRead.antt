@@ -35,14 +35,14 @@ use Rattle.chess_pgn.specs.Words.{outcome_of, is_marks}
 
 -- what is read of a game's text. `state`: the game as far as it was read. After a fault that is the moves before it,
 -- and after a bad FEN the start by the FENs before it; where there is no game it is the initial position. `answer`:
--- `Ok (Some end)` with the outcome of the game's outcome mark, what its last tag Termination names, and the offset
--- after the mark; `Ok None` if the text has no more games; `Err` with the first fault
+-- `Ok (Some end)` with the outcome of the game's termination marker, what its last tag Termination names, and the
+-- offset after the marker; `Ok None` if the text has no more games; `Err` with the first fault
 pub record GameRead : Type 0 where
   pub state : State
   pub answer : Result (Option PgnEnd) PgnFault
 
--- what a game's outcome mark declares: its outcome, without a comment; but nothing if the mark is `*`, or if the board
--- has a verdict (`is_decided`), since that gives the game's outcome, whatever the mark is
+-- what a game's termination marker declares: its outcome, without a comment; but nothing if the marker is `*`, or if
+-- the board has a verdict (`is_decided`), since that gives the game's outcome, whatever the marker is
 abbrev pub declared_after : Bool → Outcome → Option Declared
 declared_after is_decided o =
     if is_decided || same_outcome o Unfinished then None else Some (record { outcome = o; comment = [] })
@@ -104,8 +104,8 @@ after_row total termination s left (Ends o len) later = record {
 after_row total termination s left (Fails kind place) later = failed s (record { kind = kind; offset = total - place })
 
 -- what is read of the tokens after the tags, in a text of `total` bytes, from the game `s` of at most `limit`
--- half-moves on; `termination` is what the tag Termination names. If the tokens end without an outcome mark, that is a
--- fault at the text's end
+-- half-moves on; `termination` is what the tag Termination names. If the tokens end without a termination marker, that
+-- is a fault at the text's end
 abbrev pub moves_read : ℕ → ℕ → Option Termination → State → List (ℕ × Token) → GameRead
 moves_read limit total termination s [] = failed s (record { kind = NoResult; offset = total })
 moves_read limit total termination s (t ∷ ts) =
@@ -163,8 +163,8 @@ read_of_split limit total tokens =
     else option_map_or (failed s) (slice_get (filter_map result_err fens) 0)
     (read_after_tags limit total s tags (drop (length tags) tokens))
 
--- what is read of a text from the offset `at` on: the game up to its outcome mark and where it ended, or `None` if no
--- game is left, or the first fault. `limit` is the most half-moves of a game
+-- what is read of a text from the offset `at` on: the game up to its termination marker and where it ended, or `None`
+-- if no game is left, or the first fault. `limit` is the most half-moves of a game
 unfoldable pub pgn_read : ℕ → List ℕ → ℕ → GameRead
 pgn_read limit text at = read_of_split limit (length text) (tokens_from text (after_byte_order_mark text at))
 

@@ -1,7 +1,8 @@
 -- How a game's text is split into tokens (PGN standard of 1994, sections 5 to 8.2): from left to right, each token the
 -- longest at its place, up to the text's end or to the first place where no token can be read. There is only one such
--- split (the law `a_text_has_one_split`). This project's own: the bytes of a word; that a `%` line is skipped also in a
--- tag and in a variation; that a string may have tabs and more than 255 bytes.
+-- split (the law `a_text_has_one_split`). This project's own: the bytes of a word; that `$` may have no digits; that a
+-- `%` line is skipped also in a tag and in a variation; that a string may have tabs and more than 255 bytes, and a
+-- backslash in it may keep any byte.
 use Rattle.std.specs.Prelude.{◌≡◌, ℕ, ◌+◌, ◌-◌, ◌<◌, ◌≤◌, Bool, true, false, not, ◌&&◌, ◌||◌, List, [], ◌∷◌, ◌++◌, length, drop, codes, ◌==◌}
 use Rattle.std.specs.List.{list_all, list_any}
 use Rattle.chess_base.specs.Letters.{is_digit, byte, new_line}
@@ -38,7 +39,7 @@ pub data IsInside : Bool → List ℕ → Type 0 where
   other : {b : Bool} {c : ℕ} {more : List ℕ} → skips_line b c ≡ false → list_any (λ k. c == k) (codes "{()") ≡ false
       → IsInside (c == new_line) more → IsInside b (c ∷ more)
 
--- ---- tags (section 8.1.1), as `[Event "a"]`: an opening (`[Event "`), the string (`a`), and a closing (`"]`)
+-- ---- tags (section 8.1), as `[Event "a"]`: an opening (`[Event "`), the string (`a`), and a closing (`"]`)
 
 -- white space and `%` lines; `b`: its first byte is its line's first
 pub data IsGap : Bool → List ℕ → Type 0 where

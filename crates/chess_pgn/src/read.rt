@@ -1,5 +1,6 @@
-//! Reads a game's tags, moves and outcome mark. The outcome mark is the token `1-0`, `0-1`, `1/2-1/2` or `*` that ends
-//! a game's text; "termination" means only the tag of this name, but in the text of `BadToken` it means this mark.
+//! Reads a game's tags, moves and termination marker: the token `1-0`, `0-1`, `1/2-1/2` or `*` that ends a game's text
+//! (PGN standard of 1994, section 8.2.6). "Termination" alone means the tag of this name, but in the text of `BadToken`
+//! it means the marker.
 //! Small functions that the loops over tokens call for most tokens are inlined, for the reason at the head of token.rt.
 //!
 //! Contracts here compare results with the definitions of TokenByToken, such as `word_step`. `so_far` and `step_seen`
@@ -31,16 +32,16 @@ use chess_game::{Comment, Game, Outcome, PlayRefusal};
 use chess_moves::Board;
 use chess_text::{Reading, read_move};
 
-/// How a game's text ended, and where. It ends with its outcome mark, the token `1-0`, `0-1`, `1/2-1/2` or `*`.
+/// How a game's text ended, and where. It ends with its termination marker, the token `1-0`, `0-1`, `1/2-1/2` or `*`.
 #[derive(Clone, Copy, Debug, PartialEq, Eq)]
 pub struct PgnEnd {
-    /// The outcome that the outcome mark names. The game's own outcome may differ from it: if the board has a verdict,
-    /// such as mate, the game has the verdict's outcome.
+    /// The outcome that the termination marker names. The game's own outcome may differ from it: if the board has a
+    /// verdict, such as mate, the game has the verdict's outcome.
     pub outcome: Outcome,
     /// How the game ended, as its last tag `Termination` says; `None` if it has no such tag, or if the last one has an
     /// unknown text. It is not compared with the outcome.
     pub termination: Option<Termination>,
-    /// The offset of the byte after the outcome mark, counted from the text's first byte.
+    /// The offset of the byte after the termination marker, counted from the text's first byte.
     pub offset: usize,
 }
 
@@ -53,7 +54,7 @@ pub enum PgnFaultKind {
     /// A FEN that denotes no sound position, and why; the offset is that of the FEN's first byte.
     #[error("the FEN denotes no position: {0}")]
     BadFen(FenFault),
-    /// A byte that begins no token, or a word that is no number, marks or outcome mark and hasn't a move's form.
+    /// A byte that begins no token, or a word that is no number, marks or termination marker and hasn't a move's form.
     #[error("this is no token, move, number or termination")]
     BadToken,
     /// A word that has a move's form, but denotes no legal move.
@@ -74,8 +75,8 @@ pub enum PgnFaultKind {
     /// A variation without its `)`; the offset is that of the `(` of the outermost variation.
     #[error("the variation is not closed")]
     UnclosedVariation,
-    /// No outcome mark before the next game's tags, which begin with a `[` after a number or move, or before the text's
-    /// end. The offset is that of this `[`, or the text's length.
+    /// No termination marker before the next game's tags, which begin with a `[` after a number or move, or before the
+    /// text's end. The offset is that of this `[`, or the text's length.
     #[error("the game has no result")]
     NoResult,
 }
@@ -93,7 +94,7 @@ pub struct PgnFault {
 enum Step {
     // Reading continues; the value is what is known after the token.
     On(Progress),
-    // The token was the outcome mark, which ends the game's text.
+    // The token was the termination marker, which ends the game's text.
     Ended(PgnEnd),
 }
 
@@ -147,9 +148,9 @@ fn fault_of_move<B: Board>(game: &Game<B>, offset: usize, word: &[u8]) -> PgnFau
     PgnFault { kind, offset }
 }
 
-// Declares `outcome`, which the game's outcome mark names, as the game's result, without a comment. Nothing is declared
-// for `*`, or if the board has ended the game, as by mate: then the game has the board's outcome, even if the mark
-// names another (see `PgnEnd`).
+// Declares `outcome`, which the game's termination marker names, as the game's result, without a comment. Nothing is
+// declared for `*`, or if the board has ended the game, as by mate: then the game has the board's outcome, even if the
+// marker names another (see `PgnEnd`).
 fn declare_outcome<B: Board>(game: &mut Game<B>, outcome: Outcome)
     requires { game.old.state.declared ≡ None }
     ensures { game.new
@@ -161,10 +162,10 @@ fn declare_outcome<B: Board>(game: &mut Game<B>, outcome: Outcome)
     }
 }
 
-// Applies the word at `offset` to the game. An outcome mark such as `1-0` ends the game (`declare_outcome`). Reading
-// continues after marks, and would after a number, but `play_words` has passed over those. A word that may be a move is
-// a fault, since it is no move that can be played (`left`): `play_words` has played those. `progress` is what is known
-// before the word.
+// Applies the word at `offset` to the game. A termination marker such as `1-0` ends the game (`declare_outcome`).
+// Reading continues after marks, and would after a number, but `play_words` has passed over those. A word that may be a
+// move is a fault, since it is no move that can be played (`left`): `play_words` has played those. `progress` is what
+// is known before the word.
 //
 // `ended`: the offset returned with an end is after the word's first byte, and at most after its last.
 #[tactic(auto, using(crate::proofs::StepKinds::outcome_mark_has_bytes))]
@@ -231,9 +232,10 @@ fn apply_tag<B: Board>(
 }
 
 // Applies the token at `offset` of a text of `len` bytes to the game. Returns what is then known, if reading continues;
-// how the game's text ended, if the token is its outcome mark; or a fault. A tag after a number or a move is a fault:
-// it begins the next game, so this game has no outcome mark. The token is no move that can be played (`left`):
-// `play_words` has played those, and `read_normal_tags` gives none. `progress` is what is known before the token.
+// how the game's text ended, if the token is its termination marker; or a fault. A tag after a number or a move is a
+// fault: it begins the next game, so this game has no termination marker. The token is no move that can be played
+// (`left`): `play_words` has played those, and `read_normal_tags` gives none. `progress` is what is known before the
+// token.
 //
 // `within`: the token's word or string is in the text from `offset` on. `ended`: the offset returned with an end is
 // after `offset`, and in the text.
@@ -267,8 +269,8 @@ fn apply_token<B: Board>(
 
 // The fault to report where `next_token` can read no token at `offset` of a text of `len` bytes. `fault` is the reason
 // that it returned, and `progress` is what was known before. A bad tag after a number or a move belongs to the next
-// game, so it is reported as `NoResult`: this game has no outcome mark. An unclosed comment is reported at its `{`,
-// which may be inside a variation that begins at `offset`; `to_end` bytes are left there.
+// game, so it is reported as `NoResult`: this game has no termination marker. An unclosed comment is reported at its
+// `{`, which may be inside a variation that begins at `offset`; `to_end` bytes are left there.
 fn reported_fault(fault: TokenFault, progress: Progress, len: usize, offset: usize) -> PgnFault
     requires within { IsWithin (len - offset) (fault_seen fault) }
     requires offset { offset ≤ len }
@@ -326,7 +328,7 @@ fn variant_of(tag: Option<Tag<'_>>) -> Variant
 }
 
 // The variant of the game whose text begins at the offset `at`, as its last tag `Variant` names it; normal chess if it
-// has no such tag. The game's tags end before its first number, move, outcome mark or fault.
+// has no such tag. The game's tags end before its first number, move, termination marker or fault.
 fn tagged_variant(text: &[u8], at: usize) -> Variant
     requires { at ≤ length text.now }
     ensures { result ≡ tagged_variant (tag_section (tokens_from text.now at)) }
@@ -336,11 +338,11 @@ fn tagged_variant(text: &[u8], at: usize) -> Variant
 
 // Sets the game to the initial position of normal chess and reads the tags from the offset `at` on in one pass. Without
 // it the tags of each game would be read twice: first for the variant (`tagged_variant`), then by `read_pgn`. Returns
-// what is known after the tags, and the offset after them: that of the first number or outcome mark, or of any other
-// word but marks, be it a legal move or not; or that of the text's end. Reading on from there gives the same as reading
-// from `at` (`IsReadOn`). Returns `None` if a tag names Chess960, if a FEN is bad, or if a token before that word can't
-// be read: `begin_game` then restarts the game. The loop is not that of `read_pgn`: it stops before the first number or
-// move, and leaves tags with a fault to be read anew, where that one reports the fault.
+// what is known after the tags, and the offset after them: that of the first number or termination marker, or of any
+// other word but marks, be it a legal move or not; or that of the text's end. Reading on from there gives the same as
+// reading from `at` (`IsReadOn`). Returns `None` if a tag names Chess960, if a FEN is bad, or if a token before that
+// word can't be read: `begin_game` then restarts the game. The loop is not that of `read_pgn`: it stops before the
+// first number or move, and leaves tags with a fault to be read anew, where that one reports the fault.
 fn read_normal_tags<B: Board>(
     text: &[u8],
     at: usize,
@@ -370,7 +372,7 @@ fn read_normal_tags<B: Board>(
         }
         match apply_token(game, progress, text.len(), offset, &token) {
             Ok(Step::On(further)) => progress = further,
-            // Never reached: only an outcome mark ends a game, and before one the function has returned above.
+            // Never reached: only a termination marker ends a game, and before one the function has returned above.
             Ok(Step::Ended(_)) => return None,
             Err(_) => return None,
         }
@@ -398,14 +400,14 @@ fn begin_game<B: Board>(text: &[u8], at: usize, game: &mut Game<B>) -> (Progress
     (Progress::none(), at)
 }
 
-/// Reads the first game of a text from the offset `at` on, up to its outcome mark such as `1-0` (PGN standard of 1994;
-/// this project decides which words are accepted). `game` begins anew, from the position of the last tag `FEN` or from
-/// the initial position, in the variant that the last tag `Variant` names. The moves are played as they are read. The
-/// outcome that the mark names is declared, unless it is `*` or the board has ended the game, as by mate.
+/// Reads the first game of a text from the offset `at` on, up to its termination marker such as `1-0` (PGN standard of
+/// 1994; this project decides which words are accepted). `game` begins anew, from the position of the last tag `FEN` or
+/// from the initial position, in the variant that the last tag `Variant` names. The moves are played as they are read.
+/// The outcome that the marker names is declared, unless it is `*` or the board has ended the game, as by mate.
 ///
-/// Returns this outcome, what the last tag `Termination` says, and the offset after the mark, from which the next game
-/// is read. Returns `None` if there is no tag, number, move or outcome mark up to the text's end; `game` is then at the
-/// initial position.
+/// Returns this outcome, what the last tag `Termination` says, and the offset after the marker, from which the next
+/// game is read. Returns `None` if there is no tag, number, move or termination marker up to the text's end; `game` is
+/// then at the initial position.
 ///
 /// `said` states the same as `answer` and `game`, by a split of the text into tokens (`IsRead`). `further`: the offset
 /// returned is after `at`, so reading game after game ends.

@@ -106,9 +106,9 @@ fn try_word<B: Board>(game: &mut Game<B>, word: &[u8]) -> bool
 }
 
 // Plays the moves from the offset `at` on. Passes over numbers, and over the white space, dots and closed comments that
-// follow a number or move. Stops at whatever else comes, such as an outcome mark, a variation or an illegal move, and
-// returns its offset. Of `1. e4 {best} e5 1-0` from 0 on it plays two moves and returns the offset of `1-0`. `progress`
-// notes that a number or move was read.
+// follow a number or move. Stops at whatever else comes, such as a termination marker, a variation or an illegal move,
+// and returns its offset. Of `1. e4 {best} e5 1-0` from 0 on it plays two moves and returns the offset of `1-0`.
+// `progress` notes that a number or move was read.
 //
 // No `Token` and no `Step` is made of these words: to pass those through memory took a seventh of the instructions on
 // plain games.

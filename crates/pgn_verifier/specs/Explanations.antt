@@ -32,7 +32,8 @@ shown text = shown_word (take_while (λ c. not (is_white_space c)) (take 40 text
 -- the part that is wrong: how many bytes after the fault's byte it begins, and what an explanation shows of it. `text`
 -- is the text from the fault's byte on
 abbrev pub wrong_part : FaultKind → List ℕ → ℕ × List ℕ
--- of a bad FEN, which goes up to the next quote, it is the field that is shown for its fault, at most 80 bytes of it
+-- of a bad FEN it is the field that is shown for its fault, at most 80 bytes of it; only what comes before the next
+-- quote is looked at, even where a backslash before the quote keeps it in the FEN
 wrong_part (Pgn (BadFen fault)) text =
     let all = take_while (λ c. not (c == byte "\"")) text in let number = field_number fault all in
     (length all - length (from_field number all), shown_word (take 80 (field_at number all)))
@@ -51,7 +52,7 @@ IsReason (Pgn BadToken) text verdict reason = reason ≡ Some (token_reason text
 -- a move after the end: the verdict that ended the game
 IsReason (Pgn AfterEnd) text verdict reason = reason ≡ option_map (λ v. result_text (verdict_result v)) verdict
 -- `result differs`: the first word of the tag Result, which has `tag_len` bytes between its quotes, and the outcome of
--- the game's outcome mark, as in `Result 1-0, ended 0-1`
+-- the game's termination marker, as in `Result 1-0, ended 0-1`
 IsReason (ResultDiffers tag_len outcome) text verdict reason =
     reason ≡ Some (codes "Result " ++ (shown (take tag_len text) ++ (codes ", ended " ++ outcome_text outcome)))
 -- `board says otherwise`: the board's verdict

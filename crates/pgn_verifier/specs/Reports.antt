@@ -25,8 +25,8 @@ use Rattle.pgn_verifier.specs.declared.tally.Verified.TheVariants.{EachGame, Fau
 
 -- a report on a game, or on a piece that is too long
 pub data Report : Type 0 where
-  -- a game without a fault: how many half-moves it has, the outcome of its outcome mark, such as `1-0`, and what its
-  -- last tag Termination names; `None` if there is no such tag, or if it has none of the standard's values
+  -- a game without a fault: how many half-moves it has, the outcome of its termination marker, such as `1-0`, and what
+  -- its last tag Termination names; `None` if there is no such tag, or if it has none of the standard's values
   Game : (plies : ℕ) (outcome : Outcome) (termination : Option Termination) → Report
   -- a fault, with its offset from the input's first byte; the offset there of the part that is wrong; and the text that
   -- explains the fault
@@ -36,11 +36,11 @@ pub data Report : Type 0 where
 
 -- these are the reports on the games of `text` from its offset `at` on, up to and including the first game with a
 -- fault; the last two arguments are `at` and the reports. The text begins at the offset `start` of the input. `strict`:
--- an outcome mark that contradicts the tag Result or the board's verdict is a fault
+-- a termination marker that contradicts the tag Result or the board's verdict is a fault
 pub data AreReports (strict : Bool) (start : ℕ) (text : List ℕ) : ℕ → List Report → Type 0 where
   -- no game comes from `at` on
   none_left : {at : ℕ} {s : State} → IsJudged strict text at s (Ok None) → AreReports strict start text at []
-  -- the next game has no fault, and the other reports are on the games after its outcome mark
+  -- the next game has no fault, and the other reports are on the games after its termination marker
   next_game : {at : ℕ} {s : State} {end : PgnEnd} {reports : List Report} → IsJudged strict text at s (Ok (Some end))
       → AreReports strict start text end.offset reports
       → AreReports strict start text at (Game (length s.moves) end.outcome end.termination ∷ reports)

@@ -1,5 +1,5 @@
 -- Which part of a game's text a fault is about, and what is wrong there (PGN standard of 1994): the field of a FEN
--- (section 16.1.3), what a tag lacks (8.1.1), and what begins no token or is no move (7 and 8.2).
+-- (section 16.1.3), what a tag lacks (8.1), and what begins no token or is no move (7 and 8.2).
 use Rattle.std.specs.Prelude.{◌≡◌, ℕ, zero, suc, ◌==◌, Bool, true, false, not, List, ◌∷◌, ◌++◌, take, take_while, drop, Option, Some, codes, is_some, if◌then◌else◌}
 use Rattle.std.specs.List.{prefix_len, list_any}
 use Rattle.chess_base.specs.Letters.{byte, space}

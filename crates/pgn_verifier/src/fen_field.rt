@@ -91,7 +91,8 @@ fn field_number(fault: FenFault, fen: &[u8]) -> usize
     }
 }
 
-/// The FEN at a text's front: its bytes before the first quote.
+/// What is looked at of the FEN at a text's front: the bytes before the first quote, even where a backslash before the
+/// quote keeps it in the FEN.
 pub(crate) fn fen_text(text: &[u8]) -> &[u8]
     ensures value { result.now ≡ take_while (λ c. not (c == byte "\"")) text.now }
     ensures shorter { length result.now ≤ length text.now }

@@ -13,9 +13,9 @@ use chess_pgn::{PgnFault, PgnFaultKind};
 pub(crate) enum FaultKind {
     /// Its text can't be read or played.
     Pgn(PgnFaultKind),
-    /// Its tag `Result`, whose text has `tag_len` bytes, differs from its termination, which names `outcome`.
+    /// Its tag `Result`, whose text has `tag_len` bytes, differs from its termination marker, which names `outcome`.
     ResultDiffers { tag_len: usize, outcome: Outcome },
-    /// The board has a verdict with another outcome than its termination.
+    /// The board has a verdict with another outcome than its termination marker.
     BoardSaysOtherwise,
 }
 

@@ -5,8 +5,8 @@
 pub struct VerifyOptions {
     /// Leaves out the lines of games without a fault.
     pub quiet: bool,
-    /// Treats a contradiction about the result as a fault: a tag `Result` with another text than the termination, or a
-    /// verdict of the board with another outcome.
+    /// Treats a contradiction about the result as a fault: a tag `Result` with another text than the termination
+    /// marker, or a verdict of the board with another outcome.
     pub strict: bool,
     /// Adds after each fault a line that explains it: the fault's line and column, the text there, the position and
     /// the reason.

@@ -437,8 +437,8 @@ fn failed_reads_leave_the_explanations_that_are_known(rt: HostRuntime) {
 const SOUND: &[u8] =
     b"[Site \"s\"]\n[Event \"a\"]\n1. e4 {x} *\n\n% x\n[Event \"b\"]\n; y\n\n[Round \"1\"]\n1. d4 d5 (1... e5) 1-0\n\n1. c4 *\n";
 
-// A text without a fault, in which no game has two Event tags and no comment or variation a tag line, has the same games
-// as a whole and piece by piece.
+// A text without a fault, in which no game has two Event tags and no comment or variation a tag line, has the same
+// games as a whole and piece by piece.
 #[test]
 fn texts_without_a_fault_have_the_same_games(rt: HostRuntime) {
     check_cuts(

@@ -21,7 +21,8 @@ use Rattle.chess_pgn.specs.Split.{IsSplit}
 use Rattle.chess_pgn.specs.GameRead.{GameRead, declared_after, failed}
 use Rattle.chess_pgn.specs.GameRead.{IsRead}
 
--- what is read if the game `s` was read and then the mark of this outcome. `offset` is that of the byte after the mark
+-- what is read if the game `s` was read and then the termination marker of this outcome. `offset` is that of the byte
+-- after the marker
 abbrev pub finished : State → Outcome → Option Termination → ℕ → GameRead
 finished s o termination offset = record {
   state = record s { declared = declared_after (is_some (verdict_now s)) o };

@@ -44,8 +44,8 @@ fails g kind offset = Stop (record { state = g.state; answer = Err (record { kin
 
 -- ---- words
 
--- stops at the outcome mark `o`: the game is `g` with that outcome declared, and `offset` is that of the byte after
--- the mark
+-- stops at the termination marker `o`: the game is `g` with that outcome declared, and `offset` is that of the byte
+-- after the marker
 abbrev pub ends : SoFar → Outcome → ℕ → Step
 ends g o offset = Stop (record {
   state = record g.state { declared = declared_after (is_some (verdict_now g.state)) o };
@@ -110,8 +110,8 @@ step limit total g to_end (Unclosed_comment brace) = fails g UnclosedComment (to
 step limit total g to_end Unclosed_variation = fails g UnclosedVariation (total - to_end)
 step limit total g to_end Bad = fails g BadToken (total - to_end)
 
--- what was read if the text ends here, before an outcome mark: no game (`None`), or the fault NoResult at the end if a
--- tag, number or move was met. `g` is the game so far, `total` the text's length
+-- what was read if the text ends here, before a termination marker: no game (`None`), or the fault NoResult at the end
+-- if a tag, number or move was met. `g` is the game so far, `total` the text's length
 abbrev pub at_text_end : ℕ → SoFar → GameRead
 at_text_end total g =
     record { state = g.state; answer = if g.is_met then Err (record { kind = NoResult; offset = total }) else Ok None }

@@ -149,8 +149,8 @@ pub record GrowsBy (len : ℕ) (before after : Tally) : Type 0 where
   pub reports : after.games + after.faults ≤ before.games + before.faults + len + 1
   pub half_moves : after.half_moves ≤ before.half_moves + len
 
--- the fault of a game whose outcome mark (`end`) contradicts its last tag Result (`tag`) or the board's verdict, as in
--- `judged`; `None` without a contradiction, or if `strict` is false
+-- the fault of a game whose termination marker (`end`) contradicts its last tag Result (`tag`) or the board's verdict,
+-- as in `judged`; `None` without a contradiction, or if `strict` is false
 abbrev pub contradiction : Bool → Option ResultTag → Option Verdict → PgnEnd → Option GameFault
 contradiction strict tag verdict end =
     if strict then option_or (result_differs tag end) (board_says_otherwise verdict end) else None
