@@ -1,6 +1,7 @@
-# Takes the program that `rt run` or `rt ci` proved in this checkout, if no source was changed since. Otherwise it copies
-# the crates that the program needs to a folder where `rt all check` proves several at a time, and builds it by `rt run`
-# there. Both take over what their earlier runs proved. The script `arbiter` reads this file where the program is not built.
+# Takes the program that `rt run` or `rt ci` proved in this checkout, if no source was changed since. Otherwise it
+# copies the crates that the program needs to a folder where `rt all check` proves several at a time, and builds it by
+# `rt run` there. Both take over what their earlier runs proved. The script `arbiter` reads this file where the program
+# is not built.
 
 # The copies are outside the checkout: there `rt ci` refuses sources that are not in crates/.
 copies=~/.cache
@@ -37,8 +38,8 @@ is_proved() {
         [ -z "$(find -L crates.txt HANDLES "${folders[@]}" -newercm "$proved" -print -quit 2>/dev/null)" ]
 }
 
-# Copies src, specs and proofs of the crates that the program needs anew. What rt keeps beside the copies stays as long as
-# the crate is needed.
+# Copies src, specs and proofs of the crates that the program needs anew. What rt keeps beside the copies stays as long
+# as the crate is needed.
 copy() {
     local it
     cp -p "$top/HANDLES" "$copies" || return

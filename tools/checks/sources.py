@@ -505,7 +505,7 @@ def beneath(crate, own):
 
 
 def direct_uses():
-    """The crates of this repository that each crate uses directly, by crates.txt: not those below another one of them."""
+    """The crates of this repository that each crate uses directly, by crates.txt: not those below another of them."""
     uses = used_crates()
     own = {crate: {used for used in all_used if used in uses} for crate, all_used in uses.items()}
     return {crate: used - set().union(*(beneath(it, own) for it in used)) for crate, used in own.items()}

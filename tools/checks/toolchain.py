@@ -19,8 +19,8 @@ def printed(*words):
 
 
 def guides():
-    """The folder of the toolchain's guides and published sources, which its first page names, or None if no toolchain is
-    on the path."""
+    """The folder of the toolchain's guides and published sources, which its first page names, or None if no toolchain
+    is on the path."""
     page = Path(printed("doc")) if shutil.which("rt") else None
     named = GUIDES.search(page.read_text(encoding="utf-8")) if page and page.is_file() else None
     folder = page.parent.joinpath(named[1]) if named else None
