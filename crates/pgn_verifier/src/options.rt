@@ -8,7 +8,7 @@ pub struct VerifyOptions {
     /// Treats a contradiction about the result as a fault: a tag `Result` with another text than the termination
     /// marker, or a verdict of the board with another outcome.
     pub strict: bool,
-    /// Adds after each fault a line that explains it: the fault's line and column, the text there, the position and
-    /// the reason.
+    /// Adds after each fault a line that explains it: the fault's line and column, the text there, and for some kinds
+    /// of fault the position and the reason.
     pub explain: bool,
 }
