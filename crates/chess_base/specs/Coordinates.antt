@@ -21,9 +21,9 @@ coordinate m = square_text m.from ++ (square_text m.to ++ option_map_or small_le
 abbrev pub ParsesSquare : {E : Type 0} → List ℕ → Result ℕ E → Type 0
 ParsesSquare text r = MatchResult r (λ s. text ≡ square_text s) (λ _. (s : ℕ) → s < 64 → text ≢ square_text s)
 
--- the text is parsed as r: the move with that coordinate text, legal or not, which names no promotion or one to a queen,
--- rook, bishop or knight; or an error if no such move between two of the 64 squares has it. Not said here: that the
--- move's squares are below 64, and which error
+-- the text is parsed as r: the move with that coordinate text, legal or not, which names no promotion or one to a
+-- queen, rook, bishop or knight; or an error if no such move between two of the 64 squares has it. Not said here: that
+-- the move's squares are below 64, and which error
 abbrev pub ParsesMove : {E : Type 0} → List ℕ → Result Move E → Type 0
 ParsesMove text r = MatchResult r (λ m. (text ≡ coordinate m) × Contains promotions m.promotion)
     (λ _. (m : Move) → m.from < 64 → m.to < 64 → Contains promotions m.promotion → text ≢ coordinate m)

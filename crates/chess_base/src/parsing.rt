@@ -51,8 +51,8 @@ fn read_promotion(text: &[u8]) -> Option<Option<Kind>>
     }
 }
 
-// The move with that coordinate text, such as `e2e4` or `e7e8q`; `None` for any other text, as `e7e8k`. Whether the move
-// is legal is asked only in a position.
+// The move with that coordinate text, such as `e2e4` or `e7e8q`; `None` for any other text, as `e7e8k`. Whether the
+// move is legal is asked only in a position.
 fn read_move(text: &[u8]) -> Option<Move>
     ensures { result ≡ move_of_text text.now }
 {
