@@ -3,7 +3,7 @@ ghost use Rattle.std.specs.Prelude.{◌≡◌, OnOk};
 use chess_base::{Colour, Kind, Move, Position, Square, Variant};
 use chess_bits::{AttackTables, Bits};
 use chess_fen::{read_fen, read_fen_as};
-use chess_moves::{Board, Plain, legal_moves, make_then_take_back};
+use chess_moves::{Board, Plain, SquareSet, legal_moves, make_then_take_back};
 use perft_positions::{FISCHERANDOM, KIWIPETE, NORMAL, Perft};
 use std::fmt::Debug;
 use std::process::Abort;
@@ -223,4 +223,17 @@ fn a_set_is_looped_over(rt: HostRuntime) {
     }
     assert!(rt; numbers == ((1 * 64 + 6) * 64 + 57) * 64 + 62);
     assert!(rt; (white & black).is_empty() && white != black);
+}
+
+#[test]
+fn sets_are_debugged_by_their_squares(rt: HostRuntime) -> Result<(), Fail> {
+    let set = SquareSet::single(Square::E4) | SquareSet::single(Square::B1);
+    assert!(rt;
+        format!(in rt.alloc(); "{set:?}")?.as_str()
+            == "{Square { number: 1 }, Square { number: 28 }}"
+    );
+    let mut squares = set.into_iter();
+    let _first = squares.next();
+    assert!(rt; format!(in rt.alloc(); "{squares:?}")?.as_str() == "[Square { number: 28 }]");
+    Ok(())
 }

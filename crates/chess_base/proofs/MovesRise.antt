@@ -1,5 +1,5 @@
 -- The list of legal moves rises by start square, end square and promotion.
-use Rattle.std.proofs.Common.{◌≡◌, ℕ, zero, suc, ◌<◌, ◌++◌, List, [], ◌∷◌, map, Option, arith, refl}
+use Rattle.std.proofs.Common.{◌≡◌, ℕ, zero, suc, ◌+◌, ◌<◌, ◌++◌, List, [], ◌∷◌, map, Option, arith, refl}
 use Rattle.std.specs.Prelude.{slice_index_or, flat_map}
 use Rattle.std.specs.List.{All, AllPairs}
 use Rattle.std.proofs.lemmas.List.Concat.{flat_map-cons}
@@ -47,19 +47,29 @@ pairs-over R P g holds each before (suc n) f rises =
 
 -- ---- moves
 
-place_at : (i : ℕ) (d : Option Kind) → i < 5 → promotion_index (slice_index_or promotions i d) ≡ i
-place_at zero d h = refl
-place_at (suc zero) d h = refl
-place_at (suc (suc zero)) d h = refl
-place_at (suc (suc (suc zero))) d h = refl
-place_at (suc (suc (suc (suc zero)))) d h = refl
-place_at (suc (suc (suc (suc (suc n))))) d h = absurd (omega arith)
+-- the indices of none, queen, rook, bishop, knight
+abbrev index_at : ℕ → ℕ
+index_at zero = 0
+index_at (suc i) = 2 + i
+
+promotion_at : (i : ℕ) (d : Option Kind) → i < 5 → promotion_index (slice_index_or promotions i d) ≡ index_at i
+promotion_at zero d h = refl
+promotion_at (suc zero) d h = refl
+promotion_at (suc (suc zero)) d h = refl
+promotion_at (suc (suc (suc zero))) d h = refl
+promotion_at (suc (suc (suc (suc zero)))) d h = refl
+promotion_at (suc (suc (suc (suc (suc n))))) d h = absurd (omega arith)
+
+index_rises : (i j : ℕ) → i < j → index_at i < index_at j
+index_rises i zero l = absurd (omega arith)
+index_rises zero (suc j) l = omega arith
+index_rises (suc i) (suc j) l = omega arith
 
 promotions_rise : AllPairs (λ j k. promotion_index j < promotion_index k) promotions
 promotions_rise = λ i j d l h.
     let late : j < 5 = h in
     let early : i < 5 = omega arith in
-    rw (place_at i d early, place_at j d late) l
+    rw (promotion_at i d early, promotion_at j d late) (index_rises i j l)
 
 -- moves that differ by their promotion alone
 triples_rise : (a b : ℕ) (ks : List (Option Kind)) → AllPairs (λ j k. promotion_index j < promotion_index k) ks

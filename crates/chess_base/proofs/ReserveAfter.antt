@@ -74,10 +74,6 @@ reserve-set men s v l h =
 
 -- what a piece weighs
 
-weight-none : (s : ℕ) (o : Option Man) → is_none o ≡ true → weight s o ≡ 0
-weight-none s None e = refl
-weight-none s (Some x) e = cc
-
 weight-of : (c : Colour) (s : ℕ) (o : Option Man) → is_of c o ≡ true → 1 ≤ weight s o
 unfolding is_of
 weight-of c s None e = cc

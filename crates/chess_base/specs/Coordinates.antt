@@ -1,10 +1,12 @@
 -- The coordinate text of a move, as `e2e4` or `e7e8q`, by which it is shown and parsed.
 use Rattle.std.specs.Prelude.{◌≡◌, ◌≢◌, ℕ, ◌<◌, List, [], ◌∷◌, ◌++◌, Result, MatchResult}
+use Rattle.std.specs.List.{Contains}
 use Rattle.std.specs.Option.{option_map_or}
 use Rattle.chess_base.specs.declared.man.Colour.TheVariants.{Black}
 use Rattle.chess_base.specs.declared.man.Kind.{Kind}
 use Rattle.chess_base.specs.declared.man.Move.{Move}
 use Rattle.chess_base.specs.Letters.{letter_by, square_text}
+use Rattle.chess_base.specs.MoveList.{promotions}
 
 -- the small letter of a kind of piece, as in the promotion of e7e8q: q for a queen
 abbrev pub small_letter_text : Kind → List ℕ
@@ -19,8 +21,9 @@ coordinate m = square_text m.from ++ (square_text m.to ++ option_map_or small_le
 abbrev pub ParsesSquare : {E : Type 0} → List ℕ → Result ℕ E → Type 0
 ParsesSquare text r = MatchResult r (λ s. text ≡ square_text s) (λ _. (s : ℕ) → s < 64 → text ≢ square_text s)
 
--- the text is parsed as r: a move with that coordinate text, legal or not, or an error if no move between two of the 64
--- squares, with any promotion or none, has it. Not said here: that the move's squares are below 64, and which error
+-- the text is parsed as r: the move with that coordinate text, legal or not, which names no promotion or one to a
+-- queen, rook, bishop or knight; or an error if no such move between two of the 64 squares has it. Not said here: that
+-- the move's squares are below 64, and which error
 abbrev pub ParsesMove : {E : Type 0} → List ℕ → Result Move E → Type 0
-ParsesMove text r =
-    MatchResult r (λ m. text ≡ coordinate m) (λ _. (m : Move) → m.from < 64 → m.to < 64 → text ≢ coordinate m)
+ParsesMove text r = MatchResult r (λ m. (text ≡ coordinate m) × Contains promotions m.promotion)
+    (λ _. (m : Move) → m.from < 64 → m.to < 64 → Contains promotions m.promotion → text ≢ coordinate m)

@@ -15,7 +15,7 @@ use crate::castling::{
 use crate::man::{CastlingSide, Colour, Kind, Man, Move, Variant};
 use crate::pawns::{is_en_passant, one_rank_back};
 use crate::setup::{Saved, Setup};
-use crate::square::{Square, is_square};
+use crate::square::{Square, is_at};
 use crate::steps::Steps;
 
 // The square of the piece that the move captures: its end square, or `e5` for White's en passant capture on `e6`; none
@@ -65,7 +65,7 @@ fn captured_from(colour: Colour, m: &Move, saved: &Saved) -> Option<Square>
 {
     if saved.captured.is_none() {
         None
-    } else if is_square(saved.target, m.to) {
+    } else if is_at(saved.target, m.to) {
         Some(one_rank_back(colour, m.to))
     } else {
         Some(m.to)
@@ -185,7 +185,7 @@ fn returning_man(colour: Colour, saved: &Saved, castle: Option<Castle>) -> Optio
 /// target must be on the board. After a legal move it is.
 #[tactic(auto, unfolding(crate::specs::Before::steps_back))]
 pub fn steps_back(setup: &Setup, m: &Move, saved: &Saved) -> Steps
-    requires { IsTrue (is_at saved.now.target m.now.to) → forward (other (other setup.now.side)) m.now.to < 64 }
+    requires { IsTrue (is_at saved.now.target m.now.to) → forward setup.now.side m.now.to < 64 }
     ensures { result ≡ steps_back setup.now m.now saved.now }
 {
     let colour = setup.side.other();

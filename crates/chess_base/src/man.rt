@@ -80,7 +80,7 @@ impl fmt::Display for Kind {
 
 /// Which rules hold for castling: those of normal chess, or of Chess960, which CECP calls fischerandom (Laws of Chess
 /// 2023, guideline II).
-#[derive(Clone, Copy, Debug, PartialEq, Eq, Hash)]
+#[derive(Clone, Copy, Debug, PartialEq, Eq, PartialOrd, Ord, Hash)]
 pub enum Variant {
     Normal,
     Fischerandom,

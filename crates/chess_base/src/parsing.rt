@@ -2,7 +2,7 @@
 
 ghost use Rattle.std.specs.Prelude.{◌≡◌};
 ghost use Rattle.chess_base.specs.Coordinates.{ParsesSquare, ParsesMove};
-ghost use Rattle.chess_base.specs.ties.MoveTexts.{promotion_of_text, move_of_text};
+ghost use Rattle.chess_base.specs.ties.MoveTexts.{promotion_with_letter, promotion_of_text, move_of_text};
 
 use crate::man::{Kind, Move};
 use crate::square::Square;
@@ -26,20 +26,33 @@ fn parse_square(text: &[u8]) -> Result<Square, ParseSquareError>
     Square::named(text).ok_or(ParseSquareError)
 }
 
-// The promotion that the text after a move's two squares denotes: `Some(None)` if it is empty, a kind by its small
-// letter, also the king's `k` and the pawn's `p`; `None` for any other text.
+// The kind of piece that a pawn becomes by this letter of a move's text, one of `qrbn`; `None` for any other byte.
+fn promotion_with_letter(letter: u8) -> Option<Kind>
+    ensures { result ≡ promotion_with_letter letter }
+{
+    match letter {
+        b'q' => Some(Kind::Queen),
+        b'r' => Some(Kind::Rook),
+        b'b' => Some(Kind::Bishop),
+        b'n' => Some(Kind::Knight),
+        _ => None,
+    }
+}
+
+// The promotion that the text after a move's two squares denotes: `Some(None)` if it is empty, a kind by its letter;
+// `None` for any other text.
 fn read_promotion(text: &[u8]) -> Option<Option<Kind>>
     ensures { result ≡ promotion_of_text text.now }
 {
     match text {
         [] => Some(None),
-        [letter] => Kind::from_small_letter(*letter).map(Some),
+        [letter] => promotion_with_letter(*letter).map(Some),
         _ => None,
     }
 }
 
-// The move with that coordinate text, such as `e2e4` or `e7e8q`; `None` for any other text. The small letter of any
-// kind is read as the promotion, also in `e7e8k` or `e7e8p`: no such move is legal, which is asked only in a position.
+// The move with that coordinate text, such as `e2e4` or `e7e8q`; `None` for any other text, as `e7e8k`. Whether the
+// move is legal is asked only in a position.
 fn read_move(text: &[u8]) -> Option<Move>
     ensures { result ≡ move_of_text text.now }
 {

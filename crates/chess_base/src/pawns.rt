@@ -9,7 +9,7 @@ use crate::attack::{attacks, is_man, is_of};
 use crate::legality::{first_rank, man_on};
 use crate::man::{Colour, Kind, Move};
 use crate::setup::Setup;
-use crate::square::{Square, is_square};
+use crate::square::{Square, is_at};
 
 // The number of the square straight ahead for a pawn of this colour: from `e2` (12) White's is `e3` (20). On its last
 // rank, where no pawn is, the result means nothing: White's is above 63, Black's 0. For captures
@@ -83,7 +83,7 @@ pub fn is_en_passant(setup: &Setup, m: &Move) -> bool
 {
     is_man(setup.side, Kind::Pawn, setup.men[m.from.index()])
         && attacks(&setup.men, m.from, m.to)
-        && is_square(setup.target, m.to)
+        && is_at(setup.target, m.to)
 }
 
 // Whether the move, of a pawn, goes straight ahead, one square or by a double advance, over empty squares.
@@ -103,7 +103,7 @@ fn pawn_captures(setup: &Setup, m: &Move) -> bool
     ensures { result ≡ pawn_captures setup.now m.now }
 {
     attacks(&setup.men, m.from, m.to)
-        && (is_of(setup.side.other(), setup.men[m.to.index()]) || is_square(setup.target, m.to))
+        && (is_of(setup.side.other(), setup.men[m.to.index()]) || is_at(setup.target, m.to))
 }
 
 // Whether the move, of a pawn, is an advance or a capture, with a promotion exactly where it reaches its last rank.

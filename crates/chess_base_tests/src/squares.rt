@@ -1,7 +1,10 @@
 //! Names of squares, pieces and faults.
 
 use crate::playing::is_equal;
-use chess_base::{Colour, FenFault, Kind, Move, Position, Square};
+use chess_base::{
+    Colour, FenFault, Kind, Move, Position, Square, equalities_are_derived, moves_rise,
+    orders_are_derived, squares_are_named,
+};
 use std::test::Fail;
 
 const NAMES: [(&[u8], u8); 6] = [
@@ -83,8 +86,22 @@ fn texts_are_parsed_as_squares_and_moves(rt: HostRuntime) -> Result<(), Fail> {
     Ok(())
 }
 
+// Texts of no move: the letter is no promotion's, or more or less is written than a move.
+const NO_MOVES: [&[u8]; 8] = [
+    b"e7e8k", b"e7e8p", b"e7e8Q", b"e7e8=q", b"e7e8qq", b"e7e9", b"e7e", b"",
+];
+
+#[test]
+fn other_texts_denote_no_move(rt: HostRuntime) {
+    for text in &NO_MOVES {
+        assert!(rt; Move::try_from(*text).is_err(), "{text:?}");
+    }
+}
+
 // Moves in the order of the list of legal moves.
-const RISING: [&[u8]; 6] = [b"e2e4", b"f2f3", b"e7d8q", b"e7e8", b"e7e8q", b"e7e8n"];
+const RISING: [&[u8]; 8] = [
+    b"e2e4", b"f2f3", b"e7d8q", b"e7e8", b"e7e8q", b"e7e8r", b"e7e8b", b"e7e8n",
+];
 
 #[test]
 fn values_are_ordered(rt: HostRuntime) -> Result<(), Fail> {
@@ -98,6 +115,14 @@ fn values_are_ordered(rt: HostRuntime) -> Result<(), Fail> {
         last = m;
     }
     Ok(())
+}
+
+#[test]
+fn laws_are_called() {
+    equalities_are_derived();
+    moves_rise();
+    orders_are_derived();
+    squares_are_named();
 }
 
 #[test]

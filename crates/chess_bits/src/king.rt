@@ -15,7 +15,7 @@ ghost use Rattle.chess_moves.specs.Sets.{contains};
 
 use crate::bits::Bits;
 use crate::squares::filter;
-use chess_base::rules::{PROMOTIONS, Steps, is_man, is_square, steps_of};
+use chess_base::rules::{PROMOTIONS, Steps, is_man, is_at, steps_of};
 use chess_base::{Kind, Move, Square};
 use chess_moves::{SquareSet, would_promote};
 
@@ -127,7 +127,7 @@ impl Bits<'_> {
         let side = self.setup.side;
         let man = self.setup.men[m.from.index()];
         !is_man(side, Kind::King, man)
-            && !(is_man(side, Kind::Pawn, man) && is_square(self.setup.target, m.to))
+            && !(is_man(side, Kind::Pawn, man) && is_at(self.setup.target, m.to))
     }
 
     // Whether a pseudo-legal move is legal: the mover's king is not attacked after it. Most moves change only two

@@ -14,7 +14,7 @@ use crate::bits::Bits;
 use crate::reaching::reached_among;
 use crate::squares::{filter, single_if};
 use crate::targets::{is_king, is_pawn};
-use chess_base::rules::{first_rank, is_of, is_square, promotion_fits};
+use chess_base::rules::{first_rank, is_of, is_at, promotion_fits};
 use chess_base::{Colour, Kind, Man, Move, Square};
 use chess_moves::{SquareSet, would_promote};
 
@@ -189,7 +189,7 @@ impl Bits<'_> {
             return SquareSet::empty();
         }
         let men = self.pawns_to(to);
-        if is_square(self.setup.target, to) {
+        if is_at(self.setup.target, to) {
             return self.tried_starts(men, to);
         }
         self.safe_starts(men, to)

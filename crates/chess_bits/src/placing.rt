@@ -18,7 +18,7 @@ use crate::sets::Sets;
 use crate::squares::single_if;
 use crate::targets::is_pawn;
 use chess_base::rules::{
-    Steps, fullmove_after, halfmove_after, is_man, is_square, rights_after, saved_of, steps_back,
+    Steps, fullmove_after, halfmove_after, is_man, is_at, rights_after, saved_of, steps_back,
     steps_of, target_after,
 };
 use chess_base::{COUNTER_LIMIT, Kind, Man, Move, Rights, Saved, Setup, Square};
@@ -152,7 +152,7 @@ fn goes_plainly(setup: &Setup, m: &Move, kind: Kind) -> bool
 {
     match kind {
         Kind::King => has_no_right(&setup.rights),
-        Kind::Pawn => !is_square(setup.target, m.to),
+        Kind::Pawn => !is_at(setup.target, m.to),
         _ => true,
     }
 }

@@ -21,6 +21,7 @@ mod DenotedFen
 mod NormalWritten
 mod NormalRead
 mod WrittenFen
+mod EqualFens
 mod OneRankText
 mod RightsAlike
 mod OneInitial

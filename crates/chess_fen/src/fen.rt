@@ -1,12 +1,13 @@
 //! The FEN of a position as a type of its own.
 
-ghost use Rattle.std.specs.Prelude.{◌≡◌, ◌≤◌, Some, length, nat_eq, refl, ⊤};
-ghost use Rattle.std.specs.Ordering.{nat_cmp};
-ghost use Rattle.std.specs.Cmp.{on_equiv, on_total, on_po, on_per, partial_equiv_from_equiv};
-ghost use Rattle.std.specs.Cmp.Lexicographic.{pointwise, slice_cmp, nat_list_eq_equiv, nat_list_cmp_total, texts_po, texts_ties};
-ghost use Rattle.std.specs.Cmp.Rules.{hashing};
+ghost use Rattle.std.specs.Prelude.{◌≡◌, ◌≤◌, ◌++◌, Some, length, nat_eq, refl, ⊤};
+ghost use Rattle.std.specs.Ordering.{nat_cmp, on, then_cmp, eq_of_both, as_partial_cmp};
+ghost use Rattle.std.specs.Cmp.{on_total, then_total, partial_order_from_own_ties};
+ghost use Rattle.std.specs.Cmp.Lexicographic.{pointwise, slice_cmp, nat_list_cmp_total};
+ghost use Rattle.std.specs.Cmp.Rules.{comparing, hashing};
 ghost use Rattle.std.specs.Hash as fed;
 ghost use Rattle.std.proofs.Common.{rules};
+ghost use Rattle.chess_base.specs.contracts.man.VariantOrd.TheImpl.Laws.{total-law};
 ghost use Rattle.chess_base.specs.Sound.{IsSound};
 ghost use Rattle.chess_fen.specs.Reading.{fen_reading, fen_reading_as};
 ghost use Rattle.chess_fen.specs.Writing.{fen};
@@ -23,7 +24,8 @@ use std::str::FromStr;
 use std::{fmt, str};
 
 /// A position together with its FEN: at most 95 bytes of ASCII. In contracts it is the position's `Setup`. Two are
-/// compared by their texts.
+/// equal exactly if their positions are. They are ordered by their texts. Without castling rights a position of normal
+/// chess has the same text as that of Chess960 with the same pieces, and comes before it.
 ///
 /// ```
 /// let fen: Fen = "4k3/8/8/8/8/8/4P3/4K3 w - - 0 1".parse()?;
@@ -84,6 +86,13 @@ impl Fen {
         ensures { result.now ≡ self.now }
     {
         &self.position
+    }
+
+    // The variant of the position.
+    fn variant(&self) -> Variant
+        ensures { result ≡ self.now.variant }
+    {
+        self.position.variant()
     }
 
     /// The FEN.
@@ -174,23 +183,24 @@ impl Clone for Fen {
 }
 
 impl PartialEq for Fen {
-    ghost eq = { λ f g. pointwise nat_eq (fen f) (fen g) };
+    ghost eq = { eq_of_both (on fen (pointwise nat_eq)) (on (λ p. p.variant) ⟦<Variant as PartialEq>⟧.eq) };
 
-    ghost laws = { on_per fen (partial_equiv_from_equiv nat_list_eq_equiv) };
+    ghost laws = { Prim.search (comparing, rules) };
 
     fn eq(&self, other: &Self) -> bool {
-        self.as_str() == other.as_str()
+        self.as_str() == other.as_str() && self.variant() == other.variant()
     }
 }
 
 impl Eq for Fen {
-    ghost laws = { on_equiv fen nat_list_eq_equiv };
+    ghost laws = { Prim.search (comparing, rules) };
 }
 
 impl PartialOrd for Fen {
-    ghost partial_cmp = { λ f g. Some (slice_cmp nat_cmp (fen f) (fen g)) };
+    ghost partial_cmp = { as_partial_cmp
+        (then_cmp (on fen (slice_cmp nat_cmp)) (on (λ p. p.variant) ⟦<Variant as Ord>⟧.cmp)) };
 
-    ghost laws = { on_po fen texts_po };
+    ghost laws = { partial_order_from_own_ties (Prim.search (comparing, rules)) (Prim.search (comparing, rules)) };
 
     fn partial_cmp(&self, other: &Self) -> Option<Ordering> {
         Some(self.cmp(other))
@@ -198,25 +208,28 @@ impl PartialOrd for Fen {
 }
 
 impl Ord for Fen {
-    ghost cmp = { λ f g. slice_cmp nat_cmp (fen f) (fen g) };
+    ghost cmp = { then_cmp (on fen (slice_cmp nat_cmp)) (on (λ p. p.variant) ⟦<Variant as Ord>⟧.cmp) };
 
-    ghost total = { on_total fen nat_list_cmp_total };
+    ghost total = { then_total (on_total fen nat_list_cmp_total) (on_total (λ p. p.variant) total-law) };
 
     ghost matches_partial_cmp = { λ f g. refl };
 
-    ghost matches_eq = { λ f g. texts_ties (fen f) (fen g) };
+    ghost matches_eq = { Prim.search (comparing, rules) };
 
     fn cmp(&self, other: &Self) -> Ordering {
-        self.as_str().cmp(other.as_str())
+        self.as_str()
+            .cmp(other.as_str())
+            .then(self.variant().cmp(&other.variant()))
     }
 }
 
 impl Hash for Fen {
-    ghost hash_input = { λ f. fed.str (fen f) };
+    ghost hash_input = { λ f. fed.str (fen f) ++ ⟦<Variant as Hash>⟧.hash_input f.variant };
 
     ghost respects_eq = { Prim.search (hashing, rules) };
 
     fn hash<H: Hasher>(&self, state: &mut H) {
         self.as_str().hash(state);
+        self.variant().hash(state);
     }
 }

@@ -1,6 +1,6 @@
 //! Laws of FEN. A caller learns one by calling its function, which does nothing.
 
-ghost use Rattle.std.specs.Prelude.{◌≡◌, ◌∷◌, ◌++◌, ℕ, true, false, List, [], Option, Some, None, Ok, codes, length, replicate};
+ghost use Rattle.std.specs.Prelude.{◌≡◌, ◌↔◌, ◌∷◌, ◌++◌, ℕ, IsTrue, true, false, List, [], Option, Some, None, Ok, codes, length, replicate};
 ghost use Rattle.chess_base.specs.declared.man.CastlingSide.TheVariants.{KingSide, QueenSide};
 ghost use Rattle.chess_base.specs.declared.man.Colour.TheVariants.{White, Black};
 ghost use Rattle.chess_base.specs.declared.man.Kind.TheVariants.{Pawn};
@@ -8,6 +8,7 @@ ghost use Rattle.chess_base.specs.declared.man.Man.{Man};
 ghost use Rattle.chess_base.specs.declared.man.Variant.TheVariants.{Normal, Fischerandom};
 ghost use Rattle.chess_base.specs.declared.setup.Setup.{Setup};
 ghost use Rattle.chess_base.specs.Initial.{man_of};
+ghost use Rattle.chess_base.specs.Sound.{IsSound};
 ghost use Rattle.chess_fen.specs.Denotation.{DenotesFenAs};
 ghost use Rattle.chess_fen.specs.Reading.{fen_reading_as};
 ghost use Rattle.chess_fen.specs.RightNames.{right_in, names_rights_well};
@@ -24,6 +25,12 @@ pub fn written_is_denoted()
     ensures denotes { WrittenIsDenoted }
     ensures no_other { WrittenDenotesNoOther }
     ensures read_back { WrittenIsReadBack }
+{}
+
+/// A law: the contract says it, and the function does nothing. Two `Fen`s are equal exactly if their positions are the
+/// same, in pieces, side, rights, target, counters and variant.
+pub fn equal_fens_are_equal_positions()
+    ensures { (p q : Setup) → IsSound p → IsSound q → IsTrue (⟦<crate::fen::Fen as PartialEq>⟧.eq p q) ↔ p ≡ q }
 {}
 
 /// A law: the contract says it, and the function does nothing. In Chess960 a castling right is named by the letter of

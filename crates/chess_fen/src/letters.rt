@@ -14,7 +14,7 @@ pub(crate) struct Run {
 }
 
 // So many empty squares. These are macros, since a constant's value can't call a function.
-macro_rules! gap {
+macro_rules! empty {
     ($squares:literal) => {
         Run {
             first: None,
@@ -38,69 +38,92 @@ macro_rules! piece {
 
 // A byte that stands for no squares: for more of them than a rank has. So it is found by the test for the rank's end
 // (`read_rank`), where an `Option` would need a test of its own.
-const NONE: Run = gap!(9);
+const NO_RUN: Run = empty!(9);
 
-const GAP1: Run = gap!(1);
+const EMPTY_1: Run = empty!(1);
 
-const GAP2: Run = gap!(2);
+const EMPTY_2: Run = empty!(2);
 
-const GAP3: Run = gap!(3);
+const EMPTY_3: Run = empty!(3);
 
-const GAP4: Run = gap!(4);
+const EMPTY_4: Run = empty!(4);
 
-const GAP5: Run = gap!(5);
+const EMPTY_5: Run = empty!(5);
 
-const GAP6: Run = gap!(6);
+const EMPTY_6: Run = empty!(6);
 
-const GAP7: Run = gap!(7);
+const EMPTY_7: Run = empty!(7);
 
-const GAP8: Run = gap!(8);
+const EMPTY_8: Run = empty!(8);
 
-const WH_P: Run = piece!(White, Pawn);
+const WHITE_PAWN: Run = piece!(White, Pawn);
 
-const WH_N: Run = piece!(White, Knight);
+const WHITE_KNIGHT: Run = piece!(White, Knight);
 
-const WH_B: Run = piece!(White, Bishop);
+const WHITE_BISHOP: Run = piece!(White, Bishop);
 
-const WH_R: Run = piece!(White, Rook);
+const WHITE_ROOK: Run = piece!(White, Rook);
 
-const WH_Q: Run = piece!(White, Queen);
+const WHITE_QUEEN: Run = piece!(White, Queen);
 
-const WH_K: Run = piece!(White, King);
+const WHITE_KING: Run = piece!(White, King);
 
-const BL_P: Run = piece!(Black, Pawn);
+const BLACK_PAWN: Run = piece!(Black, Pawn);
 
-const BL_N: Run = piece!(Black, Knight);
+const BLACK_KNIGHT: Run = piece!(Black, Knight);
 
-const BL_B: Run = piece!(Black, Bishop);
+const BLACK_BISHOP: Run = piece!(Black, Bishop);
 
-const BL_R: Run = piece!(Black, Rook);
+const BLACK_ROOK: Run = piece!(Black, Rook);
 
-const BL_Q: Run = piece!(Black, Queen);
+const BLACK_QUEEN: Run = piece!(Black, Queen);
 
-const BL_K: Run = piece!(Black, King);
+const BLACK_KING: Run = piece!(Black, King);
 
-// What each of the 256 bytes stands for in a rank's text, 16 in a line: `1` is the byte 0x31, `B` 0x42, `b` 0x62. A
+// A list of such runs, without commas, so that it is laid out as a table.
+macro_rules! runs {
+    ($($run:ident)*) => {
+        [$($run),*]
+    };
+}
+
+// What each of the 256 bytes stands for in a rank's text, 8 in a line: `1` is the byte 0x31, `B` 0x42, `b` 0x62. A
 // `match` of the same, or `Man::from_letter`, took a sixth more instructions for a FEN: here each byte of its longest
 // field costs one look-up, for pieces and empty squares alike.
-static RUNS: [Run; 256] = [
-    NONE, NONE, NONE, NONE, NONE, NONE, NONE, NONE, NONE, NONE, NONE, NONE, NONE, NONE, NONE, NONE,
-    NONE, NONE, NONE, NONE, NONE, NONE, NONE, NONE, NONE, NONE, NONE, NONE, NONE, NONE, NONE, NONE,
-    NONE, NONE, NONE, NONE, NONE, NONE, NONE, NONE, NONE, NONE, NONE, NONE, NONE, NONE, NONE, NONE,
-    NONE, GAP1, GAP2, GAP3, GAP4, GAP5, GAP6, GAP7, GAP8, NONE, NONE, NONE, NONE, NONE, NONE, NONE,
-    NONE, NONE, WH_B, NONE, NONE, NONE, NONE, NONE, NONE, NONE, NONE, WH_K, NONE, NONE, WH_N, NONE,
-    WH_P, WH_Q, WH_R, NONE, NONE, NONE, NONE, NONE, NONE, NONE, NONE, NONE, NONE, NONE, NONE, NONE,
-    NONE, NONE, BL_B, NONE, NONE, NONE, NONE, NONE, NONE, NONE, NONE, BL_K, NONE, NONE, BL_N, NONE,
-    BL_P, BL_Q, BL_R, NONE, NONE, NONE, NONE, NONE, NONE, NONE, NONE, NONE, NONE, NONE, NONE, NONE,
-    NONE, NONE, NONE, NONE, NONE, NONE, NONE, NONE, NONE, NONE, NONE, NONE, NONE, NONE, NONE, NONE,
-    NONE, NONE, NONE, NONE, NONE, NONE, NONE, NONE, NONE, NONE, NONE, NONE, NONE, NONE, NONE, NONE,
-    NONE, NONE, NONE, NONE, NONE, NONE, NONE, NONE, NONE, NONE, NONE, NONE, NONE, NONE, NONE, NONE,
-    NONE, NONE, NONE, NONE, NONE, NONE, NONE, NONE, NONE, NONE, NONE, NONE, NONE, NONE, NONE, NONE,
-    NONE, NONE, NONE, NONE, NONE, NONE, NONE, NONE, NONE, NONE, NONE, NONE, NONE, NONE, NONE, NONE,
-    NONE, NONE, NONE, NONE, NONE, NONE, NONE, NONE, NONE, NONE, NONE, NONE, NONE, NONE, NONE, NONE,
-    NONE, NONE, NONE, NONE, NONE, NONE, NONE, NONE, NONE, NONE, NONE, NONE, NONE, NONE, NONE, NONE,
-    NONE, NONE, NONE, NONE, NONE, NONE, NONE, NONE, NONE, NONE, NONE, NONE, NONE, NONE, NONE, NONE,
-];
+static RUNS: [Run; 256] = runs! {
+    NO_RUN NO_RUN NO_RUN NO_RUN NO_RUN NO_RUN NO_RUN NO_RUN
+    NO_RUN NO_RUN NO_RUN NO_RUN NO_RUN NO_RUN NO_RUN NO_RUN
+    NO_RUN NO_RUN NO_RUN NO_RUN NO_RUN NO_RUN NO_RUN NO_RUN
+    NO_RUN NO_RUN NO_RUN NO_RUN NO_RUN NO_RUN NO_RUN NO_RUN
+    NO_RUN NO_RUN NO_RUN NO_RUN NO_RUN NO_RUN NO_RUN NO_RUN
+    NO_RUN NO_RUN NO_RUN NO_RUN NO_RUN NO_RUN NO_RUN NO_RUN
+    NO_RUN EMPTY_1 EMPTY_2 EMPTY_3 EMPTY_4 EMPTY_5 EMPTY_6 EMPTY_7
+    EMPTY_8 NO_RUN NO_RUN NO_RUN NO_RUN NO_RUN NO_RUN NO_RUN
+    NO_RUN NO_RUN WHITE_BISHOP NO_RUN NO_RUN NO_RUN NO_RUN NO_RUN
+    NO_RUN NO_RUN NO_RUN WHITE_KING NO_RUN NO_RUN WHITE_KNIGHT NO_RUN
+    WHITE_PAWN WHITE_QUEEN WHITE_ROOK NO_RUN NO_RUN NO_RUN NO_RUN NO_RUN
+    NO_RUN NO_RUN NO_RUN NO_RUN NO_RUN NO_RUN NO_RUN NO_RUN
+    NO_RUN NO_RUN BLACK_BISHOP NO_RUN NO_RUN NO_RUN NO_RUN NO_RUN
+    NO_RUN NO_RUN NO_RUN BLACK_KING NO_RUN NO_RUN BLACK_KNIGHT NO_RUN
+    BLACK_PAWN BLACK_QUEEN BLACK_ROOK NO_RUN NO_RUN NO_RUN NO_RUN NO_RUN
+    NO_RUN NO_RUN NO_RUN NO_RUN NO_RUN NO_RUN NO_RUN NO_RUN
+    NO_RUN NO_RUN NO_RUN NO_RUN NO_RUN NO_RUN NO_RUN NO_RUN
+    NO_RUN NO_RUN NO_RUN NO_RUN NO_RUN NO_RUN NO_RUN NO_RUN
+    NO_RUN NO_RUN NO_RUN NO_RUN NO_RUN NO_RUN NO_RUN NO_RUN
+    NO_RUN NO_RUN NO_RUN NO_RUN NO_RUN NO_RUN NO_RUN NO_RUN
+    NO_RUN NO_RUN NO_RUN NO_RUN NO_RUN NO_RUN NO_RUN NO_RUN
+    NO_RUN NO_RUN NO_RUN NO_RUN NO_RUN NO_RUN NO_RUN NO_RUN
+    NO_RUN NO_RUN NO_RUN NO_RUN NO_RUN NO_RUN NO_RUN NO_RUN
+    NO_RUN NO_RUN NO_RUN NO_RUN NO_RUN NO_RUN NO_RUN NO_RUN
+    NO_RUN NO_RUN NO_RUN NO_RUN NO_RUN NO_RUN NO_RUN NO_RUN
+    NO_RUN NO_RUN NO_RUN NO_RUN NO_RUN NO_RUN NO_RUN NO_RUN
+    NO_RUN NO_RUN NO_RUN NO_RUN NO_RUN NO_RUN NO_RUN NO_RUN
+    NO_RUN NO_RUN NO_RUN NO_RUN NO_RUN NO_RUN NO_RUN NO_RUN
+    NO_RUN NO_RUN NO_RUN NO_RUN NO_RUN NO_RUN NO_RUN NO_RUN
+    NO_RUN NO_RUN NO_RUN NO_RUN NO_RUN NO_RUN NO_RUN NO_RUN
+    NO_RUN NO_RUN NO_RUN NO_RUN NO_RUN NO_RUN NO_RUN NO_RUN
+    NO_RUN NO_RUN NO_RUN NO_RUN NO_RUN NO_RUN NO_RUN NO_RUN
+};
 
 // What a byte of a rank's text stands for. Inlined, since it is one look into the table.
 #[inline(always)]

@@ -1,8 +1,9 @@
 //! The examples in the documentation of chess_fen's items.
 
-use chess_base::{FenFault, Move, Position, Square};
-use chess_fen::Fen;
+use chess_base::{FenFault, Move, Position, Square, Variant};
+use chess_fen::{Fen, equal_fens_are_equal_positions};
 use std::alloc::Global;
+use std::hash::{DefaultHasher, Hash, Hasher};
 use std::process::Abort;
 use std::test::Fail;
 
@@ -36,4 +37,48 @@ fn fens_are_parsed_and_shown(rt: HostRuntime) -> Result<(), Fail> {
         Err(FenFault::Kings)
     );
     Ok(())
+}
+
+fn hash_of(fen: &Fen) -> u64 {
+    let mut state = DefaultHasher::new();
+    fen.hash(&mut state);
+    state.finish()
+}
+
+// The same FEN of a position of normal chess and of Chess960, since there is no castling right.
+#[test]
+fn fens_of_two_variants_differ(rt: HostRuntime) -> Result<(), Fail> {
+    let text = b"4k3/8/8/8/8/8/4P3/4K3 w - - 0 1";
+    let normal = Fen::read_as(Variant::Normal, text)?;
+    let again = Fen::try_from(text.as_slice())?;
+    let chess960 = Fen::read_as(Variant::Fischerandom, text)?;
+    assert!(rt; normal.as_str() == chess960.as_str());
+    assert!(rt; normal.position() != chess960.position());
+    assert!(rt; normal == again && hash_of(&normal) == hash_of(&again));
+    assert!(rt; normal != chess960 && hash_of(&normal) != hash_of(&chess960));
+    assert!(rt; normal < chess960 && chess960 > normal);
+    Ok(())
+}
+
+#[test]
+fn fens_are_ordered_by_their_texts(rt: HostRuntime) -> Result<(), Fail> {
+    let first = Fen::read_as(Variant::Fischerandom, b"4k3/8/8/8/8/8/4P3/4K3 b - - 0 1")?;
+    let second = Fen::read_as(Variant::Normal, b"4k3/8/8/8/8/8/4P3/4K3 w - - 0 1")?;
+    assert!(rt; first < second);
+    Ok(())
+}
+
+#[test]
+fn fens_are_debugged_in_quotes(rt: HostRuntime) -> Result<(), Fail> {
+    let fen: Fen = "4k3/8/8/8/8/8/4P3/4K3 w - -".parse()?;
+    assert_eq!(rt;
+        format!(in rt.alloc(); "{fen:?}")?.as_str(),
+        "Fen(\"4k3/8/8/8/8/8/4P3/4K3 w - - 0 1\")"
+    );
+    Ok(())
+}
+
+#[test]
+fn laws_are_called() {
+    equal_fens_are_equal_positions();
 }

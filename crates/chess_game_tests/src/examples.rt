@@ -119,3 +119,58 @@ fn results_are_parsed_and_shown(rt: HostRuntime) -> Result<(), Fail> {
     );
     Ok(())
 }
+
+fn debugged_comment(alloc: Global) -> Result<String, Fail> {
+    let comment = Comment::cut(b"White resigns");
+    Ok(format!(in alloc; "{comment:?}")?)
+}
+
+// The moves and positions that are left after the first of each.
+fn debugged_rest<B: Board>(alloc: Global, game: &Game<B>) -> Result<String, Fail> {
+    let mut moves = game.moves();
+    let _first = moves.next();
+    let mut positions = game.positions();
+    let _start = positions.next();
+    Ok(format!(in alloc; "{moves:?} {positions:?}")?)
+}
+
+const REST: &str = "[Move { from: Square { number: 52 }, to: Square { number: 36 }, promotion: None }] \
+    Positions { left: 2 }";
+
+#[test]
+fn comments_moves_and_positions_are_debugged(rt: HostRuntime) -> Result<(), Fail> {
+    is_equal(
+        &rt,
+        &debugged_comment(rt.alloc())?.as_str(),
+        &"\"White resigns\"",
+    );
+    let mut game = Game::open(rt.alloc(), Plain::new(), 300)?;
+    play(&mut game, 12, 28)?;
+    play(&mut game, 52, 36)?;
+    is_equal(&rt, &debugged_rest(rt.alloc(), &game)?.as_str(), &REST);
+    Ok(())
+}
+
+const AFTER_THE_START: &str = "moves: [Move { from: Square { number: 12 }, to: Square { number: 28 }, \
+    promotion: None }], declared: Some(Declared { outcome: BlackWins, comment: \"White resigns\" }), limit: 300 }";
+
+fn debugged_game<B: Board>(alloc: Global, game: &Game<B>) -> Result<String, Fail> {
+    Ok(format!(in alloc; "{game:?}")?)
+}
+
+fn wanted_game<B: Board>(alloc: Global, game: &Game<B>) -> Result<String, Fail> {
+    Ok(format!(in alloc; "Game {{ start: {:?}, {AFTER_THE_START}", game.start())?)
+}
+
+#[test]
+fn a_game_is_debugged(rt: HostRuntime) -> Result<(), Fail> {
+    let mut game = Game::open(rt.alloc(), Plain::new(), 300)?;
+    play(&mut game, 12, 28)?;
+    game.declare(Outcome::BlackWins, Comment::cut(b"White resigns"))?;
+    is_equal(
+        &rt,
+        &debugged_game(rt.alloc(), &game)?.as_str(),
+        &wanted_game(rt.alloc(), &game)?.as_str(),
+    );
+    Ok(())
+}

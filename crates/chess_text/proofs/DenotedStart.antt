@@ -84,9 +84,6 @@ of_pawn q p m letter plain square low to none =
     let apart = by_squares_not q (described_as p m Pawn) low square in
     rw (apart, letter, plain, none, to, eq-eqb q.end.to q.end.to refl) (grind (arith, nat_tests))
 
-abbrev Denoted : Parts → Setup → Kind → Move → Type 0
-Denoted q p k m = parts_fit q (described_as p m k) ≡ is_denoted_of q p k m
-
 -- a letter names its own kind, no pawn's
 pub kind_lettered : (x : Kind) (square : Option ℕ) (k : Kind) → kind_by (Some x) square ≡ Some k
     → (x ≡ k) × HasLetter x

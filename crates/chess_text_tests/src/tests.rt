@@ -3,7 +3,7 @@ use chess_bits::{AttackTables, Bits};
 use chess_fen::{read_fen_as, write_fen};
 use chess_moves::{Board, Plain};
 use chess_text::{
-    Reading, coordinate, coordinate_denotes_its_move, has_move_shape, move_text,
+    Reading, San, coordinate, coordinate_denotes_its_move, has_move_shape, move_text,
     move_text_denotes_its_move, normal_is_kept, read_move, read_moves_are_legal, san,
     san_denotes_its_move, san_is_a_word, texts_have_parts,
 };
@@ -604,4 +604,22 @@ fn laws_do_nothing(_rt: HostRuntime) {
     read_moves_are_legal();
     texts_have_parts();
     normal_is_kept();
+}
+
+// The SAN of the only move to this square, shown and debugged.
+fn shown_san<B: Board>(alloc: Global, board: &mut B, text: &[u8]) -> Result<String, Fail> {
+    let Reading::Move(m) = read_move(board, text) else {
+        return Err("no move".into());
+    };
+    let san = San::of(board, m);
+    Ok(format!(in alloc; "{san} {san:?}")?)
+}
+
+#[test]
+fn a_san_is_shown(rt: HostRuntime) -> Result<(), Fail> {
+    let mut board = Plain::new();
+    set(&mut board, Variant::Normal, b"3k4/8/8/8/8/8/8/R3K3 w Q - 0 1")?;
+    let shown = shown_san(rt.alloc(), &mut board, b"e1c1")?;
+    assert_eq!(rt; shown.as_str(), "O-O-O+ San(\"O-O-O+\")");
+    Ok(())
 }

@@ -15,7 +15,8 @@ use Rattle.chess_base.specs.Sound.{IsSound}
 -- they go; none without the right
 abbrev pub castling_on : Setup → CastlingSide → Option Castle
 castling_on p w = option_and_then
-    (λ rook. option_map (λ king. castle_from p.side w king rook) (king_square p.men p.side)) (right_of p.rights p.side w)
+    (λ rook. option_map (λ king. castle_from p.side w king rook) (king_square p.men p.side))
+    (right_of p.rights p.side w)
 
 -- the end square by which a move names castling k: in normal chess that of the king (e1g1), in Chess960 the square
 -- where the rook stands (e1h1)

@@ -4,13 +4,12 @@ use Rattle.chess_base.specs.declared.man.Move.{Move}
 use Rattle.chess_base.specs.declared.setup.Setup.{Setup}
 use Rattle.chess_base.specs.declared.setup.Saved.{Saved}
 use Rattle.chess_base.specs.Squares.{is_at}
-use Rattle.chess_base.specs.Men.{other}
+use Rattle.chess_base.specs.Men.{forward}
 use Rattle.chess_base.specs.Sound.{IsSound}
 use Rattle.chess_base.specs.Moves.{after}
-use Rattle.chess_base.specs.shared.Parts.{one_rank_back}
 use Rattle.chess_base.specs.Before.{saved_of, before}
 use Rattle.chess_base.proofs.shared.Changes.{at_target}
-use Rattle.chess_base.proofs.shared.Men.{in_board, other-other}
+use Rattle.chess_base.proofs.shared.Men.{in_board}
 use Rattle.chess_base.proofs.shared.LegalMoves.{before-after}
 use Rattle.chess_moves.specs.Made.{WasMade, IsMade}
 
@@ -22,10 +21,10 @@ IsMade-sound q m s h = rw (WasMade-back h.0 m s q h.1) h.1.sound
 
 -- a pawn taken en passant was on the board
 pub captured_in_board : (q : Setup) (m : Move) (s : Saved) → IsMade q m s → IsTrue (is_at s.target m.to)
-    → one_rank_back (other q.side) m.to < 64
+    → forward q.side m.to < 64
 unfolding saved_of after
 captured_in_board q m s h at =
     let p = h.0 in
     let at' = rw h.1.saved at at in
     let there = at_target p m.to h.1.sound.target at' in
-    rw (h.1.left, other-other) (in_board _ _ _ _ h.1.sound.board there.2)
+    rw h.1.left (in_board _ _ _ _ h.1.sound.board there.2)

@@ -6,6 +6,6 @@ use Rattle.chess_text.proofs.reading.read_coordinates.Goals as goal
 
 pub returns-then-is_legal : goal.returns-then-is_legal
 returns-then-is_legal g c =
-    ap (reading (g.B.Board.position c.args.board.now)) c.in-Ok.ensures
+    ap (reading (g.B.Board.position c.args.board.now)) c.in-Ok.ensures.0
     ∙ coordinate_read (g.B.Board.position c.args.board.now) c.in-Ok.m
     (sym c.is_legal.ensures ∙ c.if-is_legal.true)

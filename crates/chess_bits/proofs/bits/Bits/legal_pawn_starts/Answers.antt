@@ -12,5 +12,5 @@ safe_starts-requires c =
     let high : c.args.to < 64 = subst (λ n. n < 64) c.number-end.ensures.value c.number-end.ensures.in_range in
     let off : (rank c.args.to == first_rank (other p.side)) ≡ false =
     sym c.is_on_last_rank.ensures ∙ c.if-is_on_last_rank.false in
-    let free : is_at p.target c.args.to ≡ false = rw (← c.self.view_is, ← c.is_square.ensures) c.if-is_square.false in
+    let free : is_at p.target c.args.to ≡ false = rw (← c.self.view_is, ← c.is_at.ensures) c.if-is_at.false in
     pawns_plain p c.args.to c.pawns_to-men.result high off free c.pawns_to-men.ensures

@@ -1,0 +1,28 @@
+-- Equal texts of one variant are the FENs of one position, since each is read back as its position.
+use Rattle.std.proofs.Common.{◌≡◌, true, refl, sym, ap, ◌∙◌}
+use Rattle.chess_base.specs.declared.man.Variant.{Variant}
+use Rattle.chess_base.specs.declared.man.Variant.TheVariants.{Normal, Fischerandom}
+use Rattle.chess_base.specs.declared.setup.Setup.{Setup}
+use Rattle.chess_base.specs.Sound.{IsSound}
+use Rattle.chess_base.specs.contracts.man.VariantPartialEq.TheImpl.{eq-value}
+use Rattle.chess_fen.specs.Reading.{fen_reading_as}
+use Rattle.chess_fen.specs.Writing.{fen}
+use Rattle.chess_fen.proofs.DenotedFen.{reading-denoted}
+use Rattle.chess_fen.proofs.WrittenFen.{fen-denoted}
+
+pub variants_equal : (v w : Variant) → eq-value.it v w ≡ true → v ≡ w
+variants_equal Normal Normal e = refl
+variants_equal Fischerandom Fischerandom e = refl
+variants_equal Normal Fischerandom e = absurd cc
+variants_equal Fischerandom Normal e = absurd cc
+
+pub variant_equal : (v : Variant) → eq-value.it v v ≡ true
+variant_equal Normal = refl
+variant_equal Fischerandom = refl
+
+pub same_position : (p q : Setup) → IsSound p → IsSound q → fen p ≡ fen q → p.variant ≡ q.variant → p ≡ q
+same_position p q sound_p sound_q text variant =
+    let back_p = reading-denoted p.variant (fen p) p (fen-denoted p sound_p) sound_p in
+    let back_q = reading-denoted q.variant (fen q) q (fen-denoted q sound_q) sound_q in
+    let both = sym back_p ∙ ap (λ v. fen_reading_as v (fen p)) variant ∙ ap (fen_reading_as q.variant) text ∙ back_q in
+    cc both
