@@ -144,8 +144,10 @@ denotes_unmarked a b e (Some d) = rw e refl
 pub reading_unmarked : (p : Setup) (a b : List ℕ) → unmarked a ≡ unmarked b → reading p a ≡ reading p b
 unfolding reading denotes
 reading_unmarked p a b e =
-    rw (shape_unmarked a b e,
-    filter_agree (λ m. denotes p a m) (λ m. denotes p b m) (λ m. denotes_unmarked a b e (described p m)) (moves p)) refl
+    rw (
+      shape_unmarked a b e,
+      filter_agree (λ m. denotes p a m) (λ m. denotes p b m) (λ m. denotes_unmarked a b e (described p m)) (moves p),
+    ) refl
 
 pub reading_denoted : (p : Setup) (text : List ℕ) (form : Form) → form_of text ≡ Some form
     → one_of (filter (λ m. is_denoted form p m) (moves p)) ≡ reading p text
