@@ -9,22 +9,23 @@ use Rattle.chess_base.specs.declared.man.CastlingSide.{CastlingSide}
 use Rattle.chess_base.specs.declared.man.CastlingSide.TheVariants.{KingSide, QueenSide}
 use Rattle.chess_base.specs.declared.man.Colour.{Colour}
 use Rattle.chess_base.specs.declared.man.Colour.TheVariants.{White, Black}
-use Rattle.chess_base.specs.declared.man.Kind.TheVariants.{King, Rook}
+use Rattle.chess_base.specs.declared.man.Kind.TheVariants.{King, Rook, Pawn}
 use Rattle.chess_base.specs.declared.man.Move.{Move}
 use Rattle.chess_base.specs.declared.man.Variant.{Variant}
 use Rattle.chess_base.specs.declared.man.Variant.TheVariants.{Normal, Fischerandom}
 use Rattle.chess_base.specs.declared.setup.Setup.{Setup}
 use Rattle.chess_base.specs.Attacks.{is_attacked}
-use Rattle.chess_base.specs.Castling.{home_square, king_home_file, rook_file, castled_king_file, castled_rook_file, right_of, king_square, is_to_side, are_placed_for_castling, right_is_sound, names_castling_with, castling, castle_from, castle_of, castles, is_on_way, castling_way_is_empty, castling_way_is_safe}
+use Rattle.chess_base.specs.Castling.{home_square, king_home_file, rook_file, castled_king_file, castled_rook_file, right_of, king_square, is_to_side, are_placed_for_castling, right_is_sound, names_castling_with, castling, castle_from, castle_of, castles, is_on_way, castling_way_is_empty, castling_way_is_safe, castling_rook_to, mover_end}
 use Rattle.chess_base.specs.shared.Parts.{is_on_side_of_king}
 use Rattle.chess_base.specs.Men.{Men, man_at, other, is_man, first_rank}
 use Rattle.chess_base.specs.MoveList.{move_of}
-use Rattle.chess_base.specs.Moves.{is_pseudo_legal, is_legal, promotion_fits}
+use Rattle.chess_base.specs.Moves.{is_pseudo_legal, is_legal, promotion_fits, arriving_man, second_square_emptied, steps_of}
 use Rattle.chess_base.specs.shared.Splits.{castles_or_moves}
 use Rattle.chess_base.specs.Sound.{IsSound}
 use Rattle.chess_base.specs.Squares.{rank, each_square, some_square, squares}
 use Rattle.chess_base.proofs.shared.Castling.{right_is_sound_of, placed_for_right, says_from_castling, castling_says, castle_there, no_castle}
-use Rattle.chess_base.proofs.shared.Men.{in_board}
+use Rattle.chess_base.proofs.shared.Changes.{no_en_passant}
+use Rattle.chess_base.proofs.shared.Men.{in_board, is_man-kind}
 use Rattle.chess_moves.proofs.shared.AnyMove.{any-filter}
 use Rattle.chess_moves.specs.Promoting.{would_promote}
 use Rattle.chess_moves.specs.Sets.{contains, members}
@@ -168,6 +169,26 @@ pub castle_pattern : (p : Setup) (m : Move) (k : Castle) → IsSound p → m.to 
 castle_pattern p m k sound high none e =
     ap (λ o. is_pseudo_legal p (move_of m.from m.to o)) none
     ∙ castle_pattern_by p m.from m.to k sound high (ap (λ o. castle_of p (move_of m.from m.to o)) (sym none) ∙ e)
+
+-- and its steps
+pub castle_steps : (p : Setup) (m : Move) (k : Castle) → castle_of p m ≡ Some k → m.promotion ≡ None
+    → record {
+      from = m.from;
+      second_from = Some k.rook_from;
+      second_to = Some k.rook_to;
+      second = Some (record { colour = p.side; kind = Rook });
+      to = k.king_to;
+      mover =
+          Some (record { colour = p.side; kind = King });
+    } ≡ steps_of p m
+unfolding second_square_emptied castling_rook_to mover_end
+castle_steps p m k e none =
+    let king = king_goes p m k e (castling p m) refl in
+    let still = no_en_passant p m (is_man-kind p.side p.side King Pawn (man_at p.men m.from) refl king) in
+    let mover : arriving_man (man_at p.men m.from) m.promotion ≡ Some (record { colour = p.side; kind = King }) =
+    ap (λ o. arriving_man (man_at p.men m.from) o) none
+    ∙ ap (λ o. arriving_man o None) (man_told p.side King (man_at p.men m.from) king) in
+    rw (still, e, mover) refl
 
 pub not_castling : (p : Setup) (m : Move) → is_pseudo_legal p m ≡ false → false ≡ is_legal p m
 unfolding is_legal

@@ -46,7 +46,8 @@ fn inside(tables: &Tables, line: Line, low: Square, high: Square) -> SquareSet
 #[tactic(auto, using(crate::proofs::BetweenSquares::on_some_line))]
 fn rising_between(tables: &Tables, low: Square, high: Square) -> SquareSet
     requires { low ≤ high }
-    ensures { (l : LineKind) → same_line l low high ≡ true → (k : ℕ) → k < 64 → contains result k ≡ is_between low high k }
+    ensures { (l : LineKind) → same_line l low high ≡ true → (k : ℕ) → k < 64
+        → contains result k ≡ is_between low high k }
 {
     let ranks = inside(tables, Line::Rank, low, high);
     let files = inside(tables, Line::File, low, high);

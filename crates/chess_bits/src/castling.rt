@@ -1,17 +1,17 @@
 //! Whether castling is legal, tested with sets of squares.
 
-ghost use Rattle.std.specs.Prelude.{◌≡◌, ◌<◌, ℕ, ◌&&◌, ◌||◌, not, None, Some};
+ghost use Rattle.std.specs.Prelude.{◌≡◌, ◌<◌, ℕ, ◌&&◌, ◌||◌, not, None, Some, IsTrue};
 ghost use Rattle.chess_base.specs.Attacks.{is_attacked};
 ghost use Rattle.chess_base.specs.Castling.{castle_of, is_on_way, castling_way_is_empty, castling_way_is_safe};
 ghost use Rattle.chess_base.specs.Men.{other};
-ghost use Rattle.chess_base.specs.Moves.{is_legal};
+ghost use Rattle.chess_base.specs.Moves.{is_pseudo_legal, is_legal};
 ghost use Rattle.chess_base.specs.Squares.{rank, each_square};
 ghost use Rattle.chess_moves.specs.Sets.{contains};
 
 use crate::bits::Bits;
 use crate::squares::any;
-use chess_base::rules::Castle;
-use chess_base::{Move, Square, Variant};
+use chess_base::rules::{Castle, Steps};
+use chess_base::{Kind, Man, Move, Square, Variant};
 use chess_moves::{Board, SquareSet};
 
 impl Bits<'_> {
@@ -83,7 +83,34 @@ impl Bits<'_> {
         }
         match self.setup.variant {
             Variant::Normal => true,
-            Variant::Fischerandom => self.is_safe_after(m),
+            Variant::Fischerandom => self.is_safe_castled(m, castle),
         }
+    }
+
+    // Whether the castling `m`, which nothing else prevents, leaves the king safe, and so is legal; `castle` are its
+    // squares, from which follows what it changes on the board. (`is_safe_after` would look for these squares again.)
+    #[tactic(auto, using(crate::proofs::CastlingBySets::castle_steps))]
+    fn is_safe_castled(&self, m: &Move, castle: &Castle) -> bool
+        requires castle { castle_of self.now m.now ≡ Some castle.now }
+        requires none { m.now.promotion ≡ None }
+        requires pattern { IsTrue (is_pseudo_legal self.now m.now) }
+        ensures { result ≡ is_legal self.now m.now }
+    {
+        let side = self.setup.side;
+        let steps = Steps {
+            from: m.from,
+            second_from: Some(castle.rook_from),
+            second_to: Some(castle.rook_to),
+            second: Some(Man {
+                colour: side,
+                kind: Kind::Rook,
+            }),
+            to: castle.king_to,
+            mover: Some(Man {
+                colour: side,
+                kind: Kind::King,
+            }),
+        };
+        self.is_safe_by(&steps)
     }
 }

@@ -60,7 +60,8 @@ impl Kinds {
 
     /// Adds a piece of this kind on `square`, which is empty: to the set of its kind, and to the set of all.
     pub fn put(&mut self, kind: Kind, square: Square)
-        ensures kinds { (men : Men) → (c : Side) → length men ≡ 64 → man_at men square ≡ None → IsKinds self.old.sets c men
+        ensures kinds { (men : Men) → (c : Side) → length men ≡ 64 → man_at men square ≡ None
+            → IsKinds self.old.sets c men
             → IsKinds self.new.sets c (slice_set men square (Some (record { colour = c; kind = kind }))) }
         ensures all { (men : Men) → (c : Side) → (o : Option Piece) → length men ≡ 64 → is_of c o ≡ true
             → IsAll self.old.all c men → IsAll self.new.all c (slice_set men square o) }

@@ -122,7 +122,8 @@ impl Bits<'_> {
     #[inline(always)]
     fn steps_plainly(&self, m: &Move) -> bool
         ensures { result ≡ (not (is_man (self.now).side King (man_at (self.now).men m.now.from))
-            && not (is_man (self.now).side Pawn (man_at (self.now).men m.now.from) && is_at (self.now).target m.now.to)) }
+            && not (is_man (self.now).side Pawn (man_at (self.now).men m.now.from)
+            && is_at (self.now).target m.now.to)) }
     {
         let side = self.setup.side;
         let man = self.setup.men[m.from.index()];
@@ -147,7 +148,7 @@ impl Bits<'_> {
     // changes on the board. Only moves of the king, castling included, and captures en passant come here, so it is not
     // inlined.
     #[inline(never)]
-    fn is_safe_by(&self, steps: &Steps) -> bool
+    pub(crate) fn is_safe_by(&self, steps: &Steps) -> bool
         ensures { (m : Move) → is_pseudo_legal self.now m ≡ true → steps.now ≡ steps_of self.now m
             → result ≡ is_legal self.now m }
     {

@@ -116,13 +116,20 @@ impl Bits<'_> {
     // Those of the squares `men` from which the piece there may legally go to `to`; each move gets the short test. The
     // caller knows that all these moves are pseudo-legal and name no promotion, and that none is the king's or en
     // passant (`StepsPlainly`). `tried_starts` would give the same squares, but its test would ask of each move again
-    // whether it is the king's or en passant.
+    // whether it is the king's or en passant. `filter` would call its test for each square: it is not inlined here, and
+    // verifying plain games took 4 % more instructions with it.
     #[inline(always)]
     fn safe_starts(&self, men: SquareSet, to: Square) -> SquareSet
         requires { (k : ℕ) → k < 64 → contains men k ≡ true → StepsPlainly self.now (move_of k to None) }
         ensures { (k : ℕ) → k < 64 → contains result k ≡ (contains men k && is_legal self.now (move_of k to None)) }
     {
-        filter(men, |from| self.is_safe_plain(from, to))
+        let mut starts = SquareSet::empty();
+        let mut rest = men;
+        while let Some(from) = rest.take_first() {
+            let is_safe = self.is_safe_plain(from, to);
+            starts = starts.union(single_if(is_safe, from));
+        }
+        starts
     }
 
     // The squares from which pieces of this kind (queen, rook, bishop or knight) of the side on move may legally go to

@@ -47,7 +47,8 @@ impl Sets {
 
     /// The squares of all pieces of this colour.
     pub fn all(&self, colour: Colour) -> SquareSet
-        ensures { (men : Men) → IsSets self.now men → (k : ℕ) → k < 64 → contains result k ≡ is_of colour (man_at men k) }
+        ensures { (men : Men) → IsSets self.now men → (k : ℕ) → k < 64
+            → contains result k ≡ is_of colour (man_at men k) }
     {
         match colour {
             Colour::White => self.white.all,

@@ -78,7 +78,8 @@ fn seen_from(
     occupied: SquareSet,
     men: SquareSet,
 ) -> SquareSet
-    requires { (k : ℕ) → k < 64 → contains men k ≡ true → (share_rank_or_file k square || share_diagonal k square) ≡ true }
+    requires { (k : ℕ) → k < 64 → contains men k ≡ true
+        → (share_rank_or_file k square || share_diagonal k square) ≡ true }
     ensures { (k : ℕ) → k < 64 → contains result k ≡ (contains men k && is_open occupied square k) }
 {
     filter(men, |man| is_open(tables, square, man, occupied))
@@ -113,7 +114,8 @@ pub(crate) fn met_on_diagonals(
     men: SquareSet,
 ) -> SquareSet
     ensures { (k : ℕ) → k < 64
-        → contains result k ≡ ((not (k == square) && share_diagonal k square && is_open occupied square k) && contains men k) }
+        → contains result k
+        ≡ ((not (k == square) && share_diagonal k square && is_open occupied square k) && contains men k) }
 {
     let near = tables.at(Shape::Diagonals, square).intersection(men);
     seen_from(tables, square, occupied, near)

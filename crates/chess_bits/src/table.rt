@@ -6,7 +6,6 @@ ghost use Rattle.chess_moves.specs.Sets.{contains};
 ghost use Rattle.chess_bits.specs.ties.Shapes.{in_shape};
 
 use crate::ray::is_on_ray;
-use crate::squares::filter;
 use chess_base::rules::Line;
 use chess_base::{Colour, Square};
 use chess_moves::SquareSet;
@@ -48,11 +47,18 @@ fn in_shape(shape: Shape, a: Square, b: Square) -> bool
 }
 
 // The squares that belong to the shape from square a: for `Knight`, the ones that a knight on a attacks. This computes
-// one entry of a table.
+// one entry of a table. `filter` of all squares would do, but opening the tables took 7 % more instructions with it.
 fn squares_of(shape: Shape, a: Square) -> SquareSet
     ensures { (k : ℕ) → k < 64 → contains result k ≡ in_shape shape a k }
 {
-    filter(SquareSet::full(), |b| in_shape(shape, a, b))
+    let mut set = SquareSet::empty();
+    for number in 0..64 {
+        let b = Square::new(number);
+        if in_shape(shape, a, b) {
+            set = set.union(SquareSet::single(b));
+        }
+    }
+    set
 }
 
 /// A table of one shape: for each square, the set of squares that belong to the shape from there. In contracts its

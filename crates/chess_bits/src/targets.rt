@@ -108,7 +108,8 @@ impl Bits<'_> {
     // is castling, and legal.
     pub(crate) fn castling_ends(&self, king: Square) -> SquareSet
         ensures { (k : ℕ) → k < 64
-            → contains result k ≡ legal_or self.now (move_of king k None) (castle_of self.now (move_of king k None)) false }
+            → contains result k
+            ≡ legal_or self.now (move_of king k None) (castle_of self.now (move_of king k None)) false }
     {
         let far = self.legal_castling_end(king, CastlingSide::QueenSide);
         far.union(self.legal_castling_end(king, CastlingSide::KingSide))

@@ -6,7 +6,7 @@ ghost use Rattle.chess_fen.specs.Texts.{occurs, may_name_right, first_letter, na
 ghost use Rattle.chess_fen.specs.RightNames.{side_letter, right_letter, is_towards};
 ghost use Rattle.chess_fen.specs.ties.Loops.{edge_file};
 ghost use Rattle.chess_fen.specs.ties.Reader.{times, names_once, are_right_letters, right_named, nowhere, outer_rook, named_square, one_or_nowhere, right_after_letters, right_by_letters};
-ghost use Rattle.chess_base.specs.Castling.{home_square, rook_file, rights_by};
+ghost use Rattle.chess_base.specs.Castling.{home_square, king_square, rook_file, rights_by};
 ghost use Rattle.chess_base.specs.declared.man.CastlingSide.TheVariants.{KingSide, QueenSide};
 ghost use Rattle.chess_base.specs.declared.man.Variant.TheVariants.{Normal, Fischerandom};
 
@@ -174,13 +174,15 @@ fn is_towards(castling_side: CastlingSide, king: Option<Square>, s: Square) -> b
 
 // Chess960: the rook's square by which this letter names the colour's right on that side; `None` if it names another
 // right. `K`, `Q`, `k` and `q` name the outermost rook, a file's letter names that file, if it is on that side of the
-// king.
+// king, whose square is `king`.
 fn named_square(
     men: &[Option<Man>; 64],
+    king: &Option<Square>,
     colour: Colour,
     castling_side: CastlingSide,
     letter: u8,
 ) -> Option<Square>
+    requires { king.now ≡ king_square men.now colour }
     ensures { result ≡ named_square men.now colour castling_side letter }
 {
     if letter == side_letter(colour, castling_side) {
@@ -190,7 +192,7 @@ fn named_square(
         return None;
     }
     let square = home_square(colour, letter - first_letter(colour));
-    if is_towards(castling_side, king_square(men, colour), square) {
+    if is_towards(castling_side, *king, square) {
         Some(square)
     } else {
         None
@@ -209,19 +211,22 @@ fn one_or_nowhere(first: Option<Square>, second: Option<Square>) -> Option<Squar
     }
 }
 
-// Chess960: the castling right of the colour on that side that the letters of a castling field name, as the square of
-// its rook; `None` if they don't name it.
+// Chess960: the castling right on that side of the colour, whose king is on the square `king`, that the letters of a
+// castling field name, as the square of its rook; `None` if they don't name it.
 fn right_of_letters(
     men: &[Option<Man>; 64],
+    king: &Option<Square>,
     letters: &[u8],
     colour: Colour,
     castling_side: CastlingSide,
 ) -> Option<Square>
+    requires { king.now ≡ king_square men.now colour }
     ensures { result ≡ right_after_letters men.now colour castling_side None letters.now }
 {
     let mut found = None;
     for &letter in letters {
-        found = one_or_nowhere(found, named_square(men, colour, castling_side, letter));
+        let named = named_square(men, king, colour, castling_side, letter);
+        found = one_or_nowhere(found, named);
     }
     found
 }
@@ -237,14 +242,16 @@ fn normal_rights(letters: &[u8], colour: Colour) -> ColourRights
     }
 }
 
-// Chess960: the castling rights of a colour that the letters of a castling field name.
+// Chess960: the castling rights of a colour that the letters of a castling field name. Its king is looked for once,
+// since up to 64 squares are asked.
 fn chess960_rights(men: &[Option<Man>; 64], letters: &[u8], colour: Colour) -> ColourRights
     ensures king_side { result.king_side ≡ right_by_letters Fischerandom men.now letters.now colour KingSide }
     ensures queen_side { result.queen_side ≡ right_by_letters Fischerandom men.now letters.now colour QueenSide }
 {
+    let king = &king_square(men, colour);
     ColourRights {
-        king_side: right_of_letters(men, letters, colour, CastlingSide::KingSide),
-        queen_side: right_of_letters(men, letters, colour, CastlingSide::QueenSide),
+        king_side: right_of_letters(men, king, letters, colour, CastlingSide::KingSide),
+        queen_side: right_of_letters(men, king, letters, colour, CastlingSide::QueenSide),
     }
 }
 

@@ -1,21 +1,24 @@
--- The coordinate text of a legal move denotes it alone.
-use Rattle.std.proofs.Common.{◌≡◌, ◌+◌, ◌<◌, true, false, not, ◌∷◌, Option, Some, None, refl, sym, ap, ◌∙◌, arith}
+-- The coordinate text of a legal move denotes it alone; that of a move that is not legal denotes none.
+use Rattle.std.proofs.Common.{◌≡◌, ◌+◌, ◌<◌, true, false, not, List, [], ◌∷◌, Option, Some, None, refl, sym, ap, ◌∙◌, arith}
 use Rattle.std.specs.Prelude.{IsTrue}
 use Rattle.std.proofs.lemmas.Bool.Decides.{nat_tests}
-use Rattle.std.proofs.lemmas.Bool.{eq-eqb}
+use Rattle.std.proofs.lemmas.Bool.{eq-eqb, both_ways, false_from_ne_true}
+use Rattle.std.specs.List.{filter}
 use Rattle.chess_base.specs.declared.man.Kind.{Kind}
 use Rattle.chess_base.specs.declared.man.Move.{Move}
 use Rattle.chess_base.specs.declared.setup.Setup.{Setup}
 use Rattle.chess_base.specs.Coordinates.{small_letter_text, coordinate}
 use Rattle.chess_base.specs.shared.Parts.{optional}
 use Rattle.chess_base.specs.Moves.{is_legal}
+use Rattle.chess_base.specs.MoveList.{moves}
 use Rattle.chess_base.specs.Squares.{file, rank}
 use Rattle.chess_text.specs.declared.parts.Parts.{Parts}
 use Rattle.chess_text.specs.declared.reading.Reading.TheVariants as reads
 use Rattle.chess_text.specs.laws.Laws.{DenotesAlone, AreParts}
 use Rattle.chess_text.specs.Parts.{unmarked}
 use Rattle.chess_text.specs.ties.Fitting.{promotion_text, parts_text}
-use Rattle.chess_text.specs.Moves.{shape, reading}
+use Rattle.chess_text.specs.Moves.{shape, reading, denotes, one_of}
+use Rattle.chess_text.proofs.FormFacts.{legal_agree}
 use Rattle.chess_text.specs.ties.Fitting.{has_equals, is_form, parts_fit, is_by_squares, is_by_letter, is_straight, is_by_file}
 use Rattle.chess_text.proofs.OneMoveFits.{read_alone, denoted_parts, shape_parts, denotes_move, move_is, written, promotion_part, promotes-self, promotes-same}
 use Rattle.chess_text.proofs.Legal.{IsMove, legal_move, described_as}
@@ -78,20 +81,25 @@ fits_alone p m n k e = record {
   promotion = promotes-same false true m.promotion n.promotion (grind (arith, nat_tests, e));
 }
 
+-- a legal move that the text denotes is the move
+denotes_only : (p : Setup) (m n : Move) → m.to < 64 → AreParts (squares_named m) → is_legal p n ≡ true
+    → denotes p (coordinate m) n ≡ true → n ≡ m
+denotes_only p m n low are legal e =
+    let g = legal_move p n legal in
+    let same =
+    fits_alone p m n g.man
+    (sym (denotes_move p (coordinate m) n g
+    ∙ denoted_parts (coordinate m) (squares_named m) (described_as p n g.man) (bare m low) are) ∙ e) in
+    move_is n m same.from same.to same.promotion
+
 pub coordinate_alone : (p : Setup) (m : Move) → IsTrue (is_legal p m) → DenotesAlone p (coordinate m) m
 coordinate_alone p m legal =
     let h = legal_move p m legal in
-    let at = bare m h.to_in in
     let are = are_parts p m h in (
-      denotes_move p (coordinate m) m h ∙ denoted_parts (coordinate m) (squares_named m) (described_as p m h.man) at are
+      denotes_move p (coordinate m) m h
+          ∙ denoted_parts (coordinate m) (squares_named m) (described_as p m h.man) (bare m h.to_in) are
           ∙ fits_itself p m h.man,
-      λ n n_legal e.
-          let g = legal_move p n n_legal in
-          let same =
-          fits_alone p m n g.man
-          (sym (denotes_move p (coordinate m) n g
-          ∙ denoted_parts (coordinate m) (squares_named m) (described_as p n g.man) at are) ∙ e) in
-          move_is n m same.from same.to same.promotion,
+      λ n n_legal e. denotes_only p m n h.to_in are n_legal e,
     )
 
 form_of_squares : (m : Move) → is_form (squares_named m) ≡ true
@@ -107,3 +115,28 @@ pub coordinate_read : (p : Setup) (m : Move) → IsTrue (is_legal p m)
     → reading p (coordinate m) ≡ reads.Move m
 coordinate_read p m legal = read_alone p (coordinate m) m legal (coordinate_shape p m legal)
     (coordinate_alone p m legal)
+
+none_kept : (ms : List Move) → filter (λ m. false) ms ≡ []
+none_kept [] = refl
+none_kept (m ∷ ms) = none_kept ms
+
+-- where the move is not legal, its text denotes none
+pub coordinate_of_none : (p : Setup) (m : Move) → m.from < 64 → m.to < 64 → m.promotion ≡ None → is_legal p m ≡ false
+    → reading p (coordinate m) ≡ reads.NoSuch
+unfolding reading
+coordinate_of_none p m start end none off =
+    let text = coordinate m in
+    let are : AreParts (squares_named m) = record {
+      letter_is = tt;
+      file_is = omega (arith, start);
+      rank_is = omega (arith, start);
+      to_is = end;
+      promotion_is = promotion_part false true m.promotion (rw none tt);
+    } in
+    rw (shape_parts text (squares_named m) (bare m end) are (form_of_squares m))
+    (ap one_of
+    (legal_agree p (λ n. denotes p text n) (λ n. false)
+    (λ n legal.
+    false_from_ne_true (denotes p text n)
+    (λ e. both_ways (is_legal p m) off (ap (is_legal p) (sym (denotes_only p m n end are legal e)) ∙ legal)))
+    ∙ none_kept (moves p)))

@@ -3,6 +3,7 @@ use Rattle.std.proofs.Common.{◌≡◌, ℕ, inl, inr, Bool, true, false, ◌&&
 use Rattle.std.proofs.lemmas.Bool.{and_parts, cases_Bool}
 use Rattle.std.proofs.lemmas.List.Elements.{filter_agree}
 use Rattle.std.specs.List.{list_any, filter}
+use Rattle.std.specs.Option.{option_map_or}
 use Rattle.std.specs.Str.{bytes_eq}
 use Rattle.chess_base.specs.declared.man.CastlingSide.{CastlingSide}
 use Rattle.chess_base.specs.declared.man.CastlingSide.TheVariants.{KingSide, QueenSide}
@@ -19,7 +20,7 @@ use Rattle.chess_text.specs.declared.reading.Reading.TheVariants as reads
 use mathlib.Core.Bool.{or-false}
 use Rattle.chess_text.specs.Parts.{unmarked}
 use Rattle.chess_text.specs.ties.Reader.{parts_at}
-use Rattle.chess_text.specs.Moves.{castling_texts, shape, denotes_described, denotes, one_of, reading, IsLegalReading}
+use Rattle.chess_text.specs.Moves.{castling_texts, described, shape, denotes_described, denotes, one_of, reading, IsLegalReading}
 use Rattle.chess_text.specs.ties.Fitting.{passes, is_form, parts_fit, has_parts, has_form, fits_text}
 use Rattle.chess_text.specs.laws.CastlingTexts.{is_castling_text}
 use Rattle.chess_text.specs.ties.Forms.{form_of_parts, form_at, form_of, same_side, form_fits, is_denoted}
@@ -114,7 +115,7 @@ denotes-read form text p m legal e =
     ∙ sym (ap (passes (form_fits form)) (described_is p m h))
 
 -- two tests that agree on legal moves keep the same of them
-legal_agree : (p : Setup) (t u : Move → Bool) → ((m : Move) → is_legal p m ≡ true → t m ≡ u m)
+pub legal_agree : (p : Setup) (t u : Move → Bool) → ((m : Move) → is_legal p m ≡ true → t m ≡ u m)
     → filter t (moves p) ≡ filter u (moves p)
 unfolding moves
 legal_agree p t u h =
@@ -128,6 +129,25 @@ legal_agree p t u h =
           | inl legal ↦ ap (λ b. is_legal p m && b) (h m legal)
           | inr off ↦ rw off refl
         ]
+
+-- marks at the end change nothing
+shape_unmarked : (a b : List ℕ) → unmarked a ≡ unmarked b → shape a ≡ shape b
+unfolding shape denotes_described
+shape_unmarked a b e = rw e refl
+
+denotes_unmarked : (a b : List ℕ) → unmarked a ≡ unmarked b → (o : Option Described)
+    → option_map_or (denotes_described a) o false ≡ option_map_or (denotes_described b) o false
+unfolding denotes_described
+denotes_unmarked a b e None = refl
+denotes_unmarked a b e (Some d) = rw e refl
+
+pub reading_unmarked : (p : Setup) (a b : List ℕ) → unmarked a ≡ unmarked b → reading p a ≡ reading p b
+unfolding reading denotes
+reading_unmarked p a b e =
+    rw (
+      shape_unmarked a b e,
+      filter_agree (λ m. denotes p a m) (λ m. denotes p b m) (λ m. denotes_unmarked a b e (described p m)) (moves p),
+    ) refl
 
 pub reading_denoted : (p : Setup) (text : List ℕ) (form : Form) → form_of text ≡ Some form
     → one_of (filter (λ m. is_denoted form p m) (moves p)) ≡ reading p text

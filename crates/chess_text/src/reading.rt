@@ -351,16 +351,26 @@ fn denoted_usual<B: Board>(board: &B, parts: &Parts) -> Reading
     }
 }
 
-// The legal move whose coordinate text this is, as `e2e4` or `e7e8q`; `None` for any other text, also where it denotes
-// a move. In a session nearly each text is one: when it was described like any other, in loops over squares and
-// promotions, the workload matches took 1.05 times as long.
-fn read_coordinates<B: Board>(board: &B, text: &[u8]) -> Option<Move>
-    ensures { IfSome result (λ m. reading (B.position board.now) text.now ≡ reads.Move m) }
+// What coordinates, such as `e2e4` or `e7e8q`, are read as, with one mark after them or none: they denote only the move
+// between their squares. `None` for any other text, and for a promotion that is not legal. In a session nearly each
+// text is one: when it was described like any other, in loops over squares and promotions, the workload matches took
+// 1.05 times as long.
+fn read_coordinates<B: Board>(board: &B, text: &[u8]) -> Option<Reading>
+    ensures { IfSome result (λ r. reading (B.position board.now) text.now ≡ r) }
 {
-    let Ok(m) = Move::try_from(text) else {
+    let Ok(m) = Move::try_from(without_mark(text)) else {
         return None;
     };
-    if board.is_legal(&m) { Some(m) } else { None }
+    // The prover wants these facts: the numbers of both squares are below 64.
+    let _start = m.from.number();
+    let _end = m.to.number();
+    if board.is_legal(&m) {
+        return Some(Reading::Move(m));
+    }
+    match m.promotion {
+        None => Some(Reading::NoSuch),
+        Some(_) => None,
+    }
 }
 
 // Reads a text of any shape as a move of the board's position. In PGN most texts are of a usual shape, so this is not
@@ -369,8 +379,8 @@ fn read_coordinates<B: Board>(board: &B, text: &[u8]) -> Option<Move>
 fn read_any_move<B: Board>(board: &B, text: &[u8]) -> Reading
     ensures { result ≡ reading (B.position board.now) text.now }
 {
-    if let Some(m) = read_coordinates(board, text) {
-        return Reading::Move(m);
+    if let Some(reading) = read_coordinates(board, text) {
+        return reading;
     }
     let Some(form) = read_form(text) else {
         return Reading::NotAMove;
