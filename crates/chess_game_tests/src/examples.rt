@@ -134,7 +134,8 @@ fn debugged_rest<B: Board>(alloc: Global, game: &Game<B>) -> Result<String, Fail
     Ok(format!(in alloc; "{moves:?} {positions:?}")?)
 }
 
-const REST: &str = "[Move { from: Square { number: 52 }, to: Square { number: 36 }, promotion: None }] \
+const REST: &str =
+    "[Move { from: Square { number: 52 }, to: Square { number: 36 }, promotion: None }] \
     Positions { left: 2 }";
 
 #[test]
@@ -151,7 +152,8 @@ fn comments_moves_and_positions_are_debugged(rt: HostRuntime) -> Result<(), Fail
     Ok(())
 }
 
-const AFTER_THE_START: &str = "moves: [Move { from: Square { number: 12 }, to: Square { number: 28 }, \
+const AFTER_THE_START: &str =
+    "moves: [Move { from: Square { number: 12 }, to: Square { number: 28 }, \
     promotion: None }], declared: Some(Declared { outcome: BlackWins, comment: \"White resigns\" }), limit: 300 }";
 
 fn debugged_game<B: Board>(alloc: Global, game: &Game<B>) -> Result<String, Fail> {

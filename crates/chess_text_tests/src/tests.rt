@@ -618,7 +618,11 @@ fn shown_san<B: Board>(alloc: Global, board: &mut B, text: &[u8]) -> Result<Stri
 #[test]
 fn a_san_is_shown(rt: HostRuntime) -> Result<(), Fail> {
     let mut board = Plain::new();
-    set(&mut board, Variant::Normal, b"3k4/8/8/8/8/8/8/R3K3 w Q - 0 1")?;
+    set(
+        &mut board,
+        Variant::Normal,
+        b"3k4/8/8/8/8/8/8/R3K3 w Q - 0 1",
+    )?;
     let shown = shown_san(rt.alloc(), &mut board, b"e1c1")?;
     assert_eq!(rt; shown.as_str(), "O-O-O+ San(\"O-O-O+\")");
     Ok(())
