@@ -1,5 +1,5 @@
 -- After a block that could not be sent, nothing is sent to its side.
-use Rattle.std.proofs.Common.{◌≡◌, ℕ, ◌≤◌, Bool, true, false, List, [], ◌∷◌, ◌++◌, length, refl, ap, arith}
+use Rattle.std.proofs.Common.{◌≡◌, ◌≤◌, Bool, true, false, List, [], ◌∷◌, ◌++◌, length, refl, ap, arith}
 use Rattle.std.specs.Prelude.{if◌then◌else◌}
 use Rattle.chess_base.specs.declared.man.Colour.{Colour}
 use Rattle.chess_base.specs.Men.{same_colour}
@@ -12,7 +12,6 @@ use Rattle.chess_match.specs.laws.OfActs.{FailedBlocksAreLast, InEachMatch, OneB
 use Rattle.chess_match.proofs.MatchCases.{all_sends_end, both_not, sends_end, unsent_in}
 use Rattle.chess_match.proofs.MoveLaw.{written}
 use Rattle.chess_match.proofs.OneLaw.{not_to, silent_unbroken}
-use Rattle.chess_match.proofs.Points.{whole}
 
 none_given : (S : Colour) (H : List Act) → unsent_in S H ≡ true → blocks_given S H ≡ []
 none_given S [] u = refl
