@@ -508,10 +508,10 @@ only_one_match r s H K final final' h k o q =
   where
     held : (H : List Act) (final : Match) → IsMatch r H final → AreOf s H → Held one_each s H
     held H final h o = (
-      o.lines,
-      o.ends,
-      o.failures,
-      o.moments,
+      o.reads.lines,
+      o.reads.ends,
+      o.reads.failures,
+      o.reads.moments,
       λ S. (
         λ none. subst (λ (n : ℕ). IfSome (s.breaks S) (λ k. n ≤ k)) (sym (counts S H)) (o.sent S none),
         λ some. o.broken S some ∙ ap Some (sym (counts S H)),

@@ -37,6 +37,16 @@ match_after r m (SendFails block ∷ H) =
     match_after r (if is_over m.phase then m else (effect r m (FailsToWrite block.to)).after) H
 match_after r m (Happens event ∷ H) = match_after r (effect r m event).after H
 
+-- the events of these acts, in order, if the match is `m` before them: those that were read, and a failed write, if the
+-- match ended by it; one after the end is none
+abbrev pub events_of : Rules → Match → List Act → List Event
+events_of r m [] = []
+events_of r m (Sends block ∷ H) = events_of r m H
+events_of r m (SendFails block ∷ H) =
+    let failure = FailsToWrite block.to in
+    if is_over m.phase then events_of r m H else failure ∷ events_of r (effect r m failure).after H
+events_of r m (Happens event ∷ H) = event ∷ events_of r (effect r m event).after H
+
 -- in every match `P` holds of the rules, of all acts, and of the match at its end
 abbrev pub InEachMatch : (Rules → List Act → Match → Type 0) → Type 0
 InEachMatch P = (r : Rules) (H : List Act) (final : Match) → IsMatch r H final → P r H final
@@ -109,14 +119,18 @@ WriteFaultsAreOfBlocks r H m = (S : Colour) → ended_by_write_to S m.phase ≡ 
 
 -- ---- what two engines and a clock give fixes the match
 
--- the acts `H` come from these engines and this clock (`s`): the lines read are the first of each engine's lines, or
--- all of them if its output ended or a read failed; the moments shown are the first of the clock's; and sending a block
--- failed just where `s.breaks` says. If that is `None` for both sides, each block was sent
-pub record AreOf (s : Streams) (H : List Act) : Type 0 where
+-- what the acts `H` read is what these engines and this clock (`s`) give: the lines read are the first of each engine's
+-- lines, or all of them if its output ended or a read failed; and the moments shown are the first of the clock's
+pub record ReadFrom (s : Streams) (H : List Act) : Type 0 where
   pub lines : (S : Colour) → (rest : List (Option (List ℕ))) × (s.lines S ≡ lines_read S H ++ rest)
   pub ends : (S : Colour) → has_ended S H ≡ true → (s.lines S ≡ lines_read S H) × (s.fails S ≡ false)
   pub failures : (S : Colour) → has_failed_read S H ≡ true → (s.lines S ≡ lines_read S H) × (s.fails S ≡ true)
   pub moments : (n : ℕ) → n < length (moments_shown H) → slice_get (moments_shown H) n ≡ Some (s.moments n)
+
+-- the acts `H` come from these engines and this clock (`s`): they read what these give, and sending a block failed just
+-- where `s.breaks` says. If that is `None` for both sides, each block was sent
+pub record AreOf (s : Streams) (H : List Act) : Type 0 where
+  pub reads : ReadFrom s H
   -- if no block for `S` failed, `S` was sent at most as many as `s.breaks` says; any number, if it says `None`
   pub sent : (S : Colour) → is_broken H S ≡ false → IfSome (s.breaks S) (λ n. length (blocks_sent S H) ≤ n)
   -- if one failed, `S` had been sent just as many
@@ -127,6 +141,15 @@ pub record AreOf (s : Streams) (H : List Act) : Type 0 where
 abbrev pub OnlyOneMatch : Type 0
 OnlyOneMatch = (r : Rules) (s : Streams) (H K : List Act) (final final' : Match) → IsMatch r H final
     → IsMatch r K final' → AreOf s H → AreOf s K → (H ≡ K) × (final ≡ final')
+
+-- in two matches by the same rules that read what the same engines and clock give (`s`), neither of which ended because
+-- a write failed, the same events happen, and the states at the end are the same. Which end lines could be sent may
+-- differ
+abbrev pub OneMatchButForEndLines : Type 0
+OneMatchButForEndLines = (r : Rules) (s : Streams) (H K : List Act) (final final' : Match) → IsMatch r H final
+    → IsMatch r K final' → ReadFrom s H → ReadFrom s K → ((S : Colour) → ended_by_write_to S final.phase ≡ false)
+    → ((S : Colour) → ended_by_write_to S final'.phase ≡ false)
+    → (events_of r beginning.after H ≡ events_of r beginning.after K) × (final ≡ final')
 
 -- the states of an engine's input before a run (`w`) and after it (`w'`) show how many bytes of the run were flushed:
 -- which bytes it took is known, none was unflushed before, and the count of those that are unflushed then is not full
@@ -325,16 +348,6 @@ after_events r m events = fold (λ n e. (effect r n e).after) m events
 abbrev pub NotesHaveTheEvents : Type 0
 NotesHaveTheEvents = (r : Rules) (reason : Reason) (H : List Act) (final : Match) → IsMatch r H final
     → final.phase ≡ Over reason → final ≡ after_events r beginning.after (events_in (notes_given reason H))
-
--- the events of these acts, in order, if the match is `m` before them: those that were read, and a failed write, if the
--- match ended by it; one after the end is none
-abbrev pub events_of : Rules → Match → List Act → List Event
-events_of r m [] = []
-events_of r m (Sends block ∷ H) = events_of r m H
-events_of r m (SendFails block ∷ H) =
-    let failure = FailsToWrite block.to in
-    if is_over m.phase then events_of r m H else failure ∷ events_of r (effect r m failure).after H
-events_of r m (Happens event ∷ H) = event ∷ events_of r (effect r m event).after H
 
 -- in every match that ended for this reason: the events among its notes are just the events of the match, in order
 abbrev pub NotesAreInOrder : Type 0
