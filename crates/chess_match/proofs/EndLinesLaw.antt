@@ -6,7 +6,7 @@ use Rattle.chess_base.specs.declared.man.Colour.TheVariants.{White}
 use Rattle.chess_base.proofs.shared.Men.{same_colour-self}
 use Rattle.chess_match.specs.Acts.{Act, Block, IsMatch, IsMatchFrom, Sends, SendFails, Happens, awaits_line, blocks_from, is_over}
 use Rattle.chess_match.specs.ByDevice.{is_end_of, is_failed_read_of, line_read, moment_shown}
-use Rattle.chess_match.specs.Effects.{Match, Over, Phase, beginning, effect}
+use Rattle.chess_match.specs.Effects.{Match, Phase, beginning, effect}
 use Rattle.chess_match.specs.Events.{Event, FailsToRead, FailsToWrite, Line, Opened, OutputEnds}
 use Rattle.chess_match.specs.Lines.{SentLine}
 use Rattle.chess_match.specs.Rules.{Rules}
