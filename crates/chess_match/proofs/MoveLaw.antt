@@ -18,7 +18,7 @@ use Rattle.chess_match.specs.Reasons.{is_write_fault_of}
 use Rattle.chess_match.specs.Rules.{Rules, text_of_last}
 use Rattle.chess_match.specs.declared.reason.Reason.{Reason}
 use Rattle.chess_match.specs.laws.Laws.{move_sent, moves_sent, texts_from, broken_blocks, is_broken, lines_sent, line_kind}
-use Rattle.chess_match.specs.laws.OfActs.{AllMovesAreSent, AtEachLine, AtEachMoment, AtEachOpening, InEachMatch, IsSentAllMoves, MovesAreSent, MovesSentAreKnown, lines_given, match_after, others_moves}
+use Rattle.chess_match.specs.laws.OfActs.{AllMovesAreGiven, AllMovesAreSent, AtEachLine, AtEachMoment, AtEachOpening, InEachMatch, IsSentAllMoves, MovesAreSent, MovesSentAreKnown, ended_by_write_to, lines_given, match_after, others_moves}
 use Rattle.chess_match.proofs.Givings.{Gives, Goes, given_at, grows, sends}
 use Rattle.chess_match.proofs.LineCases.{line_cases}
 use Rattle.chess_match.proofs.MatchCases.{both_not, on_when_read}
@@ -176,8 +176,22 @@ sent_at r O C H K final done g = given_at move_sent (λ text. refl) r O (all_tex
 
 pub moves_are_sent : AtEachMoment MovesAreSent
 moves_are_sent r H K final g O = sent_at r O
-    (λ m X. (rest : List (List ℕ)) × (length rest ≤ 1) × (X ++ rest ≡ all_texts r O m)) H K final
-    (λ m due q X Y rest none l a o. (Y ++ rest, l, a)) g
+    (λ m X. (rest : List (List ℕ)) × (length rest ≤ 1) × (is_owed_move m.phase O ≡ true → length rest ≡ 1)
+    × (X ++ rest ≡ all_texts r O m)) H K final
+    (λ m due q X Y rest none l a o. (
+      Y ++ rest,
+      l,
+      λ owed. one_left Y rest l (owed_one (last_text r O m) m.phase rest owed refl o),
+      a,
+    )) g
+  where
+    -- while a `pong` is awaited, the last move is left
+    owed_one : (text : List (List ℕ)) (p : Phase) (rest : List (List ℕ)) → is_owed_move p O ≡ true → length text ≡ 1
+        → OwedIn O text p rest → length rest ≡ 1
+    owed_one text p rest h1 h2 h3 = grind (arith, h3)
+
+    one_left : (Y rest : List (List ℕ)) → length (Y ++ rest) ≤ 1 → length rest ≡ 1 → length (Y ++ rest) ≡ 1
+    one_left Y rest h e = let l = length-append Y rest in omega (arith, h, e, l)
 
 -- ---- a whole match
 
@@ -195,11 +209,6 @@ all_sent S (SendFails b ∷ H) h = at (same_colour b.to S) h (all_sent S H)
     at false h more = more h
 all_sent S (Happens e ∷ H) h = all_sent S H h
 
--- whether a match ended since writing to O failed
-abbrev pub unwritten_in : Phase → Colour → Bool
-unwritten_in (Over reason) O = is_write_fault_of reason O
-unwritten_in _ O = false
-
 broken_more : (b : Block) (H : List Act) (O : Colour) → is_broken (SendFails b ∷ H) O ≡ false
     → (same_colour b.to O ≡ false) × (is_broken H O ≡ false)
 broken_more b H O h = at (same_colour b.to O) h
@@ -212,9 +221,9 @@ broken_more b H O h = at (same_colour b.to O) h
 
 -- a line ends no match since a write failed
 pub line_written : (r : Rules) (O S : Colour) (t : Option (List ℕ)) (x : ℕ) (m : Match) → awaits_line m.phase S ≡ true
-    → unwritten_in (effect r m (Line S t x)).after.phase O ≡ false
+    → ended_by_write_to O (effect r m (Line S t x)).after.phase ≡ false
 line_written r O S t x m aw =
-    line_cases r S (line_kind t) x m (λ e. unwritten_in e.after.phase O ≡ false) aw (record {
+    line_cases r S (line_kind t) x m (λ e. ended_by_write_to O e.after.phase ≡ false) aw (record {
       handshake_stops = λ p reason c most w. w.0 O;
       handshake_counts = λ p d few. rw p refl;
       handshake_next = λ p s d. refl;
@@ -231,14 +240,15 @@ line_written r O S t x m aw =
       passes = λ p none. refl;
     })
   where
-    on_written : (p : Phase) → is_over p ≡ false → unwritten_in p O ≡ false
+    on_written : (p : Phase) → is_over p ≡ false → ended_by_write_to O p ≡ false
     on_written p h1 = grind arith
 
 -- if each block for O was sent, no write to O ended the match
-written : (r : Rules) (O : Colour) (H K : List Act) (final : Match) → IsMatch r (H ++ K) final
-    → is_broken H O ≡ false → unwritten_in (match_after r beginning.after H).phase O ≡ false
-written r O H K final g = by_points r
-    (λ m due H n. unwritten_in m.phase O ≡ false → is_broken H O ≡ false → unwritten_in n.phase O ≡ false) (record {
+written_so_far : (r : Rules) (O : Colour) (H K : List Act) (final : Match) → IsMatch r (H ++ K) final
+    → is_broken H O ≡ false → ended_by_write_to O (match_after r beginning.after H).phase ≡ false
+written_so_far r O H K final g = by_points r
+    (λ m due H n. ended_by_write_to O m.phase ≡ false → is_broken H O ≡ false → ended_by_write_to O n.phase ≡ false)
+    (record {
       sends = λ m n b due H p. p;
       fails = λ m n b due H on q only same p w h. p (broken_more b H O h).0 (broken_more b H O h).1;
       fails_late = λ m n b due H o only same p w h. p w (broken_more b H O h).1;
@@ -248,24 +258,32 @@ written r O H K final g = by_points r
       read_fails = λ m n S H aw q only same p w h. p refl h;
     }) H K final (λ m due q g w h. w) g refl
 
-pub all_moves_are_sent : InEachMatch AllMovesAreSent
-all_moves_are_sent r H final g O unbroken =
+pub written : (r : Rules) (O : Colour) (H : List Act) (final : Match) → IsMatch r H final → is_broken H O ≡ false
+    → ended_by_write_to O final.phase ≡ false
+written r O H final g unbroken =
     let (g', e) = whole r H final g in
-    subst (λ (m : Match). moves_sent (lines_sent O H) ≡ all_texts r O m) e
-    (ap moves_sent (all_sent O H unbroken)
-    ∙ sent_at r O (λ m X. unwritten_in m.phase O ≡ false → X ≡ all_texts r O m) H [] final done g'
-    (written r O H [] final g' unbroken))
+    subst (λ (m : Match). ended_by_write_to O m.phase ≡ false) e (written_so_far r O H [] final g' unbroken)
+
+pub all_moves_are_given : InEachMatch AllMovesAreGiven
+all_moves_are_given r H final g O =
+    let (g', e) = whole r H final g in
+    subst (λ (m : Match). ended_by_write_to O m.phase ≡ false → moves_sent (lines_given O H) ≡ all_texts r O m) e
+    (sent_at r O (λ m X. ended_by_write_to O m.phase ≡ false → X ≡ all_texts r O m) H [] final done g')
   where
-    none_left : (p : Phase) (text rest : List (List ℕ)) → is_over p ≡ true → unwritten_in p O ≡ false
+    none_left : (p : Phase) (text rest : List (List ℕ)) → is_over p ≡ true → ended_by_write_to O p ≡ false
         → OwedIn O text p rest → rest ≡ []
     none_left p text rest h1 h2 h3 = grind (arith, h3)
 
     done : (m : Match) (due : List Block) → IsMatchFrom r m due [] final → (X Y rest : List (List ℕ))
         → (due ≡ [] → Y ≡ []) → length (Y ++ rest) ≤ 1 → X ++ (Y ++ rest) ≡ all_texts r O m → Owed r O m rest
-        → unwritten_in m.phase O ≡ false → X ≡ all_texts r O m
+        → ended_by_write_to O m.phase ≡ false → X ≡ all_texts r O m
     done m [] (o, e) X Y rest none l a owed w =
         sym (rw (none refl, none_left m.phase (last_text r O m) rest o w owed) (append-nil X)) ∙ a
     done m (b ∷ due) q X Y rest none l a owed w = absurd q
+
+pub all_moves_are_sent : InEachMatch AllMovesAreSent
+all_moves_are_sent r H final g O unbroken = ap moves_sent (all_sent O H unbroken)
+    ∙ all_moves_are_given r H final g O (written r O H final g unbroken)
 
 -- ---- when a line or the clock is read
 

@@ -17,10 +17,11 @@ use Rattle.chess_match.specs.declared.reason.MatchFault.TheVariants.{Write}
 use Rattle.chess_match.specs.declared.reason.Reason.{Reason}
 use Rattle.chess_match.specs.declared.reason.Reason.TheVariants.{Faulted}
 use Rattle.chess_match.specs.laws.Laws.{events_in, given_in, lines_noted, moments_noted, lines_read, notes_given}
-use Rattle.chess_match.specs.laws.OfActs.{NotesHaveAllLines, NotesHaveLinesRead, NotesHaveMoments, NotesHaveTheEvents, after_events, lines_given}
+use Rattle.chess_match.specs.laws.OfActs.{NotesAreInOrder, NotesHaveAllLines, NotesHaveLinesRead, NotesHaveMoments, NotesHaveTheEvents, after_events, ended_by_write_to, events_of, lines_given, match_after}
 use Rattle.chess_match.proofs.Leading.{unwritten}
 use Rattle.chess_match.proofs.MatchCases.{both_not, by_cases, on_when_read}
-use Rattle.chess_match.proofs.MoveLaw.{line_written, unwritten_in}
+use Rattle.chess_match.proofs.MoveLaw.{line_written}
+use Rattle.chess_match.proofs.Points.{end_after_acts}
 use Rattle.chess_match.proofs.Sends.{bytes_of-append}
 
 -- ---- lines
@@ -107,54 +108,83 @@ failed_written r m Black = at (farewell r m (Faulted Black Write) White)
     at (l ∷ ls) = (refl, tt)
 
 module _ (r : Rules) (reason : Reason) (final : Match) (over : final.phase ≡ Over reason) where
-  -- the events of the notes lead from here to the end; a match that is over stays so
-  abbrev Leads : Match → List Block → List Act → Type 0
-  Leads m due H = (is_over m.phase ≡ true → m.phase ≡ final.phase)
-      × ((is_over m.phase ≡ true → AreWritten reason due) → final ≡ after_events r m (events_in (notes_given reason H)))
+  -- the events of the notes are those of the acts; a match that is over stays so
+  abbrev Ordered : Match → List Block → List Act → Type 0
+  Ordered m due H = (is_over m.phase ≡ true → m.phase ≡ final.phase)
+      × ((is_over m.phase ≡ true → AreWritten reason due) → events_in (notes_given reason H) ≡ events_of r m H)
 
   on_not_over : {A : Type 0} (m : Match) → is_over m.phase ≡ false → is_over m.phase ≡ true → A
   on_not_over m on o = both_not (is_over m.phase) on o
 
   -- blocks after what ended the match
-  due_written : (m : Match) (due : List Block) → ((O : Colour) → unwritten_in m.phase O ≡ false)
+  due_written : (m : Match) (due : List Block) → ((O : Colour) → ended_by_write_to O m.phase ≡ false)
       → m.phase ≡ final.phase → AreWritten reason due
   due_written m due w e = all_written reason due
-      (λ O. subst (λ (p : Phase). unwritten_in p O ≡ false) (e ∙ over) (w O))
+      (λ O. subst (λ (p : Phase). ended_by_write_to O p ≡ false) (e ∙ over) (w O))
 
-  broken : (m : Match) (b : Block) (H : List Act)
-      → Leads (effect r m (FailsToWrite b.to)).after (blocks_from White (effect r m (FailsToWrite b.to)).to) H
-      → final ≡ after_events r m (events_in (list_if (is_write_fault_of reason b.to) (Happened (FailsToWrite b.to) ∷ [])
-      ++ notes_given reason H))
-  broken m b H p =
+  broken : (m : Match) (b : Block) (H : List Act) → is_over m.phase ≡ false
+      → Ordered (effect r m (FailsToWrite b.to)).after (blocks_from White (effect r m (FailsToWrite b.to)).to) H
+      → events_in (list_if (is_write_fault_of reason b.to) (Happened (FailsToWrite b.to) ∷ []) ++ notes_given reason H)
+      ≡ (if is_over m.phase then events_of r m H
+      else FailsToWrite b.to ∷ events_of r (effect r m (FailsToWrite b.to)).after H)
+  broken m b H on p =
       let same : Over (Faulted b.to Write) ≡ Over reason = p.0 refl ∙ over in
       let is : Faulted b.to Write ≡ reason = cc in
-      rw (unwritten b.to reason same) (p.1 (λ o. subst
+      rw (unwritten b.to reason same, on) (ap (λ es. FailsToWrite b.to ∷ es) (p.1 (λ o. subst
       (λ (x : Reason). AreWritten x (blocks_from White (effect r m (FailsToWrite b.to)).to)) is
-      (failed_written r m b.to)))
+      (failed_written r m b.to))))
 
-  late : (m : Match) (b : Block) (H : List Act) → is_write_fault_of reason b.to ≡ false
-      → final ≡ after_events r m (events_in (notes_given reason H))
-      → final ≡ after_events r m (events_in (list_if (is_write_fault_of reason b.to) (Happened (FailsToWrite b.to) ∷ [])
-      ++ notes_given reason H))
-  late m b H w e = rw w e
+  late : (m : Match) (b : Block) (H : List Act) → is_over m.phase ≡ true → is_write_fault_of reason b.to ≡ false
+      → events_in (notes_given reason H) ≡ events_of r m H
+      → events_in (list_if (is_write_fault_of reason b.to) (Happened (FailsToWrite b.to) ∷ []) ++ notes_given reason H)
+      ≡ (if is_over m.phase then events_of r m H
+      else FailsToWrite b.to ∷ events_of r (effect r m (FailsToWrite b.to)).after H)
+  late m b H o w e = rw (w, o) e
 
-pub all_events : NotesHaveTheEvents
-all_events r reason H final g over = (by_cases r final (Leads r reason final over) (record {
+pub in_order : NotesAreInOrder
+in_order r reason H final g over = (by_cases r final (Ordered r reason final over) (record {
   sends = λ m end b due H p. (p.0, λ w. p.1 (λ o. (w o).1));
-  fails = λ m end b due H on p. (on_not_over r reason final over m on, λ w. broken r reason final over m b H p);
-  fails_late = λ m end b due H o p. (p.0, λ w. late r reason final over m b H (w o).0 (p.1 (λ o. (w o).1)));
+  fails = λ m end b due H on p. (on_not_over r reason final over m on, λ w. broken r reason final over m b H on p);
+  fails_late = λ m end b due H o p. (p.0, λ w. late r reason final over m b H o (w o).0 (p.1 (λ o. (w o).1)));
   reads = λ m end S t n H aw p. (
     on_not_over r reason final over m (on_when_read m.phase S aw),
-    λ w. p.1 (λ o. due_written r reason final over (effect r m (Line S t n)).after _ (λ O. line_written r O S t n m aw)
-        (p.0 o)),
+    λ w. ap (λ es. Line S t n ∷ es) (p.1 (λ o. due_written r reason final over (effect r m (Line S t n)).after _
+        (λ O. line_written r O S t n m aw) (p.0 o))),
   );
-  opens = λ m end S n H o p. (on_not_over r reason final over m (ap is_over o), λ w. p.1 (λ o. absurd cc));
+  opens = λ m end S n H o p. (
+    on_not_over r reason final over m (ap is_over o),
+    λ w. ap (λ es. Opened S n ∷ es) (p.1 (λ o. absurd cc)),
+  );
   ends = λ m end S H aw p. (
     on_not_over r reason final over m (on_when_read m.phase S aw),
-    λ w. p.1 (λ o. due_written r reason final over (effect r m (OutputEnds S)).after _ (λ O. refl) (p.0 o)),
+    λ w. ap (λ es. OutputEnds S ∷ es)
+        (p.1 (λ o. due_written r reason final over (effect r m (OutputEnds S)).after _ (λ O. refl) (p.0 o))),
   );
   read_fails = λ m end S H aw p. (
     on_not_over r reason final over m (on_when_read m.phase S aw),
-    λ w. p.1 (λ o. due_written r reason final over (effect r m (FailsToRead S)).after _ (λ O. refl) (p.0 o)),
+    λ w. ap (λ es. FailsToRead S ∷ es)
+        (p.1 (λ o. due_written r reason final over (effect r m (FailsToRead S)).after _ (λ O. refl) (p.0 o))),
   );
 }) (λ o. (λ x. refl, λ w. refl)) beginning.after (blocks_from White beginning.to) H g).1 (λ o. absurd cc)
+
+-- the events of acts lead where the acts do
+events_lead : (r : Rules) (m : Match) (H : List Act) → after_events r m (events_of r m H) ≡ match_after r m H
+events_lead r m [] = refl
+events_lead r m (Sends b ∷ H) = events_lead r m H
+events_lead r m (SendFails b ∷ H) =
+    at (is_over m.phase) (events_lead r m H) (events_lead r (effect r m (FailsToWrite b.to)).after H)
+  where
+    at : (x : Bool) → after_events r m (events_of r m H) ≡ match_after r m H
+        → after_events r (effect r m (FailsToWrite b.to)).after
+        (events_of r (effect r m (FailsToWrite b.to)).after H)
+        ≡ match_after r (effect r m (FailsToWrite b.to)).after H
+        → after_events r m (if x then events_of r m H else FailsToWrite b.to
+        ∷ events_of r (effect r m (FailsToWrite b.to)).after H)
+        ≡ match_after r (if x then m else (effect r m (FailsToWrite b.to)).after) H
+    at true late on = late
+    at false late on = on
+events_lead r m (Happens e ∷ H) = events_lead r (effect r m e).after H
+
+pub all_events : NotesHaveTheEvents
+all_events r reason H final g over = sym (ap (λ es. after_events r beginning.after es) (in_order r reason H final g over)
+    ∙ events_lead r beginning.after H ∙ end_after_acts r H final g)

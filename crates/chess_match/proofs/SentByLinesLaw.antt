@@ -12,11 +12,11 @@ use Rattle.chess_match.specs.shared.Parts.{enter}
 use Rattle.chess_match.specs.Rules.{Rules}
 use Rattle.chess_match.specs.declared.reason.MatchFault.TheVariants.{Ended, Read, Write}
 use Rattle.chess_match.specs.declared.reason.Reason.TheVariants.{Decided, Faulted}
-use Rattle.chess_match.specs.laws.Laws.{items_in_line, items_said, moves_sent, is_broken, lines_read, line_kind}
-use Rattle.chess_match.specs.laws.OfActs.{AtEachMoment, EachIsSentOthersMoves, InEachMatch, ItemsAreSaid, MovesAreRead, MovesAreSent, lines_given, match_after, only_sends, others_moves}
+use Rattle.chess_match.specs.laws.Laws.{items_in_line, items_said, moves_sent, lines_read, line_kind}
+use Rattle.chess_match.specs.laws.OfActs.{AtEachMoment, EachIsSentOthersMoves, InEachMatch, ItemsAreSaid, MovesAreRead, MovesAreSent, ended_by_write_to, lines_given, match_after, only_sends, others_moves}
 use Rattle.chess_match.proofs.LineCases.{handshakes_done, line_cases, offering, said_by, turn_done}
 use Rattle.chess_match.proofs.MatchCases.{both_not}
-use Rattle.chess_match.proofs.MoveLaw.{all_moves_are_sent, all_sent, moves_are_sent}
+use Rattle.chess_match.proofs.MoveLaw.{all_moves_are_given, moves_are_sent}
 use Rattle.chess_match.proofs.Points.{by_points, in_each, moved_items, offered_items}
 use Rattle.chess_match.proofs.ReadLaw.{Streamed, lines_in, moves_are_read, none_read_in, with_line}
 
@@ -154,7 +154,7 @@ items_are_said r H K final g S = sym (by_points r
 module _ (r : Rules) (H : List Act) (m : Match) (read : MovesAreRead r H m) (said : ItemsAreSaid r H m) where
   sent_by_lines : (whole : Bool)
       → ((O : Colour) → (rest : List (List ℕ)) × (length rest ≤ 1)
-      × (whole ≡ true → is_broken H O ≡ false → rest ≡ [])
+      × (whole ≡ true → ended_by_write_to O m.phase ≡ false → rest ≡ [])
       × (moves_sent (lines_given O H) ++ rest ≡ others_moves r O (m.seat O).items m.played))
       → EachIsSentOthersMoves whole r H m
   sent_by_lines whole sent = (
@@ -172,22 +172,21 @@ pub each_is_sent_so_far : AtEachMoment (EachIsSentOthersMoves false)
 each_is_sent_so_far r H K final g =
     sent_by_lines r H (match_after r beginning.after H) (moves_are_read r H K final g)
     (items_are_said r H K final g) false
-    (λ O. let (rest, l, s) = moves_are_sent r H K final g O in (rest, l, λ w. absurd cc, s))
+    (λ O. let (rest, l, owed, s) = moves_are_sent r H K final g O in (rest, l, λ w. absurd cc, s))
 
 pub each_is_sent_the_others : InEachMatch (EachIsSentOthersMoves true)
 each_is_sent_the_others r H final g =
     sent_by_lines r H final (in_each MovesAreRead moves_are_read r H final g)
-    (in_each ItemsAreSaid items_are_said r H final g) true (λ O. at O (is_broken H O) refl)
+    (in_each ItemsAreSaid items_are_said r H final g) true (λ O. at O (ended_by_write_to O final.phase) refl)
   where
-    at : (O : Colour) (b : Bool) → is_broken H O ≡ b → (rest : List (List ℕ)) × (length rest ≤ 1)
-        × (true ≡ true → is_broken H O ≡ false → rest ≡ [])
+    at : (O : Colour) (b : Bool) → ended_by_write_to O final.phase ≡ b → (rest : List (List ℕ)) × (length rest ≤ 1)
+        × (true ≡ true → ended_by_write_to O final.phase ≡ false → rest ≡ [])
         × (moves_sent (lines_given O H) ++ rest ≡ others_moves r O (final.seat O).items final.played)
-    at O true broken = let (rest, l, s) = in_each MovesAreSent moves_are_sent r H final g O in
-        (rest, l, (λ w h. both_not (is_broken H O) h broken), s)
+    at O true broken = let (rest, l, owed, s) = in_each MovesAreSent moves_are_sent r H final g O in
+        (rest, l, (λ w h. both_not (ended_by_write_to O final.phase) h broken), s)
     at O false h = (
       [],
       omega arith,
       λ w h. refl,
-      append-nil (moves_sent (lines_given O H)) ∙ ap moves_sent (sym (all_sent O H h))
-          ∙ all_moves_are_sent r H final g O h,
+      append-nil (moves_sent (lines_given O H)) ∙ all_moves_are_given r H final g O h,
     )

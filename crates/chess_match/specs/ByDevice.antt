@@ -43,7 +43,7 @@ lines_to S (Sends block) = list_if (same_colour block.to S) block.lines
 lines_to S _ = []
 
 -- the block for the side `S` that this act failed to send, given by its lines, as a list of one; otherwise empty. In a
--- match there is at most one such block for each side
+-- match there is at most one such block for each side, by the law `failed_blocks_are_last`
 abbrev pub broken_block : Colour → Act → List (List SentLine)
 broken_block S (SendFails block) = list_if (same_colour block.to S) (block.lines ∷ [])
 broken_block S _ = []

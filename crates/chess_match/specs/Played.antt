@@ -48,14 +48,15 @@ pub record SaidBy (S : Colour) (H : List Act) (i : FromInput) : Type 0 where
   pub all : (i.ended || i.failed) ≡ true → engine_lines i.text ≡ flat_map (line_read S) H
 
 -- `o` is what went to an engine's input, if the lines in the first list were sent to it, and then the blocks in the
--- second list, each as its lines, could not be sent. In a match the second list has at most one block
--- (`broken_block`); of further ones (`more`) nothing is said
+-- second list, each as its lines, could not be sent
 abbrev pub WasSent : List SentLine → List (List SentLine) → ToOutput → Type 0
 -- no block failed: all lines `sent`, written and flushed, and nothing more; no call failed
 WasSent sent [] o = o ≡ all_of (bytes_of sent)
 -- a block failed: the lines `sent`, written and flushed; then a beginning of the block, not flushed, maybe nothing or
 -- all of it; then a write or a flush failed
-WasSent sent (block ∷ more) o = BreaksOffIn (bytes_of sent) (bytes_of block) o
+WasSent sent (block ∷ []) o = BreaksOffIn (bytes_of sent) (bytes_of block) o
+-- no more than one block fails
+WasSent sent _ o = ⊥
 
 -- the acts `H` are a match by the rules `r`, and `final` is its state at the end. From the world `w` to `w'` each
 -- engine's output, each engine's input and the clock did what these acts say of it. Each device is looked at by itself:

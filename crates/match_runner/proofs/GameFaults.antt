@@ -47,8 +47,8 @@ all_written : (sent : List SentLine) (broken : List (List SentLine)) (w w' : Out
     → w'.failure_count ≡ w.failure_count
 all_written sent [] w w' o none took was =
     took.failures ∙ ap (λ (p : ToOutput). saturating_increment_if p.failed w.failure_count) was
-all_written sent (block ∷ more) w w' o none took was =
-    absurd (none_above (length (block ∷ more)) (omega arith) none)
+all_written sent (block ∷ []) w w' o none took was = absurd (none_above 1 (omega arith) none)
+all_written sent (block ∷ next ∷ more) w w' o none took was = absurd was
 
 no_failures : (notes : List Note) (setup : Setup) (end : MatchEnd) (w w' : World)
     → PlayedNoting (λ given. given ≡ notes) setup end w w' → end.fault ≡ None

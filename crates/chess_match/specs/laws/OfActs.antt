@@ -1,6 +1,8 @@
 -- Laws of the acts of a match.
-use Rattle.std.specs.Prelude.{◌≡◌, ◌<◌, ◌≤◌, ◌+◌, ◌-◌, ◌*◌, ◌^◌, ◌&&◌, ℕ, Bool, true, false, if◌then◌else◌, List, [], ◌∷◌, ◌++◌, length, drop, nat_lt, sum, codes, slice_get, Option, None, Some, is_some, unwrap_or}
+use Rattle.std.specs.Prelude.{◌≡◌, ◌<◌, ◌≤◌, ◌+◌, ◌-◌, ◌*◌, ◌^◌, ◌&&◌, ◌⊎◌, ℕ, Bool, true, false, if◌then◌else◌, List, [], ◌∷◌, ◌++◌, length, drop, nat_lt, sum, codes, slice_get, Option, None, Some, is_some, unwrap_or}
 use Rattle.std.specs.List.{flat_map, fold}
+use Rattle.std.specs.Option.{IfSome}
+use Rattle.byte_devices.specs.Devices.{OutputState}
 use Rattle.chess_base.specs.declared.man.Colour.{Colour}
 use Rattle.chess_base.specs.declared.man.Colour.TheVariants.{White, Black}
 use Rattle.chess_base.specs.declared.man.Move.{Move}
@@ -12,12 +14,13 @@ use Rattle.cecp_engine.specs.Items.{Item, takes}
 use Rattle.cecp_engine.specs.Levels.{LevelSeen, allotted}
 use Rattle.chess_base.specs.Options.{list_if}
 use Rattle.chess_match.specs.Lines.{SentLine, bytes_of}
-use Rattle.chess_match.specs.laws.Laws.{Streams, AreRead, events_in, given_in, lines_noted, moments_noted, is_move, moves_of, items_said, moves_sent, texts_from, time_sent, otim_sent, centiseconds, lines_read, has_ended, has_failed_read, moments_shown, lines_sent, is_broken, line_kind, notes_given}
+use Rattle.chess_match.specs.laws.Laws.{Streams, AreRead, events_in, given_in, lines_noted, moments_noted, is_move, moves_of, items_said, moves_sent, texts_from, time_sent, otim_sent, centiseconds, lines_read, has_ended, has_failed_read, moments_shown, lines_sent, blocks_sent, broken_blocks, is_broken, line_kind, notes_given}
 use Rattle.chess_match.specs.Acts.{Act, Block, Sends, SendFails, Happens, IsMatch, IsMatchFrom, is_over}
-use Rattle.chess_match.specs.Effects.{Match, Over, beginning, clock, effect}
+use Rattle.chess_match.specs.Effects.{Match, Phase, Over, beginning, clock, effect, is_owed_move}
 use Rattle.chess_match.specs.Events.{Event, Line, Opened, FailsToWrite}
 use Rattle.chess_match.specs.Notes.{Happened}
 use Rattle.chess_match.specs.Played.{World, Passed}
+use Rattle.chess_match.specs.Reasons.{is_write_fault_of}
 use Rattle.chess_match.specs.Rules.{Rules, rules_of}
 use Rattle.chess_match.specs.Table.{Step, ReadsLine, ReadsClock, Notes, watched}
 use Rattle.chess_match.specs.declared.reason.Reason.{Reason}
@@ -33,6 +36,16 @@ match_after r m (Sends block ∷ H) = match_after r m H
 match_after r m (SendFails block ∷ H) =
     match_after r (if is_over m.phase then m else (effect r m (FailsToWrite block.to)).after) H
 match_after r m (Happens event ∷ H) = match_after r (effect r m event).after H
+
+-- the events of these acts, in order, if the match is `m` before them: those that were read, and a failed write, if the
+-- match ended by it; one after the end is none
+abbrev pub events_of : Rules → Match → List Act → List Event
+events_of r m [] = []
+events_of r m (Sends block ∷ H) = events_of r m H
+events_of r m (SendFails block ∷ H) =
+    let failure = FailsToWrite block.to in
+    if is_over m.phase then events_of r m H else failure ∷ events_of r (effect r m failure).after H
+events_of r m (Happens event ∷ H) = event ∷ events_of r (effect r m event).after H
 
 -- in every match `P` holds of the rules, of all acts, and of the match at its end
 abbrev pub InEachMatch : (Rules → List Act → Match → Type 0) → Type 0
@@ -77,36 +90,90 @@ abbrev pub NothingIsDueAtEvents : Type 0
 NothingIsDueAtEvents = (r : Rules) (m final : Match) (due : List Block) (event : Event) (H : List Act)
     → IsMatchFrom r m due (Happens event ∷ H) final → due ≡ []
 
+-- ---- blocks that could not be sent
+
+-- the blocks for the side `S`, in order, sent or not
+abbrev pub blocks_given : Colour → List Act → List Block
+blocks_given S [] = []
+blocks_given S (Sends block ∷ H) = list_if (same_colour block.to S) (block ∷ []) ++ blocks_given S H
+blocks_given S (SendFails block ∷ H) = list_if (same_colour block.to S) (block ∷ []) ++ blocks_given S H
+blocks_given S (_ ∷ H) = blocks_given S H
+
+-- in every match: after a block that could not be sent there is no block for the same side, sent or not
+abbrev pub FailedBlocksAreLast : Type 0
+FailedBlocksAreLast = (r : Rules) (before after : List Act) (block : Block) (final : Match)
+    → IsMatch r (before ++ SendFails block ∷ after) final → blocks_given block.to after ≡ []
+
+-- of the blocks for each side `S` at most one could not be sent
+abbrev pub OneBlockFails : Rules → List Act → Match → Type 0
+OneBlockFails r H m = (S : Colour) → length (broken_blocks S H) ≤ 1
+
+-- whether in this phase the match has ended because writing to the side `S` failed
+abbrev pub ended_by_write_to : Colour → Phase → Bool
+ended_by_write_to S (Over reason) = is_write_fault_of reason S
+ended_by_write_to S _ = false
+
+-- if the match ended because writing to the side `S` failed, a block for `S` could not be sent
+abbrev pub WriteFaultsAreOfBlocks : Rules → List Act → Match → Type 0
+WriteFaultsAreOfBlocks r H m = (S : Colour) → ended_by_write_to S m.phase ≡ true → is_broken H S ≡ true
+
 -- ---- what two engines and a clock give fixes the match
 
--- the acts `H` come from these engines and this clock (`s`): the lines read are the first of each engine's lines, or
--- all of them if its output ended or a read failed; the moments shown are the first of the clock's; each block was sent
-pub record AreOf (s : Streams) (H : List Act) : Type 0 where
+-- what the acts `H` read is what these engines and this clock (`s`) give: the lines read are the first of each engine's
+-- lines, or all of them if its output ended or a read failed; and the moments shown are the first of the clock's
+pub record ReadFrom (s : Streams) (H : List Act) : Type 0 where
   pub lines : (S : Colour) → (rest : List (Option (List ℕ))) × (s.lines S ≡ lines_read S H ++ rest)
   pub ends : (S : Colour) → has_ended S H ≡ true → (s.lines S ≡ lines_read S H) × (s.fails S ≡ false)
   pub failures : (S : Colour) → has_failed_read S H ≡ true → (s.lines S ≡ lines_read S H) × (s.fails S ≡ true)
   pub moments : (n : ℕ) → n < length (moments_shown H) → slice_get (moments_shown H) n ≡ Some (s.moments n)
-  pub sent : (S : Colour) → is_broken H S ≡ false
 
--- two matches by the same rules, from the same engines and clock (`s`), are the same, act by act
+-- the acts `H` come from these engines and this clock (`s`): they read what these give, and sending a block failed just
+-- where `s.breaks` says. If that is `None` for both sides, each block was sent
+pub record AreOf (s : Streams) (H : List Act) : Type 0 where
+  pub reads : ReadFrom s H
+  -- if no block for `S` failed, `S` was sent at most as many as `s.breaks` says; any number, if it says `None`
+  pub sent : (S : Colour) → is_broken H S ≡ false → IfSome (s.breaks S) (λ n. length (blocks_sent S H) ≤ n)
+  -- if one failed, `S` had been sent just as many
+  pub broken : (S : Colour) → is_broken H S ≡ true → s.breaks S ≡ Some (length (blocks_sent S H))
+
+-- two matches by the same rules, from the same engines and clock (`s`), are the same, act by act, and so are their
+-- states at the end
 abbrev pub OnlyOneMatch : Type 0
 OnlyOneMatch = (r : Rules) (s : Streams) (H K : List Act) (final final' : Match) → IsMatch r H final
-    → IsMatch r K final' → AreOf s H → AreOf s K → H ≡ K
+    → IsMatch r K final' → AreOf s H → AreOf s K → (H ≡ K) × (final ≡ final')
+
+-- in two matches by the same rules that read what the same engines and clock give (`s`), neither of which ended because
+-- a write failed, the same events happen, and the states at the end are the same. Which end lines could be sent may
+-- differ
+abbrev pub OneMatchButForEndLines : Type 0
+OneMatchButForEndLines = (r : Rules) (s : Streams) (H K : List Act) (final final' : Match) → IsMatch r H final
+    → IsMatch r K final' → ReadFrom s H → ReadFrom s K → ((S : Colour) → ended_by_write_to S final.phase ≡ false)
+    → ((S : Colour) → ended_by_write_to S final'.phase ≡ false)
+    → (events_of r beginning.after H ≡ events_of r beginning.after K) × (final ≡ final')
+
+-- the states of an engine's input before a run (`w`) and after it (`w'`) show how many bytes of the run were flushed:
+-- which bytes it took is known, none was unflushed before, and the count of those that are unflushed then is not full
+pub record ShowsFlushed (w w' : OutputState) : Type 0 where
+  pub bytes : is_some w.known_bytes ≡ true
+  pub before : w.unflushed ≡ 0
+  pub after : w'.unflushed < 2 ^ 64 - 1
 
 -- everything is known about the devices of a run, `w` before and `w'` after it: which bytes each engine sends, that no
--- count of failed calls is full, so that a failure shows, and which times the clock will give; and no write failed
+-- count of failed calls is full, so that a failure shows, and which times the clock will give; and to each engine no
+-- write or flush failed, or its input shows how much was flushed before
 pub record ShowsAll (w w' : World) : Type 0 where
   pub bytes : (S : Colour) → is_some (w.engines S).input.known_bytes ≡ true
   pub reads : (S : Colour) → (w.engines S).input.failure_count < 2 ^ 64 - 1
   pub writes : (S : Colour) → (w.engines S).output.failure_count < 2 ^ 64 - 1
   pub moments : (n : ℕ) → is_some (w.coming n) ≡ true
-  pub quiet : (S : Colour) → (w'.engines S).output.failure_count ≡ (w.engines S).output.failure_count
+  pub sent : (S : Colour) → ((w'.engines S).output.failure_count ≡ (w.engines S).output.failure_count)
+      ⊎ ShowsFlushed (w.engines S).output (w'.engines S).output
 
--- two matches by the same rules that were played from the world `w` to `w'` are the same, act by act, if everything is
--- known about the devices and no write failed
+-- two matches by the same rules that were played from the world `w` to `w'` are the same, act by act, and so are their
+-- states at the end, if everything is known about the devices
 abbrev pub OnlyOneMatchOfARun : Type 0
 OnlyOneMatchOfARun = (r : Rules) (H K : List Act) (final final' : Match) (w w' : World) → Passed r H final w w'
-    → Passed r K final' w w' → ShowsAll w w' → H ≡ K
+    → Passed r K final' w w' → ShowsAll w w' → (H ≡ K) × (final ≡ final')
 
 -- ---- ends
 
@@ -172,23 +239,31 @@ abbrev pub others_moves : Rules → Colour → List Item → List Move → List 
 others_moves r O items ms = texts_from r (takes (codes "san") items) (other O) r.start.side [] ms
 
 -- each side `O` is sent the other side's moves, each once and in order (a block that could not be sent counts); `rest`
--- is what `O` was not sent yet, at most the last of them
+-- is what `O` was not sent yet, at most the last of them. While the `pong` of the side that made the last move is
+-- awaited (`is_owed_move`), `rest` is that move, so `O` is not sent it before
 abbrev pub MovesAreSent : Rules → List Act → Match → Type 0
 MovesAreSent r H m = (O : Colour) → (rest : List (List ℕ)) × (length rest ≤ 1)
+    × (is_owed_move m.phase O ≡ true → length rest ≡ 1)
     × (moves_sent (lines_given O H) ++ rest ≡ others_moves r O (m.seat O).items m.played)
 
 -- the engines' lines fix the moves that each engine is sent, but for the last: there are moves `ms`, which the two
 -- engines' `move` lines denote in turn (all of them, or all but the last). Each side `O` is sent those of the other
 -- side, each once, in order, in SAN or by squares, as its handshake asked for; a block that could not be sent counts.
--- `rest` is what `O` was not sent: at most the last of them; and nothing, if the match is whole (`whole`) and each
--- block for `O` was sent
+-- `rest` is what `O` was not sent: at most the last of them; and nothing, if the match is whole (`whole`) and didn't end
+-- because writing to `O` failed
 abbrev pub EachIsSentOthersMoves : Bool → Rules → List Act → Match → Type 0
 EachIsSentOthersMoves whole r H m =
     (ms : List Move)
     × AreRead r [] ms (moves_of (lines_read r.start.side H)) (moves_of (lines_read (other r.start.side) H))
     × ((O : Colour) → (rest : List (List ℕ)) × (length rest ≤ 1)
-    × (whole ≡ true → is_broken H O ≡ false → rest ≡ [])
+    × (whole ≡ true → ended_by_write_to O m.phase ≡ false → rest ≡ [])
     × (moves_sent (lines_given O H) ++ rest ≡ others_moves r O (items_said (lines_read O H)) ms))
+
+-- the blocks for each side `O` have all moves of the other side, each once and in order, if the match didn't end because
+-- writing to `O` failed. The last block, with the end lines, may have failed
+abbrev pub AllMovesAreGiven : Rules → List Act → Match → Type 0
+AllMovesAreGiven r H m = (O : Colour) → ended_by_write_to O m.phase ≡ false
+    → moves_sent (lines_given O H) ≡ others_moves r O (m.seat O).items m.played
 
 -- each side `O` was sent all moves of the other side, each once and in order, if each block for `O` was sent
 abbrev pub AllMovesAreSent : Rules → List Act → Match → Type 0
@@ -273,6 +348,11 @@ after_events r m events = fold (λ n e. (effect r n e).after) m events
 abbrev pub NotesHaveTheEvents : Type 0
 NotesHaveTheEvents = (r : Rules) (reason : Reason) (H : List Act) (final : Match) → IsMatch r H final
     → final.phase ≡ Over reason → final ≡ after_events r beginning.after (events_in (notes_given reason H))
+
+-- in every match that ended for this reason: the events among its notes are just the events of the match, in order
+abbrev pub NotesAreInOrder : Type 0
+NotesAreInOrder = (r : Rules) (reason : Reason) (H : List Act) (final : Match) → IsMatch r H final
+    → final.phase ≡ Over reason → events_in (notes_given reason H) ≡ events_of r beginning.after H
 
 -- for any acts, a match or not: the bytes in the notes for the side `S`, one after another, are those of all lines of
 -- the blocks for `S`, also of those that could not be sent
