@@ -15,7 +15,7 @@ ghost use Rattle.chess_moves.specs.Sets.{contains};
 
 use crate::bits::Bits;
 use crate::squares::filter;
-use chess_base::rules::{PROMOTIONS, Steps, is_man, is_at, steps_of};
+use chess_base::rules::{PROMOTIONS, Steps, is_at, is_man, steps_of};
 use chess_base::{Kind, Move, Square};
 use chess_moves::{SquareSet, would_promote};
 

@@ -14,7 +14,7 @@ use crate::bits::Bits;
 use crate::reaching::reached_among;
 use crate::squares::{filter, single_if};
 use crate::targets::{is_king, is_pawn};
-use chess_base::rules::{first_rank, is_of, is_at, promotion_fits};
+use chess_base::rules::{first_rank, is_at, is_of, promotion_fits};
 use chess_base::{Colour, Kind, Man, Move, Square};
 use chess_moves::{SquareSet, would_promote};
 

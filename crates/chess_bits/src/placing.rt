@@ -18,7 +18,7 @@ use crate::sets::Sets;
 use crate::squares::single_if;
 use crate::targets::is_pawn;
 use chess_base::rules::{
-    Steps, fullmove_after, halfmove_after, is_man, is_at, rights_after, saved_of, steps_back,
+    Steps, fullmove_after, halfmove_after, is_at, is_man, rights_after, saved_of, steps_back,
     steps_of, target_after,
 };
 use chess_base::{COUNTER_LIMIT, Kind, Man, Move, Rights, Saved, Setup, Square};
