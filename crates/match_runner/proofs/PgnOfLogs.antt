@@ -44,8 +44,8 @@ left plan reason moves = record {
 }
 
 -- the reason that is reported of a match of these moves, if it ended for this reason
-abbrev shown : GamesPlan → Reason → List Move → Reason
-shown plan reason moves = reported_reason (verdict plan.start moves) reason
+abbrev reason_shown : GamesPlan → Reason → List Move → Reason
+reason_shown plan reason moves = reported_reason (verdict plan.start moves) reason
 
 -- an engine's name, by its items
 abbrev named : List Item → List ℕ
@@ -56,8 +56,8 @@ record IsPlayed (plan : GamesPlan) (played : GameRecord) (H : List Act) (reason 
   pub is_match : IsMatch (rules plan) H final
   pub over : final.phase ≡ Over reason
   pub notes : notes_given reason H ≡ played.notes
-  pub outcome : played.end.outcome ≡ outcome_by_reason (shown plan reason final.played)
-  pub ended : played.end.ended ≡ ended_by (shown plan reason final.played)
+  pub outcome : played.end.outcome ≡ outcome_by_reason (reason_shown plan reason final.played)
+  pub ended : played.end.ended ≡ ended_by (reason_shown plan reason final.played)
   pub white : played.end.white_name ≡ named (final.seat White).items
   pub black : played.end.black_name ≡ named (final.seat Black).items
   pub game : played.after.game.state ≡ left plan reason final.played
@@ -116,8 +116,8 @@ logs_give_the_pgn plan number one two h k plain plain' same =
     p.over q.over shown shown'
     (ap (λ (l : List Note). log_from first 0 l) p.notes ∙ same
     ∙ sym (ap (λ (l : List Note). log_from first 0 l) q.notes)) in
-    let reported : shown plan reason final.played ≡ shown plan reason' final'.played =
-    ap (λ (x : Reason). shown plan x final.played) a.reasons ∙ ap (λ (ms : List Move). shown plan reason' ms) a.moves in (
+    let reported : reason_shown plan reason final.played ≡ reason_shown plan reason' final'.played =
+    ap (λ (x : Reason). reason_shown plan x final.played) a.reasons ∙ ap (λ (ms : List Move). reason_shown plan reason' ms) a.moves in (
       text_is plan number one.end.white_name two.end.white_name one.end.black_name two.end.black_name one.end.ended
           two.end.ended one.after.game.state two.after.game.state
           (p.white ∙ ap named (a.items White) ∙ sym q.white) (p.black ∙ ap named (a.items Black) ∙ sym q.black)
