@@ -245,6 +245,27 @@ fn a_log_on_a_failed_error_output(rt: HostRuntime) -> Result<(), Fail> {
     Ok(())
 }
 
+// The second engine reads its first lines, and ends.
+const DECIDED: &str =
+    "[Event \"CECP match\"]\n[Site \"?\"]\n[Date \"????.??.??\"]\n[Round \"1\"]\n[White \"stub\"]\n[Black \"head -n 1\"]\n[Result \"1-0\"]\n[FEN \"7k/6Q1/6K1/8/8/8/8/8 b - - 0 1\"]\n[SetUp \"1\"]\n[Termination \"normal\"]\n\n1-0\n\nscore first 1 second 0 drawn 0 unfinished 0\n";
+
+// A mate on the board at the start is the result of the game, in its PGN and in the score, also if an engine fails.
+#[test]
+fn a_verdict_on_the_start_stands(rt: HostRuntime) -> Result<(), Fail> {
+    let white = stub(&rt, "")?;
+    let others = &["--fen", "7k/6Q1/6K1/8/8/8/8/8 b - - 0 1"];
+    let arguments = arguments_of(rt.alloc(), white.as_str(), "head -n 1", others)?;
+    let outcome = run(&rt, arguments.as_slice(), b"", SOUND);
+    is_text(&rt, outcome.output.as_slice(), DECIDED)?;
+    is_text(
+        &rt,
+        outcome.errors.as_slice(),
+        "arbiter: game 1: Black ended its output\n",
+    )?;
+    is_equal(&rt, &outcome.status, &1);
+    Ok(())
+}
+
 // How many descriptors this process holds open, and which processes it started that still run.
 fn held(rt: &HostRuntime) -> Result<(usize, Vec<u8>), Fail> {
     let open = fs::read_dir(rt, "/proc/self/fd")?.count();

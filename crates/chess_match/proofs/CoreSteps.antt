@@ -1,6 +1,7 @@
 -- How the core goes on, step by step.
 use Rattle.std.proofs.Common.{◌≡◌, ℕ, ◌+◌, ◌<◌, Bool, true, false, List, [], ◌∷◌, ◌++◌, length, length-append, refl, ap, sym, ◌∙◌, subst, Option, None, Some, append-nil, zero-add, arith}
 use Rattle.std.specs.Bool.{then_some}
+use Rattle.std.specs.Option.{option_map_or}
 use Rattle.std.specs.Prelude.{if◌then◌else◌, codes, nat_lt, sum}
 use Rattle.std.proofs.lemmas.List.Sums.{sum_by-append}
 use Rattle.chess_base.specs.declared.man.Colour.{Colour}
@@ -14,16 +15,18 @@ use Rattle.cecp_engine.specs.EngineLines.{LineKind}
 use Rattle.cecp_engine.specs.Items.{Item, takes}
 use Rattle.cecp_engine.specs.Seen.{features_of}
 use Rattle.chess_match.specs.Acts.{awaits_line, is_over}
-use Rattle.chess_match.specs.Effects.{Match, Phase, Handshake, Opening, BeforeMove, Over, Effect, begins_turn, clock, ends, handshake_row, is_owed_move, line_row, moved, sends_nothing, sends_to, with_seat}
+use Rattle.chess_match.specs.Effects.{Match, Phase, Handshake, Opening, BeforeMove, Over, Effect, begins_turn, clock, ends, handshake_row, is_owed_move, line_row, moved, sends_nothing, sends_to, unless_decided, with_seat}
 use Rattle.chess_match.specs.shared.Parts.{enter, with_answers}
 use Rattle.chess_match.specs.Events.{Seat}
 use Rattle.chess_match.specs.Lines.{SentLine, Says}
 use Rattle.chess_match.specs.shared.Parts.{answers_to}
-use Rattle.chess_match.specs.Reasons.{is_write_fault_of}
+use Rattle.chess_match.specs.Reasons.{is_write_fault_of, reported_reason}
 use Rattle.chess_match.specs.Rules.{Rules}
 use Rattle.chess_match.specs.declared.phase.Phase.{Phase as CorePhase}
 use Rattle.chess_match.specs.declared.phase.Phase.TheVariants as core_in
+use Rattle.chess_game.specs.declared.verdicts.Verdict.{Verdict}
 use Rattle.chess_match.specs.declared.reason.Reason.{Reason}
+use Rattle.chess_match.specs.declared.reason.Reason.TheVariants.{Decided}
 use Rattle.chess_match.specs.declared.state.Actions.{Actions}
 use Rattle.chess_match.specs.declared.state.MatchState.{MatchState}
 use Rattle.chess_match.specs.declared.state.Player.{Player}
@@ -33,6 +36,7 @@ use Rattle.chess_match.specs.ties.Represents.{Goes, Keeps, Represents, after_ans
 use Rattle.chess_match.specs.laws.Laws.{items_in_line}
 use Rattle.chess_match.proofs.LineCases.{handshake_by_items}
 use Rattle.chess_match.specs.ties.Texts.{all_sent, AreOfLast, AreTexts}
+use Rattle.chess_game.specs.Ends.{verdict}
 
 -- ---- what the core keeps of a match
 
@@ -73,7 +77,8 @@ unfolding given_lines
 over_goes r core played reason m on s = record {
   stands = let ended : is_over (Over reason) ≡ false → (S : Colour) → is_unsent core.last S ≡ is_owed_move (Over reason) S =
       λ h S. absurd cc in search ended;
-  gives = λ S. ap (λ (b : Bool). if is_write_fault_of reason S then [] else last_lines r m reason b S) (s.unsent on S);
+  gives = λ S. ap (λ (b : Bool). if is_write_fault_of reason S then []
+      else last_lines r m (reported_reason (verdict r.start m.played) reason) b S) (s.unsent on S);
 }
 
 pub enter_goes : (r : Rules) (core : MatchState) (played : List Move) (p : CorePhase) (m : Match)
@@ -222,6 +227,15 @@ pinged_goes r core played S m e s = record {
   stands = s;
   gives = λ X. ap (λ (p : CorePhase). phase_lines r core.last m X p) e;
 }
+
+-- the match ends for the verdict that the board has
+pub decided_goes : (r : Rules) (core : MatchState) (played : List Move) (given : Actions) (items : Colour → List Item)
+    (m : Match) (v : Verdict) (otherwise : Effect) → verdict r.start m.played ≡ Some v
+    → Goes r core played given items (ends r (Decided v) m)
+    → Goes r core played given items (unless_decided r m otherwise)
+decided_goes r core played given items m v otherwise e g =
+    subst (λ (w : Option Verdict). Goes r core played given items (option_map_or (λ x. ends r (Decided x) m) w otherwise))
+    (sym e) g
 
 -- a line by the phase that is known
 pub row_goes : (r : Rules) (core : MatchState) (played : List Move) (given : Actions) (items : Colour → List Item)

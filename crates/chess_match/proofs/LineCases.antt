@@ -40,16 +40,23 @@ abbrev pub is_decided : Reason → Bool
 is_decided (Decided v) = true
 is_decided _ = false
 
--- a line of S may end a match for this reason: it is no failed write, what no line of the other did, and no verdict
-abbrev pub MayStop : Colour → Reason → Type 0
-MayStop S reason = ((O : Colour) → is_write_fault_of reason O ≡ false)
-    × ((c : Colour) → whose_line reason ≡ Some c → S ≡ c) × (is_decided reason ≡ false)
+-- whether a match ended by a fault
+abbrev pub is_fault : Reason → Bool
+is_fault (Faulted c fault) = true
+is_fault _ = false
 
 -- whether a match in this phase waits for a move, or for the `pong` after one
 abbrev pub in_turn : Phase → Bool
 in_turn (BeforeMove S opened) = true
 in_turn (AfterMove S) = true
 in_turn _ = false
+
+-- a line of S may end a match in this phase for this reason: it is no failed write, what no line of the other did, and
+-- no verdict; out of a turn it is a fault
+abbrev pub MayStop : Phase → Colour → Reason → Type 0
+MayStop p S reason = ((O : Colour) → is_write_fault_of reason O ≡ false)
+    × ((c : Colour) → whose_line reason ≡ Some c → S ≡ c) × (is_decided reason ≡ false)
+    × (in_turn p ≡ false → is_fault reason ≡ true)
 
 -- whether no handshake is on in this phase
 abbrev pub handshakes_done : Phase → Bool
@@ -58,6 +65,9 @@ handshakes_done _ = true
 
 pub turn_done : (p : Phase) → in_turn p ≡ true → handshakes_done p ≡ true
 turn_done p h1 = grind arith
+
+never : {A : Type 0} {b : Bool} → b ≡ true → b ≡ false → A
+never on off = let no : true ≡ false = sym on ∙ off in absurd cc
 
 -- the match with the items of a line of S
 abbrev pub said_by : Colour → LineKind → Match → Match
@@ -80,7 +90,7 @@ playing S move used m = let n = moved S move used m in sends_to S (ping (ping_nu
 pub record LineCases (r : Rules) (S : Colour) (kind : LineKind) (moment : ℕ) (m : Match) (Q : Effect → Type 0) : Type 0
   where
     -- in its handshake
-    pub handshake_stops : m.phase ≡ Handshake S → (reason : Reason) (k : ℕ) → k ≤ m.count → MayStop S reason
+    pub handshake_stops : m.phase ≡ Handshake S → (reason : Reason) (k : ℕ) → k ≤ m.count → MayStop m.phase S reason
         → Q (with_answers S (items_in_line kind) (ends r reason (record (said_by S kind m) { count = k })))
     pub handshake_counts : m.phase ≡ Handshake S → list_any ends_handshake (items_in_line kind) ≡ false
         → m.count + 1 < 1000
@@ -98,7 +108,8 @@ pub record LineCases (r : Rules) (S : Colour) (kind : LineKind) (moment : ℕ) (
         → Q (begins_turn r r.start.side m)
     pub setup_decides : m.phase ≡ Setup S → (v : Verdict) → verdict r.start m.played ≡ Some v → Q (ends r (Decided v) m)
     -- in its setup or in its turn
-    pub stops : handshakes_done m.phase ≡ true → (reason : Reason) → MayStop S reason → Q (ends r reason m)
+    pub stops : handshakes_done m.phase ≡ true → (reason : Reason) → MayStop m.phase S reason
+        → Q (ends r reason m)
     -- in its turn
     pub counts : in_turn m.phase ≡ true → move_said kind ≡ [] → m.count + 1 < 10000 → Q (counting m)
     pub offers : in_turn m.phase ≡ true → move_said kind ≡ [] → (m.seat S).offers ≡ false → Q (offering S m)
@@ -138,31 +149,31 @@ module _ (r : Rules) (S : Colour) (kind : LineKind) (moment : ℕ) (m : Match) (
     (l : LineCases r S kind moment m Q) where
   ignored : handshakes_done m.phase ≡ true → (m.count + 1 < 10000 → Q (counting m)) → Q (ignores r S m)
   ignored done more = by_test Q (nat_le 10000 (m.count + 1))
-      (λ h. l.stops done (Faulted S Flood) ((λ O. refl), (λ c e. cc), refl))
+      (λ h. l.stops done (Faulted S Flood) ((λ O. refl), (λ c e. cc), refl, (λ off. refl)))
       (λ h. more (leb-false 10000 (m.count + 1) h))
 
   -- a line of a turn that is no move
   module _ (on : in_turn m.phase ≡ true) (none : move_said kind ≡ []) where
     offered : Q (offer_row r S m)
     offered = by_test Q (m.seat (other S)).offers (λ h. l.stops (turn_done m.phase on) Agreed
-        ((λ O. refl), (λ c e. cc), refl))
+        ((λ O. refl), (λ c e. cc), refl, never on))
         (λ h. by_test Q (m.seat S).offers (λ h. ignored (turn_done m.phase on) (l.counts on none)) (l.offers on none))
 
     turn : (k : LineKind) → Q (turn_row r S k m)
-    turn Resigns = l.stops (turn_done m.phase on) (over_by.Resigns S) ((λ O. refl), (λ c e. cc), refl)
+    turn Resigns = l.stops (turn_done m.phase on) (over_by.Resigns S) ((λ O. refl), (λ c e. cc), refl, never on)
     turn OffersDraw = offered
     turn ClaimsDraw = at (draw_claim (claims r.start m.played))
       where
         at : (claim : Option DrawClaim) → Q (option_map_or (λ c. ends r (Claimed c) m) claim (offer_row r S m))
-        at (Some c) = l.stops (turn_done m.phase on) (Claimed c) ((λ O. refl), (λ c e. cc), refl)
+        at (Some c) = l.stops (turn_done m.phase on) (Claimed c) ((λ O. refl), (λ c e. cc), refl, never on)
         at None = offered
     turn (ClaimsWin c) = at (same_colour c S)
       where
         at : (b : Bool) → Q (ends r (if b then ClaimsFalsely S else over_by.Resigns S) m)
-        at true = l.stops (turn_done m.phase on) (ClaimsFalsely S) ((λ O. refl), (λ c e. cc), refl)
-        at false = l.stops (turn_done m.phase on) (over_by.Resigns S) ((λ O. refl), (λ c e. cc), refl)
+        at true = l.stops (turn_done m.phase on) (ClaimsFalsely S) ((λ O. refl), (λ c e. cc), refl, never on)
+        at false = l.stops (turn_done m.phase on) (over_by.Resigns S) ((λ O. refl), (λ c e. cc), refl, never on)
     turn Rejects = by_test Q (nat_lt 0 (length (m.seat (other S)).used)) (λ h. l.stops (turn_done m.phase on) (RejectsLegalMove S)
-        ((λ O. refl), (λ c e. cc), refl))
+        ((λ O. refl), (λ c e. cc), refl, never on))
         (λ h. ignored (turn_done m.phase on) (l.counts on none))
     turn (Features t) = ignored (turn_done m.phase on) (l.counts on none)
     turn (Moves t) = ignored (turn_done m.phase on) (l.counts on none)
@@ -177,11 +188,11 @@ module _ (r : Rules) (S : Colour) (kind : LineKind) (moment : ℕ) (m : Match) (
     a_move : (text : List ℕ) (read : Reading) → kind ≡ Moves text → reading (position_after r.start m.played) text ≡ read
         → length m.played < r.limit → Q (move_row r S (moment - opened) read m)
     a_move text reads.Ambiguous is e room = l.stops (ap handshakes_done p) (MovesIllegally S)
-        ((λ O. refl), (λ c e. cc), refl)
+        ((λ O. refl), (λ c e. cc), refl, never (ap in_turn p))
     a_move text reads.NoSuch is e room = l.stops (ap handshakes_done p) (MovesIllegally S)
-        ((λ O. refl), (λ c e. cc), refl)
+        ((λ O. refl), (λ c e. cc), refl, never (ap in_turn p))
     a_move text reads.NotAMove is e room = l.stops (ap handshakes_done p) (MovesIllegally S)
-        ((λ O. refl), (λ c e. cc), refl)
+        ((λ O. refl), (λ c e. cc), refl, never (ap in_turn p))
     a_move text (reads.Move move) is e room = at (verdict r.start (m.played ++ move ∷ [])) refl
       where
         at : (v : Option Verdict) → verdict r.start (m.played ++ move ∷ []) ≡ v
@@ -192,7 +203,7 @@ module _ (r : Rules) (S : Colour) (kind : LineKind) (moment : ℕ) (m : Match) (
 
     before : (k : LineKind) → kind ≡ k → Q (before_move r S (moment - opened) k m)
     before (Moves text) e = by_test Q (nat_le r.limit (length m.played))
-        (λ h. l.stops (ap handshakes_done p) GameTooLong ((λ O. refl), (λ c e. cc), refl))
+        (λ h. l.stops (ap handshakes_done p) GameTooLong ((λ O. refl), (λ c e. cc), refl, never (ap in_turn p)))
         (λ h. a_move text (reading (position_after r.start m.played) text) e refl (leb-false r.limit (length m.played) h))
     before (Features t) e = turn (ap in_turn p) (said_none (Features t) e refl) (Features t)
     before Resigns e = turn (ap in_turn p) (said_none Resigns e refl) Resigns
@@ -203,16 +214,16 @@ module _ (r : Rules) (S : Colour) (kind : LineKind) (moment : ℕ) (m : Match) (
     before (Answers n) e = turn (ap in_turn p) (said_none (Answers n) e refl) (Answers n)
     before SaysElse e = turn (ap in_turn p) (said_none SaysElse e refl) SaysElse
 
-  flagged : handshakes_done m.phase ≡ true → Q (flag_row r S m)
-  flagged done = at (has_bare_king (other S) (position_after r.start m.played).men)
+  flagged : in_turn m.phase ≡ true → Q (flag_row r S m)
+  flagged on = at (has_bare_king (other S) (position_after r.start m.played).men)
     where
       at : (bare : Bool) → Q (ends r (if bare then ForfeitsToBareKing else Forfeits S) m)
-      at true = l.stops done ForfeitsToBareKing ((λ O. refl), (λ c e. cc), refl)
-      at false = l.stops done (Forfeits S) ((λ O. refl), (λ c e. cc), refl)
+      at true = l.stops (turn_done m.phase on) ForfeitsToBareKing ((λ O. refl), (λ c e. cc), refl, never on)
+      at false = l.stops (turn_done m.phase on) (Forfeits S) ((λ O. refl), (λ c e. cc), refl, never on)
 
   -- after its move
   after : m.phase ≡ AfterMove S → (k : LineKind) → kind ≡ k → Q (line_row r (AfterMove S) k moment m)
-  after p (Moves t) e = l.stops (ap handshakes_done p) (MovesOutOfTurn S) ((λ O. refl), (λ c e. cc), refl)
+  after p (Moves t) e = l.stops (ap handshakes_done p) (MovesOutOfTurn S) ((λ O. refl), (λ c e. cc), refl, never (ap in_turn p))
   after p (Answers n) e = by_test Q (n == ping_number m S) (λ h. l.passes p (said_none (Answers n) e refl))
       (λ h. ignored (ap handshakes_done p) (l.counts (ap in_turn p) (said_none (Answers n) e refl)))
   after p (Features t) e = turn (ap in_turn p) (said_none (Features t) e refl) (Features t)
@@ -247,8 +258,8 @@ module _ (r : Rules) (S : Colour) (kind : LineKind) (moment : ℕ) (m : Match) (
     where
       at : (w b : Option MatchFault) → NoWriteFault w → NoWriteFault b
           → Q (with_answers S (items_in_line kind) (judged r w b (said_by S kind m)))
-      at (Some f) b x y = l.handshake_stops p (Faulted White f) 0 (omega arith) (x White, (λ c e. cc), refl)
-      at None (Some f) x y = l.handshake_stops p (Faulted Black f) 0 (omega arith) (y Black, (λ c e. cc), refl)
+      at (Some f) b x y = l.handshake_stops p (Faulted White f) 0 (omega arith) (x White, (λ c e. cc), refl, (λ off. refl))
+      at None (Some f) x y = l.handshake_stops p (Faulted Black f) 0 (omega arith) (y Black, (λ c e. cc), refl, (λ off. refl))
       at None None x y = l.handshake_last p e d
 
   handshake : m.phase ≡ Handshake S → Q (handshake_row r S (items_in_line kind) m)
@@ -256,7 +267,7 @@ module _ (r : Rules) (S : Colour) (kind : LineKind) (moment : ℕ) (m : Match) (
       (list_any ends_handshake (items_in_line kind))
       (shaken S refl p)
       (λ d. by_test (λ (e : Effect). Q (with_answers S (items_in_line kind) e)) (nat_le 1000 (m.count + 1))
-      (λ h. l.handshake_stops p (Faulted S NoDone) m.count (omega arith) ((λ O. refl), (λ c e. cc), refl))
+      (λ h. l.handshake_stops p (Faulted S NoDone) m.count (omega arith) ((λ O. refl), (λ c e. cc), refl, (λ off. refl)))
       (λ h. l.handshake_counts p d (leb-false 1000 (m.count + 1) h)))
 
 -- a line in a handshake, by its items
@@ -282,7 +293,7 @@ line_cases r S kind moment m Q aw l = at m.phase refl aw
     at (BeforeMove c opened) e h = subst (λ (x : Colour). Q (line_row r (BeforeMove x opened) kind moment m))
         (sym (same_colour-true c S h))
         (by_test Q (nat_lt (clock r m S) (moment - opened))
-        (λ late. flagged r S kind moment m Q l (ap handshakes_done e))
+        (λ late. flagged r S kind moment m Q l (ap in_turn e))
         (λ timely. before r S kind moment m Q l opened (here m.phase c (λ x. BeforeMove x opened) e h)
         (ltb-false (clock r m S) (moment - opened) timely) kind refl))
     at (AfterMove c) e h = subst (λ (x : Colour). Q (line_row r (AfterMove x) kind moment m)) (sym (same_colour-true c S h))

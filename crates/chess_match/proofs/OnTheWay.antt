@@ -25,7 +25,7 @@ use Rattle.chess_match.specs.shared.Parts.{blocks_after}
 use Rattle.chess_match.specs.Effects.{Match, Phase, Handshake, Setup as SetupPhase, Opening, BeforeMove, AfterMove, Over, Effect, beginning, effect}
 use Rattle.chess_match.specs.Events.{Event, Line, Opened, OutputEnds, FailsToRead}
 use Rattle.chess_match.specs.Played.{PlayedAt}
-use Rattle.chess_match.specs.Reasons.{comment_of, declared_at, ended_by, reported_fault, outcome_by_reason, reported}
+use Rattle.chess_match.specs.Reasons.{comment_of, declared_at, ended_by, reported_fault, reported_reason, outcome_by_reason, reported}
 use Rattle.chess_match.specs.Rules.{Rules, rules_of}
 use Rattle.chess_match.specs.Table.{Step, Passing, Passes, watched}
 use Rattle.chess_match.specs.declared.phase.Phase.TheVariants as core_in
@@ -235,26 +235,27 @@ game_kept g h h' start level m reason s l k e =
 abbrev outcome_by : Option Verdict → Option Declared → Outcome
 outcome_by v d = option_map_or (λ (x : Declared). x.outcome) (option_or (option_map verdict_result v) d) Unfinished
 
--- where the game has no verdict, its outcome is the one that is reported
+-- the outcome of the game is the one that is reported
 pub reported_outcome : (h h' : game.Seen) (reason : Reason) (outcome : Outcome)
-    → h' ≡ game.with_state h (record h.state { declared = declared_at (verdict_now h.state) reason }) → outcome
-    ≡ outcome_by_reason reason → verdict_now h'.state ≡ None → outcome_now h'.state ≡ outcome
-reported_outcome h h' reason outcome e o none =
-    subst (λ (x : game.Seen). verdict_now x.state ≡ None → outcome_now x.state ≡ outcome) (sym e)
-    (undecided (verdict_now h.state)) none
+    → h' ≡ game.with_state h (record h.state { declared = declared_at (verdict_now h.state) reason })
+    → outcome ≡ outcome_by_reason (reported_reason (verdict_now h.state) reason) → outcome_now h'.state ≡ outcome
+reported_outcome h h' reason outcome e o =
+    subst (λ (x : game.Seen). outcome_now x.state ≡ outcome) (sym e) (at (verdict_now h.state) ∙ sym o)
   where
-    undecided : (v : Option Verdict) → v ≡ None → outcome_by v (declared_at v reason) ≡ outcome
-    undecided None is = sym o
-    undecided (Some v) is = cc
+    at : (v : Option Verdict)
+        → outcome_by v (declared_at v reason) ≡ outcome_by_reason (reported_reason v reason)
+    at None = refl
+    at (Some v) = refl
 
 pub played_at : (setup : run_setup.Setup) (old new : Passing) (g h h' : game.Seen) (core : MatchState)
     (reason : Reason) (failed : ByColour Bool) (end : MatchEnd)
     → OnTheWay (rules_of setup.start setup.level g.limit) old new core h.state.moves (of_colour failed)
-    → phase_now core ≡ Over reason → IsReported reason failed end → end.white_name ≡ core.players.white.name
-    → end.black_name ≡ core.players.black.name → h.state.start ≡ setup.start → h.limit ≡ g.limit
+    → phase_now core ≡ Over reason → IsReported (verdict_now h.state) reason failed end
+    → end.white_name ≡ core.players.white.name → end.black_name ≡ core.players.black.name
+    → h.state.start ≡ setup.start → h.limit ≡ g.limit
     → h' ≡ game.with_state h (record h.state { declared = declared_at (verdict_now h.state) reason })
     → PlayedAt setup end old new g h'
-played_at setup old new g h h' core reason failed end (m, K, w) over reported wn bn s l e =
+played_at setup old new g h h' core reason failed end (m, K, w) over end_is wn bn s l e =
     let r : Rules = rules_of setup.start setup.level g.limit in
     let ended : m.phase ≡ Over reason = w.stands.phase ∙ over in
     let (H, is_match, steps, broken) =
@@ -266,13 +267,19 @@ played_at setup old new g h h' core reason failed end (m, K, w) over reported wn
       passed_as old new K (watched reason H) (sym steps) w.passes,
       record {
         ended = ended;
-        report = one_report reason end.outcome end.comment end.ended reported.outcome reported.comment reported.ended;
+        report = subst
+            (λ (v : Option Verdict). reported (reported_reason v reason) ≡ (end.outcome, end.comment, end.ended))
+            board (one_report (reported_reason (verdict_now h.state) reason) end.outcome end.comment end.ended
+            end_is.outcome end_is.comment end_is.ended);
         name = λ S. names S;
-        fault = reported.fault ∙ ap (reported_fault reason) (fun_ext (λ S. sym (broken S)));
+        fault = end_is.fault ∙ ap (reported_fault reason) (fun_ext (λ S. sym (broken S)));
       },
       game_kept g h h' setup.start setup.level m reason s l w.stands.moves e,
     )
   where
+    board : verdict_now h.state ≡ verdict setup.start m.played
+    board = ap (λ (a : Setup). verdict a h.state.moves) s ∙ ap (λ (ms : List Move). verdict setup.start ms) w.stands.moves
+
     names : (S : Colour) → by_colour end.white_name end.black_name S
         ≡ cut_tag (last_said (λ v. v.text) [] (codes "myname") (m.seat S).items)
     names White = name_kept (m.seat White).items end.white_name (wn ∙ w.stands.white.name)

@@ -1,7 +1,6 @@
 -- Why a match ended: by the board's verdict.
-use native.Mathlib.Omega.{arith}
-use Rattle.std.proofs.Common.{◌≡◌, ℕ, Bool, true, false, ◌&&◌, List, [], ◌∷◌, ◌++◌, length, refl, ap, sym, ◌∙◌, subst, None, Some, lt-ltb}
-use Rattle.std.specs.Prelude.{is_some, nat_lt}
+use Rattle.std.proofs.Common.{◌≡◌, ◌⊎◌, ℕ, Bool, true, false, List, [], ◌∷◌, ◌++◌, refl, ap, sym, ◌∙◌, subst, inl, inr, Option, None, Some, arith}
+use Rattle.std.specs.Option.{option_map, option_map_or, option_or}
 use Rattle.chess_base.specs.declared.man.Colour.{Colour}
 use Rattle.chess_base.specs.declared.man.Colour.TheVariants.{White}
 use Rattle.chess_base.specs.declared.man.Move.{Move}
@@ -9,85 +8,147 @@ use Rattle.chess_game.specs.declared.verdicts.Verdict.{Verdict}
 use Rattle.cecp_engine.specs.EngineLines.{LineKind}
 use Rattle.chess_match.specs.laws.Laws.{line_kind}
 use Rattle.chess_match.specs.Acts.{Act, IsMatch, awaits_line, blocks_from, is_over}
-use Rattle.chess_match.specs.Effects.{Match, Phase, Over, beginning, line_row}
+use Rattle.chess_match.specs.Effects.{Match, Phase, Handshake, Setup, Opening, Over, beginning, line_row}
+use Rattle.chess_match.specs.Reasons.{declared_at, outcome_by_reason, reported_reason}
 use Rattle.chess_match.specs.Rules.{Rules}
 use Rattle.chess_match.specs.declared.reason.Reason.{Reason}
-use Rattle.chess_match.specs.declared.reason.Reason.TheVariants.{Decided}
-use Rattle.chess_match.specs.laws.OfActs.{DecidedByTheBoard, VerdictsEndMatches}
-use Rattle.chess_match.proofs.LineCases.{is_decided, line_cases}
+use Rattle.chess_match.specs.declared.reason.Reason.TheVariants.{Decided, Faulted}
+use Rattle.chess_match.specs.laws.OfActs.{DecidedByTheBoard, OutcomesAreOfTheGame, VerdictsEndMatches}
+use Rattle.chess_match.proofs.LineCases.{in_turn, is_decided, is_fault, line_cases}
 use Rattle.chess_match.proofs.MatchCases.{by_cases, on_when_read}
-use Rattle.chess_game.specs.Ends.{verdict}
+use Rattle.chess_game.specs.Ends.{verdict, verdict_result}
+use Rattle.chess_game.specs.Game.{Seen, outcome_now}
+use Rattle.chess_game.specs.declared.results.Outcome.{Outcome}
+use Rattle.chess_game.specs.declared.results.Outcome.TheVariants.{Unfinished}
+use Rattle.chess_game.specs.declared.tags.HowEnded.{HowEnded}
+use Rattle.chess_match.specs.declared.reason.MatchFault.{MatchFault}
 
--- whether a move was played and the board has a verdict
-abbrev has_verdict : Rules → List Move → Bool
-has_verdict r played = nat_lt 0 (length played) && is_some (verdict r.start played)
+-- no move was played, or the board has no verdict
+abbrev Undecided : Rules → List Move → Type 0
+Undecided r played = (played ≡ []) ⊎ (verdict r.start played ≡ None)
 
--- a match in this phase that ended for a verdict has it; any other has none once a move was played
+-- a match in this phase that ended for a verdict has it; one that ended by a fault had no move or has no verdict;
+-- before the first turn there is no move, and in any other phase no verdict
 abbrev ByBoard : Rules → List Move → Phase → Type 0
 ByBoard r played (Over (Decided v)) = verdict r.start played ≡ Some v
-ByBoard r played _ = has_verdict r played ≡ false
+ByBoard r played (Over (Faulted c fault)) = Undecided r played
+ByBoard r played (Handshake c) = played ≡ []
+ByBoard r played (Setup c) = played ≡ []
+ByBoard r played _ = verdict r.start played ≡ None
 
 abbrev Judged : Rules → Match → Type 0
 Judged r m = ByBoard r m.played m.phase
 
-undecided : (r : Rules) (played : List Move) → verdict r.start played ≡ None → has_verdict r played ≡ false
-undecided r played e = grind (arith, e)
-
 on_undecided : (r : Rules) (played : List Move) (p : Phase) → is_over p ≡ false → ByBoard r played p
-    → has_verdict r played ≡ false
-on_undecided r played p h1 h2 = grind arith
+    → Undecided r played
+on_undecided r played (Handshake c) on j = inl j
+on_undecided r played (Setup c) on j = inl j
+on_undecided r played (Opening c) on j = inr j
+on_undecided r played (Over reason) on j = absurd cc
+on_undecided r played _ on j = inr j
+
+-- in a turn the board has no verdict
+in_turn_undecided : (r : Rules) (played : List Move) (p : Phase) → in_turn p ≡ true → ByBoard r played p
+    → verdict r.start played ≡ None
+in_turn_undecided r played p h1 h2 = grind arith
+
+faulted : (r : Rules) (played : List Move) (reason : Reason) → is_fault reason ≡ true → Undecided r played
+    → ByBoard r played (Over reason)
+faulted r played (Faulted c fault) is h = h
+faulted r played reason is h = absurd cc
 
 stopped : (r : Rules) (played : List Move) (reason : Reason) → is_decided reason ≡ false
-    → has_verdict r played ≡ false → ByBoard r played (Over reason)
-stopped r played reason h1 h2 = grind arith
+    → verdict r.start played ≡ None → ByBoard r played (Over reason)
+stopped r played (Decided v) is h = absurd cc
+stopped r played (Faulted c fault) is h = inr h
+stopped r played reason is h = h
 
 line_judged : (r : Rules) (S : Colour) (kind : LineKind) (moment : ℕ) (m : Match) → awaits_line m.phase S ≡ true
     → Judged r m → Judged r (line_row r m.phase kind moment m).after
 line_judged r S kind moment m aw j = line_cases r S kind moment m (λ e. Judged r e.after) aw (record {
-  handshake_stops = λ p reason k most w. stopped r m.played reason w.2 none;
+  handshake_stops = λ p reason k most w. faulted r m.played reason (w.3 (ap in_turn p)) none;
   handshake_counts = λ p d few. j;
-  handshake_next = λ p s d. none;
-  handshake_last = λ p s d. none;
+  handshake_next = λ p s d. by p;
+  handshake_last = λ p s d. by p;
   setup_counts = λ p pong few. j;
-  setup_next = λ p s pong. none;
-  setup_last = λ p s pong v. none;
+  setup_next = λ p s pong. by p;
+  setup_last = λ p s pong v. v;
   setup_decides = λ p v e. e;
-  stops = λ g reason w. stopped r m.played reason w.2 none;
+  stops = λ g reason w. ended reason w.2 w.3 (in_turn m.phase) refl;
   counts = λ on none few. j;
   offers = λ on none own. j;
-  plays = λ text move opened is p read room timely v. undecided r (m.played ++ move ∷ []) v;
+  plays = λ text move opened is p read room timely v. v;
   decides = λ text move opened v is p read room timely e. e;
-  passes = λ p said. none;
+  passes = λ p said. by p;
 })
   where
-    none : has_verdict r m.played ≡ false
+    none : Undecided r m.played
     none = on_undecided r m.played m.phase (on_when_read m.phase S aw) j
 
+    by : {p : Phase} → m.phase ≡ p → ByBoard r m.played p
+    by e = subst (λ (q : Phase). ByBoard r m.played q) e j
+
+    ended : (reason : Reason) → is_decided reason ≡ false → (in_turn m.phase ≡ false → is_fault reason ≡ true)
+        → (on : Bool) → in_turn m.phase ≡ on → ByBoard r m.played (Over reason)
+    ended reason is fault true on = stopped r m.played reason is (in_turn_undecided r m.played m.phase on j)
+    ended reason is fault false off = faulted r m.played reason (fault off) none
+
 -- what each act keeps
-judged_at_end : (r : Rules) (H : List Act) (final : Match) → IsMatch r H final → Judged r final
-judged_at_end r H final g = by_cases r final (λ m due K. Judged r m → Judged r final) (record {
-  sends = λ m end b due K p. p;
-  fails = λ m end b due K on p j. p (on_undecided r m.played m.phase on j);
-  fails_late = λ m end b due K o p. p;
-  reads = λ m end S t n K aw p j. p (line_judged r S (line_kind t) n m aw j);
-  opens = λ m end S n K o p j. p (on_undecided r m.played m.phase (ap is_over o) j);
-  ends = λ m end S K aw p j. p (on_undecided r m.played m.phase (on_when_read m.phase S aw) j);
-  read_fails = λ m end S K aw p j. p (on_undecided r m.played m.phase (on_when_read m.phase S aw) j);
-}) (λ o j. j) beginning.after (blocks_from White beginning.to) H g refl
+judged_at_end : (r : Rules) (H : List Act) (final : Match) → IsMatch r H final
+    → (is_over final.phase ≡ true) × Judged r final
+judged_at_end r H final g = by_cases r final (λ m due K. Judged r m → (is_over final.phase ≡ true) × Judged r final)
+    (record {
+      sends = λ m end b due K p. p;
+      fails = λ m end b due K on p j. p (on_undecided r m.played m.phase on j);
+      fails_late = λ m end b due K o p. p;
+      reads = λ m end S t n K aw p j. p (line_judged r S (line_kind t) n m aw j);
+      opens = λ m end S n K o p j. p (subst (λ (q : Phase). ByBoard r m.played q) o j);
+      ends = λ m end S K aw p j. p (on_undecided r m.played m.phase (on_when_read m.phase S aw) j);
+      read_fails = λ m end S K aw p j. p (on_undecided r m.played m.phase (on_when_read m.phase S aw) j);
+    }) (λ o j. (o, j)) beginning.after (blocks_from White beginning.to) H g refl
 
 pub decided_by_the_board : DecidedByTheBoard
-decided_by_the_board r v H final g e = subst (λ (p : Phase). ByBoard r final.played p) e (judged_at_end r H final g)
+decided_by_the_board r v H final g e =
+    subst (λ (p : Phase). ByBoard r final.played p) e (judged_at_end r H final g).1
+
+-- what follows of a match in this phase whose board has the verdict `v`
+abbrev Ended : Verdict → Match → Phase → Type 0
+Ended v final p = (p ≡ Over (Decided v))
+    ⊎ ((final.played ≡ []) × (c : Colour) × (fault : MatchFault) × (p ≡ Over (Faulted c fault)))
 
 pub verdicts_end_matches : VerdictsEndMatches
-verdicts_end_matches r v H final g some e = at final.phase (judged_at_end r H final g)
+verdicts_end_matches r v H final g e =
+    let (over, j) = judged_at_end r H final g in at final.phase over j
   where
-    has : has_verdict r final.played ≡ true
-    has = rw (lt-ltb 0 (length final.played) some, e) refl
-
     same : (w : Verdict) → verdict r.start final.played ≡ Some w → Over (Decided w) ≡ Over (Decided v)
     same w q = let s : Some w ≡ Some v = sym q ∙ e in cc
 
-    -- a match that ended for nothing else has no verdict
-    at : (p : Phase) → ByBoard r final.played p → p ≡ Over (Decided v)
-    at (Over (Decided w)) j = same w j
-    at p j = grind (arith, has, j)
+    never : {A : Type 0} → verdict r.start final.played ≡ None → A
+    never n = let no : None ≡ Some v = sym n ∙ e in absurd cc
+
+    -- a match that ended by a fault had no move
+    by_fault : (c : Colour) (fault : MatchFault) → Undecided r final.played → Ended v final (Over (Faulted c fault))
+    by_fault c fault (inl none) = inr (none, c, fault, refl)
+    by_fault c fault (inr n) = never n
+
+    at : (p : Phase) → is_over p ≡ true → ByBoard r final.played p → Ended v final p
+    at (Over (Decided w)) o j = inl (same w j)
+    at (Over (Faulted c fault)) o j = by_fault c fault j
+    at (Over reason) o j = never j
+    at p o j = absurd cc
+
+-- the outcome of a game with this verdict, in which what a match of this reason declares was declared
+abbrev outcome_at : Option Verdict → Reason → Outcome
+outcome_at v reason =
+    option_map_or (λ d. d.outcome) (option_or (option_map verdict_result v) (declared_at v reason)) Unfinished
+
+outcome_is : (v : Option Verdict) (reason : Reason)
+    → outcome_by_reason (reported_reason v reason) ≡ outcome_at v reason
+outcome_is None reason = refl
+outcome_is (Some v) reason = refl
+
+pub outcomes_are_of_the_game : OutcomesAreOfTheGame
+outcomes_are_of_the_game H reason setup end w w' (final, passed, is, left) =
+    sym (ap (λ (t : Outcome × List ℕ × HowEnded). t.0) is.report)
+    ∙ outcome_is (verdict setup.start final.played) reason
+    ∙ sym (ap (λ (g : Seen). outcome_now g.state) left)

@@ -12,7 +12,7 @@ use Rattle.cecp_engine.specs.EngineLines.{LineKind, Features, Moves, Resigns, Of
 use Rattle.cecp_engine.specs.Items.{Item, items_of, ends_handshake, takes, plays_fischerandom, is_known}
 use Rattle.cecp_engine.specs.Levels.{allotted}
 use Rattle.chess_match.specs.Events.{Event, Line, Opened, OutputEnds, FailsToRead, FailsToWrite, Seat}
-use Rattle.chess_match.specs.Reasons.{result_of}
+use Rattle.chess_match.specs.Reasons.{reported_reason, result_of}
 use Rattle.chess_match.specs.Rules.{Rules, text_of_last, start_fen, has_bare_king}
 use Rattle.chess_text.specs.San.{is_fischerandom}
 use Rattle.chess_text.specs.declared.reading.Reading.{Reading}
@@ -126,13 +126,15 @@ abbrev pub with_seat : Colour → (Seat → Seat) → Match → Match
 with_seat S change m = record m { seat = λ side. if same_colour side S then change (m.seat side) else m.seat side }
 
 -- the match `m` ends for this reason. Each side is sent the last move, if by the phase of `m` it has yet to be sent it;
--- the result with its comment, such as `result 1-0 {Black resigns}`; and `quit`. But if the reason is that writing to a
--- side failed, that side is sent nothing
+-- the result with its comment, such as `result 1-0 {Black resigns}`; and `quit`. The result is that of the board's
+-- verdict, if there is one, also where a fault ends the match. But if the reason is that writing to a side failed, that
+-- side is sent nothing
 abbrev pub ends : Rules → Reason → Match → Effect
 ends r reason m = record {
   after = record m { phase = Over reason };
   to = λ S. if is_write_fault_of reason S then [] else list_if (is_owed_move m.phase S) (move_line r m S ∷ [])
-      ++ (Says (codes "result " ++ result_text (result_of reason)) ∷ Says (codes "quit") ∷ []);
+      ++ (Says (codes "result " ++ result_text (result_of (reported_reason (verdict r.start m.played) reason)))
+      ∷ Says (codes "quit") ∷ []);
 }
 
 -- a line of the side `S` is ignored; the 10,000th ignored line of one setup or turn ends the match

@@ -11,7 +11,7 @@ use Rattle.chess_match.specs.Acts.{Act, IsMatch}
 use Rattle.chess_match.specs.ByDevice.{line_read, is_end_of, is_failed_read_of, moment_shown, lines_to, broken_block, notes_of}
 use Rattle.chess_match.specs.Effects.{Match, Over}
 use Rattle.chess_match.specs.Notes.{Note}
-use Rattle.chess_match.specs.Reasons.{reported, reported_fault, declared_at}
+use Rattle.chess_match.specs.Reasons.{reported, reported_fault, reported_reason, declared_at}
 use Rattle.chess_base.specs.ByColour.{by_colour}
 use Rattle.chess_match.specs.Rules.{Rules, rules_of}
 use Rattle.chess_match.specs.Run.{engine_lines, ClockReadings}
@@ -68,12 +68,14 @@ pub record Passed (r : Rules) (H : List Act) (final : Match) (w w' : World) : Ty
   -- the clock was read as often as the acts say, and showed the moments that they name
   pub moments : ClockReadings w.coming w'.coming (flat_map moment_shown H)
 
--- `end` is the report of a match of the acts `H`, which ended for this reason; `final` is its state at the end
-pub record ReportedAs (H : List Act) (final : Match) (reason : Reason) (end : MatchEnd) : Type 0 where
+-- `end` is the report of a match of the acts `H` by the rules `r`, which ended for this reason; `final` is its state at
+-- the end
+pub record ReportedAs (r : Rules) (H : List Act) (final : Match) (reason : Reason) (end : MatchEnd) : Type 0 where
   -- the reason is that of the last state
   pub ended : final.phase ≡ Over reason
-  -- the outcome, the comment, and how the match ended (`end.ended`, for the tag Termination) are those of the reason
-  pub report : reported reason ≡ (end.outcome, end.comment, end.ended)
+  -- the outcome, the comment, and how the match ended (`end.ended`, for the tag Termination) are those of the board's
+  -- verdict after the moves played, if there is one; otherwise those of the reason
+  pub report : reported (reported_reason (verdict r.start final.played) reason) ≡ (end.outcome, end.comment, end.ended)
   -- the name of each engine is the value of the last `myname` in its handshake, as a PGN tag keeps it: its first 60
   -- bytes, with `?` in place of what is not printable ASCII; empty if it sent none
   pub name : (S : Colour) → by_colour end.white_name end.black_name S
@@ -89,7 +91,7 @@ pub record ReportedAs (H : List Act) (final : Match) (reason : Reason) (end : Ma
 abbrev pub PlayedBy : List Act → Reason → Setup → MatchEnd → World → World → Type 0
 PlayedBy H reason setup end w w' =
     let r = rules_of setup.start setup.level w.game.limit in
-    (final : Match) × Passed r H final w w' × ReportedAs H final reason end
+    (final : Match) × Passed r H final w w' × ReportedAs r H final reason end
     × (w'.game ≡ game.with_state w.game (record {
       start = setup.start;
       moves = final.played;
@@ -115,7 +117,7 @@ abbrev pub PlayedAt : Setup → MatchEnd → Passing → Passing → game.Seen �
 PlayedAt setup end old new g g' =
     let r = rules_of setup.start setup.level g.limit in
     (H : List Act) × (reason : Reason) × (final : Match)
-    × IsMatch r H final × Passes old new (watched reason H) × ReportedAs H final reason end
+    × IsMatch r H final × Passes old new (watched reason H) × ReportedAs r H final reason end
     × (g' ≡ game.with_state g (record {
       start = setup.start;
       moves = final.played;

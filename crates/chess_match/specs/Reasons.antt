@@ -70,6 +70,12 @@ result_of reason = record { outcome = (reported reason).0; comment = comment_of 
 abbrev pub ended_by : Reason → HowEnded
 ended_by reason = (reported reason).2
 
+-- the reason that is reported of a match that ended for this reason: if the board has a verdict (the first argument),
+-- the verdict, also where a fault ended the match; otherwise the reason itself
+abbrev pub reported_reason : Option Verdict → Reason → Reason
+reported_reason (Some v) _ = Decided v
+reported_reason None reason = reason
+
 -- the fault that is reported of a match that ended for this reason, and its side: the fault that is the reason itself;
 -- otherwise `Write`, if writing the last lines to a side failed (`failed`), of the first such side, White before Black.
 -- `None` if there was no fault

@@ -15,7 +15,7 @@ ghost use Rattle.chess_match.specs.ties.Represents.{Represents, is_unsent, last_
 use crate::block::{Block, add_end, add_level, add_move, add_ping, add_times};
 use crate::match_game::MatchGame;
 use crate::phase::Phase;
-use crate::reason::{MatchFault, Reason};
+use crate::reason::{MatchFault, Reason, reported_reason};
 use crate::state::{Actions, MatchState};
 use byte_devices::append;
 use cecp_engine::Features;
@@ -137,8 +137,8 @@ fn add_unsent(block: &mut Block, core: &MatchState, side: Colour)
     }
 }
 
-// Appends the last lines for this side: the last move, if it is still to be sent it, `result ..` by the reason, and
-// `quit`.
+// Appends the last lines for this side: the last move, if it is still to be sent it, `result ..` by the reason that is
+// reported, and `quit`.
 fn add_end_lines(block: &mut Block, core: &MatchState, side: Colour, reason: Reason)
     requires { array_vec_len block.old + 120 ≤ BLOCK_LEN }
     ensures text { (r : Rules) (played : List Move) (m : Match) → Represents r core.now played m
@@ -193,7 +193,7 @@ fn add_entry<G: MatchGame>(block: &mut Block, core: &MatchState, game: &G, side:
             if is_write_fault_of(reason, side) {
                 return;
             }
-            add_end_lines(block, core, side, reason);
+            add_end_lines(block, core, side, reported_reason(game.verdict(), reason));
         }
     }
 }

@@ -2,7 +2,7 @@
 
 ghost use Rattle.std.specs.Prelude.{◌≡◌, ◌≤◌, ◌++◌, length};
 ghost use Rattle.chess_base.specs.ByColour.{of_colour};
-ghost use Rattle.chess_match.specs.Reasons.{win_of, outcome_by_reason, comment_of, colour_name, fault_comment, ended_by, reported_fault};
+ghost use Rattle.chess_match.specs.Reasons.{win_of, outcome_by_reason, comment_of, colour_name, fault_comment, ended_by, reported_fault, reported_reason};
 
 use chess_base::{ByColour, Colour};
 use chess_game::{DrawClaim, HowEnded, Outcome, Verdict};
@@ -53,7 +53,7 @@ pub enum Reason {
     ForfeitsToBareKing,
     /// As many half-moves are current as the limit allows.
     GameTooLong,
-    /// That side's engine, or a device of it, failed: the game has no outcome.
+    /// That side's engine, or a device of it, failed: the game has no outcome, unless the board has a verdict.
     Faulted(Colour, MatchFault),
 }
 
@@ -95,7 +95,8 @@ impl MatchFault {
 }
 
 impl Reason {
-    /// The outcome of a game that ended for this reason; `Unfinished` if an engine failed or the game is too long.
+    /// The outcome of a game that ended for this reason; `Unfinished` if an engine failed or the game is too long. (If
+    /// the start of a match has a verdict, that is its outcome, even if an engine fails.)
     pub fn outcome(self) -> Outcome
         ensures { result ≡ outcome_by_reason self }
     {
@@ -160,6 +161,17 @@ impl Reason {
             Reason::GameTooLong => HowEnded::Normal,
             Reason::Faulted(_, _) => HowEnded::Normal,
         }
+    }
+}
+
+// The reason that is reported of a match that ended for this reason: the board's verdict, if there is one, also where a
+// fault ended the match.
+pub(crate) fn reported_reason(verdict: Option<Verdict>, reason: Reason) -> Reason
+    ensures { result ≡ reported_reason verdict reason }
+{
+    match verdict {
+        Some(verdict) => Reason::Decided(verdict),
+        None => reason,
     }
 }
 

@@ -36,7 +36,7 @@ use crate::desk::Desk;
 use crate::match_game::MatchGame;
 use crate::moments::Moments;
 use crate::phase::Phase;
-use crate::reason::{MatchFault, Reason, reported_fault};
+use crate::reason::{MatchFault, Reason, reported_fault, reported_reason};
 use crate::send::note_and_send;
 use crate::state::{Actions, ENTRY, MatchState};
 use crate::table::MatchTable;
@@ -72,7 +72,8 @@ pub struct Setup {
 /// How a match ended.
 #[derive(Drop)]
 pub struct MatchEnd {
-    /// The outcome: `Unfinished` where a fault ended the match, or where no further move has room.
+    /// The outcome, which is that of the game: `Unfinished` where a fault ended the match, or where no further move has
+    /// room. But a verdict on the start is the outcome, even if a fault ended the match.
     pub outcome: Outcome,
     /// What is said of the end, as it is sent to the engines after `result`.
     pub comment: Comment,
@@ -82,7 +83,8 @@ pub struct MatchEnd {
     pub white_name: TagText,
     /// The name that Black's engine gave itself; empty where it gave none.
     pub black_name: TagText,
-    /// The first fault, and whose it is. One that first comes in the end lines leaves the outcome.
+    /// The first fault, and whose it is. One that first comes in the end lines leaves the outcome; so does one before
+    /// the first turn if the start has a verdict.
     pub fault: Option<(Colour, MatchFault)>,
 }
 
@@ -119,7 +121,7 @@ pub fn run_match<R: Input, W: Output, M: Moments, B: Board>(
     // The same in single facts.
     ensures start { game.new.state.start ≡ setup.now.start }
     ensures limit { game.new.limit ≡ game.old.limit }
-    ensures outcome { verdict_now game.new.state ≡ None → outcome_now game.new.state ≡ result.outcome }
+    ensures outcome { outcome_now game.new.state ≡ result.outcome }
 {
     run_match_watched(white, black, moments, setup, game, &mut NoWitness)
 }
@@ -151,7 +153,7 @@ pub fn run_match_watched<R: Input, W: Output, M: Moments, B: Board, L: Witness>(
     // The same in single facts.
     ensures start { game.new.state.start ≡ setup.now.start }
     ensures limit { game.new.limit ≡ game.old.limit }
-    ensures outcome { verdict_now game.new.state ≡ None → outcome_now game.new.state ≡ result.outcome }
+    ensures outcome { outcome_now game.new.state ≡ result.outcome }
 {
     let mut desk = Desk {
         white_reader: &mut white.reader,
@@ -184,7 +186,7 @@ pub fn run_match_at<T: MatchTable, B: Board>(
     // The same in single facts.
     ensures start { game.new.state.start ≡ setup.now.start }
     ensures limit { game.new.limit ≡ game.old.limit }
-    ensures outcome { verdict_now game.new.state ≡ None → outcome_now game.new.state ≡ result.outcome }
+    ensures outcome { outcome_now game.new.state ≡ result.outcome }
 {
     game.restart(&setup.start);
     let mut core = MatchState::new(setup.level);
@@ -468,7 +470,8 @@ fn declare<B: Board>(game: &mut Game<B>, reason: Reason)
 }
 
 // Gives what is reported of a match that ended for `reason`, with both engines' names and the first fault (`failed`
-// says to whom a write failed). Also declares the outcome in the game, unless the board has a verdict.
+// says to whom a write failed). Also declares the outcome in the game, unless the board has a verdict, which is then
+// reported.
 #[tactic(auto, using(crate::proofs::Comments::kept_whole))]
 fn end_of<B: Board>(
     core: MatchState,
@@ -477,17 +480,18 @@ fn end_of<B: Board>(
     failed: ByColour<bool>,
 ) -> MatchEnd
     requires { game.old.state.declared ≡ None }
-    ensures report { IsReported reason failed result }
+    ensures report { IsReported (verdict_now game.old.state) reason failed result }
     ensures white_name { result.white_name ≡ core.players.white.name }
     ensures black_name { result.black_name ≡ core.players.black.name }
     ensures game { game.new
         ≡ with_state game.old (record game.old.state { declared = declared_at (verdict_now game.old.state) reason }) }
 {
+    let reported = reported_reason(game.verdict(), reason);
     declare(game, reason);
     MatchEnd {
-        outcome: reason.outcome(),
-        comment: Comment::cut(reason.comment()),
-        ended: reason.ended(),
+        outcome: reported.outcome(),
+        comment: Comment::cut(reported.comment()),
+        ended: reported.ended(),
         white_name: core.players.white.name,
         black_name: core.players.black.name,
         fault: reported_fault(reason, failed),

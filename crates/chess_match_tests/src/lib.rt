@@ -2,6 +2,8 @@
 #![tactic(auto)]
 
 #[cfg(test)]
+mod decided;
+#[cfg(test)]
 mod engines;
 #[cfg(test)]
 mod features;

@@ -1,5 +1,5 @@
 -- What the lines of a log show of its match, and that a log gives the match back.
-use Rattle.std.proofs.Common.{◌≡◌, ◌∙◌, ℕ, Bool, true, false, List, [], ◌∷◌, ◌++◌, map, refl, sym, ap, append_assoc, append-nil, Some, None, arith}
+use Rattle.std.proofs.Common.{◌≡◌, ◌⊎◌, ◌∙◌, ℕ, Bool, true, false, List, [], ◌∷◌, ◌++◌, map, refl, sym, ap, append_assoc, append-nil, inl, inr, Option, Some, None, arith}
 use Rattle.std.specs.Prelude.{◌==◌, codes, flat_map, if◌then◌else◌, not}
 use Rattle.std.proofs.lemmas.Bool.{and_parts}
 use Rattle.std.specs.List.{list_all, onto_first}
@@ -10,20 +10,26 @@ use Rattle.chess_base.specs.Letters.{byte, new_line}
 use Rattle.chess_base.specs.Options.{list_if}
 use Rattle.chess_base.specs.declared.man.Colour.{Colour}
 use Rattle.chess_base.specs.Men.{same_colour}
-use Rattle.chess_match.specs.Acts.{Act, Sends, SendFails, Happens}
-use Rattle.chess_match.specs.Effects.{Match, beginning}
+use Rattle.chess_match.specs.Acts.{Act, Sends, SendFails, Happens, IsMatch}
+use Rattle.chess_match.specs.Effects.{Match, Over, beginning}
 use Rattle.chess_match.specs.Events.{Event, Line, Opened, OutputEnds, FailsToRead, FailsToWrite}
 use Rattle.chess_match.specs.Lines.{SentLine, bytes_of, text_of}
 use Rattle.chess_match.specs.Notes.{Note, Happened, Gives}
-use Rattle.chess_match.specs.Reasons.{is_write_fault_of}
+use Rattle.chess_match.specs.Reasons.{is_write_fault_of, reported_reason}
 use Rattle.chess_match.specs.laws.Laws.{events_in, notes_given}
 use Rattle.chess_match.specs.laws.OfActs.{lines_given}
+use Rattle.chess_game.specs.Ends.{verdict}
+use Rattle.chess_game.specs.declared.verdicts.Verdict.{Verdict}
+use Rattle.chess_match.proofs.shared.Verdicts.{verdicts_end_matches}
+use Rattle.chess_match.specs.Rules.{Rules}
+use Rattle.chess_match.specs.declared.reason.MatchFault.{MatchFault}
 use Rattle.chess_match.specs.declared.reason.Reason.{Reason}
+use Rattle.chess_match.specs.declared.reason.Reason.TheVariants.{Decided, Faulted}
 use Rattle.match_runner.specs.Log.{lines_in, moment_after}
 use Rattle.match_runner.specs.laws.Entries.{Entry, entries_from, note_entries}
 use Rattle.match_runner.specs.laws.ReadBack.{LogsGiveTheGame, LogsShow, entry_event, entry_given, events_shown, result_line, text_of_result}
 use Rattle.match_runner.proofs.EntriesRead.{log_is, logs_have_one_reading}
-use Rattle.match_runner.proofs.PlayedAgain.{again, last_lines}
+use Rattle.match_runner.proofs.PlayedAgain.{again, ends_by_flag, last_lines, shown_reason}
 use Rattle.match_runner.proofs.Replays.{EndsAs, match_goes, replayed}
 use Rattle.match_runner.proofs.ResultLines.{reason_of, reason_read, result_plain}
 
@@ -242,8 +248,49 @@ logs_show r first reason H final h over = (
   log_is first 0 (notes_given reason H),
   events_read 0 (notes_given reason H),
   λ S. given_read S 0 reason H,
-  result_read (notes_given reason H) reason (match_goes r reason H final h over).last,
+  result_read (notes_given reason H) (shown_reason r final reason) (match_goes r reason H final h over).last,
 )
+
+-- what is reported of a match shows whether a flag fell; then it is the reason itself
+module _ (r : Rules) (reason : Reason) (H : List Act) (final : Match) (h : IsMatch r H final)
+    (over : final.phase ≡ Over reason) where
+  decided_in_time : (v : Verdict) → verdict r.start final.played ≡ Some v → ends_by_flag reason ≡ false
+  decided_in_time v e = at (verdicts_end_matches r v H final h e)
+    where
+      at : (final.phase ≡ Over (Decided v))
+          ⊎ ((final.played ≡ []) × (c : Colour) × (fault : MatchFault) × (final.phase ≡ Over (Faulted c fault)))
+          → ends_by_flag reason ≡ false
+      at (inl p) = let same : Over reason ≡ Over (Decided v) = sym over ∙ p in
+          let is : reason ≡ Decided v = cc in ap ends_by_flag is
+      at (inr (none, c, fault, p)) = let same : Over reason ≡ Over (Faulted c fault) = sym over ∙ p in
+          let is : reason ≡ Faulted c fault = cc in ap ends_by_flag is
+
+  late_shown : ends_by_flag (shown_reason r final reason) ≡ ends_by_flag reason
+  late_shown = at (verdict r.start final.played) refl
+    where
+      at : (v : Option Verdict) → verdict r.start final.played ≡ v
+          → ends_by_flag (reported_reason v reason) ≡ ends_by_flag reason
+      at None e = refl
+      at (Some v) e = sym (decided_in_time v e)
+
+  flag_shown : ends_by_flag reason ≡ true → shown_reason r final reason ≡ reason
+  flag_shown late = at (verdict r.start final.played) refl
+    where
+      at : (v : Option Verdict) → verdict r.start final.played ≡ v → reported_reason v reason ≡ reason
+      at None e = refl
+      at (Some v) e = let no : true ≡ false = sym late ∙ decided_in_time v e in absurd cc
+
+-- two matches ended for the same reason, if the same is reported of both, and without a flag also their last phase is
+-- the same
+reasons_are : (r : Rules) (reason reason' : Reason) (H K : List Act) (final final' : Match) → IsMatch r H final
+    → IsMatch r K final' → final.phase ≡ Over reason → final'.phase ≡ Over reason'
+    → shown_reason r final reason ≡ shown_reason r final' reason' → ends_by_flag reason ≡ ends_by_flag reason'
+    → (ends_by_flag reason ≡ false → final.phase ≡ final'.phase) → (late : Bool) → ends_by_flag reason ≡ late
+    → reason ≡ reason'
+reasons_are r reason reason' H K final final' h k over over' shown lates phases true late =
+    sym (flag_shown r reason H final h over late) ∙ shown ∙ flag_shown r reason' K final' k over' (sym lates ∙ late)
+reasons_are r reason reason' H K final final' h k over over' shown lates phases false plain =
+    let same : Over reason ≡ Over reason' = sym over ∙ phases plain ∙ over' in cc
 
 pub logs_give_the_game : LogsGiveTheGame
 logs_give_the_game r first reason reason' H K final final' h k over over' plain plain' same =
@@ -252,18 +299,23 @@ logs_give_the_game r first reason reason' H K final final' h k over over' plain 
     let a = logs_show r first reason H final h over in
     let b = logs_show r first reason' K final' k over' in
     let entries : xs ≡ ys = logs_have_one_reading first xs ys plain plain' (sym a.0 ∙ same ∙ b.0) in
-    let reasons : reason ≡ reason' = sym (reason_read reason)
+    let shown : shown_reason r final reason ≡ shown_reason r final' reason' =
+    sym (reason_read (shown_reason r final reason))
     ∙ ap (λ (t : List ℕ). reason_of t) (sym a.3 ∙ ap (λ (l : List Entry). result_line l) entries ∙ b.3)
-    ∙ reason_read reason' in
+    ∙ reason_read (shown_reason r final' reason') in
+    let lates : ends_by_flag reason ≡ ends_by_flag reason' = sym (late_shown r reason H final h over)
+    ∙ ap ends_by_flag shown ∙ late_shown r reason' K final' k over' in
     let events : events_shown (events_in (notes_given reason H)) ≡ events_shown (events_in (notes_given reason' K)) =
     sym a.1 ∙ ap (λ (l : List Entry). flat_map entry_event l) entries ∙ b.1 in
-    let games = ap (λ (x : Reason).
-    replayed r x (again beginning.after) (events_shown (events_in (notes_given reason H)))) reasons
-    ∙ ap (λ (es : List Event). replayed r reason' (again beginning.after) es) events in
+    let games = ap (λ (late : Bool).
+    replayed r late (again beginning.after) (events_shown (events_in (notes_given reason H)))) lates
+    ∙ ap (λ (es : List Event). replayed r (ends_by_flag reason') (again beginning.after) es) events in
     let c = (match_goes r reason H final h over).same in
     let d = (match_goes r reason' K final' k over').same in
     record {
-      reasons = reasons;
+      reasons = reasons_are r reason reason' H K final final' h k over over' shown lates
+          (λ plain. c.2 plain ∙ ap (λ (m : Match). m.phase) games ∙ sym (d.2 (sym lates ∙ plain)))
+          (ends_by_flag reason) refl;
       moves = c.0 ∙ ap (λ (m : Match). m.played) games ∙ sym d.0;
       items = λ S. c.1 S ∙ ap (λ (m : Match). (m.seat S).items) games ∙ sym (d.1 S);
       sent = λ S. sym (a.2 S) ∙ ap (λ (l : List Entry). flat_map (entry_given S) l) entries ∙ b.2 S;

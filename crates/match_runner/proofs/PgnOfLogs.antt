@@ -17,7 +17,7 @@ use Rattle.chess_match.specs.Acts.{Act, IsMatch}
 use Rattle.chess_match.specs.laws.Laws.{notes_given}
 use Rattle.chess_match.specs.Effects.{Match, Over}
 use Rattle.chess_match.specs.Notes.{Note}
-use Rattle.chess_match.specs.Reasons.{declared_at, ended_by, outcome_by_reason, win_of}
+use Rattle.chess_match.specs.Reasons.{declared_at, ended_by, outcome_by_reason, reported_reason, win_of}
 use Rattle.chess_match.specs.Rules.{Rules, rules_of}
 use Rattle.chess_match.specs.declared.reason.Reason.{Reason}
 use Rattle.chess_pgn.specs.GameText.{pgn}
@@ -43,6 +43,10 @@ left plan reason moves = record {
   declared = declared_at (verdict plan.start moves) reason;
 }
 
+-- the reason that is reported of a match of these moves, if it ended for this reason
+abbrev reason_shown : GamesPlan → Reason → List Move → Reason
+reason_shown plan reason moves = reported_reason (verdict plan.start moves) reason
+
 -- an engine's name, by its items
 abbrev named : List Item → List ℕ
 named items = cut_tag (last_said (λ v. v.text) [] (codes "myname") items)
@@ -52,8 +56,8 @@ record IsPlayed (plan : GamesPlan) (played : GameRecord) (H : List Act) (reason 
   pub is_match : IsMatch (rules plan) H final
   pub over : final.phase ≡ Over reason
   pub notes : notes_given reason H ≡ played.notes
-  pub outcome : played.end.outcome ≡ outcome_by_reason reason
-  pub ended : played.end.ended ≡ ended_by reason
+  pub outcome : played.end.outcome ≡ outcome_by_reason (reason_shown plan reason final.played)
+  pub ended : played.end.ended ≡ ended_by (reason_shown plan reason final.played)
   pub white : played.end.white_name ≡ named (final.seat White).items
   pub black : played.end.black_name ≡ named (final.seat Black).items
   pub game : played.after.game.state ≡ left plan reason final.played
@@ -111,14 +115,16 @@ logs_give_the_pgn plan number one two h k plain plain' same =
     logs_give_the_game (rules plan) first reason reason' H K final final' p.is_match q.is_match
     p.over q.over shown shown'
     (ap (λ (l : List Note). log_from first 0 l) p.notes ∙ same
-    ∙ sym (ap (λ (l : List Note). log_from first 0 l) q.notes)) in (
+    ∙ sym (ap (λ (l : List Note). log_from first 0 l) q.notes)) in
+    let reported : reason_shown plan reason final.played ≡ reason_shown plan reason' final'.played =
+    ap (λ (x : Reason). reason_shown plan x final.played) a.reasons ∙ ap (λ (ms : List Move). reason_shown plan reason' ms) a.moves in (
       text_is plan number one.end.white_name two.end.white_name one.end.black_name two.end.black_name one.end.ended
           two.end.ended one.after.game.state two.after.game.state
           (p.white ∙ ap named (a.items White) ∙ sym q.white) (p.black ∙ ap named (a.items Black) ∙ sym q.black)
-          (p.ended ∙ ap ended_by a.reasons ∙ sym q.ended)
+          (p.ended ∙ ap ended_by reported ∙ sym q.ended)
           (p.game ∙ ap (λ (x : Reason). left plan x final.played) a.reasons
           ∙ ap (λ (ms : List Move). left plan reason' ms) a.moves ∙ sym q.game),
-      p.outcome ∙ ap outcome_by_reason a.reasons ∙ sym q.outcome,
+      p.outcome ∙ ap outcome_by_reason reported ∙ sym q.outcome,
     )
 
 -- ---- all games of a match

@@ -27,7 +27,7 @@ use Rattle.chess_match.specs.declared.reason.MatchFault.TheVariants.{Flood, NoDo
 use Rattle.chess_match.specs.declared.reason.Reason.{Reason}
 use Rattle.chess_match.specs.Lines.{SentLine, Says, ping}
 use Rattle.chess_match.specs.shared.Parts.{answers_to}
-use Rattle.chess_match.specs.Reasons.{is_write_fault_of}
+use Rattle.chess_match.specs.Reasons.{is_write_fault_of, reported_reason}
 use Rattle.chess_match.specs.declared.reason.Reason.TheVariants as over_by
 use Rattle.match_runner.specs.laws.ReadBack.{text_of_result}
 use Rattle.chess_game.specs.Ends.{verdict, claims, draw_claim}
@@ -46,13 +46,18 @@ ends_by_flag _ = false
 abbrev pub last_lines : Reason → List SentLine
 last_lines reason = Says (text_of_result reason) ∷ Says (codes "quit") ∷ []
 
--- a match that ended for this reason: no write failed, and each side is sent the last lines
-pub record Stops (reason : Reason) (to : Colour → List SentLine) : Type 0 where
+-- the reason that is reported of the match `m`, if it ended for this reason
+abbrev pub shown_reason : Rules → Match → Reason → Reason
+shown_reason r m reason = reported_reason (verdict r.start m.played) reason
+
+-- a match that ended for this reason, of which `shown` is reported: no write failed, and each side is sent the last
+-- lines
+pub record Stops (shown reason : Reason) (to : Colour → List SentLine) : Type 0 where
   pub written : (S : Colour) → is_write_fault_of reason S ≡ false
-  pub last : (S : Colour) → (before : List SentLine) × (to S ≡ before ++ last_lines reason)
+  pub last : (S : Colour) → (before : List SentLine) × (to S ≡ before ++ last_lines shown)
 
 stops_at : (r : Rules) (reason : Reason) (m : Match) → ((S : Colour) → is_write_fault_of reason S ≡ false)
-    → Stops reason (ends r reason m).to
+    → Stops (shown_reason r m reason) reason (ends r reason m).to
 stops_at r reason m w = record {
   written = w;
   last = λ S. (
@@ -90,29 +95,29 @@ abbrev IsPlain : Reason → Type 0
 IsPlain reason = (ends_by_flag reason ≡ false) × ((S : Colour) → is_write_fault_of reason S ≡ false)
 
 -- what is done is done again, and no flag falls
-pub record Again (done redone : Effect) : Type 0 where
+pub record Again (r : Rules) (done redone : Effect) : Type 0 where
   pub same : again done.after ≡ opened redone.after
   pub stops : (reason : Reason) → done.after.phase ≡ Over reason
-      → (ends_by_flag reason ≡ false) × Stops reason done.to
+      → (ends_by_flag reason ≡ false) × Stops (shown_reason r done.after reason) reason done.to
 
 pub over_again : (r : Rules) (reason : Reason) (m : Match) → IsPlain reason
-    → Again (ends r reason m) (ends r reason (again m))
+    → Again r (ends r reason m) (ends r reason (again m))
 over_again r reason m h = record {
   same = refl;
   stops = λ reason' e. let same : reason ≡ reason' = cc in
-      subst (λ (x : Reason). (ends_by_flag x ≡ false) × Stops x (ends r reason m).to) same
+      subst (λ (x : Reason). (ends_by_flag x ≡ false) × Stops (shown_reason r m x) x (ends r reason m).to) same
       (h.0, stops_at r reason m h.1);
 }
 
-on_again : (done redone : Effect) → again done.after ≡ opened redone.after → is_over done.after.phase ≡ false
-    → Again done redone
+on_again : {r : Rules} (done redone : Effect) → again done.after ≡ opened redone.after
+    → is_over done.after.phase ≡ false → Again r done redone
 on_again done redone e on = record {
   same = e;
   stops = λ reason over. let no : false ≡ true = sym on ∙ ap is_over over in absurd cc;
 }
 
-test_again : (b : Bool) (x x' y y' : Effect) → Again x x' → Again y y'
-    → Again (if b then x else y) (if b then x' else y')
+test_again : {r : Rules} (b : Bool) (x x' y y' : Effect) → Again r x x' → Again r y y'
+    → Again r (if b then x else y) (if b then x' else y')
 test_again true x x' y y' h k = h
 test_again false x x' y y' h k = k
 
@@ -144,29 +149,29 @@ lacks : (r : Rules) (items : List Item) → Lacks (missing r items)
 lacks r items fault h1 c O = grind arith
 
 module _ (r : Rules) (S : Colour) (m : Match) (on : is_over m.phase ≡ false) where
-  ignored : Again (ignores r S m) (ignores r S (again m))
+  ignored : Again r (ignores r S m) (ignores r S (again m))
   ignored = test_again (nat_le 10000 (m.count + 1)) _ _ _ _ (over_again r (over_by.Faulted S Flood) m (refl, λ c. refl))
       (on_again _ _ (counted_again m (m.count + 1)) on)
 
-  offered : Again (offer_row r S m) (offer_row r S (again m))
+  offered : Again r (offer_row r S m) (offer_row r S (again m))
   offered = test_again (m.seat (other S)).offers _ _ _ _ (over_again r over_by.Agreed m (refl, λ c. refl))
       (test_again (m.seat S).offers _ _ _ _ ignored
       (on_again _ _ (seated_again S (λ s. record s { offers = true }) m (λ s. refl)
       ∙ ap (λ (n : Match). with_seat S (λ s. record s { offers = true }) n) (opened_again m)) on))
 
-  in_turn : (kind : LineKind) → Again (turn_row r S kind m) (turn_row r S kind (again m))
+  in_turn : (kind : LineKind) → Again r (turn_row r S kind m) (turn_row r S kind (again m))
   in_turn Resigns = over_again r (over_by.Resigns S) m (refl, λ c. refl)
   in_turn OffersDraw = offered
   in_turn ClaimsDraw = at (draw_claim (claims r.start m.played))
     where
       at : (c : Option DrawClaim)
-          → Again (option_map_or (λ claim. ends r (over_by.Claimed claim) m) c (offer_row r S m))
+          → Again r (option_map_or (λ claim. ends r (over_by.Claimed claim) m) c (offer_row r S m))
           (option_map_or (λ claim. ends r (over_by.Claimed claim) (again m)) c (offer_row r S (again m)))
       at (Some c) = over_again r (over_by.Claimed c) m (refl, λ c. refl)
       at None = offered
   in_turn (ClaimsWin winner) = at (same_colour winner S)
     where
-      at : (b : Bool) → Again (ends r (if b then over_by.ClaimsFalsely S else over_by.Resigns S) m)
+      at : (b : Bool) → Again r (ends r (if b then over_by.ClaimsFalsely S else over_by.Resigns S) m)
           (ends r (if b then over_by.ClaimsFalsely S else over_by.Resigns S) (again m))
       at true = over_again r (over_by.ClaimsFalsely S) m (refl, λ c. refl)
       at false = over_again r (over_by.Resigns S) m (refl, λ c. refl)
@@ -181,26 +186,26 @@ module _ (r : Rules) (S : Colour) (m : Match) (on : is_over m.phase ≡ false) w
       (λ side. zero ((moved S move used m).seat side)) (moved S move 0 (again m)).seat
       (λ side. grind (arith, map-append {B = ℕ} (λ u. 0) (m.seat side).used (used ∷ [])))
 
-  decided_again : (v : Option Verdict) (n : Match) (done redone : Effect) → Again done redone
-      → Again (option_map_or (λ verdict. ends r (over_by.Decided verdict) n) v done)
+  decided_again : (v : Option Verdict) (n : Match) (done redone : Effect) → Again r done redone
+      → Again r (option_map_or (λ verdict. ends r (over_by.Decided verdict) n) v done)
       (option_map_or (λ verdict. ends r (over_by.Decided verdict) (again n)) v redone)
   decided_again (Some v) n done redone h = over_again r (over_by.Decided v) n (refl, λ c. refl)
   decided_again None n done redone h = h
 
-  before : (used : ℕ) (kind : LineKind) → Again (before_move r S used kind m) (before_move r S 0 kind (again m))
+  before : (used : ℕ) (kind : LineKind) → Again r (before_move r S used kind m) (before_move r S 0 kind (again m))
   before used (Moves t) = test_again (nat_le r.limit (length m.played)) _ _ _ _
       (over_again r over_by.GameTooLong m (refl, λ c. refl))
       (at (reading (position_after r.start m.played) t))
     where
-      illegal : Again (ends r (over_by.MovesIllegally S) m) (ends r (over_by.MovesIllegally S) (again m))
+      illegal : Again r (ends r (over_by.MovesIllegally S) m) (ends r (over_by.MovesIllegally S) (again m))
       illegal = over_again r (over_by.MovesIllegally S) m (refl, λ c. refl)
 
-      at : (read : Reading) → Again (move_row r S used read m) (move_row r S 0 read (again m))
+      at : (read : Reading) → Again r (move_row r S used read m) (move_row r S 0 read (again m))
       at reads.Ambiguous = illegal
       at reads.NoSuch = illegal
       at reads.NotAMove = illegal
       at (reads.Move move) =
-          subst (λ (n : Match). Again (move_row r S used (reads.Move move) m)
+          subst (λ (n : Match). Again r (move_row r S used (reads.Move move) m)
           (option_map_or (λ verdict. ends r (over_by.Decided verdict) n) (verdict r.start (m.played ++ move ∷ []))
           (sends_to S (ping (ping_number n S) ∷ []) n)))
           (moved_again move used)
@@ -208,7 +213,7 @@ module _ (r : Rules) (S : Colour) (m : Match) (on : is_over m.phase ≡ false) w
   before used kind = in_turn kind
 
   after : (moment : ℕ) (kind : LineKind)
-      → Again (line_row r (AfterMove S) kind moment m) (line_row r (AfterMove S) kind 0 (again m))
+      → Again r (line_row r (AfterMove S) kind moment m) (line_row r (AfterMove S) kind 0 (again m))
   after moment (Moves t) = over_again r (over_by.MovesOutOfTurn S) m (refl, λ c. refl)
   after moment (Answers n) =
       rw (length-map {B = ℕ} (m.seat S).used (λ u. 0))
@@ -216,17 +221,17 @@ module _ (r : Rules) (S : Colour) (m : Match) (on : is_over m.phase ≡ false) w
   after moment kind = in_turn kind
 
   setup : (moment : ℕ) (kind : LineKind)
-      → Again (line_row r (Setup S) kind moment m) (line_row r (Setup S) kind 0 (again m))
+      → Again r (line_row r (Setup S) kind moment m) (line_row r (Setup S) kind 0 (again m))
   setup moment (Answers n) = test_again (n == 1) _ _ _ _ (ready S) ignored
     where
-      ready : (side : Colour) → Again (setup_done r side m) (setup_done r side (again m))
+      ready : (side : Colour) → Again r (setup_done r side m) (setup_done r side (again m))
       ready White = on_again _ _ refl refl
       ready Black = decided_again (verdict r.start m.played) m _ _ (on_again _ _ refl refl)
   setup moment _ = ignored
 
-  handshake : (items : List Item) → Again (handshake_row r S items m) (handshake_row r S items (again m))
+  handshake : (items : List Item) → Again r (handshake_row r S items m) (handshake_row r S items (again m))
   handshake items =
-      subst (λ (n : Match). Again (handshake_row r S items m)
+      subst (λ (n : Match). Again r (handshake_row r S items m)
       (with_answers S items (if list_any ends_handshake items then handshake_done r S n
       else if nat_le 1000 (m.count + 1) then ends r (over_by.Faulted S NoDone) n
       else sends_nothing (record n { count = m.count + 1 })))) (seated_again S added m (λ s. refl))
@@ -239,22 +244,22 @@ module _ (r : Rules) (S : Colour) (m : Match) (on : is_over m.phase ≡ false) w
       met = with_seat S added m
 
       faulted : (c : Colour) (fault : MatchFault) → ((O : Colour) → is_write_fault_of (over_by.Faulted c fault) O ≡ false)
-          → Again (ends r (over_by.Faulted c fault) (record met { count = 0 }))
+          → Again r (ends r (over_by.Faulted c fault) (record met { count = 0 }))
           (ends r (over_by.Faulted c fault) (record (again met) { count = 0 }))
       faulted c fault h = over_again r (over_by.Faulted c fault) (record met { count = 0 }) (refl, h)
 
-      both : (w b : Option MatchFault) → Lacks w → Lacks b → Again (judged r w b met) (judged r w b (again met))
+      both : (w b : Option MatchFault) → Lacks w → Lacks b → Again r (judged r w b met) (judged r w b (again met))
       both (Some f) b x y = faulted White f (x f refl White)
       both None (Some f) x y = faulted Black f (y f refl Black)
       both None None x y = on_again _ _ refl refl
 
-      shaken : (side : Colour) → Again (handshake_done r side met) (handshake_done r side (again met))
+      shaken : (side : Colour) → Again r (handshake_done r side met) (handshake_done r side (again met))
       shaken White = on_again _ _ refl refl
       shaken Black = both (missing r (met.seat White).items) (missing r (met.seat Black).items)
           (lacks r (met.seat White).items) (lacks r (met.seat Black).items)
 
-      answered : (done redone : Effect) → Again done redone
-          → Again (with_answers S items done) (with_answers S items redone)
+      answered : (done redone : Effect) → Again r done redone
+          → Again r (with_answers S items done) (with_answers S items redone)
       answered done redone h = record {
         same = h.same;
         stops = λ reason over. let (plain, stops) = h.stops reason over in (
@@ -265,13 +270,13 @@ module _ (r : Rules) (S : Colour) (m : Match) (on : is_over m.phase ≡ false) w
                 let (before, e) = stops.last O in
                 let answers : List SentLine = list_if (same_colour S O) (answers_to items) in (
                   answers ++ before,
-                  ap (λ (l : List SentLine). answers ++ l) e ∙ sym (append_assoc answers before (last_lines reason)),
+                  ap (λ (l : List SentLine). answers ++ l) e ∙ sym (append_assoc answers before (last_lines (shown_reason r done.after reason))),
                 );
           },
         );
       }
 
-      at : (x y : Bool) → Again (with_answers S items (if x then handshake_done r S met
+      at : (x y : Bool) → Again r (with_answers S items (if x then handshake_done r S met
           else if y then ends r (over_by.Faulted S NoDone) met else sends_nothing (record met { count = m.count + 1 })))
           (with_answers S items (if x then handshake_done r S (again met)
           else if y then ends r (over_by.Faulted S NoDone) (again met)
@@ -281,40 +286,40 @@ module _ (r : Rules) (S : Colour) (m : Match) (on : is_over m.phase ≡ false) w
       at false false = answered _ _ (on_again _ _ (counted_again met (m.count + 1)) on)
 
   shakes : (moment : ℕ) (kind : LineKind)
-      → Again (line_row r (Handshake S) kind moment m) (line_row r (Handshake S) kind 0 (again m))
+      → Again r (line_row r (Handshake S) kind moment m) (line_row r (Handshake S) kind 0 (again m))
   shakes moment (Features text) = handshake (items_of text)
   shakes moment _ = handshake []
 
 -- ---- a line
 
 -- a flag fell, and the match ended for that
-abbrev pub Falls : Match → Effect → Type 0
-Falls m done = (reason : Reason) × (ends_by_flag reason ≡ true) × (done.after ≡ record m { phase = Over reason })
-    × Stops reason done.to
+abbrev pub Falls : Rules → Match → Effect → Type 0
+Falls r m done = (reason : Reason) × (ends_by_flag reason ≡ true) × (done.after ≡ record m { phase = Over reason })
+    × Stops (shown_reason r m reason) reason done.to
 
 none_less : (n : ℕ) → nat_lt n 0 ≡ false
 none_less n = grind (arith, nat_tests)
 
-flagged : (r : Rules) (S : Colour) (m : Match) → Falls m (flag_row r S m)
+flagged : (r : Rules) (S : Colour) (m : Match) → Falls r m (flag_row r S m)
 flagged r S m = at (has_bare_king (other S) (position_after r.start m.played).men)
   where
-    at : (b : Bool) → Falls m (ends r (if b then over_by.ForfeitsToBareKing else over_by.Forfeits S) m)
+    at : (b : Bool) → Falls r m (ends r (if b then over_by.ForfeitsToBareKing else over_by.Forfeits S) m)
     at true = (over_by.ForfeitsToBareKing, refl, refl, stops_at r over_by.ForfeitsToBareKing m (λ O. refl))
     at false = (over_by.Forfeits S, refl, refl, stops_at r (over_by.Forfeits S) m (λ O. refl))
 
 timed : (r : Rules) (S : Colour) (used : ℕ) (kind : LineKind) (m : Match) → is_over m.phase ≡ false → (late : Bool)
-    → Falls m (if late then flag_row r S m else before_move r S used kind m)
-    ⊎ Again (if late then flag_row r S m else before_move r S used kind m)
+    → Falls r m (if late then flag_row r S m else before_move r S used kind m)
+    ⊎ Again r (if late then flag_row r S m else before_move r S used kind m)
     (if nat_lt (clock r (again m) S) 0 then flag_row r S (again m) else before_move r S 0 kind (again m))
 timed r S used kind m on true = inl (flagged r S m)
-timed r S used kind m on false = inr (subst (λ (b : Bool). Again (before_move r S used kind m)
+timed r S used kind m on false = inr (subst (λ (b : Bool). Again r (before_move r S used kind m)
     (if b then flag_row r S (again m) else before_move r S 0 kind (again m)))
     (sym (none_less (clock r (again m) S))) (before r S m on used kind))
 
 pub line_again : (r : Rules) (S : Colour) (kind : LineKind) (moment : ℕ) (m : Match) (p : Phase)
     → awaits_line p S ≡ true → is_over m.phase ≡ false
-    → Falls m (line_row r p kind moment m)
-    ⊎ Again (line_row r p kind moment m) (line_row r (waits p) kind 0 (again m))
+    → Falls r m (line_row r p kind moment m)
+    ⊎ Again r (line_row r p kind moment m) (line_row r (waits p) kind 0 (again m))
 line_again r S kind moment m (Handshake c) aw on = inr (shakes r c m on moment kind)
 line_again r S kind moment m (Setup c) aw on = inr (setup r c m on moment kind)
 line_again r S kind moment m (BeforeMove c opened) aw on =

@@ -20,7 +20,7 @@ use Rattle.chess_match.specs.declared.reason.Reason.{Reason}
 use Rattle.chess_match.specs.declared.reason.Reason.TheVariants.{Faulted}
 use Rattle.chess_match.specs.laws.Laws.{events_in, line_kind, notes_given}
 use Rattle.match_runner.specs.laws.ReadBack.{events_shown}
-use Rattle.match_runner.proofs.PlayedAgain.{Again, Falls, Stops, again, ends_by_flag, last_lines, line_again, opened, over_again, waits}
+use Rattle.match_runner.proofs.PlayedAgain.{Again, Falls, Stops, again, ends_by_flag, last_lines, line_again, opened, over_again, shown_reason, waits}
 
 -- ---- the last notes
 
@@ -50,16 +50,16 @@ block_is : (S : Colour) (before : List SentLine) (reason : Reason)
 block_is S [] reason = refl
 block_is S (l ∷ ls) reason = refl
 
-blocks_end : (reason : Reason) (first : Colour) (to : Colour → List SentLine) → Stops reason to
-    → EndsAs reason (map give (blocks_from first to))
-blocks_end reason first to h =
+blocks_end : (shown reason : Reason) (first : Colour) (to : Colour → List SentLine) → Stops shown reason to
+    → EndsAs shown (map give (blocks_from first to))
+blocks_end shown reason first to h =
     let (before, e) = h.last (other first) in
-    let last : Block = record { to = other first; lines = before ++ last_lines reason } in (
+    let last : Block = record { to = other first; lines = before ++ last_lines shown } in (
       map give (block_of first (to first)),
       other first,
       before,
       ap (λ (ls : List SentLine). map give (block_of first (to first) ++ block_of (other first) ls)) e
-          ∙ ap (λ (bs : List Block). map give (block_of first (to first) ++ bs)) (block_is (other first) before reason)
+          ∙ ap (λ (bs : List Block). map give (block_of first (to first) ++ bs)) (block_is (other first) before shown)
           ∙ map-append give (block_of first (to first)) (last ∷ []),
     )
 
@@ -76,12 +76,15 @@ all_written reason (b ∷ due) w = (w b.to, all_written reason due w)
 other_block : (r : Rules) (m : Match) (c : Colour)
     → blocks_from White (ends r (Faulted c Write) m).to ≡ record {
       to = other c;
-      lines = list_if (is_owed_move m.phase (other c)) (move_line r m (other c) ∷ []) ++ last_lines (Faulted c Write);
+      lines = list_if (is_owed_move m.phase (other c)) (move_line r m (other c) ∷ [])
+          ++ last_lines (shown_reason r m (Faulted c Write));
     } ∷ []
 other_block r m White =
-    block_is Black (list_if (is_owed_move m.phase Black) (move_line r m Black ∷ [])) (Faulted White Write)
+    block_is Black (list_if (is_owed_move m.phase Black) (move_line r m Black ∷ []))
+    (shown_reason r m (Faulted White Write))
 other_block r m Black = ap (λ (bs : List Block). bs ++ [])
-    (block_is White (list_if (is_owed_move m.phase White) (move_line r m White ∷ [])) (Faulted Black Write))
+    (block_is White (list_if (is_owed_move m.phase White) (move_line r m White ∷ []))
+    (shown_reason r m (Faulted Black Write)))
 
 other_written : (c : Colour) → is_write_fault_of (Faulted c Write) (other c) ≡ false
 other_written c = grind arith
@@ -135,17 +138,21 @@ in_time late (e ∷ []) = if late then [] else e ∷ []
 in_time late (e ∷ f ∷ es) = e ∷ in_time late (f ∷ es)
 
 -- the match after these events, which are shown
-abbrev pub replayed : Rules → Reason → Match → List Event → Match
-replayed r reason m es = fold (step r) m (in_time (ends_by_flag reason) es)
+abbrev pub replayed : Rules → Bool → Match → List Event → Match
+replayed r late m es = fold (step r) m (in_time late es)
 
-abbrev Same : Match → Match → Type 0
-Same final n = (final.played ≡ n.played) × ((S : Colour) → (final.seat S).items ≡ (n.seat S).items)
+-- the match `n` has the moves and the items of `final`, and the phase if no flag fell (`late`)
+abbrev Same : Bool → Match → Match → Type 0
+Same late final n = (final.played ≡ n.played) × ((S : Colour) → (final.seat S).items ≡ (n.seat S).items)
+    × (late ≡ false → final.phase ≡ n.phase)
 
--- the match that is played again from what the notes show has the moves and the items of the end; and the last notes
+-- the match that is played again from what the notes show has the moves and the items of the end, and the reason if no
+-- flag fell; and the last notes
 pub record Goes (r : Rules) (reason : Reason) (final m : Match) (notes : List Note) : Type 0 where
-  pub last : EndsAs reason notes
+  pub last : EndsAs (shown_reason r final reason) notes
   pub some : (e : Event) × (es : List Event) × (events_shown (events_in notes) ≡ e ∷ es)
-  pub same : Same final (replayed r reason (again m) (events_shown (events_in notes)))
+  pub same : Same (ends_by_flag reason) final
+      (replayed r (ends_by_flag reason) (again m) (events_shown (events_in notes)))
 
 -- what a match and its notes lead to, if it is over, and if it is not
 abbrev Leads : Rules → Reason → Match → Match → List Block → List Note → Type 0
@@ -153,27 +160,34 @@ Leads r reason final m due notes =
     (is_over m.phase ≡ true → Rests reason final m due notes) × (is_over m.phase ≡ false → Goes r reason final m notes)
 
 module _ (r : Rules) (reason : Reason) (final : Match) (over : final.phase ≡ Over reason) where
+  -- whether a flag fell
+  abbrev late : Bool
+  late = ends_by_flag reason
+
   -- the match ended for this event
   ended : (m : Match) (e : Event) (first : Colour) (x : Reason) (notes : List Note)
       → ((es : List Event) → events_shown (e ∷ es) ≡ e ∷ events_shown es) → (effect r m e).after.phase ≡ Over x
-      → Stops x (effect r m e).to
+      → Stops (shown_reason r (effect r m e).after x) x (effect r m e).to
       → Rests reason final (effect r m e).after (blocks_from first (effect r m e).to) notes
       → (x ≡ reason → final ≡ (effect r m e).after
-      → Same final (fold (step r) (again m) (in_time (ends_by_flag reason) (e ∷ []))))
+      → Same (ends_by_flag reason) final (replayed r (ends_by_flag reason) (again m) (e ∷ [])))
       → Goes r reason final m (Happened e ∷ notes)
   ended m e first x notes shown p stops (is, given) same =
       let both : Over x ≡ Over reason = sym p ∙ ap (λ (n : Match). n.phase) (sym is) ∙ over in
       let same_reason : x ≡ reason = cc in
-      let stops' = subst (λ (y : Reason). Stops y (effect r m e).to) same_reason stops in
+      let stops' = subst (λ (y : Reason). Stops (shown_reason r (effect r m e).after y) y (effect r m e).to) same_reason
+      stops in
       let due = blocks_from first (effect r m e).to in
       let all = given (all_written reason due stops'.written) in
       let only : events_shown (events_in (Happened e ∷ notes)) ≡ e ∷ [] =
       shown (events_in notes) ∙ ap (λ (es : List Event). e ∷ events_shown es) (ap events_in all ∙ no_events due) in
       record {
-        last = more_before reason (Happened e ∷ []) notes
-            (subst (EndsAs reason) (sym all) (blocks_end reason first (effect r m e).to stops'));
+        last = more_before (shown_reason r final reason) (Happened e ∷ []) notes
+            (subst (EndsAs (shown_reason r final reason)) (sym all)
+            (subst (λ (n : Match). EndsAs (shown_reason r n reason) (map give due)) (sym is)
+            (blocks_end (shown_reason r (effect r m e).after reason) reason first (effect r m e).to stops')));
         some = (e, [], only);
-        same = subst (λ (es : List Event). Same final (replayed r reason (again m) es)) (sym only)
+        same = subst (λ (es : List Event). Same late final (replayed r late (again m) es)) (sym only)
             (same same_reason is);
       }
 
@@ -187,24 +201,27 @@ module _ (r : Rules) (reason : Reason) (final : Match) (over : final.phase ≡ O
       let all : events_shown (events_in (Happened e ∷ notes)) ≡ e ∷ f ∷ es =
       shown (events_in notes) ∙ ap (λ (l : List Event). e ∷ l) more in
       record {
-        last = more_before reason (Happened e ∷ []) notes g.last;
+        last = more_before (shown_reason r final reason) (Happened e ∷ []) notes g.last;
         some = (e, f ∷ es, all);
-        same = subst (λ (l : List Event). Same final (replayed r reason (again m) l)) (sym all)
-            (subst (λ (n : Match). Same final (replayed r reason n (f ∷ es))) is
-            (subst (λ (l : List Event). Same final (replayed r reason (again (effect r m e).after) l)) more g.same));
+        same = subst (λ (l : List Event). Same late final (replayed r late (again m) l)) (sym all)
+            (subst (λ (n : Match). Same late final (replayed r late n (f ∷ es))) is
+            (subst (λ (l : List Event). Same late final (replayed r late (again (effect r m e).after) l)) more g.same));
       }
 
   shown_event : (m : Match) (e : Event) (first : Colour) (notes : List Note)
       → ((es : List Event) → events_shown (e ∷ es) ≡ e ∷ events_shown es)
-      → Falls m (effect r m e) ⊎ Again (effect r m e) (effect r (again m) (at_zero e))
+      → Falls r m (effect r m e) ⊎ Again r (effect r m e) (effect r (again m) (at_zero e))
       → Leads r reason final (effect r m e).after (blocks_from first (effect r m e).to) notes
       → Goes r reason final m (Happened e ∷ notes)
   shown_event m e first notes shown (inl (x, flag, is, stops)) g =
       let p : (effect r m e).after.phase ≡ Over x = ap (λ (n : Match). n.phase) is in
-      ended m e first x notes shown p stops (g.0 (ap is_over p)) (λ q end.
-      subst (λ (b : Bool). Same final (fold (step r) (again m) (in_time b (e ∷ []))))
-      (sym (ap ends_by_flag (sym q) ∙ flag))
-      (ap (λ (n : Match). n.played) (end ∙ is), λ S. ap (λ (n : Match). (n.seat S).items) (end ∙ is)))
+      ended m e first x notes shown p (subst (λ (n : Match). Stops (shown_reason r n x) x (effect r m e).to) (sym is) stops)
+      (g.0 (ap is_over p)) (λ q end.
+      subst (λ (b : Bool). Same b final (replayed r b (again m) (e ∷ []))) (sym (ap ends_by_flag (sym q) ∙ flag)) (
+        ap (λ (n : Match). n.played) (end ∙ is),
+        λ S. ap (λ (n : Match). (n.seat S).items) (end ∙ is),
+        λ off. absurd cc,
+      ))
   shown_event m e first notes shown (inr h) g = at (is_over (effect r m e).after.phase) refl
     where
       at : (b : Bool) → is_over (effect r m e).after.phase ≡ b → Goes r reason final m (Happened e ∷ notes)
@@ -212,9 +229,9 @@ module _ (r : Rules) (reason : Reason) (final : Match) (over : final.phase ≡ O
           let (x, p) = which (effect r m e).after.phase o in
           let (plain, stops) = h.stops x p in
           ended m e first x notes shown p stops (g.0 o) (λ q end.
-          subst (λ (b : Bool). Same final (fold (step r) (again m) (in_time b (e ∷ []))))
-          (sym (ap ends_by_flag (sym q) ∙ plain))
-          (subst (λ (n : Match). Same final n) (ap (λ (n : Match). again n) end ∙ h.same) (refl, λ S. refl)))
+          subst (λ (b : Bool). Same b final (replayed r b (again m) (e ∷ []))) (sym (ap ends_by_flag (sym q) ∙ plain))
+          (subst (λ (n : Match). Same false final n) (ap (λ (n : Match). again n) end ∙ h.same)
+          (refl, (λ S. refl), (λ plain. over ∙ sym (ap waits over)))))
       at false on = went_on m e notes shown h.same (g.1 on)
 
   -- a write failed
@@ -230,16 +247,21 @@ module _ (r : Rules) (reason : Reason) (final : Match) (over : final.phase ≡ O
       ap (λ (x : Reason). is_write_fault_of x s.to) (sym same) ∙ own_unwritten s.to in
       let timely : ends_by_flag reason ≡ false = ap ends_by_flag (sym same) in
       let before = list_if (is_owed_move m.phase (other s.to)) (move_line r m (other s.to) ∷ []) in
-      let all : notes ≡ Gives (other s.to) (bytes_of (before ++ last_lines reason)) ∷ [] =
+      let all : notes
+      ≡ Gives (other s.to) (bytes_of (before ++ last_lines (shown_reason r final reason))) ∷ [] =
       given (subst (AreWritten reason) (sym (other_block r m s.to))
       (ap (λ (x : Reason). is_write_fault_of x (other s.to)) (sym same) ∙ other_written s.to, tt))
       ∙ ap (λ (l : List Block). map give l) (other_block r m s.to)
-      ∙ ap (λ (x : Reason). Gives (other s.to) (bytes_of (before ++ last_lines x)) ∷ []) same in
+      ∙ ap (λ (x : Reason). Gives (other s.to) (bytes_of (before ++ last_lines (shown_reason r m x))) ∷ []) same
+      ∙ ap (λ (n : Match). Gives (other s.to) (bytes_of (before ++ last_lines (shown_reason r n reason))) ∷ []) (sym is) in
       rw (mine, all) (record {
         last = (give s ∷ Happened (FailsToWrite s.to) ∷ [], other s.to, before, refl);
         some = (FailsToWrite s.to, [], refl);
-        same = subst (λ (x : Bool). Same final (fold (step r) (again m) (in_time x (FailsToWrite s.to ∷ []))))
-            (sym timely) (ap (λ (n : Match). n.played) is, λ S. ap (λ (n : Match). (n.seat S).items) is);
+        same = subst (λ (x : Bool). Same x final (replayed r x (again m) (FailsToWrite s.to ∷ []))) (sym timely) (
+          ap (λ (n : Match). n.played) is,
+          (λ S. ap (λ (n : Match). (n.seat S).items) is),
+          (λ plain. ap (λ (n : Match). n.phase) is),
+        );
       })
 
   on_opened : (m : Match) (S : Colour) (k : ℕ) → m.phase ≡ Opening S
@@ -262,7 +284,7 @@ module _ (r : Rules) (reason : Reason) (final : Match) (over : final.phase ≡ O
   leads m (b ∷ due) (Sends s ∷ H) (q, g) = let p = leads m due H g in (
     λ o. let (e, n) = p.0 o in (e, λ w. sent_more b s _ _ q (n w.1)),
     λ on. record {
-      last = more_before reason (give s ∷ []) (notes_given reason H) (p.1 on).last;
+      last = more_before (shown_reason r final reason) (give s ∷ []) (notes_given reason H) (p.1 on).last;
       some = (p.1 on).some;
       same = (p.1 on).same;
     },
@@ -282,10 +304,10 @@ module _ (r : Rules) (reason : Reason) (final : Match) (over : final.phase ≡ O
   leads m [] (Happens (Opened S k) ∷ H) (o, g) = let p = (leads (effect r m (Opened S k)).after [] H g).1 refl in (
     λ over. not_over (is_over m.phase) over (ap is_over o),
     λ on. record {
-      last = more_before reason (Happened (Opened S k) ∷ []) (notes_given reason H) p.last;
+      last = more_before (shown_reason r final reason) (Happened (Opened S k) ∷ []) (notes_given reason H) p.last;
       some = p.some;
       same = let es : List Event = events_shown (events_in (notes_given reason H)) in
-          subst (λ (n : Match). Same final (replayed r reason n es)) (on_opened m S k o) p.same;
+          subst (λ (n : Match). Same late final (replayed r late n es)) (on_opened m S k o) p.same;
     },
   )
   leads m [] (Happens (OutputEnds S) ∷ H) (aw, g) = (

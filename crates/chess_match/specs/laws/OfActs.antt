@@ -1,5 +1,5 @@
 -- Laws of the acts of a match.
-use Rattle.std.specs.Prelude.{◌≡◌, ◌<◌, ◌≤◌, ◌+◌, ◌-◌, ◌*◌, ◌^◌, ◌&&◌, ℕ, Bool, true, false, if◌then◌else◌, List, [], ◌∷◌, ◌++◌, length, drop, nat_lt, sum, codes, slice_get, Option, None, Some, is_some, unwrap_or}
+use Rattle.std.specs.Prelude.{◌≡◌, ◌⊎◌, ◌<◌, ◌≤◌, ◌+◌, ◌-◌, ◌*◌, ◌^◌, ◌&&◌, ℕ, Bool, true, false, if◌then◌else◌, List, [], ◌∷◌, ◌++◌, length, drop, nat_lt, sum, codes, slice_get, Option, None, Some, is_some, unwrap_or}
 use Rattle.std.specs.List.{flat_map, fold}
 use Rattle.chess_base.specs.declared.man.Colour.{Colour}
 use Rattle.chess_base.specs.declared.man.Colour.TheVariants.{White, Black}
@@ -17,11 +17,15 @@ use Rattle.chess_match.specs.Acts.{Act, Block, Sends, SendFails, Happens, IsMatc
 use Rattle.chess_match.specs.Effects.{Match, Over, beginning, clock, effect}
 use Rattle.chess_match.specs.Events.{Event, Line, Opened, FailsToWrite}
 use Rattle.chess_match.specs.Notes.{Happened}
-use Rattle.chess_match.specs.Played.{World, Passed}
+use Rattle.chess_match.specs.Played.{World, Passed, PlayedBy}
 use Rattle.chess_match.specs.Rules.{Rules, rules_of}
 use Rattle.chess_match.specs.Table.{Step, ReadsLine, ReadsClock, Notes, watched}
 use Rattle.chess_match.specs.declared.reason.Reason.{Reason}
-use Rattle.chess_match.specs.declared.reason.Reason.TheVariants.{Decided, Resigns, MovesIllegally, MovesOutOfTurn, ClaimsFalsely, RejectsLegalMove, Forfeits}
+use Rattle.chess_match.specs.declared.reason.MatchFault.{MatchFault}
+use Rattle.chess_match.specs.declared.reason.Reason.TheVariants.{Decided, Resigns, MovesIllegally, MovesOutOfTurn, ClaimsFalsely, RejectsLegalMove, Forfeits, Faulted}
+use Rattle.chess_match.specs.declared.run.MatchEnd.{MatchEnd}
+use Rattle.chess_match.specs.declared.run.Setup.{Setup}
+use Rattle.chess_game.specs.Game.{outcome_now}
 use Rattle.chess_game.specs.Ends.{verdict}
 
 -- ---- each match, and each moment of one
@@ -115,11 +119,17 @@ abbrev pub DecidedByTheBoard : Type 0
 DecidedByTheBoard = (r : Rules) (v : Verdict) (H : List Act) (final : Match) → IsMatch r H final
     → final.phase ≡ Over (Decided v) → verdict r.start final.played ≡ Some v
 
--- in every match in which a move was played: if the board has a verdict `v` after the moves played, the match ended for
--- it. (Before a move the match may have ended for something else, such as a fault in a handshake.)
+-- in every match: if the board has a verdict `v` after the moves played, the match ended for it; or no move was played,
+-- and the match ended by a fault
 abbrev pub VerdictsEndMatches : Type 0
 VerdictsEndMatches = (r : Rules) (v : Verdict) (H : List Act) (final : Match) → IsMatch r H final
-    → 0 < length final.played → verdict r.start final.played ≡ Some v → final.phase ≡ Over (Decided v)
+    → verdict r.start final.played ≡ Some v → (final.phase ≡ Over (Decided v))
+    ⊎ ((final.played ≡ []) × (c : Colour) × (fault : MatchFault) × (final.phase ≡ Over (Faulted c fault)))
+
+-- in every match that was played: the outcome that is reported is that of its game
+abbrev pub OutcomesAreOfTheGame : Type 0
+OutcomesAreOfTheGame = (H : List Act) (reason : Reason) (setup : Setup) (end : MatchEnd) (w w' : World)
+    → PlayedBy H reason setup end w w' → end.outcome ≡ outcome_now w'.game.state
 
 -- the side whose line ended a match for this reason; `None` for any other reason, also for a flood of lines
 abbrev pub whose_line : Reason → Option Colour

@@ -7,8 +7,8 @@ use Rattle.chess_base.specs.Options.{list_if}
 use Rattle.cecp_engine.specs.Items.{Item, is_known}
 use Rattle.chess_match.specs.Acts.{Block, blocks_from, is_over}
 use Rattle.chess_match.specs.Effects.{Effect, Match, Phase, is_owed_move, move_line}
-use Rattle.chess_game.specs.Ends.{result_text}
-use Rattle.chess_match.specs.Reasons.{result_of}
+use Rattle.chess_game.specs.Ends.{result_text, verdict}
+use Rattle.chess_match.specs.Reasons.{reported_reason, result_of}
 use Rattle.chess_match.specs.Rules.{Rules}
 use Rattle.chess_match.specs.declared.reason.Reason.{Reason}
 use Rattle.chess_match.specs.Lines.{SentLine, Says}
@@ -38,4 +38,5 @@ blocks_after S done = blocks_from (if is_over done.after.phase then White else S
 abbrev pub farewell : Rules → Match → Reason → Colour → List SentLine
 farewell r m reason S =
     list_if (is_owed_move m.phase S) (move_line r m S ∷ [])
-    ++ (Says (codes "result " ++ result_text (result_of reason)) ∷ Says (codes "quit") ∷ [])
+    ++ (Says (codes "result " ++ result_text (result_of (reported_reason (verdict r.start m.played) reason)))
+    ∷ Says (codes "quit") ∷ [])

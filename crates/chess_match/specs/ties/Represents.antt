@@ -7,7 +7,7 @@ use Rattle.chess_base.specs.declared.man.Move.{Move}
 use Rattle.chess_base.specs.ByColour.{of_colour, with_colour}
 use Rattle.chess_base.specs.Men.{other, same_colour}
 use Rattle.chess_base.specs.Options.{list_if}
-use Rattle.chess_game.specs.Ends.{result_text}
+use Rattle.chess_game.specs.Ends.{result_text, verdict}
 use Rattle.chess_game.specs.Results.{cut_tag}
 use Rattle.cecp_engine.specs.Clocks.{ClocksSeen, Spent, charged}
 use Rattle.cecp_engine.specs.EngineLines.{LineKind}
@@ -21,7 +21,7 @@ use Rattle.chess_match.specs.Events.{Seat}
 use Rattle.chess_match.specs.Rules.{Rules}
 use Rattle.chess_match.specs.Lines.{SentLine, Says, ping, setup_lines}
 use Rattle.chess_match.specs.shared.Parts.{answers_to}
-use Rattle.chess_match.specs.Reasons.{is_write_fault_of, result_of}
+use Rattle.chess_match.specs.Reasons.{is_write_fault_of, reported_reason, result_of}
 use Rattle.chess_match.specs.declared.phase.Phase.{Phase as CorePhase}
 use Rattle.chess_match.specs.declared.phase.Phase.TheVariants as core_in
 use Rattle.chess_match.specs.declared.reason.Reason.{Reason}
@@ -105,7 +105,8 @@ abbrev pub items_in : CorePhase → LineKind → Colour → List Item
 items_in (core_in.Handshake c) kind = items_to c (items_in_line kind)
 items_in _ kind = nothing_said
 
--- the lines that end the match `m` for the side `S`; `owed` says whether the last move is among them
+-- the lines that end the match for the side `S`, by the reason that is reported; `m` is the match, and `owed` says
+-- whether the last move is among them
 abbrev pub last_lines : Rules → Match → Reason → Bool → Colour → List SentLine
 last_lines r m reason owed S = list_if owed (move_line r m S ∷ [])
     ++ (Says (codes "result " ++ result_text (result_of reason)) ∷ Says (codes "quit") ∷ [])
@@ -119,7 +120,8 @@ phase_lines r last m S (core_in.SendTurn c) = list_if (same_colour c S) (opening
 phase_lines r last m S (core_in.AwaitMove c) = []
 phase_lines r last m S (core_in.AwaitPong c) = list_if (same_colour c S) (ping (ping_number m c) ∷ [])
 phase_lines r last m S (core_in.Over reason) =
-    if is_write_fault_of reason S then [] else last_lines r m reason (is_unsent last S) S
+    if is_write_fault_of reason S then []
+    else last_lines r m (reported_reason (verdict r.start m.played) reason) (is_unsent last S) S
 
 -- what the side `S` is sent after the answers to its items, by the code's `given`: `draw`, if the other offered one,
 -- and the lines of the code's phase, if it was entered

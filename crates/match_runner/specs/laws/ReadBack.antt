@@ -17,10 +17,10 @@ use Rattle.match_runner.specs.Games.{GameRecord, IsOfPlan, first_side, game_text
 use Rattle.match_runner.specs.Log.{log_from}
 use Rattle.match_runner.specs.laws.Entries.{Entry, IsShown, entries_from, entries_text}
 use Rattle.chess_match.specs.Lines.{bytes_of}
-use Rattle.chess_match.specs.Reasons.{result_of}
+use Rattle.chess_match.specs.Reasons.{reported_reason, result_of}
 use Rattle.chess_match.specs.Rules.{Rules}
 use Rattle.chess_match.specs.declared.reason.Reason.{Reason}
-use Rattle.chess_game.specs.Ends.{result_text}
+use Rattle.chess_game.specs.Ends.{result_text, verdict}
 
 -- ---- the lines of a log
 
@@ -30,7 +30,8 @@ events_shown [] = []
 events_shown (Opened S moment ∷ es) = events_shown es
 events_shown (e ∷ es) = e ∷ events_shown es
 
--- the line that engines are sent at the end of a match that ended for this reason, such as `result 1-0 {Black resigns}`
+-- the line that engines are sent at the end of a match of which this reason is reported, such as
+-- `result 1-0 {Black resigns}`
 abbrev pub text_of_result : Reason → List ℕ
 text_of_result reason = codes "result " ++ result_text (result_of reason)
 
@@ -68,7 +69,7 @@ LogsShow = (r : Rules) (first : Colour) (reason : Reason) (H : List Act) (final 
     (log_from first 0 (notes_given reason H) ≡ entries_text first lines)
     × (flat_map entry_event lines ≡ events_shown (events_in (notes_given reason H)))
     × ((S : Colour) → flat_map (entry_given S) lines ≡ bytes_of (lines_given S H))
-    × (result_line lines ≡ text_of_result reason)
+    × (result_line lines ≡ text_of_result (reported_reason (verdict r.start final.played) reason))
 
 -- two matches are alike, those of the acts `H` and `K`: they ended for the same reason, so with the same result; they
 -- have the same moves; and so on. What a log leaves out may differ: the moments at which turns were opened (so the

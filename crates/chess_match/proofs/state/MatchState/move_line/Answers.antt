@@ -3,7 +3,7 @@
 use Rattle.std.proofs.Common.{◌≡◌, [], ◌∷◌, ◌++◌, true, false, refl, sym, Some, None, length}
 use Rattle.std.specs.Prelude.{nat_le}
 use Rattle.chess_match.specs.Effects.{moved}
-use Rattle.chess_match.proofs.CoreSteps.{moved_stands, pinged_goes}
+use Rattle.chess_match.proofs.CoreSteps.{decided_goes, moved_stands, pinged_goes}
 use Rattle.chess_match.proofs.OtherLines.{illegal_move}
 use Rattle.chess_match.proofs.state.MatchState.move_line.Goals as goal
 use Rattle.chess_game.specs.Ends.{verdict}
@@ -35,9 +35,10 @@ returns-in-Some-clause-goes g c r m p on s =
     rw (← now) (sym (c.in-Some.ensures r (c.play-texts.ensures.rules r p))) in
     let stands = moved_stands r c.args.self.now (g.G.MatchGame.played c.args.game.now) c.args.side c.in-Move.chosen
     c.args.used m c.play-texts.result s (rw c.play-texts.ensures.moves at (c.play-texts.ensures.texts r p)) in
-    rw (full, says, decided, c.play-texts.ensures.moves)
+    rw (full, says, c.play-texts.ensures.moves)
+    (decided_goes r _ _ _ _ (moved c.args.side c.in-Move.chosen c.args.used m) _ _ decided
     (c.finish-in-Some.ensures r _ (moved c.args.side c.in-Move.chosen c.args.used m) refl
-    (rw c.note_move.ensures stands))
+    (rw c.note_move.ensures stands)))
 
 pub returns-in-None-clause-goes : goal.returns-in-None-clause-goes
 returns-in-None-clause-goes g c r m p on s =

@@ -3,7 +3,7 @@
 use Rattle.std.proofs.Common.{◌≡◌, ap, sym, ◌∙◌, Some, None}
 use Rattle.chess_match.specs.Acts.{is_over}
 use Rattle.chess_match.specs.Effects.{is_owed_move}
-use Rattle.chess_match.proofs.CoreSteps.{first_opens}
+use Rattle.chess_match.proofs.CoreSteps.{decided_goes, first_opens}
 use Rattle.chess_match.proofs.state.MatchState.ready.Goals as goal
 use Rattle.chess_game.specs.Ends.{verdict}
 
@@ -14,7 +14,7 @@ returns-in-White g c r m p at s =
 pub returns-in-Some : goal.returns-in-Some
 returns-in-Some g c r m p at s =
     let says : verdict r.start m.played ≡ Some c.in-Some.verdict = rw (← s.moves) (sym (c.in-Some.ensures r p)) in
-    rw (c.in-Black.is, says) (c.finish.ensures r _ m (ap is_over at) s)
+    rw c.in-Black.is (decided_goes r _ _ _ _ m _ _ says (c.finish.ensures r _ m (ap is_over at) s))
 
 pub returns-in-None : goal.returns-in-None
 returns-in-None g c r m p at s =
