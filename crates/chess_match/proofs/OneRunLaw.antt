@@ -47,7 +47,7 @@ none_broken : (old new : OutputState) (sent : List SentLine) (broken : List (Lis
     → WasSent sent broken o → nat_lt 0 (length broken) ≡ false
 none_broken old new sent [] o small same took was = refl
 none_broken old new sent (b ∷ more) o small same took was = rises old.failure_count small
-    (sym same ∙ took.failures ∙ ap (λ (x : Bool). saturating_increment_if x old.failure_count) was.2)
+    (sym same ∙ took.failures ∙ ap (λ (x : ToOutput). saturating_increment_if x.failed old.failure_count) was.2)
 
 -- an engine whose end was reported had no read that failed
 no_failure : (S : Colour) (H : List Act) → reads_end H ≡ true → has_ended S H ≡ true → has_failed_read S H ≡ false
