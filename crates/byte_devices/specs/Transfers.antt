@@ -1,9 +1,9 @@
 -- What a run (a call of a function that reads and writes, such as `run_session`) reads from an input and writes to an
 -- output, no matter by how many reads and writes. Contracts describe it by two values, a `FromInput` and a `ToOutput`;
 -- the relations here say how the devices' states before and after the run agree with them.
-use Rattle.std.specs.Prelude.{◌≡◌, ℕ, ◌-◌, ◌^◌, min, Bool, true, false, if◌then◌else◌, List, [], ◌++◌, length, take}
+use Rattle.std.specs.Prelude.{◌≡◌, ℕ, ◌-◌, nat_lt, Bool, true, false, if◌then◌else◌, List, [], ◌++◌, length, take}
 use Rattle.std.specs.Io.KnownBytes.{Appends, Consumes, IsAtEnd}
-use Rattle.byte_devices.specs.Devices.{InputState, OutputState, saturating_increment, Begins}
+use Rattle.byte_devices.specs.Devices.{InputState, OutputState, saturating_increment, saturating_add, Begins}
 
 -- what came from an input in a run
 pub record FromInput : Type 0 where
@@ -22,6 +22,8 @@ pub record ToOutput : Type 0 where
   pub flushed : List ℕ
   -- the bytes that were written after those, and not flushed
   pub left : List ℕ
+  -- whether a flush succeeded, even one with no bytes to flush
+  pub any_flush : Bool
   -- whether a write or a flush failed after all these bytes
   pub failed : Bool
 
@@ -47,8 +49,10 @@ pub record InputGave (r r' : InputState) (i : FromInput) : Type 0 where
 pub record OutputTook (w w' : OutputState) (o : ToOutput) : Type 0 where
   -- if the bytes taken so far are known in `w`: in `w'` they are these, then `o.flushed`, then `o.left`
   pub bytes : Appends w.known_bytes w'.known_bytes (o.flushed ++ o.left)
-  -- if no byte is unflushed in `w`, as many are in `w'` as `o.left` has (the count stops at 2 ^ 64 - 1)
-  pub unflushed : w.unflushed ≡ 0 → w'.unflushed ≡ min (length o.left) (2 ^ 64 - 1)
+  -- if no flush succeeded, no bytes were flushed
+  pub flushed : o.any_flush ≡ false → o.flushed ≡ []
+  -- as many bytes are unflushed in `w'` as `o.left` has, besides those of `w`, unless a flush succeeded
+  pub unflushed : w'.unflushed ≡ saturating_add (if o.any_flush then 0 else w.unflushed) (length o.left)
   -- if a write or a flush failed, one more failure was counted; otherwise the count stayed
   pub failures : w'.failure_count ≡ (if o.failed then saturating_increment w.failure_count else w.failure_count)
 
@@ -65,15 +69,25 @@ IsWhole i = (i.ended ≡ true) × (i.failed ≡ false)
 
 -- ---- what went to an output
 
--- what went to an output: all of this text was written and flushed, and nothing failed
+-- what went to an output: nothing. No byte was written, no flush succeeded, and nothing failed
+abbrev pub nothing : ToOutput
+nothing = record { flushed = []; left = []; any_flush = false; failed = false }
+
+-- what went to an output: all of this text was written and flushed, even if it is empty, and nothing failed
 abbrev pub all_of : List ℕ → ToOutput
-all_of text = record { flushed = text; left = []; failed = false }
+all_of text = record { flushed = text; left = []; any_flush = true; failed = false }
 
--- what went to an output: all of this text was written, none of it was flushed, and nothing failed
+-- what went to an output: for each of these items, such as lines that are answered, a part of `text` (it may be empty)
+-- was written and flushed; the parts are all of `text`, and nothing failed. Without any item, no flush succeeded
+abbrev pub all_for : {A : Type 0} → List A → List ℕ → ToOutput
+all_for items text = record { flushed = text; left = []; any_flush = nat_lt 0 (length items); failed = false }
+
+-- what went to an output: all of this text was written, no flush succeeded, and nothing failed
 abbrev pub all_unflushed : List ℕ → ToOutput
-all_unflushed text = record { flushed = []; left = text; failed = false }
+all_unflushed text = record { flushed = []; left = text; any_flush = false; failed = false }
 
--- `o` is what went to an output: all of `before` was written and flushed; then a beginning of `text`, maybe nothing or
--- all of it, was written and not flushed; and then a write or a flush failed
-abbrev pub BreaksOffIn : List ℕ → List ℕ → ToOutput → Type 0
-BreaksOffIn before text o = (o.flushed ≡ before) × Begins o.left text × (o.failed ≡ true)
+-- `o` is what went to an output: first what `before` says; then a beginning of `text`, maybe nothing or all of it, was
+-- written and not flushed; and then a write or a flush failed
+abbrev pub BreaksOffIn : ToOutput → List ℕ → ToOutput → Type 0
+BreaksOffIn before text o =
+    (start : List ℕ) × Begins start text × (o ≡ record before { left = before.left ++ start; failed = true })

@@ -1,9 +1,10 @@
 -- What is answered where it is known which bytes the input has to give.
-use Rattle.std.proofs.Common.{◌≡◌, ℕ, Bool, true, false, List, [], ◌++◌, Option, Some, None, Ok, refl, sym, ap, ◌∙◌, append-nil, subst}
+use Rattle.std.proofs.Common.{◌≡◌, ℕ, Bool, true, false, List, [], ◌∷◌, ◌++◌, Option, Some, None, Ok, refl, sym, ap, ◌∙◌, append-nil, subst}
 use Rattle.std.specs.Option.{IfSome}
 use Rattle.std.proofs.KnownBytes.{Consumes-whole}
 use Rattle.std.specs.Io.KnownBytes.{Consumes}
-use Rattle.byte_devices.specs.Transfers.{FromInput, ToOutput, Devices, InputGave, OutputTook, Ran, all_of}
+use Rattle.byte_devices.specs.Transfers.{FromInput, Devices, InputGave, OutputTook, Ran, all_for}
+use Rattle.byte_devices.proofs.shared.Transfers.{some_for}
 use Rattle.text_lines.specs.Lines.{LineSeen, stream_lines}
 use Rattle.chess_cecp.specs.Serving.{Response, Server, responses}
 use Rattle.chess_cecp.specs.Served.{Served, lines_read}
@@ -36,20 +37,29 @@ pub are_first : (d d' : Devices) (i : FromInput) → InputGave d.input d'.input 
 are_first d d' i g = known_lines d d' i (λ ls. (more : List LineSeen) × (ls ≡ lines_read i ++ more)) g
     (λ more. (more, refl))
 
--- this response is what was written and flushed, and the state after it
-abbrev IsAll : {S : Type 0} → S → Devices → Devices → Response S → Type 0
-IsAll s' d d' due = OutputTook d.output d'.output (all_of due.text) × (s' ≡ due.state)
+-- the responses to these lines are what was written and flushed, and the state after them
+abbrev IsAll : {S : Type 0} → Server S → S → S → Devices → Devices → List LineSeen → Type 0
+IsAll respond s s' d d' ls =
+    let due = responses respond s ls in OutputTook d.output d'.output (all_for ls due.text) × (s' ≡ due.state)
+
+-- lines with which the server ends, and lines after them
+and_later : {S : Type 0} (respond : Server S) (s : S) (ls more : List LineSeen) (text : List ℕ)
+    → (responses respond s ls).ends ≡ true → all_for ls text ≡ all_for (ls ++ more) text
+and_later respond s [] more text ends = absurd cc
+and_later respond s (l ∷ ls) more text ends = sym (some_for [] l ls text) ∙ some_for [] l (ls ++ more) text
 
 pub answers_input : {S : Type 0} (respond : Server S) (s s' : S) (end : End) (d d' : Devices)
     → Ran (Served respond s s' (Ok end)) d d' → AnswersInput respond s s' d d'
 answers_input {S} respond s s' Quit d d' (i, o, g, k, (ok, (all, next, ends), early)) =
-    let here : IsAll s' d d' (responses respond s (lines_read i)) =
-    (subst (λ (v : ToOutput). OutputTook d.output d'.output v) all k, next) in
-    known_lines d d' i (λ ls. IsAll s' d d' (responses respond s ls)) g
-    (λ more. subst (λ (v : Response S). IsAll s' d d' v) (sym (stays_ended respond s (lines_read i) more ends)) here)
+    known_lines d d' i (IsAll respond s s' d d') g
+    (λ more. subst (λ (v : Response S). OutputTook d.output d'.output (all_for (lines_read i ++ more) v.text)
+    × (s' ≡ v.state)) (sym (stays_ended respond s (lines_read i) more ends)) (
+      subst (OutputTook d.output d'.output)
+          (all ∙ and_later respond s (lines_read i) more (responses respond s (lines_read i)).text ends) k,
+      next,
+    ))
 answers_input {S} respond s s' InputEnded d d' (i, o, g, k, ((ended, ok), (all, next, ends))) =
-    let here : IsAll s' d d' (responses respond s (lines_read i)) =
-    (subst (λ (v : ToOutput). OutputTook d.output d'.output v) all k, next) in
+    let here : IsAll respond s s' d d' (lines_read i) = (subst (OutputTook d.output d'.output) all k, next) in
     Consumes-whole d.input.known_bytes d'.input.known_bytes i.text
-    (λ xs. IsAll s' d d' (responses respond s (lines_of xs))) g.bytes (g.at_end ended)
-    (subst (λ b. IsAll s' d d' (responses respond s (stream_lines COMMAND_LEN b i.text))) ended here)
+    (λ xs. IsAll respond s s' d d' (lines_of xs)) g.bytes (g.at_end ended)
+    (subst (λ b. IsAll respond s s' d d' (stream_lines COMMAND_LEN b i.text)) ended here)

@@ -1,14 +1,14 @@
 -- A run of a server of lines, line by line.
-use Rattle.std.proofs.Common.{◌≡◌, ℕ, ◌+◌, ◌-◌, ◌≤◌, inl, inr, Bool, true, false, List, [], ◌∷◌, ◌++◌, length, Some, None, Ok, Err, refl, sym, ap, ◌∙◌, arith, append_assoc, append-nil, length-append, if◌then◌else◌}
+use Rattle.std.proofs.Common.{◌≡◌, ℕ, ◌+◌, ◌-◌, ◌≤◌, inl, inr, Bool, true, false, List, [], ◌∷◌, ◌++◌, length, Some, None, Ok, Err, refl, sym, ap, ◌∙◌, arith, append_assoc, append-nil, length-append, if◌then◌else◌, subst}
 use Rattle.std.proofs.Math.Seq.{take-append-add, take-append_seam}
 use Rattle.std.specs.Prelude.{slice_get}
 use Rattle.std.specs.Io.KnownBytes.{Consumes, IsAtEnd}
 use Rattle.std.specs.Bool.{MatchBool}
 use Rattle.std.proofs.lemmas.Grind.{common_steps}
 use Rattle.byte_devices.specs.Devices.{InputState, OutputState, Sent, CutShort, saturating_increment}
-use Rattle.byte_devices.specs.Transfers.{InputGave, OutputTook, Ran, all_of}
+use Rattle.byte_devices.specs.Transfers.{InputGave, OutputTook, Ran, all_for}
 use Rattle.byte_devices.proofs.shared.Devices.{consumes_more, consumes_none}
-use Rattle.byte_devices.proofs.shared.Transfers.{saturating_increment_if, came, broke, took_nothing, took_all, took_more, took_some_more}
+use Rattle.byte_devices.proofs.shared.Transfers.{saturating_increment_if, came, broke, some_for, took_nothing, took_last, took_one_more, took_some_more}
 use Rattle.text_lines.specs.Lines.{LineSeen, Held, nothing_held, stream_lines, lines_held}
 use Rattle.text_lines.specs.Next.{before_piece, Waits, GotLine, GotLast, NextLine}
 use Rattle.text_lines.proofs.shared.Lines.{nothing_left}
@@ -28,7 +28,7 @@ use Rattle.chess_cecp.proofs.Responses.{with_front, stops, alone, responses_on}
 pub record SoFar {S : Type 0} (respond : Server S) (r r' : InputState) (w w' : OutputState) (s s' : S) (held : Held)
     (given : List ℕ) (done : List LineSeen) : Type 0 where
   pub bytes : Consumes r.known_bytes r'.known_bytes given
-  pub took : OutputTook w w' (all_of (responses respond s done).text)
+  pub took : OutputTook w w' (all_for done (responses respond s done).text)
   pub state : s' ≡ (responses respond s done).state
   pub goes_on : (responses respond s done).ends ≡ false
   pub lines : (reported : Bool) (rest : List ℕ)
@@ -165,8 +165,7 @@ module _ {S : Type 0} {respond : Server S} {r r' : InputState} {w w' : OutputSta
         given ++ more,
         record {
           bytes = consumes_more r.known_bytes r'.known_bytes r''.known_bytes given more f.bytes bytes;
-          took = rw all (took_more w w' w'' front (all_of (respond s' line).text) f.took
-              (took_all w' w'' (respond s' line).text took));
+          took = rw all (took_one_more w w' w'' done line front (respond s' line).text f.took took);
           state = rw all next;
           goes_on = rw all on;
           lines = λ reported rest. ap (stream_lines COMMAND_LEN reported) (append_assoc given more rest)
@@ -184,9 +183,10 @@ module _ {S : Type 0} {respond : Server S} {r r' : InputState} {w w' : OutputSta
       → Ran (Served respond s s'' (Ok Quit)) (record { input = r; output = w }) (record { input = r''; output = w'' })
   by_line {r''} {w''} line (all, reported, after, at) took next over = (
     came r'' all reported false,
-    all_of (front ++ (respond s' line).text),
+    all_for (done ++ line ∷ after) (front ++ (respond s' line).text),
     gave at,
-    took_more w w' w'' front (all_of (respond s' line).text) f.took (took_all w' w'' (respond s' line).text took),
+    subst (OutputTook w w'') (some_for done line after (front ++ (respond s' line).text))
+        (took_last w w' w'' done front (respond s' line).text f.took took),
     (
       refl,
       rw (at.lines, one_last line after over) (refl, next, over),
@@ -200,9 +200,9 @@ module _ {S : Type 0} {respond : Server S} {r r' : InputState} {w w' : OutputSta
       → Ran (Served respond s s'' (Err Write)) (record { input = r; output = w }) (record { input = r''; output = w'' })
   by_write {r''} {w''} line (all, reported, after, at) (begun, (rest, is), broke_off) next = (
     came r'' all reported false,
-    broke front begun,
+    broke (all_for done front) begun,
     gave at,
-    took_some_more w w' w'' front begun f.took broke_off,
+    took_some_more w w' w'' done front begun f.took broke_off,
     (
       refl,
       (
@@ -212,7 +212,7 @@ module _ {S : Type 0} {respond : Server S} {r r' : InputState} {w w' : OutputSta
         at.on_demand,
         rw (at.lines, take-append_seam done (line ∷ after)) (
           f.goes_on,
-          (refl, (rest, is ∙ ap (λ v. (respond v line).text) f.state), refl),
+          (begun, (rest, is ∙ ap (λ v. (respond v line).text) f.state), refl),
           next ∙ ap (λ v. (respond v line).state) f.state,
         ),
       ),
@@ -229,9 +229,9 @@ module _ {S : Type 0} {respond : Server S} {r r' : InputState} {w w' : OutputSta
       let at : Reached r r'' (given ++ more) true done line [] =
       reached_last {held' = held'} bytes waits (of_false line.ended _ _ ended got) in (
         came r'' (given ++ more) true false,
-        all_of (front ++ (respond s' line).text),
+        all_for (done ++ line ∷ []) (front ++ (respond s' line).text),
         gave at,
-        took_more w w' w'' front (all_of (respond s' line).text) f.took (took_all w' w'' (respond s' line).text took),
+        took_one_more w w' w'' done line front (respond s' line).text f.took took,
         ((refl, refl), rw (at.lines, one_more line) (refl, next, on)),
       )
 
@@ -240,7 +240,7 @@ module _ {S : Type 0} {respond : Server S} {r r' : InputState} {w w' : OutputSta
       → Ran (Served respond s s' (Ok InputEnded)) (record { input = r; output = w }) (record { input = r''; output = w' })
   by_end E {r''} (more, bytes, waits, got) = (
     came r'' (given ++ more) true false,
-    all_of front,
+    all_for done front,
     record {
       bytes = consumes_more r.known_bytes r'.known_bytes r''.known_bytes given more f.bytes bytes;
       early = refl;
@@ -258,7 +258,7 @@ module _ {S : Type 0} {respond : Server S} {r r' : InputState} {w w' : OutputSta
       → Ran (Served respond s s' (Err Read)) (record { input = r; output = w }) (record { input = r''; output = w' })
   by_read e {r''} (more, bytes, waits, got) = (
     came r'' (given ++ more) false true,
-    all_of front,
+    all_for done front,
     record {
       bytes = consumes_more r.known_bytes r'.known_bytes r''.known_bytes given more f.bytes bytes;
       early = refl;

@@ -1,7 +1,7 @@
 -- What a server of lines reads and writes, as a session does, for each of the four ways to end: by a line such as
 -- `quit`, by the input's end, by a read that failed, by a write or a flush that failed.
 use Rattle.std.specs.Prelude.{◌≡◌, ◌≤◌, ℕ, Bool, true, false, List, length, take, slice_get, Some, Result, Ok, Err}
-use Rattle.byte_devices.specs.Transfers.{FromInput, ToOutput, IsWhole, all_of, BreaksOffIn}
+use Rattle.byte_devices.specs.Transfers.{FromInput, ToOutput, IsWhole, all_for, BreaksOffIn}
 use Rattle.text_lines.specs.Lines.{LineSeen, stream_lines}
 use Rattle.chess_cecp.specs.Serving.{Server, responses}
 use Rattle.chess_cecp.specs.declared.run.End.{End}
@@ -16,11 +16,12 @@ abbrev pub lines_read : FromInput → List LineSeen
 lines_read i = stream_lines COMMAND_LEN i.ended i.text
 
 -- the server `respond` answered the lines that were read: all of them if it ends with none (`ends` is false), otherwise
--- those up to and including the first with which it ends. The answers, and nothing else, were written and flushed, and
--- no write or flush failed. `s` and `s'` are the server's states before and after
+-- those up to and including the first with which it ends. The answers, and nothing else, were written, and each was
+-- flushed, even if it is empty; no write or flush failed. `s` and `s'` are the server's states before and after
 abbrev pub AnswersAll : {S : Type 0} → Server S → S → S → Bool → FromInput → ToOutput → Type 0
 AnswersAll respond s s' ends i o =
-    let due = responses respond s (lines_read i) in (o ≡ all_of due.text) × (s' ≡ due.state) × (due.ends ≡ ends)
+    let due = responses respond s (lines_read i) in
+    (o ≡ all_for (lines_read i) due.text) × (s' ≡ due.state) × (due.ends ≡ ends)
 
 -- what the server `respond` reads (`i`) and writes (`o`), by the result of the run. `s` and `s'` are the server's
 -- states before and after
@@ -35,12 +36,14 @@ Served respond s s' (Ok InputEnded) i o = IsWhole i × AnswersAll respond s s' f
 -- a read failed, and the input's end was not reported; the server answered all complete lines and ends with none
 Served respond s s' (Err Read) i o = (i.ended ≡ false) × (i.failed ≡ true) × AnswersAll respond s s' false i o
 -- no read failed, but a write or a flush did, in the answer to `line`, before which `n` lines were read. With none of
--- these the server ends, and their answers were written and flushed. Of the answer to `line` a beginning was written
--- and not flushed; it may be empty or the whole answer. Lines after `line` were not answered, and `s'` is the state
--- after `line`. The lines that were complete before the last successful read are at most `n`: once `line` was complete,
--- no more was read before its answer
+-- these the server ends, and their answers were written and each was flushed. Of the answer to `line` a beginning was
+-- written and not flushed; it may be empty or the whole answer. Lines after `line` were not answered, and `s'` is the
+-- state after `line`. The lines that were complete before the last successful read are at most `n`: once `line` was
+-- complete, no more was read before its answer
 Served respond s s' (Err Write) i o =
     (i.failed ≡ false) × ((n : ℕ) × (line : LineSeen) × (slice_get (lines_read i) n ≡ Some line)
     × (length (stream_lines COMMAND_LEN false i.early) ≤ n)
-    × (let due = responses respond s (take n (lines_read i)) in let last = respond due.state line in
-    (due.ends ≡ false) × BreaksOffIn due.text last.text o × (s' ≡ last.state)))
+    × (let before = take n (lines_read i) in
+    let due = responses respond s before in
+    let last = respond due.state line in
+    (due.ends ≡ false) × BreaksOffIn (all_for before due.text) last.text o × (s' ≡ last.state)))

@@ -15,6 +15,8 @@ ghost use Rattle.chess_cecp.specs.laws.KnownInput.{AnswersInput, AreFirstLines};
 ghost use Rattle.chess_cecp.specs.laws.Normal.{normal_row_of, has_normal_row};
 ghost use Rattle.chess_cecp.specs.Session.{row, session_response, IsRefusal};
 
+use crate::run::LineServer;
+
 /// States a law and does nothing: a line that is refused (`Error ..`, `Illegal move ..`, `tellusererror ..`) leaves
 /// start, moves and declared result as they were.
 pub fn refusals_change_nothing()
@@ -31,12 +33,13 @@ pub fn normal_chess_keeps_its_rows()
 {}
 
 /// States a law and does nothing: if the bytes that the input will give are known, the lines that are read are the
-/// first lines of these bytes, and a session that ends without a fault answers these lines, up to `quit`. So the way
-/// in which reads cut the bytes changes no answer.
-pub fn reads_change_no_answer()
+/// first lines of these bytes, and a server of lines (a session, the stub, or any other `LineServer`) that ends without
+/// a fault answers these lines, up to the first with which it ends, such as `quit`. So the way in which reads cut the
+/// bytes changes no answer.
+pub fn reads_change_no_answer<S: LineServer>()
     ensures lines { (d d2 : Devices) (i : FromInput) → InputGave d.input d2.input i → AreFirstLines d i }
-    ensures answers { (s s2 : SessionSeen) (end : End) (d d2 : Devices)
-        → Ran (Served session_response s s2 (Ok end)) d d2 → AnswersInput session_response s s2 d d2 }
+    ensures answers { (s s2 : S) (end : End) (d d2 : Devices)
+        → Ran (Served S.respond s s2 (Ok end)) d d2 → AnswersInput S.respond s s2 d d2 }
 {}
 
 /// States a law and does nothing: the moves of a game whose text `read_pgn` of chess_pgn reads without a fault are

@@ -3,8 +3,8 @@ use Rattle.std.proofs.Common.{◌≡◌, ℕ, Bool, true, false, List, [], ◌�
 use Rattle.std.specs.Bool.{MatchBool}
 use Rattle.std.specs.Prelude.{if◌then◌else◌}
 use Rattle.byte_devices.specs.Devices.{OutputState, CutShort}
-use Rattle.byte_devices.specs.Transfers.{ToOutput, Devices, OutputTook, all_of}
-use Rattle.byte_devices.proofs.shared.Transfers.{broke, took_more, took_nothing, took_some_more}
+use Rattle.byte_devices.specs.Transfers.{ToOutput, Devices, OutputTook, all_of, all_for}
+use Rattle.byte_devices.proofs.shared.Transfers.{broke, some_for, took_each, took_nothing, took_some_more}
 use Rattle.chess_base.specs.declared.man.Colour.{Colour}
 use Rattle.chess_base.specs.Men.{same_colour}
 use Rattle.chess_game.specs.Game as game
@@ -23,6 +23,7 @@ use Rattle.chess_match.specs.declared.reason.Reason.{Reason}
 use Rattle.chess_match.specs.declared.run.MatchEnd.{MatchEnd}
 use Rattle.chess_match.specs.declared.run.Setup.{Setup}
 use Rattle.chess_match.specs.ties.AtDesk.{Did, NotedSince, WritesOf}
+use Rattle.chess_match.proofs.BlocksFilled.{HasLine, SendFilled, blocks_filled}
 use Rattle.chess_match.proofs.AtDesk.{moments_watched, notes_watched, reads_watched, writes_watched}
 use Rattle.chess_match.proofs.ClockAsked.{asked_none}
 use Rattle.chess_match.proofs.MatchCases.{all_reads_end, all_sends_end, sends_end, unsent_in}
@@ -56,41 +57,49 @@ silent S (Happens e ∷ H) w w' u (v, o, p) = let q = silent S H v w' u p in (q.
 abbrev pub Wrote : List SentLine → List (List SentLine) → OutputState → OutputState → Type 0
 Wrote sent broken w w' = (o : ToOutput) × OutputTook w w' o × WasSent sent broken o
 
+-- these lines, and nothing else, were written and flushed
+abbrev WroteAll : OutputState → OutputState → List SentLine → Type 0
+WroteAll w w' lines = OutputTook w w' (all_for lines (bytes_of lines))
+
 -- an output that was left as it was still took these lines
-still : (w v u : OutputState) (before : List SentLine) → u ≡ v → OutputTook w v (all_of (bytes_of before))
-    → OutputTook w u (all_of (bytes_of before))
-still w v u before e f = subst (λ (x : OutputState). OutputTook w x (all_of (bytes_of before))) (sym e) f
+still : (w v u : OutputState) (before : List SentLine) → u ≡ v → WroteAll w v before → WroteAll w u before
+still w v u before e f = subst (λ (x : OutputState). WroteAll w x before) (sym e) f
+
+-- the lines of a block more
+block_more : (w v u : OutputState) (before lines : List SentLine) → HasLine lines → WroteAll w v before
+    → OutputTook v u (all_of (bytes_of lines)) → WroteAll w u (before ++ lines)
+block_more w v u before [] none f o = absurd none
+block_more w v u before (l ∷ ls) some f o =
+    subst (λ (bytes : List ℕ). OutputTook w u (all_for (before ++ l ∷ ls) bytes)) (sym (bytes_of-append before (l ∷ ls)))
+    (took_each w v u before (l ∷ ls) (bytes_of before) (bytes_of (l ∷ ls)) f
+    (subst (OutputTook v u) (some_for [] l ls (bytes_of (l ∷ ls))) o))
 
 -- after these lines
 writes_all : (S : Colour) (before : List SentLine) (H : List Act) (w v w' : OutputState) → sends_end S H ≡ true
-    → OutputTook w v (all_of (bytes_of before)) → WritesOf S H v w'
+    → SendFilled H → WroteAll w v before → WritesOf S H v w'
     → Wrote (before ++ lines_sent S H) (broken_blocks S H) w w'
-writes_all S before [] w v w' end f e =
+writes_all S before [] w v w' end filled f e =
     subst (λ (l : List SentLine). Wrote l [] w w') (sym (append-nil before)) (
-      all_of (bytes_of before),
+      all_for before (bytes_of before),
       still w v w' before e f,
       refl,
     )
-writes_all S before (Sends b ∷ H) w v w' end f (u, o, p) =
-    at (same_colour b.to S) o (λ front g. writes_all S front H w u w' end g p)
+writes_all S before (Sends b ∷ H) w v w' end filled f (u, o, p) =
+    at (same_colour b.to S) o (λ front g. writes_all S front H w u w' end filled.1 g p)
   where
     at : (x : Bool) → MatchBool x (OutputTook v u (all_of (bytes_of b.lines))) (u ≡ v)
-        → ((front : List SentLine) → OutputTook w u (all_of (bytes_of front))
-        → Wrote (front ++ lines_sent S H) (broken_blocks S H) w w')
+        → ((front : List SentLine) → WroteAll w u front → Wrote (front ++ lines_sent S H) (broken_blocks S H) w w')
         → Wrote (before ++ (list_if x b.lines ++ lines_sent S H)) (broken_blocks S H) w w'
     at true o more = subst (λ (l : List SentLine). Wrote l (broken_blocks S H) w w')
         (append_assoc before b.lines (lines_sent S H))
-        (more (before ++ b.lines)
-        (subst (λ (bytes : List ℕ). OutputTook w u (all_of bytes)) (sym (bytes_of-append before b.lines))
-        (took_more w v u (bytes_of before) (all_of (bytes_of b.lines)) f o)))
+        (more (before ++ b.lines) (block_more w v u before b.lines filled.0 f o))
     at false o more = more before (still w v u before o f)
-writes_all S before (SendFails b ∷ H) w v w' end f (u, o, p) =
-    at (same_colour b.to S) end o (λ e g. writes_all S before H w u w' e g p)
+writes_all S before (SendFails b ∷ H) w v w' end filled f (u, o, p) =
+    at (same_colour b.to S) end o (λ e g. writes_all S before H w u w' e filled g p)
   where
     at : (x : Bool) → (if x then unsent_in S H else sends_end S H) ≡ true
         → MatchBool x (CutShort v u (bytes_of b.lines)) (u ≡ v)
-        → (sends_end S H ≡ true → OutputTook w u (all_of (bytes_of before))
-        → Wrote (before ++ lines_sent S H) (broken_blocks S H) w w')
+        → (sends_end S H ≡ true → WroteAll w u before → Wrote (before ++ lines_sent S H) (broken_blocks S H) w w')
         → Wrote (before ++ lines_sent S H) (list_if x (b.lines ∷ []) ++ broken_blocks S H) w w'
     at true end o more =
         let q = silent S H u w' end p in
@@ -98,18 +107,18 @@ writes_all S before (SendFails b ∷ H) w v w' end f (u, o, p) =
         (subst (λ (l : List SentLine). Wrote (before ++ l) (b.lines ∷ []) w w') (sym q.0)
         (subst (λ (l : List SentLine). Wrote l (b.lines ∷ []) w w') (sym (append-nil before))
         (subst (λ (x : OutputState). Wrote before (b.lines ∷ []) w x) (sym q.2) (
-          broke (bytes_of before) o.0,
-          took_some_more w v u (bytes_of before) o.0 f o.2,
-          (refl, o.1, refl),
+          broke (all_for before (bytes_of before)) o.0,
+          took_some_more w v u before (bytes_of before) o.0 f o.2,
+          (o.0, o.1, refl),
         ))))
     at false end o more = more end (still w v u before o f)
-writes_all S before (Happens e ∷ H) w v w' end f (u, o, p) =
-    writes_all S before H w u w' end (still w v u before o f) p
+writes_all S before (Happens e ∷ H) w v w' end filled f (u, o, p) =
+    writes_all S before H w u w' end filled (still w v u before o f) p
 
-pub all_written : (S : Colour) (H : List Act) (w w' : OutputState) → sends_end S H ≡ true → WritesOf S H w w'
-    → Wrote (lines_sent S H) (broken_blocks S H) w w'
+pub all_written : (S : Colour) (H : List Act) (w w' : OutputState) → sends_end S H ≡ true → SendFilled H
+    → WritesOf S H w w' → Wrote (lines_sent S H) (broken_blocks S H) w w'
 unfolding bytes_of
-all_written S H w w' end p = writes_all S [] H w w w' end (took_nothing w) p
+all_written S H w w' end filled p = writes_all S [] H w w w' end filled (took_nothing w) p
 
 -- ---- the match
 
@@ -127,7 +136,7 @@ desk_passed r H final reason begun engines held coming witness names w w' is_mat
           (rw (p, p') (reads_watched reason S H (begun.engines S).input (engines S).input nothing_held (held S)
           (d.read S))) in
           let written = all_written S H (w.engines S).output (w'.engines S).output
-          (all_sends_end r H final S is_match)
+          (all_sends_end r H final S is_match) (blocks_filled r H final is_match)
           (rw (p, p') (writes_watched reason S H (begun.engines S).output (engines S).output (d.written S))) in
           (read.0, written.0, read.1, written.1, (read.2, written.2));
       moments = rw (c, c') (subst (λ (ms : List ℕ). ClockReadings begun.coming coming ms) (moments_watched reason H)

@@ -1,6 +1,6 @@
 -- There is only one match of a run whose devices show all.
 use mathlib.Core.Bool.{or-true}
-use Rattle.std.proofs.Common.{◌≡◌, ℕ, ◌+◌, ◌<◌, ◌≤◌, ◌^◌, ◌-◌, ◌||◌, ◌⊎◌, inl, inr, min, Bool, true, false, List, [], ◌∷◌, ◌++◌, length, length-append, refl, ap, sym, ◌∙◌, Option, None, Some, arith}
+use Rattle.std.proofs.Common.{◌≡◌, ℕ, ◌+◌, ◌<◌, ◌≤◌, ◌^◌, ◌-◌, zero, suc, ◌||◌, ◌⊎◌, inl, inr, min, Bool, true, false, List, [], ◌∷◌, ◌++◌, length, length-append, refl, ap, sym, ◌∙◌, Option, None, Some, arith}
 use Rattle.std.specs.Prelude.{if◌then◌else◌, is_some, nat_lt, slice_get}
 use Rattle.std.specs.Option.{IfSome}
 use Rattle.std.specs.Io.KnownBytes.{Appends, Consumes}
@@ -10,8 +10,9 @@ use Rattle.chess_base.specs.Men.{other, same_colour}
 use Rattle.chess_base.specs.Options.{list_if}
 use Rattle.chess_base.specs.declared.man.Colour.{Colour}
 use Rattle.chess_base.specs.declared.man.Colour.TheVariants.{White}
-use Rattle.byte_devices.specs.Devices.{OutputState, saturating_increment}
+use Rattle.byte_devices.specs.Devices.{OutputState, saturating_add, saturating_increment}
 use Rattle.byte_devices.specs.Transfers.{FromInput, ToOutput, OutputTook}
+use Rattle.byte_devices.proofs.shared.Devices.{add_some}
 use Rattle.byte_devices.proofs.shared.Transfers.{saturating_increment_if}
 use Rattle.chess_match.specs.Acts.{Act, Block, IsMatch, Sends, SendFails, Happens, block_of, blocks_from, is_over}
 use Rattle.chess_match.specs.Events.{Line, Opened, OutputEnds, FailsToRead, FailsToWrite}
@@ -52,13 +53,13 @@ one_rise n m false true small x y = rises n small (sym x ∙ y)
 broken_is : (sent : List SentLine) (broken : List (List SentLine)) (o : ToOutput) → WasSent sent broken o
     → nat_lt 0 (length broken) ≡ o.failed
 broken_is sent [] o was = sym (ap (λ (x : ToOutput). x.failed) was)
-broken_is sent (b ∷ []) o was = sym was.2
+broken_is sent (b ∷ []) o was = sym (ap (λ (x : ToOutput). x.failed) was.2)
 broken_is sent (b ∷ c ∷ more) o was = absurd was
 
 flushed_is : (sent : List SentLine) (broken : List (List SentLine)) (o : ToOutput) → WasSent sent broken o
     → o.flushed ≡ bytes_of sent
 flushed_is sent [] o was = ap (λ (x : ToOutput). x.flushed) was
-flushed_is sent (b ∷ []) o was = was.0
+flushed_is sent (b ∷ []) o was = ap (λ (x : ToOutput). x.flushed) was.2
 flushed_is sent (b ∷ c ∷ more) o was = absurd was
 
 -- of two accounts of what an output took, whose length is known
@@ -67,6 +68,23 @@ one_taken : (old new : Option (List ℕ)) (a b : List ℕ) → is_some old ≡ t
 one_taken None new a b h x y = cc
 one_taken (Some xs) None a b h x y = absurd x
 one_taken (Some xs) (Some ys) a b h x y = append_cancel_left xs a b (sym x ∙ y)
+
+-- none is unflushed but what is left
+left_alone : (flag : Bool) (n : ℕ) → n ≡ 0 → (if flag then 0 else n) ≡ 0
+left_alone true n zero = refl
+left_alone false n zero = zero
+
+-- what `saturating_add` leaves of a length
+added_to_none : (k : ℕ) → saturating_add 0 k ≡ min k (2 ^ 64 - 1)
+added_to_none zero = refl
+added_to_none (suc k) = add_some 0 (suc k) (omega arith)
+
+-- as many are unflushed as are left, if none was before
+unflushed_is : (old new : OutputState) (o : ToOutput) → old.unflushed ≡ 0 → OutputTook old new o
+    → new.unflushed ≡ min (length o.left) (2 ^ 64 - 1)
+unflushed_is old new o before took =
+    took.unflushed ∙ ap (λ n. saturating_add n (length o.left)) (left_alone o.any_flush old.unflushed before)
+    ∙ added_to_none (length o.left)
 
 -- as many bytes were flushed, if the output shows it
 one_flushed : (old new : OutputState) (o o' : ToOutput) → ShowsFlushed old new → OutputTook old new o
@@ -77,8 +95,8 @@ one_flushed old new o o' shows took took' =
     took.bytes took'.bytes) in
     let x : length (o.flushed ++ o.left) ≡ length o.flushed + length o.left = length-append o.flushed o.left in
     let y : length (o'.flushed ++ o'.left) ≡ length o'.flushed + length o'.left = length-append o'.flushed o'.left in
-    let l : new.unflushed ≡ min (length o.left) (2 ^ 64 - 1) = took.unflushed shows.before in
-    let l' : new.unflushed ≡ min (length o'.left) (2 ^ 64 - 1) = took'.unflushed shows.before in
+    let l : new.unflushed ≡ min (length o.left) (2 ^ 64 - 1) = unflushed_is old new o shows.before took in
+    let l' : new.unflushed ≡ min (length o'.left) (2 ^ 64 - 1) = unflushed_is old new o' shows.before took' in
     let few = shows.after in omega (arith, all, x, y, l, l', few)
 
 -- an engine whose end was reported had no read that failed

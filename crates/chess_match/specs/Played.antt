@@ -3,7 +3,7 @@
 use Rattle.std.specs.Prelude.{◌≡◌, ◌||◌, ℕ, true, nat_lt, List, [], ◌∷◌, ◌++◌, length, codes, Option}
 use Rattle.std.specs.List.{flat_map, list_any}
 use Rattle.chess_base.specs.declared.man.Colour.{Colour}
-use Rattle.byte_devices.specs.Transfers.{FromInput, ToOutput, Devices, Ran, all_of, BreaksOffIn}
+use Rattle.byte_devices.specs.Transfers.{FromInput, ToOutput, Devices, Ran, all_for, BreaksOffIn}
 use Rattle.chess_game.specs.Game as game
 use Rattle.chess_game.specs.Results.{cut_tag}
 use Rattle.cecp_engine.specs.Items.{last_said}
@@ -51,10 +51,10 @@ pub record SaidBy (S : Colour) (H : List Act) (i : FromInput) : Type 0 where
 -- second list, each as its lines, could not be sent
 abbrev pub WasSent : List SentLine → List (List SentLine) → ToOutput → Type 0
 -- no block failed: all lines `sent`, written and flushed, and nothing more; no call failed
-WasSent sent [] o = o ≡ all_of (bytes_of sent)
+WasSent sent [] o = o ≡ all_for sent (bytes_of sent)
 -- a block failed: the lines `sent`, written and flushed; then a beginning of the block, not flushed, maybe nothing or
 -- all of it; then a write or a flush failed
-WasSent sent (block ∷ []) o = BreaksOffIn (bytes_of sent) (bytes_of block) o
+WasSent sent (block ∷ []) o = BreaksOffIn (all_for sent (bytes_of sent)) (bytes_of block) o
 -- no more than one block fails
 WasSent sent _ o = ⊥
 

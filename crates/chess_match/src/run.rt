@@ -94,8 +94,8 @@ pub struct MatchEnd {
 /// In the contract there is a list of acts: blocks that were sent, lines and moments that were read, ends of outputs,
 /// and failures. It is a match, in which each act was due when it came: nothing is read while a block is due, and the
 /// clock is read after each line and at the end of each turn's opening. The acts agree with both engines' devices and
-/// with the clock, and they fix all that was sent, the game and the end. Where nothing was unflushed before, nothing is
-/// at the end, but for the beginning of a block at which a write or a flush failed.
+/// with the clock, and they fix all that was sent, the game and the end. At the end nothing is unflushed, also of what
+/// was written before, except at an engine to which a write or a flush failed.
 ///
 /// The contract sees each device apart; [`run_match_at`], which this calls, says that the calls came in the order of
 /// the acts. By the code no memory is taken, and an engine that doesn't answer is waited for.

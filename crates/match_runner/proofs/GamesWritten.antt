@@ -10,8 +10,8 @@ use Rattle.chess_base.specs.Men.{other, same_colour}
 use Rattle.chess_base.specs.declared.man.Colour.{Colour}
 use Rattle.chess_base.specs.declared.man.Colour.TheVariants.{White, Black}
 use Rattle.byte_devices.specs.Devices.{OutputState, Begins, CutShort, Sent}
-use Rattle.byte_devices.specs.Transfers.{ToOutput, OutputTook, all_of}
-use Rattle.byte_devices.proofs.shared.Transfers.{broke, took_all, took_more, took_nothing, took_some_more}
+use Rattle.byte_devices.specs.Transfers.{ToOutput, OutputTook, all_of, all_for}
+use Rattle.byte_devices.proofs.shared.Transfers.{broke, took_last, took_nothing, took_one_more, took_some_more}
 use Rattle.chess_game.specs.Game.{Seen}
 use Rattle.chess_game.specs.Results.{same_outcome}
 use Rattle.chess_game.specs.declared.results.Outcome.{Outcome}
@@ -34,12 +34,6 @@ use Rattle.match_runner.specs.declared.fault.GamesFault.{GamesFault}
 use Rattle.match_runner.specs.declared.fault.GamesFault.TheVariants.{WriteFailed, NoMemory, CanNotStart, Game}
 use Rattle.match_runner.specs.declared.games.GamesPlayed.{GamesPlayed}
 use Rattle.match_runner.specs.declared.score.Score.{Score}
-
--- ---- the output
-
-sent_more : (w w' w'' : OutputState) (x y : List ℕ) → OutputTook w w' (all_of x) → Sent w' w'' y
-    → OutputTook w w'' (all_of (x ++ y))
-sent_more w w' w'' x y h k = took_more w w' w'' x (all_of y) h (took_all w' w'' y k)
 
 -- the outputs of a match
 abbrev pub outputs : OutputState → LogSeen → Outputs
@@ -274,7 +268,7 @@ pub record SoFar (plan : GamesPlan) (p p' : GamesPassing) (w w' : OutputState) (
     pub numbered : number ≡ 1 + length games
     pub few : length games ≤ plan.games
     pub counted : score ≡ score_of games
-    pub written : OutputTook w w' (all_of (game_texts plan games))
+    pub written : OutputTook w w' (all_for games (game_texts plan games))
     pub logged : LogsGames plan.log l l' games
     pub passed : StepsPass p p' (games_steps plan games)
 
@@ -299,9 +293,9 @@ module _ (plan : GamesPlan) (p p' p'' : GamesPassing) (w w' w'' : OutputState) (
       (subst (λ n. LogsGame (logged_side plan n) l' l'' g.notes) s.numbered log)
 
   written_more : (g : GameRecord) → Sent w' w'' (game_text plan number g)
-      → OutputTook w w'' (all_of (game_texts plan (games ++ g ∷ [])))
+      → OutputTook w w'' (all_for (games ++ g ∷ []) (game_texts plan (games ++ g ∷ [])))
   written_more g sent =
-      rw (texts_more plan games g) (sent_more w w' w'' (game_texts plan games)
+      rw (texts_more plan games g) (took_one_more w w' w'' games g (game_texts plan games)
       (game_text plan (1 + length games) g) s.written
       (subst (λ n. Sent w' w'' (game_text plan n g)) s.numbered sent))
 
@@ -375,14 +369,14 @@ module _ (plan : GamesPlan) (p p' p'' : GamesPassing) (w w' w'' : OutputState) (
         games,
         next,
         (
-          broke (game_texts plan games) begun,
+          broke (all_for games (game_texts plan games)) begun,
           (
             s.games_sound,
             omega (arith, n, le),
             of,
-            (refl, subst (λ k. Begins begun (game_text plan k next)) m begins, refl),
+            (begun, subst (λ k. Begins begun (game_text plan k next)) m begins, refl),
           ),
-          took_some_more w w' w'' (game_texts plan games) begun s.written failing,
+          took_some_more w w' w'' games (game_texts plan games) begun s.written failing,
           logged_on next log,
         ),
         passed_last (λ n. unwritten_steps plan n next) steps,
@@ -393,15 +387,15 @@ module _ (plan : GamesPlan) (p p' p'' : GamesPassing) (w w' w'' : OutputState) (
       → w'' ≡ w' → l'' ≡ l' → StepsPass p' p'' (unstarted_steps plan number)
       → (games : List GameRecord) × (o : ToOutput)
       × (FaultlessGames plan games × (length games < plan.games)
-      × IsStartFault plan.white.now plan.black.now fault × (o ≡ all_of (game_texts plan games)))
+      × IsStartFault plan.white.now plan.black.now fault × (o ≡ all_for games (game_texts plan games)))
       × OutputTook w w'' o × LogsGames plan.log l l'' (games ++ [])
       × StepsPass p p'' (games_steps plan games ++ unstarted_steps plan (length games + 1))
   not_started fault le is same log steps =
       let n = s.numbered in (
         games,
-        all_of (game_texts plan games),
+        all_for games (game_texts plan games),
         (s.games_sound, omega (arith, n, le), is, refl),
-        subst (λ v. OutputTook w v (all_of (game_texts plan games))) (sym same) s.written,
+        subst (λ v. OutputTook w v (all_for games (game_texts plan games))) (sym same) s.written,
         subst (LogsGames plan.log l l'') (sym (append-nil games))
             (subst (λ v. LogsGames plan.log l v games) (sym log) s.logged),
         passed_last (λ n. unstarted_steps plan n) steps,
@@ -440,7 +434,7 @@ module _ (plan : GamesPlan) (p p' : GamesPassing) (w w' w'' : OutputState) (l l'
 
   score_sent : Sent w' w'' (score_text played.score) → OutputTook w w'' (all_of (game_texts plan h.0 ++ score_line h.0))
   score_sent sent =
-      sent_more w w' w'' (game_texts plan h.0) (score_line h.0) h.3
+      took_last w w' w'' h.0 (game_texts plan h.0) (score_line h.0) h.3
       (subst (λ (line : List ℕ). Sent w' w'' line) scored sent)
 
   -- no game is unwritten
@@ -482,9 +476,9 @@ module _ (plan : GamesPlan) (p p' : GamesPassing) (w w' w'' : OutputState) (l l'
     h.0,
     None,
     (
-      broke (game_texts plan h.0) begun,
-      (played.fault, h.1, (refl, subst (λ (line : List ℕ). Begins begun line) scored begins, refl)),
-      took_some_more w w' w'' (game_texts plan h.0) begun h.3 failing,
+      broke (all_for h.0 (game_texts plan h.0)) begun,
+      (played.fault, h.1, (begun, subst (λ (line : List ℕ). Begins begun line) scored begins, refl)),
+      took_some_more w w' w'' h.0 (game_texts plan h.0) begun h.3 failing,
       logs_all,
     ),
     steps_all,

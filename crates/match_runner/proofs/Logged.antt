@@ -1,7 +1,7 @@
 -- What was logged, put together.
 use Rattle.std.proofs.Common.{◌≡◌, ℕ, suc, ◌+◌, ◌<◌, min, length, drop, take, get_or, not, Bool, true, false, List, [], ◌∷◌, ◌++◌, refl, ap, sym, ◌∙◌, subst, append_assoc, append-nil, Option, Some, None, Result, Ok, Err, arith}
 use native.Mathlib.Numerals.{unary_clauses}
-use Rattle.std.specs.Prelude.{◌==◌, flat_map, if◌then◌else◌}
+use Rattle.std.specs.Prelude.{◌==◌, ◌||◌, nat_lt, flat_map, if◌then◌else◌}
 use Rattle.std.specs.List.{onto_first, position_or_len}
 use Rattle.std.specs.Result.{is_err}
 use Rattle.std.proofs.lemmas.Bool.Decides.{nat_tests}
@@ -10,8 +10,8 @@ use Rattle.chess_base.specs.Letters.{byte, new_line}
 use Rattle.chess_base.specs.declared.man.Colour.{Colour}
 use Rattle.chess_base.specs.declared.man.Colour.TheVariants.{White, Black}
 use Rattle.byte_devices.specs.Devices.{OutputState, Sends}
-use Rattle.byte_devices.specs.Transfers.{OutputTook, all_of}
-use Rattle.byte_devices.proofs.shared.Transfers.{broke, took_all, took_more, took_nothing, took_some}
+use Rattle.byte_devices.specs.Transfers.{OutputTook, nothing, all_of, all_for}
+use Rattle.byte_devices.proofs.shared.Transfers.{broke, some_for, took_all, took_each, took_more, took_nothing, took_some}
 use Rattle.chess_match.specs.Events.{Line}
 use Rattle.chess_match.specs.Notes.{Note, Gives, Happened, WasNoted}
 use Rattle.match_runner.specs.Log.{LogSeen, Logged, LogsNote, lines_in, log_from, log_line, log_seen, moment_after, note_text}
@@ -30,7 +30,7 @@ pends_none true o = (refl, refl)
 all_logged : (b b' : Bool) (o o' : OutputState) (text : List ℕ) → LogsPending b b' o o' [] text
     → Logged (log_seen o b) (log_seen o' b') text
 all_logged false false o o' text (written, took, is) =
-    (λ e. absurd (cc), λ e. (all_of written, took, ap all_of (sym (append-nil written) ∙ is)))
+    (λ e. absurd (cc), λ e. (all_for written written, took, ap (λ t. all_for t t) (sym (append-nil written) ∙ is)))
 all_logged false true o o' text h = (λ e. absurd (cc), λ e. h)
 all_logged true b' o o' text (still, same) =
     (λ e. ap (log_seen o') still ∙ ap (λ v. log_seen v true) same, λ e. absurd (cc))
@@ -48,13 +48,14 @@ logs_none l = all_logged l.broken l.broken l.output l.output [] (pends_none l.br
 
 -- a text was sent, or a beginning of it was
 pub logs_sent : {A E : Type 0} (o o' : OutputState) (r : Result A E) (failed : Bool) (text : List ℕ)
-    → Sends o o' r text → failed ≡ is_err r → Logged (log_seen o false) (log_seen o' failed) text
-logs_sent o o' (Ok v) failed text sent is =
+    → 0 < length text → Sends o o' r text → failed ≡ is_err r → Logged (log_seen o false) (log_seen o' failed) text
+logs_sent o o' (Ok v) failed [] some sent is = absurd (omega (arith, some))
+logs_sent o o' (Ok v) failed (b ∷ text) some sent is =
+    subst (λ (c : Bool). Logged (log_seen o false) (log_seen o' c) (b ∷ text)) (sym is)
+    (λ e. absurd (cc), λ e. (all_of (b ∷ text), took_all o o' (b ∷ text) sent, some_for [] b text (b ∷ text)))
+logs_sent o o' (Err e) failed text some (start, begins, failing) is =
     subst (λ (b : Bool). Logged (log_seen o false) (log_seen o' b) text) (sym is)
-    (λ e. absurd (cc), λ e. (all_of text, took_all o o' text sent, refl))
-logs_sent o o' (Err e) failed text (start, begins, failing) is =
-    subst (λ (b : Bool). Logged (log_seen o false) (log_seen o' b) text) (sym is)
-    (λ e. absurd (cc), λ e. (broke [] start, took_some o o' start failing, (begins, refl)))
+    (λ e. absurd (cc), λ e. (broke nothing start, took_some o o' start failing, (begins, refl)))
 
 -- bytes more are pending
 logs_pending : (b b' : Bool) (o o' : OutputState) (pending text more : List ℕ) → LogsPending b b' o o' pending text
@@ -73,12 +74,12 @@ logs_flushed : (b b' b'' : Bool) (o o' o'' : OutputState) (pending text : List �
     → LogsPending b' b'' o' o'' [] pending → LogsPending b b'' o o'' [] text
 logs_flushed false false false o o' o'' pending text (x, h, is) (y, k, all) = (
   x ++ y,
-  took_more o o' o'' x (all_of y) h k,
+  took_each o o' o'' x y x y h k,
   append_assoc x y [] ∙ ap (λ (l : List ℕ). x ++ l) all ∙ is,
 )
 logs_flushed false false true o o' o'' pending text (x, h, is) (t, k, ((rest, all), failed)) = (
-  record t { flushed = x ++ t.flushed },
-  took_more o o' o'' x t h k,
+  record t { flushed = x ++ t.flushed; any_flush = nat_lt 0 (length x) || t.any_flush },
+  took_more o o' o'' x x t h k,
   (
     (
       rest,

@@ -12,7 +12,7 @@ use Rattle.chess_base.specs.Men.{other, same_colour}
 use Rattle.chess_base.specs.declared.man.Colour.{Colour}
 use Rattle.chess_base.specs.declared.man.Colour.TheVariants.{White, Black}
 use Rattle.byte_devices.specs.Devices.{OutputState}
-use Rattle.byte_devices.specs.Transfers.{ToOutput, OutputTook, all_of, BreaksOffIn}
+use Rattle.byte_devices.specs.Transfers.{ToOutput, OutputTook, all_of, all_for, BreaksOffIn}
 use Rattle.chess_match.specs.Acts.{Act}
 use Rattle.chess_match.specs.ByDevice.{notes_of}
 use Rattle.chess_match.specs.Reasons.{comment_of, win_of}
@@ -161,15 +161,15 @@ WritesGames plan (Err (Game number text)) games None o = (side : Colour) × (fau
 -- score was written
 WritesGames plan (Err WriteFailed) games (Some unwritten) o =
     FaultlessGames plan games × (length games < plan.games) × IsOfPlan plan unwritten
-    × BreaksOffIn (game_texts plan games) (game_text plan (length games + 1) unwritten) o
+    × BreaksOffIn (all_for games (game_texts plan games)) (game_text plan (length games + 1) unwritten) o
 -- all games of the match were played as the plan says, and their PGN was written and flushed; then a write or flush
 -- failed in the score. In the last game an engine may have had a fault (`fault`; `None` if it had none)
 WritesGames plan (Err WriteFailed) games None o = (fault : Option (ℕ × Colour × MatchFault))
-    × AreAllGames plan games fault × BreaksOffIn (game_texts plan games) (score_line games) o
+    × AreAllGames plan games fault × BreaksOffIn (all_for games (game_texts plan games)) (score_line games) o
 -- `CanNotStart` or `NoMemory`: the engines of the game after `games` could not be started. `games` are fewer than
 -- planned, and were played as the plan says and without a fault; their PGN was written and flushed, but no score
 WritesGames plan (Err fault) games None o = FaultlessGames plan games × (length games < plan.games)
-    × IsStartFault plan.white.now plan.black.now fault × (o ≡ all_of (game_texts plan games))
+    × IsStartFault plan.white.now plan.black.now fault × (o ≡ all_for games (game_texts plan games))
 -- no other result comes with a game that was played and could not be written
 WritesGames plan _ games (Some unwritten) o = ⊥
 

@@ -6,7 +6,7 @@ use Rattle.chess_base.specs.Letters.{byte, new_line}
 use Rattle.chess_base.specs.declared.man.Colour.{Colour}
 use Rattle.chess_base.specs.Men.{same_colour}
 use Rattle.byte_devices.specs.Devices.{OutputState, Begins}
-use Rattle.byte_devices.specs.Transfers.{ToOutput, OutputTook, all_of}
+use Rattle.byte_devices.specs.Transfers.{ToOutput, OutputTook, all_for}
 use Rattle.chess_game.specs.Results.{shown_byte}
 use Rattle.chess_match.specs.Events.{Line, Opened, OutputEnds, FailsToRead, FailsToWrite}
 use Rattle.chess_match.specs.Notes.{Note, Happened, Gives}
@@ -71,10 +71,10 @@ abbrev pub log_seen : OutputState → Bool → LogSeen
 log_seen o broken = record { output = o; broken = broken }
 
 -- what logging a text writes to the output (`o`), by whether the log is then broken. If it is not (false), all of the
--- text was written and flushed. If it is (true), a beginning of the text, maybe nothing or all, was written, some of
--- which may be flushed, and then a write or flush failed
+-- text was written and flushed; for an empty text nothing was done. If it is (true), a beginning of the text, maybe
+-- nothing or all, was written, some of which may be flushed, and then a write or flush failed
 abbrev pub LogsText : Bool → List ℕ → ToOutput → Type 0
-LogsText false text o = o ≡ all_of text
+LogsText false text o = o ≡ all_for text text
 LogsText true text o = Begins (o.flushed ++ o.left) text × (o.failed ≡ true)
 
 -- from its state `l` to `l'` a log was given this text to write. A log that is broken in `l` stays as it is; any other

@@ -42,6 +42,7 @@ fn shown_byte(byte: u8) -> u8
 // Writes and flushes a text, unless a call on the log failed before (`broken`). Returns whether one has failed, before
 // or now.
 fn send_unless_broken<E: Output>(output: &mut E, text: &[u8], broken: bool) -> bool
+    requires { 0 < length text.now }
     ensures { Logged (log_seen (E.seen output.old) broken) (log_seen (E.seen output.new) result) text.now }
 {
     if broken {
@@ -64,6 +65,7 @@ impl Pending {
 
     // Writes and flushes the bytes that wait, unless a call on the log failed before; none waits after that.
     fn flush_pending<E: Output>(&mut self, output: &mut E)
+        requires { 0 < array_vec_len self.old.bytes }
         ensures adds { Adds (E.seen output.old) (E.seen output.new) self.old self.new [] }
         ensures empty { array_vec_len self.new.bytes ≡ 0 }
         ensures nothing { self.new.bytes.items ≡ [] }
@@ -82,8 +84,9 @@ impl Pending {
         }
     }
 
-    // Writes and flushes the bytes that wait, if this byte ends a line.
+    // Writes and flushes the bytes that wait, if this byte, the last of them, ends a line.
     fn end_line<E: Output>(&mut self, output: &mut E, byte: u8)
+        requires { 0 < array_vec_len self.old.bytes }
         ensures adds { Adds (E.seen output.old) (E.seen output.new) self.old self.new [] }
         ensures ended { byte ≡ new_line → self.new.bytes.items ≡ [] }
     {

@@ -1,25 +1,18 @@
 -- For laws of whole runs: what passed at the devices, put together from what the calls did.
-use Rattle.std.proofs.Common.{◌≡◌, ℕ, ◌+◌, ◌-◌, ◌^◌, min, Bool, true, false, List, [], ◌++◌, length, take, if◌then◌else◌, zero, suc, refl, sym, ap, subst, ◌∙◌, arith, append_assoc, append-nil}
+use mathlib.Core.Bool.{or-true}
+use Rattle.std.proofs.Common.{◌≡◌, ℕ, ◌-◌, ◌||◌, Bool, true, false, List, [], ◌∷◌, ◌++◌, length, take, if◌then◌else◌, suc, refl, sym, ap, subst, ◌∙◌, append_assoc, append-nil, arith}
+use Rattle.std.specs.Prelude.{nat_lt}
+use Rattle.std.proofs.lemmas.Bool.Decides.{nat_tests}
 use Rattle.std.specs.Io.KnownBytes.{Appends}
 use Rattle.byte_devices.specs.Devices.{InputState, OutputState, Took, TookThenFailed, Sent, saturating_increment, saturating_add}
-use Rattle.byte_devices.specs.Transfers.{FromInput, ToOutput, OutputTook, all_of, all_unflushed}
-use Rattle.byte_devices.proofs.shared.Devices.{add_some, appends_more, appends_none}
+use Rattle.byte_devices.specs.Transfers.{FromInput, ToOutput, OutputTook, nothing, all_of, all_for, all_unflushed}
+use Rattle.byte_devices.proofs.shared.Devices.{appends_more, appends_none}
 
 -- ---- counts
 
 -- the count `n`, such as of a device's failures; or, if `rises` is true, one more, but at most 2 ^ 64 - 1
 abbrev pub saturating_increment_if : Bool → ℕ → ℕ
 saturating_increment_if rises n = if rises then saturating_increment n else n
-
-none_left : min (length {A = ℕ} []) (2 ^ 64 - 1) ≡ 0
-none_left = omega arith
-
--- a count from 0 on
-pub added_to_0 : (k : ℕ) → saturating_add 0 k ≡ min k (2 ^ 64 - 1)
-added_to_0 zero = omega arith
-added_to_0 (suc k) =
-    let e : 0 + suc k ≡ suc k = omega arith in
-    add_some 0 (suc k) (omega arith) ∙ ap (λ v. min v (2 ^ 64 - 1)) e
 
 -- ---- the input
 
@@ -30,67 +23,131 @@ came r' text ended failed =
 
 -- ---- the output
 
--- what went to an output that took a beginning of a text, and then failed
-abbrev pub broke : List ℕ → List ℕ → ToOutput
-broke before start = record { flushed = before; left = start; failed = true }
+-- what went to an output that took what `before` says, then a beginning of a text, and then failed
+abbrev pub broke : ToOutput → List ℕ → ToOutput
+broke before start = record before { left = before.left ++ start; failed = true }
+
+-- what went to an output that took this text and left nothing unflushed; a flush succeeded if the flag is true
+abbrev flushed_if : Bool → List ℕ → ToOutput
+flushed_if flushes text = record { flushed = text; left = []; any_flush = flushes; failed = false }
+
+-- `o` after `text`, which was flushed if `flushes` is true
+abbrev after_text : Bool → List ℕ → ToOutput → ToOutput
+after_text flushes text o = record o { flushed = text ++ o.flushed; any_flush = flushes || o.any_flush }
 
 -- the bytes of a text that was flushed
-flushed_bytes : (w w' : OutputState) (text : List ℕ) → OutputTook w w' (all_of text)
+flushed_bytes : (w w' : OutputState) (flushes : Bool) (text : List ℕ) → OutputTook w w' (flushed_if flushes text)
     → Appends w.known_bytes w'.known_bytes text
-flushed_bytes w w' text h = subst (Appends w.known_bytes w'.known_bytes) (append-nil text) h.bytes
+flushed_bytes w w' flushes text h = subst (Appends w.known_bytes w'.known_bytes) (append-nil text) h.bytes
 
 all_bytes : (w w' : OutputState) (text : List ℕ) → Appends w.known_bytes w'.known_bytes text
     → Appends w.known_bytes w'.known_bytes (text ++ [])
 all_bytes w w' text h = subst (Appends w.known_bytes w'.known_bytes) (sym (append-nil text)) h
 
-pub unflushed_by : (n m : ℕ) (text : List ℕ) → n ≡ 0 → m ≡ saturating_add n (length text)
-    → m ≡ min (length text) (2 ^ 64 - 1)
-unflushed_by n m text h e = e ∙ ap (λ v. saturating_add v (length text)) h ∙ added_to_0 (length text)
-
 -- an output that was left as it was
-pub took_nothing : (w : OutputState) → OutputTook w w (all_of [])
-took_nothing w =
-    record { bytes = appends_none w.known_bytes; unflushed = λ none. none ∙ sym none_left; failures = refl }
+pub took_nothing : (w : OutputState) → OutputTook w w nothing
+took_nothing w = record { bytes = appends_none w.known_bytes; flushed = λ e. refl; unflushed = refl; failures = refl }
 
 -- a text was sent
 pub took_all : (w w' : OutputState) (text : List ℕ) → Sent w w' text → OutputTook w w' (all_of text)
 took_all w w' text h = record {
   bytes = all_bytes w w' text h.bytes;
-  unflushed = λ none. h.flushed ∙ sym none_left;
+  flushed = λ e. absurd cc;
+  unflushed = h.flushed;
   failures = h.failures;
 }
 
 -- a text was written, and nothing flushed
 pub took_unflushed : (w w' : OutputState) (text : List ℕ) → Took w w' text → OutputTook w w' (all_unflushed text)
-took_unflushed w w' text h = record {
-  bytes = h.bytes;
-  unflushed = λ none. unflushed_by w.unflushed w'.unflushed text none h.unflushed;
-  failures = h.failures;
-}
+took_unflushed w w' text h =
+    record { bytes = h.bytes; flushed = λ e. refl; unflushed = h.unflushed; failures = h.failures }
 
 -- a beginning of a text was written, and then a call failed
-pub took_some : (w w' : OutputState) (start : List ℕ) → TookThenFailed w w' start → OutputTook w w' (broke [] start)
-took_some w w' start h = record {
-  bytes = h.bytes;
-  unflushed = λ none. unflushed_by w.unflushed w'.unflushed start none h.unflushed;
-  failures = h.failures;
-}
+pub took_some : (w w' : OutputState) (start : List ℕ) → TookThenFailed w w' start → OutputTook w w' (broke nothing start)
+took_some w w' start h =
+    record { bytes = h.bytes; flushed = λ e. refl; unflushed = h.unflushed; failures = h.failures }
 
--- more went to an output after a text that was flushed
-pub took_more : (a b c : OutputState) (x : List ℕ) (o : ToOutput) → OutputTook a b (all_of x) → OutputTook b c o
-    → OutputTook a c (record o { flushed = x ++ o.flushed })
-took_more a b c x o h k = record {
+-- ---- one after the other
+
+neither : {P : Type 0} (x y : Bool) → (x || y) ≡ false → (x ≡ false → y ≡ false → P) → P
+neither true y e p = absurd cc
+neither false y e p = p refl e
+
+-- what is unflushed at last
+left_at_last : (x y : Bool) (k l m n : ℕ) → l ≡ (if x then 0 else k)
+    → m ≡ saturating_add (if y then 0 else l) n → m ≡ saturating_add (if x || y then 0 else k) n
+left_at_last true true k l m n e f = f
+left_at_last true false k l m n e f = f ∙ ap (λ v. saturating_add v n) e
+left_at_last false true k l m n e f = f
+left_at_last false false k l m n e f = f ∙ ap (λ v. saturating_add v n) e
+
+took_then : (a b c : OutputState) (flushes : Bool) (x : List ℕ) (o : ToOutput) → OutputTook a b (flushed_if flushes x)
+    → OutputTook b c o → OutputTook a c (after_text flushes x o)
+took_then a b c flushes x o h k = record {
   bytes = subst (Appends a.known_bytes c.known_bytes) (sym (append_assoc x o.flushed o.left))
-      (appends_more a.known_bytes b.known_bytes c.known_bytes x (o.flushed ++ o.left) (flushed_bytes a b x h) k.bytes);
-  unflushed = λ none. k.unflushed (h.unflushed none ∙ none_left);
+      (appends_more a.known_bytes b.known_bytes c.known_bytes x (o.flushed ++ o.left) (flushed_bytes a b flushes x h)
+      k.bytes);
+  flushed = λ e. neither flushes o.any_flush e (λ none still.
+      ap (λ (v : List ℕ). v ++ o.flushed) (h.flushed none) ∙ k.flushed still);
+  unflushed = left_at_last flushes o.any_flush a.unflushed b.unflushed c.unflushed (length o.left) h.unflushed
+      k.unflushed;
   failures = k.failures ∙ ap (saturating_increment_if o.failed) h.failures;
 }
 
--- a beginning of a text was written after one that was flushed, and then a call failed
-pub took_some_more : (w w' w'' : OutputState) (x start : List ℕ) → OutputTook w w' (all_of x)
-    → TookThenFailed w' w'' start → OutputTook w w'' (broke x start)
-took_some_more w w' w'' x start h k = record {
-  bytes = appends_more w.known_bytes w'.known_bytes w''.known_bytes x start (flushed_bytes w w' x h) k.bytes;
-  unflushed = λ none. unflushed_by w'.unflushed w''.unflushed start (h.unflushed none ∙ none_left) k.unflushed;
-  failures = k.failures ∙ ap saturating_increment h.failures;
-}
+above_0 : (n : ℕ) → nat_lt 0 (suc n) ≡ true
+above_0 n = grind (arith, nat_tests)
+
+-- whether there are items, of two lists
+some_of_both : {A : Type 0} (xs ys : List A)
+    → (nat_lt 0 (length xs) || nat_lt 0 (length ys)) ≡ nat_lt 0 (length (xs ++ ys))
+some_of_both [] ys = refl
+some_of_both (x ∷ xs) ys =
+    ap (λ (b : Bool). b || nat_lt 0 (length ys)) (above_0 (length xs)) ∙ sym (above_0 (length (xs ++ ys)))
+
+-- where there is an item, a flush succeeded
+pub some_for : {A : Type 0} (items : List A) (item : A) (more : List A) (text : List ℕ)
+    → all_of text ≡ all_for (items ++ item ∷ more) text
+some_for [] item more text = ap (λ (b : Bool). flushed_if b text) (sym (above_0 (length more)))
+some_for (x ∷ items) item more text =
+    ap (λ (b : Bool). flushed_if b text) (sym (above_0 (length (items ++ item ∷ more))))
+
+-- more went to an output after a text that was flushed for these items
+pub took_more : {A : Type 0} (a b c : OutputState) (items : List A) (x : List ℕ) (o : ToOutput)
+    → OutputTook a b (all_for items x) → OutputTook b c o
+    → OutputTook a c (after_text (nat_lt 0 (length items)) x o)
+took_more a b c items x o h k = took_then a b c (nat_lt 0 (length items)) x o h k
+
+-- texts for more items
+pub took_each : {A : Type 0} (a b c : OutputState) (items more : List A) (x y : List ℕ)
+    → OutputTook a b (all_for items x) → OutputTook b c (all_for more y)
+    → OutputTook a c (all_for (items ++ more) (x ++ y))
+took_each a b c items more x y h k =
+    subst (λ (flushes : Bool). OutputTook a c (flushed_if flushes (x ++ y))) (some_of_both items more)
+    (took_then a b c (nat_lt 0 (length items)) x (all_for more y) h k)
+
+-- a text was sent after those for these items
+pub took_last : {A : Type 0} (a b c : OutputState) (items : List A) (x y : List ℕ)
+    → OutputTook a b (all_for items x) → Sent b c y → OutputTook a c (all_of (x ++ y))
+took_last a b c items x y h k =
+    subst (λ (flushes : Bool). OutputTook a c (flushed_if flushes (x ++ y))) (or-true (nat_lt 0 (length items)))
+    (took_then a b c (nat_lt 0 (length items)) x (all_of y) h (took_all b c y k))
+
+-- a text was sent for one more item
+pub took_one_more : {A : Type 0} (a b c : OutputState) (items : List A) (item : A) (x y : List ℕ)
+    → OutputTook a b (all_for items x) → Sent b c y → OutputTook a c (all_for (items ++ item ∷ []) (x ++ y))
+took_one_more a b c items item x y h k =
+    subst (OutputTook a c) (some_for items item [] (x ++ y)) (took_last a b c items x y h k)
+
+-- a beginning of a text was written after those for these items, and then a call failed
+pub took_some_more : {A : Type 0} (w w' w'' : OutputState) (items : List A) (x start : List ℕ)
+    → OutputTook w w' (all_for items x) → TookThenFailed w' w'' start → OutputTook w w'' (broke (all_for items x) start)
+took_some_more w w' w'' items x start h k = took_then_broke (nat_lt 0 (length items)) h
+  where
+    took_then_broke : (flushes : Bool) → OutputTook w w' (flushed_if flushes x)
+        → OutputTook w w'' (broke (flushed_if flushes x) start)
+    took_then_broke flushes h = record {
+      bytes = appends_more w.known_bytes w'.known_bytes w''.known_bytes x start (flushed_bytes w w' flushes x h) k.bytes;
+      flushed = h.flushed;
+      unflushed = k.unflushed ∙ ap (λ v. saturating_add v (length start)) h.unflushed;
+      failures = k.failures ∙ ap saturating_increment h.failures;
+    }

@@ -6,7 +6,7 @@ use Rattle.chess_base.specs.Letters.{new_line}
 use Rattle.chess_base.specs.Men.{other}
 use Rattle.chess_base.specs.declared.man.Colour.{Colour}
 use Rattle.byte_devices.specs.Devices.{OutputState, CutShort, Sent}
-use Rattle.byte_devices.specs.Transfers.{ToOutput, OutputTook, all_of}
+use Rattle.byte_devices.specs.Transfers.{ToOutput, OutputTook, all_for}
 use Rattle.chess_game.specs.Results.{same_outcome}
 use Rattle.chess_game.specs.declared.results.Outcome.{Outcome}
 use Rattle.chess_game.specs.declared.results.Outcome.TheVariants.{Draw, Unfinished}
@@ -99,7 +99,7 @@ abbrev pub HasPlayed : GamesPlan → GamesPassing → GamesPassing → OutputSta
     → Result GamesPlayed GamesFault → Type 0
 HasPlayed plan p p' w w' l l' (Ok played) =
     (games : List GameRecord) × AreAllGames plan games played.fault × (played.score ≡ score_of games)
-    × OutputTook w w' (all_of (game_texts plan games)) × LogsGames plan.log l l' games
+    × OutputTook w w' (all_for games (game_texts plan games)) × LogsGames plan.log l l' games
     × StepsPass p p' (games_steps plan games)
 HasPlayed plan p p' w w' l l' (Err WriteFailed) = (games : List GameRecord) × (unwritten : GameRecord)
     × PlaysThese plan (Err WriteFailed) games (Some unwritten)

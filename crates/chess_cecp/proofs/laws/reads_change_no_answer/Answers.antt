@@ -1,11 +1,10 @@
 -- What was read is the beginning of the known bytes (KnownInputs.are_first), so their lines were answered
 -- (KnownInputs.answers_input).
-use Rattle.chess_cecp.specs.Session.{session_response}
 use Rattle.chess_cecp.proofs.KnownInputs.{are_first, answers_input}
 use Rattle.chess_cecp.proofs.laws.reads_change_no_answer.Goals as goal
 
 pub returns-clause-lines : goal.returns-clause-lines
-returns-clause-lines c = are_first
+returns-clause-lines g c = are_first
 
 pub returns-clause-answers : goal.returns-clause-answers
-returns-clause-answers c = λ s s2 end d d2 ran. answers_input session_response s s2 end d d2 ran
+returns-clause-answers g c = λ s s2 end d d2 ran. answers_input g.S.LineServer.respond s s2 end d d2 ran

@@ -8,4 +8,4 @@ pub returns : goal.returns
 returns g c =
     subst (λ (b : Bool). Logged (log_seen (g.E.Output.seen c.args.output.now) b)
     (log_seen (g.E.Output.seen c.send.new.writer) c.is_err.result) c.args.text.now) (sym c.if-broken.false)
-    (logs_sent _ _ c.send.result _ _ c.send.ensures c.is_err.ensures.value)
+    (logs_sent _ _ c.send.result _ _ c.requires c.send.ensures c.is_err.ensures.value)

@@ -1,0 +1,48 @@
+-- Each block that a match sends has a line.
+use Rattle.std.proofs.Common.{List, [], ◌∷◌, ◌++◌, if◌then◌else◌}
+use Rattle.chess_base.specs.declared.man.Colour.{Colour}
+use Rattle.chess_base.specs.declared.man.Colour.TheVariants.{White}
+use Rattle.chess_base.specs.Men.{other}
+use Rattle.chess_match.specs.Acts.{Act, Block, Sends, IsMatch, block_of, blocks_from, is_over}
+use Rattle.chess_match.specs.Effects.{Match, beginning, effect}
+use Rattle.chess_match.specs.Events.{Line, OutputEnds, FailsToRead, FailsToWrite}
+use Rattle.chess_match.specs.Lines.{SentLine}
+use Rattle.chess_match.specs.Rules.{Rules}
+use Rattle.chess_match.proofs.MatchCases.{by_cases}
+
+-- there is a line
+abbrev pub HasLine : List SentLine → Type 0
+HasLine [] = ⊥
+HasLine (l ∷ ls) = Unit {0}
+
+-- each of these blocks has a line
+abbrev AreFilled : List Block → Type 0
+AreFilled [] = Unit {0}
+AreFilled (b ∷ due) = HasLine b.lines × AreFilled due
+
+-- each block that these acts sent has a line
+abbrev pub SendFilled : List Act → Type 0
+SendFilled [] = Unit {0}
+SendFilled (Sends b ∷ H) = HasLine b.lines × SendFilled H
+SendFilled (_ ∷ H) = SendFilled H
+
+two_filled : (S O : Colour) (x y : List SentLine) → AreFilled (block_of S x ++ block_of O y)
+two_filled S O [] [] = tt
+two_filled S O [] (m ∷ ms) = (tt, tt)
+two_filled S O (l ∷ ls) [] = (tt, tt)
+two_filled S O (l ∷ ls) (m ∷ ms) = (tt, (tt, tt))
+
+due_filled : (first : Colour) (to : Colour → List SentLine) → AreFilled (blocks_from first to)
+due_filled first to = two_filled first (other first) (to first) (to (other first))
+
+pub blocks_filled : (r : Rules) (H : List Act) (final : Match) → IsMatch r H final → SendFilled H
+blocks_filled r H final g = by_cases r final (λ m due H. AreFilled due → SendFilled H) (record {
+  sends = λ m end b due H p f. (f.0, p f.1);
+  fails = λ m end b due H on p f. p (due_filled White (effect r m (FailsToWrite b.to)).to);
+  fails_late = λ m end b due H over p f. p f.1;
+  reads = λ m end c t n H aw p f. p (due_filled (if is_over (effect r m (Line c t n)).after.phase then White else c)
+      (effect r m (Line c t n)).to);
+  opens = λ m end c n H opening p f. p tt;
+  ends = λ m end c H aw p f. p (due_filled White (effect r m (OutputEnds c)).to);
+  read_fails = λ m end c H aw p f. p (due_filled White (effect r m (FailsToRead c)).to);
+}) (λ over f. tt) beginning.after (blocks_from White beginning.to) H g (due_filled White beginning.to)
