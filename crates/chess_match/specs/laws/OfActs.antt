@@ -259,8 +259,8 @@ MovesAreSent r H m = (O : Colour) → (rest : List (List ℕ)) × (length rest �
 -- the engines' lines fix the moves that each engine is sent, but for the last: there are moves `ms`, which the two
 -- engines' `move` lines denote in turn (all of them, or all but the last). Each side `O` is sent those of the other
 -- side, each once, in order, in SAN or by squares, as its handshake asked for; a block that could not be sent counts.
--- `rest` is what `O` was not sent: at most the last of them; and nothing, if the match is whole (`whole`) and didn't end
--- because writing to `O` failed
+-- `rest` is what `O` was not sent: at most the last of them; and nothing, if the match is whole (`whole`) and didn't
+-- end because writing to `O` failed
 abbrev pub EachIsSentOthersMoves : Bool → Rules → List Act → Match → Type 0
 EachIsSentOthersMoves whole r H m =
     (ms : List Move)
@@ -269,8 +269,8 @@ EachIsSentOthersMoves whole r H m =
     × (whole ≡ true → ended_by_write_to O m.phase ≡ false → rest ≡ [])
     × (moves_sent (lines_given O H) ++ rest ≡ others_moves r O (items_said (lines_read O H)) ms))
 
--- the blocks for each side `O` have all moves of the other side, each once and in order, if the match didn't end because
--- writing to `O` failed. The last block, with the end lines, may have failed
+-- the blocks for each side `O` have all moves of the other side, each once and in order, if the match didn't end
+-- because writing to `O` failed. The last block, with the end lines, may have failed
 abbrev pub AllMovesAreGiven : Rules → List Act → Match → Type 0
 AllMovesAreGiven r H m = (O : Colour) → ended_by_write_to O m.phase ≡ false
     → moves_sent (lines_given O H) ≡ others_moves r O (m.seat O).items m.played
