@@ -4,9 +4,9 @@ The functions take the counts of game pairs: in how many pairs the first engine 
 games of a pair begin with the same opening, with colours changed, and so are not independent; the pairs are. With
 `scores` they take counts of other kinds too, such as those of single games lost, drawn and won.
 
-Sources: A. Elo, The Rating of Chessplayers; A. Wald, Sequential Tests of Statistical Hypotheses (1945); Michel Van den
-Bergh's notes on the GSPRT, by which Stockfish's testing framework computes the log-likelihood ratio; and cutechess-cli
-and fastchess, whose error and likelihood of superiority these are.
+Sources: A. Wald, Sequential Tests of Statistical Hypotheses (1945), for the SPRT and its bounds; Michel Van den Bergh's
+notes on the GSPRT for multinomial distributions, on which Stockfish's testing framework is based, for the log-likelihood
+ratio; and fastchess, for the error and the likelihood of superiority from game pairs.
 """
 
 import math

@@ -358,7 +358,9 @@ def table_of(names, faults, sprt, found):
 def is_decided(folder, lists):
     """Says whether the games of a folder decide the test of these lists."""
     names = kept_names(folder)
-    return bool(names and table_of(names, lists.faults, lists.sprt, outcomes(folder).values()).accepted())
+    if not lists.sprt or not names:
+        return False
+    return table_of(names, lists.faults, lists.sprt, outcomes(folder).values()).accepted() is not None
 
 
 class Book:
