@@ -13,12 +13,14 @@ from pathlib import Path
 
 import needed
 import sessions
+from elo import Sprt
 
 GIVEN = ("--white", "--black", "--games", "--fen", "--log")
 DEFAULT_LEVEL = "40 5 0"
 MOST_NAME = 60  # characters
 LONG_GAME = 100  # The moves of a game that --timeout should allow.
 GAMES_HEAD = "game\tround\twhite\tblack"
+CHANGEABLE = ("--faults=", "--sprt=")  # the options that a later start may change
 
 
 @dataclass
@@ -38,13 +40,15 @@ class Engine:
 
 @dataclass
 class Lists:
-    """What a tournament is: its engines, openings (as FENs), options of the match, and whether it is a gauntlet."""
+    """What a tournament is: its engines, openings (as FENs), options of the match, whether it is a gauntlet, how faults
+    count, and the test that ends it, if there is one."""
 
     engines: list
     openings: list
     options: list
     is_gauntlet: bool
     faults: str
+    sprt: Sprt | None = None
 
     def programs(self):
         return sorted({engine.program for engine in self.engines})
@@ -52,6 +56,10 @@ class Lists:
     def kept_options(self):
         """Returns the options that a later start must have too."""
         return (["--gauntlet"] if self.is_gauntlet else []) + without_date(self.options)
+
+    def changeable_options(self):
+        """Returns the options of the CHANGEABLE kinds."""
+        return [f"--faults={self.faults}"] + ([f"--sprt={self.sprt}"] if self.sprt else [])
 
 
 @dataclass
@@ -219,6 +227,12 @@ def judge_timeout(timeout, options):
         report(f"warning: --timeout {timeout} is less than {takes}; who is to move when a game is ended loses it")
 
 
+def judge_sprt(lists, engines_path):
+    """Refuses a test of more than two engines."""
+    if lists.sprt and len(lists.engines) > 2:
+        refuse([f"{engines_path}: --sprt takes two engines, not {len(lists.engines)}"])
+
+
 def read_lists(engines_path, openings_path, options, is_gauntlet, faults, with_hosts):
     """Reads and judges all lists."""
     engines, refusals = read_engines(engines_path, with_hosts)
@@ -243,10 +257,25 @@ def kept_games(folder):
 
 
 def kept_options(folder):
-    """Returns the options that a folder keeps, and how it counts faults."""
-    options = lines(folder / "options.txt")
-    faults = [option.removeprefix("--faults=") for option in options if option.startswith("--faults=")]
-    return [option for option in options if not option.startswith("--faults=")], (faults or ["loss"])[0]
+    """Returns the options that a folder keeps and that a later start must have too."""
+    return [option for option in lines(folder / "options.txt") if not option.startswith(CHANGEABLE)]
+
+
+def kept_value(folder, name):
+    """Returns the value of an option that a folder keeps, or None."""
+    found = [option.removeprefix(name) for option in lines(folder / "options.txt") if option.startswith(name)]
+    return found[0] if found else None
+
+
+def kept_faults(folder):
+    """Returns how a folder's table counts faults."""
+    return kept_value(folder, "--faults=") or "loss"
+
+
+def kept_sprt(folder):
+    """Returns the test of a folder's tournament, or None."""
+    value = kept_value(folder, "--sprt=")
+    return Sprt(*map(float, value.split())) if value else None
 
 
 def judge_folder(folder):
@@ -270,7 +299,7 @@ def judge_kept(folder, lists, engines_path, openings_path):
     """Refuses lists and options with which this folder was not begun."""
     refusals = differing(folder, "engines.txt", engines_path, [engine.line for engine in lists.engines])
     refusals += differing(folder, "openings.txt", openings_path, lists.openings)
-    options, _ = kept_options(folder)
+    options = kept_options(folder)
     if (folder / "options.txt").exists() and options != lists.kept_options():
         refusals.append(f"{folder} was begun with other options: {shlex.join(options) or 'none'}")
     refuse(refusals)
@@ -312,7 +341,7 @@ def keep(folder, lists, games):
     write_lines(folder / "names.txt", [engine.name for engine in lists.engines])
     write_lines(folder / "engines.txt", [engine.line for engine in lists.engines])
     write_lines(folder / "openings.txt", lists.openings)
-    write_lines(folder / "options.txt", [f"--faults={lists.faults}", *lists.kept_options()])
+    write_lines(folder / "options.txt", [*lists.changeable_options(), *lists.kept_options()])
     rows = [f"{game.number}\t{game.round}\t{game.white}\t{game.black}" for game in games]
     write_lines(folder / "games.tsv", [GAMES_HEAD, *rows])
 

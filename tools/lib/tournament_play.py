@@ -275,7 +275,9 @@ def try_engines(hosts, lists, seconds):
 class Player:
     """Plays games on hosts, with a thread for each game that a host plays at a time. A game whose host fails is played
     again, at most `most_tries` times, and on another host if there is one; a host that can't play any more is given up,
-    and so is one on which `most_tries` games in a row were not played, if there is another one."""
+    and so is one on which `most_tries` games in a row were not played, if there is another one. Once the test of the
+    tournament accepts a hypothesis, no game begins and the running ones are called off. Those that were over all the
+    same are kept; if the test accepts nothing with them any more, games are played again."""
 
     def __init__(self, book, lists, hosts, timeout, most_tries, date):
         self.book, self.folder, self.lists, self.hosts = book, book.folder, lists, hosts
@@ -284,7 +286,7 @@ class Player:
         self.changed, self.workers = threading.Condition(), 0
 
     def play(self, games):
-        """Plays these games, until all are played, no host is left, or a signal ends the script."""
+        """Plays these games, until all are played, a test is decided, no host is left, or a signal ends the script."""
         self.queue.extend(games)
         threads = [threading.Thread(target=self.serve, args=[host]) for host in self.hosts for _ in range(host.slots)]
         self.workers = len(threads)
@@ -327,7 +329,7 @@ class Player:
     def next_game(self, host):
         """Returns the next game for a host; None if there is none, nor may be one."""
         with self.changed:
-            while not STOP.at and not host.fault and (self.queue or self.running):
+            while not STOP.at and not host.fault and self.may_begin():
                 game = next((game for game in self.queue if self.suits(host, game)), None)
                 if game:
                     self.queue.remove(game)
@@ -335,10 +337,15 @@ class Player:
                     return game
                 self.changed.wait()
 
+    def may_begin(self):
+        """Says whether a game may still begin, now or when a running one has ended."""
+        return self.running or (self.queue and not self.book.accepted)
+
     def suits(self, host, game):
         """Says whether a host should play a game now. After it failed there, a host where it did not should play it."""
         others = (game.number not in other.failed for other in self.others(host))
-        return not host.is_suspect and not (game.number in host.failed and any(others))
+        is_wanted = not self.book.accepted and not host.is_suspect
+        return is_wanted and not (game.number in host.failed and any(others))
 
     def others(self, host):
         """Returns the other hosts that were not given up."""
@@ -352,12 +359,13 @@ class Player:
         path = self.folder / "running" / str(game.number)
         with open(path, "wb") as output, open(path.with_name(f"{path.name}.err"), "wb") as errors:
             run = Run(words, output, errors)
-        run.deadline = time.monotonic() + self.timeout + EXTRA_SECONDS
+        run.is_called_off, run.deadline = False, time.monotonic() + self.timeout + EXTRA_SECONDS
         return run
 
     def play_game(self, host, game):
         """Waits for the end of a game, and keeps it; if it was not played, its host is asked whether it can play."""
-        self.running[game.number][0].wait()
+        run, _ = self.running[game.number]
+        run.wait()
         outcome = collect(self.folder, game, self.date)
         with self.changed:
             del self.running[game.number]
@@ -366,11 +374,19 @@ class Player:
                 host.failed.clear()
                 self.book.add(outcome)
                 show(self.book.line(outcome))
+                self.call_off()
+            elif run.is_called_off:
+                self.queue.appendleft(game)
             elif not STOP.at:
                 self.put_back(host, game)
             self.changed.notify_all()
-        if not outcome and not STOP.at:
+        if not outcome and not STOP.at and not run.is_called_off:
             self.ask_again(host)
+
+    def call_off(self):
+        """Ends the running games if the test is decided."""
+        for run, _ in self.running.values() if self.book.accepted else ():
+            run.is_called_off, run.deadline = True, time.monotonic()
 
     def put_back(self, host, game):
         """Puts a game that was not played back into the queue, unless it was tried often enough."""

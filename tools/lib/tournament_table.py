@@ -9,7 +9,8 @@ from collections import Counter
 from dataclasses import dataclass
 
 import match_records
-from tournament_lists import Game, kept_games, kept_names, kept_options, lines, session, write_lines
+import tournament_pairs
+from tournament_lists import Game, kept_faults, kept_games, kept_names, kept_sprt, lines, session, write_lines
 
 STATUS = re.compile(r"(?m)^tournament: status (\d+)$")
 STILL_RUNNING = re.compile(r"(?m)^tournament: still running: (first|second)$")
@@ -266,22 +267,25 @@ class Row:
         return cells + [sum(self.faults.values()), *(self.faults[kind] for kind in kinds), self.time, self.rules]
 
 
-def aligned(head, body):
-    """Returns the lines of a table: the second column is set left, all others right."""
+def aligned(head, body, left):
+    """Returns the lines of a table: the columns with the indices `left` are set left, all others right."""
     rows = [[str(cell) for cell in row] for row in [head, *body]]
     widths = [max(len(row[column]) for row in rows) for column in range(len(head))]
     texts = []
     for row in rows:
-        cells = [cell.ljust(width) if i == 1 else cell.rjust(width) for i, (cell, width) in enumerate(zip(row, widths))]
+        sized = enumerate(zip(row, widths))
+        cells = [cell.ljust(width) if i in left else cell.rjust(width) for i, (cell, width) in sized]
         texts.append("  ".join(cells).rstrip())
     return texts
 
 
 class Table:
-    """The table of a tournament: a row for each engine, the ends of the games, and what each fault was."""
+    """The table of a tournament: a row for each engine, the game pairs, the ends of the games, what each fault was, and
+    what a test has decided."""
 
-    def __init__(self, names, faults):
+    def __init__(self, names, faults, sprt):
         self.faults, self.rows = faults, {name: Row(name) for name in names}
+        self.pairs, self.sprt = tournament_pairs.AllPairs(names), sprt
         self.ends, self.faulty = Counter(), []
 
     def add(self, outcome):
@@ -296,7 +300,8 @@ class Table:
             self.add_points(outcome, points)
 
     def add_points(self, outcome, points):
-        """Counts the points of a game for both engines, and what it was lost by."""
+        """Counts the points of a game for both engines and in their pairs, and what it was lost by."""
+        self.pairs.add(outcome.game, points)
         white, black = self.rows[outcome.game.white], self.rows[outcome.game.black]
         white.add(black.engine, points)
         black.add(white.engine, 1 - points)
@@ -315,38 +320,67 @@ class Table:
             against = ("{:g}/{}".format(*row.against.get(other.engine, (0, 0))) for other in ordered)
             cross = ["-" if other is row else cell for other, cell in zip(ordered, against)]
             body.append([number, row.engine, *row.cells(kinds), *cross])
-        return aligned([*head, *range(1, len(ordered) + 1)], body)
+        return aligned([*head, *range(1, len(ordered) + 1)], body, left=[1])
+
+    def accepted(self):
+        """Returns the hypothesis that the test accepts, or None."""
+        return self.sprt and self.sprt.accepted(self.pairs.of_first_two().counts)
+
+    def ratio_text(self):
+        """Returns the log-likelihood ratio of the test, in words."""
+        return tournament_pairs.ratio_text(self.sprt, self.pairs.of_first_two().counts)
 
     def lines(self, total):
         """Returns the lines of the whole table."""
         kinds = ", ".join(f"{kind} {number}" for kind, number in self.ends.most_common())
-        text = [*self.standings(), "", f"{self.ends.total()} of {total} games" + (f": {kinds}" if kinds else "")]
+        text = [*self.standings(), ""]
+        if pairs := self.pairs.rows():
+            text += [*aligned(tournament_pairs.HEAD, pairs, left=[0, 1]), ""]
+        text.append(f"{self.ends.total()} of {total} games" + (f": {kinds}" if kinds else ""))
         for outcome in self.faulty[:MOST_FAULT_LINES]:
             game = outcome.game.number
             text.append(f"game {game}: {' and '.join(outcome.at_fault())}: {outcome.reason} (games/{game}.err)")
         if len(self.faulty) > MOST_FAULT_LINES:
             text.append(f"and {len(self.faulty) - MOST_FAULT_LINES} more faults: see results.tsv")
+        if self.sprt:
+            text += ["", f"SPRT of Elo {self.sprt.elo0:g} against {self.sprt.elo1:g}: {self.ratio_text()}"]
         return text
+
+
+def table_of(names, faults, sprt, found):
+    """Returns the table of outcomes, counted in their order."""
+    table = Table(names, faults, sprt)
+    for outcome in found:
+        table.add(outcome)
+    return table
+
+
+def is_decided(folder, lists):
+    """Says whether the games of a folder decide the test of these lists."""
+    names = kept_names(folder)
+    if not lists.sprt or not names:
+        return False
+    return table_of(names, lists.faults, lists.sprt, outcomes(folder).values()).accepted() is not None
 
 
 class Book:
     """What a folder keeps of the games that ended: results.tsv, games.pgn, rated.pgn and table.txt. Each is written on
-    as a game ends, so that nothing is lost however the script ends."""
+    as a game ends, so that nothing is lost however the script ends. `accepted` is the hypothesis that the test accepts
+    by these games, or None."""
 
     FILES = ("results.tsv", "games.pgn", "rated.pgn", "table.txt")
 
     def __init__(self, folder, total):
         self.folder, self.total = folder, total
-        self.faults = kept_options(folder)[1]
+        self.faults, self.sprt = kept_faults(folder), kept_sprt(folder)
         self.found = outcomes(folder)
         self.count()
 
     def count(self):
         """Makes the table of the games in the order of their numbers."""
         self.found = dict(sorted(self.found.items()))
-        self.counted = Table(kept_names(self.folder), self.faults)
-        for outcome in self.found.values():
-            self.counted.add(outcome)
+        self.counted = table_of(kept_names(self.folder), self.faults, self.sprt, self.found.values())
+        self.accepted = self.counted.accepted()
 
     def write_all(self):
         """Writes the files anew, with the games in the order of their numbers."""
@@ -368,6 +402,7 @@ class Book:
         """Adds the outcome of a game that has just ended."""
         self.found[outcome.game.number] = outcome
         self.counted.add(outcome)
+        self.accepted = self.counted.accepted()
         for name, text in zip(("games.pgn", "rated.pgn"), self.pgn(outcome)):
             with open(self.folder / name, "a", encoding="latin-1") as file:
                 file.write(text)
@@ -385,7 +420,8 @@ class Book:
         """Returns the line that is shown when a game ends."""
         game = outcome.game
         result = f"{game.white} - {game.black} {outcome.counts(self.faults)} {outcome.reason}"
-        return f"{len(self.found)}/{self.total} {result}"
+        ratio = f", {self.counted.ratio_text()}" if self.sprt else ""
+        return f"{len(self.found)}/{self.total} {result}{ratio}"
 
 
 def verified(folder, name):
