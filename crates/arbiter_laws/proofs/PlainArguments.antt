@@ -11,7 +11,7 @@ use Rattle.arbiter_cli.specs.declared.plan.Plan.{Plan}
 use Rattle.arbiter_cli.specs.declared.plan.VerifyPlan.{VerifyPlan}
 use Rattle.arbiter_cli.specs.declared.plan.Plan.TheVariants.{Session, Verify, Stub, Match}
 use Rattle.byte_devices.specs.Devices.{InputState}
-use Rattle.byte_devices.specs.Transfers.{Devices, InputGave, Ran, all_of}
+use Rattle.byte_devices.specs.Transfers.{Devices, InputGave, Ran, nothing}
 use Rattle.byte_devices.proofs.shared.Transfers.{came, took_nothing}
 use Rattle.byte_devices.proofs.shared.Devices.{consumes_none}
 use Rattle.arbiter_laws.specs.Programs.{PlainArgumentsAreFollowed, ServesSession, VerifiesGames}
@@ -77,7 +77,7 @@ not_begun : (options : VerifyOptions) (d d' : Devices) → d'.input ≡ d.input 
 not_begun options d d' same kept =
     let here : Ran (Verifies options (Err verifying.NoMemory)) d d = (
       came d.input [] false false,
-      all_of [],
+      nothing,
       nothing_read d.input,
       took_nothing d.output,
       (refl, (λ e. absurd (cc)), refl),

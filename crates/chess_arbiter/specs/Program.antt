@@ -8,7 +8,7 @@ use Rattle.arbiter_cli.specs.declared.plan.Plan.TheVariants.{Session, Verify, St
 use Rattle.arbiter_cli.specs.declared.fault.WordsFault.{WordsFault}
 use Rattle.arbiter_cli.specs.declared.fault.WordsFault.TheVariants as faults
 use Rattle.byte_devices.specs.Devices.{OutputState}
-use Rattle.byte_devices.specs.Transfers.{ToOutput, Devices, OutputTook, Ran, all_of, BreaksOffIn}
+use Rattle.byte_devices.specs.Transfers.{ToOutput, Devices, OutputTook, Ran, nothing, all_of, BreaksOffIn}
 use Rattle.chess_cecp.specs.declared.run.End.{End}
 use Rattle.chess_cecp.specs.declared.run.Fault.{Fault}
 use Rattle.chess_cecp.specs.Held.{opened_session}
@@ -63,7 +63,7 @@ verify_status _ = 1
 abbrev pub WritesHelp : OutputState → OutputState → ℕ → Type 0
 WritesHelp w w' status =
     ((status ≡ 0) × (text : List ℕ) × OutputTook w w' (all_of text))
-    ⊎ ((status ≡ 1) × ((w' ≡ w) ⊎ ((text : List ℕ) × (o : ToOutput) × OutputTook w w' o × BreaksOffIn [] text o)))
+    ⊎ ((status ≡ 1) × ((w' ≡ w) ⊎ ((text : List ℕ) × (o : ToOutput) × OutputTook w w' o × BreaksOffIn nothing text o)))
 
 -- what is done with arguments for which there is no plan, by the fault that says why. `w` and `w'` are the output
 -- before and after; `status` is the exit status. What is written to the error output is not said here

@@ -22,6 +22,7 @@ mod Lifted
 mod KingSteps
 mod Starts
 mod ByKind
+mod Shields
 mod KindsCounted
 mod CastlingAtHome
 mod CastlingSafely

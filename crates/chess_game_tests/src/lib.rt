@@ -4,4 +4,6 @@
 #[cfg(test)]
 mod examples;
 #[cfg(test)]
+mod laws;
+#[cfg(test)]
 mod tests;

@@ -1,8 +1,8 @@
 -- What verifying reads and writes, from what its parts did to the devices.
-use Rattle.std.proofs.Common.{◌≡◌, ℕ, Bool, true, false, List, [], Result, Ok, Err, IsErr, refl, sym, subst, append-nil}
+use Rattle.std.proofs.Common.{◌≡◌, ℕ, Bool, true, false, List, Result, Ok, Err, IsErr, refl, sym, subst, append-nil}
 use Rattle.std.specs.Prelude.{IfErr}
 use Rattle.byte_devices.specs.Devices.{InputState, OutputState, Took, Sent, CutShort}
-use Rattle.byte_devices.specs.Transfers.{InputGave, Ran, all_of, all_unflushed}
+use Rattle.byte_devices.specs.Transfers.{InputGave, Ran, nothing, all_of, all_unflushed}
 use Rattle.byte_devices.proofs.shared.Transfers.{came, broke, took_nothing, took_all, took_unflushed, took_some}
 use Rattle.pgn_pieces.specs.Pieces.{known_pieces, HasRead, GaveThenFailed, IsCause}
 use Rattle.pgn_pieces.specs.declared.pieces.PieceFault.{PieceFault}
@@ -36,16 +36,16 @@ not_all_read : (options : VerifyOptions) (r r' : InputState) (w : OutputState) (
     → Ran (Verifies options (Err fault)) (record { input = r; output = w }) (record { input = r'; output = w })
 not_all_read options r r' w ReadFailed (text, broke_off) = (
   came r' text false true,
-  all_of [],
+  nothing,
   gave_before_a_fault r r' text broke_off,
   took_nothing w,
   (refl, refl, refl),
 )
 not_all_read options r r' w WriteFailed none = absurd none
 not_all_read options r r' w NoMemory (text, read) =
-    (came r' text false false, all_of [], gave r r' text false read, took_nothing w, (refl, (λ e. cc), refl))
+    (came r' text false false, nothing, gave r r' text false read, took_nothing w, (refl, (λ e. cc), refl))
 not_all_read options r r' w InputTooLong (text, read, long) =
-    (came r' text false false, all_of [], gave r r' text false read, took_nothing w, (refl, refl, long, refl))
+    (came r' text false false, nothing, gave r r' text false read, took_nothing w, (refl, refl, long, refl))
 
 pub not_all_exit : (options : VerifyOptions) (r r' : InputState) (w : OutputState)
     (result : Result Verified VerifyFault) → IsErr result → IfErr result (λ fault. IsNotAll r r' fault)
@@ -56,7 +56,7 @@ not_all_exit options r r' w (Err fault) is h = not_all_read options r r' w fault
 pub no_memory : (options : VerifyOptions) (r r' : InputState) (w : OutputState) (text : List ℕ) → IsAll r r' text
     → Ran (Verifies options (Err NoMemory)) (record { input = r; output = w }) (record { input = r'; output = w })
 no_memory options r r' w text (read, few) =
-    (came r' text true false, all_of [], gave r r' text true read, took_nothing w, (refl, (λ e. few), refl))
+    (came r' text true false, nothing, gave r r' text true read, took_nothing w, (refl, (λ e. few), refl))
 
 pub text_verified : (E : Type 0) (options : VerifyOptions) (r r' : InputState) (w w' : OutputState) (text : List ℕ)
     (verdict : Verified) → IsAll r r' text → WritesText {E = E} options text w w' (Ok verdict)
@@ -74,10 +74,10 @@ pub text_broke_off : (options : VerifyOptions) (r r' : InputState) (w w' : Outpu
     → Ran (Verifies options (Err WriteFailed)) (record { input = r; output = w }) (record { input = r'; output = w' })
 text_broke_off options r r' w w' text (read, few) (start, begins, failed) = (
   came r' text true false,
-  broke [] start,
+  broke nothing start,
   gave r r' text true read,
   took_some w w' start failed,
-  ((refl, refl), few, (reports_on options.strict 0 text, are_reports options.strict 0 text, (refl, begins, refl))),
+  ((refl, refl), few, (reports_on options.strict 0 text, are_reports options.strict 0 text, (start, begins, refl))),
 )
 
 -- ---- a collection
@@ -101,13 +101,13 @@ pub collection_broke_off : (options : VerifyOptions) (r r' : InputState) (w w' :
     (record { input = r'; output = w' })
 collection_broke_off options r r' w w' ended text read (start, begins, failed) = (
   came r' text ended false,
-  broke [] start,
+  broke nothing start,
   gave r r' text ended read,
   took_some w w' start failed,
   (
     collection_reports options.strict ended text,
     are_collection_reports options.strict ended text,
-    (refl, (refl, begins, refl)),
+    (refl, (start, begins, refl)),
   ),
 )
 

@@ -1,7 +1,7 @@
 -- What verifying a collection reads and writes. The input is cut into pieces (`pieces`), each of which is verified as a
 -- text of its own; a piece that is too long is a fault. Nothing here depends on how the input is cut into reads.
 use Rattle.std.specs.Prelude.{◌≡◌, ◌≤◌, ◌^◌, ℕ, ◌+◌, Bool, true, false, if◌then◌else◌, List, [], ◌∷◌, ◌++◌, length, Result, Ok, Err}
-use Rattle.byte_devices.specs.Transfers.{FromInput, ToOutput, IsWhole, all_of, all_unflushed, BreaksOffIn}
+use Rattle.byte_devices.specs.Transfers.{FromInput, ToOutput, IsWhole, nothing, all_of, all_unflushed, BreaksOffIn}
 use Rattle.pgn_pieces.specs.Pieces.{known_pieces}
 use Rattle.pgn_verifier.specs.declared.fault.VerifyFault.{VerifyFault}
 use Rattle.pgn_verifier.specs.declared.fault.VerifyFault.TheVariants.{ReadFailed, WriteFailed, NoMemory, InputTooLong}
@@ -25,7 +25,7 @@ abbrev pub CollectionEnds : List ℕ → Verified → Result Verified VerifyFaul
 CollectionEnds text expected (Ok summary) i o = IsWhole i × (o ≡ all_of text) × (summary ≡ expected)
 -- no read failed, whether the input's end was reported or not; a beginning of `text` (it may be empty, or all of it)
 -- was written, nothing was flushed, and then a write or the flush failed
-CollectionEnds text expected (Err WriteFailed) i o = (i.failed ≡ false) × BreaksOffIn [] text o
+CollectionEnds text expected (Err WriteFailed) i o = (i.failed ≡ false) × BreaksOffIn nothing text o
 -- a read failed before the input's end was reported. Here and below, all of `text` was written, nothing was flushed,
 -- and no write or flush failed
 CollectionEnds text expected (Err ReadFailed) i o = (i.ended ≡ false) × (i.failed ≡ true) × (o ≡ all_unflushed text)

@@ -1,6 +1,6 @@
 -- What verifying a text as a whole reads and writes.
-use Rattle.std.specs.Prelude.{◌≡◌, ◌≤◌, ◌<◌, true, false, List, [], length, Result, Ok, Err}
-use Rattle.byte_devices.specs.Transfers.{FromInput, ToOutput, IsWhole, all_of, BreaksOffIn}
+use Rattle.std.specs.Prelude.{◌≡◌, ◌≤◌, ◌<◌, true, false, List, length, Result, Ok, Err}
+use Rattle.byte_devices.specs.Transfers.{FromInput, ToOutput, IsWhole, nothing, all_of, BreaksOffIn}
 use Rattle.pgn_pieces.specs.declared.pieces.TheConstants.{PIECE_LEN}
 use Rattle.pgn_verifier.specs.declared.fault.VerifyFault.{VerifyFault}
 use Rattle.pgn_verifier.specs.declared.fault.VerifyFault.TheVariants.{ReadFailed, WriteFailed, NoMemory, InputTooLong}
@@ -14,8 +14,8 @@ use Rattle.pgn_verifier.specs.Reports.{Report, AreReports, report_lines, counts_
 -- `AreReports`: the text begins at offset 0 of the input, and its games from its own offset 0 on are reported
 abbrev pub Verifies : VerifyOptions → Result Verified VerifyFault → FromInput → ToOutput → Type 0
 -- the whole input was read, and has at most `PIECE_LEN` bytes; the lines of its games up to and including the first
--- fault, numbered from 1, were written and flushed; `summary` is `FaultReported` if there was a fault, otherwise
--- `EachGame`
+-- fault, numbered from 1, were written and flushed (flushed also if there are none); `summary` is `FaultReported` if
+-- there was a fault, otherwise `EachGame`
 Verifies options (Ok summary) i o = IsWhole i × (length i.text ≤ PIECE_LEN)
     × ((reports : List Report) × AreReports options.strict 0 i.text 0 reports
     × (o ≡ all_of (report_lines options i.text 1 reports)) × (summary ≡ verified (counts_of reports)))
@@ -23,13 +23,13 @@ Verifies options (Ok summary) i o = IsWhole i × (length i.text ≤ PIECE_LEN)
 -- or all of them) was written, nothing was flushed, and then a write or the flush failed
 Verifies options (Err WriteFailed) i o = IsWhole i × (length i.text ≤ PIECE_LEN)
     × ((reports : List Report) × AreReports options.strict 0 i.text 0 reports
-    × BreaksOffIn [] (report_lines options i.text 1 reports) o)
+    × BreaksOffIn nothing (report_lines options i.text 1 reports) o)
 -- a read failed before the input's end, and nothing was written
-Verifies options (Err ReadFailed) i o = (i.ended ≡ false) × (i.failed ≡ true) × (o ≡ all_of [])
+Verifies options (Err ReadFailed) i o = (i.ended ≡ false) × (i.failed ≡ true) × (o ≡ nothing)
 -- memory ran out before the input's end, or at the end of an input of at most `PIECE_LEN` bytes; no read failed, and
 -- nothing was written
 Verifies options (Err NoMemory) i o =
-    (i.failed ≡ false) × (i.ended ≡ true → length i.text ≤ PIECE_LEN) × (o ≡ all_of [])
+    (i.failed ≡ false) × (i.ended ≡ true → length i.text ≤ PIECE_LEN) × (o ≡ nothing)
 -- more than `PIECE_LEN` bytes were read, and the input's end was not reported; no read failed, and nothing was written
 Verifies options (Err InputTooLong) i o =
-    (i.failed ≡ false) × (i.ended ≡ false) × (PIECE_LEN < length i.text) × (o ≡ all_of [])
+    (i.failed ≡ false) × (i.ended ≡ false) × (PIECE_LEN < length i.text) × (o ≡ nothing)

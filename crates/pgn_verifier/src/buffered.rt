@@ -1,8 +1,9 @@
 //! A text verified as a whole: each game of it is read and its line written; the first fault ends it.
 
-ghost use Rattle.std.specs.Prelude.{◌≡◌, ◌≤◌, length, IfOk, IfErr};
+ghost use Rattle.std.specs.Prelude.{◌≡◌, ◌≢◌, ◌≤◌, length, IfOk, IfErr};
 ghost use Rattle.byte_devices.specs.Transfers.{Ran};
 ghost use Rattle.pgn_verifier.specs.Verify.{Verifies};
+ghost use Rattle.pgn_verifier.specs.declared.fault.VerifyFault.TheVariants.{WriteFailed};
 ghost use Rattle.pgn_verifier.specs.ties.OnTheWay.{IsAll, IsNotAll, WritesText};
 ghost use Rattle.chess_game.specs.declared.game.TheConstants.{MOST_MOVES};
 ghost use Rattle.pgn_pieces.specs.declared.pieces.TheConstants.{PIECE_LEN};
@@ -62,19 +63,20 @@ fn finish<W: Output>(
 /// `, time forfeit` or the like if its last tag `Termination` has a known text. The first game with a fault gets the
 /// line `game 2: illegal move at byte 39`, and no game after it is read. `options` say which lines are left out,
 /// whether results are compared, and whether a line follows that explains the fault. After `Ok` nothing is unflushed,
-/// if nothing was before.
+/// also of what was written before.
 ///
 /// # Errors
-/// If a device fails, memory runs out, or the input has more than 16,777,216 bytes. Nothing was written then, except a
-/// beginning of the lines if the output failed.
+/// If a device fails, memory runs out, or the input has more than 16,777,216 bytes. If the output failed, a beginning
+/// of the lines was written; otherwise the output is as it was.
 pub fn verify<R: Input, W: Output>(
     alloc: Global,
     options: VerifyOptions,
     input: &mut R,
     output: &mut W,
 ) -> Result<Verified, VerifyFault>
-    ensures { Ran (Verifies options result) (record { input = R.seen input.old; output = W.seen output.old })
+    ensures ran { Ran (Verifies options result) (record { input = R.seen input.old; output = W.seen output.old })
         (record { input = R.seen input.new; output = W.seen output.new }) }
+    ensures unwritten { IfErr result (λ fault. fault ≢ WriteFailed → W.seen output.new ≡ W.seen output.old) }
 {
     let text = read_all(alloc, input)?;
     let tables = AttackTables::open(alloc)?;

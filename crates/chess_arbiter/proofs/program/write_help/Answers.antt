@@ -1,5 +1,6 @@
 -- Without memory nothing was written; else the text was sent, all of it or a beginning.
-use Rattle.std.proofs.Common.{[], inl, inr, refl}
+use Rattle.std.proofs.Common.{inl, inr, refl}
+use Rattle.byte_devices.specs.Transfers.{nothing}
 use Rattle.byte_devices.proofs.shared.Transfers.{broke, took_all, took_some}
 use Rattle.chess_arbiter.proofs.Serving.{failed_status}
 use Rattle.chess_arbiter.proofs.program.write_help.Goals as goal
@@ -12,7 +13,7 @@ returns-in_err-send g c =
     let (start, begins, failing) = c.in_err-send.ensures in
     inr (
       failed_status c.from_residual-in_err-send.result c.from_residual-in_err-send.ensures.0,
-      inr (_, broke [] start, took_some _ _ start failing, (refl, begins, refl)),
+      inr (_, broke nothing start, took_some _ _ start failing, (start, begins, refl)),
     )
 
 pub returns : goal.returns
