@@ -71,13 +71,15 @@ one_taken (Some xs) (Some ys) a b h x y = append_cancel_left xs a b (sym x ∙ y
 
 -- none is unflushed but what is left
 left_alone : (flag : Bool) (n : ℕ) → n ≡ 0 → (if flag then 0 else n) ≡ 0
-left_alone true n zero = refl
-left_alone false n zero = zero
+left_alone true n none = refl
+left_alone false n none = none
 
 -- what `saturating_add` leaves of a length
 added_to_none : (k : ℕ) → saturating_add 0 k ≡ min k (2 ^ 64 - 1)
 added_to_none zero = refl
-added_to_none (suc k) = add_some 0 (suc k) (omega arith)
+added_to_none (suc k) =
+    let e : 0 + suc k ≡ suc k = omega arith in
+    add_some 0 (suc k) (omega arith) ∙ ap (λ n. min n (2 ^ 64 - 1)) e
 
 -- as many are unflushed as are left, if none was before
 unflushed_is : (old new : OutputState) (o : ToOutput) → old.unflushed ≡ 0 → OutputTook old new o
