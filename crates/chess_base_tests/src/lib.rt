@@ -4,6 +4,8 @@
 #[cfg(test)]
 mod chess960;
 #[cfg(test)]
+mod laws;
+#[cfg(test)]
 mod playing;
 #[cfg(test)]
 mod positions;

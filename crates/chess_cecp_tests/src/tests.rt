@@ -5,10 +5,7 @@ use crate::rows::{CHESS960, COMMANDS, ENDS, LIMITED, LONG, MOVES, STARTS};
 use crate::running::{is_equal, run_on};
 use byte_devices::{Counted, PieceReader, PieceWriter};
 use chess_base::{Move, Position, Square};
-use chess_cecp::{
-    Command, End, Fault, Session, normal_chess_keeps_its_rows, read_command,
-    refusals_change_nothing,
-};
+use chess_cecp::{Command, End, Fault, Session, read_command};
 use chess_fen::write_fen;
 use chess_moves::{Board, Plain};
 use chess_pgn::Tags;
@@ -219,8 +216,6 @@ fn moves_of_test_positions_are_counted(rt: HostRuntime) -> Result<(), Fail> {
 
 #[test]
 fn a_session_opens_at_the_initial_position(rt: HostRuntime) -> Result<(), Fail> {
-    refusals_change_nothing();
-    normal_chess_keeps_its_rows();
     let mut board = Plain::new();
     let e4 = Move {
         from: Square::new(12),

@@ -9,3 +9,5 @@ mod examples;
 mod fen;
 #[cfg(test)]
 mod judging;
+#[cfg(test)]
+mod laws;

@@ -8,6 +8,8 @@ mod engines;
 #[cfg(test)]
 mod features;
 #[cfg(test)]
+mod laws;
+#[cfg(test)]
 mod matches;
 #[cfg(test)]
 mod pgn;

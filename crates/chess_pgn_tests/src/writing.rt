@@ -6,7 +6,9 @@ use chess_fen::{read_fen, read_fen_as};
 use chess_game::{Comment, Game, Outcome};
 use chess_moves::{Board, Plain};
 use chess_pgn::{
-    HowEnded, TagText, Tags, games_are_laid_out, normal_is_kept, pgn_is_read_back, write_pgn,
+    HowEnded, TagText, Tags, a_game_is_tags_and_moves, a_text_has_one_split, faults_have_offsets,
+    games_are_laid_out, games_are_of_tokens, half_moves_have_bytes, lines_are_filled,
+    normal_is_kept, pgn_is_read_back, texts_are_worked_out, write_pgn,
 };
 use chess_text::{Reading, read_move};
 use std::alloc::Global;
@@ -473,7 +475,14 @@ fn a_prefix_longer_than_the_buffer_is_written(rt: HostRuntime) -> Result<(), Fai
 
 #[test]
 fn laws_are_called() {
+    a_game_is_tags_and_moves();
+    a_text_has_one_split();
+    faults_have_offsets();
     games_are_laid_out();
+    games_are_of_tokens();
+    half_moves_have_bytes();
+    lines_are_filled();
     normal_is_kept();
     pgn_is_read_back();
+    texts_are_worked_out();
 }

@@ -2,4 +2,6 @@
 #![tactic(auto)]
 
 #[cfg(test)]
+mod laws;
+#[cfg(test)]
 mod tests;

@@ -1,0 +1,28 @@
+//! Each law of match_runner and of arbiter_laws can be called, without a condition.
+
+use arbiter_laws::{
+    limits_are_as_stated, plain_arguments_are_followed, plain_arguments_are_read,
+    plain_arguments_are_refused, plain_arguments_are_taken, plain_arguments_do_what_they_say,
+    plans_are_named, refused_arguments_are_reported, verify_is_as_asked,
+};
+use match_runner::{logs_give_the_game, logs_have_one_reading, only_last_games_have_failed_writes};
+
+#[test]
+fn laws_of_matches_are_called() {
+    logs_give_the_game();
+    logs_have_one_reading();
+    only_last_games_have_failed_writes();
+}
+
+#[test]
+fn laws_of_the_program_are_called() {
+    limits_are_as_stated();
+    plain_arguments_are_followed();
+    plain_arguments_are_read();
+    plain_arguments_are_refused();
+    plain_arguments_are_taken();
+    plain_arguments_do_what_they_say();
+    plans_are_named();
+    refused_arguments_are_reported();
+    verify_is_as_asked();
+}
