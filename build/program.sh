@@ -1,7 +1,7 @@
-# Takes the program that `rt run` or `rt ci` proved in this checkout, if no source was changed since. Otherwise it
-# copies the crates that the program needs to a folder where `rt all check` proves several at a time, and builds it by
-# `rt run` there. Both take over what their earlier runs proved. The script `arbiter` reads this file where the program
-# is not built.
+# Takes the program that `rt run` or `rt ci` proved in this checkout, if no source was changed since it was written (so
+# sources should not be edited while it is proved). Otherwise it copies the crates that the program needs to a folder
+# where `rt all check` proves several at a time, and builds it by `rt run` there. Both take over what their earlier runs
+# proved. The script `arbiter` reads this file where the program is not built.
 
 # The copies are outside the checkout: there `rt ci` refuses sources that are not in crates/.
 copies=~/.cache
@@ -30,7 +30,8 @@ list() {
     before=$(sources)
 }
 
-# Whether a program was proved in this checkout, and no source, and no folder of sources, was changed since.
+# Whether a program was proved in this checkout, and no source, and no folder of sources, was changed since it was
+# written.
 is_proved() {
     local folders
     mapfile -t folders <"$out/folders"
