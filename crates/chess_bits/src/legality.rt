@@ -116,7 +116,7 @@ impl Bits<'_> {
     // Those of the squares `men` from which the piece there may legally go to `to`; each move gets the short test. The
     // caller knows that all these moves are pseudo-legal and name no promotion, and that none is the king's or en
     // passant (`StepsPlainly`). `tried_starts` would give the same squares, but its test would ask of each move again
-    // whether it is the king's or en passant. `filter` would call its test for each square, since it is not inlined here.
+    // whether it is the king's or en passant. `filter` would call its test for each square: it is not inlined here.
     #[inline(always)]
     fn safe_starts(&self, men: SquareSet, to: Square) -> SquareSet
         requires { (k : ℕ) → k < 64 → contains men k ≡ true → StepsPlainly self.now (move_of k to None) }

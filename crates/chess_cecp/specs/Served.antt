@@ -16,8 +16,9 @@ abbrev pub lines_read : FromInput → List LineSeen
 lines_read i = stream_lines COMMAND_LEN i.ended i.text
 
 -- the server `respond` answered the lines that were read: all of them if it ends with none (`ends` is false), otherwise
--- those up to and including the first with which it ends. The answers, and nothing else, were written, and each was
--- flushed, even if it is empty; no write or flush failed. `s` and `s'` are the server's states before and after
+-- those up to and including the first with which it ends. The answers, and nothing else, were written and flushed; if a
+-- line was read, a flush succeeded, even if all answers are empty; no write or flush failed. `s` and `s'` are the
+-- server's states before and after
 abbrev pub AnswersAll : {S : Type 0} → Server S → S → S → Bool → FromInput → ToOutput → Type 0
 AnswersAll respond s s' ends i o =
     let due = responses respond s (lines_read i) in
@@ -36,8 +37,8 @@ Served respond s s' (Ok InputEnded) i o = IsWhole i × AnswersAll respond s s' f
 -- a read failed, and the input's end was not reported; the server answered all complete lines and ends with none
 Served respond s s' (Err Read) i o = (i.ended ≡ false) × (i.failed ≡ true) × AnswersAll respond s s' false i o
 -- no read failed, but a write or a flush did, in the answer to `line`, before which `n` lines were read. With none of
--- these the server ends, and their answers were written and each was flushed. Of the answer to `line` a beginning was
--- written and not flushed; it may be empty or the whole answer. Lines after `line` were not answered, and `s'` is the
+-- these the server ends, and their answers were written and flushed. Of the answer to `line` a beginning was written
+-- and not flushed; it may be empty or the whole answer. Lines after `line` were not answered, and `s'` is the
 -- state after `line`. The lines that were complete before the last successful read are at most `n`: once `line` was
 -- complete, no more was read before its answer
 Served respond s s' (Err Write) i o =

@@ -34,7 +34,8 @@ impl Model for Gone {
 
     ghost view = { λ s. s.beginning.items ++ (replicate s.line_ends 10 ++ replicate s.plain 0) };
 
-    ghost invariant = { λ s. (length s.beginning.items ≤ 40) × (length s.beginning.items < 40 → s.line_ends + s.plain ≡ 0) };
+    ghost invariant = { λ s. (length s.beginning.items ≤ 40)
+        × (length s.beginning.items < 40 → s.line_ends + s.plain ≡ 0) };
 }
 
 impl Gone {

@@ -18,7 +18,7 @@ AreFirstLines d i = IfSome d.input.known_bytes (λ bytes. (more : List LineSeen)
     × (lines_of bytes ≡ lines_read i ++ more))
 
 -- if it is known which bytes the input had to give, the server `respond` answered their lines, up to one with which it
--- ends; the answers were written and each was flushed. `s` and `s'` are its states before and after
+-- ends; the answers were written and flushed. `s` and `s'` are its states before and after
 abbrev pub AnswersInput : {S : Type 0} → Server S → S → S → Devices → Devices → Type 0
 AnswersInput respond s s' d d' = IfSome d.input.known_bytes (λ bytes.
     let due = responses respond s (lines_of bytes) in
