@@ -22,7 +22,6 @@ mod Lifted
 mod KingSteps
 mod Starts
 mod ByKind
-mod Shields
 mod KindsCounted
 mod CastlingAtHome
 mod CastlingSafely

@@ -95,8 +95,7 @@ impl Bits<'_> {
         requires aims { aims_from self.now from king ≡ true }
         ensures free { (a : ℕ) → a < 64 → contains pins.new.free a ≡ true
             → (contains pins.old.free a ≡ true) × KeepsClosed self.now a from king }
-        ensures evasions { AreEvasions self.now pins.old.free pins.old.evasions
-            → AreEvasions self.now pins.new.free pins.new.evasions }
+        ensures evasions { AreEvasions self.now pins.old.free pins.old.evasions → AreEvasions self.now pins.new.free pins.new.evasions }
     {
         // The prover wants these facts: the position is sound, and the numbers of both squares are below 64.
         let _sound = &self.setup;
@@ -186,24 +185,5 @@ impl Bits<'_> {
             return targets;
         }
         targets.intersection(pins.evasions)
-    }
-
-    // The pieces of the side on move, other than the king, that can't be pinned, since they are on no rank, file or
-    // diagonal of their king; none if it is in check. This is the quick way of `has_easy_move`: unlike `pins`, it looks
-    // for no pinner, and so leaves out all free pieces on such lines.
-    #[tactic(auto, unfolding(crate::specs::ties::Shapes::in_shape))]
-    pub(crate) fn surely_unpinned(&self) -> SquareSet
-        ensures { (k : ℕ) → k < 64 → contains result k ≡ true → IsFree self.now k }
-    {
-        if self.in_check() {
-            return SquareSet::empty();
-        }
-        let side = self.setup.side;
-        let king = self.king(side);
-        let straight = self.tables.at(Shape::Lines, king);
-        let aslant = self.tables.at(Shape::Diagonals, king);
-        let lines = straight.union(aslant);
-        let men = self.sets.all(side).without(SquareSet::single(king));
-        men.without(lines)
     }
 }
