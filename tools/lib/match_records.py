@@ -5,11 +5,15 @@ import re
 LOG_LINE = re.compile(r"(\d+) ([<>!])(first|second) ?: (.*)")
 RESULT_LINE = re.compile(r"result (1-0|0-1|1/2-1/2|\*) \{(.*)\}")
 FAULT_LINE = re.compile(r"arbiter: game (\d+): ((White|Black) .*)")
+KILLED_LINE = re.compile(r"arbiter: game \d+: (White|Black) did not exit, and was killed")
 # What tools/watch_engine writes.
 ENDED_LINE = re.compile(r"(first|second) engine: (exit status \d+|signal \w+)")
 WROTE_LINE = re.compile(r"(first|second) engine wrote: (.*)")
 SEATS = ("first", "second")
 HANDSHAKE = ("xboard", "protover 2")
+# The faults of an engine that did not answer in time, without the side.
+NO_ANSWER = ("did not answer", "sent no done=1 (a UCI engine needs polyglot)")
+OUT_OF_TIME = re.compile(r"(White|Black) forfeits on time|Time forfeit against a bare king")
 
 
 def sans(movetext):
@@ -52,14 +56,20 @@ class LoggedLine:
         ignored = ("accepted", "rejected", "draw", "result", "quit")
         return self.mark == ">" and self.text.split(" ", 1)[0] not in ignored
 
+    def is_silence(self):
+        """Says whether this is the report that no line had come."""
+        return self.mark == "!" and self.text == "no line"
+
 
 class LoggedGame:
-    """A game of a log: its lines, what was reported of the engines' processes (how each ended, and the last lines of
-    its standard error), and other lines. The first line is the `xboard` sent to White."""
+    """A game of a log: its lines, what was reported of the engines' processes (how each ended, the last lines of its
+    standard error, and the sides whose engines were killed after the game), and other lines. The first line is the
+    `xboard` sent to White."""
 
     def __init__(self, first_line):
         self.lines = [first_line]
         self.ended, self.wrote, self.others = {}, {seat: [] for seat in SEATS}, []
+        self.killed = []
 
     @property
     def white(self):
@@ -73,12 +83,15 @@ class LoggedGame:
         return self.white if side == "White" else SEATS[self.white == "first"]
 
     def add_report(self, line):
-        """Takes a line that is no line of the log: one of tools/watch_engine, or what an engine wrote."""
-        ended, wrote = ENDED_LINE.fullmatch(line), WROTE_LINE.fullmatch(line)
+        """Takes a line that is no line of the log: one of tools/watch_engine, that an engine was killed, or what an
+        engine wrote."""
+        ended, wrote, killed = (kind.fullmatch(line) for kind in (ENDED_LINE, WROTE_LINE, KILLED_LINE))
         if ended:
             self.ended[ended[1]] = ended[2]
         elif wrote:
             self.wrote[wrote[1]].append(wrote[2])
+        elif killed:
+            self.killed.append(killed[1])
         elif not line.startswith(("arbiter: ", "tournament: ")):
             self.others.append(line)
 
@@ -98,9 +111,16 @@ class LoggedGame:
         result, reason = self.end()
         return reason if result == "*" and reason.startswith(("White ", "Black ")) else None
 
-    def awaited(self):
-        """Returns the line after which the match waited for an answer at the end of this log."""
-        return next(line for line in reversed(self.lines) if line.asks())
+    def out_of_time(self):
+        """Returns the side by whose lack of time the game ended, or None. Against a bare king the reason doesn't name
+        it: it is the side that was to move."""
+        found = OUT_OF_TIME.fullmatch(self.end()[1] or "")
+        return found and (found[1] or self.side(self.awaited().seat))
+
+    def awaited(self, seat=None):
+        """Returns the line after which the match waited for an answer at the end of this log, or for one of the engine
+        `seat`."""
+        return next(line for line in reversed(self.lines) if line.asks() and seat in (None, line.seat))
 
     def moves(self):
         """Returns the moves that the engines sent; the last one may be illegal."""
@@ -153,9 +173,14 @@ def logged_games(text):
 
 def fault(text):
     """Returns the number of the game and the words of the fault that ended a match, or None."""
-    faults = [FAULT_LINE.fullmatch(line) for line in text.splitlines() if line.startswith("arbiter: ")]
-    faults = [found for found in faults if found]
+    own = [line for line in text.splitlines() if line.startswith("arbiter: ") and not KILLED_LINE.fullmatch(line)]
+    faults = [found for found in map(FAULT_LINE.fullmatch, own) if found]
     return (int(faults[-1][1]), faults[-1][2]) if faults else None
+
+
+def is_no_answer(words):
+    """Says whether these are the words of the fault that an engine did not answer in time."""
+    return (words or "").partition(" ")[2] in NO_ANSWER
 
 
 def is_handshake(line):

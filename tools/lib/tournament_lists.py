@@ -15,7 +15,7 @@ import needed
 import sessions
 from elo import Sprt
 
-GIVEN = ("--white", "--black", "--games", "--fen", "--log")
+GIVEN = ("--white", "--black", "--games", "--fen", "--log", "--flag", "--reply-timeout")
 DEFAULT_LEVEL = "40 5 0"
 MOST_NAME = 60  # characters
 LONG_GAME = 100  # The moves of a game that --timeout should allow.
@@ -39,15 +39,28 @@ class Engine:
 
 
 @dataclass
+class Patience:
+    """How long engines are waited for: whether flags fall without a line, and the seconds for a reply (0: no limit)."""
+
+    flag: bool
+    reply: int
+
+    def options(self):
+        """Returns the options of the match."""
+        return ["--flag"] * self.flag + (["--reply-timeout", str(self.reply)] if self.reply else [])
+
+
+@dataclass
 class Lists:
     """What a tournament is: its engines, openings (as FENs), options of the match, whether it is a gauntlet, how faults
-    count, and the test that ends it, if there is one."""
+    count, how long engines are waited for, and the test that ends it, if there is one."""
 
     engines: list
     openings: list
     options: list
     is_gauntlet: bool
     faults: str
+    patience: Patience
     sprt: Sprt | None = None
 
     def programs(self):
@@ -177,7 +190,7 @@ def read_openings(path, variant):
     return fens, refusals
 
 
-def judge_options(options):
+def judge_options(options, patience):
     """Returns why `arbiter match` refuses these options: it judges them before it starts an engine."""
     given = [option for option in options if option.split("=")[0] in GIVEN]
     if given:
@@ -185,12 +198,12 @@ def judge_options(options):
     if "--" in options:
         return ["--: a second one"]
     nobody = "/dev/null/nobody"
-    words = ["arbiter", "match", "--white", nobody, "--black", nobody, *options]
+    words = ["arbiter", "match", "--white", nobody, "--black", nobody, *patience.options(), *options]
     run = subprocess.run(words, stdout=subprocess.DEVNULL, stderr=subprocess.PIPE, encoding="utf-8", errors="replace")
     if run.returncode == 1 and run.stderr.startswith("arbiter: can not start"):
         return []
     reason = run.stderr.split("\n\n")[0].replace("\n", " ").strip() or "they print help or the version"
-    return [f"match options {shlex.join(options)}: {reason}"]
+    return [f"match options {shlex.join(options or patience.options())}: {reason}"]
 
 
 def option_value(options, name, default):
@@ -233,14 +246,14 @@ def judge_sprt(lists, engines_path):
         refuse([f"{engines_path}: --sprt takes two engines, not {len(lists.engines)}"])
 
 
-def read_lists(engines_path, openings_path, options, is_gauntlet, faults, with_hosts):
+def read_lists(arguments, options, patience):
     """Reads and judges all lists."""
-    engines, refusals = read_engines(engines_path, with_hosts)
-    wrong_options = judge_options(options)
+    engines, refusals = read_engines(arguments.engines, bool(arguments.hosts))
+    wrong_options = judge_options(options, patience)
     variant = "normal" if wrong_options else option_value(options, "variant", "normal")
-    openings, wrong_openings = read_openings(openings_path, variant)
+    openings, wrong_openings = read_openings(arguments.openings, variant)
     refuse(refusals + wrong_options + wrong_openings)
-    return Lists(engines, openings, options, is_gauntlet, faults)
+    return Lists(engines, openings, options, arguments.gauntlet, arguments.faults, patience)
 
 
 # The lists that a folder keeps

@@ -18,7 +18,7 @@ from pathlib import Path
 
 import match_records
 from boards import INITIAL
-from tournament_lists import refuse, report, show, without_date
+from tournament_lists import Patience, refuse, report, show, without_date
 from tournament_table import CRASHES, STATUS, TIMED_OUT, collect, read_game
 
 LIB = Path(__file__).resolve().parent
@@ -26,8 +26,7 @@ LIB = Path(__file__).resolve().parent
 # They follow the options that the user gives, since ssh takes the first value of each.
 SSH_OPTIONS = "-o ServerAliveInterval=15 -o ConnectTimeout=15".split()
 READY_SECONDS = 30  # for a host's answer to whether it can play
-QUIT_SECONDS = 10  # for an engine to end after its game
-TRIAL_QUIT_SECONDS = 2  # the same in a trial
+TRIAL_WAITS = 10  # how many times as long as a reply a trial may take
 EXTRA_SECONDS = 60  # for a host to end a game whose time is over
 END_SECONDS = 5  # for a game to end that is ended from here
 TICK = 0.2  # the seconds after which a signal is noticed
@@ -170,7 +169,7 @@ def ready_hosts(label, programs):
 
 class Trial:
     """What a short game against a stub that resigns showed of an engine: the name that the engine gives itself, why it
-    can't play, and what to warn of; each may be an empty text."""
+    can't play, and what to warn of; each may be an empty text. It had so many seconds for each reply."""
 
     def __init__(self, engine, seat, errors, seconds):
         self.name = self.fault = self.warning = ""
@@ -180,16 +179,16 @@ class Trial:
             return
         game, status, found = logged[0], int(statuses[-1]), match_records.fault(errors)
         self.name = game.own_name(seat)
-        if status == 1 and found:
+        if status == 1 and found and match_records.is_no_answer(found[1]):
+            self.fault = no_answer(engine, game.awaited(seat), seconds)
+        elif status == 1 and found:
             self.fault = failure(game, seat, found[1])
-        elif status == TIMED_OUT and game.fault():
-            self.fault = failure(game, seat, game.fault())
-        elif status == TIMED_OUT and game.end()[0]:
-            self.warning = f"did not end within {TRIAL_QUIT_SECONDS} seconds after quit"
         elif status == TIMED_OUT:
-            self.fault = silence(engine, seat, game.awaited(), seconds)
+            self.fault = f"its trial was not over within {TRIAL_WAITS * seconds} seconds"
         elif status != 0:
             self.fault = f"its trial ended with status {status}: {last_words(errors)}"
+        elif game.killed:
+            self.warning = f"did not end within {seconds} seconds after quit"
 
 
 def last_words(errors):
@@ -207,10 +206,8 @@ def failure(game, seat, words):
     return ": ".join([", ".join([what, *ended]), *game.wrote[seat][-1:]])
 
 
-def silence(engine, seat, asked, seconds):
+def no_answer(engine, asked, seconds):
     """Returns the words for an engine that did not answer in its trial."""
-    if asked.seat != seat:
-        return f"its trial was not over within {seconds} seconds"
     words = f"no answer to '{asked.text}' within {seconds} seconds"
     if not match_records.is_handshake(asked):
         return words
@@ -222,15 +219,16 @@ def try_engine(host, engine, opening, options, seconds):
     """Plays an engine's trial on a host. The stub is to move first, and resigns."""
     pair = [STUB, engine.command] if opening.split()[1] == "w" else [engine.command, STUB]
     seat = match_records.SEATS[pair.index(engine.command)]
-    words = game_words(host, seconds, TRIAL_QUIT_SECONDS, pair, opening, options)
-    errors = "" if STOP.at else captured(words, seconds + READY_SECONDS)[1]
+    options = [*Patience(flag=False, reply=seconds).options(), *options]
+    words = game_words(host, TRIAL_WAITS * seconds, pair, opening, options)
+    errors = "" if STOP.at else captured(words, TRIAL_WAITS * seconds + READY_SECONDS)[1]
     return Trial(engine, seat, errors, seconds)
 
 
-def game_words(host, seconds, quit_seconds, pair, opening, options):
+def game_words(host, seconds, pair, opening, options):
     """Returns the command that plays a game on a host."""
     play_game, watch_engine = (LIB / "play_game").read_text(), (LIB.parent / "watch_engine").read_text()
-    return host.words(play_game, str(seconds), str(quit_seconds), watch_engine, *pair, "--fen", opening, *options)
+    return host.words(play_game, str(seconds), watch_engine, *pair, "--fen", opening, *options)
 
 
 def trials_of(hosts, lists, seconds):
@@ -355,7 +353,7 @@ class Player:
         engines = {engine.name: engine for engine in self.lists.engines}
         pair = [engines[name].command for name in (game.white, game.black)]
         opening, options = self.lists.openings[game.opening], [*without_date(self.lists.options), "--date", self.date]
-        words = game_words(host, self.timeout, QUIT_SECONDS, pair, opening, options)
+        words = game_words(host, self.timeout, pair, opening, [*self.lists.patience.options(), *options])
         path = self.folder / "running" / str(game.number)
         with open(path, "wb") as output, open(path.with_name(f"{path.name}.err"), "wb") as errors:
             run = Run(words, output, errors)

@@ -13,7 +13,7 @@ import tournament_pairs
 from tournament_lists import Game, kept_faults, kept_games, kept_names, kept_sprt, lines, session, write_lines
 
 STATUS = re.compile(r"(?m)^tournament: status (\d+)$")
-STILL_RUNNING = re.compile(r"(?m)^tournament: still running: (first|second)$")
+STILL_RUNNING = re.compile(r"(?m)^tournament: still running: (first|second)$")  # in games played by 0.2.0
 ENDED_AFTER = re.compile(r"(?m)^tournament: ended after (\d+) seconds$")
 TIMED_OUT = 124
 RESULTS_HEAD = "game\twhite\tblack\tresult\tend\tfault\tside\treason"
@@ -83,9 +83,15 @@ def judge(game, text, errors):
     return None
 
 
-def finished(game, written, logged):
-    reason = logged.end()[1] or ""
-    return Outcome(game, written.result, kind_of_end(written, reason), reason)
+def finished(game, written, logged, stayed=()):
+    """Judges a game that has a result. The engines of the sides `stayed`, or else those that the match killed, did not
+    end after it. That is no further fault of an engine whose time was over, since it may have hung before."""
+    reason, late = logged.end()[1] or "", logged.out_of_time()
+    sides = tuple(side for side in stayed or logged.killed if side != late)
+    if not sides:
+        return Outcome(game, written.result, kind_of_end(written, reason), reason)
+    words = f"{' and '.join(sides)} did not end after quit ({written.result} {reason})"
+    return Outcome(game, written.result, "quit", words, "quit", sides)
 
 
 def failed(game, written, logged, words):
@@ -94,25 +100,22 @@ def failed(game, written, logged, words):
     if written and written[0].result != "*":
         return finished(game, written[0], logged)
     how = logged.ended.get(logged.seat(side))
-    kind = "crash" if what in CRASHES else "protocol"
-    reason = f"{words}, {how}" if how and kind == "crash" else words
+    kind, reason = "protocol", words
+    if what in CRASHES:
+        kind, reason = "crash", f"{words}, {how}" if how else words
+    elif match_records.is_no_answer(words):
+        kind, reason = "timeout", f"{words}: it was sent '{logged.awaited(logged.seat(side)).text}'"
     return Outcome(game, "*", kind, reason, kind, (side,))
 
 
 def timed_out(game, written, logged, errors):
     """Judges a game that was ended after its time: by the first fault in its log, which is that of the side that ended
-    the match, that was to answer, or that did not end after the game."""
-    result, reason = logged.end()
+    the match, or that was to answer. A result holds."""
     if logged.fault():
         return failed(game, written, logged, logged.fault())
-    if result:
-        sides = tuple(logged.side(seat) for seat in STILL_RUNNING.findall(errors))
-        if not written:
-            return None
-        if not sides:
-            return finished(game, written[0], logged)
-        words = f"{' and '.join(sides)} did not end after quit ({result} {reason})"
-        return Outcome(game, result, "quit", words, "quit", sides)
+    if logged.end()[0]:
+        stayed = [logged.side(seat) for seat in STILL_RUNNING.findall(errors)]
+        return finished(game, written[0], logged, stayed) if written else None
     asked = logged.awaited()
     side, clock = logged.side(asked.seat), logged.clock(asked)
     after = ENDED_AFTER.findall(errors)

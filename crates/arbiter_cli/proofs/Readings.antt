@@ -1,13 +1,15 @@
 -- What was parsed, taken as written and planned is a reading of the arguments.
-use Rattle.std.proofs.Common.{◌≡◌, ◌∙◌, ◌≤◌, true, false, refl, ap, ap₂, sym, subst, inl, inr, option_map, unwrap_or, [], codes, IfOk, IfErr, IfSome, List, Option, Some, None, Result, Ok, Err, Bor}
+use Rattle.std.proofs.Common.{◌≡◌, ◌∙◌, ◌≤◌, ℕ, true, false, refl, ap, ap₂, sym, subst, inl, inr, option_map, unwrap_or, [], codes, IfOk, IfErr, IfSome, List, Option, Some, None, Result, Ok, Err, Bor}
+use Rattle.std.specs.Prelude.{◌*◌}
 use Rattle.clap.specs.Words.{HasKind, IsAmong, Kinds, Row, Text, found_of, kind_of, rows_of, subcommand_of, subcommand_rows_of}
 use Rattle.clap.specs.declared.error.Error.{Error}
 use Rattle.clap.specs.declared.parser.matches.ArgMatches.{ArgMatches}
 use Rattle.arbiter_grammar.specs.Grammar.{AreVariants, IsComplete, IsParsed, VariantNames, arbiter_app, asked, faults_in}
-use Rattle.arbiter_cli.specs.Plans.{IsMatchPlan, IsPlanOf, IsReadAs, IsReading, Said, Values, is_date, level_start_and_date, said_by, start_asked}
-use Rattle.arbiter_cli.specs.ties.Requests.{IsJudged, IsJudgedFault, IsMatchOf, IsPlanFault, IsPlanned, IsRequestOf, Refuses, start_of}
+use Rattle.arbiter_cli.specs.Plans.{IsMatchPlan, IsPlanOf, IsReadAs, IsReading, Said, Values, is_date, is_set, level_start_and_date, number_of, said_by, start_asked}
+use Rattle.arbiter_cli.specs.ties.Requests.{IsJudged, IsJudgedFault, IsMatchOf, IsPlanFault, IsPlanned, IsRequestOf, Refuses, patience_by, start_of}
 use Rattle.cecp_engine.specs.Levels.{level_of}
 use Rattle.match_runner.specs.declared.plan.GamesPlan.{GamesPlan}
+use Rattle.chess_match.specs.declared.patience.Patience.{Patience}
 use Rattle.arbiter_cli.specs.declared.fault.WordsFault.{WordsFault}
 use Rattle.arbiter_cli.specs.declared.fault.WordsFault.TheVariants.{Words, NoMemory, BadLevel, BadFen, BadDate}
 use Rattle.arbiter_cli.specs.declared.plan.Plan.{Plan}
@@ -43,6 +45,15 @@ pub refused_reading : (texts : List Text) (e : Error) (f : WordsFault) → IsPar
 refused_reading texts e f p fits =
     (p.0, p.1, refused_by (faults_in p.0 texts) (said_by (asked p.0 texts)) f (refusal_by (faults_in p.0 texts) e f p.2 fits))
 
+-- seconds that are read and then taken as milliseconds
+in_millis : (o : Option Text) → option_map (λ n. n * 1000) (option_map number_of o)
+    ≡ option_map (λ t. number_of t * 1000) o
+in_millis None = refl
+in_millis (Some t) = refl
+
+abbrev with_flag : Values → Option ℕ → Patience
+with_flag value reply = record { flag = is_set (codes "flag") value; reply = reply }
+
 -- a match that was taken as written and then judged is played by what its options denote
 module _ (value : Values) (m : MatchRequest) (is : IsMatchOf value m) where
   level_is : level_of (unwrap_or (value (codes "level")) (codes "40 5 0")) ≡ level_of m.level.now
@@ -61,6 +72,8 @@ module _ (value : Values) (m : MatchRequest) (is : IsMatchOf value m) where
     games = validate.games ∙ is.games;
     games_range = subst (λ n. (1 ≤ n) × (n ≤ 1000)) (sym validate.games) is.games_range;
     log = validate.log ∙ is.log;
+    patience = validate.patience ∙ ap₂ patience_by is.flag is.reply
+        ∙ ap (with_flag value) (in_millis (value (codes "reply-timeout")));
   }
 
   judged_fault : (f : WordsFault) → IsJudgedFault m f → level_start_and_date value ≡ Err f

@@ -1,5 +1,5 @@
 -- What a plan has to do with the arguments.
-use Rattle.std.specs.Prelude.{◌≡◌, ◌≤◌, ◌&&◌, Bool, List, [], codes, length, map, nat_le, if◌then◌else◌, Option, Some, Result, Ok, Err, unwrap_or, ok_or, ⊤}
+use Rattle.std.specs.Prelude.{◌≡◌, ◌≤◌, ◌*◌, ◌&&◌, ℕ, Bool, List, [], codes, length, map, nat_le, if◌then◌else◌, Option, Some, Result, Ok, Err, unwrap_or, ok_or, option_map, ⊤}
 use Rattle.std.specs.List.{list_all}
 use Rattle.std.specs.Option.{option_map_or}
 use Rattle.std.specs.Result.{result_map_both}
@@ -10,6 +10,7 @@ use Rattle.arbiter_grammar.specs.Grammar.{AreVariants, VariantNames, asked, faul
 use Rattle.arbiter_cli.specs.declared.plan.Plan.{Plan}
 use Rattle.arbiter_cli.specs.declared.plan.Plan.TheVariants.{Session, Verify, Stub, Match}
 use Rattle.match_runner.specs.declared.plan.GamesPlan.{GamesPlan}
+use Rattle.chess_match.specs.declared.patience.Patience.{Patience}
 use Rattle.arbiter_cli.specs.declared.plan.VerifyPlan.{VerifyPlan}
 use Rattle.arbiter_cli.specs.declared.fault.WordsFault.{WordsFault}
 use Rattle.arbiter_cli.specs.declared.fault.WordsFault.TheVariants.{Words, NoMemory, BadLevel, BadFen, BadDate}
@@ -45,6 +46,11 @@ variant_in value =
 abbrev pub is_set : Text → Values → Bool
 is_set name value = bytes_eq (unwrap_or (value name) (codes "false")) (codes "true")
 
+-- the number that a value denotes in decimal, perhaps with a `+` in front: the grammar takes no other value of an
+-- option that is a number (`match_app`)
+abbrev pub number_of : Text → ℕ
+number_of text = digits_value 10 (without_leading_plus text)
+
 -- what the flags of `verify` ask for
 abbrev pub verify_plan_of : Values → VerifyPlan
 verify_plan_of value = record {
@@ -76,17 +82,25 @@ level_start_and_date value = let date = unwrap_or (value (codes "date")) (codes 
   start ← result_map_both (λ setup. setup) BadFen (start_asked value)
   if is_date date then Ok (level, start, date) else Err BadDate
 
+-- how long a match waits for its engines: whether `--flag` was given, and as milliseconds the seconds of
+-- `--reply-timeout`
+abbrev pub patience_of : Values → Patience
+patience_of value = record {
+  flag = is_set (codes "flag") value;
+  reply = option_map (λ text. number_of text * 1000) (value (codes "reply-timeout"));
+}
+
 -- `plan` is the plan of a match with these options, each as given or by default: `--white` and `--black`, which have no
 -- default, are the commands of its engines; level, FEN and date are valid (`read`); and it has 1 to 1,000 games
 pub record IsMatchPlan (value : Values) (plan : GamesPlan) : Type 0 where
   pub white : value (codes "white") ≡ Some plan.white.now
   pub black : value (codes "black") ≡ Some plan.black.now
   pub read : level_start_and_date value ≡ Ok (plan.level, plan.start, plan.date.now)
-  -- as many games as `--games` asks for; 1 without `--games`. Its value is a decimal number, perhaps with a `+` in
-  -- front: the grammar takes no other (`match_app`)
-  pub games : plan.games ≡ option_map_or (λ t. digits_value 10 (without_leading_plus t)) (value (codes "games")) 1
+  -- as many games as `--games` asks for; 1 without `--games`
+  pub games : plan.games ≡ option_map_or number_of (value (codes "games")) 1
   pub games_range : (1 ≤ plan.games) × (plan.games ≤ 1000)
   pub log : plan.log ≡ is_set (codes "log") value
+  pub patience : plan.patience ≡ patience_of value
 
 -- the plan is what the arguments ask for; `said` is their subcommand, its options, and the words after `stub`. The
 -- fields of the plan are as the options say; the plan of `stub` has these words, in order

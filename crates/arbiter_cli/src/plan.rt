@@ -3,13 +3,14 @@
 ghost use Rattle.std.specs.Prelude.{◌≡◌, ◌&&◌, IfErr, IfOk, nat_le, option_map};
 ghost use Rattle.std.specs.List.{list_all};
 ghost use Rattle.arbiter_cli.specs.Plans.{is_date as date_test};
-ghost use Rattle.arbiter_cli.specs.ties.Requests.{IsJudged, IsJudgedFault, IsPlanFault, IsPlanned, start_of};
+ghost use Rattle.arbiter_cli.specs.ties.Requests.{IsJudged, IsJudgedFault, IsPlanFault, IsPlanned, patience_by, start_of};
 
 use crate::fault::WordsFault;
 use crate::request::{MatchRequest, Request};
 use cecp_engine::Level;
 use chess_base::{FenFault, Position, Variant};
 use chess_fen::read_fen_as;
+use chess_match::Patience;
 use match_runner::GamesPlan;
 
 /// How the games on the standard input are verified.
@@ -62,6 +63,17 @@ fn start_of(variant: Variant, fen: Option<&str>) -> Result<Position, FenFault>
     }
 }
 
+// How long a match waits for its engines: whether its flags fall without a line, and so many seconds for a reply.
+fn patience_of(flag: bool, seconds: Option<u16>) -> Patience
+    ensures { result ≡ patience_by flag seconds }
+{
+    let reply = match seconds {
+        None => None,
+        Some(seconds) => Some(u64::from(seconds) * 1000),
+    };
+    Patience { flag, reply }
+}
+
 // The plan of the match that `request` asks for, if its level, FEN and date are valid; otherwise the fault of the first
 // of them that is not.
 fn validate<'a>(request: &MatchRequest<'a>) -> Result<GamesPlan<'a>, WordsFault>
@@ -79,6 +91,7 @@ fn validate<'a>(request: &MatchRequest<'a>) -> Result<GamesPlan<'a>, WordsFault>
         white: request.white,
         black: request.black,
         level,
+        patience: patience_of(request.flag, request.reply),
         start,
         games: request.games,
         date: request.date,

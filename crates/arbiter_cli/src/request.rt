@@ -1,9 +1,9 @@
 //! What the arguments ask for, as written.
 
-ghost use Rattle.std.specs.Prelude.{◌≡◌, ◌≤◌, [], IfOk, IfSome, IsSome, true, codes, is_some, map, option_map, unwrap_or};
+ghost use Rattle.std.specs.Prelude.{◌≡◌, ◌≤◌, ℕ, [], IfOk, IfSome, IsSome, true, codes, is_some, map, option_map, unwrap_or};
 ghost use Rattle.clap.specs.Words.{all_of, first_of, found_of, rows_of, subcommand_rows_of};
-ghost use Rattle.arbiter_grammar.specs.Grammar.{HasGames, IsCommand, NamesBoth};
-ghost use Rattle.arbiter_cli.specs.Plans.{is_set, said_by, variant_in, verify_plan_of};
+ghost use Rattle.arbiter_grammar.specs.Grammar.{HasNumber, HasNumbers, IsCommand, NamesBoth};
+ghost use Rattle.arbiter_cli.specs.Plans.{is_set, number_of, said_by, variant_in, verify_plan_of};
 ghost use Rattle.arbiter_cli.specs.ties.Requests.{IsMatchOf, IsRequestOf, games_in, matched};
 
 use crate::plan::VerifyPlan;
@@ -22,6 +22,8 @@ pub(crate) struct MatchRequest<'a> {
     pub date: &'a str,
     pub variant: Variant,
     pub log: bool,
+    pub flag: bool,
+    pub reply: Option<u16>,
 }
 
 /// What the arguments ask for; texts are not yet read as levels or positions.
@@ -73,19 +75,27 @@ fn stub_arguments<'a>(alloc: Global, found: &ArgMatches<'a>) -> Result<Vec<&'a s
     }
 }
 
-// The value of `--games`, 1 if it was not given; `found` are the options as matched.
-fn games_of(found: &ArgMatches<'_>) -> u16
-    requires { HasGames (rows_of (found_of found.now)) }
-    ensures value { result ≡ games_in (matched (rows_of (found_of found.now))) }
-    ensures range { (1 ≤ result) × (result ≤ 1000) }
+// The number that the option `name` was given, if it was given; `found` are the options as matched.
+fn number_in(found: &ArgMatches<'_>, name: &str) -> Option<u16>
+    requires { (most : ℕ) × (most ≤ 65535) × HasNumber name.now most (rows_of (found_of found.now)) }
+    ensures { result ≡ option_map number_of (first_of name.now (rows_of (found_of found.now))) }
 {
-    match found.get_str("games") {
-        None => 1,
+    match found.get_str(name) {
+        None => None,
         Some(text) => match text.parse::<u16>() {
-            Ok(games) => games,
+            Ok(number) => Some(number),
             Err(_) => unreachable!(),
         },
     }
+}
+
+// The value of `--games`, 1 if it was not given; `found` are the options as matched.
+fn games_of(found: &ArgMatches<'_>) -> u16
+    requires { HasNumber (codes "games") 1000 (rows_of (found_of found.now)) }
+    ensures value { result ≡ games_in (matched (rows_of (found_of found.now))) }
+    ensures range { (1 ≤ result) × (result ≤ 1000) }
+{
+    number_in(found, "games").unwrap_or(1)
 }
 
 // The variant that `--variant` asks for, normal chess if it was not given; `found` are the options as matched.
@@ -102,7 +112,7 @@ fn variant_of(found: &ArgMatches<'_>) -> Variant
 // The options of `match`, each as given or by default; `None` if `--white` or `--black` was not given. `found` are the
 // options as matched.
 fn match_request<'a>(found: &ArgMatches<'a>) -> Option<MatchRequest<'a>>
-    requires { HasGames (rows_of (found_of found.now)) }
+    requires { HasNumbers (rows_of (found_of found.now)) }
     ensures given { IfSome result (IsMatchOf (matched (rows_of (found_of found.now)))) }
     ensures needed { (is_some (first_of (codes "white") (rows_of (found_of found.now))) ≡ true)
         → (is_some (first_of (codes "black") (rows_of (found_of found.now))) ≡ true) → IsSome result }
@@ -118,6 +128,8 @@ fn match_request<'a>(found: &ArgMatches<'a>) -> Option<MatchRequest<'a>>
         date: text_or(found, "date", "????.??.??"),
         variant: variant_of(found),
         log: is_set(found, "log"),
+        flag: is_set(found, "flag"),
+        reply: number_in(found, "reply-timeout"),
     })
 }
 
@@ -129,7 +141,7 @@ pub(crate) fn request_in<'a>(
 ) -> Result<Request<'a>, AllocError>
     requires known { IsCommand name.now }
     requires both { NamesBoth (name.now, rows_of (found_of found.now)) }
-    requires games { HasGames (rows_of (found_of found.now)) }
+    requires numbers { HasNumbers (rows_of (found_of found.now)) }
     ensures { IfOk result (IsRequestOf (said_by (name.now, rows_of (found_of found.now)))) }
 {
     if name == "verify" {

@@ -4,6 +4,7 @@ use arbiter_cli::{Plan, VerifyPlan, WordsFault, read_words};
 use chess_base::Variant;
 use chess_fen::write_fen;
 use match_runner::GamesPlan;
+use std::alloc::{AllocError, Global};
 use std::fmt::Debug;
 use std::process::Abort;
 use std::test::Fail;
@@ -271,6 +272,66 @@ fn a_match_by_its_options(rt: HostRuntime) -> Result<(), Fail> {
     Ok(())
 }
 
+// Options of a match after its engines, whether its flags fall without a line, and the milliseconds for a reply.
+const PATIENCE: [(&[&str], bool, Option<u64>); 8] = [
+    (&[], false, None),
+    (&["--flag"], true, None),
+    (&["--reply-timeout", "1"], false, Some(1_000)),
+    (&["--reply-timeout", "10"], false, Some(10_000)),
+    (&["--reply-timeout=999"], false, Some(999_000)),
+    (&["--flag", "--reply-timeout", "10"], true, Some(10_000)),
+    (&["--reply-timeout", "60", "--flag"], true, Some(60_000)),
+    (&["--log", "--games", "2"], false, None),
+];
+
+// Options of a match after its engines that are refused.
+const NO_PATIENCE: [&[&str]; 12] = [
+    &["--reply-timeout", "0"],
+    &["--reply-timeout", "1000"],
+    &["--reply-timeout", "x"],
+    &["--reply-timeout", "1.5"],
+    &["--reply-timeout", ""],
+    &["--reply-timeout", "-1"],
+    &["--reply-timeout", "1", "--reply-timeout", "2"],
+    &["--reply-timeout"],
+    &["--reply-timeout", "--flag"],
+    &["--flag", "--flag"],
+    &["--flag=1"],
+    &["--flag", "1"],
+];
+
+// The arguments of a match between two engines with these options.
+fn match_with(alloc: Global, options: &[&'static str]) -> Result<Vec<&'static str>, AllocError> {
+    let mut arguments = vec![in alloc; "match", "--white", "x", "--black", "y"]?;
+    arguments.extend_from_slice(options)?;
+    Ok(arguments)
+}
+
+#[test]
+fn a_match_has_its_patience(rt: HostRuntime) -> Result<(), Fail> {
+    for (options, flag, reply) in &PATIENCE {
+        let arguments = match_with(rt.alloc(), options)?;
+        let Plan::Match(plan) = read_words(rt.alloc(), arguments.as_slice())? else {
+            return Err(Fail::new("another plan"));
+        };
+        is_equal(&rt, &plan.patience.flag, flag);
+        is_equal(&rt, &plan.patience.reply, reply);
+    }
+    Ok(())
+}
+
+#[test]
+fn other_patience_is_refused(rt: HostRuntime) -> Result<(), Fail> {
+    for options in &NO_PATIENCE {
+        let arguments = match_with(rt.alloc(), options)?;
+        match read_words(rt.alloc(), arguments.as_slice()) {
+            Err(WordsFault::Words(error)) => is_equal(&rt, &error.exit_code(), &2),
+            _ => return Err(Fail::new("not clap's fault")),
+        }
+    }
+    Ok(())
+}
+
 // Arguments of a match, and what is reported of them.
 const FAULTS: [(&[&str], &str); 8] = [
     (
@@ -398,7 +459,7 @@ fn faults_are_reported(rt: HostRuntime) -> Result<(), Fail> {
     Ok(())
 }
 
-const OTHERS: [(&[&str], i32); 39] = [
+const OTHERS: [(&[&str], i32); 42] = [
     (&["match", "--white", "x"], 2),
     (
         &["match", "--white", "x", "--white", "y", "--black", "z"],
@@ -463,6 +524,9 @@ const OTHERS: [(&[&str], i32); 39] = [
     (&["session", "--log"], 2),
     (&["verify", "--log"], 2),
     (&["stub", "--log"], 2),
+    (&["--flag"], 2),
+    (&["verify", "--flag"], 2),
+    (&["session", "--reply-timeout", "1"], 2),
     (&["match", "--white", "x", "--black", "y", "--log=x"], 2),
     (&["verify", "--quiet", "--help"], 0),
     (&["--white", "x"], 2),
@@ -487,7 +551,7 @@ fn other_arguments_are_refused(rt: HostRuntime) -> Result<(), Fail> {
 }
 
 // Arguments that ask for help, the beginning of a line in that text, and the arguments of the example on that line.
-const EXAMPLES: [(&[&str], &str, &[&str]); 16] = [
+const EXAMPLES: [(&[&str], &str, &[&str]); 17] = [
     (&["--help"], "\n  arbiter     ", &[]),
     (&["--help"], "\n  arbiter verify < games.pgn ", &["verify"]),
     (
@@ -595,6 +659,20 @@ const EXAMPLES: [(&[&str], &str, &[&str]); 16] = [
         &["match", "--help"],
         "\n  arbiter match --white ./a --black ./b --log 2> match.debug\n",
         &["match", "--white", "./a", "--black", "./b", "--log"],
+    ),
+    (
+        &["match", "--help"],
+        "\n  arbiter match --white ./a --black ./b --flag --reply-timeout 10\n",
+        &[
+            "match",
+            "--white",
+            "./a",
+            "--black",
+            "./b",
+            "--flag",
+            "--reply-timeout",
+            "10",
+        ],
     ),
 ];
 

@@ -1,5 +1,5 @@
--- A parse that passes leaves a value in each row, so a required option has its value.
-use Rattle.std.proofs.Common.{◌≡◌, ◌<◌, ◌++◌, ◌&&◌, ◌||◌, ℕ, zero, suc, Bool, true, false, List, [], ◌∷◌, length, Option, Some, None, is_some, refl, sym, ap, arith, true≢false, nat_lt, IfSome, codes, lit<, option_map, inl, inr}
+-- A parse that passes leaves a value in each row, so a required option has its value, and a number is in its range.
+use Rattle.std.proofs.Common.{◌≡◌, ◌<◌, ◌++◌, ◌&&◌, ◌||◌, ℕ, zero, suc, Bool, true, false, List, [], ◌∷◌, length, Option, Some, None, is_some, refl, sym, subst, ap, arith, true≢false, nat_lt, IfSome, codes, lit<, option_map, inl, inr}
 use Rattle.std.specs.Prelude.{find, fold, slice_get, option_and_then, if◌then◌else◌, cond, ◌==◌, drop, encode_utf8}
 use Rattle.std.specs.List.{list_all}
 use Rattle.std.specs.Option.{option_map_or}
@@ -29,21 +29,18 @@ use Rattle.std.proofs.lemmas.Slice.Eq.{bytes_eq-Decides}
 use Rattle.std.proofs.Common.{◌∙◌, ◌⊎◌, unwrap_or}
 use Rattle.std.proofs.lemmas.Bool.{and_from, or_parts, not-false}
 
--- a number of games in its range
-abbrev pub is_games : Text → Bool
-is_games = is_unsigned_in 1 1000
+-- the text may be a value of the argument with this id: it is in range where that takes a number
+abbrev pub fits : Text → Text → Bool
+fits id t = if bytes_eq id (codes "games") then is_unsigned_in 1 1000 t
+    else if bytes_eq id (codes "reply-timeout") then is_unsigned_in 1 999 t else true
 
--- the id is that of the number of games
-abbrev is_its : Text → Bool
-is_its id = bytes_eq id (codes "games")
+-- the texts may be values of the argument with this id
+abbrev Fit : Text → List Text → Type 0
+Fit id ts = list_all (fits id) ts ≡ true
 
--- texts of an argument are numbers of games where it is that argument
-abbrev AreGames : Text → List Text → Type 0
-AreGames id ts = is_its id ≡ true → list_all is_games ts ≡ true
-
--- the row has a value, and each is a number of games where it is of that argument
+-- the row has a value, and each may be one of its argument
 abbrev HasValue : Row → Type 0
-HasValue r = (0 < length r.values) × AreGames r.id r.values
+HasValue r = (0 < length r.values) × Fit r.id r.values
 
 abbrev HasValues : List Row → Type 0
 HasValues [] = Unit {0}
@@ -54,8 +51,8 @@ abbrev pub asks : Rule → Bool
 asks a = (nat_lt 0 (unwrap_or_range a.range).start_inclusive || is_request (action_of a)) || nat_lt 0 (length a.missing)
 
 abbrev Asks : Rule → Type 0
-Asks a = (asks a ≡ true) × (is_its a.id ≡ true → (t : Text) → value_passes a t ≡ is_games t) × AreGames a.id a.defaults
-    × AreGames a.id a.missing
+Asks a = (asks a ≡ true) × ((t : Text) → value_passes a t ≡ true → fits a.id t ≡ true) × Fit a.id a.defaults
+    × Fit a.id a.missing
 
 abbrev AllAsk : List Rule → Type 0
 AllAsk [] = Unit {0}
@@ -90,8 +87,12 @@ all-append : (p : Text → Bool) (xs ys : List Text) → list_all p xs ≡ true 
 all-append p [] ys h k = k
 all-append p (x ∷ xs) ys h k = and_from (p x) _ (both (p x) _ h).0 (all-append p xs ys (both (p x) _ h).1 k)
 
-same_id : (a b g : Text) → bytes_eq a b ≡ true → bytes_eq a g ≡ true → bytes_eq b g ≡ true
-same_id a b g e f = (bytes_eq-Decides b g).1 (sym ((bytes_eq-Decides a b).0 e) ∙ (bytes_eq-Decides a g).0 f)
+same_turned : (a b : Text) → bytes_eq a b ≡ true → bytes_eq b a ≡ true
+same_turned a b e = (bytes_eq-Decides b a).1 (sym ((bytes_eq-Decides a b).0 e))
+
+-- texts that fit an id also fit an equal one
+fit_same : (a b : Text) (ts : List Text) → bytes_eq a b ≡ true → Fit a ts → Fit b ts
+fit_same a b ts e h = subst (λ id. Fit id ts) ((bytes_eq-Decides a b).0 e) h
 
 at_choice : (b : Bool) (xs ys : List Row) → (b ≡ true → HasValues xs) → HasValues ys → HasValues (if b then xs else ys)
 at_choice true xs ys h k = h refl
@@ -110,27 +111,26 @@ longer [] ys lt = absurd (omega arith)
 longer (x ∷ xs) ys lt = omega arith
 
 with_values_kept : (id : Text) (how : Reading) (s : ValueSource) (v : Text) (vs : List Text) (rows : List Row)
-    → AreGames id (v ∷ vs) → HasValues rows
+    → Fit id (v ∷ vs) → HasValues rows
     → HasValues (with_values id how s (v ∷ vs) rows)
-with_values_kept id how s v vs rows games h =
+with_values_kept id how s v vs rows fit h =
     let made : Row = record { id = id; values = v ∷ vs; count = None; source = Some s; reading = how } in
     let some : 0 < suc (length vs) = omega arith in
     at_row_values id (more_values s (v ∷ vs)) (made ∷ [])
     (λ r e k. (
       (
         longer r.values (v ∷ vs) k.0,
-        λ f. all-append is_games r.values (v ∷ vs) (k.1 f)
-            (games (same_id r.id id (codes "games") e f)),
+        all-append (fits r.id) r.values (v ∷ vs) k.1 (fit_same id r.id (v ∷ vs) (same_turned r.id id e) fit),
       ),
       tt,
     ))
-    ((some, games), tt) rows h
+    ((some, fit), tt) rows h
 
 without_kept : (id : Text) (rows : List Row) → HasValues rows → HasValues (without id rows)
 without_kept id rows h = at_row_values id (λ _. []) [] (λ r e k. tt) tt rows h
 
 used_as_kept : (x : ArgAction) (id : Text) (how : Reading) (v : Text) (vs : List Text) (rows : List Row)
-    → AreGames id (v ∷ vs) → HasValues rows
+    → Fit id (v ∷ vs) → HasValues rows
     → HasValues (used_as x id how (v ∷ vs) rows)
 used_as_kept Set id how v vs rows g h = with_values_kept id how CommandLine v vs (without id rows) g
     (without_kept id rows h)
@@ -171,10 +171,11 @@ all_pass a [] e = refl
 all_pass a (v ∷ vs) e = and_from (value_passes a v) _ (accepted (value_passes a v) _ (no_kinds _ _ e).0)
     (all_pass a vs (no_kinds _ _ e).1)
 
-all_same : (p q : Text → Bool) (vs : List Text) → ((t : Text) → p t ≡ q t) → list_all p vs ≡ true → list_all q vs ≡ true
-all_same p q [] same e = refl
-all_same p q (v ∷ vs) same e =
-    and_from (q v) _ (sym (same v) ∙ (both (p v) _ e).0) (all_same p q vs same (both (p v) _ e).1)
+all_pass_too : (p q : Text → Bool) (vs : List Text) → ((t : Text) → p t ≡ true → q t ≡ true) → list_all p vs ≡ true
+    → list_all q vs ≡ true
+all_pass_too p q [] too e = refl
+all_pass_too p q (v ∷ vs) too e =
+    and_from (q v) _ (too v (both (p v) _ e).0) (all_pass_too p q vs too (both (p v) _ e).1)
 
 -- the values of a use that passes are checked
 checked : (x : ArgAction) (again : Bool) (a : Rule) (v : Text) (vs : List Text) (rows : List Row)
@@ -186,10 +187,10 @@ checked Append again a v vs rows e = inl e
 checked Count again a v vs rows e = inl e
 checked _ again a v vs rows e = inr refl
 
-games_of_use : (again : Bool) (a : Rule) (v : Text) (vs : List Text) (rows : List Row) → Asks a
-    → action_fault (action_of a) again a (v ∷ vs) rows ≡ [] → AreGames a.id (v ∷ vs)
-games_of_use again a v vs rows asks e = λ f. elim (checked (action_of a) again a v vs rows e) [
-  | inl ok ↦ all_same (value_passes a) is_games (v ∷ vs) (asks.1 f) (all_pass a (v ∷ vs) ok)
+fit_of_use : (again : Bool) (a : Rule) (v : Text) (vs : List Text) (rows : List Row) → Asks a
+    → action_fault (action_of a) again a (v ∷ vs) rows ≡ [] → Fit a.id (v ∷ vs)
+fit_of_use again a v vs rows asks e = elim (checked (action_of a) again a v vs rows e) [
+  | inl ok ↦ all_pass_too (value_passes a) (fits a.id) (v ∷ vs) asks.1 (all_pass a (v ∷ vs) ok)
   | inr bad ↦ absurd (requests_fail (action_of a) again a (v ∷ vs) rows bad e)
 ]
 
@@ -206,15 +207,14 @@ used_missing again a rows asks [] is none h =
     (nat_lt 0 (length a.missing)) asks.0 (ap (λ (ms : List Text). nat_lt 0 (length ms)) is) in
     absurd (no_value (nat_lt 0 (unwrap_or_range a.range).start_inclusive) again a rows refl first none)
 used_missing again a rows asks (m ∷ ms) is none h =
-    used_as_kept (action_of a) a.id (reading_by a) m ms rows (λ f. sym (ap (list_all is_games) is) ∙ asks.3 f) h
+    used_as_kept (action_of a) a.id (reading_by a) m ms rows (sym (ap (list_all (fits a.id)) is) ∙ asks.3) h
 
 used_kept : (again : Bool) (a : Rule) (values : List Text) (rows : List Row) → Asks a
     → use_fault again a values rows ≡ [] → HasValues rows
     → HasValues (used a values rows)
 used_kept again a [] rows asks none h = used_missing again a rows asks a.missing refl none h
 used_kept again a (v ∷ vs) rows asks none h =
-    used_as_kept (action_of a) a.id (reading_by a) v vs rows (games_of_use again a v vs rows asks (no_kinds _ _ none).1)
-    h
+    used_as_kept (action_of a) a.id (reading_by a) v vs rows (fit_of_use again a v vs rows asks (no_kinds _ _ none).1) h
 
 found : (b : Bool) (a : Rule) (o : Option Rule) → Asks a → IfSome o Asks → IfSome (cond b (Some a) o) Asks
 found true a o h k = h
@@ -414,7 +414,7 @@ module _ (s : Shape) (names : Names) (all : AllAsk s.rules) where
   walk_kept (word ∷ rest) w none v =
       walk_kept rest (walked s.rules names w word) (no_kinds _ _ none).1 (walked_kept w word (no_kinds _ _ none).0 v)
 
-default_rows_kept : (id : Text) (how : Reading) (values : List Text) (rows : List Row) → AreGames id values
+default_rows_kept : (id : Text) (how : Reading) (values : List Text) (rows : List Row) → Fit id values
     → HasValues rows
     → HasValues (default_rows id how values rows)
 default_rows_kept id how [] rows g h = h
@@ -481,14 +481,15 @@ first_passes : (p : Text → Bool) (ts : List Text) (t : Text) → list_all p ts
 first_passes p [] t e is = absurd (true≢false (sym (ap is_some is)))
 first_passes p (x ∷ xs) t e is = ap p (sym (some_is x t is)) ∙ (both (p x) _ e).0
 
-games_row : (o : Option Row) (t : Text) → IfSome o (λ q. HasValue q × (is_its q.id ≡ true))
-    → option_and_then (λ r. slice_get r.values 0) o ≡ Some t → is_games t ≡ true
-games_row None t h is = absurd (true≢false (sym (ap is_some is)))
-games_row (Some r) t h is = first_passes is_games r.values t (h.0.1 h.1) is
+fitting_row : (name : Text) (o : Option Row) (t : Text) → IfSome o (λ q. HasValue q × (bytes_eq q.id name ≡ true))
+    → option_and_then (λ r. slice_get r.values 0) o ≡ Some t → fits name t ≡ true
+fitting_row name None t h is = absurd (true≢false (sym (ap is_some is)))
+fitting_row name (Some r) t h is = first_passes (fits name) r.values t (fit_same r.id name r.values h.1 h.0.1) is
 
-games_in_range : (rows : List Row) → HasValues rows → (t : Text) → first_of (codes "games") rows ≡ Some t
-    → is_games t ≡ true
-games_in_range rows h t is = games_row (find (λ r. is_its r.id) rows) t (find_of_id (λ r. is_its r.id) rows h) is
+given_fits : (name : Text) (rows : List Row) → HasValues rows → (t : Text) → first_of name rows ≡ Some t
+    → fits name t ≡ true
+given_fits name rows h t is =
+    fitting_row name (find (λ r. bytes_eq r.id name) rows) t (find_of_id (λ r. bytes_eq r.id name) rows h) is
 
 abbrev Needs : Shape → Type 0
 Needs s = AllAsk s.rules × ((rows : List Row) → check_fault s rows false ≡ [] → s.name ≡ codes "match"
@@ -520,58 +521,18 @@ subs_need names =
     let not_verify : codes "verify" ≡ codes "match" → ⊥ = λ e. shorter (codes "match") (codes "verify") (lit< tt)
     (sym e) in
     let not_stub : codes "stub" ≡ codes "match" → ⊥ = λ e. shorter (codes "stub") (codes "match") (lit< tt) e in (
-      (
-        (
-          ((
-            refl,
-            (λ f. absurd (true≢false (sym f))),
-            (λ f. absurd (true≢false (sym f))),
-            (λ f. absurd (true≢false (sym f))),
-          )),
-          tt,
-        ),
-        λ rows none e. absurd (not_session e),
-        inl refl,
-      ),
+      (((refl, (λ t e. refl), refl, refl), tt), λ rows none e. absurd (not_session e), inl refl),
       (
         (
           (
+            (refl, (λ t e. refl), refl, refl),
             (
-              refl,
-              (λ f. absurd (true≢false (sym f))),
-              (λ f. absurd (true≢false (sym f))),
-              (λ f. absurd (true≢false (sym f))),
-            ),
-            (
+              (refl, (λ t e. refl), refl, refl),
               (
-                refl,
-                (λ f. absurd (true≢false (sym f))),
-                (λ f. absurd (true≢false (sym f))),
-                (λ f. absurd (true≢false (sym f))),
-              ),
-              (
+                (refl, (λ t e. refl), refl, refl),
                 (
-                  refl,
-                  (λ f. absurd (true≢false (sym f))),
-                  (λ f. absurd (true≢false (sym f))),
-                  (λ f. absurd (true≢false (sym f))),
-                ),
-                (
-                  (
-                    refl,
-                    (λ f. absurd (true≢false (sym f))),
-                    (λ f. absurd (true≢false (sym f))),
-                    (λ f. absurd (true≢false (sym f))),
-                  ),
-                  (
-                    (
-                      refl,
-                      (λ f. absurd (true≢false (sym f))),
-                      (λ f. absurd (true≢false (sym f))),
-                      (λ f. absurd (true≢false (sym f))),
-                    ),
-                    tt,
-                  ),
+                  (refl, (λ t e. refl), refl, refl),
+                  ((refl, (λ t e. refl), refl, refl), tt),
                 ),
               ),
             ),
@@ -582,21 +543,8 @@ subs_need names =
         (
           (
             (
-              (
-                refl,
-                (λ f. absurd (true≢false (sym f))),
-                (λ f. absurd (true≢false (sym f))),
-                (λ f. absurd (true≢false (sym f))),
-              ),
-              (
-                (
-                  refl,
-                  (λ f. absurd (true≢false (sym f))),
-                  (λ f. absurd (true≢false (sym f))),
-                  (λ f. absurd (true≢false (sym f))),
-                ),
-                tt,
-              ),
+              (refl, (λ t e. refl), refl, refl),
+              ((refl, (λ t e. refl), refl, refl), tt),
             ),
             λ rows none e. absurd (not_stub e),
             inr (inr (inl refl)),
@@ -604,64 +552,27 @@ subs_need names =
           (
             (
               (
+                (refl, (λ t e. refl), refl, refl),
                 (
-                  refl,
-                  (λ f. absurd (true≢false (sym f))),
-                  (λ f. absurd (true≢false (sym f))),
-                  (λ f. absurd (true≢false (sym f))),
-                ),
-                (
+                  (refl, (λ t e. refl), refl, refl),
                   (
-                    refl,
-                    (λ f. absurd (true≢false (sym f))),
-                    (λ f. absurd (true≢false (sym f))),
-                    (λ f. absurd (true≢false (sym f))),
-                  ),
-                  (
+                    (refl, (λ t e. refl), refl, refl),
                     (
-                      refl,
-                      (λ f. absurd (true≢false (sym f))),
-                      (λ f. absurd (true≢false (sym f))),
-                      (λ f. absurd (true≢false (sym f))),
-                    ),
-                    (
+                      (refl, (λ t e. refl), refl, refl),
                       (
-                        refl,
-                        (λ f. absurd (true≢false (sym f))),
-                        (λ f. absurd (true≢false (sym f))),
-                        (λ f. absurd (true≢false (sym f))),
-                      ),
-                      (
-                        (refl, (λ f t. refl), (λ f. refl), (λ f. refl)),
+                        (refl, (λ t e. e), refl, refl),
                         (
+                          (refl, (λ t e. refl), refl, refl),
                           (
-                            refl,
-                            (λ f. absurd (true≢false (sym f))),
-                            (λ f. absurd (true≢false (sym f))),
-                            (λ f. absurd (true≢false (sym f))),
-                          ),
-                          (
+                            (refl, (λ t e. refl), refl, refl),
                             (
-                              refl,
-                              (λ f. absurd (true≢false (sym f))),
-                              (λ f. absurd (true≢false (sym f))),
-                              (λ f. absurd (true≢false (sym f))),
-                            ),
-                            (
+                              (refl, (λ t e. refl), refl, refl),
                               (
-                                refl,
-                                (λ f. absurd (true≢false (sym f))),
-                                (λ f. absurd (true≢false (sym f))),
-                                (λ f. absurd (true≢false (sym f))),
-                              ),
-                              (
+                                (refl, (λ t e. refl), refl, refl),
                                 (
-                                  refl,
-                                  (λ f. absurd (true≢false (sym f))),
-                                  (λ f. absurd (true≢false (sym f))),
-                                  (λ f. absurd (true≢false (sym f))),
+                                  (refl, (λ t e. e), refl, refl),
+                                  ((refl, (λ t e. refl), refl, refl), tt),
                                 ),
-                                tt,
                               ),
                             ),
                           ),
@@ -693,7 +604,10 @@ level_of (Some s) words n none = (
       let g = n.1 (rows_after s.rules [] words) l.1 e in
       (given_first (codes "white") _ l.0 g.0, given_first (codes "black") _ l.0 g.1),
   n.2,
-  games_in_range (rows_after s.rules [] words) (level_rows s words n.0 none).0,
+  (
+    given_fits (codes "games") (rows_after s.rules [] words) (level_rows s words n.0 none).0,
+    given_fits (codes "reply-timeout") (rows_after s.rules [] words) (level_rows s words n.0 none).0,
+  ),
 )
 
 stop_level : (a : App) (stop : Option (Text × List Text)) → AllNeed a.subs → entered_fault a stop ≡ []

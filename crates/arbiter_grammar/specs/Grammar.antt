@@ -1,5 +1,5 @@
 -- The grammar of the command line, as `clap` sees it.
-use Rattle.std.specs.Prelude.{◌≡◌, ◌⊎◌, List, codes, fold, [], ◌∷◌, Some, Result, Ok, Err, is_some, map, true, unwrap_or}
+use Rattle.std.specs.Prelude.{◌≡◌, ◌⊎◌, ℕ, List, codes, fold, [], ◌∷◌, Some, Result, Ok, Err, is_some, map, true, unwrap_or}
 use Rattle.std.specs.Borrow.{Bor}
 use Rattle.clap.specs.Words.{App, HasKind, Kinds, Row, Rule, Text, fault_of, first_of, new_app, new_rule, subcommand_of, subcommand_rows_of, with_rule, with_subcommand}
 use Rattle.clap.specs.ValueTests.{is_unsigned_in}
@@ -26,7 +26,7 @@ abbrev pub AreVariants : VariantNames → Type 0
 AreVariants names = map (λ n. n.now) names.now ≡ codes "normal" ∷ codes "fischerandom" ∷ []
 
 -- the subcommand `match` with its options: `--white` and `--black` are required, `--games` takes a number from 1 to
--- 1,000, and `--variant` one of `names`
+-- 1,000, `--reply-timeout` one from 1 to 999, and `--variant` one of `names`
 abbrev pub match_app : VariantNames → App
 match_app names = fold with_rule (new_app (codes "match")) (
     record (option_rule (codes "white")) { required = true }
@@ -37,6 +37,8 @@ match_app names = fold with_rule (new_app (codes "match")) (
     ∷ option_rule (codes "date")
     ∷ record (option_rule (codes "variant")) { parser = Some (Names names) }
     ∷ flag_rule (codes "log")
+    ∷ flag_rule (codes "flag")
+    ∷ record (option_rule (codes "reply-timeout")) { parser = Some (Unsigned 1 999) }
     ∷ [])
 
 -- the subcommand `verify` with its flags `--keep-going`, `--quiet`, `--strict` and `--explain`
@@ -92,11 +94,15 @@ abbrev pub NamesBoth : Text × List Row → Type 0
 NamesBoth p = p.0 ≡ codes "match" → (is_some (first_of (codes "white") p.1) ≡ true)
     × (is_some (first_of (codes "black") p.1) ≡ true)
 
--- if `--games` was given, its value is a number from 1 to 1,000; `rows` are the options as matched
-abbrev pub HasGames : List Row → Type 0
-HasGames rows = (t : Text) → first_of (codes "games") rows ≡ Some t → is_unsigned_in 1 1000 t ≡ true
+-- if the option with this name was given, its value is a number from 1 to `most`; `rows` are the options as matched
+abbrev pub HasNumber : Text → ℕ → List Row → Type 0
+HasNumber name most rows = (t : Text) → first_of name rows ≡ Some t → is_unsigned_in 1 most t ≡ true
 
--- what was matched is a subcommand with all that it needs: of `match` both engines, and a valid number of games if one
--- is given. `p` is the subcommand's name and its options as matched
+-- the numbers of games and of seconds are in their ranges, if they were given; `rows` are the options as matched
+abbrev pub HasNumbers : List Row → Type 0
+HasNumbers rows = HasNumber (codes "games") 1000 rows × HasNumber (codes "reply-timeout") 999 rows
+
+-- what was matched is a subcommand with all that it needs: of `match` both engines, and valid numbers where they are
+-- given. `p` is the subcommand's name and its options as matched
 abbrev pub IsComplete : Text × List Row → Type 0
-IsComplete p = NamesBoth p × IsCommand p.0 × HasGames p.1
+IsComplete p = NamesBoth p × IsCommand p.0 × HasNumbers p.1

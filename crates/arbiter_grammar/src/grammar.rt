@@ -78,19 +78,25 @@ Examples:
 
 const MATCH_EXAMPLES: &str = "\
 The first engine plays White in odd games and Black in even ones. Both must send `feature ping=1` and `done=1`. They
-must also send `setboard=1`, except in normal chess from its initial position: in Chess960 it is always needed. There
-are no time-outs: an engine that never answers is waited for. After the last game comes the score, which is not PGN:
-grep -v '^score ' removes it.
+must also send `setboard=1`, except in normal chess from its initial position: in Chess960 it is always needed. After
+the last game comes the score, which is not PGN: grep -v '^score ' removes it.
+
+Without --flag and --reply-timeout there are no time-outs: an engine that never answers is waited for, and a flag falls
+only when the engine's next line comes. With --flag it falls as soon as the time is over. With --reply-timeout S the
+match ends if an engine takes more than S seconds for its next `feature` line, for a `pong`, or to read what it is sent;
+and one that has not exited S seconds after its input was closed is killed. With both every match ends.
 
 In the log, `312 <first : move e2e4` is a line from the first engine, whichever side it has, and `312 >second: e2e4` a
-line to the second; `!` marks an end of output, an I/O error, or a line that is too long and left out.
+line to the second; `!` marks an end of output, an I/O error, that no line came, or a line that is too long and left
+out.
 
 Examples:
   arbiter match --white sjeng --black phalanx
   arbiter match --white sjeng --black phalanx --games 10 --level \"40 5 0\" --date 2026.11.23 > match.txt
   arbiter match --white ./a --black \"./b -x\" --level \"0 0:30 1\" --fen \"4k3/8/8/8/8/8/4P3/4K3 w - - 0 1\"
   arbiter match --white ./a --black ./b --variant fischerandom
-  arbiter match --white ./a --black ./b --log 2> match.debug";
+  arbiter match --white ./a --black ./b --log 2> match.debug
+  arbiter match --white ./a --black ./b --flag --reply-timeout 10";
 
 // The names that `--variant` takes.
 static VARIANTS: [&str; 2] = ["normal", "fischerandom"];
@@ -171,6 +177,20 @@ fn variant_option<'a>(alloc: Global) -> Arg<'a>
     .value_parser(VARIANTS.as_slice())
 }
 
+// The option `--reply-timeout S`, with S from 1 to 999.
+fn reply_timeout_option<'a>(alloc: Global) -> Arg<'a>
+    ensures rule { rule_of result ≡ record (option_rule (codes "reply-timeout")) { parser = Some (Unsigned 1 999) } }
+    ensures local { result.global ≡ false }
+{
+    option(
+        alloc,
+        "reply-timeout",
+        "S",
+        "Seconds, 1 to 999, in which an engine must answer, read what it is sent, or exit [default: no limit]",
+    )
+    .value_parser(ValueParser::unsigned(1, 999))
+}
+
 // The subcommand `match` with its options, of which `--white` and `--black` must be given.
 fn match_command<'a>(alloc: Global) -> Result<Command<'a>, AllocError>
     ensures app { IfOk result (λ c. GivesMatchApp (app_of c)) }
@@ -213,7 +233,13 @@ fn match_command<'a>(alloc: Global) -> Result<Command<'a>, AllocError>
         alloc,
         "log",
         "Log the lines from and to both engines on standard error, in the format of XBoard's debug file",
-    ))
+    ))?
+    .arg(flag(
+        alloc,
+        "flag",
+        "Let a flag fall as soon as the time is over, without waiting for the engine's next line",
+    ))?
+    .arg(reply_timeout_option(alloc))
 }
 
 // The subcommand `verify` without its flags. Its usage shows that the games come from standard input.

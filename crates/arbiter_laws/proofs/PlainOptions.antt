@@ -13,7 +13,7 @@ use Rattle.clap.specs.declared.error.kind.ErrorKind.TheVariants as kind
 use Rattle.clap.proofs.ValueTestLemmas.{Accepts-accepts}
 use Rattle.clap.proofs.WalkLemmas.{list_any-map}
 use Rattle.arbiter_grammar.specs.Grammar.{AreVariants, VariantNames, match_app, stub_app, verify_app}
-use Rattle.arbiter_laws.specs.PlainArguments.{Given, IsGames, IsOfMatch, IsOfVerify, IsVariant, flag, has_hyphen, valued}
+use Rattle.arbiter_laws.specs.PlainArguments.{Given, IsNumberTo, IsOfMatch, IsOfVerify, IsVariant, flag, has_hyphen, valued}
 use Rattle.arbiter_laws.proofs.PlainWalk.{IsFlag, Known, TakesValue}
 
 -- a subcommand as `build` leaves it, with these rules
@@ -50,12 +50,13 @@ of_verify (flag name) (inr (inr (inr e))) = subst (IsFlag verify_shape) (sym e)
 
 -- ---- match
 
-small : (n : ℕ) → n ≤ 1000 → n < 2 ^ 64
-small n le = omega arith
+small : (n most : ℕ) → n ≤ most → most ≤ 1000 → n < 2 ^ 64
+small n most le limit = omega arith
 
-games_pass : (text : Text) → IsGames text → accepts false (vp.Unsigned 1 1000) text ≡ true
-games_pass text is = Accepts-accepts false (vp.Unsigned 1 1000) text
-    (is.0, small (digits_value 10 (without_leading_plus text)) is.2, is.1, is.2)
+number_passes : (most : ℕ) → most ≤ 1000 → (text : Text) → IsNumberTo most text
+    → accepts false (vp.Unsigned 1 most) text ≡ true
+number_passes most limit text is = Accepts-accepts false (vp.Unsigned 1 most) text
+    (is.0, small (digits_value 10 (without_leading_plus text)) most is.2 limit, is.1, is.2)
 
 abbrev is_text : Text → Text → Bool
 is_text text name = bytes_eq name text
@@ -126,7 +127,7 @@ module _ (names : VariantNames) (text : Text) (plain : has_hyphen text ≡ false
     passes = λ rows. refl;
   }
 
-  games : IsGames text → TakesValue (match_shape names) (codes "games") text
+  games : IsNumberTo 1000 text → TakesValue (match_shape names) (codes "games") text
   unfolding walked
   games number = record {
     first = λ rows p. refl;
@@ -135,7 +136,19 @@ module _ (names : VariantNames) (text : Text) (plain : has_hyphen text ≡ false
     taken = λ rows. refl;
     uses = λ rows. refl;
     passes = λ rows. ap (λ (b : Bool). or_else (repeat_fault false (codes "games") rows)
-        (or_else (if b then [] else kind.ValueValidation ∷ []) [])) (games_pass text number);
+        (or_else (if b then [] else kind.ValueValidation ∷ []) [])) (number_passes 1000 (omega arith) text number);
+  }
+
+  reply_timeout : IsNumberTo 999 text → TakesValue (match_shape names) (codes "reply-timeout") text
+  unfolding walked
+  reply_timeout number = record {
+    first = λ rows p. refl;
+    first_fault = λ rows p. refl;
+    plain = plain;
+    taken = λ rows. refl;
+    uses = λ rows. refl;
+    passes = λ rows. ap (λ (b : Bool). or_else (repeat_fault false (codes "reply-timeout") rows)
+        (or_else (if b then [] else kind.ValueValidation ∷ []) [])) (number_passes 999 (omega arith) text number);
   }
 
   variant : AreVariants names → IsVariant text → TakesValue (match_shape names) (codes "variant") text
@@ -155,8 +168,13 @@ log : (names : VariantNames) → IsFlag (match_shape names) (codes "log")
 unfolding walked
 log names = record { first = λ rows p. refl; first_fault = λ rows p. refl }
 
+falls : (names : VariantNames) → IsFlag (match_shape names) (codes "flag")
+unfolding walked
+falls names = record { first = λ rows p. refl; first_fault = λ rows p. refl }
+
 pub of_match : (names : VariantNames) → AreVariants names → (g : Given) → IsOfMatch g → Known (match_shape names) g
-of_match names are (flag name) e = subst (IsFlag (match_shape names)) (sym e) (log names)
+of_match names are (flag name) (inl e) = subst (IsFlag (match_shape names)) (sym e) (log names)
+of_match names are (flag name) (inr e) = subst (IsFlag (match_shape names)) (sym e) (falls names)
 of_match names are (valued name text) (plain, inl e) =
     subst (λ n. TakesValue (match_shape names) n text) (sym e) (white names text plain)
 of_match names are (valued name text) (plain, inr (inl e)) =
@@ -169,5 +187,7 @@ of_match names are (valued name text) (plain, inr (inr (inr (inr (inl e))))) =
     subst (λ n. TakesValue (match_shape names) n text) (sym e) (date names text plain)
 of_match names are (valued name text) (plain, inr (inr (inr (inr (inr (inl (e, number))))))) =
     subst (λ n. TakesValue (match_shape names) n text) (sym e) (games names text plain number)
-of_match names are (valued name text) (plain, inr (inr (inr (inr (inr (inr (e, is))))))) =
+of_match names are (valued name text) (plain, inr (inr (inr (inr (inr (inr (inl (e, number)))))))) =
+    subst (λ n. TakesValue (match_shape names) n text) (sym e) (reply_timeout names text plain number)
+of_match names are (valued name text) (plain, inr (inr (inr (inr (inr (inr (inr (e, is)))))))) =
     subst (λ n. TakesValue (match_shape names) n text) (sym e) (variant names text plain are is)

@@ -1,9 +1,8 @@
 -- Plain arguments are read as what they say.
 use Rattle.std.proofs.Common.{◌≡◌, ◌∙◌, ◌<◌, ◌||◌, Bool, true, false, not, List, [], ◌∷◌, length, Option, Some, None, Result, Ok, Err, codes, find, fold, flat_map, is_some, option_map, refl, sym, subst, ap, ap₂, lit<, arith}
-use Rattle.std.specs.Prelude.{if◌then◌else◌, unwrap_or}
+use Rattle.std.specs.Prelude.{◌*◌, if◌then◌else◌, unwrap_or}
 use Rattle.std.specs.Option.{option_map_or, option_or}
 use Rattle.std.specs.Str.{bytes_eq}
-use Rattle.std.specs.Str.Parse.{digits_value, without_leading_plus}
 use Rattle.clap.specs.Words.{Kinds, Row, Text, first_of}
 use Rattle.clap.specs.Faults.{check_fault, defaults_fault, entered_fault, level_fault, settle_fault, turn_fault, walk_fault}
 use Rattle.clap.specs.Kinds.{check_kinds, or_else}
@@ -18,10 +17,11 @@ use Rattle.chess_base.specs.declared.setup.Setup.{Setup}
 use Rattle.chess_base.specs.Initial.{initial_setup_of}
 use Rattle.chess_fen.specs.Reading.{fen_reading_as}
 use Rattle.chess_base.specs.declared.man.Variant.TheVariants.{Normal, Fischerandom}
-use Rattle.arbiter_cli.specs.Plans.{IsMatchPlan, IsReadAs, Said, Values, is_date, is_set, level_start_and_date, said_by, start_asked, variant_in, verify_plan_of}
+use Rattle.arbiter_cli.specs.Plans.{IsMatchPlan, IsReadAs, Said, Values, is_date, is_set, level_start_and_date, number_of, said_by, start_asked, variant_in, verify_plan_of}
 use Rattle.arbiter_cli.specs.declared.plan.Plan.{Plan}
 use Rattle.arbiter_cli.specs.declared.plan.Plan.TheVariants.{Session, Verify, Stub, Match}
 use Rattle.match_runner.specs.declared.plan.GamesPlan.{GamesPlan}
+use Rattle.chess_match.specs.declared.patience.Patience.{Patience}
 use Rattle.arbiter_cli.specs.declared.plan.VerifyPlan.{VerifyPlan}
 use Rattle.arbiter_cli.specs.declared.fault.WordsFault.{WordsFault}
 use Rattle.arbiter_cli.specs.declared.fault.WordsFault.TheVariants.{Words, NoMemory, BadLevel, BadFen, BadDate}
@@ -102,6 +102,8 @@ record Agrees (v w : Values) : Type 0 where
   date : v (codes "date") ≡ w (codes "date")
   variant : v (codes "variant") ≡ w (codes "variant")
   log : is_set (codes "log") v ≡ is_set (codes "log") w
+  falls : is_set (codes "flag") v ≡ is_set (codes "flag") w
+  reply : v (codes "reply-timeout") ≡ w (codes "reply-timeout")
 
 -- the start that these two options ask for
 abbrev start_by : Variant → Option Text → Result Setup FenFault
@@ -117,14 +119,19 @@ same_start v w a =
     (ap₂ start_by variant a.fen)
     (ap (λ (o : Option Text). unwrap_or o (codes "????.??.??")) a.date) refl
 
+-- the patience with this flag and this value of `--reply-timeout`
+abbrev patience_with : Bool → Option Text → Patience
+patience_with falls seconds = record { flag = falls; reply = option_map (λ text. number_of text * 1000) seconds }
+
 same_match : (v w : Values) → Agrees v w → (plan : GamesPlan) → IsMatchPlan v plan → IsMatchPlan w plan
 same_match v w a plan is = record {
   white = sym a.white ∙ is.white;
   black = sym a.black ∙ is.black;
   read = sym (same_start v w a) ∙ is.read;
-  games = is.games ∙ ap (λ (o : Option Text). option_map_or (λ t. digits_value 10 (without_leading_plus t)) o 1) a.games;
+  games = is.games ∙ ap (λ (o : Option Text). option_map_or number_of o 1) a.games;
   games_range = is.games_range;
   log = is.log ∙ a.log;
+  patience = is.patience ∙ ap₂ patience_with a.falls a.reply;
 }
 
 record SaysTheSame (a b : Said) : Type 0 where
@@ -214,6 +221,8 @@ match_alike names options =
       date = alike (codes "date") refl;
       variant = alike (codes "variant") refl;
       log = flag_alike (match_shape names) options (codes "log") refl;
+      falls = flag_alike (match_shape names) options (codes "flag") refl;
+      reply = alike (codes "reply-timeout") refl;
     }
 
 of_verify_only : (a b : Said) → a.command ≡ codes "verify" → b.command ≡ codes "verify"

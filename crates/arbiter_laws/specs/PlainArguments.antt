@@ -1,6 +1,6 @@
 -- Plain arguments, and what they say, without the grammar: a subcommand and then its options, in any order and each at
 -- most once. A value is an argument of its own and begins with no hyphen.
-use Rattle.std.specs.Prelude.{◌≡◌, ◌≢◌, ◌≤◌, ◌==◌, ◌⊎◌, Bool, false, List, [], ◌∷◌, ◌++◌, codes, None, find, flat_map, option_map, AllPairs, IsSome, Result, ⊤}
+use Rattle.std.specs.Prelude.{◌≡◌, ◌≢◌, ◌≤◌, ◌==◌, ◌⊎◌, ℕ, Bool, false, List, [], ◌∷◌, ◌++◌, codes, None, find, flat_map, option_map, AllPairs, IsSome, Result, ⊤}
 use Rattle.std.specs.List.{AllByRecursion}
 use Rattle.std.specs.Str.{bytes_eq}
 use Rattle.std.specs.Str.Parse.{IsNumeral, digits_value, without_leading_plus}
@@ -62,10 +62,10 @@ abbrev pub has_hyphen : Text → Bool
 has_hyphen [] = false
 has_hyphen (b ∷ bs) = b == 45
 
--- the text is a number from 1 to 1,000, which may have a plus before it
-abbrev pub IsGames : Text → Type 0
-IsGames text = let digits = without_leading_plus text in
-    IsNumeral 10 digits × (1 ≤ digits_value 10 digits) × (digits_value 10 digits ≤ 1000)
+-- the text is a number from 1 to `most`, which may have a plus before it
+abbrev pub IsNumberTo : ℕ → Text → Type 0
+IsNumberTo most text = let digits = without_leading_plus text in
+    IsNumeral 10 digits × (1 ≤ digits_value 10 digits) × (digits_value 10 digits ≤ most)
 
 -- the text names a variant
 abbrev pub IsVariant : Text → Type 0
@@ -81,9 +81,9 @@ IsOfVerify (flag name) = (name ≡ codes "keep-going") ⊎ (name ≡ codes "quie
 abbrev pub IsOfMatch : Given → Type 0
 IsOfMatch (valued name value) = (has_hyphen value ≡ false)
     × ((name ≡ codes "white") ⊎ (name ≡ codes "black") ⊎ (name ≡ codes "level") ⊎ (name ≡ codes "fen")
-    ⊎ (name ≡ codes "date") ⊎ ((name ≡ codes "games") × IsGames value)
-    ⊎ ((name ≡ codes "variant") × IsVariant value))
-IsOfMatch (flag name) = name ≡ codes "log"
+    ⊎ (name ≡ codes "date") ⊎ ((name ≡ codes "games") × IsNumberTo 1000 value)
+    ⊎ ((name ≡ codes "reply-timeout") × IsNumberTo 999 value) ⊎ ((name ≡ codes "variant") × IsVariant value))
+IsOfMatch (flag name) = (name ≡ codes "log") ⊎ (name ≡ codes "flag")
 
 -- each of the options passes the test, and none is given twice
 abbrev pub EachOnce : (Given → Type 0) → List Given → Type 0

@@ -1,6 +1,6 @@
 # The second engine of the stored match: the program as a stub, once two matches of it showed that each game is written
-# before the next one begins and before its engines have ended, and that an engine that is gone at a game's end ends the
-# match.
+# before the next one begins and before its engines have ended, that an engine that is gone at a game's end ends the
+# match, and that an engine that hangs doesn't hold up a match.
 program=/proc/$PPID/exe
 
 same() {
@@ -16,5 +16,8 @@ same seen seen.txt
 [ $? -eq 1 ] || exit
 same left left.txt
 same fault fault.txt
+
+# The scripts of each game run this one: once is enough.
+[ -e hung ] || sh hung.sh "$program" || exit
 
 exec "$program" stub e7e5 d8h4

@@ -77,8 +77,8 @@ nothing = record { flushed = []; left = []; any_flush = false; failed = false }
 abbrev pub all_of : List ℕ → ToOutput
 all_of text = record { flushed = text; left = []; any_flush = true; failed = false }
 
--- what went to an output: for each of these items, such as lines that are answered, a part of `text` (it may be empty)
--- was written and flushed; the parts are all of `text`, and nothing failed. Without any item, no flush succeeded
+-- what went to an output, if a flush follows what is written for each of these items, such as lines that are answered:
+-- all of this text was written and flushed, and nothing failed. Without any item, no flush succeeded
 abbrev pub all_for : {A : Type 0} → List A → List ℕ → ToOutput
 all_for items text = record { flushed = text; left = []; any_flush = nat_lt 0 (length items); failed = false }
 

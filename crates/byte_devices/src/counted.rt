@@ -1,7 +1,7 @@
 //! An input or an output out of any reader or writer of std.
 
-ghost use Rattle.std.specs.Prelude.{◌≡◌, ◌==◌, ◌-◌, ◌^◌, ◌<◌, false};
-ghost use Rattle.byte_devices.specs.Devices.{saturating_increment};
+ghost use Rattle.std.specs.Prelude.{◌≡◌, ◌==◌, ◌-◌, ◌^◌, ◌<◌, [], false, not, nat_lt};
+ghost use Rattle.byte_devices.specs.Devices.{saturating_increment, WaitStep, TookThenFailed};
 ghost use Rattle.byte_devices.specs.ties.Counting.{no_counts, one_failure_more, passed_on, counts_after_read, write_passed_on, counts_after_write, counts_after_flush};
 
 use crate::traits::{Input, Output, ReadFault, WriteFault};
@@ -9,7 +9,7 @@ use std::io::{self, Read, Write};
 
 // What is counted of a device's calls: calls that failed, reads that reported the end of the input, the length of what
 // the last read gave, the reads that succeeded in all (`pieces`: each gave a piece of the input, an empty one at its
-// end), and the bytes written since the last successful flush.
+// end; a wait in which nothing came counts as one too), and the bytes written since the last successful flush.
 #[derive(Drop)]
 pub(crate) struct Counts {
     failures: u64,
@@ -34,8 +34,8 @@ impl Counts {
         }
     }
 
-    // Whether 2^64 - 1 reads succeeded (`Ok(0)` counts too), so that one more can't be counted. Every later read is
-    // then a failure.
+    // Whether 2^64 - 1 reads succeeded (`Ok(0)` counts too, and so does a wait in which nothing came), so that one more
+    // can't be counted. Every later read is then a failure.
     fn is_spent(&self) -> bool
         ensures value { result ≡ (self.now.pieces == 2 ^ 64 - 1) }
         ensures room { result ≡ false → self.now.pieces < 2 ^ 64 - 1 }
@@ -156,6 +156,21 @@ impl<R: Read> Counted<R> {
     {
         &self.device
     }
+
+    /// Counts a wait in which nothing came, for an input over this one that waits by itself: it is one of the 2^64 - 1
+    /// reads that can succeed. Returns whether it was counted: not if none of them is left.
+    pub fn fall_silent(&mut self) -> bool
+        ensures step { WaitStep (⟦<Counted<R> as Input>⟧.seen self.old) (⟦<Counted<R> as Input>⟧.seen self.new)
+            (not result) }
+        ensures counted { result ≡ nat_lt 0 (⟦<Counted<R> as Input>⟧.seen self.old).pieces_left }
+        ensures device { self.new.device ≡ self.old.device }
+    {
+        if self.counts.is_spent() {
+            return false;
+        }
+        self.counts.pieces += 1;
+        true
+    }
 }
 
 impl<W: Write> Counted<W> {
@@ -172,6 +187,16 @@ impl<W: Write> Counted<W> {
         ensures { W.contents result.now ≡ (⟦<Counted<W> as Output>⟧.seen self.now).known_bytes }
     {
         &self.device
+    }
+
+    /// Counts a failed call without making one, as of a write that could not go on, and returns the fault.
+    pub fn fail_write(&mut self) -> WriteFault
+        ensures step { TookThenFailed (⟦<Counted<W> as Output>⟧.seen self.old) (⟦<Counted<W> as Output>⟧.seen self.new)
+            [] }
+        ensures device { self.new.device ≡ self.old.device }
+    {
+        self.counts.fail();
+        WriteFault
     }
 
     /// Gives back the writer that was passed to `writing`, and drops the counts.

@@ -17,6 +17,7 @@ mod counted;
 mod gated;
 mod memory;
 mod search;
+mod silent;
 mod traits;
 
 pub use buffers::{append, append_number};
@@ -24,4 +25,5 @@ pub use counted::Counted;
 pub use gated::{GatedReader, GatedWriter};
 pub use memory::{PieceReader, PieceWriter};
 pub use search::{len_before, len_before_any};
+pub use silent::SilentAfter;
 pub use traits::{Input, Output, ReadFault, WriteFault, put, put_parts, send};

@@ -1,7 +1,7 @@
 //! What reads pieces, and what takes them.
 
 ghost use Rattle.std.specs.Prelude.{◌<◌, length};
-ghost use Rattle.byte_devices.specs.Devices.{InputState, OutputState, ReadStep, WriteStep, FlushStep, Puts, Sends, joined};
+ghost use Rattle.byte_devices.specs.Devices.{InputState, OutputState, ReadStep, WaitStep, WriteStep, FlushStep, Puts, Sends, joined};
 
 /// The error of a read that failed. It consumed no byte of the input.
 #[derive(Clone, Copy, Debug, PartialEq, Eq, thiserror::Error)]
@@ -22,6 +22,15 @@ pub trait Input {
     fn read(&mut self, buf: &mut [u8]) -> Result<usize, ReadFault>
         requires { 0 < length buf.old }
         ensures { ReadStep (seen self.old) (seen self.new) result buf.new };
+
+    /// Waits until a read would return at once, but not beyond the moment `until`, in milliseconds by the input's own
+    /// clock. Returns whether it would: with bytes, the end of the input, or a failure. An input that has no clock says
+    /// so at once, and then a read may take as long as it likes.
+    fn wait(&mut self, _until: u64) -> bool
+        ensures { WaitStep (seen self.old) (seen self.new) result }
+    {
+        true
+    }
 }
 
 /// A sink of bytes. Its contract counts the calls that failed, and the bytes that are not flushed.

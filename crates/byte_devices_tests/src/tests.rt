@@ -1,8 +1,8 @@
-ghost use Rattle.std.specs.Prelude.{◌≤◌, IfOk};
+ghost use Rattle.std.specs.Prelude.{◌<◌, ◌≤◌, IfOk};
 
 use byte_devices::{
     Counted, GatedReader, GatedWriter, Input, Output, PieceReader, PieceWriter, ReadFault,
-    WriteFault, len_before, len_before_any, put, put_parts,
+    SilentAfter, WriteFault, len_before, len_before_any, put, put_parts,
 };
 use std::cell::Cell;
 use std::fmt::Debug;
@@ -281,4 +281,77 @@ fn gate_opens_at_each_flush_for_one_line(rt: HostRuntime) {
     }
     is_equal(&rt, &input.reader().early, &4);
     is_taken(&rt, output.writer().bytes.as_slice(), b"pong 1\nx");
+}
+
+// Waits for a piece, which is to be there or not.
+fn waits<R: Input>(rt: &impl Abort, input: &mut R, wanted: bool) {
+    is_equal(rt, &input.wait(0), &wanted);
+}
+
+// Waits for each piece of a text and reads it; nothing is to come between them.
+fn gives_text<R: Input>(rt: &impl Abort, input: &mut R, text: &[u8], cut: usize)
+    requires { 0 < cut }
+{
+    for piece in text.chunks(cut) {
+        waits(rt, input, true);
+        gives(rt, input, Ok(piece));
+    }
+}
+
+// An input gives so many bytes of the text, then so many waits find nothing, and then it gives the others.
+fn falls_silent(rt: &impl Abort, at: usize, silences: u64, cut: usize)
+    requires { 0 < cut }
+{
+    let (before, after) = TEXT.split_at(at.min(TEXT.len()));
+    let mut input = SilentAfter::new(PieceReader::new(TEXT, cut, 0), before.len(), silences);
+    gives_text(rt, &mut input, before, cut);
+    for _ in 0..silences {
+        waits(rt, &mut input, false);
+    }
+    gives_text(rt, &mut input, after, cut);
+    waits(rt, &mut input, true);
+    gives(rt, &mut input, Ok(b""));
+}
+
+#[test]
+fn an_input_falls_silent_at_each_place(rt: HostRuntime) {
+    for at in 0..10 {
+        falls_silent(&rt, at, 1, 1);
+        falls_silent(&rt, at, 3, 1);
+        falls_silent(&rt, at, 1, 64);
+        falls_silent(&rt, at, 3, 64);
+    }
+}
+
+// Only waits find nothing: a read gives what there is.
+#[test]
+fn a_read_does_not_wait_for_the_silence_to_end(rt: HostRuntime) {
+    let mut input = SilentAfter::new(PieceReader::new(TEXT, 64, 0), 4, 2);
+    gives(&rt, &mut input, Ok(b"new\n"));
+    waits(&rt, &mut input, false);
+    gives(&rt, &mut input, Ok(b"e2e4\n"));
+    waits(&rt, &mut input, false);
+    waits(&rt, &mut input, true);
+    gives(&rt, &mut input, Ok(b""));
+}
+
+// A reader of std has no clock, so a read may be made at once, before its end and there.
+#[test]
+fn a_reader_without_a_clock_is_not_waited_for(rt: HostRuntime) {
+    let mut input = Counted::reading(TEXT);
+    gives_text(&rt, &mut input, TEXT, 16);
+    waits(&rt, &mut input, true);
+    gives(&rt, &mut input, Ok(b""));
+    waits(&rt, &mut input, true);
+}
+
+// A silence and a failed write can be counted, which asks the device for nothing.
+#[test]
+fn counting_asks_nothing_of_the_device(rt: HostRuntime) {
+    let mut input = Counted::reading(Asked::answering(Some(1)));
+    is_equal(&rt, &input.fall_silent(), &true);
+    is_equal(&rt, &input.reader().asked(), &[0, 0]);
+    let mut output = Counted::writing(Asked::answering(Some(1)));
+    is_equal(&rt, &output.fail_write(), &WriteFault);
+    is_equal(&rt, &output.writer().asked(), &[0, 0]);
 }

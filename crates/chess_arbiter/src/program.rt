@@ -25,7 +25,8 @@ use match_runner::{GamesPlan, Log, play_games};
 use pgn_verifier::{Verified, VerifyFault, VerifyOptions, verify, verify_collection};
 use std::alloc::{AllocError, Global};
 use std::fmt::Display;
-use std::process::Processes;
+use std::os::fd::AsRawFd;
+use std::process::{OpenProcess, Processes};
 use std::rt::Clock;
 use stub_engine::Stub;
 
@@ -196,8 +197,8 @@ fn report_arguments<W: Output, E: Output>(
     }
 }
 
-// Plays the games of a plan: PGN and score go to `output`, the log, if asked for, to `log`. Returns the exit status: 0,
-// or 1 after a fault, which is reported where the log goes.
+// Plays the games of a plan: PGN and score go to `output`; the log, if asked for, and lines of engines that were killed
+// go to `log`. Returns the exit status: 0, or 1 after a fault, which is reported where the log goes.
 fn matched<P: Processes + Clock, W: Output, E: Output>(
     rt: &P,
     alloc: Global,
@@ -205,6 +206,9 @@ fn matched<P: Processes + Clock, W: Output, E: Output>(
     output: &mut W,
     log: &mut Log<E>,
 ) -> u8
+where
+    <P::Started as OpenProcess>::Stdout: AsRawFd,
+    <P::Started as OpenProcess>::Stdin: AsRawFd,
     ensures { (λ (l l' : LogSeen). (played : Result (Unit {0}) GamesFault) × (logged : LogSeen)
         × PlaysGames plan.now played (W.seen output.old) (W.seen output.new) l logged
         × (result ≡ status_of played) × (result ≡ 0 → l' ≡ logged))
@@ -225,9 +229,9 @@ fn matched<P: Processes + Clock, W: Output, E: Output>(
 ///   tag line. A fault ends only its piece, and totals follow at the end. `--quiet` leaves out games without a fault;
 ///   with `--strict` a result that contradicts the tag Result or the final position is a fault too; with `--explain` a
 ///   second line explains each fault.
-/// - `match` with `--white`, `--black` and perhaps `--games`, `--level`, `--fen`, `--variant`, `--date` and `--log`:
-///   games between two engines that are started as processes, the text of each game, and then the score. The
-///   input is left untouched.
+/// - `match` with `--white`, `--black` and perhaps `--games`, `--level`, `--fen`, `--variant`, `--date`, `--log`,
+///   `--flag` and `--reply-timeout`: games between two engines that are started as processes, the text of each game,
+///   and then the score. The input is left untouched.
 /// - `stub`, and arguments to play: an engine that plays these on the input and the output.
 /// - Help or the version, if `clap` asks for it: a text on the output. The input is left untouched.
 ///
@@ -237,10 +241,10 @@ fn matched<P: Processes + Clock, W: Output, E: Output>(
 /// other arguments.
 ///
 /// The contract says what was read and written, and the status. After a match with status 0 the error output has just
-/// the logs of its games if `--log` was given, up to a failed write, and otherwise nothing. Only tests show that a
-/// match starts its programs, that games and logs are theirs, and what else is written to the error output:
-/// `arbiter: FAULT`, after the logs if there are any; what `clap` says of invalid arguments; and nothing if a game
-/// verified has a fault.
+/// the logs of its games if `--log` was given, and a line for each engine that was killed, up to a failed write. Only
+/// tests show that a match starts its programs, that games and logs are theirs, and what else is written to the error
+/// output: `arbiter: FAULT`, after the logs if there are any; what `clap` says of invalid arguments; and nothing if a
+/// game verified has a fault.
 pub fn run_program<'a, P: Processes + Clock, R: Input, W: Output, E: Output>(
     rt: &P,
     alloc: Global,
@@ -249,6 +253,9 @@ pub fn run_program<'a, P: Processes + Clock, R: Input, W: Output, E: Output>(
     output: &mut W,
     errors: &mut Log<E>,
 ) -> u8
+where
+    <P::Started as OpenProcess>::Stdout: AsRawFd,
+    <P::Started as OpenProcess>::Stdin: AsRawFd,
     ensures { RanProgram (map (λ w. w.now) arguments.entry.now)
         (record { input = R.seen input.old; output = W.seen output.old })
         (record { input = R.seen input.new; output = W.seen output.new })

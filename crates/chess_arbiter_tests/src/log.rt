@@ -1,12 +1,12 @@
 //! The log of a match, over memory.
 
 use crate::runs::{is_equal, is_text};
-use byte_devices::{Counted, PieceReader, PieceWriter};
+use byte_devices::{Counted, PieceReader, PieceWriter, SilentAfter};
 use cecp_engine::Level;
 use chess_arbiter::{Log, run_match_logged};
 use chess_base::{ByColour, Colour, Position};
 use chess_game::Game;
-use chess_match::{Ends, MatchFault, Moments, Setup};
+use chess_match::{Ends, MatchFault, Moments, Patience, Setup};
 use chess_moves::Plain;
 use std::alloc::Global;
 use std::process::Abort;
@@ -35,8 +35,8 @@ impl Moments for Listed<'_> {
     }
 }
 
-/// What two engines send, the side of the first engine, the calls of the devices that fail, 0 for none, and the
-/// moments.
+/// What two engines send, the side of the first engine, the calls of the devices that fail, 0 for none, after how many
+/// bytes White falls silent and for how many waits, and the moments. Both limits are two seconds.
 #[derive(Clone, Copy)]
 struct MatchInput<'a> {
     white: &'a [u8],
@@ -45,6 +45,8 @@ struct MatchInput<'a> {
     white_read: u64,
     black_write: u64,
     log_write: u64,
+    silent_after: usize,
+    silences: u64,
     moments: &'a [u64],
 }
 
@@ -57,6 +59,8 @@ impl<'a> MatchInput<'a> {
             white_read: 0,
             black_write: 0,
             log_write: 0,
+            silent_after: 0,
+            silences: 0,
             moments: &[],
         }
     }
@@ -78,13 +82,21 @@ fn play(rt: &impl Abort, alloc: Global, input: &MatchInput<'_>) -> Result<Logged
     let setup = Setup {
         start: Position::initial(),
         level,
+        patience: Patience {
+            flag: input.silences > 0,
+            reply: (input.silences > 0).then_some(2000),
+        },
     };
     let white = Ends {
-        reader: Counted::reading(PieceReader::new(input.white, 9, input.white_read)),
+        reader: SilentAfter::new(
+            PieceReader::new(input.white, 9, input.white_read),
+            input.silent_after,
+            input.silences,
+        ),
         writer: Counted::writing(PieceWriter::new(alloc, 1024, 0)),
     };
     let black = Ends {
-        reader: Counted::reading(PieceReader::new(input.black, 9, 0)),
+        reader: SilentAfter::new(PieceReader::new(input.black, 9, 0), 0, 0),
         writer: Counted::writing(PieceWriter::new(alloc, 1024, input.black_write)),
     };
     let mut moments = Listed {
@@ -246,6 +258,8 @@ fn play_after(
         white_read: input.white_read,
         black_write: input.black_write,
         log_write: input.log_write,
+        silent_after: input.silent_after,
+        silences: input.silences,
         moments: input.moments,
     };
     play(rt, alloc, &input)
@@ -274,6 +288,68 @@ fn is_logged(rt: &impl Abort, alloc: Global, after: &After) -> Result<(), Fail> 
 fn ends_are_logged(rt: HostRuntime) -> Result<(), Fail> {
     for after in &ENDS {
         is_logged(&rt, rt.alloc(), after)?;
+    }
+    Ok(())
+}
+
+/// A silence after the handshake: after how many further bytes White falls silent and for how many waits, what it sends,
+/// the moments, and what the log then adds.
+struct Silence {
+    after: usize,
+    silences: u64,
+    white: &'static str,
+    moments: &'static [u64],
+    log: &'static str,
+}
+
+const SILENCES: [Silence; 4] = [
+    // Before the move, in the middle of its line: the flag falls at 10,001 milliseconds and not at 10,000.
+    Silence {
+        after: 4,
+        silences: 2,
+        white: "move e2e4\n",
+        moments: &[0, 0, 0, 0, 500, 10500, 10501],
+        log: "10500 !first : no line\n10501 !first : no line\n10501 >first : result 0-1 {White forfeits on time}\n10501 >first : quit\n10501 >second: result 0-1 {White forfeits on time}\n10501 >second: quit\n",
+    },
+    // The line comes after all.
+    Silence {
+        after: 0,
+        silences: 1,
+        white: "resign\n",
+        moments: &[0, 0, 0, 0, 500, 700, 900],
+        log: "700 !first : no line\n900 <first : resign\n900 >first : result 0-1 {White resigns}\n900 >first : quit\n900 >second: result 0-1 {White resigns}\n900 >second: quit\n",
+    },
+    // After the move, whose `pong` may take two seconds from there.
+    Silence {
+        after: 10,
+        silences: 2,
+        white: "move e2e4\n",
+        moments: &[0, 0, 0, 0, 500, 600, 2600, 2601],
+        log: "600 <first : move e2e4\n600 >first : ping 2\n2600 !first : no line\n2601 !first : no line\n2601 >first : result * {White did not answer}\n2601 >first : quit\n2601 >second: e2e4\n2601 >second: result * {White did not answer}\n2601 >second: quit\n",
+    },
+    // A line that is ignored gives no further time.
+    Silence {
+        after: 12,
+        silences: 1,
+        white: "move e2e4\nx\n",
+        moments: &[0, 0, 0, 0, 500, 600, 2000, 2601],
+        log: "600 <first : move e2e4\n600 >first : ping 2\n2000 <first : x\n2601 !first : no line\n2601 >first : result * {White did not answer}\n2601 >first : quit\n2601 >second: e2e4\n2601 >second: result * {White did not answer}\n2601 >second: quit\n",
+    },
+];
+
+fn is_silence_logged(rt: &impl Abort, alloc: Global, silence: &Silence) -> Result<(), Fail> {
+    let mut input = MatchInput::of(b"", b"");
+    input.silent_after = HANDSHAKE.len().saturating_add(silence.after);
+    input.silences = silence.silences;
+    input.moments = silence.moments;
+    let logged = play_after(rt, alloc, silence.white.as_bytes(), b"", &input)?;
+    is_log(rt, alloc, logged.log.as_slice(), silence.log)
+}
+
+#[test]
+fn silences_are_logged(rt: HostRuntime) -> Result<(), Fail> {
+    for silence in &SILENCES {
+        is_silence_logged(&rt, rt.alloc(), silence)?;
     }
     Ok(())
 }

@@ -24,8 +24,8 @@ use std::str::FromStr;
 use std::{fmt, str};
 
 /// A position together with its FEN: at most 95 bytes of ASCII. In contracts it is the position's `Setup`. Two are
-/// equal exactly if their positions are. They are ordered by their texts. Without castling rights a position of normal
-/// chess has the same text as that of Chess960 with the same pieces, and comes before it.
+/// equal exactly if their positions are. They are ordered by their texts. A position of normal chess without castling
+/// rights has the same text as one of Chess960, and comes before it.
 ///
 /// ```
 /// let fen: Fen = "4k3/8/8/8/8/8/4P3/4K3 w - - 0 1".parse()?;

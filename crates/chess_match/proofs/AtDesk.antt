@@ -7,23 +7,23 @@ use Rattle.byte_devices.specs.Transfers.{Devices}
 use Rattle.chess_base.specs.declared.man.Colour.{Colour}
 use Rattle.chess_base.specs.Men.{other}
 use Rattle.text_lines.specs.Lines.{Held, LineSeen, nothing_held}
-use Rattle.text_lines.specs.Next.{NextLine}
+use Rattle.text_lines.specs.Next.{NextLine, NextLineUntil}
 use Rattle.chess_match.specs.Acts.{Act, Block, Sends, SendFails, Happens}
 use Rattle.chess_match.specs.laws.Laws.{has_ended, has_failed_read, lines_read, moments_shown, notes_given}
-use Rattle.chess_match.specs.Events.{Line, Opened, OutputEnds, FailsToRead, FailsToWrite}
+use Rattle.chess_match.specs.Events.{Line, Opened, Silent, OutputEnds, FailsToRead, FailsToWrite}
 use Rattle.chess_base.specs.Options.{list_if}
 use Rattle.chess_match.specs.Lines.{SentLine, bytes_of}
 use Rattle.chess_match.specs.Notes.{Note, Noted, Happened, Gives, WasNoted}
 use Rattle.chess_match.specs.Reasons.{is_write_fault_of}
 use Rattle.chess_match.specs.Run.{ClockReadings, text_read}
-use Rattle.chess_match.specs.Table.{Does, ReadsLine, ReadsClock, Notes, Passes, Step, reading_of, sending, watched}
+use Rattle.chess_match.specs.Table.{Does, ReadsLine, FindsNoLine, ReadsClock, Notes, Passes, Step, reading_of, reading_until, sending, watched}
 use Rattle.chess_match.specs.declared.reason.Reason.{Reason}
 use Rattle.chess_match.specs.declared.run.TheConstants.{ENGINE_LINE_LEN}
 use Rattle.chess_match.specs.ties.AtDesk.{Did, NotedSince, ReadsOf, WritesAt, WritesOf, acts_in, moments_in, notes_in}
 use Rattle.chess_match.specs.ties.EngineOutput.{OutputAt}
 use Rattle.chess_match.specs.ties.Reported.{SendsIf}
 use Rattle.chess_match.proofs.ClockAsked.{asked_more, asked_none}
-use Rattle.chess_match.proofs.LinesRead.{act_read, other_read, own_read}
+use Rattle.chess_match.proofs.LinesRead.{act_read, other_read, other_silent, own_read, own_silent}
 use Rattle.chess_match.proofs.MatchCases.{unread}
 
 -- ---- one step more
@@ -32,6 +32,7 @@ acts_in-append : (K J : List Step) → acts_in (K ++ J) ≡ acts_in K ++ acts_in
 acts_in-append [] J = refl
 acts_in-append (Does a ∷ K) J = ap (λ (l : List Act). a ∷ l) (acts_in-append K J)
 acts_in-append (ReadsLine c t ∷ K) J = ap (λ (l : List Act). Happens (Line c t 0) ∷ l) (acts_in-append K J)
+acts_in-append (FindsNoLine c ∷ K) J = ap (λ (l : List Act). Happens (Silent c 0) ∷ l) (acts_in-append K J)
 acts_in-append (ReadsClock c n ∷ K) J = acts_in-append K J
 acts_in-append (Notes n ∷ K) J = acts_in-append K J
 
@@ -39,6 +40,7 @@ notes_in-append : (K J : List Step) → notes_in (K ++ J) ≡ notes_in K ++ note
 notes_in-append [] J = refl
 notes_in-append (Does a ∷ K) J = notes_in-append K J
 notes_in-append (ReadsLine c t ∷ K) J = notes_in-append K J
+notes_in-append (FindsNoLine c ∷ K) J = notes_in-append K J
 notes_in-append (ReadsClock c n ∷ K) J = notes_in-append K J
 notes_in-append (Notes n ∷ K) J = ap (λ (l : List Note). n ∷ l) (notes_in-append K J)
 
@@ -47,6 +49,7 @@ moments_in-append [] J = refl
 moments_in-append (ReadsClock c n ∷ K) J = ap (λ (l : List ℕ). n ∷ l) (moments_in-append K J)
 moments_in-append (Does a ∷ K) J = moments_in-append K J
 moments_in-append (ReadsLine c t ∷ K) J = moments_in-append K J
+moments_in-append (FindsNoLine c ∷ K) J = moments_in-append K J
 moments_in-append (Notes n ∷ K) J = moments_in-append K J
 
 reads-append : (S : Colour) (H G : List Act) (r r' r'' : InputState) (h h' h'' : Held) → ReadsOf S H r r' h h'
@@ -206,6 +209,35 @@ read_step S (Ok (Some line)) = at line.ended
     at true = (refl, refl, refl)
     at false = (refl, refl, refl)
 
+-- a step by which an output was read, in this one act
+found_moves : (engines engines' : Colour → Devices) (held held' : Colour → Held) (coming : ℕ → Option ℕ)
+    (witness : Noted) (names : List ℕ) (S : Colour) (step : Step) (act : Act)
+    → (acts_in (step ∷ []) ≡ act ∷ []) × (moments_in (step ∷ []) ≡ []) × (notes_in (step ∷ []) ≡ [])
+    → OutputAt S act (engines S).input (engines' S).input (held S) (held' S)
+    → OutputAt (other S) act (engines (other S)).input (engines' (other S)).input (held (other S)) (held' (other S))
+    → ((X : Colour) (w : OutputState) → WritesAt X act w w)
+    → (engines' S).output ≡ (engines S).output → engines' (other S) ≡ engines (other S)
+    → Passes (λ begun K. Did begun engines held coming witness names K)
+    (λ begun K. Did begun engines' held' coming witness names K) (step ∷ [])
+found_moves engines engines' held held' coming witness names S step act e own_at other_at writes same others =
+    moved engines engines' held held' coming coming witness witness names names (step ∷ []) (record {
+      named = refl;
+      read = λ X. subst (λ (H : List Act). ReadsOf X H (engines X).input (engines' X).input (held X) (held' X))
+          (sym e.0) (
+            (engines' X).input,
+            held' X,
+            either (λ Y. OutputAt Y act (engines Y).input (engines' Y).input (held Y) (held' Y)) S own_at other_at X,
+            (refl, refl),
+          );
+      written = λ X. subst (λ (H : List Act). WritesOf X H (engines X).output (engines' X).output) (sym e.0) (
+        (engines X).output,
+        writes X (engines X).output,
+        either (λ Y. (engines' Y).output ≡ (engines Y).output) S same (ap (λ d. d.output) others) X,
+      );
+      moments = subst (λ (ms : List ℕ). ClockReadings coming coming ms) (sym e.1) (asked_none coming);
+      noted = subst (λ (ns : List Note). WasNoted witness witness ns) (sym e.2) (same_noted witness);
+    })
+
 -- a line was read, or an end or a failure came
 pub read_moves : {E : Type 0} (engines engines' : Colour → Devices) (held held' : Colour → Held) (coming : ℕ → Option ℕ)
     (witness : Noted) (names : List ℕ) (S : Colour) (result : Result (Option LineSeen) E)
@@ -215,29 +247,31 @@ pub read_moves : {E : Type 0} (engines engines' : Colour → Devices) (held held
     → Passes (λ begun K. Did begun engines held coming witness names K)
     (λ begun K. Did begun engines' held' coming witness names K) (reading_of S result ∷ [])
 read_moves engines engines' held held' coming witness names S result next same others kept =
-    moved engines engines' held held' coming coming witness witness names names (reading_of S result ∷ [])
-    (record {
-      named = refl;
-      read = λ X. subst (λ (H : List Act). ReadsOf X H (engines X).input (engines' X).input (held X) (held' X))
-          (sym (read_step S result).0) (
-            (engines' X).input,
-            held' X,
-            either (λ Y. OutputAt Y (act_read S result) (engines Y).input (engines' Y).input (held Y) (held' Y)) S
-                (own_read S (engines S).input (engines' S).input (held S) (held' S) result next)
-                (other_read S (engines (other S)).input (engines' (other S)).input (held (other S)) (held' (other S)) result
-                (ap (λ d. d.input) others) kept) X,
-            (refl, refl),
-          );
-      written = λ X. subst (λ (H : List Act). WritesOf X H (engines X).output (engines' X).output)
-          (sym (read_step S result).0) (
-            (engines X).output,
-            read_writes S X result (engines X).output,
-            either (λ Y. (engines' Y).output ≡ (engines Y).output) S same (ap (λ d. d.output) others) X,
-          );
-      moments = subst (λ (ms : List ℕ). ClockReadings coming coming ms) (sym (read_step S result).1)
-          (asked_none coming);
-      noted = subst (λ (ns : List Note). WasNoted witness witness ns) (sym (read_step S result).2) (same_noted witness);
-    })
+    found_moves engines engines' held held' coming witness names S (reading_of S result) (act_read S result)
+    (read_step S result) (own_read S (engines S).input (engines' S).input (held S) (held' S) result next)
+    (other_read S (engines (other S)).input (engines' (other S)).input (held (other S)) (held' (other S)) result
+    (ap (λ d. d.input) others) kept) (λ X w. read_writes S X result w) same others
+
+-- so it was, or no line had come in time
+pub until_moves : {E : Type 0} (engines engines' : Colour → Devices) (held held' : Colour → Held)
+    (coming : ℕ → Option ℕ) (witness : Noted) (names : List ℕ) (S : Colour) (result : Result (Option Bool) E)
+    (line : LineSeen)
+    → NextLineUntil ENGINE_LINE_LEN (engines S).input (engines' S).input (held S) (held' S) result line
+    → (engines' S).output ≡ (engines S).output → engines' (other S) ≡ engines (other S)
+    → held' (other S) ≡ held (other S)
+    → Passes (λ begun K. Did begun engines held coming witness names K)
+    (λ begun K. Did begun engines' held' coming witness names K) (reading_until S result line ∷ [])
+until_moves {E = E} engines engines' held held' coming witness names S (Ok None) line next same others kept =
+    found_moves engines engines' held held' coming witness names S (FindsNoLine S) (Happens (Silent S 0))
+    (refl, refl, refl) (own_silent E S (engines S).input (engines' S).input (held S) (held' S) line next)
+    (other_silent S (engines (other S)).input (engines' (other S)).input (held (other S)) (held' (other S))
+    (ap (λ d. d.input) others) kept) (λ X w. refl) same others
+until_moves {E = E} engines engines' held held' coming witness names S (Ok (Some true)) line next same others kept =
+    read_moves {E = E} engines engines' held held' coming witness names S (Ok (Some line)) next same others kept
+until_moves {E = E} engines engines' held held' coming witness names S (Ok (Some false)) line next same others kept =
+    read_moves {E = E} engines engines' held held' coming witness names S (Ok None) next same others kept
+until_moves engines engines' held held' coming witness names S (Err e) line next same others kept =
+    read_moves engines engines' held held' coming witness names S (Err e) next same others kept
 
 -- ---- a whole match
 
@@ -259,6 +293,8 @@ reads_watched reason S (SendFails b ∷ H) r r' h h' (v, k, o, p) =
     (v, k, o, reads_watched reason S H v r' k h' (subst (λ (G : List Act). ReadsOf S G v r' k h') e p))
 reads_watched reason S (Happens (Line c t n) ∷ H) r r' h h' (v, k, o, p) =
     (v, k, o, reads_watched reason S H v r' k h' p)
+reads_watched reason S (Happens (Silent c n) ∷ H) r r' h h' (v, k, o, p) =
+    (v, k, o, reads_watched reason S H v r' k h' p)
 reads_watched reason S (Happens (Opened c n) ∷ H) r r' h h' p =
     (r, h, (refl, refl), reads_watched reason S H r r' h h' p)
 reads_watched reason S (Happens (OutputEnds c) ∷ H) r r' h h' (v, k, o, p) =
@@ -277,6 +313,7 @@ writes_watched reason S (SendFails b ∷ H) w w' (v, o, p) =
     let e = (no_more reason b H (is_write_fault_of reason b.to)).0 in
     (v, o, writes_watched reason S H v w' (subst (λ (G : List Act). WritesOf S G v w') e p))
 writes_watched reason S (Happens (Line c t n) ∷ H) w w' (v, o, p) = (v, o, writes_watched reason S H v w' p)
+writes_watched reason S (Happens (Silent c n) ∷ H) w w' (v, o, p) = (v, o, writes_watched reason S H v w' p)
 writes_watched reason S (Happens (Opened c n) ∷ H) w w' p = (w, refl, writes_watched reason S H w w' p)
 writes_watched reason S (Happens (OutputEnds c) ∷ H) w w' (v, o, p) = (v, o, writes_watched reason S H v w' p)
 writes_watched reason S (Happens (FailsToRead c) ∷ H) w w' (v, o, p) = (v, o, writes_watched reason S H v w' p)
@@ -289,6 +326,7 @@ moments_watched reason (Sends b ∷ H) = moments_watched reason H
 moments_watched reason (SendFails b ∷ H) =
     (no_more reason b H (is_write_fault_of reason b.to)).1 ∙ moments_watched reason H
 moments_watched reason (Happens (Line c t n) ∷ H) = ap (λ (l : List ℕ). n ∷ l) (moments_watched reason H)
+moments_watched reason (Happens (Silent c n) ∷ H) = ap (λ (l : List ℕ). n ∷ l) (moments_watched reason H)
 moments_watched reason (Happens (Opened c n) ∷ H) = ap (λ (l : List ℕ). n ∷ l) (moments_watched reason H)
 moments_watched reason (Happens (OutputEnds c) ∷ H) = moments_watched reason H
 moments_watched reason (Happens (FailsToRead c) ∷ H) = moments_watched reason H
@@ -308,6 +346,8 @@ notes_watched reason (SendFails b ∷ H) = ap (λ (l : List Note). Gives b.to (b
     at false = refl
 notes_watched reason (Happens (Line c t n) ∷ H) =
     ap (λ (l : List Note). Happened (Line c t n) ∷ l) (notes_watched reason H)
+notes_watched reason (Happens (Silent c n) ∷ H) =
+    ap (λ (l : List Note). Happened (Silent c n) ∷ l) (notes_watched reason H)
 notes_watched reason (Happens (Opened c n) ∷ H) =
     ap (λ (l : List Note). Happened (Opened c n) ∷ l) (notes_watched reason H)
 notes_watched reason (Happens (OutputEnds c) ∷ H) =
@@ -328,6 +368,7 @@ quiet_read S (SendFails b ∷ H) u = quiet_read S H u
 quiet_read S (Happens (Opened c n) ∷ H) u = quiet_read S H u
 quiet_read S (Happens (FailsToWrite c) ∷ H) u = quiet_read S H u
 quiet_read S (Happens (Line c t n) ∷ H) u = absurd cc
+quiet_read S (Happens (Silent c n) ∷ H) u = absurd cc
 quiet_read S (Happens (OutputEnds c) ∷ H) u = absurd cc
 quiet_read S (Happens (FailsToRead c) ∷ H) u = absurd cc
 
@@ -339,5 +380,6 @@ tail_same S (SendFails b ∷ H) r r' h h' u (v, k, (e, f), p) = tail_same S H v 
 tail_same S (Happens (Opened c n) ∷ H) r r' h h' u (v, k, (e, f), p) = tail_same S H v r' k h' u p ∙ e
 tail_same S (Happens (FailsToWrite c) ∷ H) r r' h h' u (v, k, (e, f), p) = tail_same S H v r' k h' u p ∙ e
 tail_same S (Happens (Line c t n) ∷ H) r r' h h' u p = absurd cc
+tail_same S (Happens (Silent c n) ∷ H) r r' h h' u p = absurd cc
 tail_same S (Happens (OutputEnds c) ∷ H) r r' h h' u p = absurd cc
 tail_same S (Happens (FailsToRead c) ∷ H) r r' h h' u p = absurd cc

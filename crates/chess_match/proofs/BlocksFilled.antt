@@ -5,7 +5,7 @@ use Rattle.chess_base.specs.declared.man.Colour.TheVariants.{White}
 use Rattle.chess_base.specs.Men.{other}
 use Rattle.chess_match.specs.Acts.{Act, Block, Sends, IsMatch, block_of, blocks_from, is_over}
 use Rattle.chess_match.specs.Effects.{Match, beginning, effect}
-use Rattle.chess_match.specs.Events.{Line, OutputEnds, FailsToRead, FailsToWrite}
+use Rattle.chess_match.specs.Events.{Line, Silent, OutputEnds, FailsToRead, FailsToWrite}
 use Rattle.chess_match.specs.Lines.{SentLine}
 use Rattle.chess_match.specs.Rules.{Rules}
 use Rattle.chess_match.proofs.MatchCases.{by_cases}
@@ -43,6 +43,7 @@ blocks_filled r H final g = by_cases r final (λ m due H. AreFilled due → Send
   reads = λ m end c t n H aw p f. p (due_filled (if is_over (effect r m (Line c t n)).after.phase then White else c)
       (effect r m (Line c t n)).to);
   opens = λ m end c n H opening p f. p tt;
+  silent = λ m end c n H aw limited p f. p (due_filled White (effect r m (Silent c n)).to);
   ends = λ m end c H aw p f. p (due_filled White (effect r m (OutputEnds c)).to);
   read_fails = λ m end c H aw p f. p (due_filled White (effect r m (FailsToRead c)).to);
 }) (λ over f. tt) beginning.after (blocks_from White beginning.to) H g (due_filled White beginning.to)

@@ -10,11 +10,12 @@ use Rattle.chess_match.specs.laws.Laws.{line_kind}
 use Rattle.cecp_engine.specs.Levels.{LevelSeen, allotted}
 use Rattle.cecp_engine.proofs.shared.Levels.{allotted_grows}
 use Rattle.chess_match.specs.Acts.{awaits_line}
-use Rattle.chess_match.specs.Effects.{Match, beginning, clock, line_row, moved}
+use Rattle.chess_match.specs.Effects.{Match, beginning, clock, effect, line_row, moved}
+use Rattle.chess_match.specs.Events.{Silent}
 use Rattle.chess_match.specs.Rules.{Rules}
 use Rattle.chess_match.specs.laws.OfActs.{AtEachMoment, ClocksDoNotUnderflow, match_after}
 use Rattle.std.proofs.lemmas.List.Sums.{sum_by-append}
-use Rattle.chess_match.proofs.LineCases.{line_cases, said_by}
+use Rattle.chess_match.proofs.LineCases.{line_cases, said_by, silence_cases}
 use Rattle.chess_match.proofs.Points.{by_points, moved_used, offered_used, said_used}
 
 pub sum-snoc : (xs : List ℕ) (x : ℕ) → sum (xs ++ x ∷ []) ≡ sum xs + x
@@ -45,7 +46,7 @@ played r S C move used m timely w = rw (moved_used S C move used m) (at (same_co
 
 line_in_time : (r : Rules) (S : Colour) (kind : LineKind) (moment : ℕ) (m : Match) → awaits_line m.phase S ≡ true
     → AreInTime r m → AreInTime r (line_row r m.phase kind moment m).after
-line_in_time r S kind moment m aw w = line_cases r S kind moment m (λ e. AreInTime r e.after) aw (record {
+line_in_time r S kind moment m aw w = line_cases r S kind moment m (λ e. AreInTime r e.after) aw (λ since. record {
   handshake_stops = λ p reason c most n. said;
   handshake_counts = λ p d few. said;
   handshake_next = λ p s d. said;
@@ -65,6 +66,13 @@ line_in_time r S kind moment m aw w = line_cases r S kind moment m (λ e. AreInT
     said : (C : Colour) → InTime r.level ((said_by S kind m).seat C).used
     said C = rw (said_used S C kind m) (w C)
 
+silent_in_time : (r : Rules) (S : Colour) (moment : ℕ) (m : Match) → AreInTime r m
+    → AreInTime r (effect r m (Silent S moment)).after
+silent_in_time r S moment m w = silence_cases r S moment m (λ e. AreInTime r e.after) (record {
+  stops = λ reason n. w;
+  goes_on = λ since. w;
+})
+
 pub clocks_do_not_underflow : AtEachMoment ClocksDoNotUnderflow
 clocks_do_not_underflow r H K final g S =
     let m : Match = match_after r beginning.after H in
@@ -74,6 +82,7 @@ clocks_do_not_underflow r H K final g S =
       fails_late = λ m n b due H o s u p. p;
       reads = λ m n S t x H aw q s p w. p (line_in_time r S (line_kind t) x m aw w);
       opens = λ m n S x H o q p. p;
+      silent = λ m n S x H aw limited q s p w. p (silent_in_time r S x m w);
       output_ends = λ m n S H aw q s u p. p;
       read_fails = λ m n S H aw q s u p. p;
     }) H K final (λ m due q f w. w) g (λ C. omega arith) in

@@ -1,8 +1,8 @@
 -- How the core goes on, step by step.
-use Rattle.std.proofs.Common.{◌≡◌, ℕ, ◌+◌, ◌<◌, Bool, true, false, List, [], ◌∷◌, ◌++◌, length, length-append, refl, ap, sym, ◌∙◌, subst, Option, None, Some, append-nil, zero-add, arith}
+use Rattle.std.proofs.Common.{◌≡◌, ◌⊎◌, inl, inr, ℕ, ◌+◌, ◌<◌, Bool, true, false, List, [], ◌∷◌, ◌++◌, length, length-append, refl, ap, sym, ◌∙◌, subst, Option, None, Some, append-nil, zero-add, arith}
 use Rattle.std.specs.Bool.{then_some}
 use Rattle.std.specs.Option.{option_map_or}
-use Rattle.std.specs.Prelude.{if◌then◌else◌, codes, nat_lt, sum}
+use Rattle.std.specs.Prelude.{if◌then◌else◌, ◌-◌, codes, nat_lt, sum, unwrap_or}
 use Rattle.std.proofs.lemmas.List.Sums.{sum_by-append}
 use Rattle.chess_base.specs.declared.man.Colour.{Colour}
 use Rattle.chess_base.specs.declared.man.Colour.TheVariants.{White, Black}
@@ -15,7 +15,7 @@ use Rattle.cecp_engine.specs.EngineLines.{LineKind}
 use Rattle.cecp_engine.specs.Items.{Item, takes}
 use Rattle.cecp_engine.specs.Seen.{features_of}
 use Rattle.chess_match.specs.Acts.{awaits_line, is_over}
-use Rattle.chess_match.specs.Effects.{Match, Phase, Handshake, Opening, BeforeMove, Over, Effect, begins_turn, clock, ends, handshake_row, is_owed_move, line_row, moved, sends_nothing, sends_to, unless_decided, with_seat}
+use Rattle.chess_match.specs.Effects.{Match, Phase, Handshake, Opening, BeforeMove, Over, Effect, awaited_since, begins_turn, clock, ends, handshake_row, is_owed_move, line_row, moved, reply_row, sends_nothing, sends_to, silence_row, unless_decided, with_seat}
 use Rattle.chess_match.specs.shared.Parts.{enter, with_answers}
 use Rattle.chess_match.specs.Events.{Seat}
 use Rattle.chess_match.specs.Lines.{SentLine, Says}
@@ -25,6 +25,7 @@ use Rattle.chess_match.specs.Rules.{Rules}
 use Rattle.chess_match.specs.declared.phase.Phase.{Phase as CorePhase}
 use Rattle.chess_match.specs.declared.phase.Phase.TheVariants as core_in
 use Rattle.chess_game.specs.declared.verdicts.Verdict.{Verdict}
+use Rattle.chess_match.specs.declared.reason.MatchFault.TheVariants.{NoAnswer}
 use Rattle.chess_match.specs.declared.reason.Reason.{Reason}
 use Rattle.chess_match.specs.declared.reason.Reason.TheVariants.{Decided}
 use Rattle.chess_match.specs.declared.state.Actions.{Actions}
@@ -32,7 +33,7 @@ use Rattle.chess_match.specs.declared.state.MatchState.{MatchState}
 use Rattle.chess_match.specs.declared.state.Player.{Player}
 use Rattle.chess_match.specs.declared.texts.LastMove.{LastMove}
 use Rattle.chess_match.specs.declared.texts.MoveTexts.{MoveTexts}
-use Rattle.chess_match.specs.ties.Represents.{Goes, Keeps, Represents, after_answers, clocks_of, given_lines, is_unsent, items_to, last_lines, lines_if_to, name_by, nothing_said, offered_core, phase_lines, phase_of, played_core, player, time_used_by}
+use Rattle.chess_match.specs.ties.Represents.{Goes, Keeps, Represents, after_answers, clocks_of, given_lines, heard, is_unsent, items_to, last_lines, lines_if_to, name_by, nothing_said, offered_core, phase_lines, phase_of, played_core, player, time_used_by}
 use Rattle.chess_match.specs.laws.Laws.{items_in_line}
 use Rattle.chess_match.proofs.LineCases.{handshake_by_items}
 use Rattle.chess_match.specs.ties.Texts.{all_sent, AreOfLast, AreTexts}
@@ -245,12 +246,63 @@ pub row_goes : (r : Rules) (core : MatchState) (played : List Move) (given : Act
 row_goes r core played given items kind moment m p e h =
     subst (λ (q : Phase). Goes r core played given items (line_row r q kind moment m)) (sym e) h
 
+-- a silence by the phase that is known
+pub silence_goes : (r : Rules) (core : MatchState) (played : List Move) (given : Actions) (items : Colour → List Item)
+    (S : Colour) (moment : ℕ) (m : Match) (p : Phase) → m.phase ≡ p
+    → Goes r core played given items (silence_row r p S moment m)
+    → Goes r core played given items (silence_row r m.phase S moment m)
+silence_goes r core played given items S moment m p e h =
+    subst (λ (q : Phase). Goes r core played given items (silence_row r q S moment m)) (sym e) h
+
+-- in a setup or after a move, one is owed that is no `feature` line
+pub owed_goes : (r : Rules) (core : MatchState) (played : List Move) (given : Actions) (items : Colour → List Item)
+    (S : Colour) (moment opened : ℕ) (m : Match) (p : CorePhase)
+    → ((x : Colour) × (p ≡ core_in.Setup x)) ⊎ ((x : Colour) × (p ≡ core_in.AwaitPong x)) → m.phase ≡ phase_of opened p
+    → Goes r core played given items (reply_row r S NoAnswer moment m)
+    → Goes r core played given items (silence_row r m.phase S moment m)
+owed_goes r core played given items S moment opened m p (inl (x, e)) at h =
+    silence_goes r core played given items S moment m _ (at ∙ ap (phase_of opened) e) h
+owed_goes r core played given items S moment opened m p (inr (x, e)) at h =
+    silence_goes r core played given items S moment m _ (at ∙ ap (phase_of opened) e) h
+
+-- ---- a reply
+
+-- the time for a reply runs from this moment on
+pub since_stands : (r : Rules) (core : MatchState) (played : List Move) (moment : ℕ) (m : Match)
+    → Represents r core played m
+    → Represents r (record core { since = Some moment }) played (awaited_since moment m)
+since_stands r core played moment m s = search (s.unsent)
+
+-- nothing is sent
+pub quiet_goes : (r : Rules) (core : MatchState) (played : List Move) (m : Match) → Represents r core played m
+    → Goes r core played (record { draw = None; entered = false }) nothing_said (sends_nothing m)
+unfolding given_lines
+quiet_goes r core played m s = record { stands = s; gives = λ S. refl }
+
+pub quiet_since : (r : Rules) (core core' : MatchState) (played : List Move) (m : Match) (moment since : ℕ)
+    → Represents r core played m → since ≡ unwrap_or core.since moment
+    → Represents r core' played (awaited_since since m)
+    → Goes r core' played (record { draw = None; entered = false }) nothing_said
+    (sends_nothing (awaited_since (unwrap_or m.since moment) m))
+quiet_since r core core' played m moment since s e stands =
+    subst (λ (n : ℕ). Goes r core' played (record { draw = None; entered = false }) nothing_said
+    (sends_nothing (awaited_since n m))) (e ∙ ap (λ (x : Option ℕ). unwrap_or x moment) s.since)
+    (quiet_goes r core' played (awaited_since since m) stands)
+
+-- the time for a reply is over in the core where it is over in the match
+pub reply_kept : (r : Rules) (core : MatchState) (played : List Move) (m : Match) (moment since waited : ℕ)
+    (beyond b : Bool) → Represents r core played m → since ≡ unwrap_or core.since moment → waited ≡ moment - since
+    → beyond ≡ option_map_or (λ l. nat_lt l waited) core.patience.reply false → beyond ≡ b
+    → option_map_or (λ limit. nat_lt limit (moment - unwrap_or m.since moment)) r.patience.reply false ≡ b
+reply_kept r core played m moment since waited beyond b s from so_long is h =
+    rw (← s.patience, ← s.since, ← from, ← so_long) (sym is ∙ h)
+
 -- ---- a handshake
 
 -- a line in a handshake, by its items
 pub shaken_goes : (r : Rules) (core : MatchState) (played : List Move) (given : Actions) (items : Colour → List Item)
     (S : Colour) (kind : LineKind) (moment : ℕ) (m : Match)
-    → Goes r core played given items (handshake_row r S (items_in_line kind) m)
+    → Goes r core played given items (handshake_row r S (items_in_line kind) (heard kind moment m))
     → Goes r core played given items (line_row r (Handshake S) kind moment m)
 shaken_goes r core played given items S kind moment m h =
     subst (λ (e : Effect). Goes r core played given items e) (sym (handshake_by_items r S kind moment m)) h

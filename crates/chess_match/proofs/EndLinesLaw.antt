@@ -3,14 +3,15 @@ use Rattle.std.proofs.Common.{◌≡◌, ℕ, Bool, true, false, ◌||◌, List,
 use Rattle.std.specs.Prelude.{if◌then◌else◌, nat_lt, slice_get}
 use Rattle.chess_base.specs.declared.man.Colour.{Colour}
 use Rattle.chess_base.specs.declared.man.Colour.TheVariants.{White}
+use Rattle.std.proofs.lemmas.Bool.{and_from}
 use Rattle.chess_base.proofs.shared.Men.{same_colour-self}
-use Rattle.chess_match.specs.Acts.{Act, Block, IsMatch, IsMatchFrom, Sends, SendFails, Happens, awaits_line, blocks_from, is_over}
+use Rattle.chess_match.specs.Acts.{Act, Block, IsMatch, IsMatchFrom, Sends, SendFails, Happens, awaits_line, blocks_from, is_limited, is_over}
 use Rattle.chess_match.specs.ByDevice.{is_end_of, is_failed_read_of, line_read, moment_shown}
 use Rattle.chess_match.specs.Effects.{Match, Phase, beginning, effect}
-use Rattle.chess_match.specs.Events.{Event, FailsToRead, FailsToWrite, Line, Opened, OutputEnds}
+use Rattle.chess_match.specs.Events.{Event, FailsToRead, FailsToWrite, Line, Opened, OutputEnds, Silent}
 use Rattle.chess_match.specs.Lines.{SentLine}
 use Rattle.chess_match.specs.Rules.{Rules}
-use Rattle.chess_match.specs.laws.Laws.{Streams, broken_blocks, has_ended, has_failed_read, is_broken, lines_read, moments_shown}
+use Rattle.chess_match.specs.laws.Laws.{Streams, broken_blocks, has_ended, has_failed_read, is_broken, lines_read, look, looks, moments_shown}
 use Rattle.chess_match.specs.laws.OfActs.{AreOf, OneMatchButForEndLines, ReadFrom, ended_by_write_to, events_of}
 use Rattle.chess_match.proofs.MatchCases.{both_not, by_cases, on_when_read}
 use Rattle.chess_match.proofs.OneLaw.{only_one_match}
@@ -46,6 +47,12 @@ mended_moments (Sends b ∷ H) = mended_moments H
 mended_moments (SendFails b ∷ H) = mended_moments H
 mended_moments (Happens e ∷ H) = ap (λ (l : List ℕ). moment_shown (Happens e) ++ l) (mended_moments H)
 
+mended_looks : (S : Colour) (H : List Act) → looks S (mended H) ≡ looks S H
+mended_looks S [] = refl
+mended_looks S (Sends b ∷ H) = mended_looks S H
+mended_looks S (SendFails b ∷ H) = mended_looks S H
+mended_looks S (Happens e ∷ H) = ap (λ (l : List Bool). look S (Happens e) ++ l) (mended_looks S H)
+
 none_broken : (S : Colour) (H : List Act) → broken_blocks S (mended H) ≡ []
 none_broken S [] = refl
 none_broken S (Sends b ∷ H) = none_broken S H
@@ -66,6 +73,8 @@ of_mended s H o = record {
         (sym (mended_lines S H)) (o.lines S);
     ends = λ S h. let e = o.ends S (sym (mended_end S H) ∙ h) in (e.0 ∙ sym (mended_lines S H), e.1);
     failures = λ S h. let e = o.failures S (sym (mended_failure S H) ∙ h) in (e.0 ∙ sym (mended_lines S H), e.1);
+    silences = λ S. subst (λ (l : List Bool). (n : ℕ) → n < length l → slice_get l n ≡ Some (s.silent S n))
+        (sym (mended_looks S H)) (o.silences S);
     moments = subst (λ (l : List ℕ). (n : ℕ) → n < length l → slice_get l n ≡ Some (s.moments n))
         (sym (mended_moments H)) o.moments;
   };
@@ -106,6 +115,11 @@ module _ (r : Rules) (final : Match) (unended : (S : Colour) → ended_by_write_
       λ over. both_not (is_over m.phase) (ap is_over o) over,
       (o, p.1),
       happens m (Opened S n) H p.2,
+    );
+    silent = λ m end S n H aw limited p. (
+      on m S aw,
+      (and_from (awaits_line m.phase S) (is_limited r.patience m.phase) aw limited, p.1),
+      happens m (Silent S n) H p.2,
     );
     ends = λ m end S H aw p. (on m S aw, (aw, p.1), happens m (OutputEnds S) H p.2);
     read_fails = λ m end S H aw p. (on m S aw, (aw, p.1), happens m (FailsToRead S) H p.2);

@@ -9,6 +9,7 @@ use Rattle.chess_game.specs.Line.{IsLine, position_after}
 use Rattle.chess_text.specs.laws.Laws.{ReadMovesAreLegal}
 use Rattle.cecp_engine.specs.Levels.{LevelSeen}
 use Rattle.chess_match.specs.Rules.{Rules, rules_of}
+use Rattle.chess_match.specs.declared.patience.Patience.{Patience}
 use Rattle.chess_match.specs.laws.Laws.{AreRead, moves_of, lines_read}
 use Rattle.chess_match.specs.laws.OfActs.{GamesAreLines, MovesAreRead}
 use Rattle.chess_match.proofs.Points.{in_each}
@@ -20,22 +21,23 @@ one_after : (start : Setup) (before : List Move) (m : Move)
 one_after start [] m = refl
 one_after start (n ∷ before) m = one_after (after start n) before m
 
-line_from : ReadMovesAreLegal → (start : Setup) (level : LevelSeen) (limit : ℕ) (before ms : List Move)
-    (mine theirs : List (List ℕ)) → AreRead (rules_of start level limit) before ms mine theirs
+line_from : ReadMovesAreLegal → (start : Setup) (level : LevelSeen) (patience : Patience) (limit : ℕ)
+    (before ms : List Move) (mine theirs : List (List ℕ))
+    → AreRead (rules_of start level patience limit) before ms mine theirs
     → IsLine (position_after start before) ms
-line_from legal start level limit before [] mine theirs h = tt
-line_from legal start level limit before (m ∷ ms) mine theirs (text, rest, e, denoted, more) =
+line_from legal start level patience limit before [] mine theirs h = tt
+line_from legal start level patience limit before (m ∷ ms) mine theirs (text, rest, e, denoted, more) =
     let g : game.Seen = record {
       limit = limit;
       state = record { start = start; moves = before; declared = None };
     } in (
-      legal_read legal g (rules_of start level limit) text m (level, refl, refl) denoted,
+      legal_read legal g (rules_of start level patience limit) text m (level, patience, refl, refl) denoted,
       subst (λ (p : Setup). IsLine p ms) (one_after start before m)
-          (line_from legal start level limit (before ++ m ∷ []) ms theirs rest more),
+          (line_from legal start level patience limit (before ++ m ∷ []) ms theirs rest more),
     )
 
 pub games_are_lines : ReadMovesAreLegal → GamesAreLines
-games_are_lines legal start level limit H final is_match =
-    let r : Rules = rules_of start level limit in
-    line_from legal start level limit [] final.played (moves_of (lines_read r.start.side H))
+games_are_lines legal start level patience limit H final is_match =
+    let r : Rules = rules_of start level patience limit in
+    line_from legal start level patience limit [] final.played (moves_of (lines_read r.start.side H))
     (moves_of (lines_read (other r.start.side) H)) (in_each MovesAreRead moves_are_read r H final is_match)

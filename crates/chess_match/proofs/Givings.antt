@@ -1,6 +1,6 @@
 -- Lines of one kind that an engine is sent, along the acts of a match.
 use native.Mathlib.Omega.{arith}
-use Rattle.std.proofs.Common.{◌≡◌, ℕ, ◌+◌, ◌-◌, ◌≤◌, ◌<◌, Bool, true, false, List, [], ◌∷◌, ◌++◌, length, length-append, refl, ap, sym, ◌∙◌, subst, append-nil, append_assoc}
+use Rattle.std.proofs.Common.{◌≡◌, ℕ, ◌+◌, ◌-◌, ◌≤◌, ◌<◌, Bool, true, false, List, [], ◌∷◌, ◌++◌, length, length-append, refl, ap, sym, ◌∙◌, subst, append-nil, append_assoc, Option}
 use Rattle.std.specs.Prelude.{if◌then◌else◌}
 use Rattle.std.specs.List.{flat_map}
 use Rattle.std.proofs.lemmas.Grind.{flat_map-append}
@@ -22,9 +22,10 @@ use Rattle.chess_match.specs.Rules.{Rules}
 use Rattle.chess_match.specs.declared.reason.Reason.{Reason}
 use Rattle.chess_match.specs.declared.reason.Reason.TheVariants.{Decided}
 use Rattle.chess_match.specs.laws.OfActs.{lines_given, match_after}
-use Rattle.chess_match.proofs.LineCases.{line_cases, offering, said_by}
+use Rattle.chess_match.proofs.LineCases.{LineCases, line_cases, offering, said_by}
 use Rattle.chess_match.proofs.MatchCases.{both_not, on_when_read}
 use Rattle.chess_match.proofs.Points.{Kept, by_points}
+use Rattle.chess_match.proofs.Silences.{by_silence}
 
 -- ---- lines that only say something
 
@@ -89,11 +90,15 @@ both_due first O to =
 
 -- ---- what an event does
 
+-- as `Goes`, where all that was to be sent so far is `old`
+abbrev GoesFrom : {A : Type 0} → (Match → List A) → (Match → List A → Type 0) → List A → List A → List A → Match → Type 0
+GoesFrom {A} all Rest old rest Z m' = (more : List A) × (rest' : List A) × (all m' ≡ old ++ more)
+    × (rest ++ more ≡ Z ++ rest') × (length (rest ++ more) ≤ 1) × Rest m' rest'
+
 -- what was not sent yet (`rest`) and what is new (`more`) are what is sent now (`Z`) and what is not sent then
 -- (`rest'`)
 abbrev pub Goes : {A : Type 0} → (Match → List A) → (Match → List A → Type 0) → Match → List A → List A → Match → Type 0
-Goes {A} all Rest m rest Z m' = (more : List A) × (rest' : List A) × (all m' ≡ all m ++ more)
-    × (rest ++ more ≡ Z ++ rest') × (length (rest ++ more) ≤ 1) × Rest m' rest'
+Goes {A} all Rest m rest Z m' = GoesFrom all Rest (all m) rest Z m'
 
 -- what each event does
 pub record Gives {A : Type 0} (f : SentLine → List A) (r : Rules) (O : Colour) (all : Match → List A)
@@ -104,6 +109,8 @@ pub record Gives {A : Type 0} (f : SentLine → List A) (r : Rules) (O : Colour)
       → (all (said_by S kind m) ≡ all m) × Rest (said_by S kind m) rest
   pub counts : (m : Match) (k : ℕ) (rest : List A) → Rest m rest
       → (all (record m { count = k }) ≡ all m) × Rest (record m { count = k }) rest
+  pub waits : (m : Match) (since : Option ℕ) (rest : List A) → Rest m rest
+      → (all (record m { since = since }) ≡ all m) × Rest (record m { since = since }) rest
   pub enters : (m : Match) (S c : Colour) (rest : List A) → m.phase ≡ Handshake S → Rest m rest
       → (all (enter (Handshake c) m) ≡ all m) × Rest (enter (Handshake c) m) rest
       × (all (enter (Setup c) m) ≡ all m) × Rest (enter (Setup c) m) rest
@@ -183,50 +190,47 @@ module _ {A : Type 0} (f : SentLine → List A) (says : (text : List ℕ) → f 
       → flat_map f (list_if b (answers_to items) ++ ls) ≡ []
   after_answers b items ls h = answered b items ls ∙ quiet ls h
 
-  -- what a line does
-  line : (S : Colour) (kind : LineKind) (moment : ℕ) (m : Match) (rest : List A) → awaits_line m.phase S ≡ true
-      → Kept r m
-      → length rest ≤ 1 → Rest m rest
-      → Goes all Rest m rest (flat_map f ((line_row r m.phase kind moment m).to O))
-      (line_row r m.phase kind moment m).after
-  line S kind moment m rest aw kept l h =
-      line_cases r S kind moment m (λ e. Goes all Rest m rest (flat_map f (e.to O)) e.after) aw (record {
-        handshake_stops = λ p reason c most w. instead m _ rest _ _ (answered (same_colour S O) _ _)
-            (then_on m n _ rest _ (said p) (λ rest' l' h'. then_on n (record n { count = c }) _ rest' _
-            (keeps all Rest n (record n { count = c }) rest' l' (k.counts n c rest' h'))
-            (λ rest'' l'' h''. k.stops (record n { count = c }) reason rest'' (on_when_read m.phase S aw) l'' h'')));
-        handshake_counts = λ p d few. instead m _ rest [] _ (after_answers (same_colour S O) _ [] refl)
-            (then_on m n _ rest [] (said p) (λ rest' l' h'. keeps all Rest n (record n { count = m.count + 1 }) rest' l'
-            (k.counts n (m.count + 1) rest' h')));
-        handshake_next = λ p s d. instead m _ rest [] _
-            (after_answers (same_colour S O) _ (list_if (same_colour Black O)
-            handshake_lines) (if_says (same_colour Black O) handshake_lines refl))
-            (then_on m n _ rest [] (said p) (λ rest' l' h'. keeps all Rest n (enter (Handshake Black) n) rest' l'
-            (let e = k.enters n S Black rest' p h' in (e.0, e.1))));
-        handshake_last = λ p s d. instead m _ rest [] _
-            (after_answers (same_colour S O) _ (list_if (same_colour White O)
-            (setup_lines r)) (if_says (same_colour White O) (setup_lines r) (setup_says r)))
-            (then_on m n _ rest [] (said p) (λ rest' l' h'. keeps all Rest n (enter (Setup White) n) rest' l'
-            (let e = k.enters n S White rest' p h' in (e.2, e.3))));
-        setup_counts = λ p pong few. counted;
-        setup_next = λ p s pong. instead m _ rest [] _ (quiet (list_if (same_colour Black O) (setup_lines r))
-            (if_says (same_colour Black O) (setup_lines r) (setup_says r)))
-            (keeps all Rest m (enter (Setup Black) m) rest l (k.sets_up m S Black rest p h));
-        setup_last = λ p s pong v. k.begins m S rest p l kept h;
-        setup_decides = λ p v e. k.stops m (Decided v) rest (on_when_read m.phase S aw) l h;
-        stops = λ g reason w. k.stops m reason rest (on_when_read m.phase S aw) l h;
-        counts = λ on none few. counted;
-        offers = λ on none own. instead m _ rest [] _ (quiet ((offering S m).to O) (draw_says S O m))
-            (keeps all Rest m (offering S m).after rest l (k.offers m S rest h));
-        plays = λ text move opened is p read room timely verdict. instead m _ rest [] _
-            (quiet _ (if_says (same_colour S O) _ refl))
-            (k.plays m S move opened (moment - opened) rest p l kept h);
-        decides = λ text move opened v is p read room timely verdict. then_on m (moved S move (moment - opened) m) _
-            rest _
-            (k.plays m S move opened (moment - opened) rest p l kept h)
-            (λ rest' l' h'. k.stops (moved S move (moment - opened) m) _ rest' refl l' h');
-        passes = λ p none. k.passes m S rest p l kept h;
-      })
+  -- what a line does, in each case
+  cases : (S : Colour) (kind : LineKind) (moment : ℕ) (m : Match) (rest : List A) → awaits_line m.phase S ≡ true
+      → Kept r m → length rest ≤ 1 → Rest m rest
+      → LineCases r S kind moment m (λ e. Goes all Rest m rest (flat_map f (e.to O)) e.after)
+  cases S kind moment m rest aw kept l h = record {
+    handshake_stops = λ p reason c most w. instead m _ rest _ _ (answered (same_colour S O) _ _)
+        (then_on m n _ rest _ (said p) (λ rest' l' h'. then_on n (record n { count = c }) _ rest' _
+        (keeps all Rest n (record n { count = c }) rest' l' (k.counts n c rest' h'))
+        (λ rest'' l'' h''. k.stops (record n { count = c }) reason rest'' (on_when_read m.phase S aw) l'' h'')));
+    handshake_counts = λ p d few. instead m _ rest [] _ (after_answers (same_colour S O) _ [] refl)
+        (then_on m n _ rest [] (said p) (λ rest' l' h'. keeps all Rest n (record n { count = m.count + 1 }) rest' l'
+        (k.counts n (m.count + 1) rest' h')));
+    handshake_next = λ p s d. instead m _ rest [] _
+        (after_answers (same_colour S O) _ (list_if (same_colour Black O)
+        handshake_lines) (if_says (same_colour Black O) handshake_lines refl))
+        (then_on m n _ rest [] (said p) (λ rest' l' h'. keeps all Rest n (enter (Handshake Black) n) rest' l'
+        (let e = k.enters n S Black rest' p h' in (e.0, e.1))));
+    handshake_last = λ p s d. instead m _ rest [] _
+        (after_answers (same_colour S O) _ (list_if (same_colour White O)
+        (setup_lines r)) (if_says (same_colour White O) (setup_lines r) (setup_says r)))
+        (then_on m n _ rest [] (said p) (λ rest' l' h'. keeps all Rest n (enter (Setup White) n) rest' l'
+        (let e = k.enters n S White rest' p h' in (e.2, e.3))));
+    setup_counts = λ p pong few. counted;
+    setup_next = λ p s pong. instead m _ rest [] _ (quiet (list_if (same_colour Black O) (setup_lines r))
+        (if_says (same_colour Black O) (setup_lines r) (setup_says r)))
+        (keeps all Rest m (enter (Setup Black) m) rest l (k.sets_up m S Black rest p h));
+    setup_last = λ p s pong v. k.begins m S rest p l kept h;
+    setup_decides = λ p v e. k.stops m (Decided v) rest (on_when_read m.phase S aw) l h;
+    stops = λ g reason w. k.stops m reason rest (on_when_read m.phase S aw) l h;
+    counts = λ on none few. counted;
+    offers = λ on none own. instead m _ rest [] _ (quiet ((offering S m).to O) (draw_says S O m))
+        (keeps all Rest m (offering S m).after rest l (k.offers m S rest h));
+    plays = λ text move opened is p read room timely verdict. instead m _ rest [] _
+        (quiet _ (if_says (same_colour S O) _ refl))
+        (k.plays m S move opened (moment - opened) rest p l kept h);
+    decides = λ text move opened v is p read room timely verdict. then_on m (moved S move (moment - opened) m) _
+        rest _
+        (k.plays m S move opened (moment - opened) rest p l kept h)
+        (λ rest' l' h'. k.stops (moved S move (moment - opened) m) _ rest' refl l' h');
+    passes = λ p none. k.passes m S rest p l kept h;
+  }
     where
       n : Match
       n = said_by S kind m
@@ -236,6 +240,18 @@ module _ {A : Type 0} (f : SentLine → List A) (says : (text : List ℕ) → f 
 
       counted : Goes all Rest m rest [] (record m { count = m.count + 1 })
       counted = keeps all Rest m (record m { count = m.count + 1 }) rest l (k.counts m (m.count + 1) rest h)
+
+  line : (S : Colour) (kind : LineKind) (moment : ℕ) (m : Match) (rest : List A) → awaits_line m.phase S ≡ true
+      → Kept r m → length rest ≤ 1 → Rest m rest
+      → Goes all Rest m rest (flat_map f ((line_row r m.phase kind moment m).to O))
+      (line_row r m.phase kind moment m).after
+  line S kind moment m rest aw kept l h =
+      line_cases r S kind moment m (λ e. Goes all Rest m rest (flat_map f (e.to O)) e.after) aw (λ since.
+      let n : Match = record m { since = since } in
+      let (same, h') = k.waits m since rest h in
+      subst (λ (old : List A). LineCases r S kind moment n
+      (λ e. GoesFrom all Rest old rest (flat_map f (e.to O)) e.after)) same
+      (cases S kind moment n rest aw kept l h'))
 
   -- ---- a failure drops none of these lines
 
@@ -259,7 +275,7 @@ module _ {A : Type 0} (f : SentLine → List A) (says : (text : List ℕ) → f 
 
   apart : (S : Colour) (kind : LineKind) (moment : ℕ) (m : Match) → awaits_line m.phase S ≡ true
       → Apart S (line_row r m.phase kind moment m)
-  apart S kind moment m aw = line_cases r S kind moment m (Apart S) aw (record {
+  apart S kind moment m aw = line_cases r S kind moment m (Apart S) aw (λ since. record {
     handshake_stops = λ p reason c most w on some. absurd cc;
     handshake_counts = λ p d few on some. after_answers (same_colour S (other S)) _ [] refl;
     handshake_next = λ p s d on some. after_answers (same_colour S (other S)) _ (list_if (same_colour Black (other S))
@@ -375,6 +391,13 @@ module _ {A : Type 0} (f : SentLine → List A) (says : (text : List ℕ) → f 
             (stepped X _ m _ (λ rest l h. line S (line_kind t) x m rest aw q l h) s));
         opens = λ m n S x H o q p X one s. p X (λ on. tt)
             (stepped X [] m _ (λ rest l h. keeps all Rest m _ rest l (k.opened m S x rest o h)) s);
+        silent = λ m n S x H aw limited q stays p X one s. by_silence r m n S x H
+            (λ m due. (X : List A) → (is_over m.phase ≡ false → First due)
+            → Sofar X (flat_map f (lines_due O due)) m → C n (X ++ flat_map f (lines_given O H)))
+            (λ reason w only same p. p X (λ o. absurd cc)
+            (over m reason White (on_when_read m.phase S aw) X s))
+            (λ since p. p X (λ on. tt)
+            (stepped X [] m _ (λ rest l h. keeps all Rest m _ rest l (k.waits m since rest h)) s)) stays p;
         output_ends = λ m n S H aw q only same p X one s. p X (λ o. absurd cc)
             (over m _ White (on_when_read m.phase S aw) X s);
         read_fails = λ m n S H aw q only same p X one s. p X (λ o. absurd cc)

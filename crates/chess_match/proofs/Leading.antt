@@ -1,15 +1,16 @@
 -- Steps that lead from one match to another.
 use Rattle.std.proofs.Common.{◌≡◌, ℕ, ◌<◌, Bool, true, false, ◌||◌, List, [], ◌∷◌, ◌++◌, length, refl, ap, sym, ◌∙◌, subst, append_assoc, append-nil, arith, lt-ltb}
 use Rattle.std.specs.Prelude.{if◌then◌else◌, nat_lt}
+use Rattle.std.specs.Cmp.Derive.{both_true}
 use Rattle.chess_base.specs.declared.man.Colour.{Colour}
 use Rattle.chess_base.specs.declared.man.Colour.TheVariants.{White, Black}
 use Rattle.chess_base.specs.Men.{other, same_colour}
 use Rattle.chess_base.proofs.shared.Men.{same_colour-self, same_colour-true}
-use Rattle.chess_match.specs.Acts.{Act, Block, Sends, SendFails, Happens, IsMatchFrom, awaits_line, is_over, block_of, blocks_from}
+use Rattle.chess_match.specs.Acts.{Act, Block, Sends, SendFails, Happens, IsMatchFrom, awaits_line, is_limited, is_over, block_of, blocks_from}
 use Rattle.chess_match.specs.shared.Parts.{blocks_after}
 use Rattle.chess_match.specs.laws.Laws.{broken_blocks, is_broken}
 use Rattle.chess_match.specs.Effects.{Match, Effect, Opening, Over, effect}
-use Rattle.chess_match.specs.Events.{Event, Line, Opened, OutputEnds, FailsToRead, FailsToWrite}
+use Rattle.chess_match.specs.Events.{Event, Line, Opened, Silent, OutputEnds, FailsToRead, FailsToWrite}
 use Rattle.chess_base.specs.Options.{list_if}
 use Rattle.chess_match.specs.Lines.{SentLine, bytes_of}
 use Rattle.chess_match.specs.Notes.{Happened, Gives}
@@ -19,7 +20,8 @@ use Rattle.chess_match.specs.Table.{Step, Does, Notes, watched}
 use Rattle.chess_match.specs.declared.reason.MatchFault.TheVariants.{Write}
 use Rattle.chess_match.specs.declared.reason.Reason.{Reason}
 use Rattle.chess_match.specs.declared.reason.Reason.TheVariants.{Faulted}
-use Rattle.chess_match.specs.ties.Driving.{Leads, giving, is_of_output, steps_of}
+use Rattle.chess_match.proofs.LineCases.{silence_cases}
+use Rattle.chess_match.specs.ties.Driving.{Leads, giving, is_of_output, is_silence, steps_of}
 
 -- no write failed
 abbrev pub none : Colour → Bool
@@ -126,11 +128,18 @@ leads_failed r m S (l ∷ ls) due on some H final reason g e =
 
 -- ---- events
 
--- a line, an end or a failed read of the engine of S
+-- after a silence, too, White's block comes first, if there is one
+silence_first : (r : Rules) (m : Match) (S c : Colour) (moment : ℕ)
+    → blocks_after S (effect r m (Silent c moment)) ≡ blocks_from White (effect r m (Silent c moment)).to
+silence_first r m S c moment =
+    silence_cases r c moment m (λ e. blocks_after S e ≡ blocks_from White e.to)
+    (record { stops = λ reason w. refl; goes_on = λ since. refl })
+
+-- a line, a silence, an end or a failed read of the engine of S
 pub leads_event : (r : Rules) (m : Match) (S : Colour) (e : Event) → is_of_output S e ≡ true
-    → awaits_line m.phase S ≡ true
+    → awaits_line m.phase S ≡ true → (is_silence e ≡ true → is_limited r.patience m.phase ≡ true)
     → Leads r m [] (steps_of e) (effect r m e).after (blocks_after S (effect r m e)) none
-leads_event r m S (Line c text moment) is awaits H final reason g ends =
+leads_event r m S (Line c text moment) is awaits limited H final reason g ends =
     let same : c ≡ S = same_colour-true c S is in (
       Happens (Line c text moment) ∷ H,
       (
@@ -141,21 +150,32 @@ leads_event r m S (Line c text moment) is awaits H final reason g ends =
       refl,
       λ X. refl,
     )
-leads_event r m S (OutputEnds c) is awaits H final reason g ends =
+leads_event r m S (Silent c moment) is awaits limited H final reason g ends =
+    let same : c ≡ S = same_colour-true c S is in (
+      Happens (Silent c moment) ∷ H,
+      (
+        both_true (subst (λ (x : Colour). awaits_line m.phase x ≡ true) (sym same) awaits) (limited refl),
+        subst (λ (due : List Block). IsMatchFrom r (effect r m (Silent c moment)).after due H final)
+            (silence_first r m S c moment) g,
+      ),
+      refl,
+      λ X. refl,
+    )
+leads_event r m S (OutputEnds c) is awaits limited H final reason g ends =
     let same : c ≡ S = same_colour-true c S is in (
       Happens (OutputEnds c) ∷ H,
       (subst (λ (x : Colour). awaits_line m.phase x ≡ true) (sym same) awaits, g),
       refl,
       λ X. refl,
     )
-leads_event r m S (FailsToRead c) is awaits H final reason g ends =
+leads_event r m S (FailsToRead c) is awaits limited H final reason g ends =
     let same : c ≡ S = same_colour-true c S is in (
       Happens (FailsToRead c) ∷ H,
       (subst (λ (x : Colour). awaits_line m.phase x ≡ true) (sym same) awaits, g),
       refl,
       λ X. refl,
     )
-leads_event r m S e is awaits H final reason g ends = absurd cc
+leads_event r m S e is awaits limited H final reason g ends = absurd cc
 
 -- a turn was opened
 pub leads_opened : (r : Rules) (m : Match) (S : Colour) (moment : ℕ) → m.phase ≡ Opening S

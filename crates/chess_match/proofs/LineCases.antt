@@ -14,8 +14,8 @@ use Rattle.chess_base.proofs.shared.Men.{same_colour-true}
 use Rattle.chess_game.specs.declared.verdicts.Verdict.{Verdict}
 use Rattle.cecp_engine.specs.EngineLines.{LineKind, Features, Moves, Resigns, OffersDraw, ClaimsDraw, ClaimsWin, Rejects, Answers, SaysElse}
 use Rattle.cecp_engine.specs.Items.{Item, ends_handshake, plays_fischerandom, takes}
-use Rattle.chess_match.specs.Acts.{awaits_line}
-use Rattle.chess_match.specs.Effects.{Match, Phase, Handshake, Setup, Opening, BeforeMove, AfterMove, Over, Effect, before_move, begins_turn, clock, ends, flag_row, handshake_done, handshake_lines, handshake_row, ignores, judged, line_row, missing, move_row, moved, offer_row, ping_number, sends_nothing, sends_to, setup_done, turn_row, with_seat}
+use Rattle.chess_match.specs.Acts.{awaits_line, is_limited}
+use Rattle.chess_match.specs.Effects.{Match, Phase, Handshake, Setup, Opening, BeforeMove, AfterMove, Over, Effect, awaited_since, before_move, begins_turn, clock, ends, flag_row, handshake_done, handshake_lines, handshake_row, ignores, judged, line_row, missing, move_row, moved, offer_row, ping_number, reply_row, sends_nothing, sends_to, setup_done, silence_row, turn_row, with_seat}
 use Rattle.chess_match.specs.shared.Parts.{enter, with_answers}
 use Rattle.chess_match.specs.Lines.{Says, ping, setup_lines}
 use Rattle.chess_match.specs.Reasons.{is_write_fault_of}
@@ -25,12 +25,14 @@ use Rattle.chess_text.specs.declared.reading.Reading.{Reading}
 use Rattle.chess_text.specs.declared.reading.Reading.TheVariants as reads
 use Rattle.chess_game.specs.declared.verdicts.DrawClaim.{DrawClaim}
 use Rattle.chess_match.specs.declared.reason.MatchFault.{MatchFault}
-use Rattle.chess_match.specs.declared.reason.MatchFault.TheVariants.{Flood, NoDone, NoPing, NoSetboard, NoVariant}
+use Rattle.chess_match.specs.declared.patience.Patience.{Patience}
+use Rattle.chess_match.specs.declared.reason.MatchFault.TheVariants.{Flood, NoAnswer, NoDone, NoHandshake, NoPing, NoSetboard, NoVariant}
 use Rattle.chess_match.specs.declared.reason.Reason.{Reason}
 use Rattle.chess_match.specs.declared.reason.Reason.TheVariants.{Decided, Claimed, Agreed, MovesIllegally, MovesOutOfTurn, ClaimsFalsely, RejectsLegalMove, Forfeits, ForfeitsToBareKing, GameTooLong, Faulted}
 use Rattle.chess_match.specs.declared.reason.Reason.TheVariants as over_by
 use Rattle.chess_match.specs.laws.Laws.{move_said, is_pong, items_in_line}
 use Rattle.chess_match.specs.laws.OfActs.{whose_line}
+use Rattle.chess_match.specs.ties.Represents.{heard}
 use Rattle.chess_game.specs.Ends.{verdict, claims, draw_claim}
 use Rattle.chess_game.specs.Line.{position_after}
 use Rattle.chess_text.specs.Moves.{reading}
@@ -53,9 +55,9 @@ in_turn _ = false
 
 -- a line of S may end a match in this phase for this reason: it is no failed write, what no line of the other did, and
 -- no verdict; out of a turn it is a fault
-abbrev pub MayStop : Phase → Colour → Reason → Type 0
-MayStop p S reason = ((O : Colour) → is_write_fault_of reason O ≡ false)
-    × ((c : Colour) → whose_line reason ≡ Some c → S ≡ c) × (is_decided reason ≡ false)
+abbrev pub MayStop : Patience → Phase → Colour → Reason → Type 0
+MayStop patience p S reason = ((O : Colour) → is_write_fault_of reason O ≡ false)
+    × ((c : Colour) → whose_line patience reason ≡ Some c → S ≡ c) × (is_decided reason ≡ false)
     × (in_turn p ≡ false → is_fault reason ≡ true)
 
 -- whether no handshake is on in this phase
@@ -90,7 +92,7 @@ playing S move used m = let n = moved S move used m in sends_to S (ping (ping_nu
 pub record LineCases (r : Rules) (S : Colour) (kind : LineKind) (moment : ℕ) (m : Match) (Q : Effect → Type 0) : Type 0
   where
     -- in its handshake
-    pub handshake_stops : m.phase ≡ Handshake S → (reason : Reason) (k : ℕ) → k ≤ m.count → MayStop m.phase S reason
+    pub handshake_stops : m.phase ≡ Handshake S → (reason : Reason) (k : ℕ) → k ≤ m.count → MayStop r.patience m.phase S reason
         → Q (with_answers S (items_in_line kind) (ends r reason (record (said_by S kind m) { count = k })))
     pub handshake_counts : m.phase ≡ Handshake S → list_any ends_handshake (items_in_line kind) ≡ false
         → m.count + 1 < 1000
@@ -108,7 +110,7 @@ pub record LineCases (r : Rules) (S : Colour) (kind : LineKind) (moment : ℕ) (
         → Q (begins_turn r r.start.side m)
     pub setup_decides : m.phase ≡ Setup S → (v : Verdict) → verdict r.start m.played ≡ Some v → Q (ends r (Decided v) m)
     -- in its setup or in its turn
-    pub stops : handshakes_done m.phase ≡ true → (reason : Reason) → MayStop m.phase S reason
+    pub stops : handshakes_done m.phase ≡ true → (reason : Reason) → MayStop r.patience m.phase S reason
         → Q (ends r reason m)
     -- in its turn
     pub counts : in_turn m.phase ≡ true → move_said kind ≡ [] → m.count + 1 < 10000 → Q (counting m)
@@ -142,8 +144,17 @@ misses r items = if_fault (not (takes (codes "ping") items)) (Some NoPing) _ (λ
     (if_fault (is_fischerandom r.start.variant && not (plays_fischerandom items)) (Some NoVariant) None (λ c O. refl) tt))
 
 setup_by_pong : (r : Rules) (S : Colour) (kind : LineKind) (moment : ℕ) (m : Match)
-    → line_row r (Setup S) kind moment m ≡ (if is_pong 1 kind then setup_done r S m else ignores r S m)
+    → line_row r (Setup S) kind moment m
+    ≡ (if is_pong 1 kind then setup_done r S (awaited_since moment m) else ignores r S m)
 setup_by_pong r S kind moment m = grind arith
+
+-- a flag that falls is a loss of its side alone
+own_flag : (patience : Patience) (S c : Colour) → whose_line patience (Forfeits S) ≡ Some c → S ≡ c
+own_flag patience S c e = at patience.flag e
+  where
+    at : (b : Bool) → (if b then None else Some S) ≡ Some c → S ≡ c
+    at true e = absurd cc
+    at false e = cc
 
 module _ (r : Rules) (S : Colour) (kind : LineKind) (moment : ℕ) (m : Match) (Q : Effect → Type 0)
     (l : LineCases r S kind moment m Q) where
@@ -219,7 +230,7 @@ module _ (r : Rules) (S : Colour) (kind : LineKind) (moment : ℕ) (m : Match) (
     where
       at : (bare : Bool) → Q (ends r (if bare then ForfeitsToBareKing else Forfeits S) m)
       at true = l.stops (turn_done m.phase on) ForfeitsToBareKing ((λ O. refl), (λ c e. cc), refl, never on)
-      at false = l.stops (turn_done m.phase on) (Forfeits S) ((λ O. refl), (λ c e. cc), refl, never on)
+      at false = l.stops (turn_done m.phase on) (Forfeits S) ((λ O. refl), own_flag r.patience S, refl, never on)
 
   -- after its move
   after : m.phase ≡ AfterMove S → (k : LineKind) → kind ≡ k → Q (line_row r (AfterMove S) k moment m)
@@ -244,9 +255,8 @@ module _ (r : Rules) (S : Colour) (kind : LineKind) (moment : ℕ) (m : Match) (
       at (Some v) h = l.setup_decides p v h
       at None h = l.setup_last p e pong h
 
-  setup : m.phase ≡ Setup S → Q (line_row r (Setup S) kind moment m)
-  setup p = subst Q (sym (setup_by_pong r S kind moment m))
-      (by_test Q (is_pong 1 kind) (set_up S refl p) (λ h. ignored (ap handshakes_done p) (l.setup_counts p h)))
+  not_set_up : m.phase ≡ Setup S → is_pong 1 kind ≡ false → Q (ignores r S m)
+  not_set_up p h = ignored (ap handshakes_done p) (l.setup_counts p h)
 
   -- in its handshake
   shaken : (c : Colour) → S ≡ c → m.phase ≡ Handshake S → list_any ends_handshake (items_in_line kind) ≡ true
@@ -272,31 +282,87 @@ module _ (r : Rules) (S : Colour) (kind : LineKind) (moment : ℕ) (m : Match) (
 
 -- a line in a handshake, by its items
 pub handshake_by_items : (r : Rules) (S : Colour) (kind : LineKind) (moment : ℕ) (m : Match)
-    → line_row r (Handshake S) kind moment m ≡ handshake_row r S (items_in_line kind) m
+    → line_row r (Handshake S) kind moment m ≡ handshake_row r S (items_in_line kind) (heard kind moment m)
 handshake_by_items r S (Features text) moment m = refl
 handshake_by_items r S _ moment m = refl
 
+-- from when on a reply is awaited is left open: what holds of the effects is to hold whichever moment that is
 pub line_cases : (r : Rules) (S : Colour) (kind : LineKind) (moment : ℕ) (m : Match) (Q : Effect → Type 0)
-    → awaits_line m.phase S ≡ true → LineCases r S kind moment m Q → Q (line_row r m.phase kind moment m)
+    → awaits_line m.phase S ≡ true
+    → ((since : Option ℕ) → LineCases r S kind moment (record m { since = since }) Q)
+    → Q (line_row r m.phase kind moment m)
 line_cases r S kind moment m Q aw l = at m.phase refl aw
   where
     -- the phase's side is S
     here : (p : Phase) (c : Colour) (q : Colour → Phase) → m.phase ≡ q c → same_colour c S ≡ true → m.phase ≡ q S
     here p c q e h = e ∙ ap q (same_colour-true c S h)
 
+    setup : m.phase ≡ Setup S → Q (line_row r (Setup S) kind moment m)
+    setup p = subst Q (sym (setup_by_pong r S kind moment m)) (by_test Q (is_pong 1 kind)
+        (set_up r S kind moment (awaited_since moment m) Q (l (Some moment)) S refl p)
+        (not_set_up r S kind moment m Q (l m.since) p))
+
     at : (p : Phase) → m.phase ≡ p → awaits_line p S ≡ true → Q (line_row r p kind moment m)
     at (Handshake c) e h = subst (λ (x : Colour). Q (line_row r (Handshake x) kind moment m))
         (sym (same_colour-true c S h)) (subst Q (sym (handshake_by_items r S kind moment m))
-        (handshake r S kind moment m Q l (here m.phase c Handshake e h)))
+        (handshake r S kind moment (heard kind moment m) Q (l (heard kind moment m).since)
+        (here m.phase c Handshake e h)))
     at (Setup c) e h = subst (λ (x : Colour). Q (line_row r (Setup x) kind moment m)) (sym (same_colour-true c S h))
-        (setup r S kind moment m Q l (here m.phase c Setup e h))
+        (setup (here m.phase c Setup e h))
     at (BeforeMove c opened) e h = subst (λ (x : Colour). Q (line_row r (BeforeMove x opened) kind moment m))
         (sym (same_colour-true c S h))
         (by_test Q (nat_lt (clock r m S) (moment - opened))
-        (λ late. flagged r S kind moment m Q l (ap in_turn e))
-        (λ timely. before r S kind moment m Q l opened (here m.phase c (λ x. BeforeMove x opened) e h)
+        (λ late. flagged r S kind moment m Q (l m.since) (ap in_turn e))
+        (λ timely. before r S kind moment (awaited_since moment m) Q (l (Some moment)) opened
+        (here m.phase c (λ x. BeforeMove x opened) e h)
         (ltb-false (clock r m S) (moment - opened) timely) kind refl))
     at (AfterMove c) e h = subst (λ (x : Colour). Q (line_row r (AfterMove x) kind moment m)) (sym (same_colour-true c S h))
-        (after r S kind moment m Q l (here m.phase c AfterMove e h) kind refl)
+        (after r S kind moment m Q (l m.since) (here m.phase c AfterMove e h) kind refl)
     at (Opening c) e h = absurd cc
     at (Over reason) e h = absurd cc
+
+-- ---- silences
+
+-- that no line had come may end a match in this phase for this reason: it is no failed write, what no line did, and no
+-- verdict; out of a turn it is a fault
+abbrev pub MayStopSilent : Patience → Phase → Reason → Type 0
+MayStopSilent patience p reason = ((O : Colour) → is_write_fault_of reason O ≡ false)
+    × (is_limited patience p ≡ true → whose_line patience reason ≡ None) × (is_decided reason ≡ false)
+    × (in_turn p ≡ false → is_fault reason ≡ true)
+
+-- what it can do to a match that no line had come
+pub record SilenceCases (r : Rules) (m : Match) (Q : Effect → Type 0) : Type 0 where
+  pub stops : (reason : Reason) → MayStopSilent r.patience m.phase reason → Q (ends r reason m)
+  pub goes_on : (since : Option ℕ) → Q (sends_nothing (record m { since = since }))
+
+flag_shown : (patience : Patience) (S : Colour) → patience.flag ≡ true → whose_line patience (Forfeits S) ≡ None
+flag_shown patience S e = ap (λ (b : Bool). if b then None else Some S) e
+
+pub silence_cases : (r : Rules) (S : Colour) (moment : ℕ) (m : Match) (Q : Effect → Type 0) → SilenceCases r m Q
+    → Q (silence_row r m.phase S moment m)
+silence_cases r S moment m Q l = at m.phase refl
+  where
+    owed : (fault : MatchFault) → ((O : Colour) → is_write_fault_of (Faulted S fault) O ≡ false)
+        → Q (reply_row r S fault moment m)
+    owed fault w = by_test Q _ (λ h. l.stops (Faulted S fault) (w, (λ b. refl), refl, (λ off. refl)))
+        (λ h. l.goes_on _)
+
+    bare : (b : Bool) (side : Colour) (opened : ℕ) → m.phase ≡ BeforeMove side opened
+        → Q (ends r (if b then ForfeitsToBareKing else Forfeits S) m)
+    bare true side opened e = l.stops ForfeitsToBareKing ((λ O. refl), (λ b. refl), refl, never (ap in_turn e))
+    bare false side opened e = l.stops (Forfeits S) (
+      (λ O. refl),
+      (λ b. flag_shown r.patience S (sym (ap (is_limited r.patience) e) ∙ b)),
+      refl,
+      never (ap in_turn e),
+    )
+
+    at : (p : Phase) → m.phase ≡ p → Q (silence_row r p S moment m)
+    at (Handshake side) e = owed NoHandshake (λ O. refl)
+    at (BeforeMove side opened) e = by_test Q (nat_lt (clock r m S) (moment - opened))
+        (λ late. bare (has_bare_king (other S) (position_after r.start m.played).men) side opened e)
+        (λ timely. l.goes_on m.since)
+    at (Setup side) e = owed NoAnswer (λ O. refl)
+    at (AfterMove side) e = owed NoAnswer (λ O. refl)
+    at (Opening side) e = owed NoAnswer (λ O. refl)
+    at (Over reason) e = owed NoAnswer (λ O. refl)

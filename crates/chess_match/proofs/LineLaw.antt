@@ -7,10 +7,11 @@ use Rattle.chess_base.specs.Options.{list_if}
 use Rattle.cecp_engine.specs.EngineLines.{LineKind}
 use Rattle.chess_match.specs.Acts.{Act, awaits_line}
 use Rattle.chess_match.specs.laws.Laws.{lines_read, line_kind}
-use Rattle.chess_match.specs.Effects.{Match, Phase, Handshake, Setup, Opening, BeforeMove, AfterMove, Over, line_row}
+use Rattle.chess_match.specs.Effects.{Match, Phase, Handshake, Setup, Opening, BeforeMove, AfterMove, Over, effect, line_row}
+use Rattle.chess_match.specs.Events.{Silent}
 use Rattle.chess_match.specs.Rules.{Rules}
 use Rattle.chess_match.specs.laws.OfActs.{AtEachMoment, LinesAreFew}
-use Rattle.chess_match.proofs.LineCases.{line_cases}
+use Rattle.chess_match.proofs.LineCases.{line_cases, silence_cases}
 use Rattle.chess_match.proofs.Points.{by_points}
 
 abbrev one_if : Bool → ℕ
@@ -48,7 +49,7 @@ few_over r k m w = grind (arith, at_most_one (m.seat White).offers, at_most_one 
 -- one line more
 lines : (r : Rules) (k : ℕ) (S : Colour) (kind : LineKind) (moment : ℕ) (m : Match) → awaits_line m.phase S ≡ true
     → Few r k m → Few r (k + 1) (line_row r m.phase kind moment m).after
-lines r k S kind moment m aw w = line_cases r S kind moment m (λ e. Few r (k + 1) e.after) aw (record {
+lines r k S kind moment m aw w = line_cases r S kind moment m (λ e. Few r (k + 1) e.after) aw (λ since. record {
   handshake_stops = λ p reason c most n. grind (arith, p, w);
   handshake_counts = λ p d few. grind (arith, p, w, few);
   handshake_next = λ p s d. grind (arith, p, s, w);
@@ -68,6 +69,14 @@ lines r k S kind moment m aw w = line_cases r S kind moment m (λ e. Few r (k + 
   where
     stopped : k + 1 ≤ 22000 + 10002 * (r.limit + 1)
     stopped = grind (arith, aw, w, at_most_one (m.seat White).offers, at_most_one (m.seat Black).offers)
+
+-- a silence is no line
+silent_few : (r : Rules) (k : ℕ) (S : Colour) (moment : ℕ) (m : Match) → Few r k m
+    → Few r k (effect r m (Silent S moment)).after
+silent_few r k S moment m w = silence_cases r S moment m (λ e. Few r k e.after) (record {
+  stops = λ reason n. few_over r k m w;
+  goes_on = λ since. w;
+})
 
 opened : (r : Rules) (k : ℕ) (S : Colour) (moment : ℕ) (m : Match) → FewIn r k (Opening S) m
     → FewIn r k (BeforeMove S moment) m
@@ -93,6 +102,7 @@ lines_are_few r H K final g =
       reads = λ m n S t x H aw q s p k w. more_lines S t (lines_read White H) (lines_read Black H) k most
           (p (k + 1) (lines r k S (line_kind t) x m aw w));
       opens = λ m n S x H o q p k w. p k (opened r k S x m (subst (λ (y : Phase). FewIn r k y m) o w));
+      silent = λ m n S x H aw limited q s p k w. p k (silent_few r k S x m w);
       output_ends = λ m n S H aw q s u p k w. p k (few_over r k m w);
       read_fails = λ m n S H aw q s u p k w. p k (few_over r k m w);
     }) H K final (λ m due q f k w. let l = few_over r k m w in omega (arith, l)) g 0

@@ -7,9 +7,9 @@ use Rattle.byte_devices.specs.Devices.{InputState}
 use Rattle.chess_base.specs.Men.{other, same_colour}
 use Rattle.chess_base.proofs.shared.Men.{same_colour-other, same_colour-self}
 use Rattle.text_lines.specs.Lines.{LineSeen, Held}
-use Rattle.text_lines.specs.Next.{NextLine, GotLine, GotLast}
+use Rattle.text_lines.specs.Next.{NextLine, NextLineUntil, GotLine, GotLast}
 use Rattle.chess_match.specs.Acts.{Act, Happens}
-use Rattle.chess_match.specs.Events.{Line, OutputEnds, FailsToRead}
+use Rattle.chess_match.specs.Events.{Line, Silent, OutputEnds, FailsToRead}
 use Rattle.chess_match.specs.Run.{text_read}
 use Rattle.chess_match.specs.ties.EngineOutput.{OutputAt}
 use Rattle.chess_match.specs.declared.run.TheConstants.{ENGINE_LINE_LEN}
@@ -53,3 +53,12 @@ other_read S r r' h h' (Ok (Some line)) same kept = at line.ended
     at : (x : Bool) → OutputAt (other S) (if x then Happens (Line S (text_read line) 0) else Happens (OutputEnds S)) r r' h h'
     at true = others S _ _ (same, kept)
     at false = others S _ _ (same, kept)
+
+-- no line had come
+pub own_silent : (E : Type 0) (S : Colour) (r r' : InputState) (h h' : Held) (line : LineSeen)
+    → NextLineUntil {E = E} ENGINE_LINE_LEN r r' h h' (Ok None) line → OutputAt S (Happens (Silent S 0)) r r' h h'
+own_silent E S r r' h h' line (more, b, w, got) = own S _ _ (more, b, got)
+
+pub other_silent : (S : Colour) (r r' : InputState) (h h' : Held) → r' ≡ r → h' ≡ h
+    → OutputAt (other S) (Happens (Silent S 0)) r r' h h'
+other_silent S r r' h h' same kept = others S _ _ (same, kept)

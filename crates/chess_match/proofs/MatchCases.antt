@@ -2,13 +2,14 @@
 use native.Mathlib.Omega.{arith}
 use Rattle.std.proofs.Common.{◌≡◌, ℕ, Bool, true, false, List, [], ◌∷◌, ◌++◌, refl, ap, sym, ◌∙◌, subst, append-nil, Option}
 use Rattle.std.specs.Prelude.{if◌then◌else◌}
+use Rattle.std.proofs.lemmas.Bool.{and_parts}
 use Rattle.chess_base.specs.declared.man.Colour.{Colour}
 use Rattle.chess_base.specs.declared.man.Colour.TheVariants.{White}
 use Rattle.chess_base.specs.Men.{same_colour}
-use Rattle.chess_match.specs.Acts.{Act, Block, Sends, SendFails, Happens, IsMatch, IsMatchFrom, awaits_line, is_over, blocks_from}
+use Rattle.chess_match.specs.Acts.{Act, Block, Sends, SendFails, Happens, IsMatch, IsMatchFrom, awaits_line, is_limited, is_over, blocks_from}
 use Rattle.chess_match.specs.shared.Parts.{blocks_after}
 use Rattle.chess_match.specs.Effects.{Match, Phase, Opening, effect, beginning}
-use Rattle.chess_match.specs.Events.{Line, Opened, OutputEnds, FailsToRead, FailsToWrite}
+use Rattle.chess_match.specs.Events.{Line, Opened, Silent, OutputEnds, FailsToRead, FailsToWrite}
 use Rattle.chess_match.specs.Lines.{SentLine}
 use Rattle.chess_match.specs.Rules.{Rules}
 use Rattle.chess_match.specs.laws.OfActs.{match_after}
@@ -27,6 +28,10 @@ pub record Acts (r : Rules) (P : Match → List Block → List Act → Match →
       → P m [] (Happens (Line S t k) ∷ H) n
   pub opens : (m n : Match) (S : Colour) (k : ℕ) (H : List Act) → m.phase ≡ Opening S
       → P (effect r m (Opened S k)).after [] H n → P m [] (Happens (Opened S k) ∷ H) n
+  pub silent : (m n : Match) (S : Colour) (k : ℕ) (H : List Act) → awaits_line m.phase S ≡ true
+      → is_limited r.patience m.phase ≡ true
+      → P (effect r m (Silent S k)).after (blocks_from White (effect r m (Silent S k)).to) H n
+      → P m [] (Happens (Silent S k) ∷ H) n
   pub ends : (m n : Match) (S : Colour) (H : List Act) → awaits_line m.phase S ≡ true
       → P (effect r m (OutputEnds S)).after (blocks_from White (effect r m (OutputEnds S)).to) H n
       → P m [] (Happens (OutputEnds S) ∷ H) n
@@ -65,6 +70,9 @@ module _ (r : Rules) (P : Match → List Block → List Act → Match → Type 0
       k.reads m (match_after r (effect r m (Line S t n)).after H) S t n H aw (by_acts _ _ H g)
   by_acts m [] (Happens (Opened S n) ∷ H) (o, g) =
       k.opens m (match_after r (effect r m (Opened S n)).after H) S n H o (by_acts _ [] H g)
+  by_acts m [] (Happens (Silent S n) ∷ H) (aw, g) =
+      let parts = and_parts (awaits_line m.phase S) (is_limited r.patience m.phase) aw in
+      k.silent m (match_after r (effect r m (Silent S n)).after H) S n H parts.0 parts.1 (by_acts _ _ H g)
   by_acts m [] (Happens (OutputEnds S) ∷ H) (aw, g) =
       k.ends m (match_after r (effect r m (OutputEnds S)).after H) S H aw (by_acts _ _ H g)
   by_acts m [] (Happens (FailsToRead S) ∷ H) (aw, g) =
@@ -88,7 +96,7 @@ by_cases r final P k over m due H g = by_acts r (λ m due H end. P m due H) k []
 
 -- ---- nothing is read after an end
 
--- none of these acts reads from an engine
+-- none of these acts looks for a line of an engine
 abbrev pub unread : List Act → Bool
 unread [] = true
 unread (Sends b ∷ H) = unread H
@@ -96,6 +104,7 @@ unread (SendFails b ∷ H) = unread H
 unread (Happens (Line c t n) ∷ H) = false
 unread (Happens (OutputEnds c) ∷ H) = false
 unread (Happens (FailsToRead c) ∷ H) = false
+unread (Happens (Silent c n) ∷ H) = false
 unread (Happens (Opened c n) ∷ H) = unread H
 unread (Happens (FailsToWrite c) ∷ H) = unread H
 
@@ -126,6 +135,7 @@ reading r m final due H g = by_cases r final Reading (record {
   fails_late = λ m end b due H over p. p;
   reads = λ m end S t n H aw p. (λ h. both_not (is_over m.phase) (on_when_read m.phase S aw) h, p.1);
   opens = λ m end S n H o p. (λ h. both_not (is_over m.phase) (ap is_over o) h, p.1);
+  silent = λ m end S n H aw limited p. (λ h. both_not (is_over m.phase) (on_when_read m.phase S aw) h, p.1);
   ends = λ m end S H aw p. (λ h. both_not (is_over m.phase) (on_when_read m.phase S aw) h, p.0 refl);
   read_fails = λ m end S H aw p. (λ h. both_not (is_over m.phase) (on_when_read m.phase S aw) h, p.0 refl);
 }) (λ o. (λ h. refl, refl)) m due H g
@@ -227,6 +237,10 @@ sending_ends r m final due H S g = (by_cases r final (Sending S) (record {
         (effect r m (Line c t n)).to),
   );
   opens = λ m end c n H opening p. (λ o. both_not (is_over m.phase) (ap is_over opening) o, λ f. p.1 refl);
+  silent = λ m end c n H aw limited p. (
+    λ o. both_not (is_over m.phase) (on_when_read m.phase c aw) o,
+    λ f. p.1 (few_due S White (effect r m (Silent c n)).to),
+  );
   ends = λ m end c H aw p. (
     λ o. both_not (is_over m.phase) (on_when_read m.phase c aw) o,
     λ f. p.1 (few_due S White (effect r m (OutputEnds c)).to),

@@ -12,7 +12,7 @@ use Rattle.cecp_engine.specs.Items.{takes}
 use Rattle.chess_match.specs.Acts.{Act, Block, IsMatch, IsMatchFrom, Sends, SendFails, Happens, awaits_line, is_over}
 use Rattle.chess_match.specs.Effects.{Match, Phase, Handshake, Setup, Opening, BeforeMove, AfterMove, Over, begins_turn, beginning, effect, ends, is_owed_move, moved, opening}
 use Rattle.chess_match.specs.shared.Parts.{enter}
-use Rattle.chess_match.specs.Events.{Line, Opened}
+use Rattle.chess_match.specs.Events.{Line, Opened, Silent}
 use Rattle.chess_match.specs.Lines.{SentLine}
 use Rattle.chess_match.specs.Reasons.{is_write_fault_of}
 use Rattle.chess_match.specs.Rules.{Rules, text_of_last}
@@ -20,7 +20,7 @@ use Rattle.chess_match.specs.declared.reason.Reason.{Reason}
 use Rattle.chess_match.specs.laws.Laws.{move_sent, moves_sent, texts_from, broken_blocks, is_broken, lines_sent, line_kind}
 use Rattle.chess_match.specs.laws.OfActs.{AllMovesAreGiven, AllMovesAreSent, AtEachLine, AtEachMoment, AtEachOpening, InEachMatch, IsSentAllMoves, MovesAreSent, MovesSentAreKnown, ended_by_write_to, lines_given, match_after, others_moves}
 use Rattle.chess_match.proofs.Givings.{Gives, Goes, given_at, grows, sends}
-use Rattle.chess_match.proofs.LineCases.{line_cases}
+use Rattle.chess_match.proofs.LineCases.{line_cases, silence_cases}
 use Rattle.chess_match.proofs.MatchCases.{both_not, on_when_read}
 use Rattle.chess_match.proofs.Points.{by_points, whole, mover, moved_items, offered_items, turn_in, turns_of}
 
@@ -124,6 +124,7 @@ gives r O = record {
     rw p (owed_in r O m (Handshake S) rest p h),
   );
   counts = λ m k rest h. (refl, h);
+  waits = λ m since rest h. (refl, h);
   enters = λ m S c rest p h. let e = owed_in r O m (Handshake S) rest p h in (refl, e, refl, e);
   sets_up = λ m S c rest p h. (refl, owed_in r O m (Setup S) rest p h);
   offers = λ m S rest h. (
@@ -219,11 +220,14 @@ broken_more b H O h = at (same_colour b.to O) h
         (lt-ltb 0 (length (b.lines ∷ broken_blocks O H)) (omega arith))
     at false h = (refl, h)
 
--- a line ends no match since a write failed
+on_written : (O : Colour) (p : Phase) → is_over p ≡ false → ended_by_write_to O p ≡ false
+on_written O p h1 = grind arith
+
+-- a line ends no match since a write failed, nor does a silence
 pub line_written : (r : Rules) (O S : Colour) (t : Option (List ℕ)) (x : ℕ) (m : Match) → awaits_line m.phase S ≡ true
     → ended_by_write_to O (effect r m (Line S t x)).after.phase ≡ false
 line_written r O S t x m aw =
-    line_cases r S (line_kind t) x m (λ e. ended_by_write_to O e.after.phase ≡ false) aw (record {
+    line_cases r S (line_kind t) x m (λ e. ended_by_write_to O e.after.phase ≡ false) aw (λ since. record {
       handshake_stops = λ p reason c most w. w.0 O;
       handshake_counts = λ p d few. rw p refl;
       handshake_next = λ p s d. refl;
@@ -233,15 +237,19 @@ line_written r O S t x m aw =
       setup_last = λ p s pong v. refl;
       setup_decides = λ p v e. refl;
       stops = λ g reason w. w.0 O;
-      counts = λ on none few. on_written m.phase (on_when_read m.phase S aw);
-      offers = λ on none own. on_written m.phase (on_when_read m.phase S aw);
+      counts = λ on none few. on_written O m.phase (on_when_read m.phase S aw);
+      offers = λ on none own. on_written O m.phase (on_when_read m.phase S aw);
       plays = λ text move opened is p read room timely verdict. refl;
       decides = λ text move opened v is p read room timely verdict. refl;
       passes = λ p none. refl;
     })
-  where
-    on_written : (p : Phase) → is_over p ≡ false → ended_by_write_to O p ≡ false
-    on_written p h1 = grind arith
+
+pub silent_written : (r : Rules) (O S : Colour) (x : ℕ) (m : Match) → awaits_line m.phase S ≡ true
+    → ended_by_write_to O (effect r m (Silent S x)).after.phase ≡ false
+silent_written r O S x m aw = silence_cases r S x m (λ e. ended_by_write_to O e.after.phase ≡ false) (record {
+  stops = λ reason w. w.0 O;
+  goes_on = λ since. on_written O m.phase (on_when_read m.phase S aw);
+})
 
 -- if each block for O was sent, no write to O ended the match
 written_so_far : (r : Rules) (O : Colour) (H K : List Act) (final : Match) → IsMatch r (H ++ K) final
@@ -254,6 +262,7 @@ written_so_far r O H K final g = by_points r
       fails_late = λ m n b due H o only same p w h. p w (broken_more b H O h).1;
       reads = λ m n S t x H aw q stays p w h. p (line_written r O S t x m aw) h;
       opens = λ m n S x H o q p w h. p refl h;
+      silent = λ m n S x H aw limited q stays p w h. p (silent_written r O S x m aw) h;
       output_ends = λ m n S H aw q only same p w h. p refl h;
       read_fails = λ m n S H aw q only same p w h. p refl h;
     }) H K final (λ m due q g w h. w) g refl
@@ -297,6 +306,7 @@ unbroken_on r S H K final g = by_points r (λ m due H n. is_over n.phase ≡ fal
       ∙ o);
   reads = λ m n S t x H aw q stays p. p;
   opens = λ m n S x H o q p. p;
+  silent = λ m n S x H aw limited q stays p. p;
   output_ends = λ m n S H aw q only same p. p;
   read_fails = λ m n S H aw q only same p. p;
 }) H K final (λ m due q g w. refl) g
@@ -350,6 +360,7 @@ used_are_turns r C H K final g = by_points r
       fails_late = λ m n b due H o only same p. p;
       reads = λ m n S t x H aw q stays p. p;
       opens = λ m n S x H o q p. p;
+      silent = λ m n S x H aw limited q stays p. p;
       output_ends = λ m n S H aw q only same p. p;
       read_fails = λ m n S H aw q only same p. p;
     }) H K final (λ m due q g. q.1 C) g

@@ -8,7 +8,7 @@ use Rattle.chess_base.specs.Options.{list_if}
 use Rattle.chess_match.specs.Acts.{Act, Block, Sends, SendFails, Happens, blocks_from, is_over}
 use Rattle.chess_match.specs.Effects.{Match, Phase, Over, beginning, effect}
 use Rattle.chess_match.specs.shared.Parts.{farewell}
-use Rattle.chess_match.specs.Events.{Event, Line, Opened, OutputEnds, FailsToRead, FailsToWrite}
+use Rattle.chess_match.specs.Events.{Event, Line, Opened, Silent, OutputEnds, FailsToRead, FailsToWrite}
 use Rattle.chess_match.specs.Lines.{SentLine, bytes_of}
 use Rattle.chess_match.specs.Notes.{Note, Happened}
 use Rattle.chess_match.specs.Reasons.{is_write_fault_of}
@@ -20,7 +20,7 @@ use Rattle.chess_match.specs.laws.Laws.{events_in, given_in, lines_noted, moment
 use Rattle.chess_match.specs.laws.OfActs.{NotesAreInOrder, NotesHaveAllLines, NotesHaveLinesRead, NotesHaveMoments, NotesHaveTheEvents, after_events, ended_by_write_to, events_of, lines_given, match_after}
 use Rattle.chess_match.proofs.Leading.{unwritten}
 use Rattle.chess_match.proofs.MatchCases.{both_not, by_cases, on_when_read}
-use Rattle.chess_match.proofs.MoveLaw.{line_written}
+use Rattle.chess_match.proofs.MoveLaw.{line_written, silent_written}
 use Rattle.chess_match.proofs.Points.{end_after_acts}
 use Rattle.chess_match.proofs.Sends.{bytes_of-append}
 
@@ -61,6 +61,7 @@ all_lines_read r reason H final S g = by_cases r final
       fails_late = λ m end b due H o p. failed b H ∙ p;
       reads = λ m end c t n H aw p. ap (λ ls. list_if (same_colour c S) (t ∷ []) ++ ls) p;
       opens = λ m end c n H o p. p;
+      silent = λ m end c n H aw limited p. p;
       ends = λ m end c H aw p. p;
       read_fails = λ m end c H aw p. p;
     }) (λ o. refl) beginning.after (blocks_from White beginning.to) H g
@@ -76,6 +77,7 @@ all_moments reason (SendFails b ∷ H) =
     (no_readings (is_write_fault_of reason b.to) b.to b.to (notes_given reason H)).1 ∙ all_moments reason H
 all_moments reason (Happens (Line c t n) ∷ H) = ap (λ ns. n ∷ ns) (all_moments reason H)
 all_moments reason (Happens (Opened c n) ∷ H) = ap (λ ns. n ∷ ns) (all_moments reason H)
+all_moments reason (Happens (Silent c n) ∷ H) = ap (λ ns. n ∷ ns) (all_moments reason H)
 all_moments reason (Happens (OutputEnds c) ∷ H) = all_moments reason H
 all_moments reason (Happens (FailsToRead c) ∷ H) = all_moments reason H
 all_moments reason (Happens (FailsToWrite c) ∷ H) = all_moments reason H
@@ -154,6 +156,11 @@ in_order r reason H final g over = (by_cases r final (Ordered r reason final ove
   opens = λ m end S n H o p. (
     on_not_over r reason final over m (ap is_over o),
     λ w. ap (λ es. Opened S n ∷ es) (p.1 (λ o. absurd cc)),
+  );
+  silent = λ m end S n H aw limited p. (
+    on_not_over r reason final over m (on_when_read m.phase S aw),
+    λ w. ap (λ es. Silent S n ∷ es) (p.1 (λ o. due_written r reason final over (effect r m (Silent S n)).after _
+        (λ O. silent_written r O S n m aw) (p.0 o))),
   );
   ends = λ m end S H aw p. (
     on_not_over r reason final over m (on_when_read m.phase S aw),

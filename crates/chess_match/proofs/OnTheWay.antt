@@ -1,7 +1,7 @@
 -- A match that goes on at a table.
 use Rattle.std.proofs.Common.{◌≡◌, ℕ, ◌+◌, ◌*◌, ◌<◌, ◌≤◌, Bool, true, false, ◌||◌, List, [], ◌++◌, refl, ap, sym, ◌∙◌, subst, arith, Option, None, Some}
 use Rattle.std.specs.Option.{option_map, option_map_or, option_or}
-use Rattle.std.specs.Prelude.{codes}
+use Rattle.std.specs.Prelude.{codes, is_some}
 use Rattle.std.proofs.Math.Path.{fun_ext}
 use Rattle.chess_base.specs.ByColour.{by_colour, of_colour}
 use Rattle.chess_base.specs.declared.by_colour.ByColour.{ByColour}
@@ -20,21 +20,24 @@ use Rattle.chess_game.specs.declared.results.Outcome.TheVariants.{Unfinished}
 use Rattle.chess_game.specs.declared.tags.HowEnded.{HowEnded}
 use Rattle.cecp_engine.specs.Items.{Item, last_said}
 use Rattle.cecp_engine.specs.Levels.{LevelSeen}
-use Rattle.chess_match.specs.Acts.{Block, awaits_line, blocks_from, is_over}
+use Rattle.chess_match.specs.Acts.{Block, awaits_line, blocks_from, is_limited, is_over}
 use Rattle.chess_match.specs.shared.Parts.{blocks_after}
 use Rattle.chess_match.specs.Effects.{Match, Phase, Handshake, Setup as SetupPhase, Opening, BeforeMove, AfterMove, Over, Effect, beginning, effect}
-use Rattle.chess_match.specs.Events.{Event, Line, Opened, OutputEnds, FailsToRead}
+use Rattle.chess_match.specs.Events.{Event, Line, Opened, Silent, OutputEnds, FailsToRead}
 use Rattle.chess_match.specs.Played.{PlayedAt}
 use Rattle.chess_match.specs.Reasons.{comment_of, declared_at, ended_by, reported_fault, reported_reason, outcome_by_reason, reported}
 use Rattle.chess_match.specs.Rules.{Rules, rules_of}
+use Rattle.chess_match.specs.declared.patience.Patience.{Patience}
 use Rattle.chess_match.specs.Table.{Step, Passing, Passes, watched}
+use Rattle.chess_match.specs.declared.phase.Phase.{Phase as CorePhase}
 use Rattle.chess_match.specs.declared.phase.Phase.TheVariants as core_in
 use Rattle.chess_match.specs.declared.reason.Reason.{Reason}
 use Rattle.chess_match.specs.declared.run.MatchEnd.{MatchEnd}
 use Rattle.chess_match.specs.declared.run.Setup as run_setup
 use Rattle.chess_match.specs.declared.state.MatchState.{MatchState}
+use Rattle.chess_match.specs.ties.Awaits.{until_of}
 use Rattle.chess_match.specs.ties.Chess.{Plays}
-use Rattle.chess_match.specs.ties.Driving.{Delivered, Leads, is_line_event, is_of_output, steps_of}
+use Rattle.chess_match.specs.ties.Driving.{Delivered, Leads, is_line_event, is_of_output, is_silence, steps_of}
 use Rattle.chess_match.specs.ties.Reported.{IsReported}
 use Rattle.chess_match.specs.ties.Represents.{Goes, Represents, given_lines, name_by, nothing_said, phase_of}
 use Rattle.chess_match.specs.ties.Sane.{IsSane, in_turn}
@@ -56,7 +59,7 @@ pub record IsOnTheWay (r : Rules) (old new : Passing) (core : MatchState) (playe
 abbrev pub OnTheWay : Rules → Passing → Passing → MatchState → List Move → (Colour → Bool) → Type 0
 OnTheWay r old new core played failed = (m : Match) × (K : List Step) × IsOnTheWay r old new core played failed m K
 
--- what is left to do, where so much can still be read
+-- what is left to do, where so much can still be read or found not to have come
 abbrev pub steps_left : Phase → ℕ → ℕ
 steps_left (Handshake c) n = 3 * n + 1
 steps_left (SetupPhase c) n = 3 * n + 1
@@ -67,20 +70,22 @@ steps_left (Over reason) n = 0
 
 -- ---- the start
 
-pub rules_level : (begin : Setup) (level : LevelSeen) (limit : ℕ) → (rules_of begin level limit).level ≡ level
-rules_level begin level limit = refl
+-- the rules of a match that begins so, in this game
+abbrev pub rules_in : run_setup.Setup → game.Seen → Rules
+rules_in setup g = rules_of setup.start setup.level setup.patience g.limit
 
-pub plays_anew : (g h : game.Seen) (begin : Setup) (level : LevelSeen) → h ≡ game.with_state g (from_start begin)
-    → Plays h (rules_of begin level g.limit)
-plays_anew g h begin level e = subst (λ (x : game.Seen). Plays x (rules_of begin level g.limit)) (sym e)
-    (level, refl, refl)
+pub plays_anew : (g h : game.Seen) (begin : Setup) (level : LevelSeen) (patience : Patience)
+    → h ≡ game.with_state g (from_start begin) → Plays h (rules_of begin level patience g.limit)
+plays_anew g h begin level patience e =
+    subst (λ (x : game.Seen). Plays x (rules_of begin level patience g.limit)) (sym e) (level, patience, refl, refl)
 
-pub plays_on : (g h : game.Seen) (begin : Setup) (level : LevelSeen) → h.state.start ≡ begin → h.limit ≡ g.limit
-    → h.state.declared ≡ None → Plays h (rules_of begin level g.limit)
-plays_on g h begin level s l d = (
-  level,
-  ap (λ (x : Setup). rules_of x level g.limit) (sym s)
-      ∙ ap (λ (n : ℕ). rules_of h.state.start level n) (sym l),
+pub plays_on : (g h : game.Seen) (setup : run_setup.Setup) → h.state.start ≡ setup.start → h.limit ≡ g.limit
+    → h.state.declared ≡ None → Plays h (rules_in setup g)
+plays_on g h setup s l d = (
+  setup.level,
+  setup.patience,
+  ap (λ (x : Setup). rules_of x setup.level setup.patience g.limit) (sym s)
+      ∙ ap (λ (n : ℕ). rules_of h.state.start setup.level setup.patience n) (sym l),
   d,
 )
 
@@ -123,20 +128,21 @@ came r old now new core core' played played' failed failed' m m' K J w on stands
   },
 )
 
--- by a line, an end, or a read that failed, and what was then sent
+-- by a line, a silence, an end, or a read that failed, and what was then sent
 pub went_on : (r : Rules) (old now between new : Passing) (core core' : MatchState) (played played' : List Move)
     (failed failed' : Colour → Bool) (m : Match) (K : List Step) (S : Colour) (e : Event)
     → IsOnTheWay r old now core played failed m K → awaits_line m.phase S ≡ true
-    → is_of_output S e ≡ true → Passes now between (steps_of e)
+    → is_of_output S e ≡ true → (is_silence e ≡ true → is_limited r.patience m.phase ≡ true)
+    → Passes now between (steps_of e)
     → Delivered r between new core' played' (effect r m e).after (blocks_after S (effect r m e)) failed'
     → OnTheWay r old new core' played' failed'
-went_on r old now between new core core' played played' failed failed' m K S e w awaits is passes (m', J, d) =
+went_on r old now between new core core' played played' failed failed' m K S e w awaits is limited passes (m', J, d) =
     let t : Effect = effect r m e in
     came r old now new core core' played played' failed failed' m m' K (steps_of e ++ J) w
     (on_awaiting m.phase S awaits) d.stands (d.sane (fine_after r m S e is awaits w.sane).0)
     (passed_more now between new (steps_of e) J passes d.passes)
     (leads_on r m t.after m' [] (blocks_after S t) [] (steps_of e) J none failed'
-    (λ h. ap (λ (x : Match). x.phase) (d.stays h)) (leads_event r m S e is awaits) d.leads) d.fine
+    (λ h. ap (λ (x : Match). x.phase) (d.stays h)) (leads_event r m S e is awaits limited) d.leads) d.fine
 
 -- by the moment at the end of an opening
 pub opened_on : (r : Rules) (old now new : Passing) (core core' : MatchState) (played : List Move)
@@ -155,6 +161,17 @@ opened_on r old now new core core' played failed m K S moment w opening passes s
     came r old now new core core' played played failed failed m m' K (steps_of (Opened S moment)) w on stands sane
     passes (leads_as r m m' [] [] (steps_of (Opened S moment)) none failed (λ X. sym (w.fine on X))
     (leads_opened r m S moment opening)) (λ h. w.fine on)
+
+-- ---- how long lines are waited for
+
+until_limited : (core : MatchState) (p : CorePhase) → is_some (until_of core p) ≡ is_limited core.patience (phase_of core.opened p)
+until_limited core p = grind arith
+
+-- where the core waits only until some moment, the match is limited
+pub limited : (r : Rules) (core : MatchState) (played : List Move) (m : Match) → Represents r core played m
+    → is_some (until_of core core.phase) ≡ true → is_limited r.patience m.phase ≡ true
+limited r core played m s h = ap (λ (x : Patience). is_limited x m.phase) (sym s.patience)
+    ∙ ap (is_limited core.patience) s.phase ∙ sym (until_limited core core.phase) ∙ h
 
 -- ---- what is left to do
 
@@ -182,19 +199,23 @@ opened_less p p' S moment n n' h1 h2 h3 = grind arith
 
 pub went_less : (r : Rules) (between new : Passing) (core core' : MatchState) (played' : List Move) (m : Match)
     (S : Colour) (e : Event) (due : List Block) (failed' : Colour → Bool) (n n' n'' : ℕ)
-    → awaits_line (phase_now core) S ≡ true → is_of_output S e ≡ true → (is_line_event e ≡ true → n' < n) → n'' ≡ n'
+    → awaits_line (phase_now core) S ≡ true → is_of_output S e ≡ true
+    → (is_line_event e ≡ true → n' < n) → (is_silence e ≡ true → n' < n) → n'' ≡ n'
     → Delivered r between new core' played' (effect r m e).after due failed'
     → steps_left (phase_now core') n'' < steps_left (phase_now core) n
-went_less r between new core core' played' m S (Line c t k) due failed' n n' n'' awaits is less same d =
+went_less r between new core core' played' m S (Line c t k) due failed' n n' n'' awaits is less quiet same d =
     subst (λ (x : ℕ). steps_left (phase_now core') x < steps_left (phase_now core) n) (sym same)
     (line_less (phase_now core) (phase_now core') S n n' awaits (less refl))
-went_less r between new core core' played' m S (OutputEnds c) due failed' n n' n'' awaits is less same (m', J, d) =
+went_less r between new core core' played' m S (Silent c k) due failed' n n' n'' awaits is less quiet same d =
+    subst (λ (x : ℕ). steps_left (phase_now core') x < steps_left (phase_now core) n) (sym same)
+    (line_less (phase_now core) (phase_now core') S n n' awaits (quiet refl))
+went_less r between new core core' played' m S (OutputEnds c) due failed' n n' n'' awaits is less quiet same (m', J, d) =
     over_less (phase_now core) (phase_now core') S n n'' awaits
     (ap is_over (sym d.stands.phase) ∙ ap (λ (x : Match). is_over x.phase) (d.stays refl))
-went_less r between new core core' played' m S (FailsToRead c) due failed' n n' n'' awaits is less same (m', J, d) =
+went_less r between new core core' played' m S (FailsToRead c) due failed' n n' n'' awaits is less quiet same (m', J, d) =
     over_less (phase_now core) (phase_now core') S n n'' awaits
     (ap is_over (sym d.stands.phase) ∙ ap (λ (x : Match). is_over x.phase) (d.stays refl))
-went_less r between new core core' played' m S e due failed' n n' n'' awaits is less same d = absurd cc
+went_less r between new core core' played' m S e due failed' n n' n'' awaits is less quiet same d = absurd cc
 
 -- ---- the end
 
@@ -249,14 +270,14 @@ reported_outcome h h' reason outcome e o =
 
 pub played_at : (setup : run_setup.Setup) (old new : Passing) (g h h' : game.Seen) (core : MatchState)
     (reason : Reason) (failed : ByColour Bool) (end : MatchEnd)
-    → OnTheWay (rules_of setup.start setup.level g.limit) old new core h.state.moves (of_colour failed)
+    → OnTheWay (rules_in setup g) old new core h.state.moves (of_colour failed)
     → phase_now core ≡ Over reason → IsReported (verdict_now h.state) reason failed end
     → end.white_name ≡ core.players.white.name → end.black_name ≡ core.players.black.name
     → h.state.start ≡ setup.start → h.limit ≡ g.limit
     → h' ≡ game.with_state h (record h.state { declared = declared_at (verdict_now h.state) reason })
     → PlayedAt setup end old new g h'
 played_at setup old new g h h' core reason failed end (m, K, w) over end_is wn bn s l e =
-    let r : Rules = rules_of setup.start setup.level g.limit in
+    let r : Rules = rules_in setup g in
     let ended : m.phase ≡ Over reason = w.stands.phase ∙ over in
     let (H, is_match, steps, broken) =
     leads_out r beginning.after m (blocks_from White beginning.to) K (of_colour failed) reason w.leads ended in (

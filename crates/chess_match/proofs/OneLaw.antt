@@ -3,19 +3,19 @@ use Rattle.std.proofs.Common.{◌≡◌, ℕ, ◌+◌, ◌-◌, ◌<◌, ◌≤�
 use Rattle.std.specs.Prelude.{if◌then◌else◌, nat_lt, option_map, slice_get}
 use Rattle.std.specs.Option.{IfSome}
 use Rattle.std.proofs.Math.Seq.{drop-append_seam}
-use Rattle.std.proofs.lemmas.Bool.{or_left, or_right}
+use Rattle.std.proofs.lemmas.Bool.{and_parts, or_left, or_right}
 use Rattle.chess_base.specs.declared.man.Colour.{Colour}
 use Rattle.chess_base.specs.declared.man.Colour.TheVariants.{White, Black}
 use Rattle.chess_base.specs.Men.{same_colour}
 use Rattle.chess_base.specs.Options.{list_if}
 use Rattle.chess_base.proofs.shared.Men.{same_colour-self}
-use Rattle.chess_match.specs.Acts.{Act, Block, IsMatch, IsMatchFrom, Sends, SendFails, Happens, awaits_line, blocks_from, is_over}
+use Rattle.chess_match.specs.Acts.{Act, Block, IsMatch, IsMatchFrom, Sends, SendFails, Happens, awaits_line, blocks_from, is_limited, is_over}
 use Rattle.chess_match.specs.shared.Parts.{blocks_after}
 use Rattle.chess_match.specs.Effects.{Match, Phase, Opening, beginning, effect}
-use Rattle.chess_match.specs.Events.{Event, Line, Opened, OutputEnds, FailsToRead, FailsToWrite}
+use Rattle.chess_match.specs.Events.{Event, Line, Opened, Silent, OutputEnds, FailsToRead, FailsToWrite}
 use Rattle.chess_match.specs.Rules.{Rules}
 use Rattle.chess_match.specs.Lines.{SentLine}
-use Rattle.chess_match.specs.laws.Laws.{Streams, blocks_sent, broken_blocks, has_ended, has_failed_read, is_broken, lines_read, moments_shown}
+use Rattle.chess_match.specs.laws.Laws.{Streams, blocks_sent, broken_blocks, has_ended, has_failed_read, is_broken, lines_read, look, looks, moments_shown}
 use Rattle.chess_match.specs.laws.OfActs.{AreOf, OnlyOneMatch, match_after}
 use Rattle.chess_match.proofs.MatchCases.{all_sends_end, both_not, by_cases, none_read, on_when_read, sends_end, unread, unsent_in}
 use Rattle.chess_match.proofs.Points.{end_after_acts}
@@ -28,6 +28,8 @@ abbrev Begins : Rules → Match → Match → List Act → List Act → Option E
 Begins r m final K J None = (K ≡ []) × (is_over m.phase ≡ true)
 Begins r m final K J (Some (Line S t n)) = (K ≡ Happens (Line S t n) ∷ J) × (awaits_line m.phase S ≡ true)
     × IsMatchFrom r (effect r m (Line S t n)).after (blocks_after S (effect r m (Line S t n))) J final
+Begins r m final K J (Some (Silent S n)) = (K ≡ Happens (Silent S n) ∷ J) × (awaits_line m.phase S ≡ true)
+    × IsMatchFrom r (effect r m (Silent S n)).after (blocks_from White (effect r m (Silent S n)).to) J final
 Begins r m final K J (Some (Opened S n)) = (K ≡ Happens (Opened S n) ∷ J) × (m.phase ≡ Opening S)
     × IsMatchFrom r (effect r m (Opened S n)).after [] J final
 Begins r m final K J (Some (OutputEnds S)) = (K ≡ Happens (OutputEnds S) ∷ J) × (awaits_line m.phase S ≡ true)
@@ -40,6 +42,11 @@ next : (r : Rules) (m final : Match) (K : List Act) → IsMatchFrom r m [] K fin
     → (e : Option Event) × (J : List Act) × Begins r m final K J e
 next r m final [] (o, e) = (None, [], (refl, o))
 next r m final (Happens (Line S t n) ∷ J) (aw, g) = (Some (Line S t n), J, (refl, aw, g))
+next r m final (Happens (Silent S n) ∷ J) (may, g) = (
+  Some (Silent S n),
+  J,
+  (refl, (and_parts (awaits_line m.phase S) (is_limited r.patience m.phase) may).0, g),
+)
 next r m final (Happens (Opened S n) ∷ J) (o, g) = (Some (Opened S n), J, (refl, o, g))
 next r m final (Happens (OutputEnds S) ∷ J) (aw, g) = (Some (OutputEnds S), J, (refl, aw, g))
 next r m final (Happens (FailsToRead S) ∷ J) (aw, g) = (Some (FailsToRead S), J, (refl, aw, g))
@@ -63,14 +70,25 @@ drop_front a b c xs e = rw (e, append_assoc a b c) (drop-append_seam a (b ++ c))
 drop_exact : {A : Type 0} (a b xs : List A) → xs ≡ a ++ b → drop (length a) xs ≡ b
 drop_exact a b xs e = rw e (drop-append_seam a b)
 
-abbrev Shown : List ℕ → (ℕ → ℕ) → Type 0
-Shown shown moments = (n : ℕ) → n < length shown → slice_get shown n ≡ Some (moments n)
+abbrev Shown : {A : Type 0} → List A → (ℕ → A) → Type 0
+Shown shown given = (n : ℕ) → n < length shown → slice_get shown n ≡ Some (given n)
 
-later : (k : ℕ) (shown : List ℕ) (moments : ℕ → ℕ) → Shown (k ∷ shown) moments → Shown shown (λ n. moments (suc n))
-later k shown moments h1 n h2 = grind arith
+later : {A : Type 0} (x : A) (shown : List A) (given : ℕ → A) → Shown (x ∷ shown) given
+    → Shown shown (λ n. given (suc n))
+later x shown given h1 n h2 = grind arith
 
-first_moment : (k : ℕ) (shown : List ℕ) (moments : ℕ → ℕ) → Shown (k ∷ shown) moments → Some k ≡ Some (moments 0)
-first_moment k shown moments h = h 0 (omega arith)
+first_shown : {A : Type 0} (x : A) (shown : List A) (given : ℕ → A) → Shown (x ∷ shown) given
+    → Some x ≡ Some (given 0)
+first_shown x shown given h = h 0 (omega arith)
+
+-- whether the later looks of a side find none, if this one was of that side (`own`) or of the other
+abbrev later_looks : Bool → (ℕ → Bool) → ℕ → Bool
+later_looks own silent n = if own then silent (suc n) else silent n
+
+later_if : (own none : Bool) (shown : List Bool) (silent : ℕ → Bool)
+    → Shown (list_if own (none ∷ []) ++ shown) silent → Shown shown (later_looks own silent)
+later_if true none shown silent h = later none shown silent h
+later_if false none shown silent h = h
 
 -- ---- how much an engine can be sent
 
@@ -199,16 +217,24 @@ abbrev pub Held : (Block → ℕ) → Streams → List Act → Type 0
 Held w s H = ((S : Colour) → (rest : List (Option (List ℕ))) × (s.lines S ≡ lines_read S H ++ rest))
     × ((S : Colour) → has_ended S H ≡ true → (s.lines S ≡ lines_read S H) × (s.fails S ≡ false))
     × ((S : Colour) → has_failed_read S H ≡ true → (s.lines S ≡ lines_read S H) × (s.fails S ≡ true))
-    × Shown (moments_shown H) s.moments × ((S : Colour) → Breaks w S (s.breaks S) H) × Weigh w H
+    × Shown (moments_shown H) s.moments × ((S : Colour) → Shown (looks S H) (s.silent S))
+    × ((S : Colour) → Breaks w S (s.breaks S) H) × Weigh w H
 
 abbrev line_of : Colour → Option (List ℕ) → Colour → List (Option (List ℕ))
 line_of S t X = list_if (same_colour S X) (t ∷ [])
 
+-- after a look for a line of S
+abbrev after_look : Colour → Streams → Streams
+after_look S s = record s { silent = λ X. later_looks (same_colour S X) (s.silent X) }
+
 abbrev after_read : Colour → Option (List ℕ) → Streams → Streams
-after_read S t s = record s {
+after_read S t s = record (after_look S s) {
   lines = λ X. drop (length (line_of S t X)) (s.lines X);
   moments = λ n. s.moments (suc n);
 }
+
+abbrev after_silence : Colour → Streams → Streams
+after_silence S s = record (after_look S s) { moments = λ n. s.moments (suc n) }
 
 abbrev after_sent : (Block → ℕ) → Block → Streams → Streams
 after_sent w b s = record s { breaks = λ X. less_by (if same_colour b.to X then w b else 0) (s.breaks X) }
@@ -222,30 +248,82 @@ same_end r H K final final' h k e = sym (end_after_acts r H final h)
 module _ (w : Block → ℕ) where
   of_read : (s : Streams) (S : Colour) (t : Option (List ℕ)) (n : ℕ) (H : List Act)
       → Held w s (Happens (Line S t n) ∷ H) → Held w (after_read S t s) H
-  of_read s S t n H (lines, ends, failures, moments, breaks, weigh) = (
+  of_read s S t n H (lines, ends, failures, moments, looked, breaks, weigh) = (
     λ X. ((lines X).0, drop_front (line_of S t X) (lines_read X H) (lines X).0 (s.lines X) (lines X).1),
     λ X h. (drop_exact (line_of S t X) (lines_read X H) (s.lines X) (ends X h).0, (ends X h).1),
     λ X h. (drop_exact (line_of S t X) (lines_read X H) (s.lines X) (failures X h).0, (failures X h).1),
     later n (moments_shown H) s.moments moments,
+    λ X. later_if (same_colour S X) false (looks X H) (s.silent X) (looked X),
     breaks,
     weigh,
   )
 
+  of_silent : (s : Streams) (S : Colour) (n : ℕ) (H : List Act) → Held w s (Happens (Silent S n) ∷ H)
+      → Held w (after_silence S s) H
+  of_silent s S n H o = (
+    o.0,
+    o.1,
+    o.2,
+    later n (moments_shown H) s.moments o.3,
+    λ X. later_if (same_colour S X) true (looks X H) (s.silent X) (o.4 X),
+    o.5,
+    o.6,
+  )
+
   of_opened : (s : Streams) (S : Colour) (n : ℕ) (H : List Act) → Held w s (Happens (Opened S n) ∷ H)
       → Held w (record s { moments = λ n. s.moments (suc n) }) H
-  of_opened s S n H o = (o.0, o.1, o.2, later n (moments_shown H) s.moments o.3, o.4, o.5)
+  of_opened s S n H o = (o.0, o.1, o.2, later n (moments_shown H) s.moments o.3, o.4, o.5, o.6)
 
-  of_end : (s : Streams) (S : Colour) (H : List Act) → Held w s (Happens (OutputEnds S) ∷ H) → Held w s H
-  of_end s S H o = (o.0, λ X h. o.1 X (or_right (same_colour S X) (has_ended X H) h), o.2, o.3, o.4, o.5)
+  of_end : (s : Streams) (S : Colour) (H : List Act) → Held w s (Happens (OutputEnds S) ∷ H)
+      → Held w (after_look S s) H
+  of_end s S H o = (
+    o.0,
+    λ X h. o.1 X (or_right (same_colour S X) (has_ended X H) h),
+    o.2,
+    o.3,
+    λ X. later_if (same_colour S X) false (looks X H) (s.silent X) (o.4 X),
+    o.5,
+    o.6,
+  )
 
-  of_failure : (s : Streams) (S : Colour) (H : List Act) → Held w s (Happens (FailsToRead S) ∷ H) → Held w s H
-  of_failure s S H o = (o.0, o.1, λ X h. o.2 X (or_right (same_colour S X) (has_failed_read X H) h), o.3, o.4, o.5)
+  of_failure : (s : Streams) (S : Colour) (H : List Act) → Held w s (Happens (FailsToRead S) ∷ H)
+      → Held w (after_look S s) H
+  of_failure s S H o = (
+    o.0,
+    o.1,
+    λ X h. o.2 X (or_right (same_colour S X) (has_failed_read X H) h),
+    o.3,
+    λ X. later_if (same_colour S X) false (looks X H) (s.silent X) (o.4 X),
+    o.5,
+    o.6,
+  )
 
   of_sent : (s : Streams) (b : Block) (H : List Act) → Held w s (Sends b ∷ H) → Held w (after_sent w b s) H
-  of_sent s b H o = (o.0, o.1, o.2, o.3, λ X. breaks_sent w X (s.breaks X) b H (o.4 X), o.5.1)
+  of_sent s b H o = (o.0, o.1, o.2, o.3, o.4, λ X. breaks_sent w X (s.breaks X) b H (o.5 X), o.6.1)
 
   of_broken : (s : Streams) (b : Block) (H : List Act) → Held w s (SendFails b ∷ H) → Held w s H
-  of_broken s b H o = (o.0, o.1, o.2, o.3, λ X. breaks_failed w X (s.breaks X) b H (o.4 X), o.5)
+  of_broken s b H o = (o.0, o.1, o.2, o.3, o.4, λ X. breaks_failed w X (s.breaks X) b H (o.5 X), o.6)
+
+  -- ---- a line, or none yet
+
+  -- what the first look for a line of S finds
+  first_look : (s : Streams) (S : Colour) (a : Act) (none : Bool) (H : List Act) → look S a ≡ none ∷ []
+      → Held w s (a ∷ H) → s.silent S 0 ≡ none
+  first_look s S a none H e o = of_some (first_shown none (looks S H) (s.silent S)
+      (subst (λ (l : List Bool). Shown (l ++ looks S H) (s.silent S)) e (o.4 S)))
+    where
+      of_some : {x y : Bool} → Some x ≡ Some y → y ≡ x
+      of_some e = cc
+
+  own_look : (S : Colour) (none : Bool) → list_if (same_colour S S) (none ∷ []) ≡ none ∷ []
+  own_look S none = ap (λ (b : Bool). list_if b (none ∷ [])) (same_colour-self S)
+
+  -- it can't find none and, at once, a line, an end or a failure
+  none_or_some : {A : Type 0} (s : Streams) (S c : Colour) (n : ℕ) (a : Act) (H K : List Act) → S ≡ c
+      → look c a ≡ false ∷ [] → Held w s (Happens (Silent S n) ∷ H) → Held w s (a ∷ K) → A
+  none_or_some s S c n a H K same e o q = both_not (s.silent c 0) (first_look s c a false K e q)
+      (ap (λ (x : Colour). s.silent x 0) (sym same)
+      ∙ first_look s S (Happens (Silent S n)) true H (own_look S true) o)
 
   -- ---- the first line, or none
 
@@ -261,6 +339,7 @@ module _ (w : Block → ℕ) where
   unread_none S (Happens (Opened c n) ∷ H) h = unread_none S H h
   unread_none S (Happens (FailsToWrite c) ∷ H) h = unread_none S H h
   unread_none S (Happens (Line c t n) ∷ H) h = absurd cc
+  unread_none S (Happens (Silent c n) ∷ H) h = absurd cc
   unread_none S (Happens (OutputEnds c) ∷ H) h = absurd cc
   unread_none S (Happens (FailsToRead c) ∷ H) h = absurd cc
 
@@ -289,6 +368,9 @@ module _ (w : Block → ℕ) where
       → Line c t n ≡ Line d u k
   same_line c d t u n k m rest rest' lines lines' e f g l x y = cc
 
+  same_silent : (c d : Colour) (n k m : ℕ) → c ≡ d → Some n ≡ Some m → Some k ≡ Some m → Silent c n ≡ Silent d k
+  same_silent c d n k m e x y = cc
+
   same_opened : (c d : Colour) (n k m : ℕ) (p : Phase) → p ≡ Opening c → p ≡ Opening d → Some n ≡ Some m
       → Some k ≡ Some m → Opened c n ≡ Opened d k
   same_opened c d n k m p e f x y = cc
@@ -307,7 +389,7 @@ module _ (w : Block → ℕ) where
       let same : H ≡ K = p (after_sent w b s) K final g (of_sent s b H o) (of_sent s b K q') in rw (e, same) refl
   one_sends r m b due H p s (SendFails c ∷ K) final (e, g) o q =
       let q' : Held w s (SendFails b ∷ K) = subst (λ (x : Block). Held w s (SendFails x ∷ K)) (sym e) q in
-      apart w (s.breaks b.to) b H K o.5.0 (o.4 b.to) (q'.4 b.to)
+      apart w (s.breaks b.to) b H K o.6.0 (o.5 b.to) (q'.5 b.to)
   one_sends r m b due H p s [] final g o q = absurd g
   one_sends r m b due H p s (Happens e ∷ K) final g o q = absurd g
 
@@ -343,7 +425,7 @@ module _ (w : Block → ℕ) where
       let same : H ≡ K = p s K final (next c K final g) (of_broken s b H o) (of_broken s b K q') in rw (g.0, same) refl
   one_breaks r m m' b due due' H p next s (Sends c ∷ K) final (e, g) o q =
       let q' : Held w s (Sends b ∷ K) = subst (λ (x : Block). Held w s (Sends x ∷ K)) (sym e) q in
-      apart w (s.breaks b.to) b K H q'.5.0 (q'.4 b.to) (o.4 b.to)
+      apart w (s.breaks b.to) b K H q'.6.0 (q'.5 b.to) (o.5 b.to)
   one_breaks r m m' b due due' H p next s [] final g o q = absurd g
   one_breaks r m m' b due due' H p next s (Happens e ∷ K) final g o q = absurd g
 
@@ -360,17 +442,45 @@ module _ (w : Block → ℕ) where
           let side : S ≡ c = one_awaits m.phase S c aw x.1 in
           let same : Line S t n ≡ Line c u k = same_line S c t u n k (s.moments 0) (first_line s S t n H o).0
           (first_line s c u k J q').0 (s.lines S) (s.lines c) side (first_line s S t n H o).1 (first_line s c u k J q').1
-          (ap s.lines side) (first_moment n (moments_shown H) s.moments o.3)
-          (first_moment k (moments_shown J) s.moments q'.3) in
+          (ap s.lines side) (first_shown n (moments_shown H) s.moments o.3)
+          (first_shown k (moments_shown J) s.moments q'.3) in
           let y : Begins r m final K J (Some (Line S t n)) =
           subst (λ (e : Event). Begins r m final K J (Some e)) (sym same) x in
           ap (λ (L : List Act). Happens (Line S t n) ∷ L) (p (after_read S t s) J final y.2 (of_read s S t n H o)
           (of_read s S t n J (subst (λ (L : List Act). Held w s L) y.0 q))) ∙ sym y.0
+      at (Some (Silent c k)) J x = none_or_some s c S k (Happens (Line S t n)) J H (one_awaits m.phase c S x.1 aw)
+          (own_look S false) (subst (λ (L : List Act). Held w s L) x.0 q) o
       at (Some (Opened c k)) J x = awaits_or_opens m.phase S c aw x.1
       at (Some (OutputEnds c)) J x = line_not_none s S c t n H (one_awaits m.phase S c aw x.1) o
           (ended_none s c J (none_read r _ final _ J x.2 refl) (subst (λ (L : List Act). Held w s L) x.0 q)).0
       at (Some (FailsToRead c)) J x = line_not_none s S c t n H (one_awaits m.phase S c aw x.1) o
           (failed_none s c J (none_read r _ final _ J x.2 refl) (subst (λ (L : List Act). Held w s L) x.0 q)).0
+      at (Some (FailsToWrite c)) J x = absurd x
+
+  one_silent : (r : Rules) (m : Match) (S : Colour) (n : ℕ) (H : List Act) → awaits_line m.phase S ≡ true
+      → One r (effect r m (Silent S n)).after (blocks_from White (effect r m (Silent S n)).to) H
+      → One r m [] (Happens (Silent S n) ∷ H)
+  one_silent r m S n H aw p s K final g o q = let (e, J, x) = next r m final K g in at e J x
+    where
+      some : {A : Type 0} (c : Colour) (a : Act) (J : List Act) → awaits_line m.phase c ≡ true
+          → look c a ≡ false ∷ [] → K ≡ a ∷ J → A
+      some c a J there e is = none_or_some s S c n a H J (one_awaits m.phase S c aw there) e o
+          (subst (λ (L : List Act). Held w s L) is q)
+
+      at : (e : Option Event) (J : List Act) → Begins r m final K J e → Happens (Silent S n) ∷ H ≡ K
+      at None J (is, over) = both_not (is_over m.phase) (on_when_read m.phase S aw) over
+      at (Some (Silent c k)) J x =
+          let q' : Held w s (Happens (Silent c k) ∷ J) = subst (λ (L : List Act). Held w s L) x.0 q in
+          let same : Silent S n ≡ Silent c k = same_silent S c n k (s.moments 0) (one_awaits m.phase S c aw x.1)
+          (first_shown n (moments_shown H) s.moments o.3) (first_shown k (moments_shown J) s.moments q'.3) in
+          let y : Begins r m final K J (Some (Silent S n)) =
+          subst (λ (e : Event). Begins r m final K J (Some e)) (sym same) x in
+          ap (λ (L : List Act). Happens (Silent S n) ∷ L) (p (after_silence S s) J final y.2 (of_silent s S n H o)
+          (of_silent s S n J (subst (λ (L : List Act). Held w s L) y.0 q))) ∙ sym y.0
+      at (Some (Line c u k)) J x = some c (Happens (Line c u k)) J x.1 (own_look c false) x.0
+      at (Some (OutputEnds c)) J x = some c (Happens (OutputEnds c)) J x.1 (own_look c false) x.0
+      at (Some (FailsToRead c)) J x = some c (Happens (FailsToRead c)) J x.1 (own_look c false) x.0
+      at (Some (Opened c k)) J x = awaits_or_opens m.phase S c aw x.1
       at (Some (FailsToWrite c)) J x = absurd x
 
   one_opens : (r : Rules) (m : Match) (S : Colour) (n : ℕ) (H : List Act) → m.phase ≡ Opening S
@@ -382,13 +492,14 @@ module _ (w : Block → ℕ) where
       at (Some (Opened c k)) J x =
           let q' : Held w s (Happens (Opened c k) ∷ J) = subst (λ (L : List Act). Held w s L) x.0 q in
           let same : Opened S n ≡ Opened c k = same_opened S c n k (s.moments 0) m.phase opening x.1
-          (first_moment n (moments_shown H) s.moments o.3)
-          (first_moment k (moments_shown J) s.moments q'.3) in
+          (first_shown n (moments_shown H) s.moments o.3)
+          (first_shown k (moments_shown J) s.moments q'.3) in
           let y : Begins r m final K J (Some (Opened S n)) =
           subst (λ (e : Event). Begins r m final K J (Some e)) (sym same) x in
           ap (λ (L : List Act). Happens (Opened S n) ∷ L) (p (record s { moments = λ n. s.moments (suc n) }) J final y.2
           (of_opened s S n H o) (of_opened s S n J (subst (λ (L : List Act). Held w s L) y.0 q))) ∙ sym y.0
       at (Some (Line c u k)) J x = awaits_or_opens m.phase c S x.1 opening
+      at (Some (Silent c k)) J x = awaits_or_opens m.phase c S x.1 opening
       at (Some (OutputEnds c)) J x = awaits_or_opens m.phase c S x.1 opening
       at (Some (FailsToRead c)) J x = awaits_or_opens m.phase c S x.1 opening
       at (Some (FailsToWrite c)) J x = absurd x
@@ -406,8 +517,10 @@ module _ (w : Block → ℕ) where
       at (Some (OutputEnds c)) J x =
           let y : Begins r m final K J (Some (OutputEnds S)) =
           subst (λ (d : Colour). Begins r m final K J (Some (OutputEnds d))) (one_awaits m.phase c S x.1 aw) x in
-          ap (λ (L : List Act). Happens (OutputEnds S) ∷ L) (p s J final y.2 (of_end s S H o)
+          ap (λ (L : List Act). Happens (OutputEnds S) ∷ L) (p (after_look S s) J final y.2 (of_end s S H o)
           (of_end s S J (subst (λ (L : List Act). Held w s L) y.0 q))) ∙ sym y.0
+      at (Some (Silent c k)) J x = none_or_some s c S k (Happens (OutputEnds S)) J H (one_awaits m.phase c S x.1 aw)
+          (own_look S false) (subst (λ (L : List Act). Held w s L) x.0 q) o
       at (Some (Line c u k)) J x = line_not_none s c S u k J (one_awaits m.phase c S x.1 aw)
           (subst (λ (L : List Act). Held w s L) x.0 q) none.0
       at (Some (FailsToRead c)) J x = both_not (s.fails S) none.1 (ap s.fails (one_awaits m.phase S c aw x.1)
@@ -428,8 +541,10 @@ module _ (w : Block → ℕ) where
       at (Some (FailsToRead c)) J x =
           let y : Begins r m final K J (Some (FailsToRead S)) =
           subst (λ (d : Colour). Begins r m final K J (Some (FailsToRead d))) (one_awaits m.phase c S x.1 aw) x in
-          ap (λ (L : List Act). Happens (FailsToRead S) ∷ L) (p s J final y.2 (of_failure s S H o)
+          ap (λ (L : List Act). Happens (FailsToRead S) ∷ L) (p (after_look S s) J final y.2 (of_failure s S H o)
           (of_failure s S J (subst (λ (L : List Act). Held w s L) y.0 q))) ∙ sym y.0
+      at (Some (Silent c k)) J x = none_or_some s c S k (Happens (FailsToRead S)) J H (one_awaits m.phase c S x.1 aw)
+          (own_look S false) (subst (λ (L : List Act). Held w s L) x.0 q) o
       at (Some (Line c u k)) J x = line_not_none s c S u k J (one_awaits m.phase c S x.1 aw)
           (subst (λ (L : List Act). Held w s L) x.0 q) none.0
       at (Some (OutputEnds c)) J x = both_not (s.fails S) (ap s.fails (one_awaits m.phase S c aw x.1)
@@ -443,6 +558,7 @@ module _ (w : Block → ℕ) where
       at : (e : Option Event) (J : List Act) → Begins r m final K J e → [] ≡ K
       at None J (is, o) = sym is
       at (Some (Line c u k)) J x = both_not (is_over m.phase) (on_when_read m.phase c x.1) over
+      at (Some (Silent c k)) J x = both_not (is_over m.phase) (on_when_read m.phase c x.1) over
       at (Some (Opened c k)) J x = both_not (is_over m.phase) (ap is_over x.1) over
       at (Some (OutputEnds c)) J x = both_not (is_over m.phase) (on_when_read m.phase c x.1) over
       at (Some (FailsToRead c)) J x = both_not (is_over m.phase) (on_when_read m.phase c x.1) over
@@ -468,6 +584,7 @@ module _ (w : Block → ℕ) where
           one_opens r m S n H opening p.0,
           λ x. both_not (is_over m.phase) (ap is_over opening) x,
         );
+        silent = λ m end S n H aw limited p. (one_silent r m S n H aw p.0, awaits m S aw);
         ends = λ m end S H aw p. (one_ends r m S H aw (p.1 refl) p.0, awaits m S aw);
         read_fails = λ m end S H aw p. (one_fails r m S H aw (p.1 refl) p.0, awaits m S aw);
       }) (λ over. (one_over r final over, λ x. refl)) beginning.after (blocks_from White beginning.to) H h).0
@@ -512,6 +629,7 @@ only_one_match r s H K final final' h k o q =
       o.reads.ends,
       o.reads.failures,
       o.reads.moments,
+      o.reads.silences,
       λ S. (
         λ none. subst (λ (n : ℕ). IfSome (s.breaks S) (λ k. n ≤ k)) (sym (counts S H)) (o.sent S none),
         λ some. o.broken S some ∙ ap Some (sym (counts S H)),

@@ -15,18 +15,19 @@ use Rattle.byte_devices.specs.Transfers.{FromInput, ToOutput, OutputTook}
 use Rattle.byte_devices.proofs.shared.Devices.{add_some}
 use Rattle.byte_devices.proofs.shared.Transfers.{saturating_increment_if}
 use Rattle.chess_match.specs.Acts.{Act, Block, IsMatch, Sends, SendFails, Happens, block_of, blocks_from, is_over}
-use Rattle.chess_match.specs.Events.{Line, Opened, OutputEnds, FailsToRead, FailsToWrite}
+use Rattle.chess_match.specs.Events.{Line, Opened, Silent, OutputEnds, FailsToRead, FailsToWrite}
 use Rattle.chess_match.specs.Effects.{Match, beginning, effect}
 use Rattle.chess_match.specs.Lines.{SentLine, bytes_of, text_of}
 use Rattle.chess_match.specs.Played.{Passed, SaidBy, WasSent, World}
 use Rattle.chess_match.specs.Rules.{Rules}
 use Rattle.chess_match.specs.Run.{engine_lines}
 use Rattle.chess_match.specs.laws.Laws.{Streams, broken_blocks, has_ended, has_failed_read, is_broken, lines_sent, moments_shown}
-use Rattle.chess_match.specs.laws.OfActs.{OnlyOneMatchOfARun, ShowsAll, ShowsFlushed}
+use Rattle.chess_match.specs.laws.OfActs.{AreSilent, HaveSameSilences, OnlyOneMatchOfARun, ShowsAll, ShowsFlushed}
 use Rattle.chess_match.proofs.AtDesk.{quiet_read}
 use Rattle.chess_match.proofs.OneLaw.{Held, Weigh, only_one_by, weight_sent}
 use Rattle.chess_match.proofs.MatchCases.{all_reads_end, all_sends_end, both_not, by_cases, reads_end}
 use Rattle.chess_match.proofs.Sends.{bytes_of-append}
+use Rattle.chess_match.proofs.Silences.{silences_are_asked_for}
 
 -- one run's reader gave one list of bytes
 one_given : (old new : Option (List ℕ)) (a b : List ℕ) → is_some old ≡ true → Consumes old new a → Consumes old new b
@@ -108,6 +109,7 @@ no_failure S (Sends b ∷ H) e h = no_failure S H e h
 no_failure S (SendFails b ∷ H) e h = no_failure S H e h
 no_failure S (Happens (Line c t n) ∷ H) e h = no_failure S H e h
 no_failure S (Happens (Opened c n) ∷ H) e h = no_failure S H e h
+no_failure S (Happens (Silent c n) ∷ H) e h = no_failure S H e h
 no_failure S (Happens (FailsToWrite c) ∷ H) e h = no_failure S H e h
 no_failure S (Happens (OutputEnds c) ∷ H) e h = (quiet_read S H e).2
 no_failure S (Happens (FailsToRead c) ∷ H) e h = both_not (has_ended S H) (quiet_read S H e).1 h
@@ -126,9 +128,10 @@ abbrev stopped_at : Bool → List SentLine → Option ℕ
 stopped_at broken sent = if broken then Some (length (bytes_of sent)) else None
 
 -- what the run's devices gave
-abbrev given_by : List Act → (Colour → List ℕ) → (ℕ → Option ℕ) → Streams
-given_by H given coming = record {
+abbrev given_by : List Act → (Colour → List ℕ) → (Colour → ℕ → Bool) → (ℕ → Option ℕ) → Streams
+given_by H given silent coming = record {
   lines = λ S. engine_lines (given S);
+  silent = silent;
   fails = λ S. has_failed_read S H;
   breaks = λ S. stopped_at (is_broken H S) (lines_sent S H);
   moments = λ n. moment_or (coming n);
@@ -183,6 +186,7 @@ all_weigh r H final g = by_cases r final (λ m due H. HaveLines due → Weigh si
   reads = λ m end S t n H aw p have. p (due_lines (if is_over (effect r m (Line S t n)).after.phase then White else S)
       (effect r m (Line S t n)).to);
   opens = λ m end S n H o p have. p tt;
+  silent = λ m end S n H aw limited p have. p (due_lines White (effect r m (Silent S n)).to);
   ends = λ m end S H aw p have. p (due_lines White (effect r m (OutputEnds S)).to);
   read_fails = λ m end S H aw p have. p (due_lines White (effect r m (FailsToRead S)).to);
 }) (λ o have. tt) beginning.after (blocks_from White beginning.to) H g (due_lines White beginning.to)
@@ -196,12 +200,13 @@ stops_there false sent n e = (λ h. tt, λ h. absurd cc)
 
 -- what the run's devices gave to the acts `K`, if it is what they gave to `H`
 held : (r : Rules) (H K : List Act) (final : Match) (w w' : World) (given : Colour → FromInput)
+    (silent : Colour → ℕ → Bool) → AreSilent silent K
     → Passed r K final w w' → ShowsAll w w' → ((S : Colour) → SaidBy S K (given S))
     → ((S : Colour) → has_failed_read S H ≡ has_failed_read S K) → ((S : Colour) → is_broken H S ≡ is_broken K S)
     → ((S : Colour) → is_broken K S ≡ true
     → length (bytes_of (lines_sent S K)) ≡ length (bytes_of (lines_sent S H)))
-    → Held size (given_by H (λ S. (given S).text) w.coming) K
-held r H K final w w' given p t said same broke sent = (
+    → Held size (given_by H (λ S. (given S).text) silent w.coming) K
+held r H K final w w' given silent found p t said same broke sent = (
   λ S. (said S).lines,
   λ S h. (
     (said S).all (ap (λ (x : Bool). x || (given S).failed) ((said S).ended ∙ h)),
@@ -212,6 +217,7 @@ held r H K final w w' given p t said same broke sent = (
     same S ∙ h,
   ),
   λ n h. shown_moment (w.coming n) (slice_get (moments_shown K) n) (t.moments n) (p.moments.known n h),
+  found,
   λ S. let e = stops_there (is_broken H S) (lines_sent S H) (weight_sent size S K)
       (λ h. sizes S K ∙ sent S (sym (broke S) ∙ h)) in (
         λ h. e.0 (broke S ∙ h),
@@ -244,11 +250,23 @@ alike_sent old new sent sent' o o' small (inl same) took took' f f' failed = ris
 alike_sent old new sent sent' o o' small (inr shows) took took' f f' failed =
     ap length (sym f') ∙ sym (one_flushed old new o o' shows took took') ∙ ap length f
 
+-- the same looks of both matches found none
+same_looks : (r : Rules) (H K : List Act) (final final' : Match) → IsMatch r H final → IsMatch r K final'
+    → HaveSameSilences r H K → (silent : Colour → ℕ → Bool) × AreSilent silent H × AreSilent silent K
+same_looks r H K final final' h k (inl e) = (
+  λ S n. false,
+  (silences_are_asked_for r H final h e).1,
+  (silences_are_asked_for r K final' k e).1,
+)
+same_looks r H K final final' h k (inr same) = same
+
 pub only_one_of_a_run : OnlyOneMatchOfARun
-only_one_of_a_run r H K final final' w w' p q t =
-    only_one_by size r (given_by H (λ S. (p.passed S).0.text) w.coming) H K final final' p.is_match q.is_match
-    (held r H H final w w' (λ S. (p.passed S).0) p t (λ S. (p.passed S).4.0) (λ S. refl) (λ S. refl) (λ S h. refl))
-    (held r H K final' w w' (λ S. with_text (q.passed S).0 (p.passed S).0.text) q t
+only_one_of_a_run r H K final final' w w' p q t s =
+    let (silent, of_H, of_K) = same_looks r H K final final' p.is_match q.is_match s in
+    only_one_by size r (given_by H (λ S. (p.passed S).0.text) silent w.coming) H K final final' p.is_match q.is_match
+    (held r H H final w w' (λ S. (p.passed S).0) silent of_H p t (λ S. (p.passed S).4.0) (λ S. refl) (λ S. refl)
+    (λ S h. refl))
+    (held r H K final' w w' (λ S. with_text (q.passed S).0 (p.passed S).0.text) silent of_K q t
     (λ S. said_alike S K (q.passed S).0 (p.passed S).0.text (same S) (q.passed S).4.0)
     (λ S. sym (p.passed S).4.0.failed
     ∙ one_rise (w.engines S).input.failure_count (w'.engines S).input.failure_count (p.passed S).0.failed

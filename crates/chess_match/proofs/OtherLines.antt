@@ -1,6 +1,6 @@
 -- A line that none of the cases above takes is one of the other kinds.
 use native.Mathlib.Omega.{arith}
-use Rattle.std.proofs.Common.{◌≡◌, ℕ, List, []}
+use Rattle.std.proofs.Common.{◌≡◌, ℕ, List, [], Option}
 use Rattle.std.specs.Borrow.{Bor}
 use Rattle.chess_base.specs.declared.man.Colour.{Colour}
 use Rattle.cecp_engine.specs.Seen.{seen}
@@ -9,6 +9,7 @@ use Rattle.cecp_engine.specs.declared.engine_line.EngineLine.TheVariants.{Featur
 use Rattle.chess_match.specs.Effects.{Match, Setup, AfterMove, before_move, ends, ignores, line_row, move_row, turn_row}
 use Rattle.chess_match.specs.laws.Laws.{items_in_line}
 use Rattle.chess_match.specs.Rules.{Rules}
+use Rattle.chess_match.specs.ties.Represents.{since_heard}
 use Rattle.chess_match.specs.declared.reason.Reason.TheVariants.{MovesIllegally}
 use Rattle.chess_base.specs.declared.man.Move as chess
 use Rattle.chess_text.specs.declared.reading.Reading.{Reading}
@@ -18,6 +19,11 @@ use Rattle.chess_text.specs.declared.reading.Reading.TheVariants as reads
 pub no_items_said : (line : EngineLine) → ((text : Bor (List ℕ)) → line ≡ Features text → ⊥)
     → items_in_line (seen line) ≡ []
 no_items_said line h1 = grind arith
+
+-- after no other line the time for a reply runs anew
+pub unheard : (line : EngineLine) (moment : ℕ) (since : Option ℕ)
+    → ((text : Bor (List ℕ)) → line ≡ Features text → ⊥) → since_heard (seen line) moment since ≡ since
+unheard line moment since h1 = grind arith
 
 -- in a setup, a line that is no answer to a ping
 pub setup_other : (r : Rules) (S : Colour) (line : EngineLine) (moment : ℕ) (n : Match) → ((k : ℕ) → line ≡ Pong k → ⊥)

@@ -7,11 +7,11 @@ use Rattle.chess_base.specs.declared.man.Colour.{Colour}
 use Rattle.chess_base.specs.Men.{same_colour}
 use Rattle.byte_devices.specs.Devices.{InputState, saturating_increment}
 use Rattle.text_lines.specs.Lines.{LineSeen, Held, nothing_held, stream_lines, lines_held}
-use Rattle.text_lines.specs.Next.{GotLine, GotLast, GotNone, GotFault}
+use Rattle.text_lines.specs.Next.{GotLine, GotLast, GotNone, GotFault, GotSilence}
 use Rattle.byte_devices.specs.Transfers.{FromInput, InputGave}
 use Rattle.byte_devices.proofs.shared.Transfers.{came, saturating_increment_if}
 use Rattle.chess_match.specs.Acts.{Act, Sends, SendFails, Happens}
-use Rattle.chess_match.specs.Events.{Line, Opened, OutputEnds, FailsToRead, FailsToWrite}
+use Rattle.chess_match.specs.Events.{Line, Opened, Silent, OutputEnds, FailsToRead, FailsToWrite}
 use Rattle.chess_match.specs.laws.Laws.{has_ended, has_failed_read, lines_read}
 use Rattle.chess_base.specs.Options.{list_if}
 use Rattle.chess_match.specs.Played.{SaidBy}
@@ -21,7 +21,7 @@ use Rattle.chess_match.specs.ties.AtDesk.{ReadsOf}
 use Rattle.chess_match.specs.ties.EngineOutput.{OutputSoFar, OutputEnded}
 use Rattle.chess_match.proofs.AtDesk.{quiet_read, tail_same}
 use Rattle.chess_match.proofs.MatchCases.{reads_end}
-use Rattle.chess_match.proofs.OutputByCalls.{output_more, output_last, output_none, output_fault, output_start}
+use Rattle.chess_match.proofs.OutputByCalls.{output_more, output_last, output_none, output_fault, output_silent, output_start}
 
 map_both : (xs ys : List LineSeen) → map text_read (xs ++ ys) ≡ map text_read xs ++ map text_read ys
 map_both [] ys = refl
@@ -134,6 +134,16 @@ reads_all S texts (Happens (Line c t n) ∷ H) r v r' h h' given end s (v', k, o
               ∙ ap (λ (x : Option (List ℕ)). texts ++ (x ∷ lines_read S H)) (sym same)) q.1,
         )
     at false o next = next texts given (still r v v' h k given texts o s)
+reads_all S texts (Happens (Silent c n) ∷ H) r v r' h h' given end s (v', k, o, p) =
+    at (same_colour c S) o (λ given' s'. reads_all S texts H r v' r' k h' given' end s' p)
+  where
+    at : (x : Bool) → MatchBool x ((more : List ℕ) × Consumes v.known_bytes v'.known_bytes more
+        × GotSilence ENGINE_LINE_LEN v v' h k more) ((v' ≡ v) × (k ≡ h))
+        → ((given' : List ℕ) → OutputSoFar r v' k given' texts
+        → (all : List ℕ) × ReadTo (texts ++ lines_read S H) (has_ended S H) (has_failed_read S H) r r' all)
+        → (all : List ℕ) × ReadTo (texts ++ lines_read S H) (has_ended S H) (has_failed_read S H) r r' all
+    at true (more, b, got) next = next (given ++ more) (output_silent r v v' h k given more texts s b got)
+    at false o next = next given (still r v v' h k given texts o s)
 reads_all S texts (Happens (OutputEnds c) ∷ H) r v r' h h' given end s (v', k, o, p) =
     let q = quiet_read S H end in
     let a = at (same_colour c S) o in (

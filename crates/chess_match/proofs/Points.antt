@@ -8,15 +8,15 @@ use Rattle.chess_base.specs.declared.man.Move.{Move}
 use Rattle.chess_base.specs.Men.{other, same_colour}
 use Rattle.cecp_engine.specs.EngineLines.{LineKind}
 use Rattle.chess_match.specs.laws.Laws.{line_kind}
-use Rattle.chess_match.specs.Acts.{Act, Block, Sends, SendFails, Happens, IsMatch, IsMatchFrom, awaits_line, is_over, blocks_from}
+use Rattle.chess_match.specs.Acts.{Act, Block, Sends, SendFails, Happens, IsMatch, IsMatchFrom, awaits_line, is_limited, is_over, blocks_from}
 use Rattle.chess_match.specs.shared.Parts.{blocks_after}
 use Rattle.chess_match.specs.Effects.{Match, Phase, Handshake, Setup, Opening, BeforeMove, AfterMove, Over, beginning, effect, ends, line_row, moved}
-use Rattle.chess_match.specs.Events.{Line, Opened, OutputEnds, FailsToRead}
+use Rattle.chess_match.specs.Events.{Line, Opened, Silent, OutputEnds, FailsToRead}
 use Rattle.chess_match.specs.Rules.{Rules}
 use Rattle.chess_match.specs.declared.reason.MatchFault.TheVariants.{Ended, Read, Write}
 use Rattle.chess_match.specs.declared.reason.Reason.TheVariants.{Faulted}
 use Rattle.chess_match.specs.laws.OfActs.{AtEachMoment, EndsAfterItsActs, InEachMatch, match_after, only_sends}
-use Rattle.chess_match.proofs.LineCases.{line_cases, offering, said_by}
+use Rattle.chess_match.proofs.LineCases.{line_cases, offering, said_by, silence_cases}
 use Rattle.chess_match.proofs.MatchCases.{both_not, by_acts, on_when_read}
 
 -- ---- who moves
@@ -90,7 +90,7 @@ some_move ms move = let l : length (ms ++ move ∷ []) ≡ length ms + 1 = lengt
 
 kept_line : (r : Rules) (S : Colour) (kind : LineKind) (moment : ℕ) (m : Match) → awaits_line m.phase S ≡ true
     → Kept r m → Kept r (line_row r m.phase kind moment m).after
-kept_line r S kind moment m aw k = line_cases r S kind moment m (λ e. Kept r e.after) aw (record {
+kept_line r S kind moment m aw k = line_cases r S kind moment m (λ e. Kept r e.after) aw (λ since. record {
   handshake_stops = λ p reason c most w. (tt, said);
   handshake_counts = λ p d few. (k.0, said);
   handshake_next = λ p s d. (turn_in r m (Handshake S) p k, said);
@@ -116,6 +116,12 @@ kept_line r S kind moment m aw k = line_cases r S kind moment m (λ e. Kept r e.
     said : (C : Colour) → length ((said_by S kind m).seat C).used ≡ turns_of C r.start.side m.played
     said C = ap length (said_used S C kind m) ∙ k.1 C
 
+kept_silent : (r : Rules) (S : Colour) (moment : ℕ) (m : Match) → Kept r m → Kept r (effect r m (Silent S moment)).after
+kept_silent r S moment m k = silence_cases r S moment m (λ e. Kept r e.after) (record {
+  stops = λ reason w. (tt, k.1);
+  goes_on = λ since. k;
+})
+
 -- ---- at each moment
 
 -- in a match that is over only blocks are sent, and it stays as it is
@@ -137,6 +143,10 @@ pub record Points (r : Rules) (P : Match → List Block → List Act → Match �
       → P m [] (Happens (Line S t k) ∷ H) n
   pub opens : (m n : Match) (S : Colour) (k : ℕ) (H : List Act) → m.phase ≡ Opening S → Kept r m
       → P (effect r m (Opened S k)).after [] H n → P m [] (Happens (Opened S k) ∷ H) n
+  pub silent : (m n : Match) (S : Colour) (k : ℕ) (H : List Act) → awaits_line m.phase S ≡ true
+      → is_limited r.patience m.phase ≡ true → Kept r m → Stays (effect r m (Silent S k)).after H n
+      → P (effect r m (Silent S k)).after (blocks_from White (effect r m (Silent S k)).to) H n
+      → P m [] (Happens (Silent S k) ∷ H) n
   pub output_ends : (m n : Match) (S : Colour) (H : List Act) → awaits_line m.phase S ≡ true → Kept r m
       → only_sends H ≡ true → n ≡ (ends r (Faulted S Ended) m).after
       → P (ends r (Faulted S Ended) m).after (blocks_from White (ends r (Faulted S Ended) m).to) H n
@@ -167,6 +177,10 @@ by_points r P k H K final rest g =
         λ over. both_not (is_over m.phase) (ap is_over o) over,
         λ q. k.opens m n S x H o q (p.1 (turn_in r m (Opening S) o q, q.1)),
       );
+      silent = λ m n S x H aw limited p. (
+        λ o. both_not (is_over m.phase) (on_when_read m.phase S aw) o,
+        λ q. k.silent m n S x H aw limited q p.0 (p.1 (kept_silent r S x m q)),
+      );
       ends = λ m n S H aw p. (
         λ o. both_not (is_over m.phase) (on_when_read m.phase S aw) o,
         λ q. k.output_ends m n S H aw q (p.0 refl).1 (p.0 refl).0 (p.1 (tt, q.1)),
@@ -187,6 +201,7 @@ end_after_acts r H final g = by_acts r (λ m due K n. n ≡ final) (record {
   fails_late = λ m n b due K o p. p;
   reads = λ m n S t k K aw p. p;
   opens = λ m n S k K o p. p;
+  silent = λ m n S k K aw limited p. p;
   ends = λ m n S K aw p. p;
   read_fails = λ m n S K aw p. p;
 }) [] final (λ m due g. at m due g) beginning.after (blocks_from White beginning.to) H

@@ -20,6 +20,7 @@ use Rattle.chess_match.specs.laws.Laws.{AreRead, is_pong, lines_after_handshake,
 use Rattle.chess_match.specs.laws.OfActs.{AtEachMoment, MovesAreRead, only_sends}
 use Rattle.chess_match.proofs.LineCases.{in_turn, line_cases, offering, said_by}
 use Rattle.chess_match.proofs.Points.{Kept, by_points, mover, mover-snoc, turn_in}
+use Rattle.chess_match.proofs.Silences.{by_silence}
 use Rattle.chess_game.specs.Line.{position_after}
 use Rattle.chess_text.specs.Moves.{reading}
 
@@ -178,9 +179,9 @@ pass_same d c t lines S h1 = grind arith
 
 line_steps : (r : Rules) (d : Colour) (t : Option (List ℕ)) (n : ℕ) (m : Match) → awaits_line m.phase d ≡ true
     → Kept r m → Steps r d t m (line_row r m.phase (line_kind t) n m).after
-line_steps r d t n m aw k = line_cases r d (line_kind t) n m (λ e. Steps r d t m e.after) aw (record {
+line_steps r d t n m aw k = line_cases r d (line_kind t) n m (λ e. Steps r d t m e.after) aw (λ since. record {
   handshake_stops = λ p reason c most w final lines o next. stopped final lines
-      (record (said_by d (line_kind t) m) { phase = Over reason; count = c }) refl o;
+      (record (said_by d (line_kind t) m) { phase = Over reason; count = c; since = since }) refl o;
   handshake_counts = λ p h few final lines o. reads_on r m (record (said_by d (line_kind t) m) { count = m.count + 1 })
       final (with_line d t lines) lines refl
       (λ S. rw p (handshake_same d t lines S h));
@@ -196,8 +197,9 @@ line_steps r d t n m aw k = line_cases r d (line_kind t) n m (λ e. Steps r d t 
       (λ S. rw p (setup_next d t lines S s h));
   setup_last = λ p s h v final lines o. reads_on r m (enter (Opening r.start.side) m) final (with_line d t lines) lines refl
       (λ S. rw p (setup_last d r.start.side t lines S s h));
-  setup_decides = λ p v e final lines o next. stopped final lines (record m { phase = Over (Decided v) }) refl o;
-  stops = λ g reason w final lines o next. stopped final lines (record m { phase = Over reason }) refl o;
+  setup_decides = λ p v e final lines o next. stopped final lines
+      (record m { phase = Over (Decided v); since = since }) refl o;
+  stops = λ g reason w final lines o next. stopped final lines (record m { phase = Over reason; since = since }) refl o;
   counts = λ on none few final lines o. reads_on r m (record m { count = m.count + 1 }) final (with_line d t lines)
       lines refl
       (λ S. turn_same m.phase d t lines S on none);
@@ -238,6 +240,8 @@ moves_are_read r H K final g =
           (λ o. let (same, only) = stays o in (same, λ X. none_read_in X H only)) p;
       opens = λ m n S k H o q p. reads_on r m (record m { phase = BeforeMove S k }) n (lines_in H) (lines_in H) refl
           (λ X. rw o refl) p;
+      silent = λ m n S k H aw limited q stays p. by_silence r m n S k H (λ m' due. ReadsOff r m' n (lines_in H))
+          (λ reason w only same p. stopped m n H (ends r reason m).after refl same only) (λ since p. p) stays p;
       output_ends = λ m n S H aw q only same p. stopped m n H (ends r (Faulted S Ended) m).after refl same only;
       read_fails = λ m n S H aw q only same p. stopped m n H (ends r (Faulted S Read) m).after refl same only;
     }) H K final (λ m due q g. reads_none r m m no_lines refl (λ S. refl)) g r.start.side refl in

@@ -18,6 +18,7 @@ use Rattle.chess_match.proofs.LineCases.{handshakes_done, line_cases, offering, 
 use Rattle.chess_match.proofs.MatchCases.{both_not}
 use Rattle.chess_match.proofs.MoveLaw.{all_moves_are_given, moves_are_sent}
 use Rattle.chess_match.proofs.Points.{by_points, in_each, moved_items, offered_items}
+use Rattle.chess_match.proofs.Silences.{by_silence}
 use Rattle.chess_match.proofs.ReadLaw.{Streamed, lines_in, moves_are_read, none_read_in, with_line}
 
 -- the items that lines to come say
@@ -94,7 +95,7 @@ ahead_over d t S ls h1 = grind (arith, append-nil)
 
 lines_say : (r : Rules) (d : Colour) (t : Option (List ℕ)) (n : ℕ) (m : Match) → awaits_line m.phase d ≡ true
     → Says d t m (line_row r m.phase (line_kind t) n m).after
-lines_say r d t n m aw = line_cases r d (line_kind t) n m (λ e. Says d t m e.after) aw (record {
+lines_say r d t n m aw = line_cases r d (line_kind t) n m (λ e. Says d t m e.after) aw (λ since. record {
   handshake_stops = λ p reason k most w lines S over. handshake_says d t m S (lines S) (Over reason) [] p
       (ahead_over d t S (lines S) (over refl));
   handshake_counts = λ p h few lines S over. handshake_says d t m S (lines S) (Handshake d)
@@ -135,6 +136,9 @@ items_are_said r H K final g S = sym (by_points r
       reads = λ m n c t k H aw q stays p.
           lines_say r c t k m aw (lines_in H) S (λ o. none_read_in S H (stays o).1) ∙ p;
       opens = λ m n c k H o q p. ap (λ (x : Phase). (m.seat S).items ++ said_ahead x S (lines_read S H)) o ∙ p;
+      silent = λ m n c k H aw limited q stays p. by_silence r m n c k H
+          (λ m' due. (m'.seat S).items ++ said_ahead m'.phase S (lines_read S H) ≡ (n.seat S).items)
+          (λ reason w only same p. stopped m n H (ends r reason m).after (λ X. refl) same only) (λ since p. p) stays p;
       output_ends = λ m n c H aw q only same p. stopped m n H (ends r (Faulted c Ended) m).after (λ X. refl) same only;
       read_fails = λ m n c H aw q only same p. stopped m n H (ends r (Faulted c Read) m).after (λ X. refl) same only;
     }) H K final (λ m due q g. none m m [] refl refl) g)

@@ -1,14 +1,15 @@
 -- What holds of every match that is played stays so with every event.
-use Rattle.std.proofs.Common.{◌≡◌, ℕ, ◌+◌, ◌-◌, ◌≤◌, ◌<◌, true, false, [], ◌∷◌, ◌++◌, length, length-append, refl, ap, sym, ◌∙◌, subst, None, arith}
+use Rattle.std.proofs.Common.{◌≡◌, ℕ, ◌+◌, ◌-◌, ◌≤◌, ◌<◌, true, false, [], ◌∷◌, ◌++◌, length, length-append, refl, ap, sym, ◌∙◌, subst, Option, None, arith}
 use Rattle.chess_base.specs.declared.man.Colour.{Colour}
 use Rattle.chess_base.specs.declared.man.Colour.TheVariants.{White, Black}
 use Rattle.chess_base.specs.declared.man.Move.{Move}
 use Rattle.chess_base.specs.Men.{other}
+use Rattle.chess_base.proofs.shared.Men.{same_colour-true}
 use Rattle.cecp_engine.specs.EngineLines.{LineKind}
 use Rattle.chess_match.specs.laws.Laws.{line_kind}
 use Rattle.chess_match.specs.Acts.{awaits_line, is_over}
 use Rattle.chess_match.specs.Effects.{Match, Phase, Handshake, Setup, Opening, Over, beginning, effect, line_row, moved}
-use Rattle.chess_match.specs.Events.{Event, Line, OutputEnds, FailsToRead}
+use Rattle.chess_match.specs.Events.{Event, Line, Silent, OutputEnds, FailsToRead}
 use Rattle.chess_match.specs.Reasons.{is_write_fault_of}
 use Rattle.chess_match.specs.Rules.{Rules}
 use Rattle.chess_match.specs.declared.reason.Reason.{Reason}
@@ -16,7 +17,7 @@ use Rattle.chess_match.specs.declared.reason.Reason.TheVariants.{Decided}
 use Rattle.chess_match.specs.ties.Driving.{is_of_output}
 use Rattle.chess_match.specs.ties.Sane.{IsSane, IsWritten, in_turn}
 use Rattle.chess_match.proofs.CoreSteps.{on_awaiting}
-use Rattle.chess_match.proofs.LineCases.{line_cases, offering, said_by}
+use Rattle.chess_match.proofs.LineCases.{LineCases, line_cases, offering, said_by, silence_cases}
 use Rattle.chess_match.proofs.Points.{offered_used, said_used}
 use Rattle.chess_game.specs.Ends.{verdict}
 
@@ -53,60 +54,74 @@ moved_few : (m : Match) (S X : Colour) (move : Move) (used : ℕ) → length (m.
 moved_few m S X move used h =
     grind (arith, h, length-append m.played (move ∷ []), length-append (m.seat X).used (used ∷ []))
 
+-- it doesn't matter since when a reply is awaited
+sane_since : (r : Rules) (m : Match) (since : Option ℕ) → IsSane r m → IsSane r (record m { since = since })
+sane_since r m since s = record { undecided = s.undecided; few = s.few; count = s.count }
+
+module _ (r : Rules) (S : Colour) (kind : LineKind) (m : Match) (on : is_over m.phase ≡ false) (s : IsSane r m) where
+  said : IsSane r (said_by S kind m)
+  said = record { undecided = s.undecided; few = λ X. rw (said_used S X kind m) (s.few X); count = s.count }
+
+  counted : m.count + 1 < 10000 → Fine r (record m { count = m.count + 1 })
+  counted few = on_fine r (record m { count = m.count + 1 }) on
+      (record { undecided = s.undecided; few = s.few; count = few })
+
+  line_fits : (moment : ℕ) → LineCases r S kind moment m (λ e. Fine r e.after)
+  line_fits moment = record {
+    handshake_stops = λ p reason k most w. over_fine r (record (said_by S kind m) { count = k }) reason (record {
+      undecided = s.undecided;
+      few = said.few;
+      count = let c = s.count in omega (arith, most, c);
+    }) w.0;
+    handshake_counts = λ p d few. on_fine r (record (said_by S kind m) { count = m.count + 1 }) on
+        (record { undecided = s.undecided; few = said.few; count = omega (arith, few) });
+    handshake_next = λ p t d. entered_fine r (said_by S kind m) (Handshake Black) refl (λ h. absurd cc) said;
+    handshake_last = λ p t d. entered_fine r (said_by S kind m) (Setup White) refl (λ h. absurd cc) said;
+    setup_counts = λ p pong few. counted few;
+    setup_next = λ p t pong. entered_fine r m (Setup Black) refl (λ h. absurd cc) s;
+    setup_last = λ p t pong v. entered_fine r m (Opening r.start.side) refl (λ h. v) s;
+    setup_decides = λ p v e. over_fine r m (Decided v) s (λ X. refl);
+    stops = λ g reason w. over_fine r m reason s w.0;
+    counts = λ t none few. counted few;
+    offers = λ t none own. on_fine r (offering S m).after on
+        (record { undecided = s.undecided; few = λ X. rw (offered_used S X m) (s.few X); count = s.count });
+    plays = λ text move opened is p read room timely v. on_fine r (moved S move (moment - opened) m) refl (record {
+      undecided = λ h. v;
+      few = λ X. moved_few m S X move (moment - opened) (s.few X);
+      count = s.count;
+    });
+    decides = λ text move opened v is p read room timely e.
+        over_fine r (record (moved S move (moment - opened) m) { phase = Over (Decided v) }) (Decided v) (record {
+          undecided = λ h. absurd cc;
+          few = λ X. moved_few m S X move (moment - opened) (s.few X);
+          count = s.count;
+        }) (λ X. refl);
+    passes = λ p none. entered_fine r m (Opening (other S)) refl (λ h. s.undecided (ap in_turn p)) s;
+  }
+
 -- a line
 line_fine : (r : Rules) (S : Colour) (kind : LineKind) (moment : ℕ) (m : Match) → awaits_line m.phase S ≡ true
     → IsSane r m → Fine r (line_row r m.phase kind moment m).after
-line_fine r S kind moment m aw s = line_cases r S kind moment m (λ e. Fine r e.after) aw (record {
-  handshake_stops = λ p reason k most w. over_fine r (record n { count = k }) reason (record {
-    undecided = s.undecided;
-    few = said.few;
-    count = let c = s.count in omega (arith, most, c);
-  }) w.0;
-  handshake_counts = λ p d few. on_fine r (record n { count = m.count + 1 }) on
-      (record { undecided = s.undecided; few = said.few; count = omega (arith, few) });
-  handshake_next = λ p t d. entered_fine r n (Handshake Black) refl (λ h. absurd cc) said;
-  handshake_last = λ p t d. entered_fine r n (Setup White) refl (λ h. absurd cc) said;
-  setup_counts = λ p pong few. counted few;
-  setup_next = λ p t pong. entered_fine r m (Setup Black) refl (λ h. absurd cc) s;
-  setup_last = λ p t pong v. entered_fine r m (Opening r.start.side) refl (λ h. v) s;
-  setup_decides = λ p v e. over_fine r m (Decided v) s (λ X. refl);
-  stops = λ g reason w. over_fine r m reason s w.0;
-  counts = λ t none few. counted few;
-  offers = λ t none own. on_fine r (offering S m).after on
-      (record { undecided = s.undecided; few = λ X. rw (offered_used S X m) (s.few X); count = s.count });
-  plays = λ text move opened is p read room timely v. on_fine r (moved S move (moment - opened) m) refl (record {
-    undecided = λ h. v;
-    few = λ X. moved_few m S X move (moment - opened) (s.few X);
-    count = s.count;
-  });
-  decides = λ text move opened v is p read room timely e.
-      over_fine r (record (moved S move (moment - opened) m) { phase = Over (Decided v) }) (Decided v) (record {
-        undecided = λ h. absurd cc;
-        few = λ X. moved_few m S X move (moment - opened) (s.few X);
-        count = s.count;
-      }) (λ X. refl);
-  passes = λ p none. entered_fine r m (Opening (other S)) refl (λ h. s.undecided (ap in_turn p)) s;
+line_fine r S kind moment m aw s = line_cases r S kind moment m (λ e. Fine r e.after) aw
+    (λ since. line_fits r S kind (record m { since = since }) (on_awaiting m.phase S aw) (sane_since r m since s) moment)
+
+-- a line that had not come
+silence_fine : (r : Rules) (S : Colour) (moment : ℕ) (m : Match) → awaits_line m.phase S ≡ true → IsSane r m
+    → Fine r (effect r m (Silent S moment)).after
+silence_fine r S moment m aw s = silence_cases r S moment m (λ e. Fine r e.after) (record {
+  stops = λ reason w. over_fine r m reason s w.0;
+  goes_on = λ since. on_fine r (record m { since = since }) (on_awaiting m.phase S aw) (sane_since r m since s);
 })
-  where
-    on : is_over m.phase ≡ false
-    on = on_awaiting m.phase S aw
-
-    n : Match
-    n = said_by S kind m
-
-    said : IsSane r n
-    said = record { undecided = s.undecided; few = λ X. rw (said_used S X kind m) (s.few X); count = s.count }
-
-    counted : m.count + 1 < 10000 → Fine r (record m { count = m.count + 1 })
-    counted few = on_fine r (record m { count = m.count + 1 }) on
-        (record { undecided = s.undecided; few = s.few; count = few })
 
 -- ---- an event
 
--- a line, an end or a failed read of the engine of S
+-- a line, a silence, an end or a failed read of the engine of S
 pub fine_after : (r : Rules) (m : Match) (S : Colour) (e : Event) → is_of_output S e ≡ true
     → awaits_line m.phase S ≡ true → IsSane r m → Fine r (effect r m e).after
 fine_after r m S (Line c t n) is h s = line_fine r S (line_kind t) n m h s
+fine_after r m S (Silent c n) is h s =
+    subst (λ (x : Colour). Fine r (effect r m (Silent x n)).after) (sym (same_colour-true c S is))
+    (silence_fine r S n m h s)
 fine_after r m S (OutputEnds c) is h s = over_fine r m _ s (λ X. refl)
 fine_after r m S (FailsToRead c) is h s = over_fine r m _ s (λ X. refl)
 fine_after r m S e is h s = absurd cc

@@ -1,11 +1,12 @@
--- What reading the next line of an engine comes to.
+-- What looking for the next line of an engine comes to.
 use Rattle.std.proofs.Common.{◌≡◌, ◌<◌, ℕ, Bool, true, false, List, [], ◌∷◌, refl, ap, sym, ◌∙◌, subst, Option, None, Some, Result, Ok, Err}
-use Rattle.std.specs.Prelude.{if◌then◌else◌}
+use Rattle.std.specs.Prelude.{if◌then◌else◌, is_some}
 use Rattle.chess_base.specs.declared.man.Colour.{Colour}
 use Rattle.chess_base.specs.declared.man.Move.{Move}
 use Rattle.chess_base.specs.Men.{other}
 use Rattle.cecp_engine.specs.Items.{Item}
 use Rattle.text_lines.specs.Lines.{LineSeen}
+use Rattle.text_lines.specs.Next.{line_if}
 use Rattle.chess_match.specs.Acts.{Happens, awaits_line}
 use Rattle.chess_match.specs.Effects.{Match, effect}
 use Rattle.chess_match.specs.Events.{Event, OutputEnds, FailsToRead}
@@ -13,60 +14,80 @@ use Rattle.chess_match.specs.Lines.{bytes_of}
 use Rattle.chess_match.specs.shared.Parts.{answers_to}
 use Rattle.chess_match.specs.Rules.{Rules}
 use Rattle.chess_match.specs.Run.{text_read}
-use Rattle.chess_match.specs.Table.{Does, ReadsLine, Passing, Passes, reading_of}
+use Rattle.chess_match.specs.Table.{Does, ReadsLine, FindsNoLine, Passing, Passes, reading_of, reading_until}
 use Rattle.chess_match.specs.declared.state.Actions.{Actions}
 use Rattle.chess_match.specs.declared.state.MatchState.{MatchState}
-use Rattle.chess_match.specs.ties.Driving.{is_line_event, is_of_output, steps_of}
+use Rattle.chess_match.specs.ties.Driving.{is_line_event, is_of_output, is_silence, steps_of}
 use Rattle.chess_match.specs.ties.Represents.{Goes, Represents, nothing_said}
 
--- an event without items that is no line
+-- an event without items that is no line and no silence
 pub bare : (plays : Rules → Type 0) (old new : Passing) (core : MatchState) (played : List Move) (core' : MatchState)
-    (given : Actions) (text : List ℕ) (S : Colour) (n n' : ℕ) (e : Event) → is_of_output S e ≡ true
-    → is_line_event e ≡ false → text ≡ [] → Passes old new (steps_of e)
+    (given : Actions) (text : List ℕ) (S : Colour) (n n' : ℕ) (until : Option ℕ) (e : Event) → is_of_output S e ≡ true
+    → is_line_event e ≡ false → is_silence e ≡ false → text ≡ [] → Passes old new (steps_of e)
     → ((r : Rules) (m : Match) → plays r → awaits_line m.phase S ≡ true → Represents r core played m
     → Goes r core' played given nothing_said (effect r m e))
     → (x : Event) × (items : Colour → List Item) × (is_of_output S x ≡ true) × Passes old new (steps_of x)
-    × (is_line_event x ≡ true → n' < n) × (text ≡ bytes_of (answers_to (items S))) × (items (other S) ≡ [])
+    × (is_line_event x ≡ true → n' < n) × (is_silence x ≡ true → (n' < n) × (is_some until ≡ true))
+    × (text ≡ bytes_of (answers_to (items S))) × (items (other S) ≡ [])
     × ((r : Rules) (m : Match) → plays r → awaits_line m.phase S ≡ true → Represents r core played m
     → Goes r core' played given items (effect r m x))
 unfolding bytes_of
-bare plays old new core played core' given text S n n' e is line empty passes goes = (
+bare plays old new core played core' given text S n n' until e is line silence empty passes goes = (
   e,
   nothing_said,
   is,
   passes,
   λ h. let no : false ≡ true = sym line ∙ h in absurd cc,
+  λ h. let no : false ≡ true = sym silence ∙ h in absurd cc,
   empty,
   refl,
   goes,
 )
 
--- the step of a read that failed, found no line, or found a last one
-pub as_fault : {E : Type 0} (old new : Passing) (S : Colour) (result : Result (Option LineSeen) E) (x : E)
-    → result ≡ Err x → Passes old new (reading_of S result ∷ []) → Passes old new (Does (Happens (FailsToRead S)) ∷ [])
-as_fault old new S result x e p = subst (λ v. Passes old new (reading_of S v ∷ [])) e p
+-- ---- the step of a read
 
-pub as_none : {E : Type 0} (old new : Passing) (S : Colour) (result : Result (Option LineSeen) E) → result ≡ Ok None
-    → Passes old new (reading_of S result ∷ []) → Passes old new (Does (Happens (OutputEnds S)) ∷ [])
-as_none old new S result e p = subst (λ v. Passes old new (reading_of S v ∷ [])) e p
+-- without a limit
+pub as_until : (E : Type 0) (S : Colour) (found : Bool) (line : LineSeen)
+    → reading_of {E = E} S (Ok (line_if found line)) ≡ reading_until {E = E} S (Ok (Some found)) line
+as_until E S true line = refl
+as_until E S false line = refl
 
-pub as_last : {E : Type 0} (old new : Passing) (S : Colour) (result : Result (Option LineSeen) E) (line : LineSeen)
-    → result ≡ Ok (Some line) → line.ended ≡ false → Passes old new (reading_of S result ∷ [])
+-- of one that failed
+pub as_fault : {E : Type 0} (old new : Passing) (S : Colour) (result : Result (Option Bool) E) (line : LineSeen) (x : E)
+    → result ≡ Err x → Passes old new (reading_until S result line ∷ [])
+    → Passes old new (Does (Happens (FailsToRead S)) ∷ [])
+as_fault old new S result line x e p = subst (λ v. Passes old new (reading_until S v line ∷ [])) e p
+
+-- of one that found no line in time
+pub as_silence : {E : Type 0} (old new : Passing) (S : Colour) (result : Result (Option Bool) E) (line : LineSeen)
+    → result ≡ Ok None → Passes old new (reading_until S result line ∷ []) → Passes old new (FindsNoLine S ∷ [])
+as_silence old new S result line e p = subst (λ v. Passes old new (reading_until S v line ∷ [])) e p
+
+-- of one that found no line at the end
+pub as_none : {E : Type 0} (old new : Passing) (S : Colour) (result : Result (Option Bool) E) (line : LineSeen)
+    → result ≡ Ok (Some false) → Passes old new (reading_until S result line ∷ [])
+    → Passes old new (Does (Happens (OutputEnds S)) ∷ [])
+as_none old new S result line e p = subst (λ v. Passes old new (reading_until S v line ∷ [])) e p
+
+-- of one that found a last line
+pub as_last : {E : Type 0} (old new : Passing) (S : Colour) (result : Result (Option Bool) E) (line : LineSeen)
+    → result ≡ Ok (Some true) → line.ended ≡ false → Passes old new (reading_until S result line ∷ [])
     → Passes old new (Does (Happens (OutputEnds S)) ∷ [])
 as_last old new S result line e last p =
     subst (λ (b : Bool). Passes old new ((if b then ReadsLine S (text_read line) else Does (Happens (OutputEnds S))) ∷ [])) last
-    (subst (λ v. Passes old new (reading_of S v ∷ [])) e p)
+    (subst (λ v. Passes old new (reading_until S v line ∷ [])) e p)
 
-pub as_line : {E : Type 0} (old new : Passing) (S : Colour) (result : Result (Option LineSeen) E) (line : LineSeen)
-    → result ≡ Ok (Some line) → line.ended ≡ true → Passes old new (reading_of S result ∷ [])
+-- of one that found a line
+pub as_line : {E : Type 0} (old new : Passing) (S : Colour) (result : Result (Option Bool) E) (line : LineSeen)
+    → result ≡ Ok (Some true) → line.ended ≡ true → Passes old new (reading_until S result line ∷ [])
     → Passes old new (ReadsLine S (text_read line) ∷ [])
 as_line old new S result line e whole p =
     subst (λ (b : Bool). Passes old new ((if b then ReadsLine S (text_read line) else Does (Happens (OutputEnds S))) ∷ [])) whole
-    (subst (λ v. Passes old new (reading_of S v ∷ [])) e p)
+    (subst (λ v. Passes old new (reading_until S v line ∷ [])) e p)
 
-pub line_falls : {E : Type 0} (S : Colour) (result : Result (Option LineSeen) E) (line : LineSeen) (n n' : ℕ)
-    → result ≡ Ok (Some line) → line.ended ≡ true
-    → ((text : Option (List ℕ)) → reading_of S result ≡ ReadsLine S text → n' < n) → n' < n
+pub line_falls : {E : Type 0} (S : Colour) (result : Result (Option Bool) E) (line : LineSeen) (n n' : ℕ)
+    → result ≡ Ok (Some true) → line.ended ≡ true
+    → ((text : Option (List ℕ)) → reading_until S result line ≡ ReadsLine S text → n' < n) → n' < n
 line_falls S result line n n' e whole falls = falls (text_read line)
-    (ap (λ v. reading_of S v) e
+    (ap (λ v. reading_until S v line) e
     ∙ ap (λ (b : Bool). if b then ReadsLine S (text_read line) else Does (Happens (OutputEnds S))) whole)

@@ -216,6 +216,7 @@ gives own r O = record {
   said = λ m S kind rest p q h. let e = rest_in own r O m (Handshake S) rest p h in
       rw p (refl, (e.0, said_used S (whose own O) kind m ∙ e.1));
   counts = λ m k rest h. (refl, h);
+  waits = λ m since rest h. (refl, h);
   enters = λ m S c rest p h. let e = rest_in own r O m (Handshake S) rest p h in rw p (refl, e, refl, e);
   sets_up = λ m S c rest p h. rw p (refl, rest_in own r O m (Setup S) rest p h);
   offers = λ m S rest h. rw (offered_items S O m, offered_used S (whose own O) m) (refl, h);

@@ -16,6 +16,7 @@ use Rattle.chess_match.specs.laws.OfActs.{AtEachMoment, UsedTimesAreDifferences,
 use Rattle.chess_match.proofs.LineCases.{line_cases, offering, said_by}
 use Rattle.chess_match.proofs.MatchCases.{both_not}
 use Rattle.chess_match.proofs.Points.{Stays, by_points, moved_used, offered_used, said_used}
+use Rattle.chess_match.proofs.Silences.{by_silence}
 
 -- the moment of the opening, where a move of S is awaited
 abbrev awaited : Colour → Phase → Option ℕ
@@ -102,7 +103,7 @@ moved_grow S c kind n opened m m' p is u b = (
 
 lines_grow : (r : Rules) (S c : Colour) (kind : LineKind) (n : ℕ) (m : Match) → awaits_line m.phase c ≡ true
     → Grows S kind n m (line_row r m.phase kind n m).after
-lines_grow r S c kind n m aw = line_cases r c kind n m (λ e. Grows S kind n m e.after) aw (record {
+lines_grow r S c kind n m aw = line_cases r c kind n m (λ e. Grows S kind n m e.after) aw (λ since. record {
   handshake_stops = λ p reason k most w. ends_grow S kind n m (record (said_by c kind m) { phase = Over reason; count = k })
       (said_used c S kind m) refl;
   handshake_counts = λ p d few. apart_grow S kind n m (record (said_by c kind m) { count = m.count + 1 })
@@ -199,6 +200,9 @@ used_times_are_differences r H K final g S = by_points r (λ m due H n. Ends S m
   reads = λ m n c t k H aw q stays p. goes_on S c t k H m (effect r m (Line c t k)).after n aw stays
       (lines_grow r S c (line_kind t) k m aw) p;
   opens = λ m n c k H o q p. subst (λ (x : Phase). Ends S m (awaited S x) (Happens (Opened c k) ∷ H) n) (sym o) p;
+  silent = λ m n c k H aw limited q stays p. by_silence r m n c k H (λ m' due. Ends S m' (awaited S m'.phase) H n)
+      (λ reason w only same p. stopped S (awaited S m.phase) H m n (ap (λ (x : Match). (x.seat S).used) same) only)
+      (λ since p. p) stays p;
   output_ends = λ m n c H aw q only same p. stopped S (awaited S m.phase) H m n
       (ap (λ (x : Match). (x.seat S).used) same)
       only;

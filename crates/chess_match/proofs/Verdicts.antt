@@ -8,13 +8,14 @@ use Rattle.chess_game.specs.declared.verdicts.Verdict.{Verdict}
 use Rattle.cecp_engine.specs.EngineLines.{LineKind}
 use Rattle.chess_match.specs.laws.Laws.{line_kind}
 use Rattle.chess_match.specs.Acts.{Act, IsMatch, awaits_line, blocks_from, is_over}
-use Rattle.chess_match.specs.Effects.{Match, Phase, Handshake, Setup, Opening, Over, beginning, line_row}
+use Rattle.chess_match.specs.Effects.{Match, Phase, Handshake, Setup, Opening, Over, beginning, effect, line_row}
+use Rattle.chess_match.specs.Events.{Silent}
 use Rattle.chess_match.specs.Reasons.{declared_at, outcome_by_reason, reported_reason}
 use Rattle.chess_match.specs.Rules.{Rules}
 use Rattle.chess_match.specs.declared.reason.Reason.{Reason}
 use Rattle.chess_match.specs.declared.reason.Reason.TheVariants.{Decided, Faulted}
 use Rattle.chess_match.specs.laws.OfActs.{DecidedByTheBoard, OutcomesAreOfTheGame, VerdictsEndMatches}
-use Rattle.chess_match.proofs.LineCases.{in_turn, is_decided, is_fault, line_cases}
+use Rattle.chess_match.proofs.LineCases.{in_turn, is_decided, is_fault, line_cases, silence_cases}
 use Rattle.chess_match.proofs.MatchCases.{by_cases, on_when_read}
 use Rattle.chess_game.specs.Ends.{verdict, verdict_result}
 use Rattle.chess_game.specs.Game.{Seen, outcome_now}
@@ -63,10 +64,19 @@ stopped r played (Decided v) is h = absurd cc
 stopped r played (Faulted c fault) is h = inr h
 stopped r played reason is h = h
 
+-- a match that is on ends for no verdict, in a turn or by a fault
+ended_judged : (r : Rules) (m : Match) (reason : Reason) → is_over m.phase ≡ false → Judged r m
+    → is_decided reason ≡ false → (in_turn m.phase ≡ false → is_fault reason ≡ true) → ByBoard r m.played (Over reason)
+ended_judged r m reason goes j is fault = at (in_turn m.phase) refl
+  where
+    at : (on : Bool) → in_turn m.phase ≡ on → ByBoard r m.played (Over reason)
+    at true on = stopped r m.played reason is (in_turn_undecided r m.played m.phase on j)
+    at false off = faulted r m.played reason (fault off) (on_undecided r m.played m.phase goes j)
+
 line_judged : (r : Rules) (S : Colour) (kind : LineKind) (moment : ℕ) (m : Match) → awaits_line m.phase S ≡ true
     → Judged r m → Judged r (line_row r m.phase kind moment m).after
-line_judged r S kind moment m aw j = line_cases r S kind moment m (λ e. Judged r e.after) aw (record {
-  handshake_stops = λ p reason k most w. faulted r m.played reason (w.3 (ap in_turn p)) none;
+line_judged r S kind moment m aw j = line_cases r S kind moment m (λ e. Judged r e.after) aw (λ since. record {
+  handshake_stops = λ p reason k most w. ended_judged r m reason (on_when_read m.phase S aw) j w.2 w.3;
   handshake_counts = λ p d few. j;
   handshake_next = λ p s d. by p;
   handshake_last = λ p s d. by p;
@@ -74,7 +84,7 @@ line_judged r S kind moment m aw j = line_cases r S kind moment m (λ e. Judged 
   setup_next = λ p s pong. by p;
   setup_last = λ p s pong v. v;
   setup_decides = λ p v e. e;
-  stops = λ g reason w. ended reason w.2 w.3 (in_turn m.phase) refl;
+  stops = λ g reason w. ended_judged r m reason (on_when_read m.phase S aw) j w.2 w.3;
   counts = λ on none few. j;
   offers = λ on none own. j;
   plays = λ text move opened is p read room timely v. v;
@@ -82,16 +92,15 @@ line_judged r S kind moment m aw j = line_cases r S kind moment m (λ e. Judged 
   passes = λ p said. by p;
 })
   where
-    none : Undecided r m.played
-    none = on_undecided r m.played m.phase (on_when_read m.phase S aw) j
-
     by : {p : Phase} → m.phase ≡ p → ByBoard r m.played p
     by e = subst (λ (q : Phase). ByBoard r m.played q) e j
 
-    ended : (reason : Reason) → is_decided reason ≡ false → (in_turn m.phase ≡ false → is_fault reason ≡ true)
-        → (on : Bool) → in_turn m.phase ≡ on → ByBoard r m.played (Over reason)
-    ended reason is fault true on = stopped r m.played reason is (in_turn_undecided r m.played m.phase on j)
-    ended reason is fault false off = faulted r m.played reason (fault off) none
+silent_judged : (r : Rules) (S : Colour) (moment : ℕ) (m : Match) → awaits_line m.phase S ≡ true → Judged r m
+    → Judged r (effect r m (Silent S moment)).after
+silent_judged r S moment m aw j = silence_cases r S moment m (λ e. Judged r e.after) (record {
+  stops = λ reason w. ended_judged r m reason (on_when_read m.phase S aw) j w.2 w.3;
+  goes_on = λ since. j;
+})
 
 -- what each act keeps
 judged_at_end : (r : Rules) (H : List Act) (final : Match) → IsMatch r H final
@@ -103,6 +112,7 @@ judged_at_end r H final g = by_cases r final (λ m due K. Judged r m → (is_ove
       fails_late = λ m end b due K o p. p;
       reads = λ m end S t n K aw p j. p (line_judged r S (line_kind t) n m aw j);
       opens = λ m end S n K o p j. p (subst (λ (q : Phase). ByBoard r m.played q) o j);
+      silent = λ m end S n K aw limited p j. p (silent_judged r S n m aw j);
       ends = λ m end S K aw p j. p (on_undecided r m.played m.phase (on_when_read m.phase S aw) j);
       read_fails = λ m end S K aw p j. p (on_undecided r m.played m.phase (on_when_read m.phase S aw) j);
     }) (λ o j. (o, j)) beginning.after (blocks_from White beginning.to) H g refl

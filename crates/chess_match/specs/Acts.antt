@@ -1,12 +1,13 @@
 -- What the arbiter does at its devices, act by act; and which lists of acts are a match. `H` stands for a list of acts,
 -- in the order in which they were done.
-use Rattle.std.specs.Prelude.{◌≡◌, Bool, true, false, if◌then◌else◌, List, [], ◌∷◌, ◌++◌}
+use Rattle.std.specs.Prelude.{◌≡◌, ◌&&◌, Bool, true, false, if◌then◌else◌, is_some, List, [], ◌∷◌, ◌++◌}
 use Rattle.chess_base.specs.declared.man.Colour.{Colour}
 use Rattle.chess_base.specs.declared.man.Colour.TheVariants.{White}
 use Rattle.chess_base.specs.Men.{other, same_colour}
-use Rattle.chess_match.specs.Events.{Event, Line, Opened, OutputEnds, FailsToRead, FailsToWrite}
+use Rattle.chess_match.specs.Events.{Event, Line, Opened, Silent, OutputEnds, FailsToRead, FailsToWrite}
 use Rattle.chess_match.specs.Rules.{Rules}
 use Rattle.chess_match.specs.Lines.{SentLine}
+use Rattle.chess_match.specs.declared.patience.Patience.{Patience}
 use Rattle.chess_match.specs.Effects.{Match, Phase, Handshake, Setup, Opening, BeforeMove, AfterMove, Over, Effect, effect, beginning}
 
 -- a block: all lines that the engine of the side `to` is sent as the effect of one event, or at the beginning of the
@@ -23,8 +24,8 @@ pub data Act : Type 0 where
   -- a write or a flush failed while this block was sent; a beginning of it, or all of it, may have been written
   SendFails : (block : Block) → Act
   -- an event was read: a line, and right after it the clock (`Line`); the clock, when the lines that open a turn had
-  -- been sent (`Opened`); the end of an engine's output (`OutputEnds`; bytes after its last `\n` are no line); or a
-  -- failure to read (`FailsToRead`)
+  -- been sent (`Opened`); that no line had come, and right after it the clock (`Silent`); the end of an engine's output
+  -- (`OutputEnds`; bytes after its last `\n` are no line); or a failure to read (`FailsToRead`)
   Happens : (event : Event) → Act
 
 -- ---- what is due
@@ -50,14 +51,22 @@ awaits_line (BeforeMove side opened) S = same_colour side S
 awaits_line (AfterMove side) S = same_colour side S
 awaits_line _ S = false
 
+-- whether lines are waited for only so long in this phase: before a move if flags fall, otherwise if replies have a
+-- limit
+abbrev pub is_limited : Patience → Phase → Bool
+is_limited patience (BeforeMove side opened) = patience.flag
+is_limited patience _ = is_some patience.reply
+
 -- this event may come in this phase: a line, the end of an output or a failed read, if a line of this side is awaited;
--- `Opened`, if this side's turn is being opened. A failed write is no act `Happens`, but an act `SendFails`
-abbrev pub MayCome : Phase → Event → Type 0
-MayCome phase (Line S text moment) = awaits_line phase S ≡ true
-MayCome phase (OutputEnds S) = awaits_line phase S ≡ true
-MayCome phase (FailsToRead S) = awaits_line phase S ≡ true
-MayCome phase (Opened S moment) = phase ≡ Opening S
-MayCome phase (FailsToWrite S) = ⊥
+-- a silence, if besides the phase is limited; `Opened`, if this side's turn is being opened. A failed write is no act
+-- `Happens`, but an act `SendFails`
+abbrev pub MayCome : Patience → Phase → Event → Type 0
+MayCome patience phase (Line S text moment) = awaits_line phase S ≡ true
+MayCome patience phase (Silent S moment) = (awaits_line phase S && is_limited patience phase) ≡ true
+MayCome patience phase (OutputEnds S) = awaits_line phase S ≡ true
+MayCome patience phase (FailsToRead S) = awaits_line phase S ≡ true
+MayCome patience phase (Opened S moment) = phase ≡ Opening S
+MayCome patience phase (FailsToWrite S) = ⊥
 
 -- whether the match has ended
 abbrev pub is_over : Phase → Bool
@@ -87,7 +96,7 @@ IsMatchFrom r m (block ∷ due) (SendFails sent ∷ H) final =
 -- then due
 IsMatchFrom r m [] (Happens event ∷ H) final =
     let done = effect r m event in
-    MayCome m.phase event × IsMatchFrom r done.after (due_after event done) H final
+    MayCome r.patience m.phase event × IsMatchFrom r done.after (due_after event done) H final
 -- no act is left: no block is due, the match is over, and `final` is its state
 IsMatchFrom r m [] [] final = (is_over m.phase ≡ true) × (final ≡ m)
 -- any other list of acts is not the rest of a match

@@ -3,7 +3,7 @@ use Rattle.std.specs.Prelude.{ℕ, Bool, false, List, [], ◌∷◌, Option}
 use Rattle.chess_base.specs.declared.man.Colour.{Colour}
 use Rattle.chess_base.specs.Men.{same_colour}
 use Rattle.chess_match.specs.Acts.{Act, Sends, SendFails, Happens}
-use Rattle.chess_match.specs.Events.{Line, Opened, OutputEnds, FailsToRead, FailsToWrite}
+use Rattle.chess_match.specs.Events.{Line, Opened, Silent, OutputEnds, FailsToRead, FailsToWrite}
 use Rattle.chess_match.specs.Notes.{Note, Happened, Gives}
 use Rattle.chess_base.specs.Options.{list_if}
 use Rattle.chess_match.specs.Lines.{SentLine, bytes_of}
@@ -33,6 +33,7 @@ is_failed_read_of S _ = false
 abbrev pub moment_shown : Act → List ℕ
 moment_shown (Happens (Line side text moment)) = moment ∷ []
 moment_shown (Happens (Opened side moment)) = moment ∷ []
+moment_shown (Happens (Silent side moment)) = moment ∷ []
 moment_shown _ = []
 
 -- ---- what was written

@@ -1,6 +1,6 @@
 -- What each event of a match does: the match after it, and the lines that each side is then sent. A definition with the
 -- name `.._row` is the effect of a line, or of one kind of line.
-use Rattle.std.specs.Prelude.{ℕ, ◌+◌, ◌-◌, ◌/◌, ◌==◌, ◌&&◌, nat_le, nat_lt, Bool, true, false, not, if◌then◌else◌, List, [], ◌∷◌, ◌++◌, length, codes, sum, Option, None, Some, is_some, map}
+use Rattle.std.specs.Prelude.{ℕ, ◌+◌, ◌-◌, ◌/◌, ◌==◌, ◌&&◌, nat_le, nat_lt, Bool, true, false, not, if◌then◌else◌, List, [], ◌∷◌, ◌++◌, length, codes, sum, Option, None, Some, is_some, unwrap_or, map}
 use Rattle.std.specs.List.{list_any}
 use Rattle.std.specs.Option.{option_map_or}
 use Rattle.chess_base.specs.declared.man.Colour.{Colour}
@@ -11,7 +11,7 @@ use Rattle.chess_game.specs.Ends.{result_text, verdict, claims, draw_claim}
 use Rattle.cecp_engine.specs.EngineLines.{LineKind, Features, Moves, Resigns, OffersDraw, ClaimsDraw, ClaimsWin, Rejects, Answers, SaysElse, kind_of}
 use Rattle.cecp_engine.specs.Items.{Item, items_of, ends_handshake, takes, plays_fischerandom, is_known}
 use Rattle.cecp_engine.specs.Levels.{allotted}
-use Rattle.chess_match.specs.Events.{Event, Line, Opened, OutputEnds, FailsToRead, FailsToWrite, Seat}
+use Rattle.chess_match.specs.Events.{Event, Line, Opened, Silent, OutputEnds, FailsToRead, FailsToWrite, Seat}
 use Rattle.chess_match.specs.Reasons.{reported_reason, result_of}
 use Rattle.chess_match.specs.Rules.{Rules, text_of_last, start_fen, has_bare_king}
 use Rattle.chess_text.specs.San.{is_fischerandom}
@@ -21,7 +21,7 @@ use Rattle.chess_base.specs.Options.{list_if}
 use Rattle.chess_match.specs.Lines.{SentLine, Says, MoveSent, Time, Otim, setup_lines, ping}
 use Rattle.chess_match.specs.Reasons.{is_write_fault_of}
 use Rattle.chess_match.specs.declared.reason.MatchFault.{MatchFault}
-use Rattle.chess_match.specs.declared.reason.MatchFault.TheVariants.{Ended, Read, Write, NoDone, NoPing, NoSetboard, Flood, NoVariant}
+use Rattle.chess_match.specs.declared.reason.MatchFault.TheVariants.{Ended, Read, Write, NoDone, NoPing, NoSetboard, Flood, NoVariant, NoHandshake, NoAnswer}
 use Rattle.chess_match.specs.declared.reason.Reason.{Reason}
 use Rattle.chess_match.specs.declared.reason.Reason.TheVariants.{Decided, Claimed, Agreed, MovesIllegally, MovesOutOfTurn, ClaimsFalsely, RejectsLegalMove, Forfeits, ForfeitsToBareKing, GameTooLong, Faulted}
 use Rattle.chess_match.specs.declared.reason.Reason.TheVariants as over_by
@@ -55,6 +55,9 @@ pub record Match : Type 0 where
   -- how many lines came so far in this handshake, or were ignored so far in this setup or turn. A turn lasts until the
   -- `pong` after its move
   pub count : ℕ
+  -- the moment from which the time for a reply runs: that of the last line that counted (a `feature` line, `pong 1` or
+  -- a line before a move), before any that of the first silence; `None` before both
+  pub since : Option ℕ
 
 -- what an event does: the match after it, and the lines that each side is then sent (`to`)
 pub record Effect : Type 0 where
@@ -218,6 +221,30 @@ flag_row r S m =
     let bare = has_bare_king (other S) (position_after r.start m.played).men in
     ends r (if bare then ForfeitsToBareKing else Forfeits S) m
 
+-- ---- silences
+
+-- the match `m` once its reply is awaited since this moment
+abbrev pub awaited_since : ℕ → Match → Match
+awaited_since moment m = record m { since = Some moment }
+
+-- no line of the side `S` had come at this moment, which owes one that is no move. If it has owed it for longer than
+-- the rules allow, the match ends by this fault. Otherwise nothing changes, but that the time for the first line of the
+-- match runs from its first silence
+abbrev pub reply_row : Rules → Colour → MatchFault → ℕ → Match → Effect
+reply_row r S fault moment m =
+    let since = unwrap_or m.since moment in
+    if option_map_or (λ limit. nat_lt limit (moment - since)) r.patience.reply false then ends r (Faulted S fault) m
+    else sends_nothing (awaited_since since m)
+
+-- what it does in the phase given that no line of the side `S` that it waits for had come at this moment
+abbrev pub silence_row : Rules → Phase → Colour → ℕ → Match → Effect
+silence_row r (Handshake side) S moment m = reply_row r S NoHandshake moment m
+-- before a move: if by then `S` has used more than it has left, its flag has fallen, as with a line. Otherwise nothing
+-- changes
+silence_row r (BeforeMove side opened) S moment m =
+    if nat_lt (clock r m S) (moment - opened) then flag_row r S m else sends_nothing m
+silence_row r _ S moment m = reply_row r S NoAnswer moment m
+
 -- ---- a line before the game
 
 -- what follows once both handshakes are done; the options are what White's engine lacks, and what Black's lacks
@@ -261,15 +288,17 @@ setup_done r Black m = unless_decided r m (begins_turn r r.start.side m)
 -- what a line of this kind does in the phase given; it was sent by the side `S` that this phase waits for, and came at
 -- `moment`, in milliseconds by the clock. In a handshake only a `feature` line has items
 abbrev pub line_row : Rules → Phase → LineKind → ℕ → Match → Effect
-line_row r (Handshake S) (Features text) _ m = handshake_row r S (items_of text) m
+line_row r (Handshake S) (Features text) moment m = handshake_row r S (items_of text) (awaited_since moment m)
 line_row r (Handshake S) kind _ m = handshake_row r S [] m
 -- in a setup: `pong 1` ends it; any other line is ignored, even `feature` or `move`
-line_row r (Setup S) (Answers n) _ m = if n == 1 then setup_done r S m else ignores r S m
+line_row r (Setup S) (Answers n) moment m =
+    if n == 1 then setup_done r S (awaited_since moment m) else ignores r S m
 line_row r (Setup S) kind _ m = ignores r S m
 -- before a move: the time used is `moment - opened`, or 0 if that is negative. If it is more than `S` has left, the
 -- flag has fallen, whatever the line says
 line_row r (BeforeMove S opened) kind moment m =
-    if nat_lt (clock r m S) (moment - opened) then flag_row r S m else before_move r S (moment - opened) kind m
+    if nat_lt (clock r m S) (moment - opened) then flag_row r S m
+    else before_move r S (moment - opened) kind (awaited_since moment m)
 -- after a move, when the `ping` is to be answered. Another move: `S` loses
 line_row r (AfterMove S) (Moves text) _ m = ends r (MovesOutOfTurn S) m
 -- `pong N`: with the number of the latest `ping` it gives the other side its turn, with any other it is ignored
@@ -284,6 +313,8 @@ abbrev pub effect : Rules → Match → Event → Effect
 -- a line; one that was too long is of the kind `SaysElse`. `line_row` takes its side from the phase: only lines of the
 -- side that `m` waits for are read (`awaits_line` in Acts)
 effect r m (Line S text moment) = line_row r m.phase (option_map_or kind_of text SaysElse) moment m
+-- no line had come: see `silence_row`
+effect r m (Silent S moment) = silence_row r m.phase S moment m
 -- the lines that open a turn were sent: from this moment on its time runs
 effect r m (Opened S moment) = sends_nothing (record m { phase = BeforeMove S moment })
 -- an engine's output ended, or a read from the engine or a write to it failed: the match ends by that fault
@@ -299,4 +330,5 @@ beginning = sends_to White handshake_lines (record {
   seat = λ S. record { items = []; used = []; offers = false };
   played = [];
   count = 0;
+  since = None;
 })

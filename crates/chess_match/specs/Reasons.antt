@@ -12,7 +12,7 @@ use Rattle.chess_game.specs.declared.results.Outcome.TheVariants.{WhiteWins, Bla
 use Rattle.chess_game.specs.declared.tags.HowEnded.{HowEnded}
 use Rattle.chess_game.specs.declared.tags.HowEnded.TheVariants.{Normal, TimeForfeit, RulesInfraction}
 use Rattle.chess_match.specs.declared.reason.MatchFault.{MatchFault}
-use Rattle.chess_match.specs.declared.reason.MatchFault.TheVariants.{Ended, Read, Write, NoDone, NoPing, NoSetboard, Flood, NoVariant}
+use Rattle.chess_match.specs.declared.reason.MatchFault.TheVariants.{Ended, Read, Write, NoDone, NoPing, NoSetboard, Flood, NoVariant, NoHandshake, NoAnswer}
 use Rattle.chess_match.specs.declared.reason.Reason.{Reason}
 use Rattle.chess_match.specs.declared.reason.Reason.TheVariants.{Decided, Claimed, Agreed, Resigns, MovesIllegally, MovesOutOfTurn, ClaimsFalsely, RejectsLegalMove, Forfeits, ForfeitsToBareKing, GameTooLong, Faulted}
 
@@ -35,6 +35,8 @@ fault_comment NoPing = codes " has no ping"
 fault_comment NoSetboard = codes " has no setboard"
 fault_comment Flood = codes " sent too many lines"
 fault_comment NoVariant = codes " has no fischerandom"
+fault_comment NoHandshake = codes " sent no done=1 (a UCI engine needs polyglot)"
+fault_comment NoAnswer = codes " did not answer"
 
 -- how a match that ended for this reason is reported: its outcome; its comment, without braces, as `Black resigns`; and
 -- how it ended, for the tag Termination (which is `unterminated` in any case if the outcome is `*`). The side `c` that

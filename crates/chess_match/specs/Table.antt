@@ -1,12 +1,12 @@
 -- What passes at the table of a match, step by step: what is sent, read and noted. A table has both engines, the clock
 -- and a witness, such as the log, which is given the notes; each call of the table is one step. One act of the match
--- can be two steps: a line is read, and right after it the clock.
-use Rattle.std.specs.Prelude.{ℕ, Bool, if◌then◌else◌, List, [], ◌∷◌, ◌++◌, Option, None, Some, Result, Ok, Err}
+-- can be two steps: a line is read, or found not to have come, and right after it the clock is read.
+use Rattle.std.specs.Prelude.{ℕ, Bool, true, false, if◌then◌else◌, List, [], ◌∷◌, ◌++◌, Option, None, Some, Result, Ok, Err}
 use Rattle.byte_devices.specs.Transfers.{Devices}
 use Rattle.chess_base.specs.declared.man.Colour.{Colour}
 use Rattle.text_lines.specs.Lines.{LineSeen}
 use Rattle.chess_match.specs.Acts.{Act, Block, Sends, SendFails, Happens}
-use Rattle.chess_match.specs.Events.{Event, Line, Opened, OutputEnds, FailsToRead, FailsToWrite}
+use Rattle.chess_match.specs.Events.{Event, Line, Opened, Silent, OutputEnds, FailsToRead, FailsToWrite}
 use Rattle.chess_base.specs.Options.{list_if}
 use Rattle.chess_match.specs.Lines.{bytes_of}
 use Rattle.chess_match.specs.Notes.{Note, Happened, Gives}
@@ -20,14 +20,18 @@ pub data Step : Type 0 where
   Does : (act : Act) → Step
   -- a line of that side's engine was read (`None`: it was too long)
   ReadsLine : (side : Colour) → (text : Option (List ℕ)) → Step
-  -- the clock was read, for a line or an opening of that side, and showed `moment`, in milliseconds
+  -- that side's engine was found to have sent no line yet
+  FindsNoLine : (side : Colour) → Step
+  -- the clock was read, for a line, a silence or an opening of that side, and showed `moment`, in milliseconds
   ReadsClock : (side : Colour) → (moment : ℕ) → Step
   -- the witness was given a note
   Notes : (note : Note) → Step
 
--- the steps by which this event is read: a line and then the clock, the clock alone, or an end or a failure
+-- the steps by which this event is read: a line, or that there is none, and then the clock; the clock alone; or an end
+-- or a failure
 abbrev pub reads : Event → List Step
 reads (Line S text moment) = ReadsLine S text ∷ ReadsClock S moment ∷ []
+reads (Silent S moment) = FindsNoLine S ∷ ReadsClock S moment ∷ []
 reads (Opened S moment) = ReadsClock S moment ∷ []
 reads event = Does (Happens event) ∷ []
 
@@ -57,6 +61,15 @@ reading_of S (Ok (Some line)) = if line.ended then ReadsLine S (text_read line) 
 -- no line: the output has ended
 reading_of S (Ok None) = Does (Happens (OutputEnds S))
 reading_of S (Err e) = Does (Happens (FailsToRead S))
+
+-- the step of reading from the engine of the side `S` for only so long, by the result of the call: `None` if no line
+-- had come, otherwise whether there was one (`line`)
+abbrev pub reading_until : {E : Type 0} → Colour → Result (Option Bool) E → LineSeen → Step
+reading_until S (Ok None) line = FindsNoLine S
+reading_until S (Ok (Some true)) line =
+    if line.ended then ReadsLine S (text_read line) else Does (Happens (OutputEnds S))
+reading_until S (Ok (Some false)) line = Does (Happens (OutputEnds S))
+reading_until S (Err e) line = Does (Happens (FailsToRead S))
 
 -- ---- what passed
 

@@ -1,6 +1,6 @@
 //! The table of separate devices.
 
-ghost use Rattle.std.specs.Prelude.{◌≡◌, ◌<◌, ℕ, List, Option};
+ghost use Rattle.std.specs.Prelude.{◌≡◌, ◌<◌, ℕ, List, Option, None, Ok};
 ghost use Rattle.std.specs.Result.{is_err};
 ghost use Rattle.chess_base.specs.declared.man.Colour.{Colour};
 ghost use Rattle.text_lines.specs.Next.{line_read};
@@ -8,7 +8,7 @@ ghost use Rattle.chess_match.specs.Events as events;
 ghost use Rattle.chess_match.specs.Lines.{SentLine, bytes_of};
 ghost use Rattle.chess_match.specs.Notes.{Happened, Gives};
 ghost use Rattle.chess_match.specs.Run.{text_read};
-ghost use Rattle.chess_match.specs.Table.{Does, ReadsLine, ReadsClock, Notes, reading_of, sending};
+ghost use Rattle.chess_match.specs.Table.{Does, ReadsLine, ReadsClock, Notes, reading_of, reading_until, sending};
 ghost use Rattle.chess_match.specs.ties.AtDesk.{PassesAt, left_at, passed_at};
 
 use crate::moments::Moments;
@@ -78,6 +78,39 @@ impl<R: Input, W: Output, M: Moments, L: Witness> MatchTable
         }
     }
 
+    // Reads the next line of this side's engine, of what is held of it or of its pipe, if it comes by then.
+    fn read_line_until(
+        &mut self,
+        side: Colour,
+        until: u64,
+        line: &mut Line<ENGINE_LINE_LEN>,
+    ) -> Result<Option<bool>, ReadFault>
+        ensures passes { PassesAt R.seen W.seen M.coming L.noted self.old self.new
+            (reading_until side result line.new) }
+        ensures less { (text : Option (List ℕ)) → reading_until side result line.new ≡ ReadsLine side text
+            → left_at R.seen self.new < left_at R.seen self.old }
+        ensures silent { result ≡ Ok None → left_at R.seen self.new < left_at R.seen self.old }
+        ensures white { side ≡ Colour.White → self.new ≡ (record self.old {
+          white_reader = self.new.white_reader;
+          lines = record self.old.lines { white = self.new.lines.white };
+        }) }
+        ensures black { side ≡ Colour.Black → self.new ≡ (record self.old {
+          black_reader = self.new.black_reader;
+          lines = record self.old.lines { black = self.new.lines.black };
+        }) }
+    {
+        match side {
+            Colour::White => self
+                .lines
+                .white
+                .read_line_until(self.white_reader, until, line),
+            Colour::Black => self
+                .lines
+                .black
+                .read_line_until(self.black_reader, until, line),
+        }
+    }
+
     // Reads the clock.
     fn moment(&mut self, _side: Colour) -> u64
         ensures passes { PassesAt R.seen W.seen M.coming L.noted self.old self.new
@@ -106,6 +139,16 @@ impl<R: Input, W: Output, M: Moments, L: Witness> MatchTable
         ensures others { self.new ≡ (record self.old { witness = self.new.witness }) }
     {
         self.witness.opened(side, moment);
+    }
+
+    // Gives the witness the note of a line that had not come.
+    fn note_silent(&mut self, side: Colour, moment: u64)
+        ensures passes { PassesAt R.seen W.seen M.coming L.noted self.old self.new
+            (Notes (Happened (events.Silent side moment))) }
+        ensures left { left_at R.seen self.new ≡ left_at R.seen self.old }
+        ensures others { self.new ≡ (record self.old { witness = self.new.witness }) }
+    {
+        self.witness.silent(side, moment);
     }
 
     // Gives the witness the note of the end of an output.

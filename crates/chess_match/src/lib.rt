@@ -4,7 +4,11 @@
 //! The engines are any two inputs and outputs:
 //!
 //! ```
-//! let setup = Setup { start: Position::initial(), level: "40 5 0".parse()? };
+//! let setup = Setup {
+//!     start: Position::initial(),
+//!     level: "40 5 0".parse()?,
+//!     patience: Patience::ENDLESS,
+//! };
 //! let mut white = Ends { reader: white_output, writer: white_input };
 //! let mut black = Ends { reader: black_output, writer: black_input };
 //! let end = run_match(&mut white, &mut black, &mut moments, &setup, &mut game);
@@ -21,10 +25,12 @@ mod handshake;
 mod laws;
 mod match_game;
 mod moments;
+mod patience;
 mod phase;
 mod reason;
 mod run;
 mod send;
+mod silence;
 mod state;
 mod table;
 mod texts;
@@ -36,10 +42,11 @@ pub use chess_game::DrawClaim;
 pub use laws::{
     acts_are_in_order, clocks_do_not_underflow, each_is_sent_the_others, failed_blocks_are_last,
     games_are_lines, last_line_is_theirs, lines_are_few, match_is_the_only_one, moves_are_read,
-    moves_are_sent_once, moves_sent_are_known, notes_have_all, times_are_clocks,
-    used_times_are_differences, verdicts_end_matches,
+    moves_are_sent_once, moves_sent_are_known, notes_have_all, silences_end_matches,
+    time_forfeits_are_shown, times_are_clocks, used_times_are_differences, verdicts_end_matches,
 };
 pub use moments::Moments;
+pub use patience::Patience;
 pub use phase::Phase;
 pub use reason::{MatchFault, Reason};
 pub use run::{ENGINE_LINE_LEN, Ends, MatchEnd, Setup, run_match, run_match_at, run_match_watched};

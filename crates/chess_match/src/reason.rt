@@ -26,6 +26,10 @@ pub enum MatchFault {
     Flood,
     /// The variant is Chess960, and its handshake says `variants` without `fischerandom`.
     NoVariant,
+    /// It sent no further line of its handshake in time.
+    NoHandshake,
+    /// It sent no `pong` in time.
+    NoAnswer,
 }
 
 /// Why a match is over, with the side of which it is said.
@@ -90,6 +94,14 @@ impl MatchFault {
             (MatchFault::Flood, Colour::Black) => b"Black sent too many lines",
             (MatchFault::NoVariant, Colour::White) => b"White has no fischerandom",
             (MatchFault::NoVariant, Colour::Black) => b"Black has no fischerandom",
+            (MatchFault::NoHandshake, Colour::White) => {
+                b"White sent no done=1 (a UCI engine needs polyglot)"
+            }
+            (MatchFault::NoHandshake, Colour::Black) => {
+                b"Black sent no done=1 (a UCI engine needs polyglot)"
+            }
+            (MatchFault::NoAnswer, Colour::White) => b"White did not answer",
+            (MatchFault::NoAnswer, Colour::Black) => b"Black did not answer",
         }
     }
 }

@@ -1,6 +1,6 @@
 //! The run of a match.
 
-ghost use Rattle.std.specs.Prelude.{◌≡◌, List, [], ◌++◌, ℕ, length, true, false, None, ◌≤◌, ◌<◌};
+ghost use Rattle.std.specs.Prelude.{◌≡◌, List, [], ◌∷◌, ◌++◌, ℕ, length, true, false, None, Ok, Option, is_some, ◌≤◌, ◌<◌};
 ghost use Rattle.arrayvec.specs.ArrayVec.{array_vec_len};
 ghost use Rattle.chess_base.specs.ByColour.{of_colour};
 ghost use Rattle.chess_base.specs.Men.{other};
@@ -13,7 +13,7 @@ ghost use Rattle.cecp_engine.specs.Seen.{seen};
 ghost use Rattle.chess_match.specs.Acts.{awaits_line, is_over};
 ghost use Rattle.chess_match.specs.shared.Parts.{blocks_after};
 ghost use Rattle.chess_match.specs.Effects.{Effect, Match, effect};
-ghost use Rattle.chess_match.specs.Events.{Event, FailsToWrite};
+ghost use Rattle.chess_match.specs.Events.{Event, FailsToWrite, Silent};
 ghost use Rattle.chess_match.specs.Lines.{bytes_of};
 ghost use Rattle.chess_match.specs.shared.Parts.{answers_to};
 ghost use Rattle.chess_match.specs.Notes.{WasNoted};
@@ -21,27 +21,28 @@ ghost use Rattle.chess_match.specs.Played.{Played, PlayedNoting, PlayedAt};
 ghost use Rattle.chess_match.specs.Reasons.{declared_at};
 ghost use Rattle.chess_match.specs.Rules.{Rules};
 ghost use Rattle.chess_match.specs.Run.{engines_of, text_read};
-ghost use Rattle.chess_match.specs.Table.{Passes};
+ghost use Rattle.chess_match.specs.Table.{Passes, ReadsLine, reading_until};
 ghost use Rattle.chess_match.specs.declared.block.TheConstants.{ANSWERS_LEN};
 ghost use Rattle.chess_match.specs.declared.reason.Reason.{Reason};
 ghost use Rattle.chess_match.specs.declared.run.TheConstants.{ENGINE_LINE_LEN};
-ghost use Rattle.chess_match.specs.ties.Awaits.{IsAwaited};
-ghost use Rattle.chess_match.specs.ties.Driving.{Delivered, after_line, by_turn, giving, is_line_event, is_of_output, line_event, steps_of};
+ghost use Rattle.chess_match.specs.ties.Awaits.{IsAwaited, until_of};
+ghost use Rattle.chess_match.specs.ties.Driving.{Delivered, after_line, after_silence, by_turn, giving, is_line_event, is_of_output, is_silence, line_event, steps_of};
 ghost use Rattle.chess_match.specs.ties.Reported.{IsReported};
-ghost use Rattle.chess_match.specs.ties.Represents.{Goes, Represents, phase_of};
+ghost use Rattle.chess_match.specs.ties.Represents.{Goes, Represents, nothing_said, phase_of};
 ghost use Rattle.chess_match.specs.ties.Sane.{IsSane, IsWritten};
 
 use crate::block::{Block, Blocks};
 use crate::desk::Desk;
 use crate::match_game::MatchGame;
 use crate::moments::Moments;
+use crate::patience::Patience;
 use crate::phase::Phase;
 use crate::reason::{MatchFault, Reason, reported_fault, reported_reason};
 use crate::send::note_and_send;
 use crate::state::{Actions, ENTRY, MatchState};
 use crate::table::MatchTable;
 use crate::witness::{NoWitness, Witness};
-use byte_devices::{Input, Output};
+use byte_devices::{Input, Output, ReadFault};
 use cecp_engine::{EngineLine, Level, read_engine_line};
 use chess_base::{ByColour, Colour, Position};
 use chess_game::{Comment, Game, HowEnded, Outcome, TagText};
@@ -67,6 +68,8 @@ pub struct Setup {
     pub start: Position,
     /// The level of time of both sides.
     pub level: Level,
+    /// How long the engines are waited for.
+    pub patience: Patience,
 }
 
 /// How a match ended.
@@ -98,7 +101,8 @@ pub struct MatchEnd {
 /// was written before, except at an engine to which a write or a flush failed.
 ///
 /// The contract sees each device apart; [`run_match_at`], which this calls, says that the calls came in the order of
-/// the acts. By the code no memory is taken, and an engine that doesn't answer is waited for.
+/// the acts. By the code no memory is taken. An engine that doesn't answer is waited for as long as `setup.patience`
+/// says; that so much time has passed is for the readers and the clock to know.
 pub fn run_match<R: Input, W: Output, M: Moments, B: Board>(
     white: &mut Ends<R, W>,
     black: &mut Ends<R, W>,
@@ -189,7 +193,7 @@ pub fn run_match_at<T: MatchTable, B: Board>(
     ensures outcome { outcome_now game.new.state ≡ result.outcome }
 {
     game.restart(&setup.start);
-    let mut core = MatchState::new(setup.level);
+    let mut core = MatchState::new(setup.level, setup.patience);
     let mut line = Line::new();
     let mut blocks = Blocks::new();
     let mut failed = deliver(table, &mut core, game, ENTRY, &mut blocks, Colour::White);
@@ -412,8 +416,46 @@ fn take_line<T: MatchTable, G: MatchGame>(
     core.line(game, said(line), moment, block)
 }
 
-// Reads the next line of this side's engine into `line` and takes it, if there is one and `\n` ended it; otherwise the
-// end of its output, or a fault, ends the match. Returns what is to be sent; the answers to the line's items go to
+// Takes note that no line of this side's engine had come: the clock is read, the silence is noted, and the match goes
+// on by it. Returns what is to be sent.
+fn take_silence<T: MatchTable, G: MatchGame>(
+    table: &mut T,
+    core: &mut MatchState,
+    game: &G,
+    side: Colour,
+) -> Actions
+    ensures taken { (moment : ℕ) × Passes (T.passed table.old) (T.passed table.new) (after_silence side moment)
+        × ((r : Rules) (m : Match) → G.plays game.now r → awaits_line m.phase side ≡ true
+        → Represents r core.old (G.played game.now) m
+        → Goes r core.new (G.played game.now) result nothing_said (effect r m (Silent side moment))) }
+    ensures left { T.left table.new ≡ T.left table.old }
+{
+    let moment = table.moment(side);
+    table.note_silent(side, moment);
+    core.silent(game, side, moment)
+}
+
+// Reads the next line of this side's engine into `line`, and waits for it until the moment `until`, if there is one.
+// Returns `None` if no line had come, otherwise whether there was one.
+fn read_next<T: MatchTable>(
+    table: &mut T,
+    side: Colour,
+    until: Option<u64>,
+    line: &mut Line<ENGINE_LINE_LEN>,
+) -> Result<Option<bool>, ReadFault>
+    ensures passes { Passes (T.passed table.old) (T.passed table.new) (reading_until side result line.new ∷ []) }
+    ensures less { (text : Option (List ℕ)) → reading_until side result line.new ≡ ReadsLine side text
+        → T.left table.new < T.left table.old }
+    ensures silent { result ≡ Ok None → (T.left table.new < T.left table.old) × (is_some until ≡ true) }
+{
+    match until {
+        None => Ok(Some(table.read_line(side, line)?)),
+        Some(until) => table.read_line_until(side, until, line),
+    }
+}
+
+// Reads the next line of this side's engine into `line` and takes it, if there is one and `\n` ended it; otherwise that
+// none had come, the end of its output, or a fault. Returns what is to be sent; the answers to the line's items go to
 // `block`, which must be empty.
 fn take_next<T: MatchTable, G: MatchGame>(
     table: &mut T,
@@ -431,22 +473,25 @@ fn take_next<T: MatchTable, G: MatchGame>(
     ensures taken { (e : Event) × (items : Colour → List Item) × (is_of_output side e ≡ true)
         × Passes (T.passed table.old) (T.passed table.new) (steps_of e)
         × (is_line_event e ≡ true → T.left table.new < T.left table.old)
+        × (is_silence e ≡ true → (T.left table.new < T.left table.old)
+        × (is_some (until_of core.old core.old.phase) ≡ true))
         × (block.new.items ≡ bytes_of (answers_to (items side))) × (items (other side) ≡ [])
         × ((r : Rules) (m : Match) → G.plays game.old r → awaits_line m.phase side ≡ true
         → Represents r core.old (G.played game.old) m
         → Goes r core.new (G.played game.new) result items (effect r m e)) }
     ensures room { array_vec_len block.new ≤ ANSWERS_LEN }
 {
-    match table.read_line(side, line) {
+    match read_next(table, side, core.until(), line) {
         Err(_) => {
             table.note_read_fails(side);
             core.read_fails(side)
         }
-        Ok(false) => {
+        Ok(None) => take_silence(table, core, game, side),
+        Ok(Some(false)) => {
             table.note_output_ends(side);
             core.output_ends(side)
         }
-        Ok(true) => {
+        Ok(Some(true)) => {
             if is_parsed(line) {
                 take_line(table, core, game, side, line, block)
             } else {

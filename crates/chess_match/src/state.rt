@@ -15,6 +15,7 @@ ghost use Rattle.chess_match.specs.shared.Parts.{answers_to};
 ghost use Rattle.chess_match.specs.ties.Texts.{unsent_in};
 
 use crate::block::{Block, add_answer};
+use crate::patience::Patience;
 use crate::phase::Phase;
 use crate::texts::LastMove;
 use cecp_engine::{Clocks, Features, Item, Level, next_item};
@@ -50,6 +51,10 @@ pub(crate) struct MatchState {
     pub count: u32,
     /// The moment at the end of the turn's opening.
     pub opened: u64,
+    /// The moment from which the time for a reply runs, once there is one.
+    pub since: Option<u64>,
+    /// How long lines are waited for.
+    pub patience: Patience,
 }
 
 /// So many ignored lines in one setup or turn end the match.
@@ -114,9 +119,10 @@ impl Player {
 
 impl MatchState {
     /// A match before its first line: White's handshake is awaited.
-    pub(crate) fn new(level: Level) -> Self
+    pub(crate) fn new(level: Level, patience: Patience) -> Self
         ensures phase { result.phase ≡ Phase.Handshake Colour.White }
-        ensures stands { (r : Rules) → r.level ≡ level → Represents r result [] beginning.after }
+        ensures stands { (r : Rules) → r.level ≡ level → r.patience ≡ patience
+            → Represents r result [] beginning.after }
     {
         MatchState {
             phase: Phase::Handshake(Colour::White),
@@ -128,6 +134,8 @@ impl MatchState {
             last: None,
             count: 0,
             opened: 0,
+            since: None,
+            patience,
         }
     }
 

@@ -27,6 +27,10 @@ pub trait Witness {
     fn opened(&mut self, side: Colour, moment: u64)
         ensures { WasNoted (noted self.old) (noted self.new) (Happened (events.Opened side moment) ∷ []) };
 
+    /// Takes note that no line of this side's engine had come; the clock then showed `moment`.
+    fn silent(&mut self, side: Colour, moment: u64)
+        ensures { WasNoted (noted self.old) (noted self.new) (Happened (events.Silent side moment) ∷ []) };
+
     /// Takes note that this side's engine closed its output, which ended the match.
     fn output_ends(&mut self, side: Colour)
         ensures { WasNoted (noted self.old) (noted self.new) (Happened (events.OutputEnds side) ∷ []) };
@@ -56,6 +60,9 @@ impl Witness for NoWitness {
 
     // Does nothing about the opening of a turn: this witness keeps nothing.
     fn opened(&mut self, _side: Colour, _moment: u64) {}
+
+    // Does nothing about a line that had not come: this witness keeps nothing.
+    fn silent(&mut self, _side: Colour, _moment: u64) {}
 
     // Does nothing about the end of an engine's output: this witness keeps nothing.
     fn output_ends(&mut self, _side: Colour) {}

@@ -13,6 +13,7 @@ use std::test::Fail;
 
 /// A match: its level and start, how many half-moves there is room for, what the engines say, the moments, and what the
 /// engines are sent.
+#[derive(Clone, Copy)]
 pub struct Row {
     pub level: &'static [u8],
     pub start: &'static [u8],
@@ -31,7 +32,8 @@ const MATE_TO_WHITE: &[u8] =
 const MATE_TO_BLACK: &[u8] =
     b"xboard\nprotover 2\naccepted ping\naccepted done\nnew\nlevel 0 0:10 0\nnopost\neasy\nforce\nping 1\nf2f3\ntime 1000\notim 1000\ngo\nping 2\ntime 1000\notim 1000\ng2g4\nresult 0-1 {Black mates}\nquit\n";
 
-const FOOLS_MATE: Row = Row {
+/// Fool's mate in ten seconds each.
+pub const FOOLS_MATE: Row = Row {
     level: b"0 0:10 0",
     start: b"",
     limit: 100,

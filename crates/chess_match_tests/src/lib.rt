@@ -15,3 +15,5 @@ mod matches;
 mod pgn;
 #[cfg(test)]
 mod plays;
+#[cfg(test)]
+mod silences;

@@ -6,7 +6,7 @@ use chess_base::{Colour, Position, Variant};
 use chess_bits::{AttackTables, Bits};
 use chess_fen::read_fen_as;
 use chess_game::{Game, Outcome};
-use chess_match::{Ends, MatchEnd, MatchFault, Moments, Setup, run_match};
+use chess_match::{Ends, MatchEnd, MatchFault, Moments, Patience, Setup, run_match};
 use chess_moves::{Board, Plain};
 use chess_pgn::{Tags, write_pgn};
 use std::alloc::Global;
@@ -36,12 +36,21 @@ impl Moments for Listed<'_> {
     }
 }
 
-/// A start with a level that is in its form.
-pub fn setup_of(rt: &impl Abort, level: &[u8], start: Position) -> Setup {
+/// A start with a level that is in its form, and this patience.
+pub fn setup_within(rt: &impl Abort, level: &[u8], start: Position, patience: Patience) -> Setup {
     match Level::read(level) {
-        Some(level) => Setup { start, level },
+        Some(level) => Setup {
+            start,
+            level,
+            patience,
+        },
         None => panic!(rt; "level"),
     }
+}
+
+/// A start with a level that is in its form; engines are waited for as long as it takes.
+pub fn setup_of(rt: &impl Abort, level: &[u8], start: Position) -> Setup {
+    setup_within(rt, level, start, Patience::ENDLESS)
 }
 
 /// The position of a FEN of this variant.

@@ -8,7 +8,7 @@ use chess_arbiter::run_program;
 use chess_base::{Colour, Position};
 use chess_cecp::{End, Session, run_session, serve_lines};
 use chess_game::Game;
-use chess_match::{Ends, Moments, Setup, run_match};
+use chess_match::{Ends, Moments, Patience, Setup, run_match};
 use chess_moves::Plain;
 use chess_pgn::Tags;
 use match_runner::{GamesPlan, Log, SinceStart, play_games};
@@ -47,6 +47,7 @@ fn match_between<R: Input + Drop, W: Output + Drop, M: Moments + Drop>(
     let setup = Setup {
         start: Position::initial(),
         level: "40 5 0".parse()?,
+        patience: Patience::ENDLESS,
     };
     let mut white = Ends {
         reader: white_output,
@@ -67,6 +68,7 @@ fn match_of_processes(rt: &HostRuntime, alloc: Global) -> Result<()> {
         white: "sjeng",
         black: "phalanx",
         level: "40 5 0".parse()?,
+        patience: Patience::ENDLESS,
         start: Position::initial(),
         games: 2,
         date: "????.??.??",

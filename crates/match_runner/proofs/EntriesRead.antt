@@ -13,7 +13,7 @@ use Rattle.chess_base.specs.Letters.{byte, is_digit, new_line}
 use Rattle.chess_base.specs.Men.{same_colour}
 use Rattle.chess_base.specs.declared.man.Colour.{Colour}
 use Rattle.chess_game.specs.Results.{shown_byte}
-use Rattle.chess_match.specs.Events.{Line, Opened, OutputEnds, FailsToRead, FailsToWrite}
+use Rattle.chess_match.specs.Events.{Line, Opened, Silent, OutputEnds, FailsToRead, FailsToWrite}
 use Rattle.chess_match.specs.Notes.{Note, Happened, Gives}
 use Rattle.match_runner.specs.Log.{lines_in, log_from, log_line, moment_after, note_text}
 use Rattle.match_runner.specs.laws.Entries.{Entry, IsShown, LogsHaveOneReading, entries_from, entries_text, is_printable, note_entries}
@@ -150,6 +150,7 @@ note_is first moment (Happened (Line c (Some text) now)) = sym (append-nil (log_
 note_is first moment (Happened (Line c None now)) =
     sym (append-nil (log_line first now (byte "!") c (codes "line too long")))
 note_is first moment (Happened (Opened c now)) = refl
+note_is first moment (Happened (Silent c now)) = sym (append-nil (log_line first now (byte "!") c (codes "no line")))
 note_is first moment (Happened (OutputEnds c)) =
     sym (append-nil (log_line first moment (byte "!") c (codes "output ended")))
 note_is first moment (Happened (FailsToRead c)) =

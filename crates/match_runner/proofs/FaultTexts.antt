@@ -12,7 +12,7 @@ use Rattle.chess_base.specs.declared.man.Colour.{Colour}
 use Rattle.chess_base.specs.declared.man.Colour.TheVariants.{White, Black}
 use Rattle.chess_match.specs.Reasons.{comment_of}
 use Rattle.chess_match.specs.declared.reason.MatchFault.{MatchFault}
-use Rattle.chess_match.specs.declared.reason.MatchFault.TheVariants.{Ended, Read, Write, NoDone, NoPing, NoSetboard, Flood, NoVariant}
+use Rattle.chess_match.specs.declared.reason.MatchFault.TheVariants.{Ended}
 use Rattle.chess_match.specs.declared.reason.Reason.TheVariants.{Faulted}
 
 is_text : (bytes : List ℕ) → list_all is_ascii bytes ≡ true → IsUtf8 bytes

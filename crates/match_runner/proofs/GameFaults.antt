@@ -15,7 +15,7 @@ use Rattle.chess_match.specs.Reasons.{reported_fault}
 use Rattle.chess_match.specs.declared.reason.MatchFault.{MatchFault}
 use Rattle.chess_match.specs.declared.reason.MatchFault.TheVariants.{Write}
 use Rattle.chess_match.specs.declared.reason.Reason.{Reason}
-use Rattle.chess_match.specs.declared.reason.Reason.TheVariants.{Decided, Claimed, Agreed, Resigns, MovesIllegally, MovesOutOfTurn, ClaimsFalsely, RejectsLegalMove, Forfeits, ForfeitsToBareKing, GameTooLong, Faulted}
+use Rattle.chess_match.specs.declared.reason.Reason.TheVariants.{Faulted}
 use Rattle.chess_match.specs.declared.run.MatchEnd.{MatchEnd}
 use Rattle.chess_match.specs.declared.run.Setup.{Setup}
 use Rattle.match_runner.specs.laws.Faults.{OnlyLastGamesHaveFailedWrites}
@@ -63,6 +63,6 @@ no_failures notes setup end w w' (H, reason, given, (final, run, reported, left)
 pub only_last_games_have_failed_writes : OnlyLastGamesHaveFailedWrites
 only_last_games_have_failed_writes plan [] h = tt
 only_last_games_have_failed_writes plan (g ∷ games) ((of, none), rest) = (
-  no_failures g.notes _ g.end g.before g.after of.1 none,
+  no_failures g.notes _ g.end g.before g.after of.2 none,
   only_last_games_have_failed_writes plan games rest,
 )

@@ -7,6 +7,7 @@ use Rattle.std.proofs.lemmas.List.FromFn.{length-enumerate_from}
 use Rattle.std.proofs.lemmas.List.Sums.{count_by-le-length, sum_by_push}
 use Rattle.match_runner.specs.declared.plan.GamesPlan.{GamesPlan}
 use Rattle.chess_base.specs.Men.{other, same_colour}
+use Rattle.chess_base.specs.Options.{list_if}
 use Rattle.chess_base.specs.declared.man.Colour.{Colour}
 use Rattle.chess_base.specs.declared.man.Colour.TheVariants.{White, Black}
 use Rattle.byte_devices.specs.Devices.{OutputState, Begins, CutShort, Sent}
@@ -25,7 +26,7 @@ use Rattle.chess_match.specs.declared.reason.Reason.TheVariants.{Faulted}
 use Rattle.chess_match.specs.declared.run.MatchEnd.{MatchEnd}
 use Rattle.chess_pgn.specs.GameText.{pgn}
 use Rattle.chess_pgn.specs.declared.tags.Tags.{Tags}
-use Rattle.match_runner.specs.Games.{AreAllGames, GameRecord, IsOfPlan, IsStartFault, LogsGame, LogsGames, PlaysGames, FaultlessGames, count_of, engine_command, first_side, game_text, game_texts, score_line, tags_of}
+use Rattle.match_runner.specs.Games.{AreAllGames, GameRecord, IsOfPlan, IsStartFault, LogsGame, LogsGames, PlaysGames, FaultlessGames, count_of, engine_command, first_side, game_log, game_text, game_texts, killed_lines, none_killed, score_line, tags_of}
 use Rattle.match_runner.specs.GamesTable.{Finishes, GamesPassing, GamesStep, Outputs, Plays, StartFails, Starts, StepsPass, PlaysGamesAt, WriteFails, Writes, game_steps, games_steps, unstarted_steps, unwritten_steps}
 use Rattle.match_runner.specs.ties.Playing.{FailsToStart, HasPlayed, PlayedGame, logged_side, no_score, plus, score_after, score_of, score_text}
 use Rattle.match_runner.specs.Log.{LogSeen, Logged, log_from}
@@ -92,32 +93,46 @@ steps_more p p' p'' K J h k = record {
 
 -- ---- one game, step by step
 
-module _ (plan : GamesPlan) (number : ℕ) (p p1 p2 p3 p4 : GamesPassing) (w w' : OutputState) (l l' : LogSeen)
+-- a game was logged, or not
+logs_if : (asked : Bool) (first : Colour) (l l' : LogSeen) (notes : List Note)
+    → LogsGame (if asked then Some first else None) l l' notes → Logged l l' (list_if asked (log_from first 0 notes))
+logs_if false first l l' notes h = subst (λ (v : LogSeen). Logged l v []) (sym h) (logs_none l)
+logs_if true first l l' notes h = h
+
+module _ (plan : GamesPlan) (number : ℕ) (p p1 p2 p3 p4 : GamesPassing) (w w' : OutputState) (l l' l'' : LogSeen)
     (white black : List ℕ) (first : Option Colour) (played : GameRecord) (tags : Tags)
     (for_white : white ≡ engine_command plan number White) (for_black : black ≡ engine_command plan number Black)
     (side : first ≡ logged_side plan number) (tagged : tags ≡ tags_of plan number played.end)
     (starts : StepsPass p p1 (Starts white black ∷ [])) (log : LogsGame first l l' played.notes)
-    (plays : StepsPass p1 p2 (Plays played ∷ [])) (finishes : StepsPass p3 p4 (Finishes ∷ [])) where
+    (plays : StepsPass p1 p2 (Plays (record played { killed = none_killed }) ∷ []))
+    (finishes : StepsPass p3 p4 (Finishes played.killed ∷ []))
+    (kills : Logged l' l'' (killed_lines number played.killed)) where
   tagged_text : pgn [] tags played.after.game.state ≡ game_text plan number played
   tagged_text = ap (λ (t : Tags). pgn [] t played.after.game.state) tagged
 
-  logs : LogsGame (logged_side plan number) l l' played.notes
-  logs = subst (λ (f : Option Colour). LogsGame f l l' played.notes) side log
+  logs : Logged l l'' (game_log plan number played)
+  logs =
+      logged_more l l' l'' _ _
+      (logs_if plan.log (first_side number) l l' played.notes
+      (subst (λ (f : Option Colour). LogsGame f l l' played.notes) side log)) kills
 
   all_steps : (write : List ℕ → GamesStep) → StepsPass p2 p3 (write (pgn [] tags played.after.game.state) ∷ [])
-      → StepsPass p p4 (Starts (engine_command plan number White) (engine_command plan number Black) ∷ Plays played
-      ∷ write (game_text plan number played) ∷ Finishes ∷ [])
+      → StepsPass p p4 (Starts (engine_command plan number White) (engine_command plan number Black)
+      ∷ Plays (record played { killed = none_killed }) ∷ write (game_text plan number played)
+      ∷ Finishes played.killed ∷ [])
   all_steps write writes =
       rw (← tagged_text, ← for_white, ← for_black) (
       steps_more p p1 p4 (Starts white black ∷ [])
-      (Plays played ∷ write (pgn [] tags played.after.game.state) ∷ Finishes ∷ []) starts
-      (steps_more p1 p2 p4 (Plays played ∷ [])
-      (write (pgn [] tags played.after.game.state) ∷ Finishes ∷ []) plays
-      (steps_more p2 p3 p4 (write (pgn [] tags played.after.game.state) ∷ []) (Finishes ∷ []) writes finishes)))
+      (Plays (record played { killed = none_killed }) ∷ write (pgn [] tags played.after.game.state)
+      ∷ Finishes played.killed ∷ []) starts
+      (steps_more p1 p2 p4 (Plays (record played { killed = none_killed }) ∷ [])
+      (write (pgn [] tags played.after.game.state) ∷ Finishes played.killed ∷ []) plays
+      (steps_more p2 p3 p4 (write (pgn [] tags played.after.game.state) ∷ []) (Finishes played.killed ∷ []) writes
+      finishes)))
 
   pub was_written : IsOfPlan plan played → Sent w w' (pgn [] tags played.after.game.state)
       → StepsPass p2 p3 (Writes (pgn [] tags played.after.game.state) ∷ [])
-      → PlayedGame plan number p p4 w w' l l' (Ok played.end)
+      → PlayedGame plan number p p4 w w' l l'' (Ok played.end)
   was_written of sent writes = (
     played,
     refl,
@@ -129,7 +144,7 @@ module _ (plan : GamesPlan) (number : ℕ) (p p1 p2 p3 p4 : GamesPassing) (w w' 
 
   pub was_not_written : IsOfPlan plan played → CutShort w w' (pgn [] tags played.after.game.state)
       → StepsPass p2 p3 (WriteFails (pgn [] tags played.after.game.state) ∷ [])
-      → PlayedGame plan number p p4 w w' l l' (Err WriteFailed)
+      → PlayedGame plan number p p4 w w' l l'' (Err WriteFailed)
   was_not_written of breaks fails = (
     played,
     of,
@@ -173,25 +188,13 @@ joined_more {A} f games g =
 
 -- ---- logs of games
 
--- the logs of these games one after another
-abbrev game_logs : List GameRecord → List ℕ
-game_logs games = flat_map (λ g. log_from (first_side g.0) 0 g.1.notes) (enumerate_from 1 games)
-
-logs_more : (games : List GameRecord) (g : GameRecord)
-    → game_logs (games ++ g ∷ []) ≡ game_logs games ++ log_from (first_side (1 + length games)) 0 g.notes
-logs_more games g = joined_more (λ x. log_from (first_side x.0) 0 x.1.notes) games g
-
-logs_if : (asked : Bool) (l l' l'' : LogSeen) (games : List GameRecord) (g : GameRecord) → LogsGames asked l l' games
-    → LogsGame (if asked then Some (first_side (1 + length games)) else None) l' l'' g.notes
-    → LogsGames asked l l'' (games ++ g ∷ [])
-logs_if false l l' l'' games g h k = k ∙ h
-logs_if true l l' l'' games g h k =
-    subst (λ (t : List ℕ). Logged l l'' t) (sym (logs_more games g))
-    (logged_more l l' l'' (game_logs games) (log_from (first_side (1 + length games)) 0 g.notes) h k)
-
-log_none : (asked : Bool) (l : LogSeen) → LogsGames asked l l []
-log_none false l = refl
-log_none true l = logs_none l
+-- one more game was logged
+logs_more : (plan : GamesPlan) (l l' l'' : LogSeen) (games : List GameRecord) (g : GameRecord)
+    → LogsGames plan l l' games → Logged l' l'' (game_log plan (1 + length games) g)
+    → LogsGames plan l l'' (games ++ g ∷ [])
+logs_more plan l l' l'' games g h k =
+    subst (λ (t : List ℕ). Logged l l'' t) (sym (joined_more (λ x. game_log plan x.0 x.1) games g))
+    (logged_more l l' l'' _ (game_log plan (1 + length games) g) h k)
 
 -- ---- texts of games
 
@@ -269,7 +272,7 @@ pub record SoFar (plan : GamesPlan) (p p' : GamesPassing) (w w' : OutputState) (
     pub few : length games ≤ plan.games
     pub counted : score ≡ score_of games
     pub written : OutputTook w w' (all_for games (game_texts plan games))
-    pub logged : LogsGames plan.log l l' games
+    pub logged : LogsGames plan l l' games
     pub passed : StepsPass p p' (games_steps plan games)
 
 pub start : (plan : GamesPlan) (p : GamesPassing) (w : OutputState) (l : LogSeen)
@@ -280,17 +283,15 @@ start plan p w l = record {
   few = omega arith;
   counted = refl;
   written = took_nothing w;
-  logged = log_none plan.log l;
+  logged = logs_none l;
   passed = steps_none p;
 }
 
 module _ (plan : GamesPlan) (p p' p'' : GamesPassing) (w w' w'' : OutputState) (l l' l'' : LogSeen) (number : ℕ)
     (score : Score) (games : List GameRecord) (s : SoFar plan p p' w w' l l' number score games) where
-  logged_on : (g : GameRecord) → LogsGame (logged_side plan number) l' l'' g.notes
-      → LogsGames plan.log l l'' (games ++ g ∷ [])
+  logged_on : (g : GameRecord) → Logged l' l'' (game_log plan number g) → LogsGames plan l l'' (games ++ g ∷ [])
   logged_on g log =
-      logs_if plan.log l l' l'' games g s.logged
-      (subst (λ n. LogsGame (logged_side plan n) l' l'' g.notes) s.numbered log)
+      logs_more plan l l' l'' games g s.logged (subst (λ n. Logged l' l'' (game_log plan n g)) s.numbered log)
 
   written_more : (g : GameRecord) → Sent w' w'' (game_text plan number g)
       → OutputTook w w'' (all_for (games ++ g ∷ []) (game_texts plan (games ++ g ∷ [])))
@@ -315,7 +316,7 @@ module _ (plan : GamesPlan) (p p' p'' : GamesPassing) (w w' w'' : OutputState) (
       ∙ score_more games g (omega (arith, n, few))
 
   pub one_more : (g : GameRecord) → number ≤ plan.games → number ≤ 65535 → IsOfPlan plan g → g.end.fault ≡ None
-      → Sent w' w'' (game_text plan number g) → LogsGame (logged_side plan number) l' l'' g.notes
+      → Sent w' w'' (game_text plan number g) → Logged l' l'' (game_log plan number g)
       → StepsPass p' p'' (game_steps plan number g)
       → SoFar plan p p'' w w'' l l'' (number + 1) (score_after (first_side number) g.end.outcome score)
       (games ++ g ∷ [])
@@ -335,7 +336,7 @@ module _ (plan : GamesPlan) (p p' p'' : GamesPassing) (w w' w'' : OutputState) (
   pub with_fault : (g : GameRecord) (side : Colour) (fault : MatchFault) → number ≤ plan.games → number ≤ 65535
       → IsOfPlan plan g
       → g.end.fault ≡ Some (side, fault) → Sent w' w'' (game_text plan number g)
-      → LogsGame (logged_side plan number) l' l'' g.notes → StepsPass p' p'' (game_steps plan number g)
+      → Logged l' l'' (game_log plan number g) → StepsPass p' p'' (game_steps plan number g)
       → HasPlayed plan p p'' w w'' l l''
       (Ok (record { score = score_after (first_side number) g.end.outcome score; fault = Some (number, side, fault) }))
   with_fault g side fault le small of is sent log steps =
@@ -360,7 +361,7 @@ module _ (plan : GamesPlan) (p p' p'' : GamesPassing) (w w' w'' : OutputState) (
 
   -- a game that was not written
   not_written : (next : GameRecord) → number ≤ plan.games → IsOfPlan plan next
-      → CutShort w' w'' (game_text plan number next) → LogsGame (logged_side plan number) l' l'' next.notes
+      → CutShort w' w'' (game_text plan number next) → Logged l' l'' (game_log plan number next)
       → StepsPass p' p'' (unwritten_steps plan number next)
       → HasPlayed plan p p'' w w'' l l'' (Err WriteFailed)
   not_written next le of (begun, begins, failing) log steps =
@@ -388,7 +389,7 @@ module _ (plan : GamesPlan) (p p' p'' : GamesPassing) (w w' w'' : OutputState) (
       → (games : List GameRecord) × (o : ToOutput)
       × (FaultlessGames plan games × (length games < plan.games)
       × IsStartFault plan.white.now plan.black.now fault × (o ≡ all_for games (game_texts plan games)))
-      × OutputTook w w'' o × LogsGames plan.log l l'' (games ++ [])
+      × OutputTook w w'' o × LogsGames plan l l'' (games ++ [])
       × StepsPass p p'' (games_steps plan games ++ unstarted_steps plan (length games + 1))
   not_started fault le is same log steps =
       let n = s.numbered in (
@@ -396,8 +397,8 @@ module _ (plan : GamesPlan) (p p' p'' : GamesPassing) (w w' w'' : OutputState) (
         all_for games (game_texts plan games),
         (s.games_sound, omega (arith, n, le), is, refl),
         subst (λ v. OutputTook w v (all_for games (game_texts plan games))) (sym same) s.written,
-        subst (LogsGames plan.log l l'') (sym (append-nil games))
-            (subst (λ v. LogsGames plan.log l v games) (sym log) s.logged),
+        subst (LogsGames plan l l'') (sym (append-nil games))
+            (subst (λ v. LogsGames plan l v games) (sym log) s.logged),
         passed_last (λ n. unstarted_steps plan n) steps,
       )
 
@@ -438,8 +439,8 @@ module _ (plan : GamesPlan) (p p' : GamesPassing) (w w' w'' : OutputState) (l l'
       (subst (λ (line : List ℕ). Sent w' w'' line) scored sent)
 
   -- no game is unwritten
-  logs_all : LogsGames plan.log l l' (h.0 ++ [])
-  logs_all = subst (LogsGames plan.log l l') (sym (append-nil h.0)) h.4
+  logs_all : LogsGames plan l l' (h.0 ++ [])
+  logs_all = subst (LogsGames plan l l') (sym (append-nil h.0)) h.4
 
   -- no step comes after those of the games
   steps_all : StepsPass p p' (games_steps plan h.0 ++ [])

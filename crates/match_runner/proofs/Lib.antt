@@ -8,3 +8,4 @@ mod Replays
 mod ResultLines
 mod LogsRead
 mod PgnOfLogs
+mod FirstBytes

@@ -26,36 +26,47 @@ pends_none : (b : Bool) (o : OutputState) → LogsPending b b o o [] []
 pends_none false o = ([], took_nothing o, refl)
 pends_none true o = (refl, refl)
 
--- nothing is pending
-all_logged : (b b' : Bool) (o o' : OutputState) (text : List ℕ) → LogsPending b b' o o' [] text
-    → Logged (log_seen o b) (log_seen o' b') text
-all_logged false false o o' text (written, took, is) =
-    (λ e. absurd (cc), λ e. (all_for written written, took, ap (λ t. all_for t t) (sym (append-nil written) ∙ is)))
-all_logged false true o o' text h = (λ e. absurd (cc), λ e. h)
-all_logged true b' o o' text (still, same) =
-    (λ e. ap (log_seen o') still ∙ ap (λ v. log_seen v true) same, λ e. absurd (cc))
+-- nothing is pending; `none`: a log that was given no text is as it was
+all_logged : (b b' : Bool) (o o' : OutputState) (text : List ℕ) (none : text ≡ [] → log_seen o' b' ≡ log_seen o b)
+    → LogsPending b b' o o' [] text → Logged (log_seen o b) (log_seen o' b') text
+all_logged false false o o' text none (written, took, is) = (
+  λ e. absurd (cc),
+  none,
+  λ e. (all_for written written, took, ap (λ t. all_for t t) (sym (append-nil written) ∙ is)),
+)
+all_logged false true o o' text none h = (λ e. absurd (cc), none, λ e. h)
+all_logged true b' o o' text none (still, same) =
+    (λ e. ap (log_seen o') still ∙ ap (λ v. log_seen v true) same, none, λ e. absurd (cc))
 
 pends_nothing : (b b' : Bool) (o o' : OutputState) (text : List ℕ) → Logged (log_seen o b) (log_seen o' b') text
     → LogsPending b b' o o' [] text
 pends_nothing false false o o' text h =
-    let (t, took, is) = h.1 refl in (text, subst (OutputTook o o') is took, append-nil text)
-pends_nothing false true o o' text h = h.1 refl
+    let (t, took, is) = h.2 refl in (text, subst (OutputTook o o') is took, append-nil text)
+pends_nothing false true o o' text h = h.2 refl
 pends_nothing true b' o o' text h =
     (ap (λ (l : LogSeen). l.broken) (h.0 refl), ap (λ (l : LogSeen). l.output) (h.0 refl))
 
 pub logs_none : (l : LogSeen) → Logged l l []
-logs_none l = all_logged l.broken l.broken l.output l.output [] (pends_none l.broken l.output)
+logs_none l =
+    all_logged l.broken l.broken l.output l.output [] (λ e. refl) (pends_none l.broken l.output)
 
 -- a text was sent, or a beginning of it was
 pub logs_sent : {A E : Type 0} (o o' : OutputState) (r : Result A E) (failed : Bool) (text : List ℕ)
     → 0 < length text → Sends o o' r text → failed ≡ is_err r → Logged (log_seen o false) (log_seen o' failed) text
 logs_sent o o' (Ok v) failed [] some sent is = absurd (omega (arith, some))
 logs_sent o o' (Ok v) failed (b ∷ text) some sent is =
-    subst (λ (c : Bool). Logged (log_seen o false) (log_seen o' c) (b ∷ text)) (sym is)
-    (λ e. absurd (cc), λ e. (all_of (b ∷ text), took_all o o' (b ∷ text) sent, some_for [] b text (b ∷ text)))
-logs_sent o o' (Err e) failed text some (start, begins, failing) is =
-    subst (λ (b : Bool). Logged (log_seen o false) (log_seen o' b) text) (sym is)
-    (λ e. absurd (cc), λ e. (broke nothing start, took_some o o' start failing, (begins, refl)))
+    subst (λ (c : Bool). Logged (log_seen o false) (log_seen o' c) (b ∷ text)) (sym is) (
+      λ e. absurd (cc),
+      λ e. absurd (cc),
+      λ e. (all_of (b ∷ text), took_all o o' (b ∷ text) sent, some_for [] b text (b ∷ text)),
+    )
+logs_sent o o' (Err e) failed [] some h is = absurd (omega (arith, some))
+logs_sent o o' (Err e) failed (b ∷ text) some (start, begins, failing) is =
+    subst (λ (c : Bool). Logged (log_seen o false) (log_seen o' c) (b ∷ text)) (sym is) (
+      λ e. absurd (cc),
+      λ e. absurd (cc),
+      λ e. (broke nothing start, took_some o o' start failing, (begins, refl)),
+    )
 
 -- bytes more are pending
 logs_pending : (b b' : Bool) (o o' : OutputState) (pending text more : List ℕ) → LogsPending b b' o o' pending text
@@ -95,10 +106,15 @@ logs_flushed false true b'' o o' o'' pending text h (broken, same) =
 logs_flushed true b' b'' o o' o'' pending text (broken, same) k =
     let (still, kept) = subst (λ (b : Bool). LogsPending b b'' o' o'' [] pending) broken k in (still, kept ∙ same)
 
+-- no text was logged, and then none
+still_none : (l l' l'' : LogSeen) (x y : List ℕ) → (x ≡ [] → l' ≡ l) → (y ≡ [] → l'' ≡ l') → x ++ y ≡ [] → l'' ≡ l
+still_none l l' l'' [] y h k e = k e ∙ h refl
+still_none l l' l'' (b ∷ x) y h k e = absurd (cc)
+
 -- a text was logged, and then another
 pub logged_more : (l l' l'' : LogSeen) (x y : List ℕ) → Logged l l' x → Logged l' l'' y → Logged l l'' (x ++ y)
 logged_more l l' l'' x y h k =
-    all_logged l.broken l''.broken l.output l''.output (x ++ y)
+    all_logged l.broken l''.broken l.output l''.output (x ++ y) (still_none l l' l'' x y h.1 k.1)
     (logs_flushed l.broken l'.broken l''.broken l.output l'.output l''.output y (x ++ y)
     (logs_pending l.broken l'.broken l.output l'.output [] x y
     (pends_nothing l.broken l'.broken l.output l'.output x h))
@@ -137,12 +153,18 @@ adds_flushed o o' p p' k none = record {
       (pends_nothing p.broken p'.broken o o' p.bytes.items k)));
 }
 
--- what was added to an empty line, until nothing waits, was logged
-pub line_logged : (b : Bool) (o o' : OutputState) (p p' : Pending) (text : List ℕ) → p.broken ≡ b
-    → p.bytes.items ≡ [] → p'.bytes.items ≡ [] → Adds o o' p p' text
-    → Logged (log_seen o b) (log_seen o' p'.broken) text
-line_logged b o o' p p' text same none ended a =
-    all_logged b p'.broken o o' text
+-- a text with an end isn't empty
+ends_somewhere : (start : List ℕ) (last : ℕ) → start ++ last ∷ [] ≡ [] → ⊥
+ends_somewhere [] last e = absurd (cc)
+ends_somewhere (b ∷ start) last e = absurd (cc)
+
+-- the line that was added to no bytes, until nothing waits, was logged
+pub line_logged : (b : Bool) (o o' : OutputState) (p p' : Pending) (start : List ℕ) → p.broken ≡ b
+    → p.bytes.items ≡ [] → p'.bytes.items ≡ [] → Adds o o' p p' (start ++ new_line ∷ [])
+    → Logged (log_seen o b) (log_seen o' p'.broken) (start ++ new_line ∷ [])
+line_logged b o o' p p' start same none ended a =
+    let text : List ℕ = start ++ new_line ∷ [] in
+    all_logged b p'.broken o o' text (λ e. absurd (ends_somewhere start new_line e))
     (subst (λ (l : List ℕ). LogsPending b p'.broken o o' l text) ended
     (a.after (record { output = o; broken = b }) []
     (subst (λ (l : List ℕ). LogsPending b p.broken o o l []) (sym none)

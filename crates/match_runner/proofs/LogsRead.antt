@@ -12,7 +12,7 @@ use Rattle.chess_base.specs.declared.man.Colour.{Colour}
 use Rattle.chess_base.specs.Men.{same_colour}
 use Rattle.chess_match.specs.Acts.{Act, Sends, SendFails, Happens, IsMatch}
 use Rattle.chess_match.specs.Effects.{Match, Over, beginning}
-use Rattle.chess_match.specs.Events.{Event, Line, Opened, OutputEnds, FailsToRead, FailsToWrite}
+use Rattle.chess_match.specs.Events.{Event, Line, Opened, Silent, FailsToWrite}
 use Rattle.chess_match.specs.Lines.{SentLine, bytes_of, text_of}
 use Rattle.chess_match.specs.Notes.{Note, Happened, Gives}
 use Rattle.chess_match.specs.Reasons.{is_write_fault_of, reported_reason}
@@ -53,6 +53,7 @@ events_read moment (Happened (Line c (Some text) now) ∷ notes) =
     event_more (Line c (Some text) now) _ _ (events_read now notes)
 events_read moment (Happened (Line c None now) ∷ notes) = event_more (Line c None now) _ _ (events_read now notes)
 events_read moment (Happened (Opened c now) ∷ notes) = events_read now notes
+events_read moment (Happened (Silent c now) ∷ notes) = event_more (Silent c now) _ _ (events_read now notes)
 events_read moment (Happened event ∷ notes) = event_more event _ _ (events_read moment notes)
 events_read moment (Gives c bytes ∷ notes) =
     flat_map-append entry_event (map (sent_entry moment c) (lines_in bytes)) (entries_from moment notes)
@@ -187,6 +188,7 @@ given_read S moment reason (SendFails b ∷ H) =
 given_read S moment reason (Happens (Line c (Some t) now) ∷ H) = given_read S now reason H
 given_read S moment reason (Happens (Line c None now) ∷ H) = given_read S now reason H
 given_read S moment reason (Happens (Opened c now) ∷ H) = given_read S now reason H
+given_read S moment reason (Happens (Silent c now) ∷ H) = given_read S now reason H
 given_read S moment reason (Happens _ ∷ H) = given_read S moment reason H
 
 -- ---- the result

@@ -33,7 +33,7 @@ use Rattle.match_runner.proofs.LogsRead.{logs_give_the_game}
 use Rattle.chess_game.specs.Ends.{verdict}
 
 abbrev rules : GamesPlan → Rules
-rules plan = rules_of plan.start plan.level MOST_MOVES
+rules plan = rules_of plan.start plan.level plan.patience MOST_MOVES
 
 -- the game that a match of these moves leaves, if it ended for this reason
 abbrev left : GamesPlan → Reason → List Move → State
@@ -64,12 +64,12 @@ record IsPlayed (plan : GamesPlan) (played : GameRecord) (H : List Act) (reason 
 
 is_played : (plan : GamesPlan) (played : GameRecord) → IsOfPlan plan played
     → (H : List Act) × (reason : Reason) × (final : Match) × IsPlayed plan played H reason final
-is_played plan played (limit, (H, reason, notes, (final, passed, reported, game))) = (
+is_played plan played (limit, spared, (H, reason, notes, (final, passed, reported, game))) = (
   H,
   reason,
   final,
   record {
-    is_match = subst (λ (n : ℕ). IsMatch (rules_of plan.start plan.level n) H final) limit passed.is_match;
+    is_match = subst (λ (n : ℕ). IsMatch (rules_of plan.start plan.level plan.patience n) H final) limit passed.is_match;
     over = reported.ended;
     notes = notes;
     outcome = sym (ap (λ (t : Outcome × List ℕ × HowEnded). t.0) reported.report);

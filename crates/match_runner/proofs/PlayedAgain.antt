@@ -1,8 +1,8 @@
--- What a line does to a match by a clock that stands still; and what is sent when it ends the match.
+-- What a line or a silence does to a match in which no time is used; and what is sent when it ends the match.
 use Rattle.std.proofs.Common.{◌≡◌, ◌⊎◌, ℕ, ◌+◌, ◌-◌, Bool, true, false, List, [], ◌∷◌, ◌++◌, length, map, refl, ap, sym, ◌∙◌, subst, append_assoc, Option, None, Some, inl, inr, arith}
 use Rattle.std.specs.List.{list_any}
 use Rattle.std.specs.Option.{option_map_or}
-use Rattle.std.specs.Prelude.{if◌then◌else◌, nat_le, nat_lt, ◌==◌, codes}
+use Rattle.std.specs.Prelude.{if◌then◌else◌, nat_le, nat_lt, ◌==◌, codes, unwrap_or}
 use Rattle.std.proofs.lemmas.Bool.Decides.{nat_tests}
 use Rattle.std.proofs.Math.Path.{fun_ext}
 use Rattle.std.proofs.lemmas.List.{length-map, map-append}
@@ -14,7 +14,7 @@ use Rattle.chess_base.specs.Options.{list_if}
 use Rattle.chess_game.specs.declared.verdicts.Verdict.{Verdict}
 use Rattle.cecp_engine.specs.EngineLines.{LineKind, Features, Moves, Resigns, OffersDraw, ClaimsDraw, ClaimsWin, Rejects, Answers}
 use Rattle.cecp_engine.specs.Items.{Item, ends_handshake, items_of}
-use Rattle.chess_match.specs.Effects.{Match, Phase, Handshake, Setup, Opening, BeforeMove, AfterMove, Over, Effect, flag_row, before_move, clock, ends, handshake_done, handshake_row, ignores, is_owed_move, judged, line_row, missing, move_line, move_row, moved, offer_row, ping_number, sends_nothing, sends_to, setup_done, turn_row, with_seat}
+use Rattle.chess_match.specs.Effects.{Match, Phase, Handshake, Setup, Opening, BeforeMove, AfterMove, Over, Effect, flag_row, before_move, clock, ends, handshake_done, handshake_row, ignores, is_owed_move, judged, awaited_since, line_row, reply_row, silence_row, missing, move_line, move_row, moved, offer_row, ping_number, sends_nothing, sends_to, setup_done, turn_row, with_seat}
 use Rattle.chess_match.specs.shared.Parts.{with_answers, farewell}
 use Rattle.chess_text.specs.declared.reading.Reading.{Reading}
 use Rattle.chess_text.specs.declared.reading.Reading.TheVariants as reads
@@ -23,7 +23,7 @@ use Rattle.chess_match.specs.Events.{Seat}
 use Rattle.chess_match.specs.Rules.{Rules, has_bare_king}
 use Rattle.chess_game.specs.declared.verdicts.DrawClaim.{DrawClaim}
 use Rattle.chess_match.specs.declared.reason.MatchFault.{MatchFault}
-use Rattle.chess_match.specs.declared.reason.MatchFault.TheVariants.{Flood, NoDone}
+use Rattle.chess_match.specs.declared.reason.MatchFault.TheVariants.{Flood, NoAnswer, NoDone, NoHandshake}
 use Rattle.chess_match.specs.declared.reason.Reason.{Reason}
 use Rattle.chess_match.specs.Lines.{SentLine, Says, ping}
 use Rattle.chess_match.specs.shared.Parts.{answers_to}
@@ -66,43 +66,50 @@ stops_at r reason m w = record {
   );
 }
 
--- ---- a clock that stands still
-
--- what a match waits for once the lines that open a turn are sent, if the clock always shows 0
-abbrev once_opened : Phase → Phase
-once_opened (Opening S) = BeforeMove S 0
-once_opened phase = phase
+-- ---- no time is used
 
 -- what is known of an engine whose moves took no time
 abbrev zero : Seat → Seat
 zero s = record s { used = map (λ u. 0) s.used }
 
--- what a match in this phase waits for, if the clock always shows 0
+-- what a match in this phase waits for once the lines that open a turn are sent, if that was at the moment 0
 abbrev pub waits : Phase → Phase
 waits (Opening S) = BeforeMove S 0
 waits (BeforeMove S opened) = BeforeMove S 0
 waits phase = phase
 
--- the match `m`, if the clock always shows 0
+-- the match `m`, if its moves took no time and its turn was opened at the moment 0
 abbrev pub again : Match → Match
 again m = record m { phase = waits m.phase; seat = λ S. zero (m.seat S) }
 
 abbrev pub opened : Match → Match
-opened m = record m { phase = once_opened m.phase }
+opened m = record m { phase = waits m.phase }
+
+-- what a match in this phase waits for, if its turn was opened at this moment
+abbrev reopened : ℕ → Phase → Phase
+reopened k (BeforeMove S opened) = BeforeMove S k
+reopened k phase = phase
+
+abbrev pub reopen : ℕ → Match → Match
+reopen k m = record m { phase = reopened k m.phase }
+
+-- the match `m`, if its moves took no time and its turn was opened at this moment
+abbrev pub anew : ℕ → Match → Match
+anew k m = reopen k (again m)
 
 -- no flag fell, and no write failed
 abbrev IsPlain : Reason → Type 0
 IsPlain reason = (ends_by_flag reason ≡ false) × ((S : Colour) → is_write_fault_of reason S ≡ false)
 
--- what is done is done again, and no flag falls
+-- what is done is done again at the moment when the turn was opened, and no flag falls
 pub record Again (r : Rules) (done redone : Effect) : Type 0 where
   pub same : again done.after ≡ opened redone.after
   pub stops : (reason : Reason) → done.after.phase ≡ Over reason
       → (ends_by_flag reason ≡ false) × Stops (shown_reason r done.after reason) reason done.to
 
-pub over_again : (r : Rules) (reason : Reason) (m : Match) → IsPlain reason
-    → Again r (ends r reason m) (ends r reason (again m))
-over_again r reason m h = record {
+pub over_again : (r : Rules) (reason : Reason) (k : ℕ) (m : Match) → IsPlain reason
+    → Again r (ends r reason m) (ends r reason (anew k m))
+over_again r reason k m h = record {
   same = refl;
   stops = λ reason' e. let same : reason ≡ reason' = cc in
       subst (λ (x : Reason). (ends_by_flag x ≡ false) × Stops (shown_reason r m x) x (ends r reason m).to) same
@@ -126,19 +133,20 @@ with_seats : (m : Match) (f g : Colour → Seat) → ((S : Colour) → f S ≡ g
     → (let x : Match = record m { seat = f } in x) ≡ record m { seat = g }
 with_seats m f g e = ap (λ (h : Colour → Seat). let x : Match = record m { seat = h } in x) (fun_ext e)
 
-counted_again : (m : Match) (n : ℕ) → again (record m { count = n }) ≡ opened (record (again m) { count = n })
-counted_again m n = grind arith
+counted_again : (k : ℕ) (m : Match) (n : ℕ)
+    → again (record m { count = n }) ≡ opened (record (anew k m) { count = n })
+counted_again k m n = grind arith
 
 -- a change of a seat that has nothing to do with times
-seated_again : (S : Colour) (change : Seat → Seat) (m : Match) → ((s : Seat) → zero (change s) ≡ change (zero s))
-    → again (with_seat S change m) ≡ with_seat S change (again m)
-seated_again S change m e =
-    with_seats (again m) (λ side. zero (if same_colour side S then change (m.seat side) else m.seat side))
+seated_again : (S : Colour) (change : Seat → Seat) (k : ℕ) (m : Match) → ((s : Seat) → zero (change s) ≡ change (zero s))
+    → anew k (with_seat S change m) ≡ with_seat S change (anew k m)
+seated_again S change k m e =
+    with_seats (anew k m) (λ side. zero (if same_colour side S then change (m.seat side) else m.seat side))
     (λ side. if same_colour side S then change (zero (m.seat side)) else zero (m.seat side))
     (λ side. grind (arith, e (m.seat side)))
 
-opened_again : (m : Match) → again m ≡ opened (again m)
-opened_again m = grind arith
+opened_again : (k : ℕ) (m : Match) → again m ≡ opened (anew k m)
+opened_again k m = grind arith
 
 -- what an engine lacks is no write that failed
 abbrev Lacks : Option MatchFault → Type 0
@@ -148,59 +156,59 @@ Lacks lack = (fault : MatchFault) → lack ≡ Some fault → (c O : Colour)
 lacks : (r : Rules) (items : List Item) → Lacks (missing r items)
 lacks r items fault h1 c O = grind arith
 
-module _ (r : Rules) (S : Colour) (m : Match) (on : is_over m.phase ≡ false) where
-  ignored : Again r (ignores r S m) (ignores r S (again m))
-  ignored = test_again (nat_le 10000 (m.count + 1)) _ _ _ _ (over_again r (over_by.Faulted S Flood) m (refl, λ c. refl))
-      (on_again _ _ (counted_again m (m.count + 1)) on)
+module _ (r : Rules) (S : Colour) (k : ℕ) (m : Match) (on : is_over m.phase ≡ false) where
+  ignored : Again r (ignores r S m) (ignores r S (anew k m))
+  ignored = test_again (nat_le 10000 (m.count + 1)) _ _ _ _ (over_again r (over_by.Faulted S Flood) k m (refl, λ c. refl))
+      (on_again _ _ (counted_again k m (m.count + 1)) on)
 
-  offered : Again r (offer_row r S m) (offer_row r S (again m))
-  offered = test_again (m.seat (other S)).offers _ _ _ _ (over_again r over_by.Agreed m (refl, λ c. refl))
+  offered : Again r (offer_row r S m) (offer_row r S (anew k m))
+  offered = test_again (m.seat (other S)).offers _ _ _ _ (over_again r over_by.Agreed k m (refl, λ c. refl))
       (test_again (m.seat S).offers _ _ _ _ ignored
-      (on_again _ _ (seated_again S (λ s. record s { offers = true }) m (λ s. refl)
-      ∙ ap (λ (n : Match). with_seat S (λ s. record s { offers = true }) n) (opened_again m)) on))
+      (on_again _ _ (opened_again k (with_seat S (λ s. record s { offers = true }) m)
+      ∙ ap opened (seated_again S (λ s. record s { offers = true }) k m (λ s. refl))) on))
 
-  in_turn : (kind : LineKind) → Again r (turn_row r S kind m) (turn_row r S kind (again m))
-  in_turn Resigns = over_again r (over_by.Resigns S) m (refl, λ c. refl)
+  in_turn : (kind : LineKind) → Again r (turn_row r S kind m) (turn_row r S kind (anew k m))
+  in_turn Resigns = over_again r (over_by.Resigns S) k m (refl, λ c. refl)
   in_turn OffersDraw = offered
   in_turn ClaimsDraw = at (draw_claim (claims r.start m.played))
     where
       at : (c : Option DrawClaim)
           → Again r (option_map_or (λ claim. ends r (over_by.Claimed claim) m) c (offer_row r S m))
-          (option_map_or (λ claim. ends r (over_by.Claimed claim) (again m)) c (offer_row r S (again m)))
-      at (Some c) = over_again r (over_by.Claimed c) m (refl, λ c. refl)
+          (option_map_or (λ claim. ends r (over_by.Claimed claim) (anew k m)) c (offer_row r S (anew k m)))
+      at (Some c) = over_again r (over_by.Claimed c) k m (refl, λ c. refl)
       at None = offered
   in_turn (ClaimsWin winner) = at (same_colour winner S)
     where
       at : (b : Bool) → Again r (ends r (if b then over_by.ClaimsFalsely S else over_by.Resigns S) m)
-          (ends r (if b then over_by.ClaimsFalsely S else over_by.Resigns S) (again m))
-      at true = over_again r (over_by.ClaimsFalsely S) m (refl, λ c. refl)
-      at false = over_again r (over_by.Resigns S) m (refl, λ c. refl)
+          (ends r (if b then over_by.ClaimsFalsely S else over_by.Resigns S) (anew k m))
+      at true = over_again r (over_by.ClaimsFalsely S) k m (refl, λ c. refl)
+      at false = over_again r (over_by.Resigns S) k m (refl, λ c. refl)
   in_turn Rejects =
       rw (length-map {B = ℕ} (m.seat (other S)).used (λ u. 0))
-      (test_again (nat_lt 0 (length (m.seat (other S)).used)) _ _ _ _ (over_again r (over_by.RejectsLegalMove S) m (refl, λ c. refl)) ignored)
+      (test_again (nat_lt 0 (length (m.seat (other S)).used)) _ _ _ _ (over_again r (over_by.RejectsLegalMove S) k m (refl, λ c. refl)) ignored)
   in_turn _ = ignored
 
   -- the match after a move
-  moved_again : (move : Move) (used : ℕ) → again (moved S move used m) ≡ moved S move 0 (again m)
-  moved_again move used = with_seats (record (again m) { phase = AfterMove S; played = m.played ++ move ∷ [] })
-      (λ side. zero ((moved S move used m).seat side)) (moved S move 0 (again m)).seat
+  moved_again : (move : Move) (used : ℕ) → again (moved S move used m) ≡ moved S move 0 (anew k m)
+  moved_again move used = with_seats (record (anew k m) { phase = AfterMove S; played = m.played ++ move ∷ [] })
+      (λ side. zero ((moved S move used m).seat side)) (moved S move 0 (anew k m)).seat
       (λ side. grind (arith, map-append {B = ℕ} (λ u. 0) (m.seat side).used (used ∷ [])))
 
   decided_again : (v : Option Verdict) (n : Match) (done redone : Effect) → Again r done redone
       → Again r (option_map_or (λ verdict. ends r (over_by.Decided verdict) n) v done)
-      (option_map_or (λ verdict. ends r (over_by.Decided verdict) (again n)) v redone)
-  decided_again (Some v) n done redone h = over_again r (over_by.Decided v) n (refl, λ c. refl)
+      (option_map_or (λ verdict. ends r (over_by.Decided verdict) (anew k n)) v redone)
+  decided_again (Some v) n done redone h = over_again r (over_by.Decided v) k n (refl, λ c. refl)
   decided_again None n done redone h = h
 
-  before : (used : ℕ) (kind : LineKind) → Again r (before_move r S used kind m) (before_move r S 0 kind (again m))
+  before : (used : ℕ) (kind : LineKind) → Again r (before_move r S used kind m) (before_move r S 0 kind (anew k m))
   before used (Moves t) = test_again (nat_le r.limit (length m.played)) _ _ _ _
-      (over_again r over_by.GameTooLong m (refl, λ c. refl))
+      (over_again r over_by.GameTooLong k m (refl, λ c. refl))
       (at (reading (position_after r.start m.played) t))
     where
-      illegal : Again r (ends r (over_by.MovesIllegally S) m) (ends r (over_by.MovesIllegally S) (again m))
-      illegal = over_again r (over_by.MovesIllegally S) m (refl, λ c. refl)
+      illegal : Again r (ends r (over_by.MovesIllegally S) m) (ends r (over_by.MovesIllegally S) (anew k m))
+      illegal = over_again r (over_by.MovesIllegally S) k m (refl, λ c. refl)
 
-      at : (read : Reading) → Again r (move_row r S used read m) (move_row r S 0 read (again m))
+      at : (read : Reading) → Again r (move_row r S used read m) (move_row r S 0 read (anew k m))
       at reads.Ambiguous = illegal
       at reads.NoSuch = illegal
       at reads.NotAMove = illegal
@@ -212,29 +220,24 @@ module _ (r : Rules) (S : Colour) (m : Match) (on : is_over m.phase ≡ false) w
           (decided_again (verdict r.start (m.played ++ move ∷ [])) (moved S move used m) _ _ (on_again _ _ refl refl))
   before used kind = in_turn kind
 
-  after : (moment : ℕ) (kind : LineKind)
-      → Again r (line_row r (AfterMove S) kind moment m) (line_row r (AfterMove S) kind 0 (again m))
-  after moment (Moves t) = over_again r (over_by.MovesOutOfTurn S) m (refl, λ c. refl)
-  after moment (Answers n) =
+  after : (kind : LineKind)
+      → Again r (line_row r (AfterMove S) kind k m) (line_row r (AfterMove S) kind k (anew k m))
+  after (Moves t) = over_again r (over_by.MovesOutOfTurn S) k m (refl, λ c. refl)
+  after (Answers n) =
       rw (length-map {B = ℕ} (m.seat S).used (λ u. 0))
       (test_again (n == ping_number m S) _ _ _ _ (on_again _ _ refl refl) ignored)
-  after moment kind = in_turn kind
+  after kind = in_turn kind
 
-  setup : (moment : ℕ) (kind : LineKind)
-      → Again r (line_row r (Setup S) kind moment m) (line_row r (Setup S) kind 0 (again m))
-  setup moment (Answers n) = test_again (n == 1) _ _ _ _ (ready S) ignored
-    where
-      ready : (side : Colour) → Again r (setup_done r side m) (setup_done r side (again m))
-      ready White = on_again _ _ refl refl
-      ready Black = decided_again (verdict r.start m.played) m _ _ (on_again _ _ refl refl)
-  setup moment _ = ignored
+  set_up : (side : Colour) → Again r (setup_done r side m) (setup_done r side (anew k m))
+  set_up White = on_again _ _ refl refl
+  set_up Black = decided_again (verdict r.start m.played) m _ _ (on_again _ _ refl refl)
 
-  handshake : (items : List Item) → Again r (handshake_row r S items m) (handshake_row r S items (again m))
+  handshake : (items : List Item) → Again r (handshake_row r S items m) (handshake_row r S items (anew k m))
   handshake items =
       subst (λ (n : Match). Again r (handshake_row r S items m)
       (with_answers S items (if list_any ends_handshake items then handshake_done r S n
       else if nat_le 1000 (m.count + 1) then ends r (over_by.Faulted S NoDone) n
-      else sends_nothing (record n { count = m.count + 1 })))) (seated_again S added m (λ s. refl))
+      else sends_nothing (record n { count = m.count + 1 })))) (seated_again S added k m (λ s. refl))
       (at (list_any ends_handshake items) (nat_le 1000 (m.count + 1)))
     where
       added : Seat → Seat
@@ -245,15 +248,15 @@ module _ (r : Rules) (S : Colour) (m : Match) (on : is_over m.phase ≡ false) w
 
       faulted : (c : Colour) (fault : MatchFault) → ((O : Colour) → is_write_fault_of (over_by.Faulted c fault) O ≡ false)
           → Again r (ends r (over_by.Faulted c fault) (record met { count = 0 }))
-          (ends r (over_by.Faulted c fault) (record (again met) { count = 0 }))
-      faulted c fault h = over_again r (over_by.Faulted c fault) (record met { count = 0 }) (refl, h)
+          (ends r (over_by.Faulted c fault) (record (anew k met) { count = 0 }))
+      faulted c fault h = over_again r (over_by.Faulted c fault) k (record met { count = 0 }) (refl, h)
 
-      both : (w b : Option MatchFault) → Lacks w → Lacks b → Again r (judged r w b met) (judged r w b (again met))
+      both : (w b : Option MatchFault) → Lacks w → Lacks b → Again r (judged r w b met) (judged r w b (anew k met))
       both (Some f) b x y = faulted White f (x f refl White)
       both None (Some f) x y = faulted Black f (y f refl Black)
       both None None x y = on_again _ _ refl refl
 
-      shaken : (side : Colour) → Again r (handshake_done r side met) (handshake_done r side (again met))
+      shaken : (side : Colour) → Again r (handshake_done r side met) (handshake_done r side (anew k met))
       shaken White = on_again _ _ refl refl
       shaken Black = both (missing r (met.seat White).items) (missing r (met.seat Black).items)
           (lacks r (met.seat White).items) (lacks r (met.seat Black).items)
@@ -278,27 +281,44 @@ module _ (r : Rules) (S : Colour) (m : Match) (on : is_over m.phase ≡ false) w
 
       at : (x y : Bool) → Again r (with_answers S items (if x then handshake_done r S met
           else if y then ends r (over_by.Faulted S NoDone) met else sends_nothing (record met { count = m.count + 1 })))
-          (with_answers S items (if x then handshake_done r S (again met)
-          else if y then ends r (over_by.Faulted S NoDone) (again met)
-          else sends_nothing (record (again met) { count = m.count + 1 })))
+          (with_answers S items (if x then handshake_done r S (anew k met)
+          else if y then ends r (over_by.Faulted S NoDone) (anew k met)
+          else sends_nothing (record (anew k met) { count = m.count + 1 })))
       at true y = answered _ _ (shaken S)
-      at false true = answered _ _ (over_again r (over_by.Faulted S NoDone) met (refl, λ c. refl))
-      at false false = answered _ _ (on_again _ _ (counted_again met (m.count + 1)) on)
+      at false true = answered _ _ (over_again r (over_by.Faulted S NoDone) k met (refl, λ c. refl))
+      at false false = answered _ _ (on_again _ _ (counted_again k met (m.count + 1)) on)
 
-  shakes : (moment : ℕ) (kind : LineKind)
-      → Again r (line_row r (Handshake S) kind moment m) (line_row r (Handshake S) kind 0 (again m))
-  shakes moment (Features text) = handshake (items_of text)
-  shakes moment _ = handshake []
+module _ (r : Rules) (S : Colour) (k : ℕ) (m : Match) (on : is_over m.phase ≡ false) where
+  shakes : (kind : LineKind)
+      → Again r (line_row r (Handshake S) kind k m) (line_row r (Handshake S) kind k (anew k m))
+  shakes (Features text) = handshake r S k (awaited_since k m) on (items_of text)
+  shakes _ = handshake r S k m on []
 
--- ---- a line
+  setup : (kind : LineKind) → Again r (line_row r (Setup S) kind k m) (line_row r (Setup S) kind k (anew k m))
+  setup (Answers n) =
+      test_again (n == 1) _ _ _ _ (set_up r S k (awaited_since k m) on S) (ignored r S k m on)
+  setup _ = ignored r S k m on
+
+  -- an engine that owes a reply was silent
+  owes : (fault : MatchFault) → ((O : Colour) → is_write_fault_of (over_by.Faulted S fault) O ≡ false)
+      → Again r (reply_row r S fault k m) (reply_row r S fault k (anew k m))
+  owes fault plain =
+      test_again (option_map_or (λ limit. nat_lt limit (k - unwrap_or m.since k)) r.patience.reply false) _ _ _ _
+      (over_again r (over_by.Faulted S fault) k m (refl, plain))
+      (on_again _ _ (opened_again k (awaited_since (unwrap_or m.since k) m)) on)
+
+-- ---- a line, or a silence
 
 -- a flag fell, and the match ended for that
 abbrev pub Falls : Rules → Match → Effect → Type 0
 Falls r m done = (reason : Reason) × (ends_by_flag reason ≡ true) × (done.after ≡ record m { phase = Over reason })
     × Stops (shown_reason r m reason) reason done.to
 
-none_less : (n : ℕ) → nat_lt n 0 ≡ false
-none_less n = grind (arith, nat_tests)
+no_time : (k : ℕ) → k - k ≡ 0
+no_time k = omega arith
+
+none_less : (n k : ℕ) → nat_lt n (k - k) ≡ false
+none_less n k = grind (arith, nat_tests)
 
 flagged : (r : Rules) (S : Colour) (m : Match) → Falls r m (flag_row r S m)
 flagged r S m = at (has_bare_king (other S) (position_after r.start m.played).men)
@@ -307,23 +327,39 @@ flagged r S m = at (has_bare_king (other S) (position_after r.start m.played).me
     at true = (over_by.ForfeitsToBareKing, refl, refl, stops_at r over_by.ForfeitsToBareKing m (λ O. refl))
     at false = (over_by.Forfeits S, refl, refl, stops_at r (over_by.Forfeits S) m (λ O. refl))
 
-timed : (r : Rules) (S : Colour) (used : ℕ) (kind : LineKind) (m : Match) → is_over m.phase ≡ false → (late : Bool)
-    → Falls r m (if late then flag_row r S m else before_move r S used kind m)
-    ⊎ Again r (if late then flag_row r S m else before_move r S used kind m)
-    (if nat_lt (clock r (again m) S) 0 then flag_row r S (again m) else before_move r S 0 kind (again m))
-timed r S used kind m on true = inl (flagged r S m)
-timed r S used kind m on false = inr (subst (λ (b : Bool). Again r (before_move r S used kind m)
-    (if b then flag_row r S (again m) else before_move r S 0 kind (again m)))
-    (sym (none_less (clock r (again m) S))) (before r S m on used kind))
+-- before a move: the flag fell, or what is done is done again
+timed : (r : Rules) (S : Colour) (k : ℕ) (m : Match) (late : Bool) (done redone : Effect) → Again r done redone
+    → Falls r m (if late then flag_row r S m else done)
+    ⊎ Again r (if late then flag_row r S m else done)
+    (if nat_lt (clock r (anew k m) S) (k - k) then flag_row r S (anew k m) else redone)
+timed r S k m true done redone h = inl (flagged r S m)
+timed r S k m false done redone h = inr (
+    subst (λ (b : Bool). Again r done (if b then flag_row r S (anew k m) else redone))
+    (sym (none_less (clock r (anew k m) S) k)) h)
 
-pub line_again : (r : Rules) (S : Colour) (kind : LineKind) (moment : ℕ) (m : Match) (p : Phase)
+pub line_again : (r : Rules) (S : Colour) (kind : LineKind) (k : ℕ) (m : Match) (p : Phase)
     → awaits_line p S ≡ true → is_over m.phase ≡ false
-    → Falls r m (line_row r p kind moment m)
-    ⊎ Again r (line_row r p kind moment m) (line_row r (waits p) kind 0 (again m))
-line_again r S kind moment m (Handshake c) aw on = inr (shakes r c m on moment kind)
-line_again r S kind moment m (Setup c) aw on = inr (setup r c m on moment kind)
-line_again r S kind moment m (BeforeMove c opened) aw on =
-    timed r c (moment - opened) kind m on (nat_lt (clock r m c) (moment - opened))
-line_again r S kind moment m (AfterMove c) aw on = inr (after r c m on moment kind)
-line_again r S kind moment m (Opening c) aw on = absurd cc
-line_again r S kind moment m (Over reason) aw on = absurd cc
+    → Falls r m (line_row r p kind k m)
+    ⊎ Again r (line_row r p kind k m) (line_row r (reopened k (waits p)) kind k (anew k m))
+line_again r S kind k m (Handshake c) aw on = inr (shakes r c k m on kind)
+line_again r S kind k m (Setup c) aw on = inr (setup r c k m on kind)
+line_again r S kind k m (BeforeMove c opened) aw on =
+    timed r c k m (nat_lt (clock r m c) (k - opened)) _ _
+    (subst (λ (n : ℕ). Again r (before_move r c (k - opened) kind (awaited_since k m))
+    (before_move r c n kind (awaited_since k (anew k m)))) (sym (no_time k))
+    (before r c k (awaited_since k m) on (k - opened) kind))
+line_again r S kind k m (AfterMove c) aw on = inr (after r c k m on kind)
+line_again r S kind k m (Opening c) aw on = absurd cc
+line_again r S kind k m (Over reason) aw on = absurd cc
+
+pub silence_again : (r : Rules) (S : Colour) (k : ℕ) (m : Match) (p : Phase)
+    → awaits_line p S ≡ true → is_over m.phase ≡ false
+    → Falls r m (silence_row r p S k m)
+    ⊎ Again r (silence_row r p S k m) (silence_row r (reopened k (waits p)) S k (anew k m))
+silence_again r S k m (Handshake c) aw on = inr (owes r S k m on NoHandshake (λ O. refl))
+silence_again r S k m (Setup c) aw on = inr (owes r S k m on NoAnswer (λ O. refl))
+silence_again r S k m (BeforeMove c opened) aw on =
+    timed r S k m (nat_lt (clock r m S) (k - opened)) _ _ (on_again _ _ (opened_again k m) on)
+silence_again r S k m (AfterMove c) aw on = inr (owes r S k m on NoAnswer (λ O. refl))
+silence_again r S k m (Opening c) aw on = absurd cc
+silence_again r S k m (Over reason) aw on = absurd cc

@@ -2,15 +2,16 @@
 use Rattle.std.proofs.Common.{◌≡◌, ◌⊎◌, ℕ, Bool, true, false, List, [], ◌∷◌, ◌++◌, map, refl, ap, sym, ◌∙◌, subst, append_assoc, inl, inr, arith}
 use Rattle.std.specs.Prelude.{if◌then◌else◌, fold}
 use Rattle.std.specs.List.{AllByRecursion}
+use Rattle.std.proofs.lemmas.Bool.{and_parts}
 use Rattle.std.proofs.lemmas.List.{map-append}
 use Rattle.chess_base.specs.declared.man.Colour.{Colour}
 use Rattle.chess_base.specs.declared.man.Colour.TheVariants.{White, Black}
 use Rattle.chess_base.specs.Men.{other}
 use Rattle.chess_base.specs.Options.{list_if}
-use Rattle.chess_match.specs.Acts.{Act, Block, Sends, SendFails, Happens, IsMatch, IsMatchFrom, awaits_line, block_of, blocks_from, is_over}
+use Rattle.chess_match.specs.Acts.{Act, Block, Sends, SendFails, Happens, IsMatch, IsMatchFrom, awaits_line, block_of, blocks_from, is_limited, is_over}
 use Rattle.chess_match.specs.shared.Parts.{blocks_after}
 use Rattle.chess_match.specs.Effects.{Match, Phase, Opening, Over, beginning, effect, ends, is_owed_move, move_line}
-use Rattle.chess_match.specs.Events.{Event, Line, Opened, OutputEnds, FailsToRead, FailsToWrite}
+use Rattle.chess_match.specs.Events.{Event, Line, Opened, Silent, OutputEnds, FailsToRead, FailsToWrite}
 use Rattle.chess_match.specs.Lines.{SentLine, bytes_of}
 use Rattle.chess_match.specs.Notes.{Note, Happened, Gives}
 use Rattle.chess_match.specs.Reasons.{is_write_fault_of}
@@ -20,7 +21,7 @@ use Rattle.chess_match.specs.declared.reason.Reason.{Reason}
 use Rattle.chess_match.specs.declared.reason.Reason.TheVariants.{Faulted}
 use Rattle.chess_match.specs.laws.Laws.{events_in, line_kind, notes_given}
 use Rattle.match_runner.specs.laws.ReadBack.{events_shown}
-use Rattle.match_runner.proofs.PlayedAgain.{Again, Falls, Stops, again, ends_by_flag, last_lines, line_again, opened, over_again, shown_reason, waits}
+use Rattle.match_runner.proofs.PlayedAgain.{Again, Falls, Stops, again, anew, ends_by_flag, last_lines, line_again, opened, over_again, reopen, shown_reason, silence_again, waits}
 
 -- ---- the last notes
 
@@ -122,14 +123,15 @@ unsent_more reason b s l l' q w e =
 
 -- ---- a match that is on
 
--- this event, if the clock always shows 0
-abbrev at_zero : Event → Event
-at_zero (Line S text moment) = Line S text 0
-at_zero e = e
+-- the moment of an event that is shown
+abbrev moment_of : Event → ℕ
+moment_of (Line S text moment) = moment
+moment_of (Silent S moment) = moment
+moment_of e = 0
 
--- the match after an event that is shown
+-- the match after an event that is shown, at whose moment its turn was opened
 abbrev step : Rules → Match → Event → Match
-step r m e = opened (effect r m (at_zero e)).after
+step r m e = opened (effect r (reopen (moment_of e) m) e).after
 
 -- these events but the last, if a flag fell at that
 abbrev in_time : Bool → List Event → List Event
@@ -210,7 +212,7 @@ module _ (r : Rules) (reason : Reason) (final : Match) (over : final.phase ≡ O
 
   shown_event : (m : Match) (e : Event) (first : Colour) (notes : List Note)
       → ((es : List Event) → events_shown (e ∷ es) ≡ e ∷ events_shown es)
-      → Falls r m (effect r m e) ⊎ Again r (effect r m e) (effect r (again m) (at_zero e))
+      → Falls r m (effect r m e) ⊎ Again r (effect r m e) (effect r (anew (moment_of e) m) e)
       → Leads r reason final (effect r m e).after (blocks_from first (effect r m e).to) notes
       → Goes r reason final m (Happened e ∷ notes)
   shown_event m e first notes shown (inl (x, flag, is, stops)) g =
@@ -310,16 +312,23 @@ module _ (r : Rules) (reason : Reason) (final : Match) (over : final.phase ≡ O
           subst (λ (n : Match). Same late final (replayed r late n es)) (on_opened m S k o) p.same;
     },
   )
+  leads m [] (Happens (Silent S k) ∷ H) (may, g) =
+      let aw = (and_parts (awaits_line m.phase S) (is_limited r.patience m.phase) may).0 in (
+        awaiting m S [] _ aw,
+        λ on. shown_event m (Silent S k) White (notes_given reason H) (λ es. refl)
+            (silence_again r S k m m.phase aw on)
+            (leads (effect r m (Silent S k)).after (blocks_from White (effect r m (Silent S k)).to) H g),
+      )
   leads m [] (Happens (OutputEnds S) ∷ H) (aw, g) = (
     awaiting m S [] _ aw,
     λ on. shown_event m (OutputEnds S) White (notes_given reason H) (λ es. refl)
-        (inr (over_again r (Faulted S Ended) m (refl, λ O. refl)))
+        (inr (over_again r (Faulted S Ended) 0 m (refl, λ O. refl)))
         (leads (effect r m (OutputEnds S)).after (blocks_from White (effect r m (OutputEnds S)).to) H g),
   )
   leads m [] (Happens (FailsToRead S) ∷ H) (aw, g) = (
     awaiting m S [] _ aw,
     λ on. shown_event m (FailsToRead S) White (notes_given reason H) (λ es. refl)
-        (inr (over_again r (Faulted S Read) m (refl, λ O. refl)))
+        (inr (over_again r (Faulted S Read) 0 m (refl, λ O. refl)))
         (leads (effect r m (FailsToRead S)).after (blocks_from White (effect r m (FailsToRead S)).to) H g),
   )
   leads m [] (Happens (FailsToWrite S) ∷ H) (never, g) = absurd never

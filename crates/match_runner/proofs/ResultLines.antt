@@ -9,7 +9,7 @@ use Rattle.chess_base.specs.declared.man.Colour.TheVariants.{White, Black}
 use Rattle.chess_game.specs.Ends.{result_text}
 use Rattle.chess_game.specs.declared.verdicts.Verdict.TheVariants.{WhiteMates, BlackMates, Stalemate, InsufficientMaterial, FivefoldRepetition, SeventyFiveMoves}
 use Rattle.chess_game.specs.declared.verdicts.DrawClaim.TheVariants.{Threefold, FiftyMoves}
-use Rattle.chess_match.specs.declared.reason.MatchFault.TheVariants.{Ended, Read, Write, NoDone, NoPing, NoSetboard, Flood, NoVariant}
+use Rattle.chess_match.specs.declared.reason.MatchFault.TheVariants.{Ended, Read, Write, NoDone, NoPing, NoSetboard, Flood, NoVariant, NoHandshake, NoAnswer}
 use Rattle.chess_match.specs.declared.reason.Reason.{Reason}
 use Rattle.chess_match.specs.declared.reason.Reason.TheVariants.{Decided, Claimed, Agreed, Resigns, MovesIllegally, MovesOutOfTurn, ClaimsFalsely, RejectsLegalMove, Forfeits, ForfeitsToBareKing, GameTooLong, Faulted}
 use Rattle.match_runner.specs.laws.ReadBack.{text_of_result}
@@ -19,7 +19,7 @@ abbrev reasons_of : Colour → List Reason
 reasons_of c =
     Resigns c ∷ MovesIllegally c ∷ MovesOutOfTurn c ∷ ClaimsFalsely c ∷ RejectsLegalMove c ∷ Forfeits c
     ∷ Faulted c Ended ∷ Faulted c Read ∷ Faulted c Write ∷ Faulted c NoDone ∷ Faulted c NoPing ∷ Faulted c NoSetboard
-    ∷ Faulted c Flood ∷ Faulted c NoVariant ∷ []
+    ∷ Faulted c Flood ∷ Faulted c NoVariant ∷ Faulted c NoHandshake ∷ Faulted c NoAnswer ∷ []
 
 abbrev others : List Reason
 others =

@@ -1,6 +1,6 @@
 -- The games of a match: who plays which colour, how each is reported, and the score. A match is here all games of a
 -- plan between two engines; in chess_match it is one game.
-use Rattle.std.specs.Prelude.{◌≡◌, ◌⊎◌, ℕ, ◌+◌, ◌<◌, ◌≤◌, ◌%◌, ◌==◌, Bool, true, false, if◌then◌else◌, List, [], ◌∷◌, ◌++◌, length, count_by, flat_map, codes, decimal, Option, None, Some, Result, Ok, Err}
+use Rattle.std.specs.Prelude.{◌≡◌, ◌⊎◌, ℕ, ◌+◌, ◌<◌, ◌≤◌, ◌%◌, ◌==◌, Bool, false, if◌then◌else◌, List, [], ◌∷◌, ◌++◌, length, count_by, flat_map, codes, decimal, Option, None, Some, Result, Ok, Err}
 use Rattle.std.specs.Option.{option_to_list}
 use Rattle.std.specs.List.{AllByRecursion, enumerate_from}
 use Rattle.chess_base.specs.Letters.{new_line}
@@ -9,13 +9,15 @@ use Rattle.chess_game.specs.declared.results.Outcome.{Outcome}
 use Rattle.chess_game.specs.declared.results.Outcome.TheVariants.{Draw, Unfinished}
 use Rattle.chess_game.specs.Results.{same_outcome, cut_tag}
 use Rattle.chess_base.specs.Men.{other, same_colour}
+use Rattle.chess_base.specs.Options.{list_if}
+use Rattle.chess_base.specs.declared.by_colour.ByColour.{ByColour}
 use Rattle.chess_base.specs.declared.man.Colour.{Colour}
 use Rattle.chess_base.specs.declared.man.Colour.TheVariants.{White, Black}
 use Rattle.byte_devices.specs.Devices.{OutputState}
 use Rattle.byte_devices.specs.Transfers.{ToOutput, OutputTook, all_of, all_for, BreaksOffIn}
 use Rattle.chess_match.specs.Acts.{Act}
 use Rattle.chess_match.specs.ByDevice.{notes_of}
-use Rattle.chess_match.specs.Reasons.{comment_of, win_of}
+use Rattle.chess_match.specs.Reasons.{colour_name, comment_of, win_of}
 use Rattle.chess_match.specs.Notes.{Note}
 use Rattle.chess_match.specs.Played.{World, PlayedBy}
 use Rattle.chess_match.specs.declared.reason.MatchFault.{MatchFault}
@@ -72,15 +74,23 @@ pub record GameRecord : Type 0 where
   -- the events, and the bytes of each block for an engine, even if sending it failed, in order (`notes_of`); the log
   -- is made from these
   pub notes : List Note
+  -- which engines were killed, as they had not ended in time after their inputs were closed
+  pub killed : ByColour Bool
 
--- `played` is the record of one game, which was played from the start of `plan`, with its time control and with at most
--- 20,000 half-moves (`MOST_MOVES`): there are acts `H` and a reason why the game ended, by which `before` became
--- `after`; `end` is what is reported of them, and `notes` are their notes. Which engines played it is said neither here
--- nor in any other definition that `RanProgram` uses
+-- no engine was killed
+abbrev pub none_killed : ByColour Bool
+none_killed = record { white = false; black = false }
+
+-- `played` is the record of one game, which was played from the start of `plan`, with its time control and patience and
+-- with at most 20,000 half-moves (`MOST_MOVES`): there are acts `H` and a reason why the game ended, by which `before`
+-- became `after`; `end` is what is reported of them, and `notes` are their notes. No engine was killed if replies have
+-- no limit. Which engines played it is said neither here nor in any other definition that `RanProgram` uses
 abbrev pub IsOfPlan : GamesPlan → GameRecord → Type 0
 IsOfPlan plan played = (played.before.game.limit ≡ MOST_MOVES)
+    × (plan.patience.reply ≡ None → played.killed ≡ none_killed)
     × ((H : List Act) × (reason : Reason) × (flat_map (notes_of reason) H ≡ played.notes)
-    × PlayedBy H reason (record { start = plan.start; level = plan.level }) played.end played.before played.after)
+    × PlayedBy H reason (record { start = plan.start; level = plan.level; patience = plan.patience })
+    played.end played.before played.after)
 
 -- the PGN of the game `played`, which has this number: its tags, and its moves and result. `[]`: no line has a prefix
 abbrev pub game_text : GamesPlan → ℕ → GameRecord → List ℕ
@@ -108,12 +118,27 @@ FaultlessGames plan games = AllByRecursion (λ played. IsOfPlan plan played × (
 abbrev pub game_texts : GamesPlan → List GameRecord → List ℕ
 game_texts plan games = flat_map (λ g. game_text plan g.0 g.1) (enumerate_from 1 games)
 
--- from the log's state `l` to `l'` these games were logged one after another, if the flag is true (the plan asks for a
--- log), though a write of the log may have failed (`Logged`). They are numbered from 1: in the odd ones the engine of
--- `--white` has White. If the flag is false, nothing was logged
-abbrev pub LogsGames : Bool → LogSeen → LogSeen → List GameRecord → Type 0
-LogsGames false l l' games = l' ≡ l
-LogsGames true l l' games = Logged l l' (flat_map (λ g. log_from (first_side g.0) 0 g.1.notes) (enumerate_from 1 games))
+-- the line that says that the engine of this side was killed after the game of this number, such as
+-- `arbiter: game 3: White did not exit, and was killed`
+abbrev pub killed_line : ℕ → Colour → List ℕ
+killed_line number side = codes "arbiter: game " ++ decimal number ++ codes ": " ++ colour_name side
+    ++ codes " did not exit, and was killed" ++ new_line ∷ []
+
+-- the lines of the engines that were killed after the game of this number, White's first
+abbrev pub killed_lines : ℕ → ByColour Bool → List ℕ
+killed_lines number killed =
+    list_if killed.white (killed_line number White) ++ list_if killed.black (killed_line number Black)
+
+-- what is logged of the game `played`, which has this number: its notes, if the plan asks for a log, where in odd games
+-- the engine of `--white` has White; and in any case a line for each engine that was killed
+abbrev pub game_log : GamesPlan → ℕ → GameRecord → List ℕ
+game_log plan number played = list_if plan.log (log_from (first_side number) 0 played.notes)
+    ++ killed_lines number played.killed
+
+-- from the log's state `l` to `l'` what there is of these games was logged, one after another, though a write of the
+-- log may have failed (`Logged`; if there is nothing, the log is as it was). The games are numbered from 1
+abbrev pub LogsGames : GamesPlan → LogSeen → LogSeen → List GameRecord → Type 0
+LogsGames plan l l' games = Logged l l' (flat_map (λ g. game_log plan g.0 g.1) (enumerate_from 1 games))
 
 -- how many of these games, numbered from 1, have the outcome that `wanted` gives for their number
 abbrev pub count_of : (ℕ → Outcome) → List GameRecord → ℕ
@@ -175,13 +200,13 @@ WritesGames plan _ games (Some unwritten) o = ⊥
 
 -- what playing a match does, by its result. Either games were played, maybe none: the PGN of `games` was written;
 -- `unwritten` was played after them, but its PGN could not be written (`None`: there is no such game); the output,
--- which was `w` and is now `w'`, was written to as `WritesGames` says; and if the plan asks for a log, all these games
--- were logged, `unwritten` too (the log was `l` and is now `l'`). Or memory ran out before the first game, and nothing
--- was written or logged
+-- which was `w` and is now `w'`, was written to as `WritesGames` says; and all these games were logged, `unwritten`
+-- too, as `LogsGames` says (the log was `l` and is now `l'`). Or memory ran out before the first game, and nothing was
+-- written or logged
 abbrev pub PlaysGames : GamesPlan → Result (Unit {0}) GamesFault → OutputState → OutputState → LogSeen → LogSeen
     → Type 0
 PlaysGames plan result w w' l l' =
     ((games : List GameRecord) × (unwritten : Option GameRecord) × (o : ToOutput)
     × WritesGames plan result games unwritten o × OutputTook w w' o
-    × LogsGames plan.log l l' (games ++ option_to_list unwritten))
+    × LogsGames plan l l' (games ++ option_to_list unwritten))
     ⊎ ((result ≡ Err NoMemory) × (w' ≡ w) × (l' ≡ l))

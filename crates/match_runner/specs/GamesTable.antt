@@ -3,12 +3,13 @@ use Rattle.std.specs.Prelude.{ℕ, ◌+◌, Bool, if◌then◌else◌, List, [],
 use Rattle.std.specs.List.{enumerate_from}
 use Rattle.std.specs.Option.{option_to_list}
 use Rattle.chess_base.specs.declared.man.Colour.TheVariants.{White, Black}
+use Rattle.chess_base.specs.declared.by_colour.ByColour.{ByColour}
 use Rattle.match_runner.specs.declared.fault.GamesFault.{GamesFault}
 use Rattle.match_runner.specs.declared.fault.GamesFault.TheVariants.{NoMemory, CanNotStart}
 use Rattle.match_runner.specs.declared.plan.GamesPlan.{GamesPlan}
 use Rattle.byte_devices.specs.Devices.{OutputState}
 use Rattle.byte_devices.specs.Transfers.{ToOutput, OutputTook}
-use Rattle.match_runner.specs.Games.{GameRecord, LogsGames, WritesGames, engine_command, game_text}
+use Rattle.match_runner.specs.Games.{GameRecord, LogsGames, WritesGames, engine_command, game_text, none_killed}
 use Rattle.match_runner.specs.Log.{LogSeen}
 
 -- one step of playing a match's games: one call of a method of the trait `GamesTable`. A table starts the engines,
@@ -18,14 +19,14 @@ pub data GamesStep : Type 0 where
   Starts : (white : List ℕ) → (black : List ℕ) → GamesStep
   -- one of them could not be started, and neither runs
   StartFails : (white : List ℕ) → (black : List ℕ) → GamesStep
-  -- they played this game
+  -- they played this game; its record says of no engine yet that it was killed
   Plays : (played : GameRecord) → GamesStep
   -- this text was written and flushed
   Writes : (text : List ℕ) → GamesStep
   -- a write or a flush failed, while this text was written
   WriteFails : (text : List ℕ) → GamesStep
-  -- the engines' inputs were closed, and their ends were waited for
-  Finishes : GamesStep
+  -- the engines' inputs were closed, and their ends were waited for; those that had not ended in time were killed
+  Finishes : (killed : ByColour Bool) → GamesStep
 
 -- ---- one call
 
@@ -55,15 +56,17 @@ pub record StepsPass (old new : GamesPassing) (steps : List GamesStep) : Type 0 
 -- flushed, and then its engines are waited for
 abbrev pub game_steps : GamesPlan → ℕ → GameRecord → List GamesStep
 game_steps plan number played =
-    Starts (engine_command plan number White) (engine_command plan number Black) ∷ Plays played
-    ∷ Writes (game_text plan number played) ∷ Finishes ∷ []
+    Starts (engine_command plan number White) (engine_command plan number Black)
+    ∷ Plays (record played { killed = none_killed }) ∷ Writes (game_text plan number played)
+    ∷ Finishes played.killed ∷ []
 
 -- the steps of the game `played`, which has this number, if its PGN can't be written: `WriteFails` takes the place of
 -- `Writes`, and its engines are waited for too
 abbrev pub unwritten_steps : GamesPlan → ℕ → GameRecord → List GamesStep
 unwritten_steps plan number played =
-    Starts (engine_command plan number White) (engine_command plan number Black) ∷ Plays played
-    ∷ WriteFails (game_text plan number played) ∷ Finishes ∷ []
+    Starts (engine_command plan number White) (engine_command plan number Black)
+    ∷ Plays (record played { killed = none_killed }) ∷ WriteFails (game_text plan number played)
+    ∷ Finishes played.killed ∷ []
 
 -- the step of a game with this number whose engines can't be started
 abbrev pub unstarted_steps : GamesPlan → ℕ → List GamesStep
@@ -102,5 +105,5 @@ abbrev pub PlaysGamesAt : GamesPlan → Result (Unit {0}) GamesFault → GamesPa
 PlaysGamesAt plan result p p' d d' =
     (games : List GameRecord) × (unwritten : Option GameRecord)
     × ((o : ToOutput) × WritesGames plan result games unwritten o × OutputTook d.output d'.output o
-    × LogsGames plan.log d.log d'.log (games ++ option_to_list unwritten))
+    × LogsGames plan d.log d'.log (games ++ option_to_list unwritten))
     × StepsPass p p' (games_steps plan games ++ last_steps plan (length games + 1) result unwritten)

@@ -1,5 +1,6 @@
 -- What a log of a match holds: a line for each line that an engine sends or is sent, as XBoard's debug file has them,
--- and one for each end of an engine's output, each failure to read or write, and each line that is too long.
+-- and one for each line that had not come or is too long, each end of an engine's output, and each failure to read or
+-- write.
 use Rattle.std.specs.Prelude.{◌≡◌, ℕ, ◌==◌, if◌then◌else◌, List, [], ◌∷◌, ◌++◌, flat_map, map, codes, decimal, Bool, true, false, Some, None}
 use Rattle.std.specs.List.{onto_first}
 use Rattle.chess_base.specs.Letters.{byte, new_line}
@@ -8,7 +9,7 @@ use Rattle.chess_base.specs.Men.{same_colour}
 use Rattle.byte_devices.specs.Devices.{OutputState, Begins}
 use Rattle.byte_devices.specs.Transfers.{ToOutput, OutputTook, all_for}
 use Rattle.chess_game.specs.Results.{shown_byte}
-use Rattle.chess_match.specs.Events.{Line, Opened, OutputEnds, FailsToRead, FailsToWrite}
+use Rattle.chess_match.specs.Events.{Line, Opened, Silent, OutputEnds, FailsToRead, FailsToWrite}
 use Rattle.chess_match.specs.Notes.{Note, Happened, Gives}
 use Rattle.match_runner.specs.declared.log.Log.{Log}
 
@@ -32,28 +33,31 @@ lines_in [] = []
 lines_in (b ∷ bs) = if b == new_line then [] ∷ lines_in bs else onto_first b (lines_in bs)
 
 -- what the log has for a note: one line, but for `Gives` one for each line that the engine is sent, and for `Opened`
--- none, as a `Gives` has the lines that open the turn. The line of a `Line` has its own moment, `now`; the others have
--- `moment`, the clock's reading at the last `Line` or `Opened` before this note, or 0 if there was none. `first` is the
--- side of the engine of `--white`
+-- none, as a `Gives` has the lines that open the turn. The line of a `Line` or a `Silent` has its own moment, `now`;
+-- the others have `moment`, the clock's reading at the last `Line`, `Silent` or `Opened` before this note, or 0 if
+-- there was none. `first` is the side of the engine of `--white`
 abbrev pub note_text : Colour → ℕ → Note → List ℕ
 note_text first moment (Happened (Line c (Some text) now)) = log_line first now (byte "<") c text
 note_text first moment (Happened (Line c None now)) = log_line first now (byte "!") c (codes "line too long")
 note_text first moment (Happened (Opened c now)) = []
+note_text first moment (Happened (Silent c now)) = log_line first now (byte "!") c (codes "no line")
 note_text first moment (Happened (OutputEnds c)) = log_line first moment (byte "!") c (codes "output ended")
 note_text first moment (Happened (FailsToRead c)) = log_line first moment (byte "!") c (codes "read failed")
 note_text first moment (Happened (FailsToWrite c)) = log_line first moment (byte "!") c (codes "write failed")
 note_text first moment (Gives c bytes) = flat_map (log_line first moment (byte ">") c) (lines_in bytes)
 
--- the clock's reading at the last `Line` or `Opened` up to this note: its own (`now`) if it is one of these, and
--- otherwise that of the last one before it (`moment`)
+-- the clock's reading at the last `Line`, `Silent` or `Opened` up to this note: its own (`now`) if it is one of these,
+-- and otherwise that of the last one before it (`moment`)
 abbrev pub moment_after : ℕ → Note → ℕ
 moment_after moment (Happened (Line c text now)) = now
 moment_after moment (Happened (Opened c now)) = now
+moment_after moment (Happened (Silent c now)) = now
 moment_after moment _ = moment
 
 -- what the log has for these notes, one after another. `first` is the side of the engine of `--white`; `moment` is the
--- clock's reading at the last `Line` or `Opened` before these notes, or 0 if there was none. With 0 and all notes of a
--- game it is the whole log of the game: the clock is first read in it after engines were sent their first lines
+-- clock's reading at the last `Line`, `Silent` or `Opened` before these notes, or 0 if there was none. With 0 and all
+-- notes of a game it is the whole log of the game: the clock is first read in it after engines were sent their first
+-- lines
 abbrev pub log_from : Colour → ℕ → List Note → List ℕ
 log_from first moment [] = []
 log_from first moment (n ∷ notes) = note_text first moment n ++ log_from first (moment_after moment n) notes
@@ -77,10 +81,10 @@ abbrev pub LogsText : Bool → List ℕ → ToOutput → Type 0
 LogsText false text o = o ≡ all_for text text
 LogsText true text o = Begins (o.flushed ++ o.left) text × (o.failed ≡ true)
 
--- from its state `l` to `l'` a log was given this text to write. A log that is broken in `l` stays as it is; any other
--- writes and flushes all of the text, or breaks while it does so (`LogsText`)
+-- from its state `l` to `l'` a log was given this text to write. A log that is broken in `l` stays as it is, and so
+-- does one that is given no text; any other writes and flushes all of the text, or breaks while it does so (`LogsText`)
 abbrev pub Logged : LogSeen → LogSeen → List ℕ → Type 0
-Logged l l' text = (l.broken ≡ true → l' ≡ l)
+Logged l l' text = (l.broken ≡ true → l' ≡ l) × (text ≡ [] → l' ≡ l)
     × (l.broken ≡ false → (o : ToOutput) × OutputTook l.output l'.output o × LogsText l'.broken text o)
 
 -- a log was given this note, which took it from `l` to `l'`: the note's lines were given to it to write (`Logged`), its

@@ -1,13 +1,15 @@
 //! Engines as processes.
 
-ghost use Rattle.std.specs.Prelude.{◌≡◌, ◌≢◌, ◌⊎◌, IfErr};
+ghost use Rattle.std.specs.Prelude.{◌≡◌, ◌≢◌, ◌⊎◌, IfErr, None, false};
 ghost use Rattle.std.specs.IoError.{error_kind};
+ghost use Rattle.match_runner.specs.Games.{none_killed};
 ghost use Rattle.match_runner.specs.ties.Playing.{FailsToStart};
 
 use crate::fault::GamesFault;
-use byte_devices::Counted;
+use crate::moments::SinceStart;
+use crate::pipes::{EngineInput, EngineOutput};
 use chess_base::ByColour;
-use chess_match::Ends;
+use chess_match::{Ends, Moments};
 use std::alloc::Global;
 use std::io::{self, ErrorKind};
 use std::process::{Child, Command, OpenProcess, Processes, Stdio};
@@ -17,22 +19,22 @@ use std::time::Duration;
 
 /// A running engine, with this process's ends of its pipes.
 #[derive(Drop)]
-pub(crate) struct Engine<P: OpenProcess + Drop> {
+pub(crate) struct Engine<'t, T, P: OpenProcess + Drop> {
     pub child: Child<P>,
     /// What reads its output, and what writes its input.
-    pub ends: Ends<Counted<P::Stdout>, Counted<P::Stdin>>,
+    pub ends: Ends<EngineOutput<'t, T, P::Stdout>, EngineInput<P::Stdin>>,
 }
 
 /// Both engines of a game, with this process's ends of their pipes.
 #[derive(Drop)]
-pub(crate) struct Engines<P: OpenProcess + Drop> {
+pub(crate) struct Engines<'t, T, P: OpenProcess + Drop> {
     pub children: ByColour<Child<P>>,
-    pub ends: ByColour<Ends<Counted<P::Stdout>, Counted<P::Stdin>>>,
+    pub ends: ByColour<Ends<EngineOutput<'t, T, P::Stdout>, EngineInput<P::Stdin>>>,
 }
 
-impl<P: OpenProcess + Drop> Engines<P> {
+impl<'t, T, P: OpenProcess + Drop> Engines<'t, T, P> {
     /// Two running engines, White's and Black's.
-    pub fn of(white: Engine<P>, black: Engine<P>) -> Self {
+    pub fn of(white: Engine<'t, T, P>, black: Engine<'t, T, P>) -> Self {
         let Engine {
             child: white_child,
             ends: white_ends,
@@ -54,11 +56,12 @@ impl<P: OpenProcess + Drop> Engines<P> {
     }
 }
 
-/// What starts engines.
+/// What starts engines, and the clock of the match.
 #[derive(Drop)]
-pub(crate) struct Host<'r, R> {
-    pub rt: &'r R,
+pub(crate) struct Host<'t, R> {
+    pub rt: &'t R,
     pub alloc: Global,
+    pub clock: SinceStart<'t, R>,
 }
 
 // Why the engine with this command could not be started, by the system's error: out of memory, or anything else.
@@ -108,24 +111,25 @@ fn spawn<'a, R: Processes>(
 }
 
 /// Starts an engine by its command, split at spaces and tabs, with pipes at its input and output; its error output is
-/// that of this process. A name without a slash is looked for on the path.
+/// that of this process. A name without a slash is looked for on the path. A write to it waits for at most `limit`
+/// milliseconds, if there is a limit.
 ///
 /// # Errors
 /// If the command is empty, the system can't start the program, or memory runs out.
-fn start<'a, R: Processes>(
-    rt: &R,
-    alloc: Global,
+fn start<'a, 't, R: Processes + Clock>(
+    host: &Host<'t, R>,
     text: &'a str,
-) -> Result<Engine<R::Started>, GamesFault<'a>>
+    limit: Option<u64>,
+) -> Result<Engine<'t, R, R::Started>, GamesFault<'a>>
     ensures { IfErr result (FailsToStart text.entry.now) }
 {
-    let mut child = spawn(rt, alloc, text)?;
+    let mut child = spawn(host.rt, host.alloc, text)?;
     match (child.stdin.take(), child.stdout.take()) {
         (Some(input), Some(output)) => Ok(Engine {
             child,
             ends: Ends {
-                reader: Counted::reading(output),
-                writer: Counted::writing(input),
+                reader: EngineOutput::new(output, host.clock.again()),
+                writer: EngineInput::new(input, limit),
             },
         }),
         (input, output) => {
@@ -152,27 +156,93 @@ fn give_grace<C: Clock, P: OpenProcess>(rt: &C, child: &mut Child<P>) {
     }
 }
 
-// Gives an engine whose input is closed half a second to end by itself, closes its output and waits for its end.
-fn await_end<C: Clock, P: OpenProcess + Drop>(
-    rt: &C,
-    mut child: Child<P>,
-    reader: Counted<P::Stdout>,
-) {
-    give_grace(rt, &mut child);
-    drop(reader);
-    let _ = child.wait();
+// How often an engine is asked at most whether it has ended, at intervals of a millisecond, before it is killed: more
+// often than a limit of 999 seconds needs.
+const MOST_WAITS: u32 = 2_000_000;
+
+// Waits until this engine has ended, at most until the clock shows `until`. Returns whether it has.
+fn ends_by<R: Clock, P: OpenProcess>(host: &Host<'_, R>, child: &mut Child<P>, until: u64) -> bool {
+    let mut clock = host.clock.again();
+    for _ in 0..MOST_WAITS {
+        match child.try_wait() {
+            Ok(None) => {}
+            _ => return true,
+        }
+        if clock.now() >= until {
+            return false;
+        }
+        thread::sleep(host.rt, Duration::from_millis(1));
+    }
+    false
 }
 
-/// Closes an engine's input, gives it half a second to end by itself, closes its output and waits for its end.
-fn finish<C: Clock, P: OpenProcess + Drop>(rt: &C, engine: Engine<P>) {
+// Waits until this engine has ended. If there is a moment `until`, the engine is killed when the clock shows it; one
+// that the system doesn't let this process kill is left alone. Returns whether it was killed.
+fn end_by<R: Clock, P: OpenProcess>(
+    host: &Host<'_, R>,
+    child: &mut Child<P>,
+    until: Option<u64>,
+) -> bool
+    ensures { until ≡ None → result ≡ false }
+{
+    let is_late = match until {
+        None => false,
+        Some(until) => !ends_by(host, child, until),
+    };
+    if is_late && child.kill().is_err() {
+        return false;
+    }
+    let _ = child.wait();
+    is_late
+}
+
+// Gives an engine whose input is closed half a second to end by itself, closes its output and waits for its end, as
+// `end_by` does. Returns whether it was killed.
+fn await_end<'t, R: Clock, P: OpenProcess + Drop>(
+    host: &Host<'t, R>,
+    mut child: Child<P>,
+    reader: EngineOutput<'t, R, P::Stdout>,
+    until: Option<u64>,
+) -> bool
+    ensures { until ≡ None → result ≡ false }
+{
+    give_grace(host.rt, &mut child);
+    drop(reader);
+    end_by(host, &mut child, until)
+}
+
+// The moment when so many milliseconds will have passed by the clock of the match, if there is such a limit.
+fn moment_after<R: Clock>(host: &Host<'_, R>, limit: Option<u64>) -> Option<u64>
+    ensures { limit ≡ None → result ≡ None }
+{
+    match limit {
+        None => None,
+        Some(millis) => Some(host.clock.again().now().saturating_add(millis)),
+    }
+}
+
+/// Closes an engine's input, gives it half a second to end by itself, closes its output and waits for its end; if there
+/// is a limit, it is killed so many milliseconds after its input was closed, which is not reported.
+fn finish<'t, R: Clock, P: OpenProcess + Drop>(
+    host: &Host<'t, R>,
+    engine: Engine<'t, R, P>,
+    limit: Option<u64>,
+) {
     let Engine { child, ends } = engine;
     let Ends { reader, writer } = ends;
     drop(writer);
-    await_end(rt, child, reader);
+    let _ = await_end(host, child, reader, moment_after(host, limit));
 }
 
-/// Closes the inputs of both engines, and then waits for the end of each as [`finish`] does.
-pub(crate) fn finish_both<C: Clock, P: OpenProcess + Drop>(rt: &C, engines: Engines<P>) {
+/// Closes the inputs of both engines, and then waits for the end of each as [`finish`] does. Returns which of them were
+/// killed.
+pub(crate) fn finish_both<'t, R: Clock, P: OpenProcess + Drop>(
+    host: &Host<'t, R>,
+    engines: Engines<'t, R, P>,
+    limit: Option<u64>,
+) -> ByColour<bool>
+    ensures { limit ≡ None → result ≡ none_killed }
+{
     let Engines { children, ends } = engines;
     let ByColour {
         white: white_child,
@@ -192,27 +262,31 @@ pub(crate) fn finish_both<C: Clock, P: OpenProcess + Drop>(rt: &C, engines: Engi
     } = black_ends;
     drop(white_writer);
     drop(black_writer);
-    await_end(rt, white_child, white_reader);
-    await_end(rt, black_child, black_reader);
+    let until = moment_after(host, limit);
+    ByColour {
+        white: await_end(host, white_child, white_reader, until),
+        black: await_end(host, black_child, black_reader, until),
+    }
 }
 
 /// Starts both engines of a game; `white` and `black` are their commands. If Black's can't be started, White's is
-/// ended.
+/// ended. A write to either waits for at most `limit` milliseconds, if there is a limit.
 ///
 /// # Errors
 /// As [`start`] does for either.
-pub(crate) fn start_both<'a, P: Processes + Clock>(
-    host: &Host<'_, P>,
+pub(crate) fn start_both<'a, 't, R: Processes + Clock>(
+    host: &Host<'t, R>,
     white: &'a str,
     black: &'a str,
-) -> Result<Engines<P::Started>, GamesFault<'a>>
+    limit: Option<u64>,
+) -> Result<Engines<'t, R, R::Started>, GamesFault<'a>>
     ensures { IfErr result (λ f. FailsToStart white.entry.now f ⊎ FailsToStart black.entry.now f) }
 {
-    let white_engine = start(host.rt, host.alloc, white)?;
-    match start(host.rt, host.alloc, black) {
+    let white_engine = start(host, white, limit)?;
+    match start(host, black, limit) {
         Ok(black_engine) => Ok(Engines::of(white_engine, black_engine)),
         Err(fault) => {
-            finish(host.rt, white_engine);
+            finish(host, white_engine, limit);
             Err(fault)
         }
     }

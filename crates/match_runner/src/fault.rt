@@ -21,7 +21,7 @@ pub enum GamesFault<'a> {
     CanNotStart(&'a str),
     /// An engine failed in the game with this number; the text says how.
     #[error("game {0}: {1}")]
-    Game(u32, &'static str),
+    Game(u32, &'a str),
 }
 
 impl<'a> From<WriteFault> for GamesFault<'a> {

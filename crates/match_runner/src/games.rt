@@ -26,7 +26,8 @@ use chess_match::{MatchEnd, MatchFault, Reason, Setup};
 use chess_pgn::Tags;
 use itoa::Buffer;
 use std::alloc::Global;
-use std::process::Processes;
+use std::os::fd::AsRawFd;
+use std::process::{OpenProcess, Processes};
 use std::rt::Clock;
 
 // How a fault of the engine of this side is reported, such as `White has no ping`.
@@ -108,7 +109,8 @@ fn write_score<W: Output>(score: Score, output: &mut W) -> Result<(), WriteFault
 }
 
 // Plays the game of this number between the plan's two engines, logs it if the plan asks for that, and writes and
-// flushes its PGN. The engines are started for it, and waited for when its PGN was written.
+// flushes its PGN. The engines are started for it, and waited for when its PGN was written; those that had to be killed
+// are noted.
 fn play_game<'a, T: GamesTable, W: Output, E: Output>(
     table: &mut T,
     plan: &GamesPlan<'a>,
@@ -126,15 +128,19 @@ fn play_game<'a, T: GamesTable, W: Output, E: Output>(
     let setup = Setup {
         start: plan.start,
         level: plan.level,
+        patience: plan.patience,
     };
+    let limit = plan.patience.reply;
     let mut engines = table.start(
         command_of(plan, number, Colour::White),
         command_of(plan, number, Colour::Black),
+        limit,
     )?;
     let end = table.play(&mut engines, &setup, logged_side(plan, number), log);
     let tags = tags_of(plan, number, &end);
     let written = table.write_game(&tags, output);
-    table.finish(engines);
+    let killed = table.finish(engines, limit);
+    log.note_killed(number, killed);
     match written {
         Ok(()) => Ok(end),
         Err(_) => Err(GamesFault::WriteFailed),
@@ -231,14 +237,22 @@ pub fn play_games<'a, P: Processes + Clock, W: Output, E: Output>(
     output: &mut W,
     log: &mut Log<E>,
 ) -> Result<(), GamesFault<'a>>
+where
+    <P::Started as OpenProcess>::Stdout: AsRawFd,
+    <P::Started as OpenProcess>::Stdin: AsRawFd,
     ensures { PlaysGames plan.now result (W.seen output.old) (W.seen output.new)
         (log_seen (E.seen log.old.output) log.old.broken) (log_seen (E.seen log.new.output) log.new.broken) }
 {
     let tables = AttackTables::open(alloc)?;
     let game = Game::open(alloc, Bits::new(&tables), MOST_MOVES)?;
+    let moments = SinceStart::new(rt);
     let mut table = ProcessTable {
-        host: Host { rt, alloc },
-        moments: SinceStart::new(rt),
+        host: Host {
+            rt,
+            alloc,
+            clock: moments.again(),
+        },
+        moments,
         game,
         scratch: Bits::new(&tables),
     };

@@ -17,11 +17,11 @@ pub fn logs_have_one_reading()
 {}
 
 /// States a law and does nothing: a log gives its game back. From its lines, if their texts are printable ASCII, follow
-/// the lines that each engine sent, with their moments, and those that it was sent, which show the clocks; the moves;
-/// the reason for which it ended, and so its result; and, of one number of one plan, its PGN. Two matches by one plan,
-/// both played to the end and with their score written, whose games have the same logs write the same to the output. A
-/// log doesn't give back the moments at which turns were opened, so not the milliseconds that moves used; nor whether a
-/// write of the last lines failed.
+/// the lines that each engine sent and its silences, with their moments, and the lines that it was sent, which show the
+/// clocks; the moves; the reason for which it ended, and so its result; and, of one number of one plan, its PGN. Two
+/// matches by one plan, both played to the end and with their score written, whose games have the same logs write the
+/// same to the output. A log doesn't give back the moments at which turns were opened, so not the milliseconds that
+/// moves used; nor whether a write of the last lines failed.
 pub fn logs_give_the_game()
     ensures shows { LogsShow }
     ensures gives { LogsGiveTheGame }

@@ -6,6 +6,7 @@
 //!     white: "sjeng",
 //!     black: "phalanx",
 //!     level: "40 5 0".parse()?,
+//!     patience: Patience::ENDLESS,
 //!     start: Position::initial(),
 //!     games: 2,
 //!     date: "????.??.??",
@@ -23,6 +24,7 @@ mod games;
 mod laws;
 mod log;
 mod moments;
+mod pipes;
 mod plan;
 mod process_table;
 mod score;

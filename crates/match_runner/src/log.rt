@@ -3,11 +3,14 @@
 ghost use Rattle.std.specs.Prelude.{◌≡◌, ◌<◌, ◌∷◌, ◌++◌, [], decimal, false, length, map};
 ghost use Rattle.arrayvec.specs.ArrayVec.{array_vec_len};
 ghost use Rattle.chess_base.specs.Letters.{new_line};
+ghost use Rattle.chess_base.specs.Options.{list_if};
 ghost use Rattle.chess_game.specs.Results.{shown_byte};
 ghost use Rattle.chess_match.specs.Events as events;
 ghost use Rattle.chess_match.specs.Notes.{Gives, Happened};
 ghost use Rattle.chess_match.specs.Played.{PlayedNoting};
+ghost use Rattle.chess_match.specs.Reasons.{colour_name};
 ghost use Rattle.chess_match.specs.Run.{engines_of, text_read};
+ghost use Rattle.match_runner.specs.Games.{killed_line, killed_lines};
 ghost use Rattle.match_runner.specs.Log.{Logged, LogsNote};
 ghost use Rattle.match_runner.specs.Log.{lines_in, log_line, log_seen, log_from};
 ghost use Rattle.match_runner.specs.ties.Logging.{Adds, IsLog, engine_text, line_head, noted_by};
@@ -142,6 +145,19 @@ impl Pending {
         self.add_text(output, engine_text(is_first));
     }
 
+    // Logs the line that says that the engine of this side was killed after the game of this number.
+    fn add_killed<E: Output>(&mut self, output: &mut E, number: u32, side: Colour)
+        ensures adds { Adds (E.seen output.old) (E.seen output.new) self.old self.new (killed_line number side) }
+        ensures nothing { self.new.bytes.items ≡ [] }
+    {
+        self.add_text(output, b"arbiter: game ");
+        self.add_number(output, u64::from(number));
+        self.add_text(output, b": ");
+        self.add_text(output, colour_name(side));
+        self.add_text(output, b" did not exit, and was killed");
+        self.add(output, b'\n');
+    }
+
     // Logs a whole line, such as `312 <first : move e2e4`; `mark` is `<`, `>` or `!`, and `is_first` says whether the
     // engine is that of `--white`.
     fn add_line<E: Output>(
@@ -167,6 +183,16 @@ fn engine_text(is_first: bool) -> &'static [u8]
     ensures { result.now ≡ engine_text is_first }
 {
     if is_first { b"first : " } else { b"second: " }
+}
+
+// How a side is called.
+fn colour_name(side: Colour) -> &'static [u8]
+    ensures { result.now ≡ colour_name side }
+{
+    match side {
+        Colour::White => b"White",
+        Colour::Black => b"Black",
+    }
 }
 
 // The first line of a text that isn't empty, without its `\n`, and what follows it.
@@ -232,6 +258,28 @@ impl<E: Output> Log<E> {
         self.first = first;
     }
 
+    // Logs the line that says that the engine of this side was killed after the game of this number, if it was.
+    fn note_if_killed(&mut self, number: u32, side: Colour, killed: bool)
+        ensures { Logged (log_seen (E.seen self.old.output) self.old.broken)
+            (log_seen (E.seen self.new.output) self.new.broken) (list_if killed (killed_line number side)) }
+    {
+        if killed {
+            let mut line = Pending::new(self.broken);
+            line.add_killed(&mut self.output, number, side);
+            self.broken = line.broken;
+        }
+    }
+
+    /// Logs a line for each engine that was killed after the game of this number, such as
+    /// `arbiter: game 3: White did not exit, and was killed`, also if the plan asks for no log.
+    pub(crate) fn note_killed(&mut self, number: u32, killed: ByColour<bool>)
+        ensures { Logged (log_seen (E.seen self.old.output) self.old.broken)
+            (log_seen (E.seen self.new.output) self.new.broken) (killed_lines number killed) }
+    {
+        self.note_if_killed(number, Colour::White, killed.white);
+        self.note_if_killed(number, Colour::Black, killed.black);
+    }
+
     // Logs a line of this side's engine at the time of the last event, such as `312 !first : output ended`; `mark` is
     // `<`, `>` or `!`.
     fn add_line(&mut self, side: Colour, mark: u8, text: &[u8])
@@ -268,6 +316,14 @@ impl<E: Output> Witness for Log<E> {
         ensures logs { LogsNote E.seen self.old self.new (Happened (events.Opened _side moment)) }
     {
         self.moment = moment;
+    }
+
+    // Logs that no line of an engine had come.
+    fn silent(&mut self, side: Colour, moment: u64)
+        ensures logs { LogsNote E.seen self.old self.new (Happened (events.Silent side moment)) }
+    {
+        self.moment = moment;
+        self.add_line(side, b'!', b"no line");
     }
 
     // Logs that an engine closed its output.

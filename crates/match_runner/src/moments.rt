@@ -20,6 +20,14 @@ impl<'a, R: Clock> SinceStart<'a, R> {
             start: Instant::now(rt).ok(),
         }
     }
+
+    /// The same clock once more: it shows the milliseconds since the same beginning.
+    pub(crate) fn again(&self) -> Self {
+        SinceStart {
+            rt: self.rt,
+            start: self.start,
+        }
+    }
 }
 
 impl<R: Clock> Moments for SinceStart<'_, R> {

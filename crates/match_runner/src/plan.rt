@@ -2,6 +2,7 @@
 
 use cecp_engine::Level;
 use chess_base::Position;
+use chess_match::Patience;
 
 /// How the games of a match are played.
 #[derive(Clone, Copy)]
@@ -12,6 +13,9 @@ pub struct GamesPlan<'a> {
     pub black: &'a str,
     /// The level of time, for both engines.
     pub level: Level,
+    /// How long the engines are waited for. Its limit for replies also holds for a write that can't go on, and for the
+    /// end of an engine whose input is closed.
+    pub patience: Patience,
     /// The position from which each game starts; its variant is the match's.
     pub start: Position,
     /// How many games.

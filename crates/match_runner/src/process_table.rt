@@ -12,13 +12,15 @@ use crate::engine::{Engines, Host, finish_both, start_both};
 use crate::fault::GamesFault;
 use crate::log::{Log, run_match_logged};
 use crate::moments::SinceStart;
+use crate::pipes::{EngineInput, EngineOutput};
 use crate::table::GamesTable;
-use byte_devices::{Counted, Input, Output, WriteFault};
+use byte_devices::{Input, Output, WriteFault};
 use chess_base::{ByColour, Colour};
 use chess_bits::Bits;
 use chess_game::Game;
 use chess_match::{Ends, MatchEnd, Moments, Setup, run_match};
 use chess_pgn::{Tags, write_pgn};
+use std::os::fd::AsRawFd;
 use std::process::{OpenProcess, Processes};
 use std::rt::Clock;
 
@@ -74,11 +76,15 @@ fn send_game<'t, W: Output>(
     output.flush()
 }
 
-impl<P: Processes + Clock> GamesTable for ProcessTable<'_, P> {
+impl<'t, P: Processes + Clock> GamesTable for ProcessTable<'t, P>
+where
+    <P::Started as OpenProcess>::Stdout: AsRawFd,
+    <P::Started as OpenProcess>::Stdin: AsRawFd,
+{
     ghost use Rattle.std.specs.Prelude.{None};
     ghost use Rattle.chess_match.specs.Run.{engines_of};
 
-    type Engines = Engines<P::Started>;
+    type Engines = Engines<'t, P, P::Started>;
 
     // Any steps may have passed: it doesn't count them.
     ghost passed = { λ t steps. Unit {0} };
@@ -88,22 +94,24 @@ impl<P: Processes + Clock> GamesTable for ProcessTable<'_, P> {
     // What the clock will show isn't known.
     ghost coming = { λ t n. None };
 
-    ghost devices = { λ e. engines_of ⟦<Counted<<P::Started as OpenProcess>::Stdout> as Input>⟧.seen
-        ⟦<Counted<<P::Started as OpenProcess>::Stdin> as Output>⟧.seen e.ends.white e.ends.black };
+    ghost devices = { λ e. engines_of
+        ⟦<EngineOutput<'t, P, <P::Started as OpenProcess>::Stdout> as Input>⟧.seen
+        ⟦<EngineInput<<P::Started as OpenProcess>::Stdin> as Output>⟧.seen e.ends.white e.ends.black };
 
     // Starts both programs; if Black's can't be started, White's is ended.
     fn start<'a>(
         &mut self,
         white: &'a str,
         black: &'a str,
-    ) -> Result<Engines<P::Started>, GamesFault<'a>> {
-        start_both(&self.host, white, black)
+        limit: Option<u64>,
+    ) -> Result<Engines<'t, P, P::Started>, GamesFault<'a>> {
+        start_both(&self.host, white, black, limit)
     }
 
     // Plays the game over the engines' pipes.
     fn play<E: Output>(
         &mut self,
-        engines: &mut Engines<P::Started>,
+        engines: &mut Engines<'t, P, P::Started>,
         setup: &Setup,
         first: Option<Colour>,
         log: &mut Log<E>,
@@ -124,7 +132,11 @@ impl<P: Processes + Clock> GamesTable for ProcessTable<'_, P> {
     }
 
     // Closes both inputs and waits for both processes.
-    fn finish(&mut self, engines: Engines<P::Started>) {
-        finish_both(self.host.rt, engines);
+    fn finish(
+        &mut self,
+        engines: Engines<'t, P, P::Started>,
+        limit: Option<u64>,
+    ) -> ByColour<bool> {
+        finish_both(&self.host, engines, limit)
     }
 }

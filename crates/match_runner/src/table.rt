@@ -1,19 +1,19 @@
 //! The table of a match's games.
 
-ghost use Rattle.std.specs.Prelude.{◌≡◌, ◌∷◌, [], IfErr, List};
+ghost use Rattle.std.specs.Prelude.{◌≡◌, ◌∷◌, [], IfErr, List, None};
 ghost use Rattle.std.specs.Result.{is_err};
 ghost use Rattle.byte_devices.specs.Devices.{Sends};
 ghost use Rattle.chess_match.specs.Notes.{Note};
 ghost use Rattle.chess_match.specs.Played.{PlayedNoting};
 ghost use Rattle.chess_pgn.specs.GameText.{pgn};
-ghost use Rattle.match_runner.specs.Games.{IsStartFault, LogsGame};
+ghost use Rattle.match_runner.specs.Games.{IsStartFault, LogsGame, none_killed};
 ghost use Rattle.match_runner.specs.GamesTable.{Finishes, Plays, StepsPass, starting, writing};
 ghost use Rattle.match_runner.specs.Log.{log_seen};
 
 use crate::fault::GamesFault;
 use crate::log::Log;
 use byte_devices::{Output, WriteFault};
-use chess_base::Colour;
+use chess_base::{ByColour, Colour};
 use chess_match::{MatchEnd, Setup};
 use chess_pgn::Tags;
 
@@ -41,8 +41,14 @@ pub trait GamesTable {
     /// The pipes of each of two engines.
     ghost devices: { Self.Engines → Colour → Devices };
 
-    /// Starts two engines by their commands, White's and Black's; or none, if one of them can't be started.
-    fn start<'a>(&mut self, white: &'a str, black: &'a str) -> Result<Self::Engines, GamesFault<'a>>
+    /// Starts two engines by their commands, White's and Black's; or none, if one of them can't be started. Each write
+    /// to them may wait for at most `limit` milliseconds, if there is a limit.
+    fn start<'a>(
+        &mut self,
+        white: &'a str,
+        black: &'a str,
+        limit: Option<u64>,
+    ) -> Result<Self::Engines, GamesFault<'a>>
         ensures fails { IfErr result (IsStartFault white.entry.now black.entry.now) }
         ensures passes { StepsPass (passed self.old) (passed self.new)
             (starting (is_err result) white.entry.now black.entry.now ∷ []) }
@@ -69,6 +75,7 @@ pub trait GamesTable {
               after = record { engines = devices engines.new; coming = coming self.new; game = game self.new };
               end = result;
               notes = notes;
+              killed = none_killed;
             }) ∷ []) };
 
     /// Writes the PGN of the game that was played, and flushes.
@@ -79,8 +86,10 @@ pub trait GamesTable {
             (writing (is_err result) (pgn [] tags.now (game self.old).state) ∷ []) }
         ensures game { game self.new ≡ game self.old };
 
-    /// Closes the inputs of these engines, and waits for their ends.
-    fn finish(&mut self, engines: Self::Engines)
-        ensures passes { StepsPass (passed self.old) (passed self.new) (Finishes ∷ []) }
+    /// Closes the inputs of these engines, and waits for their ends; if there is a limit, an engine that has not ended
+    /// after so many milliseconds is killed. Returns which were killed.
+    fn finish(&mut self, engines: Self::Engines, limit: Option<u64>) -> ByColour<bool>
+        ensures passes { StepsPass (passed self.old) (passed self.new) (Finishes result ∷ []) }
+        ensures spared { limit ≡ None → result ≡ none_killed }
         ensures game { game self.new ≡ game self.old };
 }

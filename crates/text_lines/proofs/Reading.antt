@@ -1,15 +1,17 @@
 -- The reads of one call for the next line.
-use Rattle.std.proofs.Common.{◌≡◌, ℕ, ◌+◌, ◌-◌, ◌<◌, ◌≤◌, inl, inr, Bool, true, false, List, [], ◌∷◌, ◌++◌, length, take, Some, None, Ok, refl, sym, ap, ◌∙◌, arith, append_assoc, append-nil, length-append, nat_eq}
+use Rattle.std.proofs.Common.{◌≡◌, ℕ, ◌+◌, ◌-◌, ◌<◌, ◌≤◌, inl, inr, Bool, true, false, List, [], ◌∷◌, ◌++◌, length, take, Option, Some, None, Result, Ok, Err, IsErr, refl, sym, ap, ◌∙◌, arith, append_assoc, append-nil, length-append, nat_eq, ◌==◌, not, subst}
 use Rattle.std.proofs.Math.Seq.{take-append_seam}
+use Rattle.std.proofs.lemmas.List.{nil_from_length}
 use Rattle.text_lines.proofs.LineParts.{line_ended, ten_step, byte_step, none_from, last_left}
 use Rattle.text_lines.proofs.shared.Lines.{nothing_left}
 use Rattle.std.specs.Io.KnownBytes.{Consumes}
 use Rattle.std.specs.Bool.{MatchBool}
-use Rattle.byte_devices.specs.Devices.{InputState, GavePiece, saturating_increment}
-use Rattle.byte_devices.proofs.shared.Devices.{consumes_more, consumes_none}
+use Rattle.byte_devices.specs.Devices.{InputState, GavePiece, FailedToRead, WaitStep, saturating_increment}
+use Rattle.byte_devices.specs.declared.traits.ReadFault.{ReadFault}
+use Rattle.byte_devices.proofs.shared.Devices.{consumes_more, consumes_none, consumes_kept}
 use Rattle.text_lines.specs.Lines.{LineSeen, Held, nothing_held, lines_from, lines_held, line_of}
 use Rattle.text_lines.specs.laws.Unended.{HasNoEnd}
-use Rattle.text_lines.specs.Next.{before_piece, Waits, work, NextLine}
+use Rattle.text_lines.specs.Next.{before_piece, Waits, work, NextLine, NextLineUntil, line_if}
 use Rattle.text_lines.specs.ties.Kept.{HeldLine}
 use Rattle.text_lines.specs.declared.lines.TheConstants.{PIECE_LEN}
 
@@ -91,11 +93,11 @@ lines_end n r r' h h' h'' given piece s f e at_end =
     ap (lines_held n at_end h) (sym (append-nil (given ++ piece))) ∙ lines_on n r r' h h' h'' given piece s f at_end []
     ∙ ap (λ v. lines_from n at_end h''.part (v ++ [])) e
 
-pub both_empty : (a b : List ℕ) → a ≡ [] → b ≡ [] → record { part = a; coming = b } ≡ nothing_held
+both_empty : (a b : List ℕ) → a ≡ [] → b ≡ [] → record { part = a; coming = b } ≡ nothing_held
 both_empty a b e f = ap (λ (v : List ℕ). let h : Held = record { part = v; coming = b } in h) e
     ∙ ap (λ (v : List ℕ). let h : Held = record { part = []; coming = v } in h) f
 
-pub end_none : (E : Type 0) (n : ℕ) (r r' r'' : InputState) (h h' h'' h3 : Held) (given piece : List ℕ)
+end_none : (E : Type 0) (n : ℕ) (r r' r'' : InputState) (h h' h'' h3 : Held) (given piece : List ℕ)
     → SoFar n r r' h h' given → HeldLine n h' h'' None → GavePiece r' r'' piece → piece ≡ [] → h''.part ≡ []
     → h3 ≡ nothing_held
     → NextLine {E = E} n r r'' h h3 (Ok None)
@@ -113,7 +115,7 @@ end_none E n r r' r'' h h' h'' h3 given piece s f p e empty left = (
   },
 )
 
-pub end_last : (E : Type 0) (n : ℕ) (r r' r'' : InputState) (h h' h'' h3 : Held) (given piece : List ℕ)
+end_last : (E : Type 0) (n : ℕ) (r r' r'' : InputState) (h h' h'' h3 : Held) (given piece : List ℕ)
     (line : LineSeen) → SoFar n r r' h h' given → HeldLine n h' h'' None → GavePiece r' r'' piece → piece ≡ []
     → 0 < length h''.part
     → line ≡ line_of n false h''.part → h3 ≡ nothing_held → NextLine {E = E} n r r'' h h3 (Ok (Some line))
@@ -132,6 +134,53 @@ end_last E n r r' r'' h h' h'' h3 given piece line s f p e some is left =
         ends = reported_end r' r'' piece p e ∙ ap saturating_increment s.ends;
       }),
     )
+
+-- at the input's end: what is left of a line, if anything, is the last one
+pub at_the_end : (E : Type 0) (n : ℕ) (r r' r'' : InputState) (h h' h'' h3 : Held) (given piece : List ℕ)
+    (line : LineSeen) (some : Bool) → SoFar n r r' h h' given → HeldLine n h' h'' None → GavePiece r' r'' piece
+    → piece ≡ [] → some ≡ not (length h''.part == 0) → (some ≡ true → line ≡ line_of n false h''.part)
+    → h3 ≡ record { part = []; coming = piece } → NextLine {E = E} n r r'' h h3 (Ok (line_if some line))
+at_the_end E n r r' r'' h h' h'' h3 given piece line true s f p e some is left =
+    end_last E n r r' r'' h h' h'' h3 given piece line s f p e (grind arith) (is refl)
+    (left ∙ both_empty [] piece refl e)
+at_the_end E n r r' r'' h h' h'' h3 given piece line false s f p e some is left =
+    end_none E n r r' r'' h h' h'' h3 given piece s f p e (nil_from_length h''.part (grind arith))
+    (left ∙ both_empty [] piece refl e)
+
+-- after a wait that found something, the input is as before
+pub found : (n : ℕ) (r r' r'' : InputState) (h h' : Held) (given : List ℕ) (some : Bool) → some ≡ true
+    → WaitStep r' r'' some → SoFar n r r' h h' given → SoFar n r r'' h h' given
+found n r r' r'' h h' given true e w s = subst (λ v. SoFar n r v h h' given) (sym w) s
+found n r r' r'' h h' given false e w s = cc
+
+kept_waits : (n : ℕ) (r r' r'' : InputState) (h : Held) (given : List ℕ) → r''.last_len ≡ r'.last_len
+    → Waits n r r' h given → Waits n r r'' h given
+kept_waits n r r' r'' h given e (inl (none, last)) = inl (none, e ∙ last)
+kept_waits n r r' r'' h given e (inr (few, none)) = inr (
+  omega (arith, e, few),
+  ap (λ v. lines_held n false h (before_piece v given)) e ∙ none,
+)
+
+-- at the exit of a `?`: a read failed, and what is held stands for all that was given
+pub fault_until : (n : ℕ) (r r' r'' : InputState) (h h' h'' : Held) (given coming : List ℕ)
+    (result : Result (Option Bool) ReadFault) (line : LineSeen) → SoFar n r r' h h' given → HeldLine n h' h'' None
+    → coming ≡ [] → FailedToRead r' r'' → IsErr result
+    → NextLineUntil n r r'' h (record { part = h''.part; coming = coming }) result line
+fault_until n r r' r'' h h' h'' given coming (Ok some) line s f e p is = cc
+fault_until n r r' r'' h h' h'' given coming (Err fault) line s f e p is = (
+  given,
+  subst (Consumes r.known_bytes r''.known_bytes) (append-nil given)
+      (consumes_more r.known_bytes r'.known_bytes r''.known_bytes given [] s.bytes
+      (consumes_kept r'.known_bytes r''.known_bytes p.bytes)),
+  kept_waits n r r' r'' h given p.last s.waits,
+  record {
+    whole = whole_so_far n r r' h h' h'' given s f;
+    lines = λ at_end rest. s.lines at_end rest ∙ f.2 at_end rest
+        ∙ ap (λ v. lines_from n at_end h''.part (v ++ rest)) (f.1 ∙ sym e);
+    failures = p.failures ∙ ap saturating_increment s.failures;
+    ends = p.ends ∙ s.ends;
+  },
+)
 
 piece_on_part : (n : ℕ) (at_end : Bool) (part piece rest : List ℕ) → HasNoEnd piece
     → lines_from n at_end part (piece ++ rest) ≡ lines_from n at_end (part ++ piece) rest

@@ -17,7 +17,7 @@ Waits n r r' held given =
     ⊎ ((r'.last_len ≤ length given) × (lines_held n false held (before_piece r'.last_len given) ≡ []))
 
 -- a measure of what can still be read from the input `r` and of the bytes `held`, which gets smaller with each line
--- returned; one read gives at most 1,024 bytes
+-- returned and with each wait in which nothing came; one read gives at most 1,024 bytes
 abbrev pub work : InputState → Held → ℕ
 work r held = r.pieces_left * 1025 + length held.coming
 
@@ -60,6 +60,16 @@ pub record GotFault (n : ℕ) (r r' : InputState) (held held' : Held) (given : L
   pub failures : r'.failure_count ≡ saturating_increment r.failure_count
   pub ends : r'.end_count ≡ r.end_count
 
+-- no whole line had come when the call's time was up: what was `held` before and read (`given`, which took the input
+-- from `r` to `r'`) has none, and all of it is kept in `held'`. Lines have at most `n` bytes
+pub record GotSilence (n : ℕ) (r r' : InputState) (held held' : Held) (given : List ℕ) : Type 0 where
+  pub whole : lines_held n false held given ≡ []
+  pub lines : (at_end : Bool) (rest : List ℕ)
+      → lines_held n at_end held (given ++ rest) ≡ lines_held n at_end held' rest
+  pub failures : r'.failure_count ≡ r.failure_count
+  pub ends : r'.end_count ≡ r.end_count
+  pub falls : work r' held' < work r held
+
 -- what the call for the next line, of at most `n` bytes, returned after it read the bytes `given`: a line, `None` at
 -- the end, or a fault. `r` and `r'` are the input before and after, `held` and `held'` the bytes read but not returned
 abbrev pub Got : {E : Type 0} → ℕ → InputState → InputState → Held → Held → List ℕ → Result (Option LineSeen) E → Type 0
@@ -86,3 +96,15 @@ line_if false line = None
 abbrev pub line_read : {E : Type 0} → Result Bool E → LineSeen → Result (Option LineSeen) E
 line_read (Ok some) line = Ok (line_if some line)
 line_read (Err e) line = Err e
+
+-- a call for the next line, of at most `n` bytes, that waits only for so long. `Ok (Some true)`: it is `line`.
+-- `Ok (Some false)`: none is left at the input's end. `Ok None`: no whole line had come by then. `Err`: a read failed.
+-- `r` and `r'` are the input before and after, `held` and `held'` the bytes read but not returned
+abbrev pub NextLineUntil : {E : Type 0} → ℕ → InputState → InputState → Held → Held → Result (Option Bool) E
+    → LineSeen → Type 0
+NextLineUntil {E = E} n r r' held held' (Ok (Some some)) line =
+    NextLine {E = E} n r r' held held' (Ok (line_if some line))
+NextLineUntil n r r' held held' (Ok None) line =
+    (given : List ℕ) × Consumes r.known_bytes r'.known_bytes given × Waits n r r' held given
+    × GotSilence n r r' held held' given
+NextLineUntil n r r' held held' (Err e) line = NextLine n r r' held held' (Err e)

@@ -1,9 +1,9 @@
 //! The lines of a stream, in whatever pieces it comes.
 
-ghost use Rattle.std.specs.Prelude.{◌≡◌, ◌≢◌, ◌+◌, ◌≤◌, ◌==◌, [], ◌∷◌, ◌++◌, length, take, drop, true, false, Ok, MatchOption, MatchResult};
+ghost use Rattle.std.specs.Prelude.{◌≡◌, ◌≢◌, ◌+◌, ◌≤◌, ◌==◌, [], ◌∷◌, ◌++◌, length, take, drop, true, false, not, Ok, Some, MatchOption, MatchResult};
 ghost use Rattle.byte_devices.specs.Devices.{GavePiece, FailedToRead};
 ghost use Rattle.text_lines.specs.Lines.{empty_line, line_of, nothing_held, trimmed};
-ghost use Rattle.text_lines.specs.Next.{NextLine, line_if, line_read};
+ghost use Rattle.text_lines.specs.Next.{NextLine, NextLineUntil, line_if, line_read};
 ghost use Rattle.text_lines.specs.ties.Kept.{SameLines, HeldLine, Filled};
 
 use crate::trim::trim;
@@ -293,6 +293,21 @@ impl<const N: usize> Lines<N> {
         true
     }
 
+    // Ends what has come of a line at the stream's end: puts it into `line`, in place of what that held, and returns
+    // whether there was any. Otherwise `line` is as it was.
+    fn last_line(&mut self, line: &mut Line<N>) -> bool
+        ensures some { result ≡ not (length self.old.part == 0) }
+        ensures line { result ≡ true → line.new ≡ line_of N false self.old.part }
+        ensures kept { result ≡ false → line.new ≡ line.old }
+        ensures held { self.new ≡ record { part = []; coming = self.old.coming } }
+    {
+        if self.part.is_empty() {
+            return false;
+        }
+        self.part.finish(false, line);
+        true
+    }
+
     /// The next line, or `None` at the input's end. It reads only if what was read before has no whole line.
     ///
     /// # Errors
@@ -327,11 +342,35 @@ impl<const N: usize> Lines<N> {
                 return Ok(true);
             }
             if self.window.fill(reader)? == 0 {
-                if self.part.is_empty() {
-                    return Ok(false);
-                }
-                self.part.finish(false, line);
-                return Ok(true);
+                return Ok(self.last_line(line));
+            }
+        }
+    }
+
+    /// Reads the next line into `line` as [`Lines::read_line`] does, but waits for each piece of it only until the
+    /// moment `until`, by the reader's clock. Returns `None` if no whole line had come by then; the beginning of one is
+    /// kept for the next call. Otherwise returns whether there was a line: none at the input's end.
+    ///
+    /// # Errors
+    /// Those of [`Lines::next`]. Without a line, `line` is as it was.
+    pub fn read_line_until<R: Input>(
+        &mut self,
+        reader: &mut R,
+        until: u64,
+        line: &mut Line<N>,
+    ) -> Result<Option<bool>, ReadFault>
+        ensures next { NextLineUntil N (R.seen reader.old) (R.seen reader.new) self.old self.new result line.new }
+        ensures kept { result ≢ Ok (Some true) → line.new ≡ line.old }
+    {
+        loop {
+            if self.held_line(line) {
+                return Ok(Some(true));
+            }
+            if !reader.wait(until) {
+                return Ok(None);
+            }
+            if self.window.fill(reader)? == 0 {
+                return Ok(Some(self.last_line(line)));
             }
         }
     }

@@ -1,4 +1,4 @@
-use byte_devices::{Counted, PieceReader, ReadFault};
+use byte_devices::{Counted, Input, PieceReader, ReadFault, SilentAfter};
 use std::fmt::Debug;
 use std::process::Abort;
 use std::test::Fail;
@@ -113,5 +113,144 @@ fn a_line_is_read_over_the_one_before(rt: HostRuntime) {
         Ok(false),
         b"cd",
         false,
+    );
+}
+
+// Three lines, of which the input's end ends the last one.
+const TEXT: &[u8] = b"new\nab\ncd";
+
+const TEXTS: [&[u8]; 3] = [b"new", b"ab", b"cd"];
+
+// How many lines end in these bytes.
+fn ended_lines(bytes: &[u8]) -> usize {
+    bytes.iter().filter(|byte| **byte == b'\n').count()
+}
+
+// Waits for the next line over the one before, with this answer: the line then has this text.
+fn wait_over<R: Input>(
+    rt: &impl Abort,
+    lines: &mut Lines<64>,
+    reader: &mut R,
+    line: &mut Line<64>,
+    answer: Result<Option<bool>, ReadFault>,
+    text: &[u8],
+) {
+    is_equal(rt, &lines.read_line_until(reader, 0, line), &answer);
+    is_equal(rt, &line.text(), &text);
+}
+
+// Waits for lines with these texts.
+fn wait_for_each<R: Input>(
+    rt: &impl Abort,
+    lines: &mut Lines<64>,
+    reader: &mut R,
+    line: &mut Line<64>,
+    texts: &[&[u8]],
+) {
+    for text in texts {
+        wait_over(rt, lines, reader, line, Ok(Some(true)), text);
+    }
+}
+
+// So many waits find no whole line, and leave the line as it was.
+fn wait_in_vain<R: Input>(
+    rt: &impl Abort,
+    lines: &mut Lines<64>,
+    reader: &mut R,
+    line: &mut Line<64>,
+    silences: u64,
+    text: &[u8],
+) {
+    for _ in 0..silences {
+        wait_over(rt, lines, reader, line, Ok(None), text);
+    }
+}
+
+// The input gives so many bytes of the text and falls silent: first come the lines that have ended, then so many calls
+// find none, and then come the others.
+fn lines_around_a_silence(rt: &impl Abort, at: usize, silences: u64, cut: usize) {
+    let given = &TEXT[..at.min(TEXT.len())];
+    let (before, after) = TEXTS.split_at(ended_lines(given).min(2));
+    let mut reader = SilentAfter::new(PieceReader::new(TEXT, cut.max(1), 0), given.len(), silences);
+    let mut lines: Lines<64> = Lines::new();
+    let mut line = Line::new();
+    wait_for_each(rt, &mut lines, &mut reader, &mut line, before);
+    let last = match before.last() {
+        Some(text) => *text,
+        None => b"",
+    };
+    wait_in_vain(rt, &mut lines, &mut reader, &mut line, silences, last);
+    wait_for_each(rt, &mut lines, &mut reader, &mut line, after);
+    wait_over(
+        rt,
+        &mut lines,
+        &mut reader,
+        &mut line,
+        Ok(Some(false)),
+        b"cd",
+    );
+}
+
+#[test]
+fn lines_are_read_around_a_silence_at_each_place(rt: HostRuntime) {
+    for at in 0..10 {
+        lines_around_a_silence(&rt, at, 1, 1);
+        lines_around_a_silence(&rt, at, 3, 1);
+        lines_around_a_silence(&rt, at, 1, 64);
+        lines_around_a_silence(&rt, at, 3, 64);
+    }
+}
+
+// The `a` of the second line comes, then nothing, then a read fails.
+#[test]
+fn what_was_read_stays_after_a_silence_and_a_fault(rt: HostRuntime) {
+    let mut reader = SilentAfter::new(PieceReader::new(TEXT, 4, 3), 5, 1);
+    let mut lines: Lines<64> = Lines::new();
+    let mut line = Line::new();
+    wait_for_each(&rt, &mut lines, &mut reader, &mut line, &TEXTS[..1]);
+    wait_in_vain(&rt, &mut lines, &mut reader, &mut line, 1, b"new");
+    wait_over(
+        &rt,
+        &mut lines,
+        &mut reader,
+        &mut line,
+        Err(ReadFault),
+        b"new",
+    );
+    wait_for_each(&rt, &mut lines, &mut reader, &mut line, &TEXTS[1..]);
+    wait_over(
+        &rt,
+        &mut lines,
+        &mut reader,
+        &mut line,
+        Ok(Some(false)),
+        b"cd",
+    );
+}
+
+// A silence that doesn't end within these calls: each finds no line.
+#[test]
+fn a_long_silence_is_not_waited_out(rt: HostRuntime) {
+    let mut reader = SilentAfter::new(PieceReader::new(TEXT, 64, 0), 6, u64::MAX);
+    let mut lines: Lines<64> = Lines::new();
+    let mut line = Line::new();
+    wait_for_each(&rt, &mut lines, &mut reader, &mut line, &TEXTS[..1]);
+    wait_in_vain(&rt, &mut lines, &mut reader, &mut line, 1000, b"new");
+}
+
+// A reader of std has no clock, so no call ends without a line before the input does.
+#[test]
+fn lines_of_a_reader_without_a_clock_are_not_waited_for(rt: HostRuntime) {
+    let mut reader = pieces(TEXT, 1, 0);
+    let mut lines: Lines<64> = Lines::new();
+    let mut line = Line::new();
+    wait_for_each(&rt, &mut lines, &mut reader, &mut line, &TEXTS);
+    wait_over(
+        &rt,
+        &mut lines,
+        &mut reader,
+        &mut line,
+        Ok(Some(false)),
+        b"cd",
     );
 }

@@ -9,7 +9,9 @@ use cecp_engine::Level;
 use chess_base::{Colour, Position};
 use chess_bits::{AttackTables, Bits};
 use chess_game::{Game, MOST_MOVES};
-use chess_match::{ENGINE_LINE_LEN, Ends, MatchEnd, Moments, Setup, Witness, run_match_watched};
+use chess_match::{
+    ENGINE_LINE_LEN, Ends, MatchEnd, Moments, Patience, Setup, Witness, run_match_watched,
+};
 use chess_text::coordinate;
 use std::alloc::{AllocError, Global};
 use text_lines::Line;
@@ -69,6 +71,11 @@ impl Witness for Log {
     // Adds the opening of a turn.
     fn opened(&mut self, side: Colour, moment: u64) {
         self.add(2, side, moment);
+    }
+
+    // Adds that no line of an engine had come.
+    fn silent(&mut self, side: Colour, moment: u64) {
+        self.add(7, side, moment);
     }
 
     // Adds the end of an engine's output.
@@ -207,6 +214,7 @@ fn play(
     let setup = Setup {
         start: Position::initial(),
         level,
+        patience: Patience::ENDLESS,
     };
     let mut log = Log {
         digest: Digest::new(),

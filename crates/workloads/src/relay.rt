@@ -7,7 +7,7 @@ use cecp_engine::{Level, ParseLevelError};
 use chess_base::Position;
 use chess_bits::Bits;
 use chess_game::Game;
-use chess_match::{Setup, run_match};
+use chess_match::{Patience, Setup, run_match};
 use std::alloc::{AllocError, Global};
 
 /// What two engines send in a match of at most `half_moves` half-moves with few captures, which is walked through in
@@ -34,6 +34,7 @@ fn play(alloc: Global, script: &Script, level: Level, game: &mut Game<Bits<'_>>)
     let setup = Setup {
         start: Position::initial(),
         level,
+        patience: Patience::ENDLESS,
     };
     let mut clock = Ticking { moment: 0 };
     run_match(&mut white, &mut black, &mut clock, &setup, game);

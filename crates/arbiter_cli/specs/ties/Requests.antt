@@ -1,11 +1,11 @@
 -- What the arguments ask for as they are written, on the way to a plan.
-use Rattle.std.specs.Prelude.{◌≡◌, ◌≤◌, ℕ, List, codes, map, option_map, Option, Some, None, Result, Ok, Err, true, false, ◌≢◌, unwrap_or}
+use Rattle.std.specs.Prelude.{◌≡◌, ◌≤◌, ◌*◌, ℕ, Bool, List, codes, map, option_map, Option, Some, None, Result, Ok, Err, true, false, ◌≢◌, unwrap_or}
 use Rattle.std.specs.Option.{option_map_or}
-use Rattle.std.specs.Str.Parse.{digits_value, without_leading_plus}
 use Rattle.clap.specs.Words.{Row, Text, first_of, kind_of}
 use Rattle.arbiter_cli.specs.declared.plan.Plan.{Plan}
 use Rattle.arbiter_cli.specs.declared.plan.Plan.TheVariants.{Session, Verify, Stub, Match}
 use Rattle.match_runner.specs.declared.plan.GamesPlan.{GamesPlan}
+use Rattle.chess_match.specs.declared.patience.Patience.{Patience}
 use Rattle.arbiter_cli.specs.declared.fault.WordsFault.{WordsFault}
 use Rattle.arbiter_cli.specs.declared.fault.WordsFault.TheVariants.{Words, NoMemory, BadLevel, BadFen, BadDate}
 use Rattle.arbiter_cli.specs.declared.request.MatchRequest.{MatchRequest}
@@ -17,7 +17,7 @@ use Rattle.chess_base.specs.declared.man.Variant.{Variant}
 use Rattle.chess_base.specs.declared.setup.Setup.{Setup}
 use Rattle.chess_fen.specs.Reading.{fen_reading_as}
 use Rattle.cecp_engine.specs.Levels.{LevelSeen, level_of}
-use Rattle.arbiter_cli.specs.Plans.{Said, Values, is_date, is_set, variant_in, verify_plan_of}
+use Rattle.arbiter_cli.specs.Plans.{Said, Values, is_date, is_set, number_of, variant_in, verify_plan_of}
 use Rattle.clap.specs.declared.error.Error.{Error}
 use Rattle.clap.specs.declared.error.kind.ErrorKind.TheVariants.{OutOfMemory}
 
@@ -26,9 +26,13 @@ use Rattle.clap.specs.declared.error.kind.ErrorKind.TheVariants.{OutOfMemory}
 abbrev pub matched : List Row → Values
 matched rows = λ name. first_of name rows
 
--- how many games `--games` asks for, in decimal, where a `+` may come first; 1 without `--games`
+-- how many games `--games` asks for; 1 without `--games`
 abbrev pub games_in : Values → ℕ
-games_in value = option_map_or (λ t. digits_value 10 (without_leading_plus t)) (value (codes "games")) 1
+games_in value = option_map_or number_of (value (codes "games")) 1
+
+-- the patience with this flag and so many seconds for a reply
+abbrev pub patience_by : Bool → Option ℕ → Patience
+patience_by flag seconds = record { flag = flag; reply = option_map (λ n. n * 1000) seconds }
 
 -- the position that a match starts in: what the FEN denotes, or without one the initial position of the variant
 abbrev pub start_of : Variant → Option Text → Result Setup FenFault
@@ -45,6 +49,8 @@ pub record IsMatchOf (value : Values) (m : MatchRequest) : Type 0 where
   pub date : m.date.now ≡ unwrap_or (value (codes "date")) (codes "????.??.??")
   pub variant : m.variant ≡ variant_in value
   pub log : m.log ≡ is_set (codes "log") value
+  pub flag : m.flag ≡ is_set (codes "flag") value
+  pub reply : m.reply ≡ option_map number_of (value (codes "reply-timeout"))
 
 -- the request is what the arguments ask for, with level, FEN and date of a match still as texts
 abbrev pub IsRequestOf : Said → Request → Type 0
@@ -64,6 +70,7 @@ pub record IsJudged (m : MatchRequest) (plan : GamesPlan) : Type 0 where
   pub games : plan.games ≡ m.games
   pub date : plan.date ≡ m.date
   pub log : plan.log ≡ m.log
+  pub patience : plan.patience ≡ patience_by m.flag m.reply
   pub good_date : is_date m.date.now ≡ true
 
 -- the fault is that of the first of level, FEN and date that is invalid in this request of a match

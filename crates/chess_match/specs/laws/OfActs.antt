@@ -1,31 +1,32 @@
 -- Laws of the acts of a match.
 use Rattle.std.specs.Prelude.{◌≡◌, ◌<◌, ◌≤◌, ◌+◌, ◌-◌, ◌*◌, ◌^◌, ◌&&◌, ◌⊎◌, ℕ, Bool, true, false, if◌then◌else◌, List, [], ◌∷◌, ◌++◌, length, drop, nat_lt, sum, codes, slice_get, Option, None, Some, is_some, unwrap_or}
-use Rattle.std.specs.List.{flat_map, fold}
-use Rattle.std.specs.Option.{IfSome}
+use Rattle.std.specs.List.{flat_map, fold, list_any}
+use Rattle.std.specs.Option.{IfSome, option_map_or}
 use Rattle.byte_devices.specs.Devices.{OutputState}
 use Rattle.chess_base.specs.declared.man.Colour.{Colour}
 use Rattle.chess_base.specs.declared.man.Colour.TheVariants.{White, Black}
 use Rattle.chess_base.specs.declared.man.Move.{Move}
 use Rattle.chess_base.specs.Men.{other, same_colour}
 use Rattle.chess_base.specs.declared.setup.Setup.{Setup as Position}
-use Rattle.chess_game.specs.Line.{IsLine}
+use Rattle.chess_game.specs.Line.{IsLine, position_after}
 use Rattle.chess_game.specs.declared.verdicts.Verdict.{Verdict}
 use Rattle.cecp_engine.specs.Items.{Item, takes}
 use Rattle.cecp_engine.specs.Levels.{LevelSeen, allotted}
 use Rattle.chess_base.specs.Options.{list_if}
 use Rattle.chess_match.specs.Lines.{SentLine, bytes_of}
-use Rattle.chess_match.specs.laws.Laws.{Streams, AreRead, events_in, given_in, lines_noted, moments_noted, is_move, moves_of, items_said, moves_sent, texts_from, time_sent, otim_sent, centiseconds, lines_read, has_ended, has_failed_read, moments_shown, lines_sent, blocks_sent, broken_blocks, is_broken, line_kind, notes_given}
+use Rattle.chess_match.specs.laws.Laws.{Streams, AreRead, events_in, given_in, lines_noted, moments_noted, is_move, moves_of, items_said, moves_sent, texts_from, time_sent, otim_sent, centiseconds, lines_read, has_ended, has_failed_read, moments_shown, lines_sent, looks, blocks_sent, broken_blocks, is_broken, line_kind, notes_given}
 use Rattle.chess_match.specs.Acts.{Act, Block, Sends, SendFails, Happens, IsMatch, IsMatchFrom, is_over}
-use Rattle.chess_match.specs.Effects.{Match, Phase, Over, beginning, clock, effect, is_owed_move}
-use Rattle.chess_match.specs.Events.{Event, Line, Opened, FailsToWrite}
+use Rattle.chess_match.specs.Effects.{Match, Phase, BeforeMove, Over, beginning, clock, effect, is_owed_move}
+use Rattle.chess_match.specs.Events.{Event, Line, Opened, Silent, FailsToWrite}
 use Rattle.chess_match.specs.Notes.{Happened}
 use Rattle.chess_match.specs.Played.{World, Passed, PlayedBy}
 use Rattle.chess_match.specs.Reasons.{is_write_fault_of}
-use Rattle.chess_match.specs.Rules.{Rules, rules_of}
-use Rattle.chess_match.specs.Table.{Step, ReadsLine, ReadsClock, Notes, watched}
+use Rattle.chess_match.specs.Rules.{Rules, rules_of, has_bare_king}
+use Rattle.chess_match.specs.declared.patience.Patience.{Patience}
+use Rattle.chess_match.specs.Table.{Step, ReadsLine, FindsNoLine, ReadsClock, Notes, watched}
 use Rattle.chess_match.specs.declared.reason.Reason.{Reason}
 use Rattle.chess_match.specs.declared.reason.MatchFault.{MatchFault}
-use Rattle.chess_match.specs.declared.reason.Reason.TheVariants.{Decided, Resigns, MovesIllegally, MovesOutOfTurn, ClaimsFalsely, RejectsLegalMove, Forfeits, Faulted}
+use Rattle.chess_match.specs.declared.reason.Reason.TheVariants.{Decided, Resigns, MovesIllegally, MovesOutOfTurn, ClaimsFalsely, RejectsLegalMove, Forfeits, ForfeitsToBareKing, Faulted}
 use Rattle.chess_match.specs.declared.run.MatchEnd.{MatchEnd}
 use Rattle.chess_match.specs.declared.run.Setup.{Setup}
 use Rattle.chess_game.specs.Game.{outcome_now}
@@ -88,8 +89,15 @@ LinesAreReadInOrder = (reason : Reason) (H : List Act) (before after : List Step
     → (moment : ℕ) × (rest : List Step)
     × (after ≡ ReadsClock S moment ∷ Notes (Happened (Line S text moment)) ∷ rest)
 
--- in a match from any state on (`IsMatchFrom`): if the next act is an event (a line or the clock is read, an output
--- ends, or a read fails), nothing is due
+-- and so after no line was found: the clock is read for that side, and the silence is noted with the moment
+abbrev pub SilencesAreReadInOrder : Type 0
+SilencesAreReadInOrder = (reason : Reason) (H : List Act) (before after : List Step) (S : Colour)
+    → watched reason H ≡ before ++ FindsNoLine S ∷ after
+    → (moment : ℕ) × (rest : List Step)
+    × (after ≡ ReadsClock S moment ∷ Notes (Happened (Silent S moment)) ∷ rest)
+
+-- in a match from any state on (`IsMatchFrom`): if the next act is an event (a line or the clock is read, no
+-- line has come, an output ends, or a read fails), nothing is due
 abbrev pub NothingIsDueAtEvents : Type 0
 NothingIsDueAtEvents = (r : Rules) (m final : Match) (due : List Block) (event : Event) (H : List Act)
     → IsMatchFrom r m due (Happens event ∷ H) final → due ≡ []
@@ -123,12 +131,19 @@ WriteFaultsAreOfBlocks r H m = (S : Colour) → ended_by_write_to S m.phase ≡ 
 
 -- ---- what two engines and a clock give fixes the match
 
+-- just those looks for a line in the acts `H` found none that `silent` names for each side: its looks are numbered
+-- from 0
+abbrev pub AreSilent : (Colour → ℕ → Bool) → List Act → Type 0
+AreSilent silent H = (S : Colour) (n : ℕ) → n < length (looks S H) → slice_get (looks S H) n ≡ Some (silent S n)
+
 -- what the acts `H` read is what these engines and this clock (`s`) give: the lines read are the first of each engine's
--- lines, or all of them if its output ended or a read failed; and the moments shown are the first of the clock's
+-- lines, or all of them if its output ended or a read failed; none had come where `s.silent` says so; and the moments
+-- shown are the first of the clock's
 pub record ReadFrom (s : Streams) (H : List Act) : Type 0 where
   pub lines : (S : Colour) → (rest : List (Option (List ℕ))) × (s.lines S ≡ lines_read S H ++ rest)
   pub ends : (S : Colour) → has_ended S H ≡ true → (s.lines S ≡ lines_read S H) × (s.fails S ≡ false)
   pub failures : (S : Colour) → has_failed_read S H ≡ true → (s.lines S ≡ lines_read S H) × (s.fails S ≡ true)
+  pub silences : AreSilent s.silent H
   pub moments : (n : ℕ) → n < length (moments_shown H) → slice_get (moments_shown H) n ≡ Some (s.moments n)
 
 -- the acts `H` come from these engines and this clock (`s`): they read what these give, and sending a block failed just
@@ -173,11 +188,21 @@ pub record ShowsAll (w w' : World) : Type 0 where
   pub sent : (S : Colour) → ((w'.engines S).output.failure_count ≡ (w.engines S).output.failure_count)
       ⊎ ShowsFlushed (w.engines S).output (w'.engines S).output
 
+-- no limit to waiting: neither flags nor replies have one
+abbrev pub endless : Patience
+endless = record { flag = false; reply = None }
+
+-- in the acts `H` and `K` the same looks for a line found none. It holds of all matches by rules that set no limit to
+-- waiting (`silences_end_matches`); devices show nothing of silences
+abbrev pub HaveSameSilences : Rules → List Act → List Act → Type 0
+HaveSameSilences r H K =
+    (r.patience ≡ endless) ⊎ ((silent : Colour → ℕ → Bool) × AreSilent silent H × AreSilent silent K)
+
 -- two matches by the same rules that were played from the world `w` to `w'` are the same, act by act, and so are their
--- states at the end, if everything is known about the devices
+-- states at the end, if everything is known about the devices, and the same looks for a line found none
 abbrev pub OnlyOneMatchOfARun : Type 0
 OnlyOneMatchOfARun = (r : Rules) (H K : List Act) (final final' : Match) (w w' : World) → Passed r H final w w'
-    → Passed r K final' w w' → ShowsAll w w' → (H ≡ K) × (final ≡ final')
+    → Passed r K final' w w' → ShowsAll w w' → HaveSameSilences r H K → (H ≡ K) × (final ≡ final')
 
 -- ---- ends
 
@@ -198,15 +223,16 @@ abbrev pub OutcomesAreOfTheGame : Type 0
 OutcomesAreOfTheGame = (H : List Act) (reason : Reason) (setup : Setup) (end : MatchEnd) (w w' : World)
     → PlayedBy H reason setup end w w' → end.outcome ≡ outcome_now w'.game.state
 
--- the side whose line ended a match for this reason; `None` for any other reason, also for a flood of lines
-abbrev pub whose_line : Reason → Option Colour
-whose_line (Resigns c) = Some c
-whose_line (MovesIllegally c) = Some c
-whose_line (MovesOutOfTurn c) = Some c
-whose_line (ClaimsFalsely c) = Some c
-whose_line (RejectsLegalMove c) = Some c
-whose_line (Forfeits c) = Some c
-whose_line _ = None
+-- the side whose line ended a match for this reason; `None` for any other reason, also for a flood of lines, and for a
+-- loss on time if flags fall without a line
+abbrev pub whose_line : Patience → Reason → Option Colour
+whose_line patience (Resigns c) = Some c
+whose_line patience (MovesIllegally c) = Some c
+whose_line patience (MovesOutOfTurn c) = Some c
+whose_line patience (ClaimsFalsely c) = Some c
+whose_line patience (RejectsLegalMove c) = Some c
+whose_line patience (Forfeits c) = if patience.flag then None else Some c
+whose_line patience _ = None
 
 -- whether these acts are only blocks, sent or not
 abbrev pub only_sends : List Act → Bool
@@ -219,7 +245,7 @@ only_sends (_ ∷ H) = false
 -- `S`, and after it only blocks were sent
 abbrev pub LastLineIsTheirs : Type 0
 LastLineIsTheirs = (r : Rules) (reason : Reason) (S : Colour) (H : List Act) (final : Match) → IsMatch r H final
-    → final.phase ≡ Over reason → whose_line reason ≡ Some S
+    → final.phase ≡ Over reason → whose_line r.patience reason ≡ Some S
     → (before : List Act) × (text : Option (List ℕ)) × (moment : ℕ) × (after : List Act)
     × (H ≡ before ++ Happens (Line S text moment) ∷ after) × (only_sends after ≡ true)
 
@@ -292,8 +318,8 @@ MovesSentAreKnown r S H m =
 
 -- in every match of chess: each move played is legal in the position in which it is made, from the start on
 abbrev pub GamesAreLines : Type 0
-GamesAreLines = (start : Position) (level : LevelSeen) (limit : ℕ) (H : List Act) (final : Match)
-    → IsMatch (rules_of start level limit) H final → IsLine start final.played
+GamesAreLines = (start : Position) (level : LevelSeen) (patience : Patience) (limit : ℕ) (H : List Act) (final : Match)
+    → IsMatch (rules_of start level patience limit) H final → IsLine start final.played
 
 -- ---- clocks
 
@@ -340,6 +366,66 @@ UsedTimesAreDifferences r H m = (S : Colour) → (rest : List ℕ) × (length re
 abbrev pub ClocksDoNotUnderflow : Rules → List Act → Match → Type 0
 ClocksDoNotUnderflow r H m =
     (S : Colour) → clock r m S + sum (m.seat S).used ≡ allotted r.level (length (m.seat S).used)
+
+-- ---- silences
+
+-- whether this act is a silence
+abbrev pub is_silent : Act → Bool
+is_silent (Happens (Silent side moment)) = true
+is_silent _ = false
+
+-- in every match by rules that set no limit to waiting: no act is a silence, so no look for a line found none
+abbrev pub SilencesAreAskedFor : Type 0
+SilencesAreAskedFor = (r : Rules) (H : List Act) (final : Match) → IsMatch r H final → r.patience ≡ endless
+    → (list_any is_silent H ≡ false) × AreSilent (λ S n. false) H
+
+-- whether at this moment the side `S`, whose line is awaited, is beyond its limit: before its move, if the time used is
+-- more than it had left; otherwise, if it has owed its line for longer than the rules allow
+abbrev pub is_beyond : Rules → Match → Phase → Colour → ℕ → Bool
+is_beyond r m (BeforeMove side opened) S moment = nat_lt (clock r m S) (moment - opened)
+is_beyond r m _ S moment =
+    option_map_or (λ limit. nat_lt limit (moment - unwrap_or m.since moment)) r.patience.reply false
+
+-- in every match: after a silence of the side `S` the match is over if and only if `S` was beyond its limit then
+abbrev pub SilencesEndMatches : Type 0
+SilencesEndMatches = (r : Rules) (before after : List Act) (S : Colour) (moment : ℕ) (final : Match)
+    → IsMatch r (before ++ Happens (Silent S moment) ∷ after) final
+    → let m = match_after r beginning.after before in
+    is_over (effect r m (Silent S moment)).after.phase ≡ is_beyond r m m.phase S moment
+
+-- in every match: a silence of the side `S` that was not beyond its limit changed nothing, and no line was sent, if the
+-- time for a reply ran already; otherwise that time may run from this silence on
+abbrev pub SilencesChangeNothing : Type 0
+SilencesChangeNothing = (r : Rules) (before after : List Act) (S : Colour) (moment : ℕ) (final : Match)
+    → IsMatch r (before ++ Happens (Silent S moment) ∷ after) final
+    → let m = match_after r beginning.after before in
+    is_beyond r m m.phase S moment ≡ false → is_some m.since ≡ true
+    → ((effect r m (Silent S moment)).after ≡ m) × ((X : Colour) → (effect r m (Silent S moment)).to X ≡ [])
+
+-- whether this act shows the flag of the side `S` fallen, in a match that is `m` before it: before the move of `S` a
+-- line came, or none yet, and the clock showed more than `S` had left
+abbrev pub shows_fallen : Rules → Match → Phase → Colour → Act → Bool
+shows_fallen r m (BeforeMove side opened) S (Happens (Line c text moment)) =
+    same_colour side S && nat_lt (clock r m S) (moment - opened)
+shows_fallen r m (BeforeMove side opened) S (Happens (Silent c moment)) =
+    same_colour side S && nat_lt (clock r m S) (moment - opened)
+shows_fallen r m _ S _ = false
+
+-- at some moment of a turn of the side `S`, with a line or without, the clock showed more than `S` had left
+abbrev pub OverstepsTime : Rules → List Act → Colour → Type 0
+OverstepsTime r H S = (before : List Act) × (act : Act) × (after : List Act) × (H ≡ before ++ act ∷ after)
+    × (let m = match_after r beginning.after before in shows_fallen r m m.phase S act ≡ true)
+
+-- `final`, the end of the match of the acts `H`, is a loss on time exactly if the clock showed so
+pub record TimeForfeitsAreShown (r : Rules) (H : List Act) (final : Match) : Type 0 where
+  -- a side that oversteps its time loses, or draws against a bare king
+  pub overstepped : (S : Colour) → OverstepsTime r H S
+      → final.phase ≡ Over (if has_bare_king (other S) (position_after r.start final.played).men then ForfeitsToBareKing
+      else Forfeits S)
+  -- a side that lost on time overstepped it
+  pub lost : (S : Colour) → final.phase ≡ Over (Forfeits S) → OverstepsTime r H S
+  -- if a match ended on time against a bare king, a side overstepped its time
+  pub drawn : final.phase ≡ Over ForfeitsToBareKing → (S : Colour) × OverstepsTime r H S
 
 -- ---- few lines
 

@@ -9,19 +9,21 @@ use Rattle.chess_base.specs.Men.{same_colour}
 use Rattle.text_lines.specs.Lines.{Held, nothing_held}
 use Rattle.text_lines.specs.Next.{work}
 use Rattle.chess_match.specs.Acts.{Act, Sends, SendFails, Happens}
-use Rattle.chess_match.specs.Events.{Line}
+use Rattle.chess_match.specs.Events.{Line, Silent}
 use Rattle.chess_match.specs.Lines.{bytes_of}
 use Rattle.chess_match.specs.Notes.{Note, Noted}
 use Rattle.chess_match.specs.Run.{ClockReadings}
-use Rattle.chess_match.specs.Table.{Step, Does, ReadsLine, ReadsClock, Notes, Beginning, Passing, Passes}
+use Rattle.chess_match.specs.Table.{Step, Does, ReadsLine, FindsNoLine, ReadsClock, Notes, Beginning, Passing, Passes}
 use Rattle.chess_match.specs.declared.desk.Desk.{Desk}
 use Rattle.chess_match.specs.ties.EngineOutput.{OutputAt}
 
--- the acts at engines among these steps; a line that was read has the moment 0, whatever the clock then showed
+-- the acts at engines among these steps; a line that was read, or had not come, has the moment 0, whatever the clock
+-- then showed
 abbrev pub acts_in : List Step → List Act
 acts_in [] = []
 acts_in (Does act ∷ K) = act ∷ acts_in K
 acts_in (ReadsLine S text ∷ K) = Happens (Line S text 0) ∷ acts_in K
+acts_in (FindsNoLine S ∷ K) = Happens (Silent S 0) ∷ acts_in K
 acts_in (ReadsClock S moment ∷ K) = acts_in K
 acts_in (Notes note ∷ K) = acts_in K
 

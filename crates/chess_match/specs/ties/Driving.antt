@@ -9,12 +9,12 @@ use Rattle.text_lines.specs.Lines.{LineSeen}
 use Rattle.chess_match.specs.Acts.{Act, Block, IsMatchFrom, Happens, is_over}
 use Rattle.chess_match.specs.laws.Laws.{is_broken}
 use Rattle.chess_match.specs.Effects.{Match, Over}
-use Rattle.chess_match.specs.Events.{Event, Line, Opened, OutputEnds, FailsToRead, FailsToWrite}
+use Rattle.chess_match.specs.Events.{Event, Line, Opened, Silent, OutputEnds, FailsToRead, FailsToWrite}
 use Rattle.chess_match.specs.Lines.{SentLine, bytes_of}
 use Rattle.chess_match.specs.Notes.{Happened, Gives}
 use Rattle.chess_match.specs.Rules.{Rules}
 use Rattle.chess_match.specs.Run.{text_read}
-use Rattle.chess_match.specs.Table.{Step, Does, ReadsLine, ReadsClock, Notes, Passing, Passes, sending, watched}
+use Rattle.chess_match.specs.Table.{Step, Does, ReadsLine, FindsNoLine, ReadsClock, Notes, Passing, Passes, sending, watched}
 use Rattle.chess_match.specs.declared.reason.Reason.{Reason}
 use Rattle.chess_match.specs.declared.state.MatchState.{MatchState}
 use Rattle.chess_match.specs.ties.Represents.{Represents}
@@ -26,6 +26,7 @@ use Rattle.chess_match.specs.ties.Sane.{IsSane}
 abbrev pub steps_of : Event → List Step
 steps_of (Line S text moment) =
     ReadsLine S text ∷ ReadsClock S moment ∷ Notes (Happened (Line S text moment)) ∷ []
+steps_of (Silent S moment) = FindsNoLine S ∷ ReadsClock S moment ∷ Notes (Happened (Silent S moment)) ∷ []
 steps_of (Opened S moment) = ReadsClock S moment ∷ Notes (Happened (Opened S moment)) ∷ []
 steps_of (OutputEnds S) = Does (Happens (OutputEnds S)) ∷ Notes (Happened (OutputEnds S)) ∷ []
 steps_of (FailsToRead S) = Does (Happens (FailsToRead S)) ∷ Notes (Happened (FailsToRead S)) ∷ []
@@ -39,6 +40,10 @@ line_event S line moment = Line S (text_read line) moment
 abbrev pub after_line : Colour → Option (List ℕ) → ℕ → List Step
 after_line S text moment = ReadsClock S moment ∷ Notes (Happened (Line S text moment)) ∷ []
 
+-- the steps after no line of the side `S` was found
+abbrev pub after_silence : Colour → ℕ → List Step
+after_silence S moment = ReadsClock S moment ∷ Notes (Happened (Silent S moment)) ∷ []
+
 -- the steps of sending these lines to the side `S`, none if there are no lines; `failed` says whether a write failed
 abbrev pub giving : Bool → Colour → List SentLine → List Step
 giving failed S [] = []
@@ -48,6 +53,7 @@ giving failed S (l ∷ ls) =
 -- the event is one of the output of the engine of the side `S`
 abbrev pub is_of_output : Colour → Event → Bool
 is_of_output S (Line c text moment) = same_colour c S
+is_of_output S (Silent c moment) = same_colour c S
 is_of_output S (OutputEnds c) = same_colour c S
 is_of_output S (FailsToRead c) = same_colour c S
 is_of_output S (Opened c moment) = false
@@ -57,6 +63,11 @@ is_of_output S (FailsToWrite c) = false
 abbrev pub is_line_event : Event → Bool
 is_line_event (Line c text moment) = true
 is_line_event _ = false
+
+-- whether the event is a silence
+abbrev pub is_silence : Event → Bool
+is_silence (Silent c moment) = true
+is_silence _ = false
 
 -- a value for each side: `own` for the side that the first argument names, `others` for the other side; the last
 -- argument says for which side it is asked

@@ -6,9 +6,9 @@ use Rattle.byte_devices.specs.Devices.{InputState}
 use Rattle.chess_base.specs.declared.man.Colour.{Colour}
 use Rattle.chess_base.specs.Men.{same_colour}
 use Rattle.text_lines.specs.Lines.{LineSeen, Held, stream_lines, lines_held}
-use Rattle.text_lines.specs.Next.{GotLine, GotLast, GotNone, GotFault}
+use Rattle.text_lines.specs.Next.{GotLine, GotLast, GotNone, GotFault, GotSilence}
 use Rattle.chess_match.specs.Acts.{Act, Happens}
-use Rattle.chess_match.specs.Events.{Line, OutputEnds, FailsToRead}
+use Rattle.chess_match.specs.Events.{Line, Silent, OutputEnds, FailsToRead}
 use Rattle.chess_match.specs.Run.{text_read}
 use Rattle.chess_match.specs.declared.run.TheConstants.{ENGINE_LINE_LEN}
 
@@ -43,4 +43,7 @@ OutputAt S (Happens (OutputEnds c)) r r' held held' =
 OutputAt S (Happens (FailsToRead c)) r r' held held' =
     MatchBool (same_colour c S) ((more : List ℕ) × Consumes r.known_bytes r'.known_bytes more
     × GotFault ENGINE_LINE_LEN r r' held held' more) ((r' ≡ r) × (held' ≡ held))
+OutputAt S (Happens (Silent c moment)) r r' held held' =
+    MatchBool (same_colour c S) ((more : List ℕ) × Consumes r.known_bytes r'.known_bytes more
+    × GotSilence ENGINE_LINE_LEN r r' held held' more) ((r' ≡ r) × (held' ≡ held))
 OutputAt S _ r r' held held' = (r' ≡ r) × (held' ≡ held)

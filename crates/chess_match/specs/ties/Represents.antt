@@ -10,7 +10,7 @@ use Rattle.chess_base.specs.Options.{list_if}
 use Rattle.chess_game.specs.Ends.{result_text, verdict}
 use Rattle.chess_game.specs.Results.{cut_tag}
 use Rattle.cecp_engine.specs.Clocks.{ClocksSeen, Spent, charged}
-use Rattle.cecp_engine.specs.EngineLines.{LineKind}
+use Rattle.cecp_engine.specs.EngineLines.{LineKind, Features}
 use Rattle.cecp_engine.specs.Items.{Item, last_said}
 use Rattle.cecp_engine.specs.Seen.{features_of}
 use Rattle.cecp_engine.specs.Levels.{LevelSeen}
@@ -79,6 +79,8 @@ pub record Represents (r : Rules) (core : MatchState) (played : List Move) (m : 
   pub last : AreOfLast r core.last m.played
   pub unsent : is_over m.phase ≡ false → (S : Colour) → is_unsent core.last S ≡ is_owed_move m.phase S
   pub count : core.count ≡ m.count
+  pub since : core.since ≡ m.since
+  pub patience : core.patience ≡ r.patience
 
 -- what the code's state keeps of the engine of this side
 abbrev pub player : MatchState → Colour → Player
@@ -104,6 +106,16 @@ nothing_said S = []
 abbrev pub items_in : CorePhase → LineKind → Colour → List Item
 items_in (core_in.Handshake c) kind = items_to c (items_in_line kind)
 items_in _ kind = nothing_said
+
+-- since when a reply is awaited, once a line of this kind came at this moment in a handshake: after a `feature` line
+-- from there on, after any other as before (`since`)
+abbrev pub since_heard : LineKind → ℕ → Option ℕ → Option ℕ
+since_heard (Features text) moment since = Some moment
+since_heard _ moment since = since
+
+-- the match `m`, once a line of this kind came at this moment in a handshake
+abbrev pub heard : LineKind → ℕ → Match → Match
+heard kind moment m = record m { since = since_heard kind moment m.since }
 
 -- the lines that end the match for the side `S`, by the reason that is reported; `m` is the match, and `owed` says
 -- whether the last move is among them

@@ -3,7 +3,7 @@ use Rattle.std.specs.Prelude.{◌≡◌, ◌<◌, ◌^◌, ◌&&◌, ℕ, Bool, 
 use Rattle.std.specs.List.{AllByRecursion, list_all}
 use Rattle.chess_base.specs.Letters.{byte}
 use Rattle.chess_base.specs.declared.man.Colour.{Colour}
-use Rattle.chess_match.specs.Events.{Line, Opened, OutputEnds, FailsToRead, FailsToWrite}
+use Rattle.chess_match.specs.Events.{Line, Opened, Silent, OutputEnds, FailsToRead, FailsToWrite}
 use Rattle.chess_match.specs.Notes.{Note, Happened, Gives}
 use Rattle.match_runner.specs.Log.{lines_in, log_line, moment_after}
 
@@ -31,6 +31,8 @@ note_entries moment (Happened (Line c (Some text) now)) =
 note_entries moment (Happened (Line c None now)) =
     record { moment = now; mark = byte "!"; side = c; text = codes "line too long" } ∷ []
 note_entries moment (Happened (Opened c now)) = []
+note_entries moment (Happened (Silent c now)) =
+    record { moment = now; mark = byte "!"; side = c; text = codes "no line" } ∷ []
 note_entries moment (Happened (OutputEnds c)) =
     record { moment = moment; mark = byte "!"; side = c; text = codes "output ended" } ∷ []
 note_entries moment (Happened (FailsToRead c)) =
@@ -40,8 +42,8 @@ note_entries moment (Happened (FailsToWrite c)) =
 note_entries moment (Gives c bytes) =
     map (λ text. record { moment = moment; mark = byte ">"; side = c; text = text }) (lines_in bytes)
 
--- the log's lines for these notes, one note after another. `moment` is the clock's reading at the last `Line` or
--- `Opened` before these notes, or 0 if there was none
+-- the log's lines for these notes, one note after another. `moment` is the clock's reading at the last `Line`, `Silent`
+-- or `Opened` before these notes, or 0 if there was none
 abbrev pub entries_from : ℕ → List Note → List Entry
 entries_from moment [] = []
 entries_from moment (n ∷ notes) = note_entries moment n ++ entries_from (moment_after moment n) notes

@@ -9,7 +9,7 @@ use Rattle.chess_base.specs.Options.{list_if}
 use Rattle.chess_base.specs.declared.man.Colour.{Colour}
 use Rattle.chess_match.specs.Acts.{Act, IsMatch}
 use Rattle.chess_match.specs.Effects.{Match, Over}
-use Rattle.chess_match.specs.Events.{Event, Line, Opened, OutputEnds, FailsToRead, FailsToWrite}
+use Rattle.chess_match.specs.Events.{Event, Line, Opened, Silent, OutputEnds, FailsToRead, FailsToWrite}
 use Rattle.chess_match.specs.laws.Laws.{events_in, notes_given}
 use Rattle.chess_match.specs.laws.OfActs.{lines_given}
 use Rattle.match_runner.specs.declared.plan.GamesPlan.{GamesPlan}
@@ -39,6 +39,7 @@ text_of_result reason = codes "result " ++ result_text (result_of reason)
 abbrev pub other_event : Colour → ℕ → List ℕ → Event
 other_event side moment text =
     if bytes_eq text (codes "line too long") then Line side None moment
+    else if bytes_eq text (codes "no line") then Silent side moment
     else if bytes_eq text (codes "output ended") then OutputEnds side
     else if bytes_eq text (codes "read failed") then FailsToRead side
     else FailsToWrite side
@@ -80,7 +81,7 @@ pub record AreAlike (reason reason' : Reason) (H K : List Act) (final final' : M
   pub items : (S : Colour) → (final.seat S).items ≡ (final'.seat S).items
   -- each engine was sent the same, so also the same clocks in `time` and `otim` lines
   pub sent : (S : Colour) → bytes_of (lines_given S H) ≡ bytes_of (lines_given S K)
-  -- each engine sent the same lines, at the same moments
+  -- each engine sent the same lines at the same moments, and was silent at the same moments
   pub events : events_shown (events_in (notes_given reason H)) ≡ events_shown (events_in (notes_given reason' K))
 
 -- the log gives the game back: two matches by the same rules that have the same log, which shows their lines as they

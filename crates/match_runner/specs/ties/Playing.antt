@@ -12,12 +12,12 @@ use Rattle.chess_game.specs.declared.results.Outcome.{Outcome}
 use Rattle.chess_game.specs.declared.results.Outcome.TheVariants.{Draw, Unfinished}
 use Rattle.chess_match.specs.Reasons.{win_of}
 use Rattle.chess_match.specs.declared.run.MatchEnd.{MatchEnd}
-use Rattle.match_runner.specs.Log.{LogSeen}
+use Rattle.match_runner.specs.Log.{LogSeen, Logged}
 use Rattle.match_runner.specs.declared.fault.GamesFault.{GamesFault}
 use Rattle.match_runner.specs.declared.fault.GamesFault.TheVariants.{WriteFailed, NoMemory, CanNotStart}
 use Rattle.match_runner.specs.declared.games.GamesPlayed.{GamesPlayed}
 use Rattle.match_runner.specs.declared.score.Score.{Score}
-use Rattle.match_runner.specs.Games.{first_side, GameRecord, IsOfPlan, game_text, IsStartFault, LogsGame, game_texts, LogsGames, WritesGames, count_of, AreAllGames}
+use Rattle.match_runner.specs.Games.{first_side, GameRecord, IsOfPlan, game_text, game_log, IsStartFault, game_texts, LogsGames, WritesGames, count_of, AreAllGames}
 use Rattle.match_runner.specs.GamesTable.{GamesPassing, Outputs, StepsPass, game_steps, unwritten_steps, unstarted_steps, games_steps}
 
 -- ---- the score, as it is counted
@@ -76,10 +76,10 @@ abbrev pub PlayedGame : GamesPlan → ℕ → GamesPassing → GamesPassing → 
     → Result MatchEnd GamesFault → Type 0
 PlayedGame plan number p p' w w' l l' (Ok end) =
     (played : GameRecord) × (played.end ≡ end) × IsOfPlan plan played × Sent w w' (game_text plan number played)
-    × LogsGame (logged_side plan number) l l' played.notes × StepsPass p p' (game_steps plan number played)
+    × Logged l l' (game_log plan number played) × StepsPass p p' (game_steps plan number played)
 PlayedGame plan number p p' w w' l l' (Err WriteFailed) =
     (played : GameRecord) × IsOfPlan plan played × CutShort w w' (game_text plan number played)
-    × LogsGame (logged_side plan number) l l' played.notes × StepsPass p p' (unwritten_steps plan number played)
+    × Logged l l' (game_log plan number played) × StepsPass p p' (unwritten_steps plan number played)
 PlayedGame plan number p p' w w' l l' (Err fault) =
     IsStartFault plan.white.now plan.black.now fault × (w' ≡ w) × (l' ≡ l)
     × StepsPass p p' (unstarted_steps plan number)
@@ -90,7 +90,7 @@ abbrev pub PlaysThese : GamesPlan → Result (Unit {0}) GamesFault → List Game
     → Outputs → Type 0
 PlaysThese plan result games unwritten d d' =
     (o : ToOutput) × WritesGames plan result games unwritten o × OutputTook d.output d'.output o
-    × LogsGames plan.log d.log d'.log (games ++ option_to_list unwritten)
+    × LogsGames plan d.log d'.log (games ++ option_to_list unwritten)
 
 -- what playing the games of a match does, by its result: each was written and logged, and the score counts them, up to
 -- and with one that has a fault; or the match broke off in a game or at its start. `p` is what may have passed at the
@@ -99,7 +99,7 @@ abbrev pub HasPlayed : GamesPlan → GamesPassing → GamesPassing → OutputSta
     → Result GamesPlayed GamesFault → Type 0
 HasPlayed plan p p' w w' l l' (Ok played) =
     (games : List GameRecord) × AreAllGames plan games played.fault × (played.score ≡ score_of games)
-    × OutputTook w w' (all_for games (game_texts plan games)) × LogsGames plan.log l l' games
+    × OutputTook w w' (all_for games (game_texts plan games)) × LogsGames plan l l' games
     × StepsPass p p' (games_steps plan games)
 HasPlayed plan p p' w w' l l' (Err WriteFailed) = (games : List GameRecord) × (unwritten : GameRecord)
     × PlaysThese plan (Err WriteFailed) games (Some unwritten)

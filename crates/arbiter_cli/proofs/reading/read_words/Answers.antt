@@ -25,8 +25,8 @@ request_in-requires-clause-both c =
     (entered_well texts c.in-Ok.matches parsed c.entered.result c.entered.ensures c.in-Ok.ensures.complete
     (c.in-Some.name, c.in-Some.found) is).0
 
-pub request_in-requires-clause-games : goal.request_in-requires-clause-games
-request_in-requires-clause-games c =
+pub request_in-requires-clause-numbers : goal.request_in-requires-clause-numbers
+request_in-requires-clause-numbers c =
     let texts = map (λ w. w.now) c.args.arguments.now in
     let is : c.entered.result ≡ Some (c.in-Some.name, c.in-Some.found) = search rules in
     let parsed : IsParsed texts (Ok c.in-Ok.matches) = c.in-Ok.ensures.parsed in

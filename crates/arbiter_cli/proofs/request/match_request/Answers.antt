@@ -1,6 +1,6 @@
 -- What `clap` finds of an option is the first value in its row (first_value-rows), so each field is as written;
 -- where both engines are named, both are found.
-use Rattle.std.proofs.Common.{rules, ◌≡◌, ◌∙◌, ap, codes, Option, Some, None, is_some, sym, true, true≢false}
+use Rattle.std.proofs.Common.{rules, ◌≡◌, ◌∙◌, ap, codes, Option, Some, None, is_some, sym, arith, true, true≢false}
 use Rattle.clap.specs.Words.{Text, first_value, found_of}
 use Rattle.clap.proofs.WalkLemmas.{first_value-rows}
 use Rattle.arbiter_cli.proofs.FoundTexts.{text_of}
@@ -23,6 +23,9 @@ returns-in_err-black-clause-needed c = λ w b.
     let said : text_of c.get_str-2.result ≡ first_value f (codes "black") = search rules in
     absurd (gone _ (sym (first_value-rows f (codes "black")) ∙ sym said ∙ ap text_of none) b)
 
+pub number_in-requires : goal.number_in-requires
+number_in-requires c = (999, omega arith, c.requires.1)
+
 pub returns-clause-given : goal.returns-clause-given
 returns-clause-given c =
     let f = found_of c.args.found.now in
@@ -41,4 +44,6 @@ returns-clause-given c =
       date = search rules;
       variant = search rules;
       log = search rules;
+      flag = search rules;
+      reply = search rules;
     }

@@ -24,9 +24,13 @@ returns-clause-app c =
     let e6 = c.in_ok-arg-6.ensures.shape c.option-3.ensures.local ∙ ap₂ with_rule e5 date in
     let e7 = c.in_ok-arg-7.ensures.shape c.variant_option.ensures.local ∙ ap₂ with_rule e6 variant.2 in
     let log : rule_of c.flag.result ≡ flag_rule (codes "log") = search rules in
-    IfOk-weaker c.arg-8.result _ _
-    (λ r h. (variant.0, variant.1, h.shape c.flag.ensures.local ∙ ap₂ with_rule e7 log))
-    c.arg-8.ensures
+    let falls : rule_of c.flag-2.result ≡ flag_rule (codes "flag") = search rules in
+    let reply = c.reply_timeout_option.ensures in
+    let e8 = c.in_ok-arg-8.ensures.shape c.flag.ensures.local ∙ ap₂ with_rule e7 log in
+    let e9 = c.in_ok-arg-9.ensures.shape c.flag-2.ensures.local ∙ ap₂ with_rule e8 falls in
+    IfOk-weaker c.arg-10.result _ _
+    (λ r h. (variant.0, variant.1, h.shape reply.local ∙ ap₂ with_rule e9 reply.rule))
+    c.arg-10.ensures
 
 pub returns-clause-local : goal.returns-clause-local
 returns-clause-local c =
@@ -38,4 +42,6 @@ returns-clause-local c =
     let e5 = c.in_ok-arg-5.ensures.globals ∙ ap₂ or e4 c.games_option.ensures.local in
     let e6 = c.in_ok-arg-6.ensures.globals ∙ ap₂ or e5 c.option-3.ensures.local in
     let e7 = c.in_ok-arg-7.ensures.globals ∙ ap₂ or e6 c.variant_option.ensures.local in
-    IfOk-weaker c.arg-8.result _ _ (λ r h. h.globals ∙ ap₂ or e7 c.flag.ensures.local) c.arg-8.ensures
+    let e8 = c.in_ok-arg-8.ensures.globals ∙ ap₂ or e7 c.flag.ensures.local in
+    let e9 = c.in_ok-arg-9.ensures.globals ∙ ap₂ or e8 c.flag-2.ensures.local in
+    IfOk-weaker c.arg-10.result _ _ (λ r h. h.globals ∙ ap₂ or e9 c.reply_timeout_option.ensures.local) c.arg-10.ensures

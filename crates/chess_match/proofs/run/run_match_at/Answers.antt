@@ -8,10 +8,10 @@ use Rattle.chess_match.specs.Acts.{awaits_line}
 use Rattle.chess_match.specs.Effects.{Match, Phase, beginning}
 use Rattle.chess_match.specs.Events.{Opened}
 use Rattle.chess_match.specs.Notes.{Happened}
-use Rattle.chess_match.specs.Rules.{Rules, rules_of}
+use Rattle.chess_match.specs.Rules.{Rules}
 use Rattle.chess_match.specs.Table.{ReadsClock, Notes}
 use Rattle.chess_match.specs.ties.Represents.{Represents, nothing_said}
-use Rattle.chess_match.proofs.OnTheWay.{begins, begun, opened_less, opened_on, played_at, plays_anew, plays_on, rules_level, went_less, went_on}
+use Rattle.chess_match.proofs.OnTheWay.{begins, begun, limited, opened_less, opened_on, played_at, plays_anew, plays_on, rules_in, went_less, went_on}
 use Rattle.chess_match.proofs.Passings.{passed_more}
 use Rattle.chess_match.proofs.Sends.{no_answers}
 use Rattle.chess_match.proofs.StaysSane.{fine_after}
@@ -19,13 +19,13 @@ use Rattle.chess_match.proofs.run.run_match_at.Goals as goal
 
 pub events-init : goal.events-init
 events-init g c =
-    let r : Rules = rules_of c.args.setup.now.start c.args.setup.now.level c.args.game.now.limit in
+    let r : Rules = rules_in c.args.setup.now c.args.game.now in
     let stands = subst (λ (ms : List Move). Represents r c.new-core.result ms beginning.after)
     (sym (ap (λ (x : game.Seen). x.state.moves) c.restart.ensures))
-    (c.new-core.ensures.stands r (rules_level c.args.setup.now.start c.args.setup.now.level c.args.game.now.limit)) in (
+    (c.new-core.ensures.stands r refl refl) in (
       begun r _ _ _ _ _ (c.deliver-failed.ensures.delivered r nothing_said beginning
           (plays_anew c.args.game.now c.restart.new.self c.args.setup.now.start c.args.setup.now.level
-          c.restart.ensures)
+          c.args.setup.now.patience c.restart.ensures)
           (begins r _ _ c.new-core.ensures.phase stands) (no_answers _ c.new-blocks.ensures.own) refl
           (λ reason e S. absurd cc)),
       ap (λ (x : game.Seen). x.state.start) c.restart.ensures,
@@ -45,7 +45,7 @@ returns-in-Nothing-clause-ran g c =
 pub events-smaller-in-Moment : goal.events-smaller-in-Moment
 events-smaller-in-Moment g c =
     let i = c.events.invariant in
-    let r : Rules = rules_of c.args.setup.now.start c.args.setup.now.level c.args.game.now.limit in
+    let r : Rules = rules_in c.args.setup.now c.args.game.now in
     let w = i.0.2 in
     let opens = c.in-Moment.ensures c.events.core.opened in
     opened_less _ _ c.in-Moment.side c.moment-moment.result _ _
@@ -55,7 +55,7 @@ events-smaller-in-Moment g c =
 pub events-preserved-in-Moment : goal.events-preserved-in-Moment
 events-preserved-in-Moment g c =
     let i = c.events.invariant in
-    let r : Rules = rules_of c.args.setup.now.start c.args.setup.now.level c.args.game.now.limit in
+    let r : Rules = rules_in c.args.setup.now c.args.game.now in
     let w = i.0.2 in
     let S : Colour = c.in-Moment.side in
     let k : ℕ = c.moment-moment.result in
@@ -73,11 +73,11 @@ events-preserved-in-Moment g c =
 pub take_next-given-requires-clause-sane : goal.take_next-given-requires-clause-sane
 take_next-given-requires-clause-sane g c =
     let i = c.events.invariant in
-    let r : Rules = rules_of c.args.setup.now.start c.args.setup.now.level c.args.game.now.limit in
+    let r : Rules = rules_in c.args.setup.now c.args.game.now in
     let w = i.0.2 in (
       r,
       i.0.0,
-      plays_on c.args.game.now c.events.game c.args.setup.now.start c.args.setup.now.level i.1 i.2 i.3,
+      plays_on c.args.game.now c.events.game c.args.setup.now i.1 i.2 i.3,
       w.stands,
       w.sane,
       ap (λ (p : Phase). awaits_line p c.in-Line.side) w.stands.phase ∙ c.in-Line.ensures c.events.core.opened,
@@ -86,34 +86,35 @@ take_next-given-requires-clause-sane g c =
 pub events-smaller : goal.events-smaller
 events-smaller g c =
     let i = c.events.invariant in
-    let r : Rules = rules_of c.args.setup.now.start c.args.setup.now.level c.args.game.now.limit in
+    let r : Rules = rules_in c.args.setup.now c.args.game.now in
     let m : Match = i.0.0 in
     let w = i.0.2 in
     let S : Colour = c.in-Line.side in
     let awaits = ap (λ (p : Phase). awaits_line p S) w.stands.phase ∙ c.in-Line.ensures c.events.core.opened in
-    let plays = plays_on c.args.game.now c.events.game c.args.setup.now.start c.args.setup.now.level i.1 i.2 i.3 in
+    let plays = plays_on c.args.game.now c.events.game c.args.setup.now i.1 i.2 i.3 in
     let h = c.take_next-given.ensures.taken in
     went_less r _ _ c.events.core c.deliver-failed-in-Line.new.core _ m S h.0 _ _ _ _ _
-    (c.in-Line.ensures c.events.core.opened) h.2 h.4 c.deliver-failed-in-Line.ensures.left
+    (c.in-Line.ensures c.events.core.opened) h.2 h.4 (λ x. (h.5 x).0)
+    c.deliver-failed-in-Line.ensures.left
     (c.deliver-failed-in-Line.ensures.delivered r h.1 _ (c.take_next-given.ensures.rules r plays)
-    (h.7 r m plays awaits w.stands) h.5 h.6 (fine_after r m S h.0 h.2 awaits w.sane).1)
+    (h.8 r m plays awaits w.stands) h.6 h.7 (fine_after r m S h.0 h.2 awaits w.sane).1)
 
 pub events-preserved : goal.events-preserved
 events-preserved g c =
     let i = c.events.invariant in
-    let r : Rules = rules_of c.args.setup.now.start c.args.setup.now.level c.args.game.now.limit in
+    let r : Rules = rules_in c.args.setup.now c.args.game.now in
     let m : Match = i.0.0 in
     let w = i.0.2 in
     let S : Colour = c.in-Line.side in
     let awaits = ap (λ (p : Phase). awaits_line p S) w.stands.phase ∙ c.in-Line.ensures c.events.core.opened in
-    let plays = plays_on c.args.game.now c.events.game c.args.setup.now.start c.args.setup.now.level i.1 i.2 i.3 in
+    let plays = plays_on c.args.game.now c.events.game c.args.setup.now i.1 i.2 i.3 in
     let h = c.take_next-given.ensures.taken in (
-      went_on r _ _ _ _ _ _ _ _ _ _ m i.0.1 S h.0 w awaits h.2 h.3
+      went_on r _ _ _ _ _ _ _ _ _ _ m i.0.1 S h.0 w awaits h.2 (λ x. limited r _ _ m w.stands (h.5 x).1) h.3
           (c.deliver-failed-in-Line.ensures.delivered r h.1 _ (c.take_next-given.ensures.rules r plays)
-          (h.7 r m plays awaits w.stands) h.5 h.6 (fine_after r m S h.0 h.2 awaits w.sane).1),
+          (h.8 r m plays awaits w.stands) h.6 h.7 (fine_after r m S h.0 h.2 awaits w.sane).1),
       ap (λ (x : Setup × ℕ). x.0) c.take_next-given.ensures.origin ∙ i.1,
       ap (λ (x : Setup × ℕ). x.1) c.take_next-given.ensures.origin ∙ i.2,
-      (c.take_next-given.ensures.rules r plays).2,
+      (c.take_next-given.ensures.rules r plays).3,
       c.deliver-failed-in-Line.ensures.own_empty,
       c.deliver-failed-in-Line.ensures.others_empty,
     )

@@ -1,12 +1,11 @@
 use Rattle.std.proofs.Common.{◌≡◌, [], None}
 use Rattle.chess_base.specs.ByColour.{of_colour}
-use Rattle.chess_match.specs.Rules.{rules_of}
-use Rattle.chess_match.proofs.OnTheWay.{OnTheWay, phase_now, steps_left}
+use Rattle.chess_match.proofs.OnTheWay.{OnTheWay, phase_now, rules_in, steps_left}
 use Rattle.chess_match.proofs.run.run_match_at.Given as goal
 
 abbrev pub invariant-events : goal.invariant-events
 invariant-events g l =
-    OnTheWay (rules_of l.fn.setup.start l.fn.setup.level l.fn.game.limit) (g.T.MatchTable.passed l.fn.table)
+    OnTheWay (rules_in l.fn.setup l.fn.game) (g.T.MatchTable.passed l.fn.table)
     (g.T.MatchTable.passed l.table) l.core l.game.state.moves (of_colour l.failed)
     × (l.game.state.start ≡ l.fn.setup.start) × (l.game.limit ≡ l.fn.game.limit) × (l.game.state.declared ≡ None)
     × (l.blocks.own.items ≡ []) × (l.blocks.others.items ≡ [])

@@ -19,7 +19,7 @@ returns-in_err-engines-clause-played g c =
 pub returns-in-Ok-clause-limit : goal.returns-in-Ok-clause-limit
 returns-in-Ok-clause-limit g c =
     let r = c.play-end.ensures.played in
-    ap (λ (v : Seen). v.limit) (c.finish.ensures.game ∙ c.write_game-written.ensures.game)
+    ap (λ (v : Seen). v.limit) (c.finish-killed.ensures.game ∙ c.write_game-written.ensures.game)
     ∙ limit_kept r.0 _ c.play-end.result _ _ r.2
     ∙ ap (λ (v : Seen). v.limit) c.start.ensures.game ∙ c.requires.limit
 
@@ -36,17 +36,17 @@ returns-in-Ok-clause-played g c =
       coming = g.T.GamesTable.coming c.play-end.new.self;
       game = g.T.GamesTable.game c.play-end.new.self;
     } in
-    was_written c.args.plan.now c.args.number _ _ _ _ _ _ _ _ _ _ _ _
-    (record { before = before; after = after; end = c.play-end.result; notes = r.0 }) c.tags_of-tags.result
-    c.command_of.ensures c.command_of-2.ensures c.logged_side.ensures c.tags_of-tags.ensures
-    c.in_ok-engines.ensures.passes r.1 r.3 c.finish.ensures.passes
-    (ap (λ (v : Seen). v.limit) c.start.ensures.game ∙ c.requires.limit, r.2) c.in-Ok.ensures.sends
-    c.in-Ok.ensures.passes
+    was_written c.args.plan.now c.args.number _ _ _ _ _ _ _ _ _ _ _ _ _
+    (record { before = before; after = after; end = c.play-end.result; notes = r.0; killed = c.finish-killed.result })
+    c.tags_of-tags.result c.command_of.ensures c.command_of-2.ensures c.logged_side.ensures c.tags_of-tags.ensures
+    c.in_ok-engines.ensures.passes r.1 r.3 c.finish-killed.ensures.passes c.note_killed.ensures
+    (ap (λ (v : Seen). v.limit) c.start.ensures.game ∙ c.requires.limit, c.finish-killed.ensures.spared, r.2)
+    c.in-Ok.ensures.sends c.in-Ok.ensures.passes
 
 pub returns-in-Err-clause-limit : goal.returns-in-Err-clause-limit
 returns-in-Err-clause-limit g c =
     let r = c.play-end.ensures.played in
-    ap (λ (v : Seen). v.limit) (c.finish.ensures.game ∙ c.write_game-written.ensures.game)
+    ap (λ (v : Seen). v.limit) (c.finish-killed.ensures.game ∙ c.write_game-written.ensures.game)
     ∙ limit_kept r.0 _ c.play-end.result _ _ r.2
     ∙ ap (λ (v : Seen). v.limit) c.start.ensures.game ∙ c.requires.limit
 
@@ -63,9 +63,9 @@ returns-in-Err-clause-played g c =
       coming = g.T.GamesTable.coming c.play-end.new.self;
       game = g.T.GamesTable.game c.play-end.new.self;
     } in
-    was_not_written c.args.plan.now c.args.number _ _ _ _ _ _ _ _ _ _ _ _
-    (record { before = before; after = after; end = c.play-end.result; notes = r.0 }) c.tags_of-tags.result
-    c.command_of.ensures c.command_of-2.ensures c.logged_side.ensures c.tags_of-tags.ensures
-    c.in_ok-engines.ensures.passes r.1 r.3 c.finish.ensures.passes
-    (ap (λ (v : Seen). v.limit) c.start.ensures.game ∙ c.requires.limit, r.2) c.in-Err.ensures.sends
-    c.in-Err.ensures.passes
+    was_not_written c.args.plan.now c.args.number _ _ _ _ _ _ _ _ _ _ _ _ _
+    (record { before = before; after = after; end = c.play-end.result; notes = r.0; killed = c.finish-killed.result })
+    c.tags_of-tags.result c.command_of.ensures c.command_of-2.ensures c.logged_side.ensures c.tags_of-tags.ensures
+    c.in_ok-engines.ensures.passes r.1 r.3 c.finish-killed.ensures.passes c.note_killed.ensures
+    (ap (λ (v : Seen). v.limit) c.start.ensures.game ∙ c.requires.limit, c.finish-killed.ensures.spared, r.2)
+    c.in-Err.ensures.sends c.in-Err.ensures.passes

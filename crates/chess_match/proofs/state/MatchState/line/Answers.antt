@@ -15,7 +15,7 @@ returns-in-Handshake-clause-goes g c r m side text p h k s =
 pub returns-in-Setup-clause-goes : goal.returns-in-Setup-clause-goes
 returns-in-Setup-clause-goes g c r m side text p h k s =
     let at = s.phase ∙ ap (phase_of c.args.self.now.opened) c.in-Setup.is in
-    rw (k, c.in-Setup.is) (row_goes r _ _ _ _ _ _ m _ at (c.setup_line.ensures r m _ p at s))
+    rw (k, c.in-Setup.is) (row_goes r _ _ _ _ _ _ m _ at (c.setup_line.ensures r m p at s))
 
 pub returns-in-AwaitMove-clause-goes : goal.returns-in-AwaitMove-clause-goes
 returns-in-AwaitMove-clause-goes g c r m side text p h k s =

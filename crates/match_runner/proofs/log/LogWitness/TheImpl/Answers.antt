@@ -1,5 +1,5 @@
 -- A note whose lines were logged was noted.
-use Rattle.chess_match.specs.Events.{Line, Opened, OutputEnds, FailsToRead, FailsToWrite}
+use Rattle.chess_match.specs.Events.{Line, Opened, Silent, OutputEnds, FailsToRead, FailsToWrite}
 use Rattle.chess_match.specs.Notes.{Gives, Happened}
 use Rattle.chess_match.specs.Run.{text_read}
 use Rattle.match_runner.proofs.Logged.{noted}
@@ -13,6 +13,10 @@ line-tells g c =
 pub opened-tells : goal.opened-tells
 opened-tells g c =
     noted g.E.Output.seen c.args.self.now c.new.self.now (Happened (Opened c.args.side c.args.moment)) c.ensures.logs
+
+pub silent-tells : goal.silent-tells
+silent-tells g c =
+    noted g.E.Output.seen c.args.self.now c.new.self.now (Happened (Silent c.args.side c.args.moment)) c.ensures.logs
 
 pub output_ends-tells : goal.output_ends-tells
 output_ends-tells g c =

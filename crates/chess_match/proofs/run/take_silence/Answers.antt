@@ -1,0 +1,16 @@
+-- The clock is read, the silence is noted, and the core takes note of it.
+use Rattle.std.proofs.Common.{◌∷◌, []}
+use Rattle.chess_match.specs.Events.{Silent}
+use Rattle.chess_match.specs.Notes.{Happened}
+use Rattle.chess_match.specs.Table.{ReadsClock, Notes}
+use Rattle.chess_match.proofs.Passings.{passed_more}
+use Rattle.chess_match.proofs.run.take_silence.Goals as goal
+
+pub returns-clause-taken : goal.returns-clause-taken
+returns-clause-taken g c = (
+  c.moment-moment.result,
+  passed_more _ _ _ (ReadsClock c.args.side c.moment-moment.result ∷ [])
+      (Notes (Happened (Silent c.args.side c.moment-moment.result)) ∷ [])
+      c.moment-moment.ensures.passes c.note_silent.ensures.passes,
+  λ r m p aw s. c.silent.ensures r m p aw s,
+)
