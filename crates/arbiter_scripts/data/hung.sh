@@ -4,9 +4,9 @@ ln -sf "$1" program
 
 # Plays a match: plays WHITE BLACK
 plays() {
-    ./program match --white "$1" --black "$2" --level "0 0:01 0" --flag --reply-timeout 1 2> complaint
+    ./program match --white "$1" --black "$2" --level "0 0:02 0" --flag --reply-timeout 2 2> hung_errors
     status=$?
-    cat complaint
+    cat hung_errors
     echo "$1 against $2: status $status"
 }
 
