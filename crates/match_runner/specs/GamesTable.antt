@@ -1,109 +1,160 @@
--- What passes at the table of a match's games, step by step.
-use Rattle.std.specs.Prelude.{ℕ, ◌+◌, Bool, if◌then◌else◌, List, [], ◌∷◌, ◌++◌, length, flat_map, Option, None, Some, Result, Err}
+-- What passes at the host of a match and at the table of its games, step by step.
+use Rattle.std.specs.Prelude.{◌≡◌, ⊤, ◌⊎◌, ℕ, ◌+◌, Bool, if◌then◌else◌, List, [], ◌∷◌, ◌++◌, length, flat_map, Option, None, Some, Result, Ok, Err}
 use Rattle.std.specs.List.{enumerate_from}
 use Rattle.std.specs.Option.{option_to_list}
+use Rattle.chess_base.specs.declared.man.Colour.{Colour}
 use Rattle.chess_base.specs.declared.man.Colour.TheVariants.{White, Black}
 use Rattle.chess_base.specs.declared.by_colour.ByColour.{ByColour}
 use Rattle.match_runner.specs.declared.fault.GamesFault.{GamesFault}
 use Rattle.match_runner.specs.declared.fault.GamesFault.TheVariants.{NoMemory, CanNotStart}
 use Rattle.match_runner.specs.declared.plan.GamesPlan.{GamesPlan}
 use Rattle.byte_devices.specs.Devices.{OutputState}
-use Rattle.byte_devices.specs.Transfers.{ToOutput, OutputTook}
+use Rattle.byte_devices.specs.Transfers.{Devices, ToOutput, OutputTook}
 use Rattle.match_runner.specs.Games.{GameRecord, LogsGames, WritesGames, engine_command, game_text, none_killed}
 use Rattle.match_runner.specs.Log.{LogSeen}
 
--- one step of playing a match's games: one call of a method of the trait `GamesTable`. A table starts the engines,
--- plays and writes the games, and waits for the engines
-pub data GamesStep : Type 0 where
-  -- the engines with these commands, White's and Black's, were started
-  Starts : (white : List ℕ) → (black : List ℕ) → GamesStep
+-- ---- one call
+
+-- one step of a host: one call of a method of the trait `Host`. A host starts and ends engines, and has the clock
+pub data HostStep : Type 0 where
+  -- a clock was opened, which will show these moments: `coming n` is the one of reading n, as far as it is known
+  OpensClock : (coming : ℕ → Option ℕ) → HostStep
+  -- the engines with these commands, White's and Black's, were started, and `engines` are their pipes. If there is a
+  -- limit, a write to them waits for at most so many milliseconds
+  Starts : (white : List ℕ) → (black : List ℕ) → (limit : Option ℕ) → (engines : Colour → Devices) → HostStep
   -- one of them could not be started, and neither runs
-  StartFails : (white : List ℕ) → (black : List ℕ) → GamesStep
-  -- they played this game; its record says of no engine yet that it was killed
+  StartFails : (white : List ℕ) → (black : List ℕ) → (limit : Option ℕ) → HostStep
+  -- the inputs of the engines with these pipes were closed, and their ends were waited for. If there is a limit, those
+  -- that had not ended after so many milliseconds were killed
+  Finishes : (engines : Colour → Devices) → (limit : Option ℕ) → (killed : ByColour Bool) → HostStep
+
+-- the step of starting the engines with these commands, by its result; `engines` gives the pipes of two engines
+abbrev pub starting : {E F : Type 0} → (E → Colour → Devices) → List ℕ → List ℕ → Option ℕ → Result E F → HostStep
+starting engines white black limit (Ok started) = Starts white black limit (engines started)
+starting engines white black limit (Err _) = StartFails white black limit
+
+-- one step of playing a match's games: one call of a method of the trait `GamesTable`. A table starts and ends engines,
+-- as a host does, and plays and writes their games
+pub data GamesStep : Type 0 where
+  -- a step of the host
+  AtHost : (step : HostStep) → GamesStep
+  -- the engines that were started played this game; its record says of no engine yet that it was killed
   Plays : (played : GameRecord) → GamesStep
   -- this text was written and flushed
   Writes : (text : List ℕ) → GamesStep
   -- a write or a flush failed, while this text was written
   WriteFails : (text : List ℕ) → GamesStep
-  -- the engines' inputs were closed, and their ends were waited for; those that had not ended in time were killed
-  Finishes : (killed : ByColour Bool) → GamesStep
-
--- ---- one call
-
--- the step of starting the engines with these commands, White's and Black's, which failed or not
-abbrev pub starting : Bool → List ℕ → List ℕ → GamesStep
-starting failed white black = if failed then StartFails white black else Starts white black
 
 -- the step of writing and flushing this text, which failed or not
 abbrev pub writing : Bool → List ℕ → GamesStep
 writing failed text = if failed then WriteFails text else Writes text
 
+-- the step of the host that this step at a table is, if it is one
+abbrev pub of_host : GamesStep → List HostStep
+of_host (AtHost step) = step ∷ []
+of_host _ = []
+
+-- the host's steps among these steps at a table
+abbrev pub at_host : List GamesStep → List HostStep
+at_host steps = flat_map of_host steps
+
 -- ---- what passed
 
--- what contracts see of a table: the claim, for each list of steps, that just these may have passed there so far, in
--- this order
+-- what contracts see of a host or a table: the claim, for each list of steps, that just these may have passed there so
+-- far, in this order
+abbrev pub HostPassing : Type 1
+HostPassing = List HostStep → Type 0
+
 abbrev pub GamesPassing : Type 1
 GamesPassing = List GamesStep → Type 0
 
--- from the state `old` of a table to `new` these steps passed, in this order: each list of steps that may have passed
--- up to `old`, with these steps at its end, may have passed up to `new`
-pub record StepsPass (old new : GamesPassing) (steps : List GamesStep) : Type 0 where
-  pub extends : (before : List GamesStep) → old before → new (before ++ steps)
+-- from the state `old` of a host or a table to `new` these steps passed, in this order: each list of steps that may have
+-- passed up to `old`, with these steps at its end, may have passed up to `new`
+pub record StepsPass {S : Type 0} (old new : List S → Type 0) (steps : List S) : Type 0 where
+  pub extends : (before : List S) → old before → new (before ++ steps)
 
 -- ---- the steps of a match
 
--- the steps of the game `played`, which has this number: its engines are started, it is played, its PGN is written and
--- flushed, and then its engines are waited for
-abbrev pub game_steps : GamesPlan → ℕ → GameRecord → List GamesStep
-game_steps plan number played =
-    Starts (engine_command plan number White) (engine_command plan number Black)
-    ∷ Plays (record played { killed = none_killed }) ∷ Writes (game_text plan number played)
-    ∷ Finishes played.killed ∷ []
-
--- the steps of the game `played`, which has this number, if its PGN can't be written: `WriteFails` takes the place of
--- `Writes`, and its engines are waited for too
-abbrev pub unwritten_steps : GamesPlan → ℕ → GameRecord → List GamesStep
-unwritten_steps plan number played =
-    Starts (engine_command plan number White) (engine_command plan number Black)
-    ∷ Plays (record played { killed = none_killed }) ∷ WriteFails (game_text plan number played)
-    ∷ Finishes played.killed ∷ []
+-- the steps of the game `played`, which has this number; `write` is that of writing its text. Its engines are started,
+-- it is played, its PGN is written, and then its engines are waited for. The plan's limit for replies is also that of
+-- writes, and of waiting for the engines' ends
+abbrev pub steps_by : (List ℕ → GamesStep) → GamesPlan → ℕ → GameRecord → List GamesStep
+steps_by write plan number played =
+    AtHost (Starts (engine_command plan number White) (engine_command plan number Black) plan.patience.reply
+    played.before.engines)
+    ∷ Plays (record played { killed = none_killed }) ∷ write (game_text plan number played)
+    ∷ AtHost (Finishes played.after.engines plan.patience.reply played.killed) ∷ []
 
 -- the step of a game with this number whose engines can't be started
 abbrev pub unstarted_steps : GamesPlan → ℕ → List GamesStep
 unstarted_steps plan number =
-    StartFails (engine_command plan number White) (engine_command plan number Black) ∷ []
+    AtHost (StartFails (engine_command plan number White) (engine_command plan number Black) plan.patience.reply) ∷ []
 
--- the steps of these games, one game after another; they are numbered from 1
+-- the steps of these games, one game after another, each of which was written and flushed; they are numbered from 1
 abbrev pub games_steps : GamesPlan → List GameRecord → List GamesStep
-games_steps plan games = flat_map (λ g. game_steps plan g.0 g.1) (enumerate_from 1 games)
-
--- ---- a match at a table
+games_steps plan games = flat_map (λ g. steps_by Writes plan g.0 g.1) (enumerate_from 1 games)
 
 -- the steps after the steps of all games that were written, by a match's result. `number` is the number of the next
 -- game. Writing the score is no step at the table
 abbrev pub last_steps : GamesPlan → ℕ → Result (Unit {0}) GamesFault → Option GameRecord → List GamesStep
 -- the next game was played, but its PGN could not be written
-last_steps plan number result (Some unwritten) = unwritten_steps plan number unwritten
+last_steps plan number result (Some unwritten) = steps_by WriteFails plan number unwritten
 -- the engines of the next game could not be started
 last_steps plan number (Err NoMemory) None = unstarted_steps plan number
 last_steps plan number (Err (CanNotStart _)) None = unstarted_steps plan number
 -- any other result: no next game was begun
 last_steps plan number _ None = []
 
--- where a match at a table writes, as contracts see it: its output, which has the games and the score, and its log
+-- the pipes of an engine that was just started: no read, write or flush failed, no end came, and nothing is unflushed
+pub record AreFresh (pipes : Devices) : Type 0 where
+  pub reads : pipes.input.failure_count ≡ 0
+  pub ends : pipes.input.end_count ≡ 0
+  pub writes : pipes.output.failure_count ≡ 0
+  pub flushed : pipes.output.unflushed ≡ 0
+
+-- the game `played` began with engines that were just started, and with a clock that would show the moments `coming`
+abbrev pub BeginsAt : (ℕ → Option ℕ) → GameRecord → Type 0
+BeginsAt coming played = ((S : Colour) → AreFresh (played.before.engines S)) × (played.before.coming ≡ coming)
+
+-- these games came one after another, each with engines of its own, and all with one clock, which would show the moments
+-- `coming` before the first: each began where the one before it left the clock
+abbrev pub ComeInTurn : (ℕ → Option ℕ) → List GameRecord → Type 0
+ComeInTurn coming [] = ⊤
+ComeInTurn coming (played ∷ games) = BeginsAt coming played × ComeInTurn played.after.coming games
+
+-- ---- a match
+
+-- where a match writes, as contracts see it: its output, which has the games and the score, and its log
 pub record Outputs : Type 0 where
   pub output : OutputState
   pub log : LogSeen
 
--- what playing a match at a table does, by its result: games were played, maybe none; the PGN of `games` was written,
--- and `unwritten` was played after them, but its PGN could not be written (`None`: there is no such game). The output
--- and the log were written to as in `PlaysGames`. Just the steps of these games passed at the table, and after them
--- those of `last_steps`. `p` is what may have passed there before, and `p'` after; `d` and `d'` are the output and the
--- log before and after
-abbrev pub PlaysGamesAt : GamesPlan → Result (Unit {0}) GamesFault → GamesPassing → GamesPassing → Outputs → Outputs
-    → Type 0
-PlaysGamesAt plan result p p' d d' =
+-- what playing a match does, by its result. Games were played, maybe none. The PGN of `games` was written; `unwritten`
+-- was played after them, but its PGN could not be written (`None`: there is no such game). The output was written to as
+-- `WritesGames` says, and all these games were logged, `unwritten` too, as `LogsGames` says. Each came in its turn by a
+-- clock that would show the moments `coming`. Just their steps passed, and after them those of `last_steps`: `passes` is
+-- the claim that these steps passed. `d` and `d'` are the output and the log before and after
+abbrev pub PlaysBy : GamesPlan → Result (Unit {0}) GamesFault → (ℕ → Option ℕ) → (List GamesStep → Type 0) → Outputs
+    → Outputs → Type 0
+PlaysBy plan result coming passes d d' =
     (games : List GameRecord) × (unwritten : Option GameRecord)
     × ((o : ToOutput) × WritesGames plan result games unwritten o × OutputTook d.output d'.output o
     × LogsGames plan d.log d'.log (games ++ option_to_list unwritten))
-    × StepsPass p p' (games_steps plan games ++ last_steps plan (length games + 1) result unwritten)
+    × ComeInTurn coming (games ++ option_to_list unwritten)
+    × passes (games_steps plan games ++ last_steps plan (length games + 1) result unwritten)
+
+-- what playing a match at a table does, whose clock would show the moments `coming`. `p` is what may have passed there
+-- before, and `p'` after
+abbrev pub PlaysGamesAt : GamesPlan → Result (Unit {0}) GamesFault → (ℕ → Option ℕ) → GamesPassing → GamesPassing
+    → Outputs → Outputs → Type 0
+PlaysGamesAt plan result coming p p' d d' = PlaysBy plan result coming (StepsPass p p') d d'
+
+-- what playing a match with a host does: a clock was opened, and then just the host's steps of the match passed. Or
+-- memory ran out before, and nothing passed, was written or logged. `p` is what may have passed at the host before, and
+-- `p'` after
+abbrev pub PlaysGamesWith : GamesPlan → Result (Unit {0}) GamesFault → HostPassing → HostPassing → Outputs → Outputs
+    → Type 0
+PlaysGamesWith plan result p p' d d' =
+    ((coming : ℕ → Option ℕ)
+    × PlaysBy plan result coming (λ steps. StepsPass p p' (OpensClock coming ∷ at_host steps)) d d')
+    ⊎ ((result ≡ Err NoMemory) × StepsPass p p' [] × (d' ≡ d))

@@ -5,17 +5,17 @@ ghost use Rattle.byte_devices.specs.Devices.{Sends};
 ghost use Rattle.chess_match.specs.Reasons.{comment_of};
 ghost use Rattle.chess_match.specs.declared.reason.Reason.TheVariants.{Faulted};
 ghost use Rattle.match_runner.specs.Games.{PlaysGames, engine_command, first_side, player_name, tags_of};
-ghost use Rattle.match_runner.specs.GamesTable.{PlaysGamesAt};
+ghost use Rattle.match_runner.specs.GamesTable.{PlaysGamesAt, PlaysGamesWith};
 ghost use Rattle.match_runner.specs.ties.Playing.{HasPlayed, PlayedGame, logged_side, score_text};
 ghost use Rattle.match_runner.specs.Log.{log_seen};
 ghost use Rattle.chess_game.specs.declared.game.TheConstants.{MOST_MOVES};
 
-use crate::engine::Host;
 use crate::fault::GamesFault;
+use crate::host::Host;
+use crate::host_table::HostTable;
 use crate::log::Log;
-use crate::moments::SinceStart;
 use crate::plan::GamesPlan;
-use crate::process_table::ProcessTable;
+use crate::process_host::ProcessHost;
 use crate::score::Score;
 use crate::table::GamesTable;
 use byte_devices::{Output, WriteFault, send};
@@ -209,7 +209,7 @@ pub fn play_games_at<'a, T: GamesTable, W: Output, E: Output>(
     log: &mut Log<E>,
 ) -> Result<(), GamesFault<'a>>
     requires { (T.game table.old).limit ≡ MOST_MOVES }
-    ensures plays { PlaysGamesAt plan.now result (T.passed table.old) (T.passed table.new)
+    ensures plays { PlaysGamesAt plan.now result (T.coming table.old) (T.passed table.old) (T.passed table.new)
         (record { output = W.seen output.old; log = log_seen (E.seen log.old.output) log.old.broken })
         (record { output = W.seen output.new; log = log_seen (E.seen log.new.output) log.new.broken }) }
 {
@@ -221,15 +221,47 @@ pub fn play_games_at<'a, T: GamesTable, W: Output, E: Output>(
     }
 }
 
-/// Plays the games of a match, with colours changed after each, and writes each game's PGN and then the score; if the
-/// plan asks for a log, each game is logged.
+/// Plays the games of a match with a host, with colours changed after each, and writes each game's PGN and then the
+/// score; if the plan asks for a log, each game is logged.
 ///
-/// The contract sees only the output and the log; [`play_games_at`], which this calls, says in which order the engines
-/// are started, their games written, and their ends waited for.
+/// The contract says which steps passed at the host, in their order. The clock is opened; for each game two engines are
+/// started by the plan's commands, each with its side, and their ends are waited for when the game was written. Nothing
+/// else is started. The games in the output, in the log and in the score are just those that these engines played by
+/// this clock. [`play_games_at`], which this calls, also says when each game is written.
 ///
 /// # Errors
 /// If an engine can't be started, memory runs out, the output fails, or an engine fails in a game, which is then the
 /// last.
+pub fn play_games_with<'a, H: Host, W: Output, E: Output>(
+    host: &mut H,
+    alloc: Global,
+    plan: &GamesPlan<'a>,
+    output: &mut W,
+    log: &mut Log<E>,
+) -> Result<(), GamesFault<'a>>
+    ensures plays { PlaysGamesWith plan.now result (H.passed host.old) (H.passed host.new)
+        (record { output = W.seen output.old; log = log_seen (E.seen log.old.output) log.old.broken })
+        (record { output = W.seen output.new; log = log_seen (E.seen log.new.output) log.new.broken }) }
+{
+    let tables = AttackTables::open(alloc)?;
+    let game = Game::open(alloc, Bits::new(&tables), MOST_MOVES)?;
+    let clock = host.open_clock();
+    let mut table = HostTable {
+        host,
+        clock,
+        game,
+        scratch: Bits::new(&tables),
+    };
+    play_games_at(&mut table, plan, output, log)
+}
+
+/// Plays the games of a match between processes of this runtime, as [`play_games_with`] does with a
+/// [`ProcessHost`].
+///
+/// The contract sees only the output and the log, as nothing is known of processes.
+///
+/// # Errors
+/// As [`play_games_with`].
 pub fn play_games<'a, P: Processes + Clock, W: Output, E: Output>(
     rt: &P,
     alloc: Global,
@@ -243,18 +275,5 @@ where
     ensures { PlaysGames plan.now result (W.seen output.old) (W.seen output.new)
         (log_seen (E.seen log.old.output) log.old.broken) (log_seen (E.seen log.new.output) log.new.broken) }
 {
-    let tables = AttackTables::open(alloc)?;
-    let game = Game::open(alloc, Bits::new(&tables), MOST_MOVES)?;
-    let moments = SinceStart::new(rt);
-    let mut table = ProcessTable {
-        host: Host {
-            rt,
-            alloc,
-            clock: moments.again(),
-        },
-        moments,
-        game,
-        scratch: Bits::new(&tables),
-    };
-    play_games_at(&mut table, plan, output, log)
+    play_games_with(&mut ProcessHost::new(rt, alloc), alloc, plan, output, log)
 }

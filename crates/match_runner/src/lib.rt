@@ -18,22 +18,25 @@
 //! ```
 #![tactic(auto)]
 
-mod engine;
 mod fault;
 mod games;
+mod host;
+mod host_table;
 mod laws;
 mod log;
 mod moments;
 mod pipes;
 mod plan;
-mod process_table;
+mod process_host;
 mod score;
 mod table;
 
 pub use fault::GamesFault;
-pub use games::{play_games, play_games_at};
+pub use games::{play_games, play_games_at, play_games_with};
+pub use host::{Engines, Host};
 pub use laws::{logs_give_the_game, logs_have_one_reading, only_last_games_have_failed_writes};
 pub use log::{Log, run_match_logged};
 pub use moments::SinceStart;
 pub use plan::GamesPlan;
+pub use process_host::ProcessHost;
 pub use table::GamesTable;

@@ -28,7 +28,7 @@ const MOST_LATE: u32 = 64;
 
 /// An engine's output, with the clock by which it is waited for.
 #[derive(Drop)]
-pub(crate) struct EngineOutput<'t, T, S> {
+pub struct EngineOutput<'t, T, S> {
     pipe: Counted<S>,
     clock: SinceStart<'t, T>,
     /// How many pieces were found after the moment until which the output was waited for.
@@ -86,7 +86,7 @@ const PIPE_LEN: usize = 4096;
 
 /// An engine's input. With a limit, a write that can't go on for so many milliseconds fails.
 #[derive(Drop)]
-pub(crate) struct EngineInput<S> {
+pub struct EngineInput<S> {
     pipe: Counted<S>,
     limit: Option<u64>,
 }

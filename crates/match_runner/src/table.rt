@@ -1,13 +1,13 @@
 //! The table of a match's games.
 
-ghost use Rattle.std.specs.Prelude.{◌≡◌, ◌∷◌, [], IfErr, List, None};
+ghost use Rattle.std.specs.Prelude.{◌≡◌, ◌∷◌, [], IfErr, IfOk, List, None};
 ghost use Rattle.std.specs.Result.{is_err};
 ghost use Rattle.byte_devices.specs.Devices.{Sends};
 ghost use Rattle.chess_match.specs.Notes.{Note};
 ghost use Rattle.chess_match.specs.Played.{PlayedNoting};
 ghost use Rattle.chess_pgn.specs.GameText.{pgn};
 ghost use Rattle.match_runner.specs.Games.{IsStartFault, LogsGame, none_killed};
-ghost use Rattle.match_runner.specs.GamesTable.{Finishes, Plays, StepsPass, starting, writing};
+ghost use Rattle.match_runner.specs.GamesTable.{AreFresh, AtHost, Finishes, Plays, StepsPass, starting, writing};
 ghost use Rattle.match_runner.specs.Log.{log_seen};
 
 use crate::fault::GamesFault;
@@ -50,9 +50,11 @@ pub trait GamesTable {
         limit: Option<u64>,
     ) -> Result<Self::Engines, GamesFault<'a>>
         ensures fails { IfErr result (IsStartFault white.entry.now black.entry.now) }
+        ensures fresh { IfOk result (λ e. (S : Colour) → AreFresh (devices e S)) }
         ensures passes { StepsPass (passed self.old) (passed self.new)
-            (starting (is_err result) white.entry.now black.entry.now ∷ []) }
-        ensures game { game self.new ≡ game self.old };
+            (AtHost (starting devices white.entry.now black.entry.now limit result) ∷ []) }
+        ensures game { game self.new ≡ game self.old }
+        ensures clock { coming self.new ≡ coming self.old };
 
     /// Plays one game between these engines as `run_match` of chess_match does, and logs it if `first`, the side of the
     /// engine of `--white`, is given.
@@ -84,12 +86,15 @@ pub trait GamesTable {
             (pgn [] tags.now (game self.old).state) }
         ensures passes { StepsPass (passed self.old) (passed self.new)
             (writing (is_err result) (pgn [] tags.now (game self.old).state) ∷ []) }
-        ensures game { game self.new ≡ game self.old };
+        ensures game { game self.new ≡ game self.old }
+        ensures clock { coming self.new ≡ coming self.old };
 
     /// Closes the inputs of these engines, and waits for their ends; if there is a limit, an engine that has not ended
     /// after so many milliseconds is killed. Returns which were killed.
     fn finish(&mut self, engines: Self::Engines, limit: Option<u64>) -> ByColour<bool>
-        ensures passes { StepsPass (passed self.old) (passed self.new) (Finishes result ∷ []) }
+        ensures passes { StepsPass (passed self.old) (passed self.new)
+            (AtHost (Finishes (devices engines) limit result) ∷ []) }
         ensures spared { limit ≡ None → result ≡ none_killed }
-        ensures game { game self.new ≡ game self.old };
+        ensures game { game self.new ≡ game self.old }
+        ensures clock { coming self.new ≡ coming self.old };
 }

@@ -1,17 +1,19 @@
-//! Engines as processes.
+//! Engines that are processes.
 
-ghost use Rattle.std.specs.Prelude.{◌≡◌, ◌≢◌, ◌⊎◌, IfErr, None, false};
+ghost use Rattle.std.specs.Prelude.{◌≡◌, ◌≢◌, ◌⊎◌, IfErr, IfOk, None, false};
 ghost use Rattle.std.specs.IoError.{error_kind};
 ghost use Rattle.match_runner.specs.Games.{none_killed};
 ghost use Rattle.match_runner.specs.ties.Playing.{FailsToStart};
 
 use crate::fault::GamesFault;
+use crate::host::{Engines, Host};
 use crate::moments::SinceStart;
 use crate::pipes::{EngineInput, EngineOutput};
 use chess_base::ByColour;
 use chess_match::{Ends, Moments};
 use std::alloc::Global;
 use std::io::{self, ErrorKind};
+use std::os::fd::AsRawFd;
 use std::process::{Child, Command, OpenProcess, Processes, Stdio};
 use std::rt::Clock;
 use std::thread;
@@ -19,49 +21,62 @@ use std::time::Duration;
 
 /// A running engine, with this process's ends of its pipes.
 #[derive(Drop)]
-pub(crate) struct Engine<'t, T, P: OpenProcess + Drop> {
+struct Engine<'t, T, P: OpenProcess + Drop> {
     pub child: Child<P>,
     /// What reads its output, and what writes its input.
     pub ends: Ends<EngineOutput<'t, T, P::Stdout>, EngineInput<P::Stdin>>,
 }
 
 /// Both engines of a game, with this process's ends of their pipes.
-#[derive(Drop)]
-pub(crate) struct Engines<'t, T, P: OpenProcess + Drop> {
-    pub children: ByColour<Child<P>>,
-    pub ends: ByColour<Ends<EngineOutput<'t, T, P::Stdout>, EngineInput<P::Stdin>>>,
-}
+type BothEngines<'t, R, P> = Engines<
+    ByColour<Child<P>>,
+    EngineOutput<'t, R, <P as OpenProcess>::Stdout>,
+    EngineInput<<P as OpenProcess>::Stdin>,
+>;
 
-impl<'t, T, P: OpenProcess + Drop> Engines<'t, T, P> {
-    /// Two running engines, White's and Black's.
-    pub fn of(white: Engine<'t, T, P>, black: Engine<'t, T, P>) -> Self {
-        let Engine {
-            child: white_child,
-            ends: white_ends,
-        } = white;
-        let Engine {
-            child: black_child,
-            ends: black_ends,
-        } = black;
-        Engines {
-            children: ByColour {
-                white: white_child,
-                black: black_child,
-            },
-            ends: ByColour {
-                white: white_ends,
-                black: black_ends,
-            },
-        }
+// Two running engines, White's and Black's, as both engines of a game.
+fn both_of<'t, R, P: OpenProcess + Drop>(
+    white: Engine<'t, R, P>,
+    black: Engine<'t, R, P>,
+) -> BothEngines<'t, R, P> {
+    let Engine {
+        child: white_child,
+        ends: white_ends,
+    } = white;
+    let Engine {
+        child: black_child,
+        ends: black_ends,
+    } = black;
+    Engines {
+        running: ByColour {
+            white: white_child,
+            black: black_child,
+        },
+        ends: ByColour {
+            white: white_ends,
+            black: black_ends,
+        },
     }
 }
 
-/// What starts engines, and the clock of the match.
+/// The processes of a system: it starts engines as processes, and its clock is the system's. Nothing is known of what
+/// they say or of the moments that the clock shows.
 #[derive(Drop)]
-pub(crate) struct Host<'t, R> {
-    pub rt: &'t R,
-    pub alloc: Global,
-    pub clock: SinceStart<'t, R>,
+pub struct ProcessHost<'t, R> {
+    rt: &'t R,
+    alloc: Global,
+    clock: SinceStart<'t, R>,
+}
+
+impl<'t, R: Clock> ProcessHost<'t, R> {
+    /// The host of this runtime's processes; its clock shows the milliseconds from now on.
+    pub fn new(rt: &'t R, alloc: Global) -> Self {
+        ProcessHost {
+            rt,
+            alloc,
+            clock: SinceStart::new(rt),
+        }
+    }
 }
 
 // Why the engine with this command could not be started, by the system's error: out of memory, or anything else.
@@ -117,7 +132,7 @@ fn spawn<'a, R: Processes>(
 /// # Errors
 /// If the command is empty, the system can't start the program, or memory runs out.
 fn start<'a, 't, R: Processes + Clock>(
-    host: &Host<'t, R>,
+    host: &ProcessHost<'t, R>,
     text: &'a str,
     limit: Option<u64>,
 ) -> Result<Engine<'t, R, R::Started>, GamesFault<'a>>
@@ -161,7 +176,7 @@ fn give_grace<C: Clock, P: OpenProcess>(rt: &C, child: &mut Child<P>) {
 const MOST_WAITS: u32 = 2_000_000;
 
 // Waits until this engine has ended, at most until the clock shows `until`. Returns whether it has.
-fn ends_by<R: Clock, P: OpenProcess>(host: &Host<'_, R>, child: &mut Child<P>, until: u64) -> bool {
+fn ends_by<R: Clock, P: OpenProcess>(host: &ProcessHost<'_, R>, child: &mut Child<P>, until: u64) -> bool {
     let mut clock = host.clock.again();
     for _ in 0..MOST_WAITS {
         match child.try_wait() {
@@ -179,7 +194,7 @@ fn ends_by<R: Clock, P: OpenProcess>(host: &Host<'_, R>, child: &mut Child<P>, u
 // Waits until this engine has ended. If there is a moment `until`, the engine is killed when the clock shows it; one
 // that the system doesn't let this process kill is left alone. Returns whether it was killed.
 fn end_by<R: Clock, P: OpenProcess>(
-    host: &Host<'_, R>,
+    host: &ProcessHost<'_, R>,
     child: &mut Child<P>,
     until: Option<u64>,
 ) -> bool
@@ -199,7 +214,7 @@ fn end_by<R: Clock, P: OpenProcess>(
 // Gives an engine whose input is closed half a second to end by itself, closes its output and waits for its end, as
 // `end_by` does. Returns whether it was killed.
 fn await_end<'t, R: Clock, P: OpenProcess + Drop>(
-    host: &Host<'t, R>,
+    host: &ProcessHost<'t, R>,
     mut child: Child<P>,
     reader: EngineOutput<'t, R, P::Stdout>,
     until: Option<u64>,
@@ -212,7 +227,7 @@ fn await_end<'t, R: Clock, P: OpenProcess + Drop>(
 }
 
 // The moment when so many milliseconds will have passed by the clock of the match, if there is such a limit.
-fn moment_after<R: Clock>(host: &Host<'_, R>, limit: Option<u64>) -> Option<u64>
+fn moment_after<R: Clock>(host: &ProcessHost<'_, R>, limit: Option<u64>) -> Option<u64>
     ensures { limit ≡ None → result ≡ None }
 {
     match limit {
@@ -224,7 +239,7 @@ fn moment_after<R: Clock>(host: &Host<'_, R>, limit: Option<u64>) -> Option<u64>
 /// Closes an engine's input, gives it half a second to end by itself, closes its output and waits for its end; if there
 /// is a limit, it is killed so many milliseconds after its input was closed, which is not reported.
 fn finish<'t, R: Clock, P: OpenProcess + Drop>(
-    host: &Host<'t, R>,
+    host: &ProcessHost<'t, R>,
     engine: Engine<'t, R, P>,
     limit: Option<u64>,
 ) {
@@ -236,18 +251,18 @@ fn finish<'t, R: Clock, P: OpenProcess + Drop>(
 
 /// Closes the inputs of both engines, and then waits for the end of each as [`finish`] does. Returns which of them were
 /// killed.
-pub(crate) fn finish_both<'t, R: Clock, P: OpenProcess + Drop>(
-    host: &Host<'t, R>,
-    engines: Engines<'t, R, P>,
+fn finish_both<'t, R: Clock, P: OpenProcess + Drop>(
+    host: &ProcessHost<'t, R>,
+    engines: BothEngines<'t, R, P>,
     limit: Option<u64>,
 ) -> ByColour<bool>
     ensures { limit ≡ None → result ≡ none_killed }
 {
-    let Engines { children, ends } = engines;
+    let Engines { running, ends } = engines;
     let ByColour {
         white: white_child,
         black: black_child,
-    } = children;
+    } = running;
     let ByColour {
         white: white_ends,
         black: black_ends,
@@ -274,20 +289,61 @@ pub(crate) fn finish_both<'t, R: Clock, P: OpenProcess + Drop>(
 ///
 /// # Errors
 /// As [`start`] does for either.
-pub(crate) fn start_both<'a, 't, R: Processes + Clock>(
-    host: &Host<'t, R>,
+fn start_both<'a, 't, R: Processes + Clock>(
+    host: &ProcessHost<'t, R>,
     white: &'a str,
     black: &'a str,
     limit: Option<u64>,
-) -> Result<Engines<'t, R, R::Started>, GamesFault<'a>>
+) -> Result<BothEngines<'t, R, R::Started>, GamesFault<'a>>
     ensures { IfErr result (λ f. FailsToStart white.entry.now f ⊎ FailsToStart black.entry.now f) }
 {
     let white_engine = start(host, white, limit)?;
     match start(host, black, limit) {
-        Ok(black_engine) => Ok(Engines::of(white_engine, black_engine)),
+        Ok(black_engine) => Ok(both_of(white_engine, black_engine)),
         Err(fault) => {
             finish(host, white_engine, limit);
             Err(fault)
         }
+    }
+}
+
+impl<'t, R: Processes + Clock> Host for ProcessHost<'t, R>
+where
+    <R::Started as OpenProcess>::Stdout: AsRawFd,
+    <R::Started as OpenProcess>::Stdin: AsRawFd,
+{
+    type Running = ByColour<Child<R::Started>>;
+
+    type Reader = EngineOutput<'t, R, <R::Started as OpenProcess>::Stdout>;
+
+    type Writer = EngineInput<<R::Started as OpenProcess>::Stdin>;
+
+    type Clock = SinceStart<'t, R>;
+
+    // Any steps may have passed: it doesn't count them.
+    ghost passed = { λ h steps. Unit {0} };
+
+    // The clock by which engines are waited for.
+    fn open_clock(&mut self) -> SinceStart<'t, R> {
+        self.clock.again()
+    }
+
+    // Starts both programs; if Black's can't be started, White's is ended.
+    fn start<'a>(
+        &mut self,
+        white: &'a str,
+        black: &'a str,
+        limit: Option<u64>,
+    ) -> Result<BothEngines<'t, R, R::Started>, GamesFault<'a>> {
+        start_both(self, white, black, limit)
+    }
+
+    // Closes both inputs and waits for both processes.
+    fn finish(
+        &mut self,
+        engines: BothEngines<'t, R, R::Started>,
+        limit: Option<u64>,
+    ) -> ByColour<bool> {
+        finish_both(self, engines, limit)
     }
 }

@@ -1,4 +1,4 @@
-//! The table of engines that are processes.
+//! The table of a host's engines.
 
 ghost use Rattle.std.specs.Prelude.{[]};
 ghost use Rattle.byte_devices.specs.Devices.{Sends};
@@ -8,11 +8,9 @@ ghost use Rattle.chess_pgn.specs.GameText.{pgn};
 ghost use Rattle.match_runner.specs.Games.{LogsGame};
 ghost use Rattle.match_runner.specs.Log.{log_seen};
 
-use crate::engine::{Engines, Host, finish_both, start_both};
 use crate::fault::GamesFault;
+use crate::host::{Engines, Host};
 use crate::log::{Log, run_match_logged};
-use crate::moments::SinceStart;
-use crate::pipes::{EngineInput, EngineOutput};
 use crate::table::GamesTable;
 use byte_devices::{Input, Output, WriteFault};
 use chess_base::{ByColour, Colour};
@@ -20,16 +18,13 @@ use chess_bits::Bits;
 use chess_game::Game;
 use chess_match::{Ends, MatchEnd, Moments, Setup, run_match};
 use chess_pgn::{Tags, write_pgn};
-use std::os::fd::AsRawFd;
-use std::process::{OpenProcess, Processes};
-use std::rt::Clock;
 
-/// What the games of a match are played on, one after another: what starts engines, the clock, the game, and a board on
-/// which its moves are made again.
+/// What the games of a match are played on, one after another: the host that starts their engines, its clock, the game,
+/// and a board on which its moves are made again.
 #[derive(Drop)]
-pub(crate) struct ProcessTable<'t, P> {
-    pub host: Host<'t, P>,
-    pub moments: SinceStart<'t, P>,
+pub(crate) struct HostTable<'t, 'h, H: Host> {
+    pub host: &'h mut H,
+    pub clock: H::Clock,
     pub game: Game<Bits<'t>>,
     pub scratch: Bits<'t>,
 }
@@ -76,49 +71,42 @@ fn send_game<'t, W: Output>(
     output.flush()
 }
 
-impl<'t, P: Processes + Clock> GamesTable for ProcessTable<'t, P>
-where
-    <P::Started as OpenProcess>::Stdout: AsRawFd,
-    <P::Started as OpenProcess>::Stdin: AsRawFd,
-{
-    ghost use Rattle.std.specs.Prelude.{None};
+impl<'t, H: Host> GamesTable for HostTable<'t, '_, H> {
     ghost use Rattle.chess_match.specs.Run.{engines_of};
+    ghost use Rattle.match_runner.specs.GamesTable.{at_host};
 
-    type Engines = Engines<'t, P, P::Started>;
+    type Engines = Engines<H::Running, H::Reader, H::Writer>;
 
-    // Any steps may have passed: it doesn't count them.
-    ghost passed = { λ t steps. Unit {0} };
+    // The steps whose part at the host may have passed there.
+    ghost passed = { λ t steps. H.passed t.host.now (at_host steps) };
 
     ghost game = { λ t. t.game };
 
-    // What the clock will show isn't known.
-    ghost coming = { λ t n. None };
+    ghost coming = { λ t. H.Clock.coming t.clock };
 
-    ghost devices = { λ e. engines_of
-        ⟦<EngineOutput<'t, P, <P::Started as OpenProcess>::Stdout> as Input>⟧.seen
-        ⟦<EngineInput<<P::Started as OpenProcess>::Stdin> as Output>⟧.seen e.ends.white e.ends.black };
+    ghost devices = { λ e. engines_of H.Reader.seen H.Writer.seen e.ends.white e.ends.black };
 
-    // Starts both programs; if Black's can't be started, White's is ended.
+    // The host starts both.
     fn start<'a>(
         &mut self,
         white: &'a str,
         black: &'a str,
         limit: Option<u64>,
-    ) -> Result<Engines<'t, P, P::Started>, GamesFault<'a>> {
-        start_both(&self.host, white, black, limit)
+    ) -> Result<Engines<H::Running, H::Reader, H::Writer>, GamesFault<'a>> {
+        self.host.start(white, black, limit)
     }
 
-    // Plays the game over the engines' pipes.
+    // Plays the game over the engines' ends.
     fn play<E: Output>(
         &mut self,
-        engines: &mut Engines<'t, P, P::Started>,
+        engines: &mut Engines<H::Running, H::Reader, H::Writer>,
         setup: &Setup,
         first: Option<Colour>,
         log: &mut Log<E>,
     ) -> MatchEnd {
         relay(
             &mut engines.ends,
-            &mut self.moments,
+            &mut self.clock,
             setup,
             &mut self.game,
             first,
@@ -131,12 +119,12 @@ where
         send_game(&self.game, &mut self.scratch, tags, output)
     }
 
-    // Closes both inputs and waits for both processes.
+    // The host waits for both.
     fn finish(
         &mut self,
-        engines: Engines<'t, P, P::Started>,
+        engines: Engines<H::Running, H::Reader, H::Writer>,
         limit: Option<u64>,
     ) -> ByColour<bool> {
-        finish_both(&self.host, engines, limit)
+        self.host.finish(engines, limit)
     }
 }
