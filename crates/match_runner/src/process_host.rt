@@ -69,7 +69,7 @@ pub struct ProcessHost<'t, R> {
 }
 
 impl<'t, R: Clock> ProcessHost<'t, R> {
-    /// The host of this runtime's processes; its clock shows the milliseconds from now on.
+    /// The host of this runtime's processes.
     pub fn new(rt: &'t R, alloc: Global) -> Self {
         ProcessHost {
             rt,
@@ -323,8 +323,9 @@ where
     // Any steps may have passed: it doesn't count them.
     ghost passed = { λ h steps. Unit {0} };
 
-    // The clock by which engines are waited for.
+    // Begins the clock anew: it is also the one by which engines are waited for.
     fn open_clock(&mut self) -> SinceStart<'t, R> {
+        self.clock = SinceStart::new(self.rt);
         self.clock.again()
     }
 
