@@ -259,8 +259,7 @@ module _ (r : Rules) (reason : Reason) (is : is_forfeit reason ≡ true) where
       → Stays (effect r m e).after H n → shows_fallen r m m.phase S (Happens e) ≡ true → n.phase ≡ Over reason
       → Overstepped r m (Happens e ∷ H) reason
   now m n S e H flag stays shown o =
-      let over : is_over (effect r m e).after.phase ≡ true = ap (λ (x : Effect). is_over x.after.phase) flag in
-      (
+      let over : is_over (effect r m e).after.phase ≡ true = ap (λ (x : Effect). is_over x.after.phase) flag in (
         S,
         who_lost S m n ((stays over).0 ∙ ap (λ (x : Effect). x.after) flag) o,
         ([], Happens e, H, refl, (stays over).1, shown),

@@ -345,7 +345,13 @@ fn lines_in_time(rt: HostRuntime) -> Result<(), Fail> {
 const BEGINS: u64 = 1_000_000;
 
 // The match that begins at this moment, in which White's first line comes when the clock shows `comes`.
-fn begins_late(rt: &impl Abort, alloc: Global, on: On, comes: u64, came: &Came) -> Result<(), Fail> {
+fn begins_late(
+    rt: &impl Abort,
+    alloc: Global,
+    on: On,
+    comes: u64,
+    came: &Came,
+) -> Result<(), Fail> {
     let late = Lateness {
         side: Colour::White,
         before: 0,
