@@ -27,7 +27,7 @@ use Rattle.chess_match.specs.declared.run.MatchEnd.{MatchEnd}
 use Rattle.chess_pgn.specs.GameText.{pgn}
 use Rattle.chess_pgn.specs.declared.tags.Tags.{Tags}
 use Rattle.match_runner.specs.Games.{AreAllGames, GameRecord, IsOfPlan, IsStartFault, LogsGame, LogsGames, PlaysGames, FaultlessGames, count_of, engine_command, first_side, game_log, game_text, game_texts, killed_lines, none_killed, score_line, tags_of}
-use Rattle.match_runner.specs.GamesTable.{AreFresh, AtHost, BeginsAt, ComeInTurn, Finishes, GamesPassing, GamesStep, HostPassing, Outputs, Plays, StartFails, Starts, StepsPass, PlaysGamesAt, PlaysGamesWith, WriteFails, Writes, games_steps, steps_by, unstarted_steps}
+use Rattle.match_runner.specs.GamesTable.{AreFresh, AtHost, BeginsAt, ComeInTurn, Finishes, GamesPassing, GamesStep, HostStep, Outputs, Plays, StartFails, Starts, StepsPass, PlaysGamesAt, PlaysGamesWith, WriteFails, Writes, games_steps, steps_by, unstarted_steps}
 use Rattle.match_runner.specs.ties.Playing.{FailsToStart, HasPlayed, PlayedGame, clock_after, logged_side, no_score, plus, score_after, score_of, score_text}
 use Rattle.match_runner.specs.Log.{LogSeen, Logged, log_from}
 use Rattle.match_runner.proofs.Logged.{logged_more, logs_none}
@@ -465,7 +465,7 @@ pub broke_at_table : (plan : GamesPlan) (c : ℕ → Option ℕ) (p p' : GamesPa
     → PlaysGamesAt plan (Err fault) c p p' (outputs w l) (outputs w' l')
 broke_at_table plan c p p' w w' l l' WriteFailed (games, unwritten, these, turns, steps) =
     (games, Some unwritten, these, turns, steps)
-broke_at_table plan c p p' w w' l l' (Game number text) (games, is, these, steps) = absurd (cc)
+broke_at_table plan c p p' w w' l l' (Game number text) (games, is, these, turns, steps) = absurd (cc)
 broke_at_table plan c p p' w w' l l' _ (games, is, these, turns, steps) = (games, None, these, turns, steps)
 
 module _ (plan : GamesPlan) (c : ℕ → Option ℕ) (p p' : GamesPassing) (w w' w'' : OutputState) (l l' : LogSeen)
@@ -535,9 +535,9 @@ module _ (plan : GamesPlan) (c : ℕ → Option ℕ) (p p' : GamesPassing) (w w'
 -- ---- without the steps
 
 -- a match with a host is a match: the steps are dropped
-pub plays_games : (plan : GamesPlan) (result : Result (Unit {0}) GamesFault) (p p' : HostPassing) (d d' : Outputs)
-    → PlaysGamesWith plan result p p' d d' → PlaysGames plan result d.output d'.output d.log d'.log
-plays_games plan result p p' d d' (inl (coming, games, unwritten, (o, writes, took, logs), turns, steps)) =
-    inl (games, unwritten, o, writes, took, logs)
-plays_games plan result p p' d d' (inr (none, steps, same)) =
+pub plays_games : (plan : GamesPlan) (result : Result (Unit {0}) GamesFault) (steps : List HostStep)
+    (d d' : Outputs) → PlaysGamesWith plan result steps d d' → PlaysGames plan result d.output d'.output d.log d'.log
+plays_games plan result steps d d' (inl (coming, (games, unwritten, (o, writes, took, logged), turns, passed))) =
+    inl (games, unwritten, o, writes, took, logged)
+plays_games plan result steps d d' (inr (none, nothing, same)) =
     inr (none, ap (λ (v : Outputs). v.output) same, ap (λ (v : Outputs). v.log) same)

@@ -5,8 +5,8 @@ use Rattle.std.proofs.lemmas.List.Concat.{flat_map-append}
 use Rattle.match_runner.specs.declared.plan.GamesPlan.{GamesPlan}
 use Rattle.match_runner.specs.declared.fault.GamesFault.{GamesFault}
 use Rattle.match_runner.specs.declared.fault.GamesFault.TheVariants.{NoMemory}
-use Rattle.match_runner.specs.GamesTable.{AtHost, GamesStep, HostPassing, HostStep, OpensClock, Outputs, PlaysGamesAt, PlaysGamesWith, StepsPass, WriteFails, Writes, at_host, of_host}
-use Rattle.match_runner.specs.ties.AtHost.{MarkedBy}
+use Rattle.match_runner.specs.GamesTable.{AtHost, GamesStep, HostStep, OpensClock, Outputs, PlaysBy, PlaysGamesAt, PlaysGamesWith, StepsPass, WriteFails, Writes, at_host, of_host}
+use Rattle.match_runner.specs.ties.AtHost.{HostPassing, MarkedBy}
 use Rattle.match_runner.proofs.GamesWritten.{steps_more, steps_none}
 
 -- a step of the host
@@ -62,20 +62,26 @@ from_table p p' name name' steps h = record {
       (refl, subst (λ (K : List HostStep). p K) (sym (steps_of_host before)) x)).1;
 }
 
--- a match at the table of a host is a match with the host, whose clock was opened before
+-- a match at the table of a host, as the host shows it
+pub by_table : (plan : GamesPlan) (result : Result (Unit {0}) GamesFault) (coming : ℕ → Option ℕ)
+    (p p' : HostPassing) (name name' : ℕ) (d d' : Outputs)
+    → PlaysGamesAt plan result coming (MarkedBy p name) (MarkedBy p' name') d d'
+    → PlaysBy plan result coming (λ at_table. StepsPass p p' (at_host at_table)) d d'
+by_table plan result coming p p' name name' d d' (games, unwritten, written, turns, steps) =
+    (games, unwritten, written, turns, from_table p p' name name' _ steps)
+
+-- a match with the host, whose clock was opened before
 pub plays_with : (plan : GamesPlan) (result : Result (Unit {0}) GamesFault) (coming : ℕ → Option ℕ)
-    (p p' p'' : HostPassing) (name name' : ℕ) (d d' : Outputs) → StepsPass p p' (OpensClock coming ∷ [])
-    → PlaysGamesAt plan result coming (MarkedBy p' name) (MarkedBy p'' name') d d'
-    → PlaysGamesWith plan result p p'' d d'
-plays_with plan result coming p p' p'' name name' d d' opens (games, unwritten, written, turns, steps) = inl (
-  coming,
-  games,
-  unwritten,
-  written,
-  turns,
-  steps_more p p' p'' (OpensClock coming ∷ []) _ opens (from_table p' p'' name name' _ steps),
+    (p p' p'' : HostPassing) (d d' : Outputs) → StepsPass p p' (OpensClock coming ∷ [])
+    → PlaysBy plan result coming (λ at_table. StepsPass p' p'' (at_host at_table)) d d'
+    → (steps : List HostStep) × StepsPass p p'' steps × PlaysGamesWith plan result steps d d'
+plays_with plan result coming p p' p'' d d' opens (games, unwritten, written, turns, steps) = (
+  _,
+  steps_more p p' p'' (OpensClock coming ∷ []) _ opens steps,
+  inl (coming, (games, unwritten, written, turns, refl)),
 )
 
 -- memory ran out before
-pub no_memory : (plan : GamesPlan) (p : HostPassing) (d : Outputs) → PlaysGamesWith plan (Err NoMemory) p p d d
-no_memory plan p d = inr (refl, steps_none p, refl)
+pub no_memory : (plan : GamesPlan) (p : HostPassing) (d : Outputs)
+    → (steps : List HostStep) × StepsPass p p steps × PlaysGamesWith plan (Err NoMemory) steps d d
+no_memory plan p d = ([], steps_none p, inr (refl, refl, refl))

@@ -60,11 +60,8 @@ at_host steps = flat_map of_host steps
 
 -- ---- what passed
 
--- what contracts see of a host or a table: the claim, for each list of steps, that just these may have passed there so
--- far, in this order
-abbrev pub HostPassing : Type 1
-HostPassing = List HostStep → Type 0
-
+-- what contracts see of a table: the claim, for each list of steps, that just these may have passed there so far, in
+-- this order. Of a host they see the same
 abbrev pub GamesPassing : Type 1
 GamesPassing = List GamesStep → Type 0
 
@@ -149,12 +146,10 @@ abbrev pub PlaysGamesAt : GamesPlan → Result (Unit {0}) GamesFault → (ℕ �
     → Outputs → Outputs → Type 0
 PlaysGamesAt plan result coming p p' d d' = PlaysBy plan result coming (StepsPass p p') d d'
 
--- what playing a match with a host does: a clock was opened, and then just the host's steps of the match passed. Or
--- memory ran out before, and nothing passed, was written or logged. `p` is what may have passed at the host before, and
--- `p'` after
-abbrev pub PlaysGamesWith : GamesPlan → Result (Unit {0}) GamesFault → HostPassing → HostPassing → Outputs → Outputs
-    → Type 0
-PlaysGamesWith plan result p p' d d' =
+-- what playing a match with a host does, where just these steps passed: a clock was opened, and then came the host's
+-- steps of the match. Or memory ran out before, and no step passed, and nothing was written or logged
+abbrev pub PlaysGamesWith : GamesPlan → Result (Unit {0}) GamesFault → List HostStep → Outputs → Outputs → Type 0
+PlaysGamesWith plan result steps d d' =
     ((coming : ℕ → Option ℕ)
-    × PlaysBy plan result coming (λ steps. StepsPass p p' (OpensClock coming ∷ at_host steps)) d d')
-    ⊎ ((result ≡ Err NoMemory) × StepsPass p p' [] × (d' ≡ d))
+    × PlaysBy plan result coming (λ at_table. steps ≡ OpensClock coming ∷ at_host at_table) d d')
+    ⊎ ((result ≡ Err NoMemory) × (steps ≡ []) × (d' ≡ d))

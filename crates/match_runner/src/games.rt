@@ -1,18 +1,18 @@
 //! The games of a match, one after another.
 
-ghost use Rattle.std.specs.Prelude.{◌≡◌, ◌≤◌};
+ghost use Rattle.std.specs.Prelude.{◌≡◌, ◌≤◌, List};
 ghost use Rattle.byte_devices.specs.Devices.{Sends};
 ghost use Rattle.chess_match.specs.Reasons.{comment_of};
 ghost use Rattle.chess_match.specs.declared.reason.Reason.TheVariants.{Faulted};
 ghost use Rattle.match_runner.specs.Games.{PlaysGames, engine_command, first_side, player_name, tags_of};
-ghost use Rattle.match_runner.specs.GamesTable.{PlaysGamesAt, PlaysGamesWith};
+ghost use Rattle.match_runner.specs.GamesTable.{HostStep, PlaysBy, PlaysGamesAt, PlaysGamesWith, StepsPass, at_host};
 ghost use Rattle.match_runner.specs.ties.Playing.{HasPlayed, PlayedGame, logged_side, score_text};
 ghost use Rattle.match_runner.specs.Log.{log_seen};
 ghost use Rattle.chess_game.specs.declared.game.TheConstants.{MOST_MOVES};
 
 use crate::fault::GamesFault;
 use crate::host::Host;
-use crate::host_table::HostTable;
+use crate::host_table::{HostTable, Seat};
 use crate::log::Log;
 use crate::plan::GamesPlan;
 use crate::process_host::ProcessHost;
@@ -223,6 +223,34 @@ pub fn play_games_at<'a, T: GamesTable, W: Output, E: Output>(
     }
 }
 
+// Plays the games of a match with a host, by the clock, in the game and on the board of `seat`.
+fn play_games_by<'a, 't, H: Host, W: Output, E: Output>(
+    host: &mut H,
+    seat: Seat<'t, H::Clock>,
+    plan: &GamesPlan<'a>,
+    output: &mut W,
+    log: &mut Log<E>,
+) -> Result<(), GamesFault<'a>>
+    requires { seat.game.limit ≡ MOST_MOVES }
+    ensures { PlaysBy plan.now result (H.Clock.coming seat.entry.clock)
+        (λ at_table. StepsPass (H.passed host.old) (H.passed host.new) (at_host at_table))
+        (record { output = W.seen output.old; log = log_seen (E.seen log.old.output) log.old.broken })
+        (record { output = W.seen output.new; log = log_seen (E.seen log.new.output) log.new.broken }) }
+{
+    let Seat {
+        mut clock,
+        mut game,
+        mut scratch,
+    } = seat;
+    let mut table = HostTable {
+        host,
+        clock: &mut clock,
+        game: &mut game,
+        scratch: &mut scratch,
+    };
+    play_games_at(&mut table, plan, output, log)
+}
+
 /// Plays the games of a match with a host, with colours changed after each, and writes each game's PGN and then the
 /// score; if the plan asks for a log, each game is logged.
 ///
@@ -241,20 +269,19 @@ pub fn play_games_with<'a, H: Host, W: Output, E: Output>(
     output: &mut W,
     log: &mut Log<E>,
 ) -> Result<(), GamesFault<'a>>
-    ensures plays { PlaysGamesWith plan.now result (H.passed host.old) (H.passed host.new)
+    ensures plays { (steps : List HostStep) × StepsPass (H.passed host.old) (H.passed host.new) steps
+        × PlaysGamesWith plan.now result steps
         (record { output = W.seen output.old; log = log_seen (E.seen log.old.output) log.old.broken })
         (record { output = W.seen output.new; log = log_seen (E.seen log.new.output) log.new.broken }) }
 {
     let tables = AttackTables::open(alloc)?;
     let game = Game::open(alloc, Bits::new(&tables), MOST_MOVES)?;
-    let clock = host.open_clock();
-    let mut table = HostTable {
-        host,
-        clock,
+    let seat = Seat {
+        clock: host.open_clock(),
         game,
         scratch: Bits::new(&tables),
     };
-    play_games_at(&mut table, plan, output, log)
+    play_games_by(host, seat, plan, output, log)
 }
 
 /// Plays the games of a match between processes of this runtime, as [`play_games_with`] does with a

@@ -19,14 +19,22 @@ use chess_game::Game;
 use chess_match::{Ends, MatchEnd, Moments, Setup, run_match};
 use chess_pgn::{Tags, write_pgn};
 
-/// What the games of a match are played on, one after another: the host that starts their engines, its clock, the game,
-/// and a board on which its moves are made again.
+/// What the games of a match are played with, one after another: the clock, the game, and a board on which its moves are
+/// made again.
 #[derive(Drop)]
-pub(crate) struct HostTable<'t, 'h, H: Host> {
-    pub host: &'h mut H,
-    pub clock: H::Clock,
+pub(crate) struct Seat<'t, C> {
+    pub clock: C,
     pub game: Game<Bits<'t>>,
     pub scratch: Bits<'t>,
+}
+
+/// The host that starts the engines of a match, and what its games are played with.
+#[derive(Drop)]
+pub(crate) struct HostTable<'t, 'h, 'c, 'g, 's, H: Host> {
+    pub host: &'h mut H,
+    pub clock: &'c mut H::Clock,
+    pub game: &'g mut Game<Bits<'t>>,
+    pub scratch: &'s mut Bits<'t>,
 }
 
 // Plays one game between two engines, whose pipes are `ends`, and logs it if `first`, the side of the engine of
@@ -71,7 +79,7 @@ fn send_game<'t, W: Output>(
     output.flush()
 }
 
-impl<'t, H: Host> GamesTable for HostTable<'t, '_, H> {
+impl<'t, H: Host> GamesTable for HostTable<'t, '_, '_, '_, '_, H> {
     ghost use Rattle.chess_match.specs.Run.{engines_of};
     ghost use Rattle.match_runner.specs.ties.AtHost.{MarkedBy};
 
@@ -80,9 +88,9 @@ impl<'t, H: Host> GamesTable for HostTable<'t, '_, H> {
     // The steps whose part at the host may have passed there, at the same host.
     ghost passed = { λ t. MarkedBy (H.passed t.host.now) t.host.ghost_name };
 
-    ghost game = { λ t. t.game };
+    ghost game = { λ t. t.game.now };
 
-    ghost coming = { λ t. H.Clock.coming t.clock };
+    ghost coming = { λ t. H.Clock.coming t.clock.now };
 
     ghost devices = { λ e. engines_of H.Reader.seen H.Writer.seen e.ends.white e.ends.black };
 
@@ -106,9 +114,9 @@ impl<'t, H: Host> GamesTable for HostTable<'t, '_, H> {
     ) -> MatchEnd {
         relay(
             &mut engines.ends,
-            &mut self.clock,
+            self.clock,
             setup,
-            &mut self.game,
+            self.game,
             first,
             log,
         )
@@ -116,7 +124,7 @@ impl<'t, H: Host> GamesTable for HostTable<'t, '_, H> {
 
     // Writes the game with the scratch board.
     fn write_game<W: Output>(&mut self, tags: &Tags, output: &mut W) -> Result<(), WriteFault> {
-        send_game(&self.game, &mut self.scratch, tags, output)
+        send_game(self.game, self.scratch, tags, output)
     }
 
     // The host waits for both.

@@ -1,11 +1,12 @@
 //! Engines that are processes.
 
-ghost use Rattle.std.specs.Prelude.{◌≡◌, ◌≢◌, ◌⊎◌, IfErr, IfOk, None, false, string_bytes};
+ghost use Rattle.std.specs.Prelude.{◌≡◌, ◌≢◌, ◌⊎◌, ◌∷◌, [], IfErr, IfOk, None, false, string_bytes};
 ghost use Rattle.std.specs.IoError.{error_kind};
 ghost use Rattle.chess_base.specs.declared.man.Colour.{Colour};
 ghost use Rattle.chess_match.specs.Run.{engines_of};
 ghost use Rattle.match_runner.specs.Games.{IsStartFault, none_killed};
-ghost use Rattle.match_runner.specs.GamesTable.{AreFresh};
+ghost use Rattle.match_runner.specs.GamesTable.{AreFresh, Finishes, StepsPass, starting};
+ghost use Rattle.match_runner.specs.ties.AtHost.{anything};
 ghost use Rattle.match_runner.specs.ties.Playing.{FailsToStart};
 
 use crate::fault::GamesFault;
@@ -51,8 +52,8 @@ fn both_of<'t, R, P: OpenProcess + Drop>(
     white: Engine<'t, R, P>,
     black: Engine<'t, R, P>,
 ) -> BothEngines<'t, R, P>
-    ensures processes { result.running ≡ record { white = white.process; black = black.process } }
-    ensures ends { result.ends ≡ record { white = white.ends; black = black.ends } }
+    ensures processes { result.running ≡ record { white = white.entry.process; black = black.entry.process } }
+    ensures ends { result.ends ≡ record { white = white.entry.ends; black = black.entry.ends } }
 {
     let Engine {
         process: white_process,
@@ -360,8 +361,10 @@ where
 
     type Clock = SinceStart<'t, R>;
 
+    ghost use Rattle.match_runner.specs.ties.AtHost.{anything};
+
     // Any steps may have passed: it doesn't count them.
-    ghost passed = { λ h steps. Unit {0} };
+    ghost passed = { λ h. anything };
 
     // Begins the clock anew: it is also the one by which engines are waited for.
     fn open_clock(&mut self) -> SinceStart<'t, R> {
@@ -380,6 +383,10 @@ where
         ensures fresh { IfOk result (λ e. (S : Colour) → AreFresh (engines_of
             ⟦<EngineOutput<'t, R, <R::Started as OpenProcess>::Stdout> as Input>⟧.seen
             ⟦<EngineInput<<R::Started as OpenProcess>::Stdin> as Output>⟧.seen e.ends.white e.ends.black S)) }
+        ensures passes { StepsPass anything anything (starting (λ e. engines_of
+            ⟦<EngineOutput<'t, R, <R::Started as OpenProcess>::Stdout> as Input>⟧.seen
+            ⟦<EngineInput<<R::Started as OpenProcess>::Stdin> as Output>⟧.seen e.ends.white e.ends.black)
+            white.entry.now black.entry.now limit result ∷ []) }
         ensures white_command { IfOk result (λ e. string_bytes e.running.white.command ≡ white.entry.now) }
         ensures black_command { IfOk result (λ e. string_bytes e.running.black.command ≡ black.entry.now) }
     {
@@ -392,6 +399,11 @@ where
         engines: BothEngines<'t, R, R::Started>,
         limit: Option<u64>,
     ) -> ByColour<bool>
+        ensures passes { StepsPass anything anything (Finishes (engines_of
+            ⟦<EngineOutput<'t, R, <R::Started as OpenProcess>::Stdout> as Input>⟧.seen
+            ⟦<EngineInput<<R::Started as OpenProcess>::Stdin> as Output>⟧.seen
+            engines.entry.ends.white engines.entry.ends.black)
+            limit result ∷ []) }
         ensures spared { limit ≡ None → result ≡ none_killed }
     {
         finish_both(self, engines, limit)

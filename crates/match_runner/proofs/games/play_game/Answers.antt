@@ -13,7 +13,8 @@ returns-in_err-engines-clause-limit g c = ap (λ (v : Seen). v.limit) c.start.en
 pub returns-in_err-engines-clause-played : goal.returns-in_err-engines-clause-played
 returns-in_err-engines-clause-played g c =
     let p = err_from_is_err_and c.from_residual.result c.from_residual.ensures.1 in
-    rw (p.1, p.2) (was_not_started c.args.plan.now c.args.number _ _ _ _ _ _ _ _ _ c.in_err-engines.field-0.0
+    rw (p.1, p.2) (was_not_started c.args.plan.now c.args.number (g.T.GamesTable.coming c.args.table.now)
+    (g.T.GamesTable.coming c.start.new.self) _ _ _ _ _ _ _ c.in_err-engines.field-0.0
     c.command_of.ensures c.command_of-2.ensures refl c.in_err-engines.ensures.fails c.in_err-engines.ensures.passes)
 
 pub returns-in-Ok-clause-limit : goal.returns-in-Ok-clause-limit

@@ -3,4 +3,6 @@ use Rattle.match_runner.proofs.GamesWritten.{plays_games}
 use Rattle.match_runner.proofs.games.play_games.Goals as goal
 
 pub returns : goal.returns
-returns g c = plays_games c.args.plan.now c.play_games_with.result _ _ _ _ c.play_games_with.ensures.plays
+returns g c =
+    let h = c.play_games_with.ensures.plays in
+    plays_games c.args.plan.now c.play_games_with.result h.0 _ _ h.2
