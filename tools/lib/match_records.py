@@ -135,9 +135,13 @@ class LoggedGame:
 
     def own_name(self, seat):
         """Returns what an engine calls itself in its features; an empty text if it doesn't."""
-        own = (line.text for line in self.lines if line.seat == seat and line.mark == "<")
-        names = re.findall(r'(?m)^feature .*\bmyname="([^"]*)"', "\n".join(own))
+        names = re.findall(r'\bmyname="([^"]*)"', self.features(seat))
         return names[-1].strip() if names else ""
+
+    def features(self, seat):
+        """Returns the lines `feature` of an engine."""
+        own = (line.text for line in self.lines if line.seat == seat and line.mark == "<")
+        return "\n".join(text for text in own if text.startswith("feature "))
 
 
 def texts_of_games(pgn):
