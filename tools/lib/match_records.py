@@ -14,6 +14,7 @@ REPORTS = (ENDED_LINE, WROTE_LINE, KILLED_LINE)
 OWN_LINES = ("arbiter: ", "tournament: ")
 SEATS = ("first", "second")
 HANDSHAKE = ("xboard", "protover 2")
+NO_HANDSHAKE = "any other engine must end its lines and flush them, and may need longer to start"
 # The faults of an engine that did not answer in time, without the side.
 NO_ANSWER = ("did not answer", "sent no done=1 (a UCI engine needs polyglot)")
 # How the reports begin that sanitizers, assertions and languages write when a program fails.
@@ -140,9 +141,13 @@ class LoggedGame:
 
     def own_name(self, seat):
         """Returns what an engine calls itself in its features; an empty text if it doesn't."""
-        own = (line.text for line in self.lines if line.seat == seat and line.mark == "<")
-        names = re.findall(r'(?m)^feature .*\bmyname="([^"]*)"', "\n".join(own))
+        names = re.findall(r'\bmyname="([^"]*)"', self.features(seat))
         return names[-1].strip() if names else ""
+
+    def features(self, seat):
+        """Returns the lines `feature` of an engine."""
+        own = (line.text for line in self.lines if line.seat == seat and line.mark == "<")
+        return "\n".join(text for text in own if text.startswith("feature "))
 
 
 def texts_of_games(pgn):
@@ -203,9 +208,7 @@ def is_handshake(line):
     return line.text in HANDSHAKE
 
 
-def handshake_hint(command):
-    """Returns what may be wrong with an engine that doesn't answer its first lines, and how a UCI engine is started:
-    polyglot takes a command without arguments."""
+def polyglot_hint(command):
+    """Returns how a UCI engine is started: polyglot takes a command without arguments."""
     how = f"SCRIPT, with a script that starts {command}" if " " in command else command
-    others = "any other must write a newline and flush, and may need longer to start"
-    return f"a UCI engine plays through polyglot: polyglot -noini -ec {how} ({others})"
+    return f"a UCI engine plays through polyglot: polyglot -noini -ec {how}"

@@ -10,7 +10,8 @@ from dataclasses import dataclass
 
 import match_records
 import tournament_pairs
-from tournament_lists import Game, kept_faults, kept_games, kept_names, kept_sprt, lines, session, write_lines
+from tournament_lists import Game, kept_faults, kept_games, kept_names, kept_sprt, lines, write_lines
+from tournament_openings import session
 
 STATUS = re.compile(r"(?m)^tournament: status (\d+)$")
 STILL_RUNNING = re.compile(r"(?m)^tournament: still running: (first|second)$")  # in games played by 0.2.0

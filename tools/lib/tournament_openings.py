@@ -1,0 +1,236 @@
+"""The openings of a tournament: read from FENs, EPD, moves or PGN, and drawn. tools/tournament uses it.
+
+What a file has is seen from its content. A session of the arbiter says which moves and positions are legal.
+"""
+
+import itertools
+import random
+import re
+import shutil
+from dataclasses import dataclass, field
+
+import pgn_files
+import sessions
+from list_files import entries
+
+MOST_REFUSALS = 20
+SHOWN = 40  # characters of a line that is no opening
+BOOK_ENTRY = 16  # bytes of an entry of a polyglot book
+LEAST_ENTRIES = 8  # fewer keys may be in order by chance
+
+TAG_LINE = re.compile(r'(?m)^[ \t]*\[\s*\w+\s*"')
+PLACEMENT = re.compile(r"[pnbrqkPNBRQK1-8/]*/[pnbrqkPNBRQK1-8/]*")
+OPERATION = re.compile(r'\s*([A-Za-z]\w*)((?:\s+(?:"[^"]*"|[^\s";]+))*)\s*(?:;|$)')
+EPD = re.compile(
+    rf"(?P<fields>\S+(?:\s+\S+){{3}})(?:\s+(?P<counters>\d+\s+\d+))?[\s;]*(?P<operations>(?:{OPERATION.pattern})*)"
+)
+MOVE = re.compile(r"([KQRBN]?[a-h]?[1-8]?[x:-]?[a-h][1-8](=?[QRBNqrbn])?|[O0]-[O0](-[O0])?)[+#]?[!?]*")
+# The parts of PGN. What begins with a digit is a number, a result, or castling with zeros.
+TOKEN = re.compile(
+    r"""(?mx)
+      \{ [^}]* \} | ; .* | ^% .*                                                # comments
+    | \[ \s* (?P<tag> \w+ ) \s* " (?P<value> (?: [^"\\\n] | \\. )* ) " \s* \]
+    | (?P<open> \( ) | (?P<close> \) )
+    | (?P<result> (?: 1-0 | 0-1 | 1/2-1/2 | 1/2 | \* ) (?= [\s;{(] | \Z ) )
+    | \$ \d+ | e\.p\. | [!?]+ | \d+ \.+ | \d+ (?! [-/\w] ) | \.+              # glyphs and numbers
+    | (?P<move> [^\s(){};!?]+ | \S )
+    """
+)
+
+
+@dataclass
+class Opening:
+    """An opening of a file: its line, the FEN at which it begins, if it has one, and its moves."""
+
+    line: int
+    fen: str = ""
+    moves: list = field(default_factory=list)
+
+    def commands(self, variant):
+        """Returns the commands of a session that set it up."""
+        start = ["variant fischerandom" if variant == "fischerandom" else "new"]
+        start += [f"setboard {self.fen}"] if self.fen else []
+        return start + [f"usermove {move}" for move in self.moves]
+
+
+# ---- files
+
+
+class Refused(Exception):
+    """Why a file is refused as a whole."""
+
+
+def read(path, variant, plies):
+    """Returns the openings of a file as FENs, and why it is refused; of moves only so many half-moves are played, if a
+    number is given."""
+    try:
+        text = text_of(path)
+        found = list(of_pgn(text)) if TAG_LINE.search(text) else of_lines(text)
+    except (pgn_files.Unreadable, Refused) as fault:
+        return [], [f"{path}: {fault}"]
+    for opening in found:
+        opening.moves = opening.moves[:plies]
+    fens, refusals = fens_of(path, found, variant)
+    more = len(refusals) - MOST_REFUSALS
+    return fens, refusals[:MOST_REFUSALS] + ([f"{path}: {more} more openings are refused"] if more > 0 else [])
+
+
+def text_of(path):
+    """Returns the text of a file, which may be compressed."""
+    beginning = beginning_of(path)
+    if is_polyglot_book(beginning):
+        raise Refused("neither FEN, EPD, PGN nor moves: it seems to be a polyglot book")
+    parts = pgn_files.File(str(path)).parts(pgn_files.UNCUT, False)
+    content = b"".join(bytes(part.text) for part in parts)
+    try:
+        text = content.decode("utf-8-sig")
+    except UnicodeDecodeError:
+        text = content.decode("latin-1")
+    return re.sub(r"\r\n?", "\n", text)
+
+
+def beginning_of(path):
+    """Returns the first bytes of a file; none if it can't be read."""
+    try:
+        with open(path, "rb") as file:
+            return file.read(64 * BOOK_ENTRY)
+    except OSError:
+        return b""
+
+
+def is_polyglot_book(content):
+    """Says whether bytes are entries of a polyglot book: keys of eight bytes that never fall."""
+    keys = [content[start : start + 8] for start in range(0, len(content), BOOK_ENTRY)]
+    is_whole = len(keys) >= LEAST_ENTRIES and len(content) % BOOK_ENTRY == 0
+    return is_whole and keys == sorted(keys) and 0 in content
+
+
+def seems(text):
+    """Returns what a text without openings seems to be."""
+    first = entries(text)[0][1]
+    start = text.lstrip()[:100].lower()
+    if re.search(r"[\0-\x08]", text):
+        return "no text"
+    if start.startswith(("<!doctype html", "<html", "<?xml")):
+        return "a page of the web"
+    if start.startswith(("{", "[")):
+        return "JSON"
+    if shutil.which(first.rpartition("\t")[2].split()[0]):
+        return "a list of engines"
+    return f"text of another kind ('{first[:SHOWN]}{'...' if len(first) > SHOWN else ''}')"
+
+
+# ---- what files have
+
+
+def of_lines(text):
+    """Returns the opening of each line."""
+    found = entries(text)
+    if not found:
+        raise Refused("no opening")
+    if not any(looks_like_opening(line) for _, line in found):
+        raise Refused(f"neither FEN, EPD, PGN nor moves: it seems to be {seems(text)}")
+    later = [(number, start[1]) for number, line in found if (start := re.match(r"(?!0*1\.)(\d+)\.", line))]
+    if later:
+        raise Refused("line {} begins at move {}: an opening is on one line, or a game of PGN with tags".format(*later[0]))
+    return [of_line(number, line) for number, line in found]
+
+
+def looks_like_opening(line):
+    """Says whether a line begins as a FEN or with a move."""
+    return bool(PLACEMENT.fullmatch(line.split()[0]) or MOVE.fullmatch(next(iter(moves_of(line)), "")))
+
+
+def of_line(number, line):
+    """Returns the opening of a line: a FEN, EPD, or moves."""
+    if "/" in line.split()[0]:
+        return Opening(number, fen_of_epd(line))
+    return Opening(number, moves=moves_of(line))
+
+
+def moves_of(line):
+    return [token["move"] for token in main_line(line) if token["move"]]
+
+
+def fen_of_epd(line):
+    """Returns the FEN of an EPD: four fields, perhaps two counters, and operations, of which `hmvc` and `fmvn` are
+    counters too. Other lines are returned as they are."""
+    found = EPD.fullmatch(line)
+    if not found:
+        return line
+    values = dict(OPERATION.findall(found["operations"]))
+    clock, number = (found["counters"] or "0 1").split()
+    return " ".join([found["fields"], values.get("hmvc", clock).strip(), values.get("fmvn", number).strip()])
+
+
+def main_line(text):
+    """Yields the tags, moves and results of PGN that are in no variation. One that is not closed ends with its game."""
+    depth = 0
+    for token in TOKEN.finditer(text):
+        depth = 0 if token["tag"] else max(depth + bool(token["open"]) - bool(token["close"]), 0)
+        if not depth and (token["tag"] or token["move"] or token["result"]):
+            yield token
+
+
+def of_pgn(text):
+    """Yields the opening of each game: its tag FEN, and its moves."""
+    game, is_over, line, counted = None, True, 1, 0
+    for token in main_line(text):
+        if is_over or (token["tag"] and game.moves):
+            if game:
+                yield game
+            line += text.count("\n", counted, token.start())
+            counted = token.start()
+            game = Opening(line)
+        if token["tag"] == "FEN":
+            game.fen = token["value"].strip()
+        elif token["move"]:
+            game.moves.append(token["move"])
+        is_over = bool(token["result"])
+    if game:
+        yield game
+
+
+def fens_of(path, openings, variant):
+    """Returns the openings as FENs, and why some are refused; a session reads them."""
+    commands = []
+    for number, opening in enumerate(openings):
+        commands += [*opening.commands(variant), "showfen", f"ping {number}"]
+    fens, refusals, answers = [], [], []
+    for answer in session(commands):
+        if not answer.startswith("pong "):
+            answers.append(answer)
+            continue
+        if len(answers) == 1:
+            fens.append(answers[0].removeprefix("# fen "))
+        else:
+            refusals.append(f"{path}:{openings[int(answer[5:])].line}: {reason(answers[0])}")
+        answers = []
+    return fens, refusals
+
+
+def reason(answer):
+    """Returns why an opening is refused, from the first answer of the session."""
+    words = answer.removeprefix("tellusererror ")
+    return f"the game is over: {words}" if re.match(r"(1-0|0-1|1/2-1/2) \{", words) else words
+
+
+def session(commands):
+    """Returns the lines that a session answers. Ctrl-C does not reach it."""
+    return sessions.answers("arbiter", commands, encoding="utf-8", errors="replace", start_new_session=True)
+
+
+# ---- the draw
+
+
+def drawn(openings, number, seed):
+    """Returns so many openings: all in their order, or in orders drawn by a seed, and none again before all were
+    taken."""
+    return list(itertools.islice(rounds(openings, seed), number))
+
+
+def rounds(openings, seed):
+    """Yields the openings without end, all of them in each round."""
+    source = random.Random(seed)  # which draws the same from a number in all versions of Python
+    while openings:
+        yield from openings if seed is None else sorted(openings, key=lambda _: source.random())
