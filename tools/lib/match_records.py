@@ -31,8 +31,9 @@ class WrittenGame:
     """A game of a match's PGN: its tags and its movetext."""
 
     def __init__(self, text):
+        self.head, _, movetext = text.partition("\n\n")
         self.tags = dict(re.findall(r'(?m)^\[(\w+) "(.*)"\]$', text))
-        self.movetext = " ".join(text.partition("\n\n")[2].split("score ", 1)[0].split())
+        self.movetext = " ".join(movetext.split("score ", 1)[0].split())
 
     @property
     def result(self):
@@ -139,6 +140,11 @@ class LoggedGame:
         times = (line for line in reversed(lines) if line.seat == before.seat and line.mark == ">")
         return next((line for line in times if re.fullmatch(r"time -?\d+", line.text)), None)
 
+    def clock_of_turn(self, asked):
+        """Returns the last line `time N` of an engine that was asked for a move; None if it was asked for something
+        else."""
+        return None if asked.text.startswith("ping ") else self.clock(asked)
+
     def own_name(self, seat):
         """Returns what an engine calls itself in its features; an empty text if it doesn't."""
         names = re.findall(r'\bmyname="([^"]*)"', self.features(seat))
@@ -178,10 +184,15 @@ def logged_games(text):
 
 
 def parts_of_line(line):
-    """Returns what a line of a log has besides, and the line of the log that it is or ends with; either may be missing."""
-    is_other = line.startswith(OWN_LINES) or any(kind.fullmatch(line) for kind in REPORTS)
+    """Returns what else a line has, and the line of the log that it is or ends with; either may be missing."""
+    is_other = line.startswith(OWN_LINES) or is_of_engine(line)
     found = None if is_other else LOG_LINE.fullmatch(line)
     return (found["before"], LoggedLine(found.groups()[1:])) if found else (line, None)
+
+
+def is_of_engine(line):
+    """Says whether a line, which isn't of the log, tells of an engine's process."""
+    return any(kind.fullmatch(line) for kind in REPORTS)
 
 
 def fault(text):

@@ -8,7 +8,7 @@ import re
 import shlex
 import subprocess
 import sys
-from dataclasses import dataclass
+from dataclasses import dataclass, field
 from pathlib import Path
 
 import needed
@@ -19,6 +19,7 @@ from tournament_engines import MOST_NAME, read_engines
 GIVEN = ("--white", "--black", "--games", "--fen", "--log", "--flag", "--reply-timeout")
 DEFAULT_LEVEL = "40 5 0"
 LONG_GAME = 100  # The moves of a game that --timeout should allow.
+MORE_SECONDS = 300  # for answers that are no moves
 GAMES_HEAD = "game\tround\twhite\tblack"
 CHANGEABLE = ("--faults=", "--sprt=")  # the options that a later start may change
 
@@ -39,7 +40,7 @@ class Patience:
 class Lists:
     """What a tournament is: its engines, openings (as FENs, one for each round), options of the match, whether it is a
     gauntlet, how faults count, how long engines are waited for, the number of games (if it is limited), the seed by
-    which openings are drawn (if they are), and the test that ends it, if there is one."""
+    which openings are drawn (if they are), the test that ends it (if there is one), and the moves to the FENs."""
 
     engines: list
     openings: list
@@ -50,6 +51,7 @@ class Lists:
     games: int | None = None
     seed: int | None = None
     sprt: Sprt | None = None
+    moves: dict = field(default_factory=dict)
 
     def programs(self):
         return sorted({program for engine in self.engines for program in engine.programs()})
@@ -147,13 +149,15 @@ def long_game_seconds(level):
     return 2 * (controls * (float(minutes) * 60 + float(seconds or 0)) + LONG_GAME * float(increment))
 
 
-def judge_timeout(timeout, options):
-    """Warns of a --timeout that ends games which are within their time."""
+def judged_timeout(timeout, options):
+    """Returns the seconds after which a game is ended: the given ones, with a warning if they end games that are within
+    their time, or twice as many as a long game takes and some."""
     level = option_value(options, "level", DEFAULT_LEVEL)
     needs = long_game_seconds(level)
-    if timeout < needs:
+    if timeout and timeout < needs:
         takes = f"the {needs:.0f} seconds that a game of {LONG_GAME} moves can take at level '{level}'"
-        report(f"warning: --timeout {timeout} is less than {takes}; who is to move when a game is ended loses it")
+        report(f"warning: --timeout {timeout} is less than {takes}; a game that it ends counts for nobody")
+    return timeout or math.ceil(2 * needs) + MORE_SECONDS
 
 
 def judge_sprt(lists, engines_path):
@@ -167,14 +171,14 @@ def read_lists(folder, arguments, options, patience):
     engines, refusals, warnings = read_engines(arguments.engines, bool(arguments.hosts))
     wrong_options = judge_options(options, patience)
     variant = "normal" if wrong_options else option_value(options, "variant", "normal")
-    openings, wrong_openings = tournament_openings.read(arguments.openings, variant, arguments.plies)
+    openings, moves, wrong_openings = tournament_openings.read(arguments.openings, variant, arguments.plies)
     refuse(refusals + wrong_options + wrong_openings)
     different = len(set(openings))
     if different < len(openings):
         warnings.append(f"{arguments.openings}: of {len(openings)} openings {different} are different")
     for warning in warnings:
         report(f"warning: {warning}")
-    lists = Lists(engines, openings, options, arguments.gauntlet, arguments.faults, patience)
+    lists = Lists(engines, openings, options, arguments.gauntlet, arguments.faults, patience, moves=moves)
     lists.games, lists.seed, lists.sprt = arguments.games, arguments.random, arguments.sprt
     rounds = math.ceil(lists.games / lists.games_of_round()) if lists.games else len(openings)
     lists.openings = tournament_openings.drawn(openings, max(rounds, kept_rounds(folder, lists)), lists.seed)
@@ -209,6 +213,11 @@ def kept_value(folder, name):
     """Returns the value of an option that a folder keeps, or None."""
     found = [option.removeprefix(name) for option in lines(folder / "options.txt") if option.startswith(name)]
     return found[0] if found else None
+
+
+def kept_level(folder):
+    """Returns the level of a folder's games."""
+    return option_value(kept_options(folder), "level", DEFAULT_LEVEL)
 
 
 def kept_faults(folder):
@@ -296,6 +305,7 @@ def keep(folder, lists, games):
         if engine.is_uci:
             write_lines(folder / f"engine{number}.ini", engine.ini().splitlines())
     write_lines(folder / "openings.txt", lists.openings)
+    write_lines(folder / "openings.pgn", [f"{lists.moves[fen]}\n" for fen in lists.openings])
     write_lines(folder / "options.txt", [*lists.changeable_options(), *lists.kept_options()])
     rows = [f"{game.number}\t{game.round}\t{game.white}\t{game.black}" for game in games]
     write_lines(folder / "games.tsv", [GAMES_HEAD, *rows])

@@ -61,18 +61,18 @@ class Refused(Exception):
 
 
 def read(path, variant, plies):
-    """Returns the openings of a file as FENs, and why it is refused; of moves only so many half-moves are played, if a
-    number is given."""
+    """Returns the openings of a file as FENs, the moves to each as PGN, and why it is refused; of moves only so many
+    half-moves are played, if a number is given."""
     try:
         text = text_of(path)
         found = list(of_pgn(text)) if TAG_LINE.search(text) else of_lines(text)
     except (pgn_files.Unreadable, Refused) as fault:
-        return [], [f"{path}: {fault}"]
+        return [], {}, [f"{path}: {fault}"]
     for opening in found:
         opening.moves = opening.moves[:plies]
-    fens, refusals = fens_of(path, found, variant)
+    fens, texts, refusals = fens_of(path, found, variant)
     more = len(refusals) - MOST_REFUSALS
-    return fens, refusals[:MOST_REFUSALS] + ([f"{path}: {more} more openings are refused"] if more > 0 else [])
+    return fens, texts, refusals[:MOST_REFUSALS] + ([f"{path}: {more} more openings are refused"] if more > 0 else [])
 
 
 def text_of(path):
@@ -192,21 +192,23 @@ def of_pgn(text):
 
 
 def fens_of(path, openings, variant):
-    """Returns the openings as FENs, and why some are refused; a session reads them."""
+    """Returns the openings as FENs, the moves to each as PGN (of several to the same the first ones), and why some are
+    refused; a session reads them."""
     commands = []
     for number, opening in enumerate(openings):
-        commands += [*opening.commands(variant), "showfen", f"ping {number}"]
-    fens, refusals, answers = [], [], []
+        commands += [*opening.commands(variant), "showfen", "showpgn", f"ping {number}"]
+    fens, texts, refusals, answers = [], {}, [], []
     for answer in session(commands):
         if not answer.startswith("pong "):
             answers.append(answer)
             continue
-        if len(answers) == 1:
+        if answers[0].startswith("# fen "):
             fens.append(answers[0].removeprefix("# fen "))
+            texts.setdefault(fens[-1], "\n".join(sessions.shown(answers[1:])).strip())
         else:
             refusals.append(f"{path}:{openings[int(answer[5:])].line}: {reason(answers[0])}")
         answers = []
-    return fens, refusals
+    return fens, texts, refusals
 
 
 def reason(answer):

@@ -193,9 +193,22 @@ class Trial:
 
 
 def last_words(errors):
-    """Returns the last line on standard error that isn't of the log."""
-    said = [line for line in errors.splitlines() if line and not match_records.LOG_LINE.match(line)]
-    return said[-1] if said else ""
+    """Returns why no game was played, as far as standard error says it: the last line of the match, or else the last
+    one that isn't of the log, nor of an engine."""
+    others = (match_records.parts_of_line(line) for line in errors.split("\n"))
+    said = [text for text, logged in others if text and not logged and not match_records.is_of_engine(text)]
+    own = [text for text in said if text.startswith("arbiter: ")]
+    return (own or [text for text in said if not STATUS.fullmatch(text)] or said or [""])[-1]
+
+
+def why_not_played(folder, game):
+    """Returns why a game was not played, and where its log is kept: with those of other such games."""
+    log = folder / "running" / f"{game.number}.err"
+    kept = folder / "failed" / log.name
+    reason = last_words(read_game(folder, game)[1]) or "its end was not reported"
+    kept.parent.mkdir(exist_ok=True)
+    log.replace(kept)
+    return reason, f"failed/{log.name}"
 
 
 def failure(game, seat, words):
@@ -204,7 +217,7 @@ def failure(game, seat, words):
     if what not in CRASHES:
         return what
     ended = [game.ended[seat]] if seat in game.ended else []
-    return ": ".join([", ".join([what, *ended]), *game.wrote[seat][-1:]])
+    return ": ".join([", ".join([what, *ended]), *match_records.telling(game.wrote[seat], 1)])
 
 
 def no_answer(engine, asked, seconds):
@@ -394,13 +407,13 @@ class Player:
         """Puts a game that was not played back into the queue, unless it was tried often enough."""
         self.tries[game.number] += 1
         host.failed.add(game.number)
-        reason = last_words(read_game(self.folder, game)[1]) or "its end was not reported"
+        reason, log = why_not_played(self.folder, game)
         again = self.tries[game.number] < self.most_tries
         host.is_suspect = True
         if again:
             self.queue.appendleft(game)
         where = "" if host.is_here else f" on {host.label}"
-        report(f"game {game.number}{where} was not played{', and is played again' if again else ''}: {reason}")
+        report(f"game {game.number}{where} was not played{', and is played again' if again else ''}: {reason} ({log})")
 
     def ask_again(self, host):
         """Gives a host up if it can't play any more, with the games that it is playing."""
