@@ -22,6 +22,7 @@ TIMED_OUT = 124
 RESULTS_HEAD = "game\twhite\tblack\tresult\tend\tfault\tside\treason"
 COLOURS = {"first": "White", "second": "Black"}
 MOST_FAULT_LINES = 20
+MOST_RANGES = 20
 LATE_ANSWER = 10  # seconds: an engine that owes another answer than a move for longer is at fault
 VOID = "void"  # how a game ends that --timeout ended while all was well
 NO_END = "its log has no end"
@@ -149,6 +150,11 @@ def awaited_at_end(game, logged, end):
         return Outcome(game, "*", "timeout", words, "timeout", (side,))
     words = f"--timeout ended it: {side} was sent '{asked.text}' {waited / 1000:.0f} s before"
     return Outcome(game, "*", VOID, words + (f", and had {(time - waited) / 1000:.0f} s left" if clock else ""))
+
+
+def clock_time(line):
+    """Returns the milliseconds that a line `time N` gives."""
+    return int(line.text.removeprefix("time ")) * 10
 
 
 def kind_of_end(written, comment):
@@ -355,6 +361,19 @@ class Table:
         if self.sprt:
             text += ["", f"SPRT of Elo {self.sprt.elo0:g} against {self.sprt.elo1:g}: {self.ratio_text()}"]
         return text
+
+
+def ranges(numbers):
+    """Returns the text of rising numbers, those in a row as a range; of many ranges only the first."""
+    rows = []
+    for number in numbers:
+        if rows and rows[-1][-1] == number - 1:
+            rows[-1] = [rows[-1][0], number]
+        else:
+            rows.append([number])
+    texts = ["-".join(map(str, row)) for row in rows]
+    more = [f".. {numbers[-1]}"] if len(texts) > MOST_RANGES else []
+    return " ".join([*texts[:MOST_RANGES], *more])
 
 
 def table_of(names, faults, sprt, found):
