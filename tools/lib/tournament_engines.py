@@ -151,7 +151,7 @@ def missing(engine):
     if engine.folder and not Path(engine.folder).is_dir():
         return f"no folder {engine.folder}"
     lacking = [program for program in engine.programs() if not shutil.which(program)]
-    return f"no program {lacking[0]} that can be run" if lacking else None
+    return f"no program {lacking[0]} that can be run{needed.package_of(lacking[0])}" if lacking else None
 
 
 def read_engines(path, with_hosts):
