@@ -96,7 +96,7 @@ class Wrong(Exception):
 
 def read_engine(source, line):
     """Returns the engine of a line `NAME<tab>SETTINGS COMMAND`, of which name and settings may be missing."""
-    name, _, text = line.rpartition("\t")
+    name, _, text = ("", "", line.replace("\t", " ")) if LIKE_A_SETTING.match(line) else line.rpartition("\t")
     if not name.isprintable() or not text.isprintable():
         raise Wrong("more than one tab, or another control character; a line is NAME<tab>COMMAND or COMMAND")
     try:
