@@ -96,7 +96,7 @@ class Wrong(Exception):
 
 def read_engine(source, line):
     """Returns the engine of a line `NAME<tab>SETTINGS COMMAND`, of which name and settings may be missing."""
-    name, _, text = line.rpartition("\t")
+    name, _, text = ("", "", line.replace("\t", " ")) if LIKE_A_SETTING.match(line) else line.rpartition("\t")
     if not name.isprintable() or not text.isprintable():
         raise Wrong("more than one tab, or another control character; a line is NAME<tab>COMMAND or COMMAND")
     try:
@@ -151,7 +151,7 @@ def missing(engine):
     if engine.folder and not Path(engine.folder).is_dir():
         return f"no folder {engine.folder}"
     lacking = [program for program in engine.programs() if not shutil.which(program)]
-    return f"no program {lacking[0]} that can be run" if lacking else None
+    return f"no program {lacking[0]} that can be run{needed.package_of(lacking[0])}" if lacking else None
 
 
 def read_engines(path, with_hosts):

@@ -4,6 +4,7 @@ What a file has is seen from its content. A session of the arbiter says which mo
 """
 
 import itertools
+import os
 import random
 import re
 import shutil
@@ -83,14 +84,16 @@ def text_of(path):
     parts = pgn_files.File(str(path)).parts(pgn_files.UNCUT, False)
     content = b"".join(bytes(part.text) for part in parts)
     try:
-        text = content.decode("utf-8-sig")
+        text = content.decode()
     except UnicodeDecodeError:
         text = content.decode("latin-1")
-    return re.sub(r"\r\n?", "\n", text)
+    return re.sub(r"\r\n?", "\n", text.replace("\ufeff", ""))
 
 
 def beginning_of(path):
-    """Returns the first bytes of a file; none if it can't be read."""
+    """Returns the first bytes of a file; none of a stream, which can be read only once."""
+    if not os.path.isfile(path):
+        return b""
     try:
         with open(path, "rb") as file:
             return file.read(64 * BOOK_ENTRY)
@@ -132,7 +135,8 @@ def of_lines(text):
         raise Refused(f"neither FEN, EPD, PGN nor moves: it seems to be {seems(text)}")
     later = [(number, start[1]) for number, line in found if (start := re.match(r"(?!0*1\.)(\d+)\.", line))]
     if later:
-        raise Refused("line {} begins at move {}: an opening is on one line, or a game of PGN with tags".format(*later[0]))
+        number, move = later[0]
+        raise Refused(f"line {number} begins at move {move}: an opening is on one line, or a game of PGN with tags")
     return [of_line(number, line) for number, line in found]
 
 
