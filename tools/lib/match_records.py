@@ -191,7 +191,7 @@ def parts_of_line(line):
 
 
 def is_of_engine(line):
-    """Says whether a line, which isn't of the log, tells of an engine's process."""
+    """Says whether a line, which isn't of the log, is about an engine's process."""
     return any(kind.fullmatch(line) for kind in REPORTS)
 
 
@@ -202,8 +202,8 @@ def fault(text):
     return (int(faults[-1][1]), faults[-1][2]) if faults else None
 
 
-def telling(wrote, most):
-    """Returns the lines on standard error that may tell why a program failed: the first ones of a report, or else the
+def cause(wrote, most):
+    """Returns the lines on standard error that may show why a program failed: the first ones of a report, or else the
     last ones."""
     begins = (number for number, line in enumerate(wrote) if REPORT.search(line))
     return wrote[next(begins, max(len(wrote) - most, 0)) :][:most]

@@ -217,7 +217,7 @@ def failure(game, seat, words):
     if what not in CRASHES:
         return what
     ended = [game.ended[seat]] if seat in game.ended else []
-    return ": ".join([", ".join([what, *ended]), *match_records.telling(game.wrote[seat], 1)])
+    return ": ".join([", ".join([what, *ended]), *match_records.cause(game.wrote[seat], 1)])
 
 
 def no_answer(engine, asked, seconds):

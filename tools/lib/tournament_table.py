@@ -101,7 +101,7 @@ def judge(game, text, errors):
 
 def finished(game, written, logged, stayed=()):
     """Judges a game that has a result. The engines of the sides `stayed`, or else those that the match killed, did not
-    end after it: the result stands. That is no further fault of an engine whose time was over, since it may have hung
+    end after it: the result holds. That is no further fault of an engine whose time was over, since it may have hung
     before."""
     comment, late = logged.end()[1] or "", logged.out_of_time()
     end, reason = kind_of_end(written, comment), comment or NO_END
@@ -128,7 +128,7 @@ def failed(game, written, logged, words):
 
 def timed_out(game, written, logged, errors):
     """Judges a game that was ended after its time, by the first fault in its log, or by what was awaited. A result
-    stands."""
+    holds."""
     if logged.fault():
         return failed(game, written, logged, logged.fault())
     if logged.end()[0]:
