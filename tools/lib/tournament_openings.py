@@ -27,19 +27,21 @@ EPD = re.compile(
 )
 MOVE = re.compile(r"([KQRBN]?[a-h]?[1-8]?[x:-]?[a-h][1-8](=?[QRBNqrbn])?|[O0]-[O0](-[O0])?)[+#]?[!?]*")
 # The parts of PGN, after white space and numbers, the frequent ones first. What begins with a digit is a number, a
-# result, or castling with zeros. The last group of a part is its kind: `value` for a tag, none for comments and glyphs.
+# result, or castling with zeros. The last group of a part is its kind; comments and glyphs have none.
 TOKEN = re.compile(
     r"""(?mx)
     (?: \s | \d+ \.+ )*
     (?: (?P<move> (?! e\.p\. ) [A-Za-z] [^\s(){};!?]* )
     | \{ [^}]* \} | ; .* | ^% .* | \$ \d+ | e\.p\. | [!?]+ | \.+
     | \[ \s* (?P<tag> \w+ ) \s* " (?P<value> (?: [^"\\\n] | \\. )* ) " \s* \]
+    | ^ \[ (?! FEN \b ) (?P<malformed> \w+ ) [ \t] .* \] [ \t]* $
     | (?P<open> \( ) | (?P<close> \) )
     | (?P<result> (?: 1-0 | 0-1 | 1/2-1/2 | 1/2 | \* ) (?= [\s;{(] | \Z ) )
     | \d+ (?! [-/\w] )
     | (?P<other> [^\s(){};!?]+ | \S ) )
     """
 )
+TAGS = ("value", "malformed")
 PLAYED = ("move", "other")  # what begins with no letter may be castling, or is no move
 
 
@@ -180,7 +182,7 @@ def main_line(text):
             depth += 1
         elif kind == "close":
             depth = max(depth - 1, 0)
-        elif kind == "value" or (kind and not depth):
+        elif kind in TAGS or (kind and not depth):
             depth = 0
             yield token
 
@@ -190,7 +192,7 @@ def of_pgn(text):
     game, is_over, line, counted = None, True, 1, 0
     for token in main_line(text):
         kind = token.lastgroup
-        if is_over or (kind == "value" and game.moves):
+        if is_over or (kind in TAGS and game.moves):
             if game:
                 yield game
             line += text.count("\n", counted, token.start(kind))
