@@ -26,17 +26,23 @@ EPD = re.compile(
     rf"(?P<fields>\S+(?:\s+\S+){{3}})(?:\s+(?P<counters>\d+\s+\d+))?[\s;]*(?P<operations>(?:{OPERATION.pattern})*)"
 )
 MOVE = re.compile(r"([KQRBN]?[a-h]?[1-8]?[x:-]?[a-h][1-8](=?[QRBNqrbn])?|[O0]-[O0](-[O0])?)[+#]?[!?]*")
-# The parts of PGN. What begins with a digit is a number, a result, or castling with zeros.
+# The parts of PGN, after white space and numbers, the frequent ones first. What begins with a digit is a number, a
+# result, or castling with zeros. The last group of a part is its kind; comments and glyphs have none.
 TOKEN = re.compile(
     r"""(?mx)
-      \{ [^}]* \} | ; .* | ^% .*                                                # comments
+    (?: \s | \d+ \.+ )*
+    (?: (?P<move> (?! e\.p\. ) [A-Za-z] [^\s(){};!?]* )
+    | \{ [^}]* \} | ; .* | ^% .* | \$ \d+ | e\.p\. | [!?]+ | \.+
     | \[ \s* (?P<tag> \w+ ) \s* " (?P<value> (?: [^"\\\n] | \\. )* ) " \s* \]
+    | ^ \[ (?! FEN \b ) (?P<malformed> \w+ ) [ \t] .* \] [ \t]* $
     | (?P<open> \( ) | (?P<close> \) )
     | (?P<result> (?: 1-0 | 0-1 | 1/2-1/2 | 1/2 | \* ) (?= [\s;{(] | \Z ) )
-    | \$ \d+ | e\.p\. | [!?]+ | \d+ \.+ | \d+ (?! [-/\w] ) | \.+              # glyphs and numbers
-    | (?P<move> [^\s(){};!?]+ | \S )
+    | \d+ (?! [-/\w] )
+    | (?P<other> [^\s(){};!?]+ | \S ) )
     """
 )
+TAGS = ("value", "malformed")
+PLAYED = ("move", "other")  # what begins with no letter may be castling, or is no move
 
 
 @dataclass
@@ -153,7 +159,7 @@ def of_line(number, line):
 
 
 def moves_of(line):
-    return [token["move"] for token in main_line(line) if token["move"]]
+    return [token[token.lastgroup] for token in main_line(line) if token.lastgroup in PLAYED]
 
 
 def fen_of_epd(line):
@@ -170,9 +176,14 @@ def fen_of_epd(line):
 def main_line(text):
     """Yields the tags, moves and results of PGN that are in no variation. One that is not closed ends with its game."""
     depth = 0
-    for token in TOKEN.finditer(text):
-        depth = 0 if token["tag"] else max(depth + bool(token["open"]) - bool(token["close"]), 0)
-        if not depth and (token["tag"] or token["move"] or token["result"]):
+    for token in TOKEN.finditer(text.rstrip()):
+        kind = token.lastgroup
+        if kind == "open":
+            depth += 1
+        elif kind == "close":
+            depth = max(depth - 1, 0)
+        elif kind in TAGS or (kind and not depth):
+            depth = 0
             yield token
 
 
@@ -180,17 +191,18 @@ def of_pgn(text):
     """Yields the opening of each game: its tag FEN, and its moves."""
     game, is_over, line, counted = None, True, 1, 0
     for token in main_line(text):
-        if is_over or (token["tag"] and game.moves):
+        kind = token.lastgroup
+        if is_over or (kind in TAGS and game.moves):
             if game:
                 yield game
-            line += text.count("\n", counted, token.start())
-            counted = token.start()
+            line += text.count("\n", counted, token.start(kind))
+            counted = token.start(kind)
             game = Opening(line)
-        if token["tag"] == "FEN":
+        if kind in PLAYED:
+            game.moves.append(token[kind])
+        elif token["tag"] == "FEN":
             game.fen = token["value"].strip()
-        elif token["move"]:
-            game.moves.append(token["move"])
-        is_over = bool(token["result"])
+        is_over = kind == "result"
     if game:
         yield game
 
