@@ -212,16 +212,15 @@ def collect(folder, game, date):
     logged = match_records.logged_games(errors)[0]
     if not match_records.written_games(text):
         path.write_text(rebuilt(game, logged, date), encoding="latin-1")
-    keep_log(folder / "games" / log.name, outcome, logged, errors)
+    keep_log(log, folder / "games" / log.name, outcome, logged)
     path.replace(folder / "games" / path.name)
-    if log.parent.name == "running":
-        log.unlink()
     return outcome
 
 
-def keep_log(path, outcome, logged, errors):
-    """Writes the log of a game, with some of the lines that its engines wrote to standard error; all that the engine at
-    fault wrote is then in a file beside it."""
+def keep_log(log, path, outcome, logged):
+    """Moves the log of a game to a path, with only some of the lines that its engines wrote to standard error; all that
+    the engine at fault wrote is then in a file beside it."""
+    errors = read_text(log)
     kept = [line for line in errors.split("\n") if not match_records.WROTE_LINE.fullmatch(line)]
     end = next((number for number, line in enumerate(kept) if STATUS.fullmatch(line)), len(kept))
     wrote = []
@@ -232,9 +231,14 @@ def keep_log(path, outcome, logged, errors):
             text = "".join(f"{line}\n" for line in own)
             path.with_suffix(f".{seat}.stderr").write_text(text, encoding="latin-1")
         wrote += [f"{seat} engine wrote: {line}" for line in some_lines(own, MOST_FIRST if is_at_fault else 0)]
+    text = "\n".join([*kept[:end], *wrote, *kept[end:]])
+    if text == errors:
+        log.replace(path)
+        return
     new = path.with_name(f".{path.name}")
-    new.write_text("\n".join([*kept[:end], *wrote, *kept[end:]]), encoding="latin-1")
+    new.write_text(text, encoding="latin-1")
     new.replace(path)
+    log.unlink()
 
 
 def some_lines(wrote, first):
