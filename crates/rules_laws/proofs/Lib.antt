@@ -1,0 +1,5 @@
+mod Reach
+mod Pieces
+mod Castled
+mod EnPassant
+mod FirstMoves

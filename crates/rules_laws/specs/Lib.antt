@@ -1,0 +1,6 @@
+pub mod Names
+pub mod Tables
+pub mod Reach
+pub mod Castled
+pub mod EnPassant
+pub mod FirstMoves

@@ -1,0 +1,32 @@
+//! Laws of how pieces move. A caller learns one by calling its function, which does nothing.
+
+ghost use Rattle.rules_laws.specs.Castled.{FischerandomCastlingEnds, NormalCastlingEnds};
+ghost use Rattle.rules_laws.specs.EnPassant.{EnPassantFollowsDoubleAdvance};
+ghost use Rattle.rules_laws.specs.FirstMoves.{FirstMovesAreThese};
+ghost use Rattle.rules_laws.specs.Reach.{TablesHold};
+
+/// A law: the contract says it, and the function does nothing. From each square a knight, a king and a pawn attack the
+/// squares of tables that were written down by hand (FIDE Laws of Chess 2023, articles 3.6, 3.7.3 and 3.8.1).
+pub fn pieces_reach_by_tables()
+    ensures { TablesHold }
+{}
+
+/// A law: the contract says it, and the function does nothing. Castling takes the king to the g-file or the c-file of
+/// its first rank and the rook to the f-file or the d-file, in normal chess and in Chess960 (FIDE Laws of Chess 2023,
+/// article 3.8.2 and Guidelines II). The squares are named, as `e1` and `g1`.
+pub fn castling_ends_on_named_squares()
+    ensures normal { NormalCastlingEnds }
+    ensures fischerandom { FischerandomCastlingEnds }
+{}
+
+/// A law: the contract says it, and the function does nothing. A pawn is captured en passant only by the move right
+/// after its double advance (FIDE Laws of Chess 2023, article 3.7.3.1).
+pub fn en_passant_follows_a_double_advance()
+    ensures { EnPassantFollowsDoubleAdvance }
+{}
+
+/// A law: the contract says it, and the function does nothing. The initial position has 20 legal moves, which are named
+/// (FIDE Laws of Chess 2023, articles 2.3 and 3).
+pub fn first_moves_are_these()
+    ensures { FirstMovesAreThese }
+{}
