@@ -3,3 +3,7 @@ mod Pieces
 mod Castled
 mod EnPassant
 mod FirstMoves
+mod NoMove
+mod Counted
+mod Material
+mod NeverMated

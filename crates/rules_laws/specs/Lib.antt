@@ -4,3 +4,4 @@ pub mod Reach
 pub mod Castled
 pub mod EnPassant
 pub mod FirstMoves
+pub mod Endings

@@ -3,8 +3,13 @@
 //! say. They are in a crate of their own so that no other crate waits for their proofs.
 #![tactic(auto)]
 
+mod endings;
 mod moves;
 
+pub use endings::{
+    a_game_ends_where_no_move_is_legal, insufficient_material_never_mates,
+    repetitions_and_quiet_moves_end_a_game,
+};
 pub use moves::{
     castling_ends_on_named_squares, en_passant_follows_a_double_advance, first_moves_are_these,
     pieces_reach_by_tables,
