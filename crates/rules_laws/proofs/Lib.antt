@@ -7,3 +7,6 @@ mod NoMove
 mod Counted
 mod Material
 mod NeverMated
+mod MirrorAttacks
+mod MirrorMoves
+mod MirrorAfter

@@ -5,3 +5,4 @@ pub mod Castled
 pub mod EnPassant
 pub mod FirstMoves
 pub mod Endings
+pub mod Mirror

@@ -1,0 +1,18 @@
+//! Laws of positions in the mirror: with colours exchanged and ranks counted from the other side. A caller learns one
+//! by calling its function, which does nothing.
+
+ghost use Rattle.rules_laws.specs.Mirror.{MirrorAttacksAlike, MirrorIsAsLegal, MirrorMovesAlike};
+
+/// A law: the contract says it, and the function does nothing. Pieces in the mirror attack the mirrored squares, and
+/// give check as they do: the rules are the same for both colours (FIDE Laws of Chess 2023, articles 3.1 to 3.9).
+pub fn attacks_are_mirrored()
+    ensures { MirrorAttacksAlike }
+{}
+
+/// A law: the contract says it, and the function does nothing. A move is legal in a sound position exactly if the
+/// mirrored move is legal in the mirrored position, and then both lead to mirrored positions. Only the fullmove number
+/// differs: it rises after Black's moves.
+pub fn moves_are_mirrored()
+    ensures legal { MirrorIsAsLegal }
+    ensures after { MirrorMovesAlike }
+{}
