@@ -10,3 +10,4 @@ mod NeverMated
 mod MirrorAttacks
 mod MirrorMoves
 mod MirrorAfter
+mod MirrorEndings

@@ -1,6 +1,6 @@
 -- Positions in the mirror: colours exchanged, ranks counted from the other side. The rules are the same for both
 -- colours, but for who moves first.
-use Rattle.std.specs.Prelude.{◌≡◌, ℕ, ◌+◌, ◌-◌, ◌*◌, ◌<◌, IsTrue, map}
+use Rattle.std.specs.Prelude.{◌≡◌, ◌↔◌, ℕ, ◌+◌, ◌-◌, ◌*◌, ◌<◌, IsTrue, map}
 use Rattle.std.specs.Option.{option_map}
 use Rattle.chess_base.specs.declared.man.Colour.{Colour}
 use Rattle.chess_base.specs.declared.man.Man.{Man}
@@ -13,6 +13,8 @@ use Rattle.chess_base.specs.Men.{Men, man_at, other}
 use Rattle.chess_base.specs.Moves.{is_legal, after}
 use Rattle.chess_base.specs.Sound.{IsSound}
 use Rattle.chess_base.specs.Squares.{file, rank, squares}
+use Rattle.chess_game.specs.Ends.{has_insufficient_material}
+use Rattle.rules_laws.specs.Endings.{IsMate, IsStalemate}
 
 -- the square of the same file on the rank counted from the other side: e2 and e7
 abbrev pub mirrored : ℕ → ℕ
@@ -71,3 +73,13 @@ abbrev pub MirrorMovesAlike : Type 0
 MirrorMovesAlike = (p : Setup) (m : Move) → IsSound p → IsTrue (is_legal p m)
     → record (after (mirrored_setup p) (mirrored_move m)) { fullmove = 1 }
     ≡ record (mirrored_setup (after p m)) { fullmove = 1 }
+
+-- a sound position and its mirror are ended alike: by mate, by stalemate, and by insufficient material
+pub record EndsAreMirrored (p : Setup) : Type 0 where
+  pub mate : IsMate (mirrored_setup p) ↔ IsMate p
+  pub stalemate : IsStalemate (mirrored_setup p) ↔ IsStalemate p
+  pub material : has_insufficient_material (mirrored_men p.men) ≡ has_insufficient_material p.men
+
+-- this holds of all sound positions
+abbrev pub MirrorEndsAlike : Type 0
+MirrorEndsAlike = (p : Setup) → IsSound p → EndsAreMirrored p
