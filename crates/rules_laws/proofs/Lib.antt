@@ -11,3 +11,4 @@ mod MirrorAttacks
 mod MirrorMoves
 mod MirrorAfter
 mod MirrorEndings
+mod MirrorGames

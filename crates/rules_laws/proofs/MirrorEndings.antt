@@ -25,15 +25,15 @@ use Rattle.rules_laws.proofs.MirrorAfter.{mirror_is_as_legal}
 
 -- ---- no legal move
 
-in_board : (p : Setup) (m : Move) → is_legal p m ≡ true → Moves p m
+pub in_board : (p : Setup) (m : Move) → is_legal p m ≡ true → Moves p m
 unfolding is_legal
 in_board p m legal = moves_from_pattern p m (and_parts _ _ legal).0
 
-move_twice : (m : Move) → m.from < 64 → m.to < 64 → mirrored_move (mirrored_move m) ≡ m
+pub move_twice : (m : Move) → m.from < 64 → m.to < 64 → mirrored_move (mirrored_move m) ≡ m
 move_twice m h l =
     ap₂ (λ (a b : ℕ). record { from = a; to = b; promotion = m.promotion }) (twice m.from h) (twice m.to l)
 
-none_in_mirror : (p : Setup) → IsSound p → HasNoMove p → HasNoMove (mirrored_setup p)
+pub none_in_mirror : (p : Setup) → IsSound p → HasNoMove p → HasNoMove (mirrored_setup p)
 none_in_mirror p sound none m =
     false_from_ne_true _ (λ legal.
     let h = in_board (mirrored_setup p) m legal in
@@ -41,7 +41,7 @@ none_in_mirror p sound none m =
     let here = ap (is_legal (mirrored_setup p)) (move_twice m h.from_in h.to_in) in
     both_ways _ (none (mirrored_move m)) (sym back ∙ here ∙ legal))
 
-none_from_mirror : (p : Setup) → IsSound p → HasNoMove (mirrored_setup p) → HasNoMove p
+pub none_from_mirror : (p : Setup) → IsSound p → HasNoMove (mirrored_setup p) → HasNoMove p
 none_from_mirror p sound none m =
     false_from_ne_true _ (λ legal.
     let h = in_board p m legal in
@@ -140,7 +140,7 @@ bishop_on n m men turned =
 both_back : (a b : Bool) → (a && b) ≡ (b && a)
 both_back a b = grind arith
 
-material-mirrored : (men : Men) → length men ≡ 64
+pub material-mirrored : (men : Men) → length men ≡ 64
     → has_insufficient_material (mirrored_men men) ≡ has_insufficient_material men
 unfolding has_insufficient_material
 material-mirrored men whole =

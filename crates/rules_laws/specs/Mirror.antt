@@ -1,6 +1,6 @@
 -- Positions in the mirror: colours exchanged, ranks counted from the other side. The rules are the same for both
 -- colours, but for who moves first.
-use Rattle.std.specs.Prelude.{◌≡◌, ◌↔◌, ℕ, ◌+◌, ◌-◌, ◌*◌, ◌<◌, IsTrue, map}
+use Rattle.std.specs.Prelude.{◌≡◌, ◌↔◌, ℕ, ◌+◌, ◌-◌, ◌*◌, ◌<◌, IsTrue, List, map}
 use Rattle.std.specs.Option.{option_map}
 use Rattle.chess_base.specs.declared.man.Colour.{Colour}
 use Rattle.chess_base.specs.declared.man.Man.{Man}
@@ -13,7 +13,10 @@ use Rattle.chess_base.specs.Men.{Men, man_at, other}
 use Rattle.chess_base.specs.Moves.{is_legal, after}
 use Rattle.chess_base.specs.Sound.{IsSound}
 use Rattle.chess_base.specs.Squares.{file, rank, squares}
-use Rattle.chess_game.specs.Ends.{has_insufficient_material}
+use Rattle.chess_game.specs.Ends.{claims, has_insufficient_material, verdict}
+use Rattle.chess_game.specs.Line.{IsLine}
+use Rattle.chess_game.specs.declared.verdicts.Verdict.{Verdict}
+use Rattle.chess_game.specs.declared.verdicts.Verdict.TheVariants.{WhiteMates, BlackMates, Stalemate, InsufficientMaterial, FivefoldRepetition, SeventyFiveMoves}
 use Rattle.rules_laws.specs.Endings.{IsMate, IsStalemate}
 
 -- the square of the same file on the rank counted from the other side: e2 and e7
@@ -83,3 +86,21 @@ pub record EndsAreMirrored (p : Setup) : Type 0 where
 -- this holds of all sound positions
 abbrev pub MirrorEndsAlike : Type 0
 MirrorEndsAlike = (p : Setup) → IsSound p → EndsAreMirrored p
+
+-- the verdict of the mirrored game: the other colour mates; a draw is the same
+abbrev pub mirrored_verdict : Verdict → Verdict
+mirrored_verdict WhiteMates = BlackMates
+mirrored_verdict BlackMates = WhiteMates
+mirrored_verdict Stalemate = Stalemate
+mirrored_verdict InsufficientMaterial = InsufficientMaterial
+mirrored_verdict FivefoldRepetition = FivefoldRepetition
+mirrored_verdict SeventyFiveMoves = SeventyFiveMoves
+
+-- a game of legal moves from a sound start, and the same game in the mirror, have mirrored verdicts and the same claims
+pub record GamesAreMirrored (start : Setup) (ms : List Move) : Type 0 where
+  pub verdict : verdict (mirrored_setup start) (map mirrored_move ms) ≡ option_map mirrored_verdict (verdict start ms)
+  pub claims : claims (mirrored_setup start) (map mirrored_move ms) ≡ claims start ms
+
+-- this holds of all such games
+abbrev pub MirrorGamesAlike : Type 0
+MirrorGamesAlike = (start : Setup) (ms : List Move) → IsSound start → IsLine start ms → GamesAreMirrored start ms

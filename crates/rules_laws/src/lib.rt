@@ -11,7 +11,9 @@ pub use endings::{
     a_game_ends_where_no_move_is_legal, insufficient_material_never_mates,
     repetitions_and_quiet_moves_end_a_game,
 };
-pub use mirror::{attacks_are_mirrored, endings_are_mirrored, moves_are_mirrored};
+pub use mirror::{
+    attacks_are_mirrored, endings_are_mirrored, games_are_mirrored, moves_are_mirrored,
+};
 pub use moves::{
     castling_ends_on_named_squares, en_passant_follows_a_double_advance, first_moves_are_these,
     pieces_reach_by_tables,

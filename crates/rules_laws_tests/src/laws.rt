@@ -13,6 +13,7 @@ fn laws_of_moves_are_called() {
     first_moves_are_these();
     attacks_are_mirrored();
     endings_are_mirrored();
+    games_are_mirrored();
     moves_are_mirrored();
 }
 
