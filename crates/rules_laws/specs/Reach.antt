@@ -1,4 +1,4 @@
--- What knights, kings and pawns attack, against tables written by hand (Laws of Chess 2023, articles 3.6, 3.7.3, 3.8.1).
+-- What knights, kings and pawns attack, by tables (Laws of Chess 2023, articles 3.6, 3.7.3, 3.8.1).
 use Rattle.std.specs.Prelude.{◌≡◌, ℕ, Bool, List, ◌++◌, codes, map, filter, flat_map}
 use Rattle.std.specs.List.{range_with_len}
 use Rattle.chess_base.specs.declared.man.Colour.{Colour}
@@ -9,10 +9,11 @@ use Rattle.chess_base.specs.Attacks.{could_capture}
 use Rattle.rules_laws.specs.Names.{name_of}
 use Rattle.rules_laws.specs.Tables.{knight_table, king_table, white_pawn_table, black_pawn_table}
 
--- all squares, and those from a2 to h7, where pawns can be
+-- all squares, from a1 to h8
 abbrev pub all_squares : List ℕ
 all_squares = range_with_len 0 64
 
+-- the squares from a2 to h7, where pawns can be
 abbrev pub pawn_squares : List ℕ
 pawn_squares = range_with_len 8 48
 

@@ -1,5 +1,4 @@
--- What a knight, a king and a pawn attack from each square, as lists that are written down by hand: no arithmetic of
--- files and ranks.
+-- What a knight, a king and a pawn attack from each square, as plain lists of names: no arithmetic of files and ranks.
 use Rattle.std.specs.Prelude.{ℕ, List, [], ◌∷◌, codes}
 
 -- a knight's reach: each square, and those that a knight on it attacks (3.6)

@@ -5,6 +5,8 @@ ghost use Rattle.rules_laws.specs.Mirror.{MirrorAttacksAlike, MirrorEndsAlike, M
 
 /// A law: the contract says it, and the function does nothing. Pieces in the mirror attack the mirrored squares, and
 /// give check as they do: the rules are the same for both colours (FIDE Laws of Chess 2023, articles 3.1 to 3.9).
+///
+/// It refuses a slip in one colour, such as black pawns that attack up the board.
 pub fn attacks_are_mirrored()
     ensures { MirrorAttacksAlike }
 {}
@@ -12,6 +14,8 @@ pub fn attacks_are_mirrored()
 /// A law: the contract says it, and the function does nothing. A move is legal in a sound position exactly if the
 /// mirrored move is legal in the mirrored position, and then both lead to mirrored positions. Only the fullmove number
 /// differs: it rises after Black's moves.
+///
+/// It refuses a slip in one colour, such as castling squares, a promotion rank or a double advance of one side alone.
 pub fn moves_are_mirrored()
     ensures legal { MirrorIsAsLegal }
     ensures after { MirrorMovesAlike }

@@ -6,7 +6,9 @@ ghost use Rattle.rules_laws.specs.FirstMoves.{FirstMovesAreThese};
 ghost use Rattle.rules_laws.specs.Reach.{TablesHold};
 
 /// A law: the contract says it, and the function does nothing. From each square a knight, a king and a pawn attack the
-/// squares of tables that were written down by hand (FIDE Laws of Chess 2023, articles 3.6, 3.7.3 and 3.8.1).
+/// squares that plain tables list by name (FIDE Laws of Chess 2023, articles 3.6, 3.7.3 and 3.8.1).
+///
+/// It refuses any other reach, such as two squares each way for a knight, or straight ahead for a pawn.
 pub fn pieces_reach_by_tables()
     ensures { TablesHold }
 {}
@@ -14,6 +16,8 @@ pub fn pieces_reach_by_tables()
 /// A law: the contract says it, and the function does nothing. Castling takes the king to the g-file or the c-file of
 /// its first rank and the rook to the f-file or the d-file, in normal chess and in Chess960 (FIDE Laws of Chess 2023,
 /// article 3.8.2 and Guidelines II). The squares are named, as `e1` and `g1`.
+///
+/// It refuses a rook that stays, or that ends on the c-file, and a king that ends on the b-file.
 pub fn castling_ends_on_named_squares()
     ensures normal { NormalCastlingEnds }
     ensures fischerandom { FischerandomCastlingEnds }
@@ -21,12 +25,16 @@ pub fn castling_ends_on_named_squares()
 
 /// A law: the contract says it, and the function does nothing. A pawn is captured en passant only by the move right
 /// after its double advance (FIDE Laws of Chess 2023, article 3.7.3.1).
+///
+/// It refuses a target that stays for a second move, one after a single advance, and the capture of another pawn.
 pub fn en_passant_follows_a_double_advance()
     ensures { EnPassantFollowsDoubleAdvance }
 {}
 
 /// A law: the contract says it, and the function does nothing. The initial position has 20 legal moves, which are named
 /// (FIDE Laws of Chess 2023, articles 2.3 and 3).
+///
+/// It refuses a bishop, rook or queen that jumps, and a pawn that goes three squares, or only one.
 pub fn first_moves_are_these()
     ensures { FirstMovesAreThese }
 {}

@@ -1,8 +1,8 @@
 use rules_laws::{
     a_game_ends_where_no_move_is_legal, attacks_are_mirrored, castling_ends_on_named_squares,
     en_passant_follows_a_double_advance, endings_are_mirrored, first_moves_are_these,
-    insufficient_material_never_mates, moves_are_mirrored, pieces_reach_by_tables,
-    repetitions_and_quiet_moves_end_a_game,
+    games_are_mirrored, insufficient_material_never_mates, moves_are_mirrored,
+    pieces_reach_by_tables, repetitions_and_quiet_moves_end_a_game,
 };
 
 #[test]
