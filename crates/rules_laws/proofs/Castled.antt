@@ -28,7 +28,7 @@ use Rattle.rules_laws.proofs.Pieces.{attacks_as, king_is_near, after_castle}
 
 -- ---- the named squares
 
-named : (c : Colour) (w : CastlingSide)
+pub named : (c : Colour) (w : CastlingSide)
     → castling_of c w ≡ castle_from c w (home_square c king_home_file) (home_square c (rook_file w))
 named White KingSide = refl
 named White QueenSide = refl
@@ -42,14 +42,14 @@ named_from White QueenSide king rook = refl
 named_from Black KingSide king rook = refl
 named_from Black QueenSide king rook = refl
 
-too_far : (c : Colour) (w : CastlingSide) (a b : ℕ) → a ≡ home_square c king_home_file
+pub too_far : (c : Colour) (w : CastlingSide) (a b : ℕ) → a ≡ home_square c king_home_file
     → b ≡ home_square c (castled_king_file w) → abs_diff (file a) (file b) ≤ 1 → ⊥
 too_far White KingSide a b e f h = omega (arith, e, f, h)
 too_far White QueenSide a b e f h = omega (arith, e, f, h)
 too_far Black KingSide a b e f h = omega (arith, e, f, h)
 too_far Black QueenSide a b e f h = omega (arith, e, f, h)
 
-one_side : (c : Colour) (w v : CastlingSide)
+pub one_side : (c : Colour) (w v : CastlingSide)
     → home_square c (castled_king_file w) ≡ home_square c (castled_king_file v) → v ≡ w
 one_side c KingSide KingSide e = refl
 one_side c QueenSide QueenSide e = refl
@@ -129,13 +129,13 @@ has_castled p m w r e king none f h = record {
 
 -- ---- which rook it is
 
-record IsCastle (p : Setup) (m : Move) (w : CastlingSide) (r : ℕ) : Type 0 where
+pub record IsCastle (p : Setup) (m : Move) (w : CastlingSide) (r : ℕ) : Type 0 where
   pub castle : castle_of p m ≡ Some (castle_from p.side w m.from r)
   pub names : names_castling_with p.variant p.side m w r ≡ true
   pub placed : are_placed_for_castling p.variant p.men p.side w r ≡ true
   pub rook_in : r < 64
 
-is_castle : (p : Setup) (m : Move) (w : CastlingSide) (r : ℕ) → IsSound p → castling p m ≡ Some w
+pub is_castle : (p : Setup) (m : Move) (w : CastlingSide) (r : ℕ) → IsSound p → castling p m ≡ Some w
     → right_of p.rights p.side w ≡ Some r → IsCastle p m w r
 unfolding right_is_sound
 is_castle p m w r sound at right =
@@ -155,15 +155,15 @@ is_castle p m w r sound at right =
 
 -- ---- normal chess
 
-normal_named : (m : Move) (c : Colour) (w : CastlingSide) (r : ℕ) → names_castling_with Normal c m w r ≡ true
+pub normal_named : (m : Move) (c : Colour) (w : CastlingSide) (r : ℕ) → names_castling_with Normal c m w r ≡ true
     → m.to ≡ home_square c (castled_king_file w)
 normal_named m c w r e = eqb-true _ _ (and_parts _ _ e).1
 
-normal_placed : (men : Men) (c : Colour) (w : CastlingSide) (r : ℕ) → are_placed_for_castling Normal men c w r ≡ true
+pub normal_placed : (men : Men) (c : Colour) (w : CastlingSide) (r : ℕ) → are_placed_for_castling Normal men c w r ≡ true
     → r ≡ home_square c (rook_file w)
 normal_placed men c w r e = eqb-true _ _ (and_parts _ _ (and_parts _ _ e).0).0
 
-no_king_of_pawn : (p : Setup) (m : Move) → is_man p.side King (man_at p.men m.from) ≡ true
+pub no_king_of_pawn : (p : Setup) (m : Move) → is_man p.side King (man_at p.men m.from) ≡ true
     → is_man p.side Pawn (man_at p.men m.from) ≡ true → ⊥
 no_king_of_pawn p m king pawn =
     both_ways _ (is_man-kind p.side p.side King Pawn (man_at p.men m.from) refl king) pawn

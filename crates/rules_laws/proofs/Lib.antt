@@ -12,3 +12,5 @@ mod MirrorMoves
 mod MirrorAfter
 mod MirrorEndings
 mod MirrorGames
+mod MayCastle
+mod Sliders

@@ -1,6 +1,7 @@
 pub mod Names
 pub mod Tables
 pub mod Reach
+pub mod Sliders
 pub mod Castled
 pub mod EnPassant
 pub mod FirstMoves

@@ -15,6 +15,7 @@ pub use mirror::{
     attacks_are_mirrored, endings_are_mirrored, games_are_mirrored, moves_are_mirrored,
 };
 pub use moves::{
-    castling_ends_on_named_squares, en_passant_follows_a_double_advance, first_moves_are_these,
+    castling_ends_on_named_squares, castling_needs_named_squares,
+    en_passant_follows_a_double_advance, first_moves_are_these, lines_end_at_the_first_piece,
     pieces_reach_by_tables,
 };
