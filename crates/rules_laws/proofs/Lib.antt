@@ -14,3 +14,4 @@ mod MirrorEndings
 mod MirrorGames
 mod MayCastle
 mod Sliders
+mod KnownGames

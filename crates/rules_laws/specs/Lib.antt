@@ -6,4 +6,5 @@ pub mod Castled
 pub mod EnPassant
 pub mod FirstMoves
 pub mod Endings
+pub mod KnownGames
 pub mod Mirror

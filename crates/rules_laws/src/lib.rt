@@ -16,6 +16,6 @@ pub use mirror::{
 };
 pub use moves::{
     castling_ends_on_named_squares, castling_needs_named_squares,
-    en_passant_follows_a_double_advance, first_moves_are_these, lines_end_at_the_first_piece,
-    pieces_reach_by_tables,
+    en_passant_follows_a_double_advance, first_moves_are_these, known_games_end,
+    lines_end_at_the_first_piece, pieces_reach_by_tables,
 };

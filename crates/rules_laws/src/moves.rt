@@ -3,6 +3,7 @@
 ghost use Rattle.rules_laws.specs.Castled.{FischerandomCastlingEnds, NormalCastlingEnds, NormalCastlingIsLegal};
 ghost use Rattle.rules_laws.specs.EnPassant.{EnPassantFollowsDoubleAdvance};
 ghost use Rattle.rules_laws.specs.FirstMoves.{FirstMovesAreThese};
+ghost use Rattle.rules_laws.specs.KnownGames.{KnownGamesEnd};
 ghost use Rattle.rules_laws.specs.Reach.{TablesHold};
 ghost use Rattle.rules_laws.specs.Sliders.{DiagramsHold};
 
@@ -55,4 +56,12 @@ pub fn en_passant_follows_a_double_advance()
 /// It refuses a bishop, rook or queen that jumps, and a pawn that goes three squares, or only one.
 pub fn first_moves_are_these()
     ensures { FirstMovesAreThese }
+{}
+
+/// A law: the contract says it, and the function does nothing. The scholar's mate and the fool's mate are legal games,
+/// which White and Black win by mate (FIDE Laws of Chess 2023, articles 3 and 5.1.1).
+///
+/// It refuses a mate that is won by the other side, and one that the king or another piece could still escape.
+pub fn known_games_end()
+    ensures { KnownGamesEnd }
 {}
