@@ -12,11 +12,11 @@ use Rattle.chess_base.specs.Men.{man_at, is_man, is_of, other}
 use Rattle.chess_base.specs.Moves.{after, halfmove_after, resets_clock}
 use Rattle.chess_base.proofs.shared.Captures.{resets_clock_is}
 use Rattle.chess_game.specs.declared.verdicts.Verdict.TheVariants.{FivefoldRepetition, SeventyFiveMoves}
-use Rattle.chess_game.specs.Ends.{has_insufficient_material}
+use Rattle.chess_game.specs.Ends.{has_insufficient_material, verdict}
 use Rattle.chess_game.specs.Line.{positions_of, position_after}
 use Rattle.chess_game.specs.Same.{is_same_position, repetition_count}
 use Rattle.rules_laws.specs.Endings.{position_at, IsThere, IsQuiet, IsQuietFor, CountingEnds}
-use Rattle.rules_laws.proofs.NoMove.{judged, has_none, verdict_is}
+use Rattle.rules_laws.proofs.NoMove.{judged, judged_at, has_none}
 
 -- ---- numbers that rise, from k on
 
@@ -285,6 +285,10 @@ some_by_count a b d k s e = grind arith
 
 some_by_clock : (a b c k : Bool) (s : Colour) → judged a b c true k s ≡ None → ⊥
 some_by_clock a b c k s e = grind arith
+
+verdict_is : (start : Setup) (ms : List Move) → verdict start ms ≡ judged_at 5 150 start ms
+unfolding verdict
+verdict_is start ms = refl
 
 pub counting_ends : CountingEnds
 counting_ends start ms =

@@ -15,7 +15,7 @@ use Rattle.chess_game.specs.Ends.{verdict}
 use Rattle.chess_game.specs.declared.verdicts.Verdict.TheVariants.{WhiteMates, BlackMates}
 use Rattle.chess_game.specs.Line.{position_after, IsLine}
 use Rattle.rules_laws.specs.KnownGames.{scholars_mate, fools_mate, KnownGamesEnd}
-use Rattle.rules_laws.proofs.NoMove.{has_none, verdict_is}
+use Rattle.rules_laws.proofs.NoMove.{has_none, some_numbers}
 
 scholars : IsLine initial_setup scholars_mate
 unfolding squares some_square each_square is_between is_of is_man is_clear could_capture attacks is_attacked is_in_check
@@ -69,7 +69,7 @@ mated_by : (ms : List Move) (c : Colour) → has_none (position_after initial_se
     → is_in_check (position_after initial_setup ms).men c ≡ true → (position_after initial_setup ms).side ≡ c
     → verdict initial_setup ms ≡ Some (by_colour WhiteMates BlackMates (other c))
 mated_by ms c none check side =
-    verdict_is initial_setup ms ∙ rw (none, side, check) refl
+    some_numbers.is initial_setup ms ∙ rw (none, side, check) refl
 
 pub known_games_end : KnownGamesEnd
 known_games_end = record {

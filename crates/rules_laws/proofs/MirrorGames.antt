@@ -34,7 +34,7 @@ use Rattle.chess_game.specs.Ends.{has_insufficient_material}
 use Rattle.chess_game.specs.Line.{positions_of, position_after, IsLine}
 use Rattle.chess_game.specs.Same.{same_man, same_men, same_square, same_colour_rights, same_rights, legal_en_passant_square, is_same_position, repetition_count}
 use Rattle.rules_laws.specs.Mirror.{mirrored, mirrored_men, mirrored_rights, mirrored_setup, mirrored_move, mirrored_verdict, MirrorGamesAlike}
-use Rattle.rules_laws.proofs.NoMove.{judged, has_none, verdict_is, none_from, none_to}
+use Rattle.rules_laws.proofs.NoMove.{judged, has_none, none_from, none_to, some_numbers}
 use Rattle.rules_laws.proofs.MirrorAttacks.{mirrored_in, twice, each_mirrored, some_mirrored, flipped, man_at-mirrored, same_colour-other, is_in_check-mirrored}
 use Rattle.rules_laws.proofs.MirrorAttacks as attacks
 use Rattle.rules_laws.proofs.MirrorMoves.{target_in, rook_in, en_passant-mirrored}
@@ -333,15 +333,15 @@ mirror_games_alike start ms sound line =
     let at : Alike p q = alike p q is in
     let count = repetitions_alike start ms sound line in
     record {
-      verdict = verdict_is (mirrored_setup start) (map mirrored_move ms)
+      verdict = some_numbers.is (mirrored_setup start) (map mirrored_move ms)
           ∙ judged_same _ _ _ _ _ _ _ _ _ _ _ _ (none_by p q is sound')
           (ap has_insufficient_material at.men ∙ material-mirrored p.men sound'.board)
-          (ap (λ (n : ℕ). nat_le 5 n) count)
-          (ap (λ (n : ℕ). nat_le 150 n) at.clock)
+          (ap (λ (n : ℕ). nat_le some_numbers.times n) count)
+          (ap (λ (n : ℕ). nat_le some_numbers.clock n) at.clock)
           (ap₂ (λ (men : Men) (c : Colour). is_in_check men c) at.men at.side ∙ is_in_check-mirrored p.men p.side)
           at.side
-          ∙ judged-mirrored (has_none p) (has_insufficient_material p.men) (nat_le 5 (repetition_count start ms))
-          (nat_le 150 p.halfmove) (is_in_check p.men p.side) p.side
-          ∙ sym (ap (option_map mirrored_verdict) (verdict_is start ms));
+          ∙ judged-mirrored (has_none p) (has_insufficient_material p.men) (nat_le some_numbers.times (repetition_count start ms))
+          (nat_le some_numbers.clock p.halfmove) (is_in_check p.men p.side) p.side
+          ∙ sym (ap (option_map mirrored_verdict) (some_numbers.is start ms));
       claims = ap₂ (λ (n k : ℕ). record { threefold = nat_le 3 n; fifty_moves = nat_le 100 k }) count at.clock;
     }

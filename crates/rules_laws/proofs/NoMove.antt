@@ -1,5 +1,5 @@
 -- Mate and stalemate by the moves that are legal.
-use Rattle.std.proofs.Common.{◌≡◌, Bool, true, false, List, [], ◌∷◌, length, Some, None, Option, refl, sym, ◌∙◌, arith, ◌==◌, nat_le}
+use Rattle.std.proofs.Common.{ℕ, ◌≡◌, Bool, true, false, List, [], ◌∷◌, length, Some, None, Option, refl, sym, ◌∙◌, arith, ◌==◌, nat_le}
 use Rattle.std.proofs.lemmas.Bool.{eqb-true, eq-eqb, false_from_ne_true, ltb-true}
 use Rattle.std.specs.List.{filter}
 use Rattle.std.specs.Prelude.{if◌then◌else◌}
@@ -33,15 +33,22 @@ judged none bare five quiet check side =
 abbrev pub has_none : Setup → Bool
 has_none p = length (moves p) == 0
 
-abbrev pub judged_of : Setup → List Move → Option Verdict
-judged_of start ms =
+-- the verdict of a game, if it is drawn at the n-th repetition and after k quiet half-moves
+abbrev pub judged_at : ℕ → ℕ → Setup → List Move → Option Verdict
+judged_at n k start ms =
     let p = position_after start ms in
-    judged (has_none p) (has_insufficient_material p.men) (nat_le 5 (repetition_count start ms)) (nat_le 150 p.halfmove)
+    judged (has_none p) (has_insufficient_material p.men) (nat_le n (repetition_count start ms)) (nat_le k p.halfmove)
     (is_in_check p.men p.side) p.side
 
-pub verdict_is : (start : Setup) (ms : List Move) → verdict start ms ≡ judged_of start ms
+-- some such numbers make the verdict; which they are does not matter here
+pub record Numbers : Type 0 where
+  pub times : ℕ
+  pub clock : ℕ
+  pub is : (start : Setup) (ms : List Move) → verdict start ms ≡ judged_at times clock start ms
+
+pub some_numbers : Numbers
 unfolding verdict
-verdict_is start ms = refl
+some_numbers = record { times = _; clock = _; is = λ start ms. refl }
 
 white_by : (a b c d k : Bool) (s : Colour) → judged a b c d k s ≡ Some WhiteMates
     → (a ≡ true) × (k ≡ true) × (s ≡ Black)
@@ -92,11 +99,11 @@ none_to p e m =
 pub no_move_ends : NoMoveEnds
 no_move_ends start ms =
     let p = position_after start ms in
-    let is = verdict_is start ms in
+    let is = some_numbers.is start ms in
     let a = has_none p in
     let b = has_insufficient_material p.men in
-    let c = nat_le 5 (repetition_count start ms) in
-    let d = nat_le 150 p.halfmove in
+    let c = nat_le some_numbers.times (repetition_count start ms) in
+    let d = nat_le some_numbers.clock p.halfmove in
     let k = is_in_check p.men p.side in
     record {
       white_mates = (
