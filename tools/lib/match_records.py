@@ -2,17 +2,23 @@
 
 import re
 
-LOG_LINE = re.compile(r"(\d+) ([<>!])(first|second) ?: (.*)")
+# A line of the log may come after what an engine wrote without a newline.
+LOG_LINE = re.compile(r"(?P<before>|.*?(?<!\d))(\d+) ([<>!])(first |second): (.*)")
 RESULT_LINE = re.compile(r"result (1-0|0-1|1/2-1/2|\*) \{(.*)\}")
 FAULT_LINE = re.compile(r"arbiter: game (\d+): ((White|Black) .*)")
 KILLED_LINE = re.compile(r"arbiter: game \d+: (White|Black) did not exit, and was killed")
 # What tools/watch_engine writes.
 ENDED_LINE = re.compile(r"(first|second) engine: (exit status \d+|signal \w+)")
 WROTE_LINE = re.compile(r"(first|second) engine wrote: (.*)")
+REPORTS = (ENDED_LINE, WROTE_LINE, KILLED_LINE)
+OWN_LINES = ("arbiter: ", "tournament: ")
 SEATS = ("first", "second")
 HANDSHAKE = ("xboard", "protover 2")
+NO_HANDSHAKE = "any other engine must end its lines and flush them, and may need longer to start"
 # The faults of an engine that did not answer in time, without the side.
 NO_ANSWER = ("did not answer", "sent no done=1 (a UCI engine needs polyglot)")
+# How the reports begin that sanitizers, assertions and languages write when a program fails.
+REPORT = re.compile(r"Sanitizer: |runtime error: |panicked at|[Aa]ssert|terminate called|^Traceback ")
 OUT_OF_TIME = re.compile(r"(White|Black) forfeits on time|Time forfeit against a bare king")
 
 
@@ -25,8 +31,9 @@ class WrittenGame:
     """A game of a match's PGN: its tags and its movetext."""
 
     def __init__(self, text):
+        self.head, _, movetext = text.partition("\n\n")
         self.tags = dict(re.findall(r'(?m)^\[(\w+) "(.*)"\]$', text))
-        self.movetext = " ".join(text.partition("\n\n")[2].split("score ", 1)[0].split())
+        self.movetext = " ".join(movetext.split("score ", 1)[0].split())
 
     @property
     def result(self):
@@ -49,7 +56,7 @@ class LoggedLine:
     """A line of a log: its moment in milliseconds, its mark (`<` received, `>` sent, `!` report), engine and text."""
 
     def __init__(self, fields):
-        self.moment, self.mark, self.seat, self.text = int(fields[0]), fields[1], fields[2], fields[3]
+        self.moment, self.mark, self.seat, self.text = int(fields[0]), fields[1], fields[2].strip(), fields[3]
 
     def asks(self):
         """Says whether the match waits for this engine once it has sent it the line."""
@@ -85,14 +92,14 @@ class LoggedGame:
     def add_report(self, line):
         """Takes a line that is no line of the log: one of tools/watch_engine, that an engine was killed, or what an
         engine wrote."""
-        ended, wrote, killed = (kind.fullmatch(line) for kind in (ENDED_LINE, WROTE_LINE, KILLED_LINE))
+        ended, wrote, killed = (kind.fullmatch(line) for kind in REPORTS)
         if ended:
             self.ended[ended[1]] = ended[2]
         elif wrote:
             self.wrote[wrote[1]].append(wrote[2])
         elif killed:
             self.killed.append(killed[1])
-        elif not line.startswith(("arbiter: ", "tournament: ")):
+        elif not line.startswith(OWN_LINES):
             self.others.append(line)
 
     def start(self):
@@ -133,11 +140,20 @@ class LoggedGame:
         times = (line for line in reversed(lines) if line.seat == before.seat and line.mark == ">")
         return next((line for line in times if re.fullmatch(r"time -?\d+", line.text)), None)
 
+    def clock_of_turn(self, asked):
+        """Returns the last line `time N` of an engine that was asked for a move; None if it was asked for something
+        else."""
+        return None if asked.text.startswith("ping ") else self.clock(asked)
+
     def own_name(self, seat):
         """Returns what an engine calls itself in its features; an empty text if it doesn't."""
-        own = (line.text for line in self.lines if line.seat == seat and line.mark == "<")
-        names = re.findall(r'(?m)^feature .*\bmyname="([^"]*)"', "\n".join(own))
+        names = re.findall(r'\bmyname="([^"]*)"', self.features(seat))
         return names[-1].strip() if names else ""
+
+    def features(self, seat):
+        """Returns the lines `feature` of an engine."""
+        own = (line.text for line in self.lines if line.seat == seat and line.mark == "<")
+        return "\n".join(text for text in own if text.startswith("feature "))
 
 
 def texts_of_games(pgn):
@@ -154,28 +170,43 @@ def written_games(text):
 def logged_games(text):
     """Returns the games of a log. Each game begins at every other line `xboard`: one is sent to each engine."""
     games, handshakes = [], 0
-    for line in text.splitlines():
-        fields = LOG_LINE.fullmatch(line)
-        if not fields:
-            if games:
-                games[-1].add_report(line)
-            continue
-        line = LoggedLine(fields.groups())
-        if line.mark == ">" and line.text == "xboard":
+    for other, line in map(parts_of_line, text.split("\n")):
+        if other and games:
+            games[-1].add_report(other)
+        if line and line.mark == ">" and line.text == "xboard":
             handshakes += 1
             if handshakes % 2 == 1:
                 games.append(LoggedGame(line))
                 continue
-        if games:
+        if line and games:
             games[-1].lines.append(line)
     return games
 
 
+def parts_of_line(line):
+    """Returns what else a line has, and the line of the log that it is or ends with; either may be missing."""
+    is_other = line.startswith(OWN_LINES) or is_of_engine(line)
+    found = None if is_other else LOG_LINE.fullmatch(line)
+    return (found["before"], LoggedLine(found.groups()[1:])) if found else (line, None)
+
+
+def is_of_engine(line):
+    """Says whether a line, which isn't of the log, is about an engine's process."""
+    return any(kind.fullmatch(line) for kind in REPORTS)
+
+
 def fault(text):
     """Returns the number of the game and the words of the fault that ended a match, or None."""
-    own = [line for line in text.splitlines() if line.startswith("arbiter: ") and not KILLED_LINE.fullmatch(line)]
+    own = [line for line in text.split("\n") if line.startswith("arbiter: ") and not KILLED_LINE.fullmatch(line)]
     faults = [found for found in map(FAULT_LINE.fullmatch, own) if found]
     return (int(faults[-1][1]), faults[-1][2]) if faults else None
+
+
+def cause(wrote, most):
+    """Returns the lines on standard error that may show why a program failed: the first ones of a report, or else the
+    last ones."""
+    begins = (number for number, line in enumerate(wrote) if REPORT.search(line))
+    return wrote[next(begins, max(len(wrote) - most, 0)) :][:most]
 
 
 def is_no_answer(words):

@@ -10,6 +10,7 @@ from pathlib import Path
 PACKAGES = {
     "bzip2": "bzip2",
     "gzip": "gzip",
+    "polyglot": "polyglot",
     "ssh": "openssh-client",
     "xz": "xz-utils",
     "zstd": "zstd",

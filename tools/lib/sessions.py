@@ -16,4 +16,4 @@ def answers(arbiter, commands, **how):
 
 def shown(lines):
     """Returns what the answers to `showfen` and `showpgn` among these lines show, without their prefix."""
-    return [line[2:] for line in lines if line.startswith("# ")]
+    return [line[2:].rstrip() for line in lines if line == "#" or line.startswith("# ")]

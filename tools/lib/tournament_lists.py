@@ -3,39 +3,25 @@
 Everything is judged before anything is kept. Each refusal is a line on standard error, and the status is then 2.
 """
 
+import math
 import re
 import shlex
-import shutil
 import subprocess
 import sys
-from dataclasses import dataclass
+from dataclasses import dataclass, field
 from pathlib import Path
 
 import needed
-import sessions
+import tournament_openings
 from elo import Sprt
+from tournament_engines import MOST_NAME, read_engines
 
 GIVEN = ("--white", "--black", "--games", "--fen", "--log", "--flag", "--reply-timeout")
 DEFAULT_LEVEL = "40 5 0"
-MOST_NAME = 60  # characters
 LONG_GAME = 100  # The moves of a game that --timeout should allow.
+MORE_SECONDS = 300  # for answers that are no moves
 GAMES_HEAD = "game\tround\twhite\tblack"
 CHANGEABLE = ("--faults=", "--sprt=")  # the options that a later start may change
-
-
-@dataclass
-class Engine:
-    """An engine of the list: where its line is, the line, the name given there, and its command."""
-
-    source: str
-    line: str
-    given: str
-    command: str
-    name: str = ""
-
-    @property
-    def program(self):
-        return self.command.split()[0]
 
 
 @dataclass
@@ -52,8 +38,9 @@ class Patience:
 
 @dataclass
 class Lists:
-    """What a tournament is: its engines, openings (as FENs), options of the match, whether it is a gauntlet, how faults
-    count, how long engines are waited for, and the test that ends it, if there is one."""
+    """What a tournament is: its engines, openings (as FENs, one for each round), options of the match, whether it is a
+    gauntlet, how faults count, how long engines are waited for, the number of games (if it is limited), the seed by
+    which openings are drawn (if they are), the test that ends it (if there is one), and the moves to the FENs."""
 
     engines: list
     openings: list
@@ -61,14 +48,22 @@ class Lists:
     is_gauntlet: bool
     faults: str
     patience: Patience
+    games: int | None = None
+    seed: int | None = None
     sprt: Sprt | None = None
+    moves: dict = field(default_factory=dict)
 
     def programs(self):
-        return sorted({engine.program for engine in self.engines})
+        return sorted({program for engine in self.engines for program in engine.programs()})
+
+    def games_of_round(self):
+        """Returns how many games an opening is played in."""
+        return 2 * sum(1 for _ in opponents(self))
 
     def kept_options(self):
         """Returns the options that a later start must have too."""
-        return (["--gauntlet"] if self.is_gauntlet else []) + without_date(self.options)
+        own = ["--gauntlet"] * self.is_gauntlet + ([] if self.seed is None else [f"--random={self.seed}"])
+        return own + without_date(self.options)
 
     def changeable_options(self):
         """Returns the options of the CHANGEABLE kinds."""
@@ -113,83 +108,6 @@ def refuse(refusals):
 # Judging
 
 
-def entries(path):
-    """Returns the number and the text of each line of a list, without comments and empty lines."""
-    found = []
-    for number, line in enumerate(needed.content(path, "utf-8-sig").split("\n"), 1):
-        line = re.sub(r"(^|\s)#(\s.*)?$|^\s*#.*$", "", line).strip()
-        if line:
-            found.append((number, line))
-    return found
-
-
-def read_engine(source, line):
-    """Returns the engine of a line `NAME<tab>COMMAND` or `COMMAND`, and why it is refused, or None."""
-    name, _, command = line.rpartition("\t")
-    engine = Engine(source, line, name.strip(), command.strip())
-    if not engine.given.isprintable() or not engine.command.isprintable():
-        return engine, "more than one tab, or another control character; a line is NAME<tab>COMMAND or COMMAND"
-    if len(engine.given) > MOST_NAME:
-        return engine, f"a name of more than {MOST_NAME} characters"
-    return engine, None
-
-
-def read_engines(path, with_hosts):
-    """Returns the engines. Hosts are asked for their programs later; without them the programs are here."""
-    engines, refusals, seen = [], [], {}
-    for number, line in entries(path):
-        engine, wrong = read_engine(f"{path}:{number}", line)
-        key = engine.given, engine.command
-        if wrong:
-            refusals.append(f"{engine.source}: {wrong}")
-        elif key in seen:
-            refusals.append(f"{engine.source}: the engine of line {seen[key]} again")
-        elif not with_hosts and not shutil.which(engine.program):
-            refusals.append(f"{engine.source}: no program {engine.program} that can be run")
-        seen.setdefault(key, number)
-        engines.append(engine)
-    if not refusals and len(engines) < 2:
-        refusals.append(f"{path}: fewer than two engines")
-    return engines, refusals
-
-
-def session_commands(line, variant):
-    """Returns the commands that set up an opening: a FEN, or moves with or without numbers."""
-    start = ["variant fischerandom" if variant == "fischerandom" else "new"]
-    if "/" in line.split()[0]:
-        return start + [f"setboard {line}"]
-    moves = re.sub(r"(^|\s)\d+\.+\s*", " ", line).split()
-    return start + [f"usermove {move}" for move in moves]
-
-
-def session(commands):
-    """Returns the lines that a session answers. Ctrl-C does not reach it."""
-    return sessions.answers("arbiter", commands, encoding="utf-8", errors="replace", start_new_session=True)
-
-
-def read_openings(path, variant):
-    """Returns the openings as FENs; a session reads them."""
-    found = entries(path)
-    commands = []
-    for number, line in found:
-        commands += session_commands(line, variant) + ["showfen", f"ping {number}"]
-    fens, refusals, answers = [], [], []
-    for answer in session(commands):
-        if not answer.startswith("pong "):
-            answers.append(answer)
-            continue
-        if len(answers) == 1:
-            fens.append(answers[0].removeprefix("# fen "))
-        else:
-            reason = answers[0].removeprefix("tellusererror ")
-            over = re.match(r"(1-0|0-1|1/2-1/2) \{", reason)
-            refusals.append(f"{path}:{answer[5:]}: {'the game is over: ' if over else ''}{reason}")
-        answers = []
-    if not found:
-        refusals.append(f"{path}: no opening")
-    return fens, refusals
-
-
 def judge_options(options, patience):
     """Returns why `arbiter match` refuses these options: it judges them before it starts an engine."""
     given = [option for option in options if option.split("=")[0] in GIVEN]
@@ -231,13 +149,15 @@ def long_game_seconds(level):
     return 2 * (controls * (float(minutes) * 60 + float(seconds or 0)) + LONG_GAME * float(increment))
 
 
-def judge_timeout(timeout, options):
-    """Warns of a --timeout that ends games which are within their time."""
+def judged_timeout(timeout, options):
+    """Returns the seconds after which a game is ended: the given ones, with a warning if they end games that are within
+    their time, or twice as many as a long game takes and some."""
     level = option_value(options, "level", DEFAULT_LEVEL)
     needs = long_game_seconds(level)
-    if timeout < needs:
+    if timeout and timeout < needs:
         takes = f"the {needs:.0f} seconds that a game of {LONG_GAME} moves can take at level '{level}'"
-        report(f"warning: --timeout {timeout} is less than {takes}; who is to move when a game is ended loses it")
+        report(f"warning: --timeout {timeout} is less than {takes}; a game that it ends counts for nobody")
+    return timeout or math.ceil(2 * needs) + MORE_SECONDS
 
 
 def judge_sprt(lists, engines_path):
@@ -246,14 +166,29 @@ def judge_sprt(lists, engines_path):
         refuse([f"{engines_path}: --sprt takes two engines, not {len(lists.engines)}"])
 
 
-def read_lists(arguments, options, patience):
-    """Reads and judges all lists."""
-    engines, refusals = read_engines(arguments.engines, bool(arguments.hosts))
+def read_lists(folder, arguments, options, patience):
+    """Reads and judges all lists. Openings are drawn for at least as many rounds as the folder has."""
+    engines, refusals, warnings = read_engines(arguments.engines, bool(arguments.hosts))
     wrong_options = judge_options(options, patience)
     variant = "normal" if wrong_options else option_value(options, "variant", "normal")
-    openings, wrong_openings = read_openings(arguments.openings, variant)
+    openings, moves, wrong_openings = tournament_openings.read(arguments.openings, variant, arguments.plies)
     refuse(refusals + wrong_options + wrong_openings)
-    return Lists(engines, openings, options, arguments.gauntlet, arguments.faults, patience)
+    different = len(set(openings))
+    if different < len(openings):
+        warnings.append(f"{arguments.openings}: of {len(openings)} openings {different} are different")
+    for warning in warnings:
+        report(f"warning: {warning}")
+    lists = Lists(engines, openings, options, arguments.gauntlet, arguments.faults, patience, moves=moves)
+    lists.games, lists.seed, lists.sprt = arguments.games, arguments.random, arguments.sprt
+    rounds = math.ceil(lists.games / lists.games_of_round()) if lists.games else len(openings)
+    lists.openings = tournament_openings.drawn(openings, max(rounds, kept_rounds(folder, lists)), lists.seed)
+    return lists
+
+
+def kept_rounds(folder, lists):
+    """Returns for how many rounds a folder has openings; 0 if the number of games is not limited, and thus no opening
+    is played again."""
+    return len(lines(folder / "openings.txt")) if lists.games else 0
 
 
 # The lists that a folder keeps
@@ -278,6 +213,11 @@ def kept_value(folder, name):
     """Returns the value of an option that a folder keeps, or None."""
     found = [option.removeprefix(name) for option in lines(folder / "options.txt") if option.startswith(name)]
     return found[0] if found else None
+
+
+def kept_level(folder):
+    """Returns the level of a folder's games."""
+    return option_value(kept_options(folder), "level", DEFAULT_LEVEL)
 
 
 def kept_faults(folder):
@@ -312,29 +252,37 @@ def judge_kept(folder, lists, engines_path, openings_path):
     """Refuses lists and options with which this folder was not begun."""
     refusals = differing(folder, "engines.txt", engines_path, [engine.line for engine in lists.engines])
     refusals += differing(folder, "openings.txt", openings_path, lists.openings)
-    options = kept_options(folder)
+    games, options = kept_games(folder), kept_options(folder)
+    if lists.games and len(games) > lists.games:
+        refusals.append(f"{folder} was begun with more games, {len(games)}: --games may only grow")
     if (folder / "options.txt").exists() and options != lists.kept_options():
         refusals.append(f"{folder} was begun with other options: {shlex.join(options) or 'none'}")
     refuse(refusals)
 
 
+def opponents(lists):
+    """Yields the two engines of each pair that plays."""
+    for i, first in enumerate(lists.engines[: 1 if lists.is_gauntlet else None]):
+        for second in lists.engines[i + 1 :]:
+            yield first, second
+
+
 def pairs(lists):
     """Yields the round and the engines' names of each game: each pair plays an opening twice, with colours changed."""
     for number in range(1, len(lists.openings) + 1):
-        for i, first in enumerate(lists.engines[: 1 if lists.is_gauntlet else None]):
-            for second in lists.engines[i + 1 :]:
-                yield f"{number}.1", first.name, second.name
-                yield f"{number}.2", second.name, first.name
+        for first, second in opponents(lists):
+            yield f"{number}.1", first.name, second.name
+            yield f"{number}.2", second.name, first.name
 
 
 def all_games(folder, lists):
-    """Returns the folder's games, and after them those that it does not have yet."""
+    """Returns the folder's games, and after them those that it does not have yet, up to the number of the lists."""
     games = kept_games(folder)
     known = {(game.round, game.white, game.black) for game in games}
     for new in pairs(lists):
         if new not in known:
             games.append(Game(len(games) + 1, *new))
-    return games
+    return games[: lists.games]
 
 
 def write_lines(path, content):
@@ -353,7 +301,11 @@ def keep(folder, lists, games):
         write_lines(folder / "games.tsv", [GAMES_HEAD])
     write_lines(folder / "names.txt", [engine.name for engine in lists.engines])
     write_lines(folder / "engines.txt", [engine.line for engine in lists.engines])
+    for number, engine in enumerate(lists.engines, 1):
+        if engine.is_uci:
+            write_lines(folder / f"engine{number}.ini", engine.ini().splitlines())
     write_lines(folder / "openings.txt", lists.openings)
+    write_lines(folder / "openings.pgn", [f"{lists.moves[fen]}\n" for fen in lists.openings])
     write_lines(folder / "options.txt", [*lists.changeable_options(), *lists.kept_options()])
     rows = [f"{game.number}\t{game.round}\t{game.white}\t{game.black}" for game in games]
     write_lines(folder / "games.tsv", [GAMES_HEAD, *rows])
@@ -375,7 +327,7 @@ def name_engines(folder, engines, own_names):
         if number < len(kept):
             engine.name = kept[number]
         else:
-            wanted = engine.given or (own_names[engine.command] or engine.command)[:MOST_NAME]
+            wanted = engine.given or (own_names[engine.script] or engine.command)[:MOST_NAME]
             engine.name = free_name(wanted, taken if engine.given else taken + given)
             if engine.name != wanted:
                 report(f"warning: {engine.source}: another engine is named '{wanted}': this one is '{engine.name}'")

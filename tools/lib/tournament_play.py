@@ -31,7 +31,7 @@ EXTRA_SECONDS = 60  # for a host to end a game whose time is over
 END_SECONDS = 5  # for a game to end that is ended from here
 TICK = 0.2  # the seconds after which a signal is noticed
 MOST_TRIALS = 16
-STUB = "arbiter stub"
+STUB = "exec arbiter stub"
 READY = """lacks=
 for program; do command -v "$program" >/dev/null || lacks+=" $program"; done
 [ "$lacks" ] && echo "it lacks$lacks" || echo "ready $(nproc)"
@@ -179,6 +179,7 @@ class Trial:
             return
         game, status, found = logged[0], int(statuses[-1]), match_records.fault(errors)
         self.name = game.own_name(seat)
+        self.unknown = engine.unknown_settings(game.features(seat))
         if status == 1 and found and match_records.is_no_answer(found[1]):
             self.fault = no_answer(engine, game.awaited(seat), seconds)
         elif status == 1 and found:
@@ -192,9 +193,22 @@ class Trial:
 
 
 def last_words(errors):
-    """Returns the last line on standard error that isn't of the log."""
-    said = [line for line in errors.splitlines() if line and not match_records.LOG_LINE.match(line)]
-    return said[-1] if said else ""
+    """Returns why no game was played, as far as standard error says it: the last line of the match, or else the last
+    one that isn't of the log, nor of an engine."""
+    others = (match_records.parts_of_line(line) for line in errors.split("\n"))
+    said = [text for text, logged in others if text and not logged and not match_records.is_of_engine(text)]
+    own = [text for text in said if text.startswith("arbiter: ")]
+    return (own or [text for text in said if not STATUS.fullmatch(text)] or said or [""])[-1]
+
+
+def why_not_played(folder, game):
+    """Returns why a game was not played, and where its log is kept: with those of other such games."""
+    log = folder / "running" / f"{game.number}.err"
+    kept = folder / "failed" / log.name
+    reason = last_words(read_game(folder, game)[1]) or "its end was not reported"
+    kept.parent.mkdir(exist_ok=True)
+    log.replace(kept)
+    return reason, f"failed/{log.name}"
 
 
 def failure(game, seat, words):
@@ -203,7 +217,7 @@ def failure(game, seat, words):
     if what not in CRASHES:
         return what
     ended = [game.ended[seat]] if seat in game.ended else []
-    return ": ".join([", ".join([what, *ended]), *game.wrote[seat][-1:]])
+    return ": ".join([", ".join([what, *ended]), *match_records.cause(game.wrote[seat], 1)])
 
 
 def no_answer(engine, asked, seconds):
@@ -211,14 +225,16 @@ def no_answer(engine, asked, seconds):
     words = f"no answer to '{asked.text}' within {seconds} seconds"
     if not match_records.is_handshake(asked):
         return words
-    command = [shutil.which(engine.program) or engine.program, *engine.command.split()[1:]]
-    return f"{words}; {match_records.polyglot_hint(' '.join(command))}"
+    if engine.is_uci:
+        return f"{words}; {engine.program} may be no UCI engine"
+    how = f"before the command of a UCI engine write uci: uci {engine.command}"
+    return f"{words}; {how}; {match_records.NO_HANDSHAKE}"
 
 
 def try_engine(host, engine, opening, options, seconds):
     """Plays an engine's trial on a host. The stub is to move first, and resigns."""
-    pair = [STUB, engine.command] if opening.split()[1] == "w" else [engine.command, STUB]
-    seat = match_records.SEATS[pair.index(engine.command)]
+    pair = [STUB, engine.script] if opening.split()[1] == "w" else [engine.script, STUB]
+    seat = match_records.SEATS[pair.index(engine.script)]
     options = [*Patience(flag=False, reply=seconds).options(), *options]
     words = game_words(host, TRIAL_WAITS * seconds, pair, opening, options)
     errors = "" if STOP.at else captured(words, TRIAL_WAITS * seconds + READY_SECONDS)[1]
@@ -234,7 +250,7 @@ def game_words(host, seconds, pair, opening, options):
 def trials_of(hosts, lists, seconds):
     """Returns each engine's trials by host. The opening is one that an engine must be sent by `setboard`, if there is
     one."""
-    engines = {engine.command: engine for engine in lists.engines}.values()
+    engines = {engine.script: engine for engine in lists.engines}.values()
     opening = next((fen for fen in lists.openings if fen != INITIAL), lists.openings[0])
     with ThreadPoolExecutor(min(MOST_TRIALS, sum(host.slots for host in hosts))) as pool:
         asked = [
@@ -246,7 +262,7 @@ def trials_of(hosts, lists, seconds):
 
 def try_engines(hosts, lists, seconds):
     """Tries each engine on each host. An engine that plays nowhere is refused; a host on which an engine does not play
-    that plays elsewhere is left out. Returns the other hosts, and by command what the engines call themselves."""
+    that plays elsewhere is left out. Returns the other hosts, and by script what the engines call themselves."""
     refusals, names, left_out = [], {}, {}
     tried = trials_of(hosts, lists, seconds)
     if STOP.at:
@@ -257,9 +273,10 @@ def try_engines(hosts, lists, seconds):
         if not good:
             refusals.append(f"{engine.source}: {label}: {trials[hosts[0]].fault}")
             continue
-        names[engine.command] = good[0].name
-        if good[0].warning:
-            report(f"warning: {engine.source}: {label} {good[0].warning}")
+        names[engine.script] = good[0].name
+        unknown = [f"doesn't announce {', '.join(good[0].unknown)}"] if good[0].unknown else []
+        for warning in filter(None, [good[0].warning, *unknown]):
+            report(f"warning: {engine.source}: {label} {warning}")
         left_out |= {host: f"{label}: {trial.fault}" for host, trial in trials.items() if trial.fault}
     refuse(refusals)
     for host, why in left_out.items():
@@ -351,7 +368,7 @@ class Player:
 
     def start(self, host, game):
         engines = {engine.name: engine for engine in self.lists.engines}
-        pair = [engines[name].command for name in (game.white, game.black)]
+        pair = [engines[name].script for name in (game.white, game.black)]
         opening, options = self.lists.openings[game.opening], [*without_date(self.lists.options), "--date", self.date]
         words = game_words(host, self.timeout, pair, opening, [*self.lists.patience.options(), *options])
         path = self.folder / "running" / str(game.number)
@@ -390,13 +407,13 @@ class Player:
         """Puts a game that was not played back into the queue, unless it was tried often enough."""
         self.tries[game.number] += 1
         host.failed.add(game.number)
-        reason = last_words(read_game(self.folder, game)[1]) or "its end was not reported"
+        reason, log = why_not_played(self.folder, game)
         again = self.tries[game.number] < self.most_tries
         host.is_suspect = True
         if again:
             self.queue.appendleft(game)
         where = "" if host.is_here else f" on {host.label}"
-        report(f"game {game.number}{where} was not played{', and is played again' if again else ''}: {reason}")
+        report(f"game {game.number}{where} was not played{', and is played again' if again else ''}: {reason} ({log})")
 
     def ask_again(self, host):
         """Gives a host up if it can't play any more, with the games that it is playing."""

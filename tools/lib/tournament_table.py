@@ -9,8 +9,11 @@ from collections import Counter
 from dataclasses import dataclass
 
 import match_records
+import sessions
 import tournament_pairs
-from tournament_lists import Game, kept_faults, kept_games, kept_names, kept_sprt, lines, session, write_lines
+from tournament_lists import Game, kept_faults, kept_games, kept_level, kept_names, kept_sprt, lines, write_lines
+from tournament_openings import session
+from tournament_pgn import RatedPgn, own_pgn, tag_value, with_tags
 
 STATUS = re.compile(r"(?m)^tournament: status (\d+)$")
 STILL_RUNNING = re.compile(r"(?m)^tournament: still running: (first|second)$")  # in games played by 0.2.0
@@ -19,8 +22,15 @@ TIMED_OUT = 124
 RESULTS_HEAD = "game\twhite\tblack\tresult\tend\tfault\tside\treason"
 COLOURS = {"first": "White", "second": "Black"}
 MOST_FAULT_LINES = 20
+MOST_RANGES = 20
+LATE_ANSWER = 10  # seconds: an engine that owes another answer than a move for longer is at fault
+VOID = "void"  # how a game ends that --timeout ended while all was well
+NO_END = "its log has no end"
+MOST_LAST = 20  # lines on standard error, in a game without a fault
+MOST_FIRST = 200  # and after a fault the first and the last
+MOST_WIDTH = 160
 
-# The kinds of faults by which an engine loses a game, in the order of the table's columns.
+# The kinds of faults, in the order of the table's columns. After a fault `quit` the game is over, and has a result.
 KINDS = ("crash", "protocol", "timeout", "quit")
 RULES = ("illegal move", "moves out of turn", "false claim", "rejects a legal move", "rules infraction")
 CRASHES = ("ended its output", "can not be read", "can not be written")
@@ -42,12 +52,17 @@ class Outcome:
     sides: tuple = ()
 
     def counts(self, faults):
-        """Returns the result that counts where faults are a `loss` or `void`; `*` counts for nobody."""
-        if not self.fault:
+        """Returns the result that counts; `*` counts for nobody. A fault that ends a game is a `loss` or makes it
+        `void`; that an engine doesn't exit after a game costs it the point only if faults are `strict`."""
+        if not self.fault or (self.fault == "quit" and faults != "strict"):
             return self.result
         if faults == "void" or len(self.sides) != 1:
             return "*"
         return "0-1" if self.sides[0] == "White" else "1-0"
+
+    def is_amiss(self):
+        """Says whether an engine is at fault, or the game did not come to its end."""
+        return self.fault or self.end == VOID
 
     def at_fault(self):
         return [self.game.white if side == "White" else self.game.black for side in self.sides]
@@ -59,9 +74,10 @@ class Outcome:
 
 
 def read_row(row, games):
-    """Returns the outcome of a line of results.tsv; None if its writing was cut off."""
+    """Returns the outcome of a line of results.tsv; None if its writing was cut off, or if it is one of 0.2.0 on a game
+    after which an engine did not exit: that has no word on how the game ended."""
     words = row.split("\t")
-    if len(words) != 8 or not words[0].isdigit() or int(words[0]) not in games:
+    if len(words) != 8 or not words[0].isdigit() or int(words[0]) not in games or words[4] == "quit":
         return None
     return Outcome(games[int(words[0])], words[3], words[4], words[7], words[5], tuple(words[6].split()))
 
@@ -85,13 +101,15 @@ def judge(game, text, errors):
 
 def finished(game, written, logged, stayed=()):
     """Judges a game that has a result. The engines of the sides `stayed`, or else those that the match killed, did not
-    end after it. That is no further fault of an engine whose time was over, since it may have hung before."""
-    reason, late = logged.end()[1] or "", logged.out_of_time()
+    end after it: the result holds. That is no further fault of an engine whose time was over, since it may have hung
+    before."""
+    comment, late = logged.end()[1] or "", logged.out_of_time()
+    end, reason = kind_of_end(written, comment), comment or NO_END
     sides = tuple(side for side in stayed or logged.killed if side != late)
     if not sides:
-        return Outcome(game, written.result, kind_of_end(written, reason), reason)
+        return Outcome(game, written.result, end, reason)
     words = f"{' and '.join(sides)} did not end after quit ({written.result} {reason})"
-    return Outcome(game, written.result, "quit", words, "quit", sides)
+    return Outcome(game, written.result, end, words, "quit", sides)
 
 
 def failed(game, written, logged, words):
@@ -109,20 +127,29 @@ def failed(game, written, logged, words):
 
 
 def timed_out(game, written, logged, errors):
-    """Judges a game that was ended after its time: by the first fault in its log, which is that of the side that ended
-    the match, or that was to answer. A result holds."""
+    """Judges a game that was ended after its time, by the first fault in its log, or by what was awaited. A result
+    holds."""
     if logged.fault():
         return failed(game, written, logged, logged.fault())
     if logged.end()[0]:
         stayed = [logged.side(seat) for seat in STILL_RUNNING.findall(errors)]
         return finished(game, written[0], logged, stayed) if written else None
-    asked = logged.awaited()
-    side, clock = logged.side(asked.seat), logged.clock(asked)
     after = ENDED_AFTER.findall(errors)
-    waited = int(after[-1]) * 1000 - asked.moment if after else 0
-    left = f", {clock_time(clock) / 1000:.0f} s on its clock" if clock and clock_time(clock) > waited else ""
-    words = f"{side} did not answer '{asked.text}' for {max(waited, 0) / 1000:.0f} s{left}"
-    return Outcome(game, "*", "timeout", words, "timeout", (side,))
+    return awaited_at_end(game, logged, int(after[-1]) * 1000 if after else 0)
+
+
+def awaited_at_end(game, logged, end):
+    """Judges a game that was ended at a moment, in milliseconds, while an answer was awaited. It is a fault if the time
+    for it was over; otherwise the game counts for nobody."""
+    asked = logged.awaited()
+    side, clock = logged.side(asked.seat), logged.clock_of_turn(asked)
+    waited = max(end - asked.moment, 0)
+    time = clock_time(clock) if clock else LATE_ANSWER * 1000
+    if waited > time:
+        words = f"{side} did not answer '{asked.text}' for {waited / 1000:.0f} s"
+        return Outcome(game, "*", "timeout", words, "timeout", (side,))
+    words = f"--timeout ended it: {side} was sent '{asked.text}' {waited / 1000:.0f} s before"
+    return Outcome(game, "*", VOID, words + (f", and had {(time - waited) / 1000:.0f} s left" if clock else ""))
 
 
 def clock_time(line):
@@ -182,64 +209,54 @@ def collect(folder, game, date):
     if not outcome:
         return None
     path, log = records(folder, game)
+    logged = match_records.logged_games(errors)[0]
     if not match_records.written_games(text):
-        path.write_text(rebuilt(game, match_records.logged_games(errors)[0], date), encoding="latin-1")
-    for record in (log, path):
-        record.replace(folder / "games" / record.name)
+        path.write_text(rebuilt(game, logged, date), encoding="latin-1")
+    keep_log(log, folder / "games" / log.name, outcome, logged)
+    path.replace(folder / "games" / path.name)
     return outcome
+
+
+def keep_log(log, path, outcome, logged):
+    """Moves the log of a game to a path, with only some of the lines that its engines wrote to standard error; all that
+    the engine at fault wrote is then in a file beside it."""
+    errors = read_text(log)
+    kept = [line for line in errors.split("\n") if not match_records.WROTE_LINE.fullmatch(line)]
+    end = next((number for number, line in enumerate(kept) if STATUS.fullmatch(line)), len(kept))
+    wrote = []
+    for seat in match_records.SEATS:
+        own = logged.wrote[seat]
+        is_at_fault = outcome.result == "*" and logged.side(seat) in outcome.sides
+        if is_at_fault and own:
+            text = "".join(f"{line}\n" for line in own)
+            path.with_suffix(f".{seat}.stderr").write_text(text, encoding="latin-1")
+        wrote += [f"{seat} engine wrote: {line}" for line in some_lines(own, MOST_FIRST if is_at_fault else 0)]
+    text = "\n".join([*kept[:end], *wrote, *kept[end:]])
+    if text == errors:
+        log.replace(path)
+        return
+    new = path.with_name(f".{path.name}")
+    new.write_text(text, encoding="latin-1")
+    new.replace(path)
+    log.unlink()
+
+
+def some_lines(wrote, first):
+    """Returns the first lines that an engine wrote, if some are wanted, and the last ones, each cut."""
+    last = first or MOST_LAST
+    left_out = len(wrote) - first - last
+    if left_out > 0:
+        note = [f".. {left_out} lines are left out"] if first else []
+        wrote = [*wrote[:first], *note, *wrote[-last:]]
+    return [re.sub(r"[^ -~]", "?", line[:MOST_WIDTH]) for line in wrote]
 
 
 def rebuilt(game, logged, date):
     """Returns the PGN of a game that was ended before the match wrote it: a session plays the moves of its log."""
     commands = logged.start() + [f"usermove {move}" for move in logged.moves()] + ["showpgn"]
-    shown = [line[2:].rstrip() for line in session(commands) if line.startswith("# ") or line == "#"]
-    text = "\n".join(shown).strip("\n") + "\n\n"
+    text = "\n".join(sessions.shown(session(commands))).strip("\n") + "\n\n"
     names = {"White": tag_value(game.white), "Black": tag_value(game.black)}
     return with_tags(text, {"Event": "CECP match", "Date": date, **names})
-
-
-# PGN
-
-
-def is_board_verdict(reason):
-    """Says whether the board itself ended a game with this reason."""
-    return re.search(r" mates|Stalemate|Insufficient material|Fivefold repetition|75-move rule", reason)
-
-
-def tag_value(name):
-    """Returns a name as it is in a tag, in the encoding in which the records are read."""
-    return name.encode().decode("latin-1").replace("\\", "\\\\").replace('"', '\\"')
-
-
-def with_tags(text, tags):
-    """Returns the PGN of a game with other values of these tags."""
-    head, separator, movetext = text.partition("\n\n")
-    for tag, value in tags.items():
-        head = re.sub(rf'(?m)^\[{tag} ".*"\]$', lambda _: f'[{tag} "{value}"]', head)
-    return head + separator + movetext
-
-
-def own_pgn(outcome, text):
-    """Returns a game as it is in games.pgn: as the match wrote it, with the tournament's names and round."""
-    game = outcome.game
-    text = re.sub(r"(?m)^score .*\n", "", text)
-    return with_tags(text, {"Round": game.round, "White": tag_value(game.white), "Black": tag_value(game.black)})
-
-
-def rated_pgn(outcome, text, faults):
-    """Returns a game as it is in rated.pgn, with the result that counts; nothing if it counts for nobody. Moves that
-    lead to another result by the Laws are left out."""
-    counts = outcome.counts(faults)
-    if counts == "*":
-        return ""
-    text = own_pgn(outcome, text)
-    if not outcome.fault:
-        return text
-    text = with_tags(text, {"Result": counts, "Termination": "abandoned"})
-    head, separator, movetext = text.rstrip("\n").partition("\n\n")
-    is_other = counts != outcome.result and is_board_verdict(outcome.reason)
-    moves = "" if is_other else re.sub(r"\S+\Z", "", movetext)
-    return f"{head}{separator}{moves}{counts}\n\n"
 
 
 # The table
@@ -289,13 +306,13 @@ class Table:
     def __init__(self, names, faults, sprt):
         self.faults, self.rows = faults, {name: Row(name) for name in names}
         self.pairs, self.sprt = tournament_pairs.AllPairs(names), sprt
-        self.ends, self.faulty = Counter(), []
+        self.ends, self.amiss = Counter(), []
 
     def add(self, outcome):
         """Counts a game."""
         self.ends[outcome.end] += 1
-        if outcome.fault:
-            self.faulty.append(outcome)
+        if outcome.is_amiss():
+            self.amiss.append(outcome)
         for engine in outcome.at_fault():
             self.rows[engine].faults[outcome.fault] += 1
         points = {"1-0": 1, "0-1": 0, "1/2-1/2": 0.5}.get(outcome.counts(self.faults))
@@ -309,7 +326,7 @@ class Table:
         white.add(black.engine, points)
         black.add(white.engine, 1 - points)
         loser = {1: black, 0: white}.get(points)
-        if loser and not outcome.fault:
+        if loser and outcome.counts(self.faults) == outcome.result:
             loser.time += outcome.end == "time"
             loser.rules += outcome.end in RULES
 
@@ -340,14 +357,27 @@ class Table:
         if pairs := self.pairs.rows():
             text += [*aligned(tournament_pairs.HEAD, pairs, left=[0, 1]), ""]
         text.append(f"{self.ends.total()} of {total} games" + (f": {kinds}" if kinds else ""))
-        for outcome in self.faulty[:MOST_FAULT_LINES]:
-            game = outcome.game.number
-            text.append(f"game {game}: {' and '.join(outcome.at_fault())}: {outcome.reason} (games/{game}.err)")
-        if len(self.faulty) > MOST_FAULT_LINES:
-            text.append(f"and {len(self.faulty) - MOST_FAULT_LINES} more faults: see results.tsv")
+        for outcome in self.amiss[:MOST_FAULT_LINES]:
+            game, what = outcome.game.number, " and ".join(outcome.at_fault()) or outcome.end
+            text.append(f"game {game}: {what}: {outcome.reason} (games/{game}.err)")
+        if len(self.amiss) > MOST_FAULT_LINES:
+            text.append(f"and {len(self.amiss) - MOST_FAULT_LINES} more such games: see results.tsv")
         if self.sprt:
             text += ["", f"SPRT of Elo {self.sprt.elo0:g} against {self.sprt.elo1:g}: {self.ratio_text()}"]
         return text
+
+
+def ranges(numbers):
+    """Returns the text of rising numbers, those in a row as a range; of many ranges only the first."""
+    rows = []
+    for number in numbers:
+        if rows and rows[-1][-1] == number - 1:
+            rows[-1] = [rows[-1][0], number]
+        else:
+            rows.append([number])
+    texts = ["-".join(map(str, row)) for row in rows]
+    more = [f".. {numbers[-1]}"] if len(texts) > MOST_RANGES else []
+    return " ".join([*texts[:MOST_RANGES], *more])
 
 
 def table_of(names, faults, sprt, found):
@@ -376,6 +406,8 @@ class Book:
     def __init__(self, folder, total):
         self.folder, self.total = folder, total
         self.faults, self.sprt = kept_faults(folder), kept_sprt(folder)
+        openings = match_records.written_games(read_text(folder / "openings.pgn"))
+        self.rated = RatedPgn(self.faults, kept_level(folder), openings)
         self.found = outcomes(folder)
         self.count()
 
@@ -399,7 +431,7 @@ class Book:
     def pgn(self, outcome):
         """Returns a game as it is in games.pgn and in rated.pgn."""
         text = read_text(self.folder / "games" / str(outcome.game.number))
-        return own_pgn(outcome, text), rated_pgn(outcome, text, self.faults)
+        return own_pgn(outcome, text), self.rated.game(outcome, text)
 
     def add(self, outcome):
         """Adds the outcome of a game that has just ended."""

@@ -1,0 +1,17 @@
+mod Reach
+mod Pieces
+mod Castled
+mod EnPassant
+mod FirstMoves
+mod NoMove
+mod Counted
+mod Material
+mod NeverMated
+mod MirrorAttacks
+mod MirrorMoves
+mod MirrorAfter
+mod MirrorEndings
+mod MirrorGames
+mod MayCastle
+mod Sliders
+mod KnownGames

@@ -1,0 +1,5 @@
+use Rattle.rules_laws.proofs.NoMove.{no_move_ends}
+use Rattle.rules_laws.proofs.endings.a_game_ends_where_no_move_is_legal.Goals as goal
+
+pub returns : goal.returns
+returns c = no_move_ends

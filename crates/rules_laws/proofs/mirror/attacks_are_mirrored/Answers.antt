@@ -1,0 +1,5 @@
+use Rattle.rules_laws.proofs.MirrorAttacks.{mirror_attacks_alike}
+use Rattle.rules_laws.proofs.mirror.attacks_are_mirrored.Goals as goal
+
+pub returns : goal.returns
+returns c = mirror_attacks_alike

@@ -1,0 +1,8 @@
+use Rattle.rules_laws.proofs.Castled.{normal_ends, fischerandom_ends}
+use Rattle.rules_laws.proofs.moves.castling_ends_on_named_squares.Goals as goal
+
+pub returns-clause-normal : goal.returns-clause-normal
+returns-clause-normal c = normal_ends
+
+pub returns-clause-fischerandom : goal.returns-clause-fischerandom
+returns-clause-fischerandom c = fischerandom_ends

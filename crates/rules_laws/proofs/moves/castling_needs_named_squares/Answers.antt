@@ -1,0 +1,5 @@
+use Rattle.rules_laws.proofs.MayCastle.{normal_castling_is_legal}
+use Rattle.rules_laws.proofs.moves.castling_needs_named_squares.Goals as goal
+
+pub returns : goal.returns
+returns c = normal_castling_is_legal

@@ -1,0 +1,5 @@
+use Rattle.rules_laws.proofs.EnPassant.{follows}
+use Rattle.rules_laws.proofs.moves.en_passant_follows_a_double_advance.Goals as goal
+
+pub returns : goal.returns
+returns c = follows

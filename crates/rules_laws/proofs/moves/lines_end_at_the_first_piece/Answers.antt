@@ -1,0 +1,5 @@
+use Rattle.rules_laws.proofs.Sliders.{diagrams_hold}
+use Rattle.rules_laws.proofs.moves.lines_end_at_the_first_piece.Goals as goal
+
+pub returns : goal.returns
+returns c = diagrams_hold

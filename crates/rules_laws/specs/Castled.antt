@@ -1,0 +1,93 @@
+-- Castling by the names of its squares (Laws of Chess 2023, article 3.8.2; Guidelines II for Chess960).
+use Rattle.std.specs.Prelude.{◌≡◌, ◌≢◌, ◌↔◌, ℕ, ◌<◌, nat_lt, ◌⊎◌, Bool, false, IsTrue, List, [], ◌∷◌, None}
+use Rattle.std.specs.List.{AllByRecursion}
+use Rattle.chess_base.specs.declared.castling.Castle.{Castle}
+use Rattle.chess_base.specs.declared.man.Colour.{Colour}
+use Rattle.chess_base.specs.declared.man.Colour.TheVariants.{White, Black}
+use Rattle.chess_base.specs.declared.man.CastlingSide.{CastlingSide}
+use Rattle.chess_base.specs.declared.man.CastlingSide.TheVariants.{KingSide, QueenSide}
+use Rattle.chess_base.specs.declared.man.Kind.TheVariants.{King, Rook}
+use Rattle.chess_base.specs.declared.man.Move.{Move}
+use Rattle.chess_base.specs.declared.man.Variant.TheVariants.{Normal, Fischerandom}
+use Rattle.chess_base.specs.declared.setup.Setup.{Setup}
+use Rattle.chess_base.specs.Attacks.{is_attacked}
+use Rattle.chess_base.specs.Castling.{right_of}
+use Rattle.chess_base.specs.Men.{man_at, is_man, other}
+use Rattle.chess_base.specs.Moves.{is_legal, after}
+use Rattle.chess_base.specs.Sound.{IsSound}
+use Rattle.rules_laws.specs.Names.{square}
+
+-- a colour's castling on one side: where king and rook start in normal chess, and where they end in both variants
+abbrev pub castling_of : Colour → CastlingSide → Castle
+castling_of White KingSide =
+    record { king_from = square "e1"; king_to = square "g1"; rook_from = square "h1"; rook_to = square "f1" }
+castling_of White QueenSide =
+    record { king_from = square "e1"; king_to = square "c1"; rook_from = square "a1"; rook_to = square "d1" }
+castling_of Black KingSide =
+    record { king_from = square "e8"; king_to = square "g8"; rook_from = square "h8"; rook_to = square "f8" }
+castling_of Black QueenSide =
+    record { king_from = square "e8"; king_to = square "c8"; rook_from = square "a8"; rook_to = square "d8" }
+
+-- after move m of position p the king and the rook of the side that made it have castled as k says: they are on
+-- `king_to` and `rook_to`; the squares where they started are empty, unless one of them ends there; all else is as it
+-- was
+pub record HasCastled (p : Setup) (m : Move) (k : Castle) : Type 0 where
+  pub king : IsTrue (is_man p.side King (man_at (after p m).men k.king_to))
+  pub rook : IsTrue (is_man p.side Rook (man_at (after p m).men k.rook_to))
+  pub left : (s : ℕ) → (s ≡ k.king_from) ⊎ (s ≡ k.rook_from) → s ≢ k.king_to → s ≢ k.rook_to
+      → man_at (after p m).men s ≡ None
+  pub others : (s : ℕ) → s < 64 → s ≢ k.king_from → s ≢ k.rook_from → s ≢ k.king_to → s ≢ k.rook_to
+      → man_at (after p m).men s ≡ man_at p.men s
+
+-- normal chess: a king that goes from e1 to g1, by a legal move of a sound position, castles with the rook from h1 to
+-- f1; and likewise e1c1 with a1 to d1, e8g8 with h8 to f8, e8c8 with a8 to d8
+abbrev pub NormalCastlingEnds : Type 0
+NormalCastlingEnds = (p : Setup) (m : Move) (w : CastlingSide) → IsSound p → p.variant ≡ Normal
+    → IsTrue (is_legal p m) → IsTrue (is_man p.side King (man_at p.men m.from))
+    → m.from ≡ (castling_of p.side w).king_from → m.to ≡ (castling_of p.side w).king_to
+    → HasCastled p m (castling_of p.side w)
+
+-- square b is towards the h-file from a (king side), or towards the a-file (queen side), on one rank
+abbrev pub is_towards : CastlingSide → ℕ → ℕ → Bool
+is_towards KingSide a b = nat_lt a b
+is_towards QueenSide a b = nat_lt b a
+
+-- Chess960: a king that goes to the square of a rook of its own, by a legal move of a sound position, castles with it:
+-- they end as in normal chess, on the king side if the rook was towards the h-file, otherwise on the queen side
+abbrev pub FischerandomCastlingEnds : Type 0
+FischerandomCastlingEnds = (p : Setup) (m : Move) (w : CastlingSide) → IsSound p → p.variant ≡ Fischerandom
+    → IsTrue (is_legal p m) → IsTrue (is_man p.side King (man_at p.men m.from))
+    → IsTrue (is_man p.side Rook (man_at p.men m.to)) → IsTrue (is_towards w m.from m.to)
+    → HasCastled p m (record (castling_of p.side w) { king_from = m.from; rook_from = m.to })
+
+-- for castling in normal chess: the squares that must be empty (3.8.2.2.2)
+abbrev pub empty_squares : Colour → CastlingSide → List ℕ
+empty_squares White KingSide = square "f1" ∷ square "g1" ∷ []
+empty_squares White QueenSide = square "b1" ∷ square "c1" ∷ square "d1" ∷ []
+empty_squares Black KingSide = square "f8" ∷ square "g8" ∷ []
+empty_squares Black QueenSide = square "b8" ∷ square "c8" ∷ square "d8" ∷ []
+
+-- for castling in normal chess: the squares that must not be attacked (3.8.2.2.1)
+abbrev pub safe_squares : Colour → CastlingSide → List ℕ
+safe_squares White KingSide = square "e1" ∷ square "f1" ∷ square "g1" ∷ []
+safe_squares White QueenSide = square "c1" ∷ square "d1" ∷ square "e1" ∷ []
+safe_squares Black KingSide = square "e8" ∷ square "f8" ∷ square "g8" ∷ []
+safe_squares Black QueenSide = square "c8" ∷ square "d8" ∷ square "e8" ∷ []
+
+-- the side on move may castle on side w: it has the right, and of the named squares those that must be are empty and
+-- not attacked
+pub record MayCastle (p : Setup) (w : CastlingSide) : Type 0 where
+  pub right : right_of p.rights p.side w ≢ None
+  pub empty : AllByRecursion (λ s. man_at p.men s ≡ None) (empty_squares p.side w)
+  pub safe : AllByRecursion (λ s. is_attacked p.men s (other p.side) ≡ false) (safe_squares p.side w)
+
+-- the king's move by which colour c castles in normal chess, as e1g1
+abbrev pub castling_move : Colour → CastlingSide → Move
+castling_move c w = record { from = (castling_of c w).king_from; to = (castling_of c w).king_to; promotion = None }
+
+-- normal chess: in a sound position with its king on e1 (or e8), the side on move can castle exactly if it may, by these
+-- named squares
+abbrev pub NormalCastlingIsLegal : Type 0
+NormalCastlingIsLegal = (p : Setup) (w : CastlingSide) → IsSound p → p.variant ≡ Normal
+    → IsTrue (is_man p.side King (man_at p.men (castling_of p.side w).king_from))
+    → IsTrue (is_legal p (castling_move p.side w)) ↔ MayCastle p w

@@ -1,0 +1,94 @@
+-- How a game ends, by its moves and its positions (Laws of Chess 2023, articles 5.1.1, 5.2.1, 9.2, 9.3 and 9.6).
+use Rattle.std.specs.Prelude.{◌≡◌, ◌≢◌, ◌↔◌, ℕ, ◌+◌, ◌≤◌, ◌<◌, true, false, IsTrue, List, length, take, slice_get, Some, None}
+use Rattle.std.specs.List.{AllPairs, AllByRecursion}
+use Rattle.chess_base.specs.declared.man.Colour.TheVariants.{White, Black}
+use Rattle.chess_base.specs.declared.man.Kind.TheVariants.{Pawn}
+use Rattle.chess_base.specs.declared.man.Move.{Move}
+use Rattle.chess_base.specs.declared.setup.Setup.{Setup}
+use Rattle.chess_base.specs.Attacks.{is_in_check}
+use Rattle.chess_base.specs.Men.{man_at, is_of, is_man, other}
+use Rattle.chess_base.specs.Moves.{is_legal}
+use Rattle.chess_base.specs.Sound.{IsSound}
+use Rattle.chess_game.specs.declared.verdicts.Verdict.TheVariants.{WhiteMates, BlackMates, Stalemate, FivefoldRepetition, SeventyFiveMoves}
+use Rattle.chess_game.specs.Ends.{claims, has_insufficient_material, verdict}
+use Rattle.chess_game.specs.Line.{position_after, IsLine}
+use Rattle.chess_game.specs.Same.{is_same_position}
+
+-- ---- mate and stalemate
+
+-- no move is legal in position p
+abbrev pub HasNoMove : Setup → Type 0
+HasNoMove p = (m : Move) → is_legal p m ≡ false
+
+-- the side on move is mated: it is in check, and no move is legal (5.1.1)
+pub record IsMate (p : Setup) : Type 0 where
+  pub check : is_in_check p.men p.side ≡ true
+  pub moves : HasNoMove p
+
+-- the side on move is stalemated: it is not in check, and no move is legal (5.2.1)
+pub record IsStalemate (p : Setup) : Type 0 where
+  pub check : is_in_check p.men p.side ≡ false
+  pub moves : HasNoMove p
+
+-- a game is won by mate, and drawn by stalemate, exactly where the present position is such
+pub record EndsByNoMove (start : Setup) (ms : List Move) : Type 0 where
+  pub white_mates : (verdict start ms ≡ Some WhiteMates)
+      ↔ (((position_after start ms).side ≡ Black) × IsMate (position_after start ms))
+  pub black_mates : (verdict start ms ≡ Some BlackMates)
+      ↔ (((position_after start ms).side ≡ White) × IsMate (position_after start ms))
+  pub stalemate : (verdict start ms ≡ Some Stalemate) ↔ IsStalemate (position_after start ms)
+
+-- this holds of each game
+abbrev pub NoMoveEnds : Type 0
+NoMoveEnds = (start : Setup) (ms : List Move) → EndsByNoMove start ms
+
+-- ---- repetition
+
+-- the position of a game after its first k moves
+abbrev pub position_at : Setup → List Move → ℕ → Setup
+position_at start ms k = position_after start (take k ms)
+
+-- the present position of a game is there for at least the n-th time: there are at least n numbers of moves, each above
+-- the one before it, after which the position was this one
+pub record IsThere (n : ℕ) (start : Setup) (ms : List Move) : Type 0 where
+  pub times : List ℕ
+  pub many : n ≤ length times
+  pub rising : AllPairs (λ j k. j < k) times
+  pub same : AllByRecursion
+      (λ k. (k ≤ length ms) × IsTrue (is_same_position (position_at start ms k) (position_after start ms))) times
+
+-- ---- moves without capture or pawn move
+
+-- move m of position p is of no pawn, and no piece of the other side is on its end square
+pub record IsQuiet (p : Setup) (m : Move) : Type 0 where
+  pub pawn : is_man p.side Pawn (man_at p.men m.from) ≡ false
+  pub capture : is_of (other p.side) (man_at p.men m.to) ≡ false
+
+-- for n half-moves nobody has captured or moved a pawn: the last n moves of the game are quiet; or, if it has fewer, all
+-- are, and the start's halfmove clock makes up the rest
+pub record IsQuietFor (n : ℕ) (start : Setup) (ms : List Move) : Type 0 where
+  pub many : n ≤ start.halfmove + length ms
+  pub quiet : (k : ℕ) (m : Move) → slice_get ms k ≡ Some m → length ms ≤ k + n → IsQuiet (position_at start ms k) m
+
+-- ---- what follows from both
+
+-- a game is over once its present position is there for the fifth time, or 150 half-moves had no capture and no pawn
+-- move, and has no such verdict before; a draw can be claimed at the third time, or after 100 half-moves
+pub record EndsByCounting (start : Setup) (ms : List Move) : Type 0 where
+  pub fivefold : verdict start ms ≡ Some FivefoldRepetition → IsThere 5 start ms
+  pub at_fifth : IsThere 5 start ms → verdict start ms ≢ None
+  pub seventy_five_moves : verdict start ms ≡ Some SeventyFiveMoves → IsQuietFor 150 start ms
+  pub after_150 : IsQuietFor 150 start ms → verdict start ms ≢ None
+  pub threefold : IsTrue (claims start ms).threefold ↔ IsThere 3 start ms
+  pub fifty_moves : IsTrue (claims start ms).fifty_moves ↔ IsQuietFor 100 start ms
+
+-- this holds of each game
+abbrev pub CountingEnds : Type 0
+CountingEnds = (start : Setup) (ms : List Move) → EndsByCounting start ms
+
+-- ---- insufficient material (5.2.2)
+
+-- from a sound position of insufficient material no legal moves lead to mate
+abbrev pub InsufficientNeverMates : Type 0
+InsufficientNeverMates = (start : Setup) (ms : List Move) → IsSound start
+    → IsTrue (has_insufficient_material start.men) → IsLine start ms → IsMate (position_after start ms) → ⊥

@@ -1,0 +1,10 @@
+pub mod Names
+pub mod Tables
+pub mod Reach
+pub mod Sliders
+pub mod Castled
+pub mod EnPassant
+pub mod FirstMoves
+pub mod Endings
+pub mod KnownGames
+pub mod Mirror

@@ -1,0 +1,31 @@
+//! Laws of how a game ends. A caller learns one by calling its function, which does nothing.
+
+ghost use Rattle.rules_laws.specs.Endings.{CountingEnds, InsufficientNeverMates, NoMoveEnds};
+
+/// A law: the contract says it, and the function does nothing. A game ends by mate exactly if the side on move is in
+/// check and no move is legal, and by stalemate exactly if it is not in check and no move is legal (FIDE Laws of Chess
+/// 2023, articles 5.1.1 and 5.2.1).
+///
+/// It refuses a win by stalemate, a win of the side that is mated, and an end where some move is legal.
+pub fn a_game_ends_where_no_move_is_legal()
+    ensures { NoMoveEnds }
+{}
+
+/// A law: the contract says it, and the function does nothing. A game ends at the latest when its present position is
+/// there for the fifth time, and when the last 150 half-moves were neither captures nor pawn moves; a draw can be
+/// claimed at the third time, and after 100 such half-moves (FIDE Laws of Chess 2023, articles 9.2, 9.3 and 9.6). This
+/// is said by the positions of the game and their moves, without a count or a clock; only half-moves before the start
+/// are those of its halfmove clock.
+///
+/// It refuses the fourth time or the sixth, 149 half-moves or 151, and a clock that some capture or pawn move leaves on.
+pub fn repetitions_and_quiet_moves_end_a_game()
+    ensures { CountingEnds }
+{}
+
+/// A law: the contract says it, and the function does nothing. From a sound position of insufficient material no legal
+/// moves lead to mate (FIDE Laws of Chess 2023, article 5.2.2).
+///
+/// It refuses to call two knights insufficient, bishops on squares of both colours, or a pawn.
+pub fn insufficient_material_never_mates()
+    ensures { InsufficientNeverMates }
+{}

@@ -1,0 +1,21 @@
+//! Second accounts of the rules of chess, as laws: each is the contract of a function that does nothing. They say in
+//! other words, by names of squares, by tables and by whole lines, what the definitions of chess_base and chess_game
+//! say. They are in a crate of their own so that no other crate waits for their proofs.
+#![tactic(auto)]
+
+mod endings;
+mod mirror;
+mod moves;
+
+pub use endings::{
+    a_game_ends_where_no_move_is_legal, insufficient_material_never_mates,
+    repetitions_and_quiet_moves_end_a_game,
+};
+pub use mirror::{
+    attacks_are_mirrored, endings_are_mirrored, games_are_mirrored, moves_are_mirrored,
+};
+pub use moves::{
+    castling_ends_on_named_squares, castling_needs_named_squares,
+    en_passant_follows_a_double_advance, first_moves_are_these, known_games_end,
+    lines_end_at_the_first_piece, pieces_reach_by_tables,
+};

@@ -1,0 +1,29 @@
+use rules_laws::{
+    a_game_ends_where_no_move_is_legal, attacks_are_mirrored, castling_ends_on_named_squares,
+    castling_needs_named_squares, en_passant_follows_a_double_advance, endings_are_mirrored,
+    first_moves_are_these, games_are_mirrored, insufficient_material_never_mates, known_games_end,
+    lines_end_at_the_first_piece, moves_are_mirrored, pieces_reach_by_tables,
+    repetitions_and_quiet_moves_end_a_game,
+};
+
+#[test]
+fn laws_of_moves_are_called() {
+    pieces_reach_by_tables();
+    lines_end_at_the_first_piece();
+    castling_ends_on_named_squares();
+    castling_needs_named_squares();
+    en_passant_follows_a_double_advance();
+    first_moves_are_these();
+    known_games_end();
+    attacks_are_mirrored();
+    endings_are_mirrored();
+    games_are_mirrored();
+    moves_are_mirrored();
+}
+
+#[test]
+fn laws_of_endings_are_called() {
+    a_game_ends_where_no_move_is_legal();
+    repetitions_and_quiet_moves_end_a_game();
+    insufficient_material_never_mates();
+}
