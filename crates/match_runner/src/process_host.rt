@@ -391,7 +391,9 @@ where
         &mut self,
         engines: BothEngines<'t, R, R::Started>,
         limit: Option<u64>,
-    ) -> ByColour<bool> {
+    ) -> ByColour<bool>
+        ensures spared { limit ≡ None → result ≡ none_killed }
+    {
         finish_both(self, engines, limit)
     }
 }
