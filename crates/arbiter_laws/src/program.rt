@@ -25,8 +25,8 @@ pub fn plain_arguments_are_followed()
 }
 
 /// States a law and does nothing: whenever the program runs without arguments or with `session` alone, it runs a
-/// session; with `verify` alone it verifies games. In neither case does it start anything. The grammar never refuses such
-/// arguments.
+/// session; with `verify` alone it verifies games. In neither case does it start an engine. The grammar never refuses
+/// such arguments.
 pub fn plain_arguments_do_what_they_say()
     ensures none { ServesSession [] }
     ensures session { ServesSession (codes "session" ∷ []) }

@@ -1,4 +1,4 @@
-//! The arbiter as a program: what its arguments ask for, on an input, an output and an error output, and with a host that
+//! The arbiter as a program: what its arguments ask for, on an input, an output and an error output, with a host that
 //! starts the engines of a match.
 //!
 //! ```
@@ -6,7 +6,14 @@
 //! let mut output = Counted::writing(Vec::<u8>::new(alloc));
 //! let mut errors = Log::new(Counted::writing(Vec::<u8>::new(alloc)));
 //! let mut host = ProcessHost::new(rt, alloc);
-//! let status = run_program(&mut host, alloc, &["verify"], &mut input, &mut output, &mut errors);
+//! let status = run_program(
+//!     &mut host,
+//!     alloc,
+//!     &["verify"],
+//!     &mut input,
+//!     &mut output,
+//!     &mut errors,
+//! );
 //! ```
 #![tactic(auto)]
 

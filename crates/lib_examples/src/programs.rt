@@ -130,7 +130,14 @@ fn program(rt: &HostRuntime, alloc: Global) -> u8 {
     let mut output = Counted::writing(Vec::<u8>::new(alloc));
     let mut errors = Log::new(Counted::writing(Vec::<u8>::new(alloc)));
     let mut host = ProcessHost::new(rt, alloc);
-    let status = run_program(&mut host, alloc, &["verify"], &mut input, &mut output, &mut errors);
+    let status = run_program(
+        &mut host,
+        alloc,
+        &["verify"],
+        &mut input,
+        &mut output,
+        &mut errors,
+    );
     status
 }
 
