@@ -86,14 +86,14 @@ pub record Surroundings : Type 0 where
   -- its error output, as the log of a match
   pub errors : LogSeen
 
--- just these steps have passed at a host so far, in this order
+-- what contracts see of a host at which just these steps have passed so far, in this order
 abbrev pub HavePassed : List HostStep → HostPassing
 HavePassed steps = λ passed. passed ≡ steps
 
 -- the program did what its plan says; or there is no plan (`Err`): the arguments ask for help or for the version, are
--- invalid, or memory ran out. `s` and `s'` are what it works with before and after; `steps` are the steps that passed
--- at its host, by which alone it starts engines and has a clock; `status` is its exit status. Only in a match are there
--- steps, so nothing else is started. What happens to the error output is said only for a match
+-- invalid, or memory ran out. `s` and `s'` are what it works with before and after, `steps` are the steps that passed
+-- at its host, and `status` is its exit status. Only the host starts engines and has a clock. There are steps only in a
+-- match, so nothing else is started. What happens to the error output is said only for a match
 abbrev pub Does : Result Plan WordsFault → Surroundings → Surroundings → List HostStep → ℕ → Type 0
 -- a session ran on input and output. It begins at the initial position of normal chess, with the tags of a game of
 -- which nothing is known, and takes at most 20,000 half-moves (`MOST_MOVES`). Or nothing was read or written, as when
@@ -110,10 +110,10 @@ Does (Ok (Verify plan)) s s' steps status = (steps ≡ [])
 -- a stub engine, which plays the moves in its arguments, ran on input and output
 Does (Ok (Stub arguments)) s s' steps status =
     (steps ≡ []) × Serves stub_response (waiting arguments.items) s.devices s'.devices status
--- nothing of the input was read, and the games of the match were played at the host, written and logged as
--- `PlaysGamesWith` says; `steps` are all that passed there. The status is 0 if all were played without a fault and were
--- written, and the score too; otherwise 1. `logged` is the error output, to which the log goes, after the games. With
--- status 0 it stays so; with status 1 more may be written to it, and of its state at the end nothing is said
+-- nothing of the input was read, and the games of the match were played with the host, written and logged as
+-- `PlaysGamesWith` says; just its steps passed. The status is 0 if all were played without a fault and were written,
+-- and the score too; otherwise 1. `logged` is the error output, to which the log goes, after the games. With status 0
+-- it stays so; with status 1 more may be written to it, and of its state at the end nothing is said
 Does (Ok (Match plan)) s s' steps status = (s'.devices.input ≡ s.devices.input)
     × ((result : Result (Unit {0}) GamesFault) × (logged : LogSeen)
     × PlaysGamesWith plan result (HavePassed []) (HavePassed steps)
