@@ -17,6 +17,6 @@ pub steps_of : (plan : GamesPlan) (result : Result (Unit {0}) GamesFault) (p p' 
     → PlaysGamesWith plan result p p' d d'
     → (steps : List HostStep) × StepsPass p p' steps
     × PlaysGamesWith plan result (HavePassed []) (HavePassed steps) d d'
-steps_of plan result p p' d d' (inl (coming, games, unwritten, written, turns, passes)) =
-    (_, passes, inl (coming, games, unwritten, written, turns, from_none _))
+steps_of plan result p p' d d' (inl (coming, (games, unwritten, written, turns, passes))) =
+    (_, passes, inl (coming, (games, unwritten, written, turns, from_none _)))
 steps_of plan result p p' d d' (inr (want, passes, same)) = ([], passes, inr (want, from_none [], same))
