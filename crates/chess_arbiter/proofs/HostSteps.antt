@@ -1,5 +1,5 @@
 -- The steps that passed at the host: none, or those of a match.
-use Rattle.std.proofs.Common.{◌≡◌, List, [], ◌++◌, Result, ap, sym, subst, append-nil, inl, inr}
+use Rattle.std.proofs.Common.{List, [], ◌++◌, Result, ap, sym, subst, append-nil, inl, inr}
 use Rattle.match_runner.specs.GamesTable.{HostPassing, HostStep, Outputs, PlaysGamesWith, StepsPass}
 use Rattle.match_runner.specs.declared.fault.GamesFault.{GamesFault}
 use Rattle.match_runner.specs.declared.plan.GamesPlan.{GamesPlan}
