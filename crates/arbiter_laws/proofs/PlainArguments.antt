@@ -15,8 +15,8 @@ use Rattle.byte_devices.specs.Transfers.{Devices, InputGave, Ran, nothing}
 use Rattle.byte_devices.proofs.shared.Transfers.{came, took_nothing}
 use Rattle.byte_devices.proofs.shared.Devices.{consumes_none}
 use Rattle.arbiter_laws.specs.Programs.{PlainArgumentsAreFollowed, ServesSession, VerifiesGames}
-use Rattle.chess_arbiter.specs.Program.{Does, options_of}
-use Rattle.match_runner.specs.Log.{LogSeen}
+use Rattle.chess_arbiter.specs.Program.{Does, Surroundings, options_of}
+use Rattle.match_runner.specs.GamesTable.{HostStep}
 use Rattle.pgn_verifier.specs.Verify.{Verifies}
 use Rattle.pgn_verifier.specs.declared.options.VerifyOptions.{VerifyOptions}
 use Rattle.pgn_verifier.specs.declared.fault.VerifyFault.TheVariants as verifying
@@ -26,7 +26,7 @@ shorter xs ys lt e = let same : length xs ≡ length ys = ap length e in absurd 
 
 -- what was read is what was done
 pub as_followed : PlainArgumentsAreRead → PlainArgumentsAreFollowed
-as_followed law line d d' l l' status plain (read, is, ran) = (read, law line read plain is, ran)
+as_followed law line s s' steps status plain (read, is, ran) = (read, law line read plain is, ran)
 
 -- a plan that was read of arguments that ask for that command
 read_argument : PlansAreNamed → (arguments : List Text) (name : Text) (plan : Plan) → AskFor arguments name
@@ -84,39 +84,39 @@ not_begun options d d' same kept =
     ) in
     subst (λ (v : Devices). Ran (Verifies options (Err verifying.NoMemory)) d v) (sym (both_same d d' same kept)) here
 
-session_or_want : (fault : WordsFault) (d d' : Devices) (l l' : LogSeen) (status : ℕ)
-    → IsWant fault → Does (Err fault) d d' l l' status → Does (Ok Session) d d' l l' status
-session_or_want faults.NoMemory d d' l l' status want (same, (kept, is)) =
-    inr (both_same d d' same kept, is)
-session_or_want (faults.Words e) d d' l l' status want ran = absurd want
-session_or_want faults.BadLevel d d' l l' status want ran = absurd want
-session_or_want (faults.BadFen f) d d' l l' status want ran = absurd want
-session_or_want faults.BadDate d d' l l' status want ran = absurd want
+session_or_want : (fault : WordsFault) (s s' : Surroundings) (steps : List HostStep) (status : ℕ)
+    → IsWant fault → Does (Err fault) s s' steps status → Does (Ok Session) s s' steps status
+session_or_want faults.NoMemory s s' steps status want (none, (same, (kept, is))) =
+    (none, inr (both_same s.devices s'.devices same kept, is))
+session_or_want (faults.Words e) s s' steps status want ran = absurd want
+session_or_want faults.BadLevel s s' steps status want ran = absurd want
+session_or_want (faults.BadFen f) s s' steps status want ran = absurd want
+session_or_want faults.BadDate s s' steps status want ran = absurd want
 
-verify_or_want : (fault : WordsFault) (d d' : Devices) (l l' : LogSeen) (status : ℕ)
-    → IsWant fault → Does (Err fault) d d' l l' status → Does (Ok (Verify bare_plan)) d d' l l' status
-verify_or_want faults.NoMemory d d' l l' status want (same, (kept, is)) =
-    (Err verifying.NoMemory, is, not_begun (options_of bare_plan) d d' same kept)
-verify_or_want (faults.Words e) d d' l l' status want ran = absurd want
-verify_or_want faults.BadLevel d d' l l' status want ran = absurd want
-verify_or_want (faults.BadFen f) d d' l l' status want ran = absurd want
-verify_or_want faults.BadDate d d' l l' status want ran = absurd want
+verify_or_want : (fault : WordsFault) (s s' : Surroundings) (steps : List HostStep) (status : ℕ)
+    → IsWant fault → Does (Err fault) s s' steps status → Does (Ok (Verify bare_plan)) s s' steps status
+verify_or_want faults.NoMemory s s' steps status want (none, (same, (kept, is))) =
+    (none, (Err verifying.NoMemory, is, not_begun (options_of bare_plan) s.devices s'.devices same kept))
+verify_or_want (faults.Words e) s s' steps status want ran = absurd want
+verify_or_want faults.BadLevel s s' steps status want ran = absurd want
+verify_or_want (faults.BadFen f) s s' steps status want ran = absurd want
+verify_or_want faults.BadDate s s' steps status want ran = absurd want
 
 serves : PlansAreNamed → (arguments : List Text) → AskFor arguments (codes "session") → (read : Result Plan WordsFault)
     → IsReading arguments read
-    → (d d' : Devices) (l l' : LogSeen) (status : ℕ) → Does read d d' l l' status
-    → Does (Ok Session) d d' l l' status
-serves named ws a (Ok Session) is d d' l l' status ran = ran
-serves named ws a (Ok (Verify v)) is d d' l l' status ran =
+    → (s s' : Surroundings) (steps : List HostStep) (status : ℕ) → Does read s s' steps status
+    → Does (Ok Session) s s' steps status
+serves named ws a (Ok Session) is s s' steps status ran = ran
+serves named ws a (Ok (Verify v)) is s s' steps status ran =
     absurd (shorter (codes "verify") (codes "session") (lit< tt)
     (sym (read_argument named ws (codes "session") (Verify v) a is)))
-serves named ws a (Ok (Stub s)) is d d' l l' status ran =
+serves named ws a (Ok (Stub replies)) is s s' steps status ran =
     absurd (shorter (codes "stub") (codes "session") (lit< tt)
-    (sym (read_argument named ws (codes "session") (Stub s) a is)))
-serves named ws a (Ok (Match m)) is d d' l l' status ran =
+    (sym (read_argument named ws (codes "session") (Stub replies) a is)))
+serves named ws a (Ok (Match m)) is s s' steps status ran =
     absurd (no_match_by_session (read_argument named ws (codes "session") (Match m) a is))
-serves named ws a (Err fault) is d d' l l' status ran =
-    session_or_want fault d d' l l' status (refused_argument ws (codes "session") fault a no_match_by_session is)
+serves named ws a (Err fault) is s s' steps status ran =
+    session_or_want fault s s' steps status (refused_argument ws (codes "session") fault a no_match_by_session is)
     ran
 
 -- `verify` alone sets none of its flags
@@ -126,26 +126,26 @@ without_flags denoted ws v bare (names, are, (none, is)) = denoted (said_by (ask
 
 verifies : PlansAreNamed → VerifyIsAsAsked → (arguments : List Text) → AskFor arguments (codes "verify")
     → VerifyAsBare arguments → (read : Result Plan WordsFault) → IsReading arguments read
-    → (d d' : Devices) (l l' : LogSeen) (status : ℕ) → Does read d d' l l' status
-    → Does (Ok (Verify bare_plan)) d d' l l' status
-verifies named denoted ws a bare (Ok Session) is d d' l l' status ran =
+    → (s s' : Surroundings) (steps : List HostStep) (status : ℕ) → Does read s s' steps status
+    → Does (Ok (Verify bare_plan)) s s' steps status
+verifies named denoted ws a bare (Ok Session) is s s' steps status ran =
     absurd (shorter (codes "verify") (codes "session") (lit< tt) (read_argument named ws (codes "verify") Session a is))
-verifies named denoted ws a bare (Ok (Verify v)) is d d' l l' status ran =
-    subst (λ (plan : VerifyPlan). Does (Ok (Verify plan)) d d' l l' status)
+verifies named denoted ws a bare (Ok (Verify v)) is s s' steps status ran =
+    subst (λ (plan : VerifyPlan). Does (Ok (Verify plan)) s s' steps status)
     (without_flags denoted ws v bare is) ran
-verifies named denoted ws a bare (Ok (Stub s)) is d d' l l' status ran =
+verifies named denoted ws a bare (Ok (Stub replies)) is s s' steps status ran =
     absurd (shorter (codes "stub") (codes "verify") (lit< tt)
-    (sym (read_argument named ws (codes "verify") (Stub s) a is)))
-verifies named denoted ws a bare (Ok (Match m)) is d d' l l' status ran =
+    (sym (read_argument named ws (codes "verify") (Stub replies) a is)))
+verifies named denoted ws a bare (Ok (Match m)) is s s' steps status ran =
     absurd (no_match_by_verify (read_argument named ws (codes "verify") (Match m) a is))
-verifies named denoted ws a bare (Err fault) is d d' l l' status ran =
-    verify_or_want fault d d' l l' status (refused_argument ws (codes "verify") fault a no_match_by_verify is) ran
+verifies named denoted ws a bare (Err fault) is s s' steps status ran =
+    verify_or_want fault s s' steps status (refused_argument ws (codes "verify") fault a no_match_by_verify is) ran
 
 pub serves_session : PlansAreNamed → (arguments : List Text) → AskFor arguments (codes "session")
     → ServesSession arguments
-serves_session named ws a d d' l l' status (read, is, ran) = serves named ws a read is d d' l l' status ran
+serves_session named ws a s s' steps status (read, is, ran) = serves named ws a read is s s' steps status ran
 
 pub verifies_games : PlansAreNamed → VerifyIsAsAsked → (arguments : List Text) → AskFor arguments (codes "verify")
     → VerifyAsBare arguments → VerifiesGames arguments
-verifies_games named denoted ws a bare d d' l l' status (read, is, ran) =
-    verifies named denoted ws a bare read is d d' l l' status ran
+verifies_games named denoted ws a bare s s' steps status (read, is, ran) =
+    verifies named denoted ws a bare read is s s' steps status ran

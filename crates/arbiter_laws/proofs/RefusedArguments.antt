@@ -61,9 +61,12 @@ shown k faults.BadDate w w' status help is reported = absurd is
 
 pub shows_help : (ws : List Text) (k : ErrorKind) → (k ≡ DisplayHelp) ⊎ (k ≡ DisplayVersion) → AreRefused ws (k ∷ [])
     → ShowsHelp ws
-shows_help ws k help one d d' l l' status (Ok plan, is, ran) = absurd (no_plan ws k plan one is)
-shows_help ws k help one d d' l l' status (Err fault, is, (same, reported)) =
-    (same, shown k fault d.output d'.output status help (refusal ws k fault one is) reported)
+shows_help ws k help one s s' steps status (Ok plan, is, ran) = absurd (no_plan ws k plan one is)
+shows_help ws k help one s s' steps status (Err fault, is, (none, (same, reported))) = (
+  none,
+  same,
+  shown k fault s.devices.output s'.devices.output status help (refusal ws k fault one is) reported,
+)
 
 -- ---- other kinds
 
@@ -84,8 +87,8 @@ refused k faults.BadDate w w' status help version is reported = absurd is
 
 pub refuses_arguments : (ws : List Text) (k : ErrorKind) → k ≢ DisplayHelp → k ≢ DisplayVersion → AreRefused ws (k ∷ [])
     → RefusesArguments ws
-refuses_arguments ws k help version one d d' l l' status (Ok plan, is, ran) = absurd (no_plan ws k plan one is)
-refuses_arguments ws k help version one d d' l l' status (Err fault, is, (same, reported)) =
-    let t = refused k fault d.output d'.output status help version (refusal ws k fault one is)
+refuses_arguments ws k help version one s s' steps status (Ok plan, is, ran) = absurd (no_plan ws k plan one is)
+refuses_arguments ws k help version one s s' steps status (Err fault, is, (none, (same, reported))) =
+    let t = refused k fault s.devices.output s'.devices.output status help version (refusal ws k fault one is)
     reported in
-    (both_same d d' same t.0, t.1)
+    (none, both_same s.devices s'.devices same t.0, t.1)

@@ -5,42 +5,44 @@ use Rattle.arbiter_cli.specs.Plans.{IsReadAs, Said}
 use Rattle.arbiter_cli.specs.declared.plan.Plan.{Plan}
 use Rattle.arbiter_cli.specs.declared.plan.Plan.TheVariants.{Session, Verify}
 use Rattle.arbiter_cli.specs.declared.fault.WordsFault.{WordsFault}
-use Rattle.byte_devices.specs.Transfers.{Devices}
-use Rattle.match_runner.specs.Log.{LogSeen}
 use Rattle.arbiter_laws.specs.Arguments.{bare_plan}
 use Rattle.arbiter_laws.specs.PlainArguments.{CommandLine, IsPlain, arguments_of, said_in}
-use Rattle.chess_arbiter.specs.Program.{Does, RanProgram, WritesHelp}
+use Rattle.chess_arbiter.specs.Program.{Does, RanProgram, Surroundings, WritesHelp}
+use Rattle.match_runner.specs.GamesTable.{HostStep}
 
 -- the program did what its arguments say, or reported a fault of a match's level, FEN or date, or that memory ran out;
--- `clap` has no fault to report (`[]`). `status` is the exit status
-abbrev pub DidAsSaid : Said → Devices → Devices → LogSeen → LogSeen → ℕ → Type 0
-DidAsSaid said d d' l l' status =
-    (read : Result Plan WordsFault) × IsReadAs [] said read × Does read d d' l l' status
+-- `clap` has no fault to report (`[]`). `steps` are the steps that passed at the host, and `status` is the exit status
+abbrev pub DidAsSaid : Said → Surroundings → Surroundings → List HostStep → ℕ → Type 0
+DidAsSaid said s s' steps status =
+    (read : Result Plan WordsFault) × IsReadAs [] said read × Does read s s' steps status
 
 -- whenever the program runs with plain arguments, it does what they say
 abbrev pub PlainArgumentsAreFollowed : Type 0
-PlainArgumentsAreFollowed = (line : CommandLine) (d d' : Devices) (l l' : LogSeen) (status : ℕ) → IsPlain line
-    → RanProgram (arguments_of line) d d' l l' status → DidAsSaid (said_in line) d d' l l' status
+PlainArgumentsAreFollowed = (line : CommandLine) (s s' : Surroundings) (steps : List HostStep) (status : ℕ)
+    → IsPlain line → RanProgram (arguments_of line) s s' steps status → DidAsSaid (said_in line) s s' steps status
 
 -- whenever a program runs with these arguments, it does what the plan of a session says: it runs one on its input and
--- output, and has its exit status
+-- output, has its exit status, and starts nothing
 abbrev pub ServesSession : List Text → Type 0
-ServesSession arguments = (d d' : Devices) (l l' : LogSeen) (status : ℕ) → RanProgram arguments d d' l l' status
-    → Does (Ok Session) d d' l l' status
+ServesSession arguments = (s s' : Surroundings) (steps : List HostStep) (status : ℕ)
+    → RanProgram arguments s s' steps status → Does (Ok Session) s s' steps status
 
 -- whenever a program runs with these arguments, it does what the plan of `verify` without flags says: it verifies the
--- games of its input
+-- games of its input, and starts nothing
 abbrev pub VerifiesGames : List Text → Type 0
-VerifiesGames arguments = (d d' : Devices) (l l' : LogSeen) (status : ℕ) → RanProgram arguments d d' l l' status
-    → Does (Ok (Verify bare_plan)) d d' l l' status
+VerifiesGames arguments = (s s' : Surroundings) (steps : List HostStep) (status : ℕ)
+    → RanProgram arguments s s' steps status → Does (Ok (Verify bare_plan)) s s' steps status
 
--- whenever a program runs with these arguments, it writes a text of help to its output, and reads nothing
+-- whenever a program runs with these arguments, it writes a text of help to its output, reads nothing, and starts
+-- nothing
 abbrev pub ShowsHelp : List Text → Type 0
-ShowsHelp arguments = (d d' : Devices) (l l' : LogSeen) (status : ℕ) → RanProgram arguments d d' l l' status
-    → (d'.input ≡ d.input) × WritesHelp d.output d'.output status
+ShowsHelp arguments = (s s' : Surroundings) (steps : List HostStep) (status : ℕ)
+    → RanProgram arguments s s' steps status
+    → (steps ≡ []) × (s'.devices.input ≡ s.devices.input) × WritesHelp s.devices.output s'.devices.output status
 
--- whenever a program runs with these arguments, it reads nothing, writes nothing to its output, and has the exit status
--- 2, or 1 if memory ran out
+-- whenever a program runs with these arguments, it reads nothing, writes nothing to its output, starts nothing, and has
+-- the exit status 2, or 1 if memory ran out
 abbrev pub RefusesArguments : List Text → Type 0
-RefusesArguments arguments = (d d' : Devices) (l l' : LogSeen) (status : ℕ) → RanProgram arguments d d' l l' status
-    → (d' ≡ d) × ((status ≡ 2) ⊎ (status ≡ 1))
+RefusesArguments arguments = (s s' : Surroundings) (steps : List HostStep) (status : ℕ)
+    → RanProgram arguments s s' steps status
+    → (steps ≡ []) × (s'.devices ≡ s.devices) × ((status ≡ 2) ⊎ (status ≡ 1))

@@ -25,7 +25,8 @@ pub fn plain_arguments_are_followed()
 }
 
 /// States a law and does nothing: whenever the program runs without arguments or with `session` alone, it runs a
-/// session; with `verify` alone it verifies games. The grammar never refuses such arguments.
+/// session; with `verify` alone it verifies games. In neither case does it start an engine. The grammar never refuses
+/// such arguments.
 pub fn plain_arguments_do_what_they_say()
     ensures none { ServesSession [] }
     ensures session { ServesSession (codes "session" ∷ []) }
@@ -38,7 +39,8 @@ pub fn plain_arguments_do_what_they_say()
 }
 
 /// States a law and does nothing: whenever the program runs with `--help` or `--version`, it writes a text of help.
-/// `match` without options lacks its two engines, and is refused with status 2, or 1 if memory ran out.
+/// `match` without options lacks its two engines, and is refused with status 2, or 1 if memory ran out; nothing is
+/// started.
 pub fn refused_arguments_are_reported()
     ensures help { ShowsHelp (codes "--help" ∷ []) }
     ensures version { ShowsHelp (codes "--version" ∷ []) }

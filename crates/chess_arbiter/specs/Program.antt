@@ -1,4 +1,4 @@
--- What the program does with its arguments and its devices.
+-- What the program does with its arguments, its devices and its host.
 use Rattle.std.specs.Prelude.{◌≡◌, ◌≢◌, ◌⊎◌, ℕ, cond, if◌then◌else◌, List, [], Result, Ok, Err, is_ok}
 use Rattle.clap.specs.Words.{Text, kind_of}
 use Rattle.clap.specs.declared.error.kind.ErrorKind.TheVariants.{DisplayHelp, DisplayVersion}
@@ -24,7 +24,7 @@ use Rattle.pgn_verifier.specs.declared.tally.Verified.{Verified}
 use Rattle.pgn_verifier.specs.declared.tally.Verified.TheVariants.{EachGame}
 use Rattle.pgn_verifier.specs.Collection.{VerifiesCollection}
 use Rattle.pgn_verifier.specs.Verify.{Verifies}
-use Rattle.match_runner.specs.Games.{PlaysGames}
+use Rattle.match_runner.specs.GamesTable.{HostPassing, HostStep, PlaysGamesWith}
 use Rattle.match_runner.specs.declared.fault.GamesFault.{GamesFault}
 use Rattle.match_runner.specs.Log.{LogSeen}
 use Rattle.stub_engine.specs.Stub.{stub_response, waiting}
@@ -79,37 +79,53 @@ ReportsArguments faults.NoMemory w w' status = (w' ≡ w) × (status ≡ 1)
 -- an invalid level, FEN or date of a match: the output stays as it is, and the status is 2
 ReportsArguments _ w w' status = (w' ≡ w) × (status ≡ 2)
 
+-- what contracts see of what the program works with, but for its host
+pub record Surroundings : Type 0 where
+  -- its input and its output
+  pub devices : Devices
+  -- its error output, as the log of a match
+  pub errors : LogSeen
+
+-- what contracts see of a host at which just these steps have passed so far, in this order
+abbrev pub HavePassed : List HostStep → HostPassing
+HavePassed steps = λ passed. passed ≡ steps
+
 -- the program did what its plan says; or there is no plan (`Err`): the arguments ask for help or for the version, are
--- invalid, or memory ran out. `d` and `d'` are its input and output before and after; `l` and `l'` are its error output
--- before and after, as the log of a match. `status` is its exit status. What happens to the error output is said only
--- for a match
-abbrev pub Does : Result Plan WordsFault → Devices → Devices → LogSeen → LogSeen → ℕ → Type 0
+-- invalid, or memory ran out. `s` and `s'` are what it works with before and after, `steps` are the steps that passed
+-- at its host, and `status` is its exit status. Only the host starts engines and has a clock. There are steps only in a
+-- match, so nothing else is started. What happens to the error output is said only for a match
+abbrev pub Does : Result Plan WordsFault → Surroundings → Surroundings → List HostStep → ℕ → Type 0
 -- a session ran on input and output. It begins at the initial position of normal chess, with the tags of a game of
 -- which nothing is known, and takes at most 20,000 half-moves (`MOST_MOVES`). Or nothing was read or written, as when
 -- memory ran out, and the status is 1
-Does (Ok Session) d d' l l' status =
-    Serves session_response (opened_session default_tags MOST_MOVES) d d' status ⊎ ((d' ≡ d) × (status ≡ 1))
+Does (Ok Session) s s' steps status = (steps ≡ [])
+    × (Serves session_response (opened_session default_tags MOST_MOVES) s.devices s'.devices status
+    ⊎ ((s'.devices ≡ s.devices) × (status ≡ 1)))
 -- the input's games were verified, with some result, which gives the status: with the flag `--keep-going` piece by
 -- piece, where a fault ends only its piece (`VerifiesCollection`); without it as one text, up to its first fault
 -- (`Verifies`)
-Does (Ok (Verify plan)) d d' l l' status =
-    (result : Result Verified VerifyFault) × (status ≡ verify_status result)
-    × Ran ((cond plan.keep_going VerifiesCollection Verifies) (options_of plan) result) d d'
+Does (Ok (Verify plan)) s s' steps status = (steps ≡ [])
+    × ((result : Result Verified VerifyFault) × (status ≡ verify_status result)
+    × Ran ((cond plan.keep_going VerifiesCollection Verifies) (options_of plan) result) s.devices s'.devices)
 -- a stub engine, which plays the moves in its arguments, ran on input and output
-Does (Ok (Stub arguments)) d d' l l' status = Serves stub_response (waiting arguments.items) d d' status
--- nothing of the input was read, and the games of the match were played, written and logged as `PlaysGames` says. The
--- status is 0 if all were played without a fault and were written, and the score too; otherwise 1. `logged` is the
--- error output, to which the log goes, after the games. With status 0 it stays so; with status 1 more may be written to
--- it, and of its state at the end (`l'`) nothing is said
-Does (Ok (Match plan)) d d' l l' status =
-    (d'.input ≡ d.input) × ((result : Result (Unit {0}) GamesFault) × (logged : LogSeen)
-    × PlaysGames plan result d.output d'.output l logged × (status ≡ status_of result) × (status ≡ 0 → l' ≡ logged))
+Does (Ok (Stub arguments)) s s' steps status =
+    (steps ≡ []) × Serves stub_response (waiting arguments.items) s.devices s'.devices status
+-- nothing of the input was read, and the games of the match were played with the host, written and logged as
+-- `PlaysGamesWith` says; just its steps passed. The status is 0 if all were played without a fault and were written,
+-- and the score too; otherwise 1. `logged` is the error output, to which the log goes, after the games. With status 0
+-- it stays so; with status 1 more may be written to it, and of its state at the end nothing is said
+Does (Ok (Match plan)) s s' steps status = (s'.devices.input ≡ s.devices.input)
+    × ((result : Result (Unit {0}) GamesFault) × (logged : LogSeen)
+    × PlaysGamesWith plan result (HavePassed []) (HavePassed steps)
+    (record { output = s.devices.output; log = s.errors }) (record { output = s'.devices.output; log = logged })
+    × (status ≡ status_of result) × (status ≡ 0 → s'.errors ≡ logged))
 -- no plan: nothing of the input is read; what is written is as `ReportsArguments` says
-Does (Err fault) d d' l l' status = (d'.input ≡ d.input) × ReportsArguments fault d.output d'.output status
+Does (Err fault) s s' steps status = (steps ≡ [])
+    × (s'.devices.input ≡ s.devices.input) × ReportsArguments fault s.devices.output s'.devices.output status
 
 -- the program ran with these arguments: there is a right reading of them (`IsReading`), a plan or a fault, for which
--- the program did what `Does` says. `d` and `d'` are its input and output before and after, `l` and `l'` its error
--- output; `status` is its exit status
-abbrev pub RanProgram : List Text → Devices → Devices → LogSeen → LogSeen → ℕ → Type 0
-RanProgram arguments d d' l l' status =
-    (read : Result Plan WordsFault) × IsReading arguments read × Does read d d' l l' status
+-- the program did what `Does` says. `s` and `s'` are what it works with before and after; `steps` are the steps that
+-- passed at its host; `status` is its exit status
+abbrev pub RanProgram : List Text → Surroundings → Surroundings → List HostStep → ℕ → Type 0
+RanProgram arguments s s' steps status =
+    (read : Result Plan WordsFault) × IsReading arguments read × Does read s s' steps status

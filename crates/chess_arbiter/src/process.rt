@@ -6,7 +6,7 @@ ghost use Rattle.std.specs.IoError.{error_kind};
 use crate::fault::{ProgramFault, report};
 use crate::program::run_program;
 use byte_devices::Counted;
-use match_runner::Log;
+use match_runner::{Log, ProcessHost};
 use std::alloc::AllocError;
 use std::env;
 use std::io::{self, ErrorKind};
@@ -21,7 +21,8 @@ fn arguments_of(rt: &HostRuntime) -> io::Result<Vec<String>> {
     Ok(arguments)
 }
 
-// Runs the program on the arguments and the standard streams of this process, and returns its exit status.
+// Runs the program on the arguments and the standard streams of this process, with engines as processes, and returns
+// its exit status.
 fn status_of(rt: &HostRuntime) -> io::Result<u8> {
     let owned = arguments_of(rt)?;
     let mut arguments = Vec::new(rt.alloc());
@@ -29,7 +30,7 @@ fn status_of(rt: &HostRuntime) -> io::Result<u8> {
         arguments.push(argument.as_str()).map_err(AllocError::from)?;
     }
     Ok(run_program(
-        rt,
+        &mut ProcessHost::new(rt, rt.alloc()),
         rt.alloc(),
         arguments.as_slice(),
         &mut Counted::reading(rt.stdin()),

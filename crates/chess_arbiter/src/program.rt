@@ -1,10 +1,10 @@
-//! The program on an input, an output and an error output.
+//! The program on an input, an output and an error output, with a host.
 
-ghost use Rattle.std.specs.Prelude.{◌≡◌, ◌⊎◌, IfOk, Result, Ok, Err, cond, map};
+ghost use Rattle.std.specs.Prelude.{◌≡◌, ◌⊎◌, IfOk, List, Result, Ok, Err, cond, map};
 ghost use Rattle.chess_cecp.specs.Held.{opened_session};
 ghost use Rattle.chess_pgn.specs.Tags.{default_tags};
 ghost use Rattle.chess_cecp.specs.Session.{session_response};
-ghost use Rattle.match_runner.specs.Games.{PlaysGames};
+ghost use Rattle.match_runner.specs.GamesTable.{HostStep, PlaysGamesWith, StepsPass};
 ghost use Rattle.match_runner.specs.Log.{LogSeen};
 ghost use Rattle.match_runner.specs.declared.fault.GamesFault.{GamesFault};
 ghost use Rattle.pgn_verifier.specs.Collection.{VerifiesCollection};
@@ -21,13 +21,10 @@ use chess_bits::{AttackTables, Bits};
 use chess_cecp::{Session, run_session, serve_lines};
 use chess_game::MOST_MOVES;
 use chess_pgn::Tags;
-use match_runner::{GamesPlan, Log, play_games};
+use match_runner::{GamesPlan, Host, Log, play_games_with};
 use pgn_verifier::{Verified, VerifyFault, VerifyOptions, verify, verify_collection};
 use std::alloc::{AllocError, Global};
 use std::fmt::Display;
-use std::os::fd::AsRawFd;
-use std::process::{OpenProcess, Processes};
-use std::rt::Clock;
 use stub_engine::Stub;
 
 // A session at the initial position, of at most 20,000 half-moves, on boards that use these tables of attacks.
@@ -197,25 +194,23 @@ fn report_arguments<W: Output, E: Output>(
     }
 }
 
-// Plays the games of a plan: PGN and score go to `output`; the log, if asked for, and lines of engines that were killed
-// go to `log`. Returns the exit status: 0, or 1 after a fault, which is reported where the log goes.
-fn matched<P: Processes + Clock, W: Output, E: Output>(
-    rt: &P,
+// Plays the games of a plan with a host: PGN and score go to `output`; the log, if asked for, and lines of engines that
+// were killed go to `log`. Returns the exit status: 0, or 1 after a fault, which is reported where the log goes.
+fn matched<H: Host, W: Output, E: Output>(
+    host: &mut H,
     alloc: Global,
     plan: &GamesPlan<'_>,
     output: &mut W,
     log: &mut Log<E>,
 ) -> u8
-where
-    <P::Started as OpenProcess>::Stdout: AsRawFd,
-    <P::Started as OpenProcess>::Stdin: AsRawFd,
     ensures { (λ (l l' : LogSeen). (played : Result (Unit {0}) GamesFault) × (logged : LogSeen)
-        × PlaysGames plan.now played (W.seen output.old) (W.seen output.new) l logged
+        × PlaysGamesWith plan.now played (H.passed host.old) (H.passed host.new)
+        (record { output = W.seen output.old; log = l }) (record { output = W.seen output.new; log = logged })
         × (result ≡ status_of played) × (result ≡ 0 → l' ≡ logged))
         (record { output = E.seen log.old.output; broken = log.old.broken })
         (record { output = E.seen log.new.output; broken = log.new.broken }) }
 {
-    match play_games(rt, alloc, plan, output, log) {
+    match play_games_with(host, alloc, plan, output, log) {
         Ok(()) => 0,
         Err(fault) => reported(&mut log.output, &fault, 1),
     }
@@ -230,8 +225,8 @@ where
 ///   with `--strict` a result that contradicts the tag Result or the final position is a fault too; with `--explain` a
 ///   second line explains each fault.
 /// - `match` with `--white`, `--black` and perhaps `--games`, `--level`, `--fen`, `--variant`, `--date`, `--log`,
-///   `--flag` and `--reply-timeout`: games between two engines that are started as processes, the text of each game,
-///   and then the score. The input is left untouched.
+///   `--flag` and `--reply-timeout`: games between two engines that the host starts, the text of each game, and then
+///   the score. The input is left untouched.
 /// - `stub`, and arguments to play: an engine that plays these on the input and the output.
 /// - Help or the version, if `clap` asks for it: a text on the output. The input is left untouched.
 ///
@@ -240,27 +235,33 @@ where
 /// input was too long, a game verified has a fault, or an engine could not be started or failed in a game; 2 for all
 /// other arguments.
 ///
-/// The contract says what was read and written, and the status. After a match with status 0 the error output has just
-/// the logs of its games if `--log` was given, and a line for each engine that was killed, up to a failed write. Only
-/// tests show that a match starts its programs, that games and logs are theirs, and what else is written to the error
-/// output: `arbiter: FAULT`, after the logs if there are any; what `clap` says of invalid arguments; and nothing if a
-/// game verified has a fault.
-pub fn run_program<'a, P: Processes + Clock, R: Input, W: Output, E: Output>(
-    rt: &P,
+/// The host starts the engines of a match: [`ProcessHost`](crate::ProcessHost) as processes. The program starts nothing
+/// by itself, as it is given no runtime.
+///
+/// The contract says what was read and written, which steps passed at the host (none but in a match), and the status.
+/// After a match with status 0 the error output has just the logs of its games if `--log` was given, and a line for
+/// each engine that was killed, up to a failed write. Only tests show what else is written to the error output:
+/// `arbiter: FAULT`, after the logs if there are any; what `clap` says of invalid arguments; and nothing if a game
+/// verified has a fault.
+pub fn run_program<'a, H: Host, R: Input, W: Output, E: Output>(
+    host: &mut H,
     alloc: Global,
     arguments: &'a [&'a str],
     input: &mut R,
     output: &mut W,
     errors: &mut Log<E>,
 ) -> u8
-where
-    <P::Started as OpenProcess>::Stdout: AsRawFd,
-    <P::Started as OpenProcess>::Stdin: AsRawFd,
-    ensures { RanProgram (map (λ w. w.now) arguments.entry.now)
-        (record { input = R.seen input.old; output = W.seen output.old })
-        (record { input = R.seen input.new; output = W.seen output.new })
-        (record { output = E.seen errors.old.output; broken = errors.old.broken })
-        (record { output = E.seen errors.new.output; broken = errors.new.broken }) result }
+    ensures { (steps : List HostStep) × StepsPass (H.passed host.old) (H.passed host.new) steps
+        × RanProgram (map (λ w. w.now) arguments.entry.now)
+        (record {
+          devices = record { input = R.seen input.old; output = W.seen output.old };
+          errors = record { output = E.seen errors.old.output; broken = errors.old.broken };
+        })
+        (record {
+          devices = record { input = R.seen input.new; output = W.seen output.new };
+          errors = record { output = E.seen errors.new.output; broken = errors.new.broken };
+        })
+        steps result }
 {
     let plan = match read_words(alloc, arguments) {
         Ok(plan) => plan,
@@ -273,6 +274,6 @@ where
             stub(arguments.as_slice(), input, output),
             &mut errors.output,
         ),
-        Plan::Match(plan) => matched(rt, alloc, &plan, output, errors),
+        Plan::Match(plan) => matched(host, alloc, &plan, output, errors),
     }
 }

@@ -2,7 +2,7 @@
 
 use crate::runs::{Devices, Outcome, ProgramRun, SOUND, Wanted, is_equal, is_text, run};
 use byte_devices::Counted;
-use chess_arbiter::{Log, SinceStart, run_program};
+use chess_arbiter::{Log, ProcessHost, SinceStart, run_program};
 use chess_match::Moments;
 use std::alloc::Global;
 use std::process::Abort;
@@ -19,7 +19,7 @@ fn acts_as_the_program(rt: HostRuntime) -> Result<(), Fail> {
         arguments.push(argument.as_str())?;
     }
     let _status = run_program(
-        &rt,
+        &mut ProcessHost::new(&rt, rt.alloc()),
         rt.alloc(),
         arguments.as_slice(),
         &mut Counted::reading(rt.stdin()),

@@ -2,7 +2,7 @@
 
 use crate::runs::{Devices, Outcome, ProgramRun, SOUND, Wanted, is_equal, run};
 use byte_devices::{Counted, PieceWriter};
-use chess_arbiter::{Log, ProgramFault, run_program};
+use chess_arbiter::{Log, ProcessHost, ProgramFault, run_program};
 use std::process::{Abort, ExitCode};
 use std::test::Fail;
 
@@ -203,7 +203,7 @@ fn a_failed_error_output_changes_no_status(rt: HostRuntime) {
     let mut output = Counted::writing(Vec::<u8>::new(rt.alloc()));
     let mut errors = Log::new(Counted::writing(PieceWriter::new(rt.alloc(), 3, 2)));
     let status = run_program(
-        &rt,
+        &mut ProcessHost::new(&rt, rt.alloc()),
         rt.alloc(),
         &["x"],
         &mut input,

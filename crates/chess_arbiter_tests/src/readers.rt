@@ -4,7 +4,7 @@ ghost use Rattle.std.specs.Prelude.{◌≤◌, length};
 
 use crate::runs::Outcome;
 use byte_devices::Counted;
-use chess_arbiter::{Log, run_program};
+use chess_arbiter::{Log, ProcessHost, run_program};
 use std::io::{self, Read};
 
 /// Spaces without an end.
@@ -66,7 +66,7 @@ pub fn run_on<R: Read + Drop>(rt: &HostRuntime, arguments: &[&str], reader: R) -
     let mut output = Counted::writing(Vec::<u8>::new(rt.alloc()));
     let mut errors = Log::new(Counted::writing(Vec::<u8>::new(rt.alloc())));
     let status = run_program(
-        rt,
+        &mut ProcessHost::new(rt, rt.alloc()),
         rt.alloc(),
         arguments,
         &mut input,

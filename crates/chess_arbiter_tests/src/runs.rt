@@ -1,7 +1,7 @@
 //! The program over memory, for tests.
 
 use byte_devices::{Counted, PieceReader, PieceWriter};
-use chess_arbiter::{Log, run_program};
+use chess_arbiter::{Log, ProcessHost, run_program};
 use std::fmt::Debug;
 use std::process::Abort;
 use std::test::Fail;
@@ -80,7 +80,7 @@ pub fn run(rt: &HostRuntime, arguments: &[&str], input: &[u8], devices: Devices)
         devices.errors_fail,
     )));
     let status = run_program(
-        rt,
+        &mut ProcessHost::new(rt, rt.alloc()),
         rt.alloc(),
         arguments,
         &mut reader,

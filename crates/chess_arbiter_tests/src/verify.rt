@@ -4,7 +4,7 @@ use crate::collection::COLLECTION;
 use crate::readers::{Parts, Spaces, run_on};
 use crate::runs::{Devices, SOUND, Wanted, check_output, is_equal};
 use byte_devices::{Counted, GatedWriter};
-use chess_arbiter::{Log, run_program};
+use chess_arbiter::{Log, ProcessHost, run_program};
 use std::cell::Cell;
 use std::process::Abort;
 
@@ -91,7 +91,7 @@ fn lines_on_games_are_flushed(rt: HostRuntime) {
     let mut output = Counted::writing(GatedWriter::new(rt.alloc(), &open));
     let mut errors = Log::new(Counted::writing(Vec::<u8>::new(rt.alloc())));
     let status = run_program(
-        &rt,
+        &mut ProcessHost::new(&rt, rt.alloc()),
         rt.alloc(),
         &["verify"],
         &mut input,

@@ -4,7 +4,7 @@ use anyhow::Result;
 use arbiter_cli::{Plan, read_words};
 use byte_devices::{Counted, Input, Output};
 use cecp_engine::{Clocks, EngineLine, Features, Level, next_item, read_engine_line};
-use chess_arbiter::run_program;
+use chess_arbiter::{ProcessHost, run_program};
 use chess_base::{Colour, Position};
 use chess_cecp::{End, Session, run_session, serve_lines};
 use chess_game::Game;
@@ -129,7 +129,15 @@ fn program(rt: &HostRuntime, alloc: Global) -> u8 {
     let mut input = Counted::reading(b"1. e4 *".as_slice());
     let mut output = Counted::writing(Vec::<u8>::new(alloc));
     let mut errors = Log::new(Counted::writing(Vec::<u8>::new(alloc)));
-    let status = run_program(rt, alloc, &["verify"], &mut input, &mut output, &mut errors);
+    let mut host = ProcessHost::new(rt, alloc);
+    let status = run_program(
+        &mut host,
+        alloc,
+        &["verify"],
+        &mut input,
+        &mut output,
+        &mut errors,
+    );
     status
 }
 

@@ -1,0 +1,22 @@
+-- Only in a match steps pass at the host (HostSteps.steps_of).
+use Rattle.std.proofs.Common.{rules, [], Ok, refl}
+use Rattle.chess_arbiter.proofs.HostSteps.{steps_none, steps_of}
+use Rattle.chess_arbiter.proofs.program.run_program.Goals as goal
+
+pub returns-in-Err : goal.returns-in-Err
+returns-in-Err g c = ([], steps_none _, search rules)
+
+pub returns-in-Session : goal.returns-in-Session
+returns-in-Session g c = ([], steps_none _, search rules)
+
+pub returns-in-Verify : goal.returns-in-Verify
+returns-in-Verify g c = ([], steps_none _, search rules)
+
+pub returns-in-Stub : goal.returns-in-Stub
+returns-in-Stub g c = ([], steps_none _, search rules)
+
+pub returns-in-Match : goal.returns-in-Match
+returns-in-Match g c =
+    let (played, logged, plays, is, stays) = c.matched.ensures in
+    let (steps, passes, alone) = steps_of c.in-Match.plan played _ _ _ _ plays in
+    (steps, passes, (Ok c.in-Ok.plan, c.in-Ok.ensures, rw c.in-Match.is (refl, (played, logged, alone, is, stays))))
