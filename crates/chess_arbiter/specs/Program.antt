@@ -24,7 +24,7 @@ use Rattle.pgn_verifier.specs.declared.tally.Verified.{Verified}
 use Rattle.pgn_verifier.specs.declared.tally.Verified.TheVariants.{EachGame}
 use Rattle.pgn_verifier.specs.Collection.{VerifiesCollection}
 use Rattle.pgn_verifier.specs.Verify.{Verifies}
-use Rattle.match_runner.specs.GamesTable.{HostPassing, HostStep, PlaysGamesWith}
+use Rattle.match_runner.specs.GamesTable.{HostStep, PlaysGamesWith}
 use Rattle.match_runner.specs.declared.fault.GamesFault.{GamesFault}
 use Rattle.match_runner.specs.Log.{LogSeen}
 use Rattle.stub_engine.specs.Stub.{stub_response, waiting}
@@ -86,10 +86,6 @@ pub record Surroundings : Type 0 where
   -- its error output, as the log of a match
   pub errors : LogSeen
 
--- what contracts see of a host at which just these steps have passed so far, in this order
-abbrev pub HavePassed : List HostStep → HostPassing
-HavePassed steps = λ passed. passed ≡ steps
-
 -- the program did what its plan says; or there is no plan (`Err`): the arguments ask for help or for the version, are
 -- invalid, or memory ran out. `s` and `s'` are what it works with before and after, `steps` are the steps that passed
 -- at its host, and `status` is its exit status. Only the host starts engines and has a clock. There are steps only in a
@@ -116,7 +112,7 @@ Does (Ok (Stub arguments)) s s' steps status =
 -- it stays so; with status 1 more may be written to it, and of its state at the end nothing is said
 Does (Ok (Match plan)) s s' steps status = (s'.devices.input ≡ s.devices.input)
     × ((result : Result (Unit {0}) GamesFault) × (logged : LogSeen)
-    × PlaysGamesWith plan result (HavePassed []) (HavePassed steps)
+    × PlaysGamesWith plan result steps
     (record { output = s.devices.output; log = s.errors }) (record { output = s'.devices.output; log = logged })
     × (status ≡ status_of result) × (status ≡ 0 → s'.errors ≡ logged))
 -- no plan: nothing of the input is read; what is written is as `ReportsArguments` says

@@ -203,8 +203,8 @@ fn matched<H: Host, W: Output, E: Output>(
     output: &mut W,
     log: &mut Log<E>,
 ) -> u8
-    ensures { (λ (l l' : LogSeen). (played : Result (Unit {0}) GamesFault) × (logged : LogSeen)
-        × PlaysGamesWith plan.now played (H.passed host.old) (H.passed host.new)
+    ensures { (λ (l l' : LogSeen). (steps : List HostStep) × StepsPass (H.passed host.old) (H.passed host.new) steps
+        × (played : Result (Unit {0}) GamesFault) × (logged : LogSeen) × PlaysGamesWith plan.now played steps
         (record { output = W.seen output.old; log = l }) (record { output = W.seen output.new; log = logged })
         × (result ≡ status_of played) × (result ≡ 0 → l' ≡ logged))
         (record { output = E.seen log.old.output; broken = log.old.broken })

@@ -1,6 +1,6 @@
--- Only in a match steps pass at the host (HostSteps.steps_of).
+-- Only in a match steps pass at the host.
 use Rattle.std.proofs.Common.{rules, [], Ok, refl}
-use Rattle.chess_arbiter.proofs.HostSteps.{steps_none, steps_of}
+use Rattle.chess_arbiter.proofs.HostSteps.{steps_none}
 use Rattle.chess_arbiter.proofs.program.run_program.Goals as goal
 
 pub returns-in-Err : goal.returns-in-Err
@@ -17,6 +17,5 @@ returns-in-Stub g c = ([], steps_none _, search rules)
 
 pub returns-in-Match : goal.returns-in-Match
 returns-in-Match g c =
-    let (played, logged, plays, is, stays) = c.matched.ensures in
-    let (steps, passes, alone) = steps_of c.in-Match.plan played _ _ _ _ plays in
-    (steps, passes, (Ok c.in-Ok.plan, c.in-Ok.ensures, rw c.in-Match.is (refl, (played, logged, alone, is, stays))))
+    let (steps, passes, played, logged, plays, is, stays) = c.matched.ensures in
+    (steps, passes, (Ok c.in-Ok.plan, c.in-Ok.ensures, rw c.in-Match.is (refl, (played, logged, plays, is, stays))))
