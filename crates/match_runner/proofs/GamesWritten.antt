@@ -27,8 +27,8 @@ use Rattle.chess_match.specs.declared.run.MatchEnd.{MatchEnd}
 use Rattle.chess_pgn.specs.GameText.{pgn}
 use Rattle.chess_pgn.specs.declared.tags.Tags.{Tags}
 use Rattle.match_runner.specs.Games.{AreAllGames, GameRecord, IsOfPlan, IsStartFault, LogsGame, LogsGames, PlaysGames, FaultlessGames, count_of, engine_command, first_side, game_log, game_text, game_texts, killed_lines, none_killed, score_line, tags_of}
-use Rattle.match_runner.specs.GamesTable.{Finishes, GamesPassing, GamesStep, Outputs, Plays, StartFails, Starts, StepsPass, PlaysGamesAt, WriteFails, Writes, game_steps, games_steps, unstarted_steps, unwritten_steps}
-use Rattle.match_runner.specs.ties.Playing.{FailsToStart, HasPlayed, PlayedGame, logged_side, no_score, plus, score_after, score_of, score_text}
+use Rattle.match_runner.specs.GamesTable.{AreFresh, AtHost, BeginsAt, ComeInTurn, Finishes, GamesPassing, GamesStep, HostPassing, Outputs, Plays, StartFails, Starts, StepsPass, PlaysGamesAt, PlaysGamesWith, WriteFails, Writes, games_steps, steps_by, unstarted_steps}
+use Rattle.match_runner.specs.ties.Playing.{FailsToStart, HasPlayed, PlayedGame, clock_after, logged_side, no_score, plus, score_after, score_of, score_text}
 use Rattle.match_runner.specs.Log.{LogSeen, Logged, log_from}
 use Rattle.match_runner.proofs.Logged.{logged_more, logs_none}
 use Rattle.match_runner.specs.declared.fault.GamesFault.{GamesFault}
@@ -79,15 +79,15 @@ plan_fault plan number _ h = h
 
 -- ---- steps
 
-steps_none : (p : GamesPassing) → StepsPass p p []
-steps_none p = record {
-  extends = λ before h. subst (λ (K : List GamesStep). p K) (sym (append-nil before)) h;
+pub steps_none : {S : Type 0} (p : List S → Type 0) → StepsPass p p []
+steps_none {S} p = record {
+  extends = λ before h. subst (λ (K : List S). p K) (sym (append-nil before)) h;
 }
 
-pub steps_more : (p p' p'' : GamesPassing) (K J : List GamesStep) → StepsPass p p' K → StepsPass p' p'' J
+pub steps_more : {S : Type 0} (p p' p'' : List S → Type 0) (K J : List S) → StepsPass p p' K → StepsPass p' p'' J
     → StepsPass p p'' (K ++ J)
-steps_more p p' p'' K J h k = record {
-  extends = λ before x. subst (λ (all : List GamesStep). p'' all) (append_assoc before K J)
+steps_more {S} p p' p'' K J h k = record {
+  extends = λ before x. subst (λ (all : List S). p'' all) (append_assoc before K J)
       (k.extends (before ++ K) (h.extends before x));
 }
 
@@ -99,13 +99,18 @@ logs_if : (asked : Bool) (first : Colour) (l l' : LogSeen) (notes : List Note)
 logs_if false first l l' notes h = subst (λ (v : LogSeen). Logged l v []) (sym h) (logs_none l)
 logs_if true first l l' notes h = h
 
-module _ (plan : GamesPlan) (number : ℕ) (p p1 p2 p3 p4 : GamesPassing) (w w' : OutputState) (l l' l'' : LogSeen)
-    (white black : List ℕ) (first : Option Colour) (played : GameRecord) (tags : Tags)
+module _ (plan : GamesPlan) (number : ℕ) (c c1 c3 c4 : ℕ → Option ℕ) (p p1 p2 p3 p4 : GamesPassing)
+    (w w' : OutputState) (l l' l'' : LogSeen)
+    (white black : List ℕ) (limit : Option ℕ) (first : Option Colour) (played : GameRecord) (tags : Tags)
     (for_white : white ≡ engine_command plan number White) (for_black : black ≡ engine_command plan number Black)
     (side : first ≡ logged_side plan number) (tagged : tags ≡ tags_of plan number played.end)
-    (starts : StepsPass p p1 (Starts white black ∷ [])) (log : LogsGame first l l' played.notes)
+    (limited : limit ≡ plan.patience.reply)
+    (starts : StepsPass p p1 (AtHost (Starts white black limit played.before.engines) ∷ []))
+    (fresh : (S : Colour) → AreFresh (played.before.engines S)) (kept : c1 ≡ c) (began : played.before.coming ≡ c1)
+    (log : LogsGame first l l' played.notes)
     (plays : StepsPass p1 p2 (Plays (record played { killed = none_killed }) ∷ []))
-    (finishes : StepsPass p3 p4 (Finishes played.killed ∷ []))
+    (finishes : StepsPass p3 p4 (AtHost (Finishes played.after.engines limit played.killed) ∷ []))
+    (rested : c3 ≡ played.after.coming) (left : c4 ≡ c3)
     (kills : Logged l' l'' (killed_lines number played.killed)) where
   tagged_text : pgn [] tags played.after.game.state ≡ game_text plan number played
   tagged_text = ap (λ (t : Tags). pgn [] t played.after.game.state) tagged
@@ -116,23 +121,24 @@ module _ (plan : GamesPlan) (number : ℕ) (p p1 p2 p3 p4 : GamesPassing) (w w' 
       (logs_if plan.log (first_side number) l l' played.notes
       (subst (λ (f : Option Colour). LogsGame f l l' played.notes) side log)) kills
 
+  begins : BeginsAt c played
+  begins = (fresh, began ∙ kept)
+
   all_steps : (write : List ℕ → GamesStep) → StepsPass p2 p3 (write (pgn [] tags played.after.game.state) ∷ [])
-      → StepsPass p p4 (Starts (engine_command plan number White) (engine_command plan number Black)
-      ∷ Plays (record played { killed = none_killed }) ∷ write (game_text plan number played)
-      ∷ Finishes played.killed ∷ [])
+      → StepsPass p p4 (steps_by write plan number played)
   all_steps write writes =
-      rw (← tagged_text, ← for_white, ← for_black) (
-      steps_more p p1 p4 (Starts white black ∷ [])
-      (Plays (record played { killed = none_killed }) ∷ write (pgn [] tags played.after.game.state)
-      ∷ Finishes played.killed ∷ []) starts
-      (steps_more p1 p2 p4 (Plays (record played { killed = none_killed }) ∷ [])
-      (write (pgn [] tags played.after.game.state) ∷ Finishes played.killed ∷ []) plays
-      (steps_more p2 p3 p4 (write (pgn [] tags played.after.game.state) ∷ []) (Finishes played.killed ∷ []) writes
-      finishes)))
+      let start = AtHost (Starts white black limit played.before.engines) in
+      let play = Plays (record played { killed = none_killed }) in
+      let text = write (pgn [] tags played.after.game.state) in
+      let finish = AtHost (Finishes played.after.engines limit played.killed) in
+      rw (← tagged_text, ← for_white, ← for_black, ← limited) (
+      steps_more p p1 p4 (start ∷ []) (play ∷ text ∷ finish ∷ []) starts
+      (steps_more p1 p2 p4 (play ∷ []) (text ∷ finish ∷ []) plays
+      (steps_more p2 p3 p4 (text ∷ []) (finish ∷ []) writes finishes)))
 
   pub was_written : IsOfPlan plan played → Sent w w' (pgn [] tags played.after.game.state)
       → StepsPass p2 p3 (Writes (pgn [] tags played.after.game.state) ∷ [])
-      → PlayedGame plan number p p4 w w' l l'' (Ok played.end)
+      → PlayedGame plan number c c4 p p4 w w' l l'' (Ok played.end)
   was_written of sent writes = (
     played,
     refl,
@@ -140,30 +146,36 @@ module _ (plan : GamesPlan) (number : ℕ) (p p1 p2 p3 p4 : GamesPassing) (w w' 
     subst (λ (t : List ℕ). Sent w w' t) tagged_text sent,
     logs,
     all_steps Writes writes,
+    begins,
+    left ∙ rested,
   )
 
   pub was_not_written : IsOfPlan plan played → CutShort w w' (pgn [] tags played.after.game.state)
       → StepsPass p2 p3 (WriteFails (pgn [] tags played.after.game.state) ∷ [])
-      → PlayedGame plan number p p4 w w' l l'' (Err WriteFailed)
+      → PlayedGame plan number c c4 p p4 w w' l l'' (Err WriteFailed)
   was_not_written of breaks fails = (
     played,
     of,
     subst (λ (t : List ℕ). CutShort w w' t) tagged_text breaks,
     logs,
     all_steps WriteFails fails,
+    begins,
   )
 
 -- the engines could not be started
-pub was_not_started : (plan : GamesPlan) (number : ℕ) (p p' : GamesPassing) (w : OutputState) (l : LogSeen)
-    (white black : List ℕ) (fault : GamesFault) → white ≡ engine_command plan number White
-    → black ≡ engine_command plan number Black → IsStartFault white black fault
-    → StepsPass p p' (StartFails white black ∷ []) → PlayedGame plan number p p' w w l l (Err fault)
-was_not_started plan number p p' w l white black fault for_white for_black is steps =
+pub was_not_started : (plan : GamesPlan) (number : ℕ) (c c' : ℕ → Option ℕ) (p p' : GamesPassing) (w : OutputState)
+    (l : LogSeen) (white black : List ℕ) (limit : Option ℕ) (fault : GamesFault)
+    → white ≡ engine_command plan number White
+    → black ≡ engine_command plan number Black → limit ≡ plan.patience.reply → IsStartFault white black fault
+    → StepsPass p p' (AtHost (StartFails white black limit) ∷ [])
+    → PlayedGame plan number c c' p p' w w l l (Err fault)
+was_not_started plan number c c' p p' w l white black limit fault for_white for_black limited is steps =
     at fault
-    (plan_fault plan number fault (rw (← for_white, ← for_black) is)) (rw (← for_white, ← for_black) steps)
+    (plan_fault plan number fault (rw (← for_white, ← for_black) is))
+    (rw (← for_white, ← for_black, ← limited) steps)
   where
     at : (f : GamesFault) → IsStartFault plan.white.now plan.black.now f
-        → StepsPass p p' (unstarted_steps plan number) → PlayedGame plan number p p' w w l l (Err f)
+        → StepsPass p p' (unstarted_steps plan number) → PlayedGame plan number c c' p p' w w l l (Err f)
     at NoMemory h k = (h, refl, refl, k)
     at (CanNotStart command) h k = (h, refl, refl, k)
     at _ h k = absurd (cc)
@@ -205,8 +217,20 @@ texts_more plan games g = joined_more (λ x. game_text plan x.0 x.1) games g
 -- ---- steps of games
 
 games_steps_more : (plan : GamesPlan) (games : List GameRecord) (g : GameRecord)
-    → games_steps plan (games ++ g ∷ []) ≡ games_steps plan games ++ game_steps plan (1 + length games) g
-games_steps_more plan games g = joined_more (λ x. game_steps plan x.0 x.1) games g
+    → games_steps plan (games ++ g ∷ []) ≡ games_steps plan games ++ steps_by Writes plan (1 + length games) g
+games_steps_more plan games g = joined_more (λ x. steps_by Writes plan x.0 x.1) games g
+
+-- ---- the clock
+
+turn_more : (c : ℕ → Option ℕ) (games : List GameRecord) (g : GameRecord) → ComeInTurn c games
+    → BeginsAt (clock_after c games) g → ComeInTurn c (games ++ g ∷ [])
+turn_more c [] g h begins = (begins, tt)
+turn_more c (x ∷ games) g (first, h) begins = (first, turn_more x.after.coming games g h begins)
+
+clock_more : (c : ℕ → Option ℕ) (games : List GameRecord) (g : GameRecord)
+    → clock_after c (games ++ g ∷ []) ≡ g.after.coming
+clock_more c [] g = refl
+clock_more c (x ∷ games) g = clock_more x.after.coming games g
 
 -- ---- the score
 
@@ -264,8 +288,8 @@ sound_more plan (x ∷ games) g h of none = (h.0, sound_more plan games g h.1 of
 -- ---- so far
 
 -- games without a fault were played, written and logged
-pub record SoFar (plan : GamesPlan) (p p' : GamesPassing) (w w' : OutputState) (l l' : LogSeen) (number : ℕ)
-    (score : Score) (games : List GameRecord) : Type 0
+pub record SoFar (plan : GamesPlan) (c c' : ℕ → Option ℕ) (p p' : GamesPassing) (w w' : OutputState) (l l' : LogSeen)
+    (number : ℕ) (score : Score) (games : List GameRecord) : Type 0
   where
     pub games_sound : FaultlessGames plan games
     pub numbered : number ≡ 1 + length games
@@ -274,10 +298,12 @@ pub record SoFar (plan : GamesPlan) (p p' : GamesPassing) (w w' : OutputState) (
     pub written : OutputTook w w' (all_for games (game_texts plan games))
     pub logged : LogsGames plan l l' games
     pub passed : StepsPass p p' (games_steps plan games)
+    pub in_turn : ComeInTurn c games
+    pub clock : c' ≡ clock_after c games
 
-pub start : (plan : GamesPlan) (p : GamesPassing) (w : OutputState) (l : LogSeen)
-    → SoFar plan p p w w l l 1 no_score []
-start plan p w l = record {
+pub start : (plan : GamesPlan) (c : ℕ → Option ℕ) (p : GamesPassing) (w : OutputState) (l : LogSeen)
+    → SoFar plan c c p p w w l l 1 no_score []
+start plan c p w l = record {
   games_sound = tt;
   numbered = omega arith;
   few = omega arith;
@@ -285,10 +311,13 @@ start plan p w l = record {
   written = took_nothing w;
   logged = logs_none l;
   passed = steps_none p;
+  in_turn = tt;
+  clock = refl;
 }
 
-module _ (plan : GamesPlan) (p p' p'' : GamesPassing) (w w' w'' : OutputState) (l l' l'' : LogSeen) (number : ℕ)
-    (score : Score) (games : List GameRecord) (s : SoFar plan p p' w w' l l' number score games) where
+module _ (plan : GamesPlan) (c c' c'' : ℕ → Option ℕ) (p p' p'' : GamesPassing) (w w' w'' : OutputState)
+    (l l' l'' : LogSeen) (number : ℕ) (score : Score) (games : List GameRecord)
+    (s : SoFar plan c c' p p' w w' l l' number score games) where
   logged_on : (g : GameRecord) → Logged l' l'' (game_log plan number g) → LogsGames plan l l'' (games ++ g ∷ [])
   logged_on g log =
       logs_more plan l l' l'' games g s.logged (subst (λ n. Logged l' l'' (game_log plan n g)) s.numbered log)
@@ -300,12 +329,16 @@ module _ (plan : GamesPlan) (p p' p'' : GamesPassing) (w w' w'' : OutputState) (
       (game_text plan (1 + length games) g) s.written
       (subst (λ n. Sent w' w'' (game_text plan n g)) s.numbered sent))
 
-  passed_more : (g : GameRecord) → StepsPass p' p'' (game_steps plan number g)
+  turns_on : (g : GameRecord) → BeginsAt c' g → ComeInTurn c (games ++ g ∷ [])
+  turns_on g begins =
+      turn_more c games g s.in_turn (subst (λ (k : ℕ → Option ℕ). BeginsAt k g) s.clock begins)
+
+  passed_more : (g : GameRecord) → StepsPass p' p'' (steps_by Writes plan number g)
       → StepsPass p p'' (games_steps plan (games ++ g ∷ []))
   passed_more g steps =
       rw (games_steps_more plan games g) (steps_more p p' p'' (games_steps plan games)
-      (game_steps plan (1 + length games) g) s.passed
-      (subst (λ n. StepsPass p' p'' (game_steps plan n g)) s.numbered steps))
+      (steps_by Writes plan (1 + length games) g) s.passed
+      (subst (λ n. StepsPass p' p'' (steps_by Writes plan n g)) s.numbered steps))
 
   counted_more : (g : GameRecord) → number ≤ 65535
       → score_after (first_side number) g.end.outcome score ≡ score_of (games ++ g ∷ [])
@@ -317,10 +350,10 @@ module _ (plan : GamesPlan) (p p' p'' : GamesPassing) (w w' w'' : OutputState) (
 
   pub one_more : (g : GameRecord) → number ≤ plan.games → number ≤ 65535 → IsOfPlan plan g → g.end.fault ≡ None
       → Sent w' w'' (game_text plan number g) → Logged l' l'' (game_log plan number g)
-      → StepsPass p' p'' (game_steps plan number g)
-      → SoFar plan p p'' w w'' l l'' (number + 1) (score_after (first_side number) g.end.outcome score)
+      → StepsPass p' p'' (steps_by Writes plan number g) → BeginsAt c' g → c'' ≡ g.after.coming
+      → SoFar plan c c'' p p'' w w'' l l'' (number + 1) (score_after (first_side number) g.end.outcome score)
       (games ++ g ∷ [])
-  one_more g le small of none sent log steps =
+  one_more g le small of none sent log steps begins rests =
       let n = s.numbered in
       let longer = length-append games (g ∷ []) in
       record {
@@ -331,15 +364,17 @@ module _ (plan : GamesPlan) (p p' p'' : GamesPassing) (w w' w'' : OutputState) (
         written = written_more g sent;
         logged = logged_on g log;
         passed = passed_more g steps;
+        in_turn = turns_on g begins;
+        clock = rests ∙ sym (clock_more c games g);
       }
 
   pub with_fault : (g : GameRecord) (side : Colour) (fault : MatchFault) → number ≤ plan.games → number ≤ 65535
       → IsOfPlan plan g
       → g.end.fault ≡ Some (side, fault) → Sent w' w'' (game_text plan number g)
-      → Logged l' l'' (game_log plan number g) → StepsPass p' p'' (game_steps plan number g)
-      → HasPlayed plan p p'' w w'' l l''
+      → Logged l' l'' (game_log plan number g) → StepsPass p' p'' (steps_by Writes plan number g) → BeginsAt c' g
+      → HasPlayed plan c p p'' w w'' l l''
       (Ok (record { score = score_after (first_side number) g.end.outcome score; fault = Some (number, side, fault) }))
-  with_fault g side fault le small of is sent log steps =
+  with_fault g side fault le small of is sent log steps begins =
       let n = s.numbered in
       let longer = length-append games (g ∷ []) in (
         games ++ g ∷ [],
@@ -348,6 +383,7 @@ module _ (plan : GamesPlan) (p p' p'' : GamesPassing) (w w' w'' : OutputState) (
         written_more g sent,
         logged_on g log,
         passed_more g steps,
+        turns_on g begins,
       )
 
   -- a game that was not written, or not started
@@ -362,9 +398,9 @@ module _ (plan : GamesPlan) (p p' p'' : GamesPassing) (w w' w'' : OutputState) (
   -- a game that was not written
   not_written : (next : GameRecord) → number ≤ plan.games → IsOfPlan plan next
       → CutShort w' w'' (game_text plan number next) → Logged l' l'' (game_log plan number next)
-      → StepsPass p' p'' (unwritten_steps plan number next)
-      → HasPlayed plan p p'' w w'' l l'' (Err WriteFailed)
-  not_written next le of (begun, begins, failing) log steps =
+      → StepsPass p' p'' (steps_by WriteFails plan number next) → BeginsAt c' next
+      → HasPlayed plan c p p'' w w'' l l'' (Err WriteFailed)
+  not_written next le of (begun, begins, failing) log steps turn =
       let n = s.numbered in
       let m : number ≡ length games + 1 = omega (arith, n) in (
         games,
@@ -380,7 +416,8 @@ module _ (plan : GamesPlan) (p p' p'' : GamesPassing) (w w' w'' : OutputState) (
           took_some_more w w' w'' games (game_texts plan games) begun s.written failing,
           logged_on next log,
         ),
-        passed_last (λ n. unwritten_steps plan n next) steps,
+        turns_on next turn,
+        passed_last (λ n. steps_by WriteFails plan n next) steps,
       )
 
   -- an engine that could not be started
@@ -389,7 +426,7 @@ module _ (plan : GamesPlan) (p p' p'' : GamesPassing) (w w' w'' : OutputState) (
       → (games : List GameRecord) × (o : ToOutput)
       × (FaultlessGames plan games × (length games < plan.games)
       × IsStartFault plan.white.now plan.black.now fault × (o ≡ all_for games (game_texts plan games)))
-      × OutputTook w w'' o × LogsGames plan l l'' (games ++ [])
+      × OutputTook w w'' o × LogsGames plan l l'' (games ++ []) × ComeInTurn c (games ++ [])
       × StepsPass p p'' (games_steps plan games ++ unstarted_steps plan (length games + 1))
   not_started fault le is same log steps =
       let n = s.numbered in (
@@ -399,37 +436,40 @@ module _ (plan : GamesPlan) (p p' p'' : GamesPassing) (w w' w'' : OutputState) (
         subst (λ v. OutputTook w v (all_for games (game_texts plan games))) (sym same) s.written,
         subst (LogsGames plan l l'') (sym (append-nil games))
             (subst (λ v. LogsGames plan l v games) (sym log) s.logged),
+        subst (ComeInTurn c) (sym (append-nil games)) s.in_turn,
         passed_last (λ n. unstarted_steps plan n) steps,
       )
 
-  pub broke_off : (fault : GamesFault) → number ≤ plan.games → PlayedGame plan number p' p'' w' w'' l' l'' (Err fault)
-      → HasPlayed plan p p'' w w'' l l'' (Err fault)
-  broke_off WriteFailed le (next, of, breaks, log, steps) = not_written next le of breaks log steps
+  pub broke_off : (fault : GamesFault) → number ≤ plan.games → PlayedGame plan number c' c'' p' p'' w' w'' l' l'' (Err fault)
+      → HasPlayed plan c p p'' w w'' l l'' (Err fault)
+  broke_off WriteFailed le (next, of, breaks, log, steps, turn) = not_written next le of breaks log steps turn
   broke_off (Game k text) le (is, same, log, steps) = absurd (cc)
   broke_off fault le played =
       let (is, same, log, steps) = played in
-      let (games, o, writes, took, logs, passes) = not_started fault le is same log steps in
-      (games, is, (o, writes, took, logs), passes)
+      let (games, o, writes, took, logs, turns, passes) = not_started fault le is same log steps in
+      (games, is, (o, writes, took, logs), turns, passes)
 
-pub all_played : (plan : GamesPlan) (p p' : GamesPassing) (w w' : OutputState) (l l' : LogSeen) (number : ℕ)
-    (score : Score) (games : List GameRecord) → SoFar plan p p' w w' l l' number score games → plan.games < number
-    → HasPlayed plan p p' w w' l l' (Ok (record { score = score; fault = None }))
-all_played plan p p' w w' l l' number score games s past =
+pub all_played : (plan : GamesPlan) (c c' : ℕ → Option ℕ) (p p' : GamesPassing) (w w' : OutputState) (l l' : LogSeen)
+    (number : ℕ) (score : Score) (games : List GameRecord) → SoFar plan c c' p p' w w' l l' number score games
+    → plan.games < number → HasPlayed plan c p p' w w' l l' (Ok (record { score = score; fault = None }))
+all_played plan c c' p p' w w' l l' number score games s past =
     let n = s.numbered in
     let few = s.few in
-    (games, (s.games_sound, omega (arith, n, few, past)), s.counted, s.written, s.logged, s.passed)
+    (games, (s.games_sound, omega (arith, n, few, past)), s.counted, s.written, s.logged, s.passed, s.in_turn)
 
 -- ---- the end of a match
 
 -- what broke off, at the table
-pub broke_at_table : (plan : GamesPlan) (p p' : GamesPassing) (w w' : OutputState) (l l' : LogSeen) (fault : GamesFault)
-    → HasPlayed plan p p' w w' l l' (Err fault) → PlaysGamesAt plan (Err fault) p p' (outputs w l) (outputs w' l')
-broke_at_table plan p p' w w' l l' WriteFailed (games, unwritten, these, steps) = (games, Some unwritten, these, steps)
-broke_at_table plan p p' w w' l l' (Game number text) (games, is, these, steps) = absurd (cc)
-broke_at_table plan p p' w w' l l' _ (games, is, these, steps) = (games, None, these, steps)
+pub broke_at_table : (plan : GamesPlan) (c : ℕ → Option ℕ) (p p' : GamesPassing) (w w' : OutputState) (l l' : LogSeen)
+    (fault : GamesFault) → HasPlayed plan c p p' w w' l l' (Err fault)
+    → PlaysGamesAt plan (Err fault) c p p' (outputs w l) (outputs w' l')
+broke_at_table plan c p p' w w' l l' WriteFailed (games, unwritten, these, turns, steps) =
+    (games, Some unwritten, these, turns, steps)
+broke_at_table plan c p p' w w' l l' (Game number text) (games, is, these, steps) = absurd (cc)
+broke_at_table plan c p p' w w' l l' _ (games, is, these, turns, steps) = (games, None, these, turns, steps)
 
-module _ (plan : GamesPlan) (p p' : GamesPassing) (w w' w'' : OutputState) (l l' : LogSeen) (played : GamesPlayed)
-    (h : HasPlayed plan p p' w w' l l' (Ok played)) where
+module _ (plan : GamesPlan) (c : ℕ → Option ℕ) (p p' : GamesPassing) (w w' w'' : OutputState) (l l' : LogSeen)
+    (played : GamesPlayed) (h : HasPlayed plan c p p' w w' l l' (Ok played)) where
   scored : score_text played.score ≡ score_line h.0
   scored = ap score_text h.2 ∙ score_text_is h.0
 
@@ -446,19 +486,24 @@ module _ (plan : GamesPlan) (p p' : GamesPassing) (w w' w'' : OutputState) (l l'
   steps_all : StepsPass p p' (games_steps plan h.0 ++ [])
   steps_all = subst (StepsPass p p') (sym (append-nil (games_steps plan h.0))) h.5
 
+  -- each came in its turn
+  turns_all : ComeInTurn c (h.0 ++ [])
+  turns_all = subst (ComeInTurn c) (sym (append-nil h.0)) h.6
+
   pub all_written : Sent w' w'' (score_text played.score) → played.fault ≡ None
-      → PlaysGamesAt plan (Ok (tt {0})) p p' (outputs w l) (outputs w'' l')
+      → PlaysGamesAt plan (Ok (tt {0})) c p p' (outputs w l) (outputs w'' l')
   all_written sent none = (
     h.0,
     None,
     (all_of (game_texts plan h.0 ++ score_line h.0), (subst (AreAllGames plan h.0) none h.1, refl), score_sent sent, logs_all),
+    turns_all,
     steps_all,
   )
 
   pub fault_written : (number : ℕ) (side : Colour) (fault : MatchFault) (text : Bor (List ℕ))
       → text.now ≡ comment_of (Faulted side fault)
       → Sent w' w'' (score_text played.score) → played.fault ≡ Some (number, side, fault)
-      → PlaysGamesAt plan (Err (Game number text)) p p' (outputs w l) (outputs w'' l')
+      → PlaysGamesAt plan (Err (Game number text)) c p p' (outputs w l) (outputs w'' l')
   fault_written number side fault text written sent is = (
     h.0,
     None,
@@ -468,11 +513,12 @@ module _ (plan : GamesPlan) (p p' : GamesPassing) (w w' w'' : OutputState) (l l'
       score_sent sent,
       logs_all,
     ),
+    turns_all,
     steps_all,
   )
 
   pub score_broken : CutShort w' w'' (score_text played.score)
-      → PlaysGamesAt plan (Err WriteFailed) p p' (outputs w l) (outputs w'' l')
+      → PlaysGamesAt plan (Err WriteFailed) c p p' (outputs w l) (outputs w'' l')
   score_broken (begun, begins, failing) = (
     h.0,
     None,
@@ -482,13 +528,16 @@ module _ (plan : GamesPlan) (p p' : GamesPassing) (w w' w'' : OutputState) (l l'
       took_some_more w w' w'' h.0 (game_texts plan h.0) begun h.3 failing,
       logs_all,
     ),
+    turns_all,
     steps_all,
   )
 
 -- ---- without the steps
 
--- a match at a table is a match: the steps are dropped
-pub plays_games : (plan : GamesPlan) (result : Result (Unit {0}) GamesFault) (p p' : GamesPassing) (d d' : Outputs)
-    → PlaysGamesAt plan result p p' d d' → PlaysGames plan result d.output d'.output d.log d'.log
-plays_games plan result p p' d d' (games, unwritten, (o, writes, took, logs), steps) =
+-- a match with a host is a match: the steps are dropped
+pub plays_games : (plan : GamesPlan) (result : Result (Unit {0}) GamesFault) (p p' : HostPassing) (d d' : Outputs)
+    → PlaysGamesWith plan result p p' d d' → PlaysGames plan result d.output d'.output d.log d'.log
+plays_games plan result p p' d d' (inl (coming, games, unwritten, (o, writes, took, logs), turns, steps)) =
     inl (games, unwritten, o, writes, took, logs)
+plays_games plan result p p' d d' (inr (none, steps, same)) =
+    inr (none, ap (λ (v : Outputs). v.output) same, ap (λ (v : Outputs). v.log) same)

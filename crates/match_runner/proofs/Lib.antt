@@ -1,4 +1,5 @@
 mod GamesWritten
+mod HostSteps
 mod GameFaults
 mod EntriesRead
 mod Logged

@@ -120,7 +120,8 @@ fn play_game<'a, T: GamesTable, W: Output, E: Output>(
 ) -> Result<MatchEnd, GamesFault<'a>>
     requires limit { (T.game table.old).limit ≡ MOST_MOVES }
     ensures limit { (T.game table.new).limit ≡ MOST_MOVES }
-    ensures played { PlayedGame plan.now number (T.passed table.old) (T.passed table.new)
+    ensures played { PlayedGame plan.now number (T.coming table.old) (T.coming table.new)
+        (T.passed table.old) (T.passed table.new)
         (W.seen output.old) (W.seen output.new)
         (log_seen (E.seen log.old.output) log.old.broken) (log_seen (E.seen log.new.output) log.new.broken)
         result }
@@ -172,7 +173,8 @@ fn play_each<'a, T: GamesTable, W: Output, E: Output>(
     log: &mut Log<E>,
 ) -> Result<GamesPlayed, GamesFault<'a>>
     requires { (T.game table.old).limit ≡ MOST_MOVES }
-    ensures { HasPlayed plan.now (T.passed table.old) (T.passed table.new) (W.seen output.old) (W.seen output.new)
+    ensures { HasPlayed plan.now (T.coming table.old) (T.passed table.old) (T.passed table.new)
+        (W.seen output.old) (W.seen output.new)
         (log_seen (E.seen log.old.output) log.old.broken) (log_seen (E.seen log.new.output) log.new.broken)
         result }
 {

@@ -1,6 +1,6 @@
 //! The pipes of an engine, which are waited for only so long.
 
-ghost use Rattle.std.specs.Prelude.{◌≡◌, ◌≤◌, length, take};
+ghost use Rattle.std.specs.Prelude.{◌≡◌, ◌≤◌, ◌-◌, ◌^◌, length, take};
 
 use crate::moments::SinceStart;
 use byte_devices::{Counted, Input, Output, ReadFault, WriteFault};
@@ -11,15 +11,24 @@ use std::io::{Read, Write};
 use std::os::fd::AsRawFd;
 use std::rt::Clock;
 
+// How often a wait that a signal ended is begun again.
+const MOST_WAITS: u32 = 16;
+
 // Waits until the descriptor is ready for what `events` asks, at most so many milliseconds, and returns whether it is.
-// A signal may end the wait early.
+// One that the system can't wait for counts as ready.
 fn is_ready<S: AsRawFd>(end: &S, events: i16, millis: u64) -> bool {
     let mut fds = [pollfd {
         fd: end.as_raw_fd(),
         events,
         revents: 0,
     }];
-    net::poll(&mut fds, i32::try_from(millis).unwrap_or(i32::MAX)) > 0
+    for _ in 0..MOST_WAITS {
+        let count = net::poll(&mut fds, i32::try_from(millis).unwrap_or(i32::MAX));
+        if count >= 0 {
+            return count > 0;
+        }
+    }
+    true
 }
 
 // How many pieces of an output are still given after the moment until which it is waited for: as many as hold what a
@@ -37,7 +46,16 @@ pub struct EngineOutput<'t, T, S> {
 
 impl<'t, T: Clock, S: Read> EngineOutput<'t, T, S> {
     /// The output that this end of a pipe gives, waited for by this clock.
-    pub fn new(end: S, clock: SinceStart<'t, T>) -> Self {
+    pub fn new(end: S, clock: SinceStart<'t, T>) -> Self
+        ensures { ⟦<Counted<S> as Input>⟧.seen result.pipe
+            ≡ record {
+              known_bytes = S.remaining end;
+              failure_count = 0;
+              end_count = 0;
+              last_len = 0;
+              pieces_left = 2 ^ 64 - 1;
+            } }
+    {
         EngineOutput {
             pipe: Counted::reading(end),
             clock,
@@ -94,7 +112,10 @@ pub struct EngineInput<S> {
 impl<S: Write> EngineInput<S> {
     /// The input that this end of a pipe takes; a write waits for at most `limit` milliseconds, without it as long as
     /// it takes.
-    pub fn new(end: S, limit: Option<u64>) -> Self {
+    pub fn new(end: S, limit: Option<u64>) -> Self
+        ensures { ⟦<Counted<S> as Output>⟧.seen result.pipe
+            ≡ record { known_bytes = S.contents end; failure_count = 0; unflushed = 0 } }
+    {
         EngineInput {
             pipe: Counted::writing(end),
             limit,

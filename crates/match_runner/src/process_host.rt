@@ -1,14 +1,18 @@
 //! Engines that are processes.
 
-ghost use Rattle.std.specs.Prelude.{◌≡◌, ◌≢◌, ◌⊎◌, IfErr, IfOk, None, false};
+ghost use Rattle.std.specs.Prelude.{◌≡◌, ◌≢◌, ◌⊎◌, IfErr, IfOk, None, false, string_bytes};
 ghost use Rattle.std.specs.IoError.{error_kind};
-ghost use Rattle.match_runner.specs.Games.{none_killed};
+ghost use Rattle.chess_base.specs.declared.man.Colour.{Colour};
+ghost use Rattle.chess_match.specs.Run.{engines_of};
+ghost use Rattle.match_runner.specs.Games.{IsStartFault, none_killed};
+ghost use Rattle.match_runner.specs.GamesTable.{AreFresh};
 ghost use Rattle.match_runner.specs.ties.Playing.{FailsToStart};
 
 use crate::fault::GamesFault;
 use crate::host::{Engines, Host};
 use crate::moments::SinceStart;
 use crate::pipes::{EngineInput, EngineOutput};
+use byte_devices::{Input, Output};
 use chess_base::ByColour;
 use chess_match::{Ends, Moments};
 use std::alloc::Global;
@@ -19,17 +23,25 @@ use std::rt::Clock;
 use std::thread;
 use std::time::Duration;
 
-/// A running engine, with this process's ends of its pipes.
+/// A process that runs an engine.
 #[derive(Drop)]
-struct Engine<'t, T, P: OpenProcess + Drop> {
-    pub child: Child<P>,
-    /// What reads its output, and what writes its input.
-    pub ends: Ends<EngineOutput<'t, T, P::Stdout>, EngineInput<P::Stdin>>,
+pub struct Process<P: OpenProcess + Drop> {
+    /// The command by which it was started.
+    command: String,
+    child: Child<P>,
 }
 
-/// Both engines of a game, with this process's ends of their pipes.
+// A running engine, with this process's ends of its pipes.
+#[derive(Drop)]
+struct Engine<'t, R, P: OpenProcess + Drop> {
+    process: Process<P>,
+    // What reads its output, and what writes its input.
+    ends: Ends<EngineOutput<'t, R, P::Stdout>, EngineInput<P::Stdin>>,
+}
+
+// Both engines of a game, with this process's ends of their pipes.
 type BothEngines<'t, R, P> = Engines<
-    ByColour<Child<P>>,
+    ByColour<Process<P>>,
     EngineOutput<'t, R, <P as OpenProcess>::Stdout>,
     EngineInput<<P as OpenProcess>::Stdin>,
 >;
@@ -38,19 +50,22 @@ type BothEngines<'t, R, P> = Engines<
 fn both_of<'t, R, P: OpenProcess + Drop>(
     white: Engine<'t, R, P>,
     black: Engine<'t, R, P>,
-) -> BothEngines<'t, R, P> {
+) -> BothEngines<'t, R, P>
+    ensures processes { result.running ≡ record { white = white.process; black = black.process } }
+    ensures ends { result.ends ≡ record { white = white.ends; black = black.ends } }
+{
     let Engine {
-        child: white_child,
+        process: white_process,
         ends: white_ends,
     } = white;
     let Engine {
-        child: black_child,
+        process: black_process,
         ends: black_ends,
     } = black;
     Engines {
         running: ByColour {
-            white: white_child,
-            black: black_child,
+            white: white_process,
+            black: black_process,
         },
         ends: ByColour {
             white: white_ends,
@@ -125,6 +140,14 @@ fn spawn<'a, R: Processes>(
     }
 }
 
+// A copy of a command's text.
+fn copy_of<'a>(alloc: Global, text: &'a str) -> Result<String, GamesFault<'a>>
+    ensures fails { IfErr result (FailsToStart text.entry.now) }
+    ensures text { IfOk result (λ s. string_bytes s ≡ text.entry.now) }
+{
+    Ok(String::from_str(alloc, text)?)
+}
+
 /// Starts an engine by its command, split at spaces and tabs, with pipes at its input and output; its error output is
 /// that of this process. A name without a slash is looked for on the path. A write to it waits for at most `limit`
 /// milliseconds, if there is a limit.
@@ -136,12 +159,21 @@ fn start<'a, 't, R: Processes + Clock>(
     text: &'a str,
     limit: Option<u64>,
 ) -> Result<Engine<'t, R, R::Started>, GamesFault<'a>>
-    ensures { IfErr result (FailsToStart text.entry.now) }
+where
+    <R::Started as OpenProcess>::Stdout: AsRawFd,
+    <R::Started as OpenProcess>::Stdin: AsRawFd,
+    ensures fails { IfErr result (FailsToStart text.entry.now) }
+    ensures command { IfOk result (λ e. string_bytes e.process.command ≡ text.entry.now) }
+    ensures fresh { IfOk result (λ e. AreFresh (record {
+      input = ⟦<EngineOutput<'t, R, <R::Started as OpenProcess>::Stdout> as Input>⟧.seen e.ends.reader;
+      output = ⟦<EngineInput<<R::Started as OpenProcess>::Stdin> as Output>⟧.seen e.ends.writer;
+    })) }
 {
+    let command = copy_of(host.alloc, text)?;
     let mut child = spawn(host.rt, host.alloc, text)?;
     match (child.stdin.take(), child.stdout.take()) {
         (Some(input), Some(output)) => Ok(Engine {
-            child,
+            process: Process { command, child },
             ends: Ends {
                 reader: EngineOutput::new(output, host.clock.again()),
                 writer: EngineInput::new(input, limit),
@@ -215,15 +247,15 @@ fn end_by<R: Clock, P: OpenProcess>(
 // `end_by` does. Returns whether it was killed.
 fn await_end<'t, R: Clock, P: OpenProcess + Drop>(
     host: &ProcessHost<'t, R>,
-    mut child: Child<P>,
+    mut process: Process<P>,
     reader: EngineOutput<'t, R, P::Stdout>,
     until: Option<u64>,
 ) -> bool
     ensures { until ≡ None → result ≡ false }
 {
-    give_grace(host.rt, &mut child);
+    give_grace(host.rt, &mut process.child);
     drop(reader);
-    end_by(host, &mut child, until)
+    end_by(host, &mut process.child, until)
 }
 
 // The moment when so many milliseconds will have passed by the clock of the match, if there is such a limit.
@@ -243,10 +275,10 @@ fn finish<'t, R: Clock, P: OpenProcess + Drop>(
     engine: Engine<'t, R, P>,
     limit: Option<u64>,
 ) {
-    let Engine { child, ends } = engine;
+    let Engine { process, ends } = engine;
     let Ends { reader, writer } = ends;
     drop(writer);
-    let _ = await_end(host, child, reader, moment_after(host, limit));
+    let _ = await_end(host, process, reader, moment_after(host, limit));
 }
 
 /// Closes the inputs of both engines, and then waits for the end of each as [`finish`] does. Returns which of them were
@@ -260,8 +292,8 @@ fn finish_both<'t, R: Clock, P: OpenProcess + Drop>(
 {
     let Engines { running, ends } = engines;
     let ByColour {
-        white: white_child,
-        black: black_child,
+        white: white_process,
+        black: black_process,
     } = running;
     let ByColour {
         white: white_ends,
@@ -279,8 +311,8 @@ fn finish_both<'t, R: Clock, P: OpenProcess + Drop>(
     drop(black_writer);
     let until = moment_after(host, limit);
     ByColour {
-        white: await_end(host, white_child, white_reader, until),
-        black: await_end(host, black_child, black_reader, until),
+        white: await_end(host, white_process, white_reader, until),
+        black: await_end(host, black_process, black_reader, until),
     }
 }
 
@@ -295,7 +327,15 @@ fn start_both<'a, 't, R: Processes + Clock>(
     black: &'a str,
     limit: Option<u64>,
 ) -> Result<BothEngines<'t, R, R::Started>, GamesFault<'a>>
-    ensures { IfErr result (λ f. FailsToStart white.entry.now f ⊎ FailsToStart black.entry.now f) }
+where
+    <R::Started as OpenProcess>::Stdout: AsRawFd,
+    <R::Started as OpenProcess>::Stdin: AsRawFd,
+    ensures faults { IfErr result (λ f. FailsToStart white.entry.now f ⊎ FailsToStart black.entry.now f) }
+    ensures white_command { IfOk result (λ e. string_bytes e.running.white.command ≡ white.entry.now) }
+    ensures black_command { IfOk result (λ e. string_bytes e.running.black.command ≡ black.entry.now) }
+    ensures fresh { IfOk result (λ e. (S : Colour) → AreFresh (engines_of
+        ⟦<EngineOutput<'t, R, <R::Started as OpenProcess>::Stdout> as Input>⟧.seen
+        ⟦<EngineInput<<R::Started as OpenProcess>::Stdin> as Output>⟧.seen e.ends.white e.ends.black S)) }
 {
     let white_engine = start(host, white, limit)?;
     match start(host, black, limit) {
@@ -312,7 +352,7 @@ where
     <R::Started as OpenProcess>::Stdout: AsRawFd,
     <R::Started as OpenProcess>::Stdin: AsRawFd,
 {
-    type Running = ByColour<Child<R::Started>>;
+    type Running = ByColour<Process<R::Started>>;
 
     type Reader = EngineOutput<'t, R, <R::Started as OpenProcess>::Stdout>;
 
@@ -335,7 +375,14 @@ where
         white: &'a str,
         black: &'a str,
         limit: Option<u64>,
-    ) -> Result<BothEngines<'t, R, R::Started>, GamesFault<'a>> {
+    ) -> Result<BothEngines<'t, R, R::Started>, GamesFault<'a>>
+        ensures fails { IfErr result (IsStartFault white.entry.now black.entry.now) }
+        ensures fresh { IfOk result (λ e. (S : Colour) → AreFresh (engines_of
+            ⟦<EngineOutput<'t, R, <R::Started as OpenProcess>::Stdout> as Input>⟧.seen
+            ⟦<EngineInput<<R::Started as OpenProcess>::Stdin> as Output>⟧.seen e.ends.white e.ends.black S)) }
+        ensures white_command { IfOk result (λ e. string_bytes e.running.white.command ≡ white.entry.now) }
+        ensures black_command { IfOk result (λ e. string_bytes e.running.black.command ≡ black.entry.now) }
+    {
         start_both(self, white, black, limit)
     }
 
@@ -344,7 +391,9 @@ where
         &mut self,
         engines: BothEngines<'t, R, R::Started>,
         limit: Option<u64>,
-    ) -> ByColour<bool> {
+    ) -> ByColour<bool>
+        ensures spared { limit ≡ None → result ≡ none_killed }
+    {
         finish_both(self, engines, limit)
     }
 }

@@ -18,7 +18,7 @@ use Rattle.match_runner.specs.declared.fault.GamesFault.TheVariants.{WriteFailed
 use Rattle.match_runner.specs.declared.games.GamesPlayed.{GamesPlayed}
 use Rattle.match_runner.specs.declared.score.Score.{Score}
 use Rattle.match_runner.specs.Games.{first_side, GameRecord, IsOfPlan, game_text, game_log, IsStartFault, game_texts, LogsGames, WritesGames, count_of, AreAllGames}
-use Rattle.match_runner.specs.GamesTable.{GamesPassing, Outputs, StepsPass, game_steps, unwritten_steps, unstarted_steps, games_steps}
+use Rattle.match_runner.specs.GamesTable.{BeginsAt, ComeInTurn, GamesPassing, Outputs, StepsPass, WriteFails, Writes, games_steps, steps_by, unstarted_steps}
 
 -- ---- the score, as it is counted
 
@@ -69,18 +69,25 @@ FailsToStart command NoMemory = ⊤
 FailsToStart command (CanNotStart c) = c.now ≡ command
 FailsToStart command _ = ⊥
 
+-- what the clock will show after these games, if it would show the moments `coming` before them
+abbrev pub clock_after : (ℕ → Option ℕ) → List GameRecord → ℕ → Option ℕ
+clock_after coming [] = coming
+clock_after coming (played ∷ games) = clock_after played.after.coming games
+
 -- what playing the game of this number does, by its result: its PGN was written and flushed, and the game logged; or
--- only a beginning of the PGN was written; or its engines could not be started. `p` is what may have passed at the
--- table before, `w` and `l` are output and log; `p'`, `w'` and `l'` after
-abbrev pub PlayedGame : GamesPlan → ℕ → GamesPassing → GamesPassing → OutputState → OutputState → LogSeen → LogSeen
-    → Result MatchEnd GamesFault → Type 0
-PlayedGame plan number p p' w w' l l' (Ok end) =
+-- only a beginning of the PGN was written; or its engines could not be started. `c` is what the table's clock would
+-- show before, `p` what may have passed there, `w` and `l` are output and log; `c'`, `p'`, `w'` and `l'` after
+abbrev pub PlayedGame : GamesPlan → ℕ → (ℕ → Option ℕ) → (ℕ → Option ℕ) → GamesPassing → GamesPassing → OutputState
+    → OutputState → LogSeen → LogSeen → Result MatchEnd GamesFault → Type 0
+PlayedGame plan number c c' p p' w w' l l' (Ok end) =
     (played : GameRecord) × (played.end ≡ end) × IsOfPlan plan played × Sent w w' (game_text plan number played)
-    × Logged l l' (game_log plan number played) × StepsPass p p' (game_steps plan number played)
-PlayedGame plan number p p' w w' l l' (Err WriteFailed) =
+    × Logged l l' (game_log plan number played) × StepsPass p p' (steps_by Writes plan number played)
+    × BeginsAt c played × (c' ≡ played.after.coming)
+PlayedGame plan number c c' p p' w w' l l' (Err WriteFailed) =
     (played : GameRecord) × IsOfPlan plan played × CutShort w w' (game_text plan number played)
-    × Logged l l' (game_log plan number played) × StepsPass p p' (unwritten_steps plan number played)
-PlayedGame plan number p p' w w' l l' (Err fault) =
+    × Logged l l' (game_log plan number played) × StepsPass p p' (steps_by WriteFails plan number played)
+    × BeginsAt c played
+PlayedGame plan number c c' p p' w w' l l' (Err fault) =
     IsStartFault plan.white.now plan.black.now fault × (w' ≡ w) × (l' ≡ l)
     × StepsPass p p' (unstarted_steps plan number)
 
@@ -93,19 +100,21 @@ PlaysThese plan result games unwritten d d' =
     × LogsGames plan d.log d'.log (games ++ option_to_list unwritten)
 
 -- what playing the games of a match does, by its result: each was written and logged, and the score counts them, up to
--- and with one that has a fault; or the match broke off in a game or at its start. `p` is what may have passed at the
--- table before, `w` and `l` are output and log; `p'`, `w'` and `l'` after
-abbrev pub HasPlayed : GamesPlan → GamesPassing → GamesPassing → OutputState → OutputState → LogSeen → LogSeen
-    → Result GamesPlayed GamesFault → Type 0
-HasPlayed plan p p' w w' l l' (Ok played) =
+-- and with one that has a fault; or the match broke off in a game or at its start. `c` is what the table's clock would
+-- show before, `p` what may have passed there, `w` and `l` are output and log; `p'`, `w'` and `l'` after
+abbrev pub HasPlayed : GamesPlan → (ℕ → Option ℕ) → GamesPassing → GamesPassing → OutputState → OutputState → LogSeen
+    → LogSeen → Result GamesPlayed GamesFault → Type 0
+HasPlayed plan c p p' w w' l l' (Ok played) =
     (games : List GameRecord) × AreAllGames plan games played.fault × (played.score ≡ score_of games)
     × OutputTook w w' (all_for games (game_texts plan games)) × LogsGames plan l l' games
-    × StepsPass p p' (games_steps plan games)
-HasPlayed plan p p' w w' l l' (Err WriteFailed) = (games : List GameRecord) × (unwritten : GameRecord)
+    × StepsPass p p' (games_steps plan games) × ComeInTurn c games
+HasPlayed plan c p p' w w' l l' (Err WriteFailed) = (games : List GameRecord) × (unwritten : GameRecord)
     × PlaysThese plan (Err WriteFailed) games (Some unwritten)
     (record { output = w; log = l }) (record { output = w'; log = l' })
-    × StepsPass p p' (games_steps plan games ++ unwritten_steps plan (length games + 1) unwritten)
-HasPlayed plan p p' w w' l l' (Err fault) =
+    × ComeInTurn c (games ++ unwritten ∷ [])
+    × StepsPass p p' (games_steps plan games ++ steps_by WriteFails plan (length games + 1) unwritten)
+HasPlayed plan c p p' w w' l l' (Err fault) =
     (games : List GameRecord) × IsStartFault plan.white.now plan.black.now fault
     × PlaysThese plan (Err fault) games None (record { output = w; log = l }) (record { output = w'; log = l' })
+    × ComeInTurn c (games ++ [])
     × StepsPass p p' (games_steps plan games ++ unstarted_steps plan (length games + 1))

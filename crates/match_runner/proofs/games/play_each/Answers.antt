@@ -12,17 +12,21 @@ use Rattle.match_runner.proofs.games.play_each.Goals as goal
 
 pub loop-number-init : goal.loop-number-init
 loop-number-init g c =
+    let t = g.T.GamesTable.coming c.args.table.now in
     let p = g.T.GamesTable.passed c.args.table.now in
     let w = g.W.Output.seen c.args.output.now in
     let l = log_seen (g.E.Output.seen c.args.log.now.output) c.args.log.now.broken in (
       c.requires,
       [],
-      subst (λ (v : Score). SoFar c.args.plan.now p p w w l l 1 v []) (sym c.new-score.ensures)
-          (start c.args.plan.now p w l),
+      subst (λ (v : Score). SoFar c.args.plan.now t t p p w w l l 1 v []) (sym c.new-score.ensures)
+          (start c.args.plan.now t p w l),
     )
 
 pub returns-in_err-end : goal.returns-in_err-end
 returns-in_err-end g c =
+    let t = g.T.GamesTable.coming c.args.table.now in
+    let t' = g.T.GamesTable.coming c.loop-number.table in
+    let t'' = g.T.GamesTable.coming c.play_game.new.table in
     let p = g.T.GamesTable.passed c.args.table.now in
     let w = g.W.Output.seen c.args.output.now in
     let p' = g.T.GamesTable.passed c.loop-number.table in
@@ -35,11 +39,14 @@ returns-in_err-end g c =
     let le : c.loop-number.number + 1 ≤ c.args.plan.now.games =
     (let t = c.loop-number-test.true in let e = c.game_count.ensures.value in omega (arith, t, e)) in
     let e = err_from_is_err_and c.from_residual.result c.from_residual.ensures.1 in
-    rw (e.1, e.2) (broke_off c.args.plan.now p p' p'' w w' w'' l l' l'' (c.loop-number.number + 1) c.loop-number.score
+    rw (e.1, e.2) (broke_off c.args.plan.now t t' t'' p p' p'' w w' w'' l l' l'' (c.loop-number.number + 1) c.loop-number.score
     c.loop-number.invariant.1 c.loop-number.invariant.2 c.in_err-end.field-0.0 le c.in_err-end.ensures.played)
 
 pub returns-in-Some : goal.returns-in-Some
 returns-in-Some g c =
+    let t = g.T.GamesTable.coming c.args.table.now in
+    let t' = g.T.GamesTable.coming c.loop-number.table in
+    let t'' = g.T.GamesTable.coming c.play_game.new.table in
     let plan = c.args.plan.now in
     let p = g.T.GamesTable.passed c.args.table.now in
     let w = g.W.Output.seen c.args.output.now in
@@ -64,14 +71,17 @@ returns-in-Some g c =
     ∙ ap (λ (e : MatchEnd). score_after (first_side number) e.outcome c.loop-number.score) (sym one.1)
     in
     subst (λ (v : Score).
-    HasPlayed plan p p'' w w'' l l'' (Ok (record { score = v; fault = Some (number, c.in-Some.side, c.in-Some.fault) })))
+    HasPlayed plan t p p'' w w'' l l'' (Ok (record { score = v; fault = Some (number, c.in-Some.side, c.in-Some.fault) })))
     (sym counted)
-    (with_fault plan p p' p'' w w' w'' l l' l'' number c.loop-number.score c.loop-number.invariant.1
+    (with_fault plan t t' t'' p p' p'' w w' w'' l l' l'' number c.loop-number.score c.loop-number.invariant.1
     c.loop-number.invariant.2 one.0
-    c.in-Some.side c.in-Some.fault le small one.2 is one.3 one.4 one.5)
+    c.in-Some.side c.in-Some.fault le small one.2 is one.3 one.4 one.5 one.6)
 
 pub loop-number-preserved : goal.loop-number-preserved
 loop-number-preserved g c =
+    let t = g.T.GamesTable.coming c.args.table.now in
+    let t' = g.T.GamesTable.coming c.loop-number.table in
+    let t'' = g.T.GamesTable.coming c.play_game.new.table in
     let plan = c.args.plan.now in
     let p = g.T.GamesTable.passed c.args.table.now in
     let w = g.W.Output.seen c.args.output.now in
@@ -98,9 +108,9 @@ loop-number-preserved g c =
     let games = c.loop-number.invariant.1 ++ one.0 ∷ [] in (
       c.play_game.ensures.limit,
       games,
-      subst (λ (v : Score). SoFar plan p p'' w w'' l l'' (number + 1) v games) (sym counted)
-          (one_more plan p p' p'' w w' w'' l l' l'' number c.loop-number.score c.loop-number.invariant.1
-          c.loop-number.invariant.2 one.0 le small one.2 is one.3 one.4 one.5),
+      subst (λ (v : Score). SoFar plan t t'' p p'' w w'' l l'' (number + 1) v games) (sym counted)
+          (one_more plan t t' t'' p p' p'' w w' w'' l l' l'' number c.loop-number.score c.loop-number.invariant.1
+          c.loop-number.invariant.2 one.0 le small one.2 is one.3 one.4 one.5 one.6 one.7),
     )
 
 pub returns : goal.returns
@@ -109,6 +119,7 @@ returns g c =
     (let t = c.loop-number-test.false in let e = c.game_count.ensures.value in omega (arith, t, e)) in
     let l = log_seen (g.E.Output.seen c.args.log.now.output) c.args.log.now.broken in
     let l' = log_seen (g.E.Output.seen c.loop-number.log.output) c.loop-number.log.broken in
-    all_played c.args.plan.now (g.T.GamesTable.passed c.args.table.now) (g.T.GamesTable.passed c.loop-number.table)
+    all_played c.args.plan.now (g.T.GamesTable.coming c.args.table.now) (g.T.GamesTable.coming c.loop-number.table)
+    (g.T.GamesTable.passed c.args.table.now) (g.T.GamesTable.passed c.loop-number.table)
     (g.W.Output.seen c.args.output.now) (g.W.Output.seen c.loop-number.output) l l'
     (c.loop-number.number + 1) c.loop-number.score c.loop-number.invariant.1 c.loop-number.invariant.2 past

@@ -1,6 +1,6 @@
 -- The steps of a game, one after another (GamesWritten.was_written, was_not_written); or its engines could not be
 -- started (GamesWritten.was_not_started). The match leaves the game its limit (GamesWritten.limit_kept).
-use Rattle.std.proofs.Common.{◌∙◌, ap}
+use Rattle.std.proofs.Common.{◌∙◌, ap, refl}
 use Rattle.chess_game.specs.Game.{Seen}
 use Rattle.chess_match.specs.Played.{World}
 use Rattle.match_runner.proofs.GamesWritten.{limit_kept, was_not_started, was_not_written, was_written}
@@ -13,8 +13,8 @@ returns-in_err-engines-clause-limit g c = ap (λ (v : Seen). v.limit) c.start.en
 pub returns-in_err-engines-clause-played : goal.returns-in_err-engines-clause-played
 returns-in_err-engines-clause-played g c =
     let p = err_from_is_err_and c.from_residual.result c.from_residual.ensures.1 in
-    rw (p.1, p.2) (was_not_started c.args.plan.now c.args.number _ _ _ _ _ _ c.in_err-engines.field-0.0
-    c.command_of.ensures c.command_of-2.ensures c.in_err-engines.ensures.fails c.in_err-engines.ensures.passes)
+    rw (p.1, p.2) (was_not_started c.args.plan.now c.args.number _ _ _ _ _ _ _ _ _ c.in_err-engines.field-0.0
+    c.command_of.ensures c.command_of-2.ensures refl c.in_err-engines.ensures.fails c.in_err-engines.ensures.passes)
 
 pub returns-in-Ok-clause-limit : goal.returns-in-Ok-clause-limit
 returns-in-Ok-clause-limit g c =
@@ -36,10 +36,12 @@ returns-in-Ok-clause-played g c =
       coming = g.T.GamesTable.coming c.play-end.new.self;
       game = g.T.GamesTable.game c.play-end.new.self;
     } in
-    was_written c.args.plan.now c.args.number _ _ _ _ _ _ _ _ _ _ _ _ _
+    was_written c.args.plan.now c.args.number _ _ _ _ _ _ _ _ _ _ _ _ _ _ _ _ _ _
     (record { before = before; after = after; end = c.play-end.result; notes = r.0; killed = c.finish-killed.result })
     c.tags_of-tags.result c.command_of.ensures c.command_of-2.ensures c.logged_side.ensures c.tags_of-tags.ensures
-    c.in_ok-engines.ensures.passes r.1 r.3 c.finish-killed.ensures.passes c.note_killed.ensures
+    refl c.in_ok-engines.ensures.passes c.in_ok-engines.ensures.fresh c.in_ok-engines.ensures.clock refl r.1 r.3
+    c.finish-killed.ensures.passes c.write_game-written.ensures.clock c.finish-killed.ensures.clock
+    c.note_killed.ensures
     (ap (λ (v : Seen). v.limit) c.start.ensures.game ∙ c.requires.limit, c.finish-killed.ensures.spared, r.2)
     c.in-Ok.ensures.sends c.in-Ok.ensures.passes
 
@@ -63,9 +65,11 @@ returns-in-Err-clause-played g c =
       coming = g.T.GamesTable.coming c.play-end.new.self;
       game = g.T.GamesTable.game c.play-end.new.self;
     } in
-    was_not_written c.args.plan.now c.args.number _ _ _ _ _ _ _ _ _ _ _ _ _
+    was_not_written c.args.plan.now c.args.number _ _ _ _ _ _ _ _ _ _ _ _ _ _ _ _ _ _
     (record { before = before; after = after; end = c.play-end.result; notes = r.0; killed = c.finish-killed.result })
     c.tags_of-tags.result c.command_of.ensures c.command_of-2.ensures c.logged_side.ensures c.tags_of-tags.ensures
-    c.in_ok-engines.ensures.passes r.1 r.3 c.finish-killed.ensures.passes c.note_killed.ensures
+    refl c.in_ok-engines.ensures.passes c.in_ok-engines.ensures.fresh c.in_ok-engines.ensures.clock refl r.1 r.3
+    c.finish-killed.ensures.passes c.write_game-written.ensures.clock c.finish-killed.ensures.clock
+    c.note_killed.ensures
     (ap (λ (v : Seen). v.limit) c.start.ensures.game ∙ c.requires.limit, c.finish-killed.ensures.spared, r.2)
     c.in-Err.ensures.sends c.in-Err.ensures.passes

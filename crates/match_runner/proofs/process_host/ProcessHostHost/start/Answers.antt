@@ -1,6 +1,6 @@
 -- The fault is one of the two engines (GamesWritten.start_faults).
 use Rattle.match_runner.proofs.GamesWritten.{start_faults}
-use Rattle.match_runner.proofs.process_table.ProcessTableGamesTable.start.Goals as goal
+use Rattle.match_runner.proofs.process_host.ProcessHostHost.start.Goals as goal
 
 pub returns-clause-fails : goal.returns-clause-fails
-returns-clause-fails g c = start_faults _ _ c.start_both.result c.start_both.ensures
+returns-clause-fails g c = start_faults _ _ c.start_both.result c.start_both.ensures.faults

@@ -1,0 +1,10 @@
+-- The match was played over the engines' ends, and its notes were logged; it is no step of the host.
+use Rattle.std.proofs.Common.{refl}
+use Rattle.chess_match.specs.laws.Laws.{notes_given}
+use Rattle.match_runner.proofs.HostSteps.{table_passes}
+use Rattle.match_runner.proofs.host_table.HostTableGamesTable.play.Goals as goal
+
+pub returns : goal.returns
+returns g c =
+    let r = c.relay.ensures.ran in
+    record { played = (notes_given r.1 r.0, r.2, (r.0, r.1, refl, r.3), table_passes _ _ refl) }
