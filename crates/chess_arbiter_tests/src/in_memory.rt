@@ -229,9 +229,12 @@ const SETUP_LOG: &str =
 const F3_LOG: &str =
     "0 <first : move f2f3\n0 >first : ping 2\n0 <first : pong 2\n0 >second: f2f3\n0 >second: time 1000\n0 >second: otim 1000\n0 >second: go\n";
 
+// What `A` says if its first move is illegal.
+const ILLEGAL: &[u8] = b"feature ping=1 done=1\npong 1\nmove e2e5\n";
+
 // White's move is illegal: White loses, and that is no fault.
 const ILLEGAL_MOVE: MatchRun = MatchRun {
-    a_says: &[b"feature ping=1 done=1\npong 1\nmove e2e5\n"],
+    a_says: &[ILLEGAL],
     b_says: &[READY],
     b_falls_silent: false,
     moments: &[],
@@ -256,6 +259,10 @@ fn an_illegal_move(rt: HostRuntime) -> Result<(), Fail> {
     play_out(&rt, rt.alloc(), &ILLEGAL_MOVE, &ILLEGAL_MOVE_SENT)
 }
 
+// The game that Black loses on time at its first move, and the score.
+const TIME_FORFEIT: &str =
+    "[Event \"CECP match\"]\n[Site \"?\"]\n[Date \"????.??.??\"]\n[Round \"1\"]\n[White \"A\"]\n[Black \"B\"]\n[Result \"1-0\"]\n[Termination \"time forfeit\"]\n\n1. f3 1-0\n\nscore first 1 second 0 drawn 0 unfinished 0\n";
+
 // Black has ten seconds from its turn's opening at 500, and its move comes a millisecond later than that.
 const LATE_MOVE: MatchRun = MatchRun {
     a_says: &[b"feature ping=1 done=1\npong 1\nmove f2f3\npong 2\n"],
@@ -263,7 +270,7 @@ const LATE_MOVE: MatchRun = MatchRun {
     b_falls_silent: false,
     moments: &[0, 0, 0, 0, 0, 0, 0, 500, 10501],
     others: &["--level", "0 0:10 0"],
-    output: "[Event \"CECP match\"]\n[Site \"?\"]\n[Date \"????.??.??\"]\n[Round \"1\"]\n[White \"A\"]\n[Black \"B\"]\n[Result \"1-0\"]\n[Termination \"time forfeit\"]\n\n1. f3 1-0\n\nscore first 1 second 0 drawn 0 unfinished 0\n",
+    output: TIME_FORFEIT,
     log: &[
         SETUP_LOG,
         F3_LOG,
@@ -292,7 +299,7 @@ const SILENCE: MatchRun = MatchRun {
     b_falls_silent: true,
     moments: &[0, 0, 0, 0, 0, 0, 0, 500, 10500, 10501],
     others: &["--level", "0 0:10 0", "--flag"],
-    output: LATE_MOVE.output,
+    output: TIME_FORFEIT,
     log: &[
         SETUP_LOG,
         F3_LOG,
@@ -355,7 +362,7 @@ fn no_engine(rt: HostRuntime) -> Result<(), Fail> {
 
 // `A`, which has Black in the second game, can't be started for it: the first game is written, but no score.
 const NO_SECOND_GAME: MatchRun = MatchRun {
-    a_says: ILLEGAL_MOVE.a_says,
+    a_says: &[ILLEGAL],
     b_says: &[READY, READY],
     b_falls_silent: false,
     moments: &[],
