@@ -3,12 +3,11 @@
 -- the steps of the match, and then for each of them `MayCome`. The clock's moments and what each engine says, in each of
 -- its games, are those given; and from these, the plan and the writes that fail, each game follows (chess_match's law
 -- `OnlyOneMatchOfARun`). Not known is in which waits an engine that falls silent is silent, and when memory runs out.
-use Rattle.std.specs.Prelude.{◌≡◌, ⊤, ◌⊎◌, ℕ, ◌-◌, ◌^◌, List, [], ◌∷◌, ◌++◌, Option, None, Some}
+use Rattle.std.specs.Prelude.{◌≡◌, ⊤, ℕ, ◌-◌, ◌^◌, List, [], ◌∷◌, ◌++◌, Option, None, Some}
 use Rattle.std.specs.List.{count_by, find, flat_map, last_or, slice_get}
 use Rattle.std.specs.Option.{option_and_then, option_map, option_or}
 use Rattle.std.specs.Str.{bytes_eq}
 use Rattle.byte_devices.specs.Transfers.{Devices}
-use Rattle.chess_base.specs.declared.by_colour.ByColour.{ByColour}
 use Rattle.chess_base.specs.declared.man.Colour.TheVariants.{White, Black}
 use Rattle.match_runner.specs.declared.fault.GamesFault.{GamesFault}
 use Rattle.match_runner.specs.declared.fault.GamesFault.TheVariants.{NoMemory, CanNotStart}

@@ -1,9 +1,9 @@
 //! A host over memory, of which all is known.
 
-ghost use Rattle.std.specs.Prelude.{◌≡◌, ◌≢◌, ◌∷◌, ◌++◌, [], IfErr, IfOk, IfSome, Some, None, count_by};
-ghost use Rattle.std.specs.List.{slice_get};
-ghost use Rattle.std.specs.Option.{option_map};
+ghost use Rattle.std.specs.Prelude.{◌≡◌, ◌≢◌, ◌<◌, ◌-◌, ◌^◌, ◌∷◌, ◌++◌, [], ℕ, IfErr, IfOk, IfSome, Some, None, count_by, option_map};
+ghost use Rattle.std.specs.List.{find, slice_get};
 ghost use Rattle.std.specs.Str.{bytes_eq};
+ghost use Rattle.chess_base.specs.declared.man.Colour.{Colour};
 ghost use Rattle.chess_match.specs.Run.{engines_of};
 ghost use Rattle.match_runner.specs.Games.{IsStartFault, none_killed};
 ghost use Rattle.match_runner.specs.GamesTable.{AreFresh, Finishes, OpensClock, StepsPass, starting};
@@ -14,7 +14,7 @@ use crate::host::{Engines, Host};
 use byte_devices::{Counted, Input, Output, SilentAfter};
 use chess_base::ByColour;
 use chess_match::{Ends, Moments};
-use std::alloc::Global;
+use std::alloc::{AllocError, Global};
 
 /// An engine of a [`MemoryHost`].
 #[derive(Clone, Copy)]
@@ -95,21 +95,46 @@ impl<'t> MemoryHost<'t> {
         self.games.as_slice()
     }
 
-    // How many engines with this command were started.
-    fn times_started(&self, command: &str) -> usize
-        ensures { result ≡ count_by (λ c. bytes_eq c command.now) (started_for self.now.games.items) }
+    // For how many games an engine with this command was started as White.
+    fn times_as_white(&self, command: &str) -> usize
+        ensures value { result
+            ≡ count_by (λ g. bytes_eq g.commands.white.now command.now) self.now.games.items }
+        ensures few { result < 2 ^ 63 }
     {
-        let as_white = self
-            .games
+        self.games
             .iter()
             .filter(|game| game.commands.white == command)
-            .count();
-        let as_black = self
-            .games
+            .count()
+    }
+
+    // For how many games an engine with this command was started as Black.
+    fn times_as_black(&self, command: &str) -> usize
+        ensures value { result
+            ≡ count_by (λ g. bytes_eq g.commands.black.now command.now) self.now.games.items }
+        ensures few { result < 2 ^ 63 }
+    {
+        self.games
             .iter()
             .filter(|game| game.commands.black == command)
-            .count();
-        as_white + as_black
+            .count()
+    }
+
+    // How many engines with this command were started.
+    #[tactic(auto, using(crate::proofs::MemorySteps::started_as))]
+    fn times_started(&self, command: &str) -> usize
+        ensures value { result ≡ count_by (λ c. bytes_eq c command.now) (started_for self.now.games.items) }
+        ensures few { result < 2 ^ 64 - 1 }
+    {
+        self.times_as_white(command) + self.times_as_black(command)
+    }
+
+    // The engine with this command.
+    fn engine_of(&self, command: &str) -> Option<&'t MemoryEngine<'t>>
+        ensures engine { option_map (λ e. e.now) result
+            ≡ find (λ e. bytes_eq e.command.now command.now) self.now.engines.now }
+        ensures command { IfSome result (λ e. e.now.command.now ≡ command.now) }
+    {
+        self.engines.iter().find(|engine| engine.command == command)
     }
 
     // The start of the engine with this command, if it was started so many times before; `None` if it can't be started.
@@ -117,16 +142,81 @@ impl<'t> MemoryHost<'t> {
         ensures text { option_map (λ s. s.text.now) result ≡ text_of_start self.now.engines.now command.now times }
         ensures command { IfSome result (λ s. s.command.now ≡ command.now) }
     {
-        let engine = self
-            .engines
-            .iter()
-            .find(|engine| engine.command == command)?;
+        let engine = self.engine_of(command)?;
         let text = engine.outputs.get(times)?;
         Some(Start {
             command: engine.command,
             text,
             silences: if engine.falls_silent { u64::MAX } else { 0 },
         })
+    }
+
+    // The starts of two engines by their commands, White's and Black's.
+    fn starts_of<'a>(
+        &self,
+        white: &'a str,
+        black: &'a str,
+    ) -> Result<ByColour<Start<'t>>, GamesFault<'a>>
+        ensures white_text { IfOk result (λ s. next_text self.now.engines.now (started_for self.now.games.items)
+            white.entry.now ≡ Some s.white.text.now) }
+        ensures black_text { IfOk result (λ s. next_text self.now.engines.now (started_for self.now.games.items
+            ++ white.entry.now ∷ []) black.entry.now ≡ Some s.black.text.now) }
+        ensures white_command { IfOk result (λ s. s.white.command.now ≡ white.entry.now) }
+        ensures black_command { IfOk result (λ s. s.black.command.now ≡ black.entry.now) }
+        ensures cause { IfErr result (IsFaultOfStart white.entry.now black.entry.now
+            (next_text self.now.engines.now (started_for self.now.games.items) white.entry.now)
+            (next_text self.now.engines.now (started_for self.now.games.items ++ white.entry.now ∷ [])
+            black.entry.now)) }
+    {
+        let white_times = self.times_started(white);
+        let black_times = self.times_started(black) + usize::from(white == black);
+        let Some(white_start) = self.start_of(white, white_times) else {
+            return Err(GamesFault::CanNotStart(white));
+        };
+        let Some(black_start) = self.start_of(black, black_times) else {
+            return Err(GamesFault::CanNotStart(black));
+        };
+        Ok(ByColour {
+            white: white_start,
+            black: black_start,
+        })
+    }
+
+    // Notes a game for which engines are started, with room for what they will be sent, and returns its index.
+    fn note_start(&mut self, starts: &ByColour<Start<'t>>) -> Result<usize, AllocError>
+        ensures engines { self.new.engines ≡ self.old.engines }
+        ensures moments { self.new.moments ≡ self.old.moments }
+        ensures noted { IfOk result (λ n. started_for self.new.games.items ≡ started_for self.old.games.items
+            ++ starts.now.white.command.now ∷ starts.now.black.command.now ∷ []) }
+        ensures same { IfErr result (λ e. self.new.games.items ≡ self.old.games.items) }
+    {
+        let number = self.games.len();
+        let game = MemoryGame {
+            commands: ByColour {
+                white: starts.white.command,
+                black: starts.black.command,
+            },
+            sent: ByColour {
+                white: Vec::new(self.alloc),
+                black: Vec::new(self.alloc),
+            },
+        };
+        self.games.push(game).map_err(AllocError::from)?;
+        Ok(number)
+    }
+
+    // Notes what the engines of this game were sent, if there is such a game.
+    fn note_sent(&mut self, number: usize, sent: ByColour<Vec<u8>>)
+        ensures engines { self.new.engines ≡ self.old.engines }
+        ensures moments { self.new.moments ≡ self.old.moments }
+        ensures started { started_for self.new.games.items ≡ started_for self.old.games.items }
+        ensures noted { IfSome (slice_get self.new.games.items number) (λ g. g.sent ≡ sent) }
+        ensures others { (k : ℕ) → k ≢ number
+            → slice_get self.new.games.items k ≡ slice_get self.old.games.items k }
+    {
+        if number < self.games.len() {
+            self.games[number].sent = sent;
+        }
     }
 }
 
@@ -193,33 +283,16 @@ impl<'t> Host for MemoryHost<'t> {
             (next_text self.old.engines.now (started_for self.old.games.items ++ white.entry.now ∷ [])
             black.entry.now)) }
     {
-        let white_times = self.times_started(white);
-        let black_times = self.times_started(black) + usize::from(white == black);
-        let Some(white_start) = self.start_of(white, white_times) else {
-            return Err(GamesFault::CanNotStart(white));
-        };
-        let Some(black_start) = self.start_of(black, black_times) else {
-            return Err(GamesFault::CanNotStart(black));
-        };
-        let running = self.games.len();
-        let game = MemoryGame {
-            commands: ByColour {
-                white: white_start.command,
-                black: black_start.command,
-            },
-            sent: ByColour {
-                white: Vec::new(self.alloc),
-                black: Vec::new(self.alloc),
-            },
-        };
-        if self.games.push(game).is_err() {
+        let starts = self.starts_of(white, black)?;
+        let Ok(running) = self.note_start(&starts) else {
             return Err(GamesFault::NoMemory);
-        }
+        };
+        let ByColour { white, black } = starts;
         Ok(Engines {
             running,
             ends: ByColour {
-                white: white_start.ends(self.alloc),
-                black: black_start.ends(self.alloc),
+                white: white.ends(self.alloc),
+                black: black.ends(self.alloc),
             },
         })
     }
@@ -232,13 +305,13 @@ impl<'t> Host for MemoryHost<'t> {
     ) -> ByColour<bool>
         ensures passes { StepsPass (MayHavePassed self.old) (MayHavePassed self.new) (Finishes (engines_of
             ⟦<SilentAfter<&'t [u8]> as Input>⟧.seen ⟦<Counted<Vec<u8>> as Output>⟧.seen
-            engines.ends.white engines.ends.black) limit result ∷ []) }
+            engines.entry.ends.white engines.entry.ends.black) limit result ∷ []) }
         ensures spared { limit ≡ None → result ≡ none_killed }
-        ensures to_white { IfSome (slice_get self.new.games.items engines.running) (λ g. Some g.sent.white.items
-            ≡ (⟦<Counted<Vec<u8>> as Output>⟧.seen engines.ends.white.writer).known_bytes) }
-        ensures to_black { IfSome (slice_get self.new.games.items engines.running) (λ g. Some g.sent.black.items
-            ≡ (⟦<Counted<Vec<u8>> as Output>⟧.seen engines.ends.black.writer).known_bytes) }
-        ensures others { (k : ℕ) → k ≢ engines.running
+        ensures to_white { IfSome (slice_get self.new.games.items engines.entry.running) (λ g. Some g.sent.white.items
+            ≡ (⟦<Counted<Vec<u8>> as Output>⟧.seen engines.entry.ends.white.writer).known_bytes) }
+        ensures to_black { IfSome (slice_get self.new.games.items engines.entry.running) (λ g. Some g.sent.black.items
+            ≡ (⟦<Counted<Vec<u8>> as Output>⟧.seen engines.entry.ends.black.writer).known_bytes) }
+        ensures others { (k : ℕ) → k ≢ engines.entry.running
             → slice_get self.new.games.items k ≡ slice_get self.old.games.items k }
     {
         let Engines { running, ends } = engines;
@@ -255,9 +328,7 @@ impl<'t> Host for MemoryHost<'t> {
             white: white_writer.into_writer(),
             black: black_writer.into_writer(),
         };
-        if running < self.games.len() {
-            self.games[running].sent = sent;
-        }
+        self.note_sent(running, sent);
         ByColour {
             white: false,
             black: false,
