@@ -33,7 +33,7 @@ use Rattle.chess_match.specs.declared.state.MatchState.{MatchState}
 use Rattle.chess_match.specs.declared.state.Player.{Player}
 use Rattle.chess_match.specs.declared.texts.LastMove.{LastMove}
 use Rattle.chess_match.specs.declared.texts.MoveTexts.{MoveTexts}
-use Rattle.chess_match.specs.ties.Represents.{Goes, Keeps, Represents, after_answers, clocks_of, given_lines, heard, is_unsent, items_to, last_lines, lines_if_to, name_by, nothing_said, offered_core, phase_lines, phase_of, played_core, player, time_used_by}
+use Rattle.chess_match.specs.ties.Represents.{Goes, Keeps, Represents, after_answers, clocks_of, counted, given_lines, is_unsent, items_to, last_lines, lines_if_to, name_by, nothing_said, offered_core, phase_lines, phase_of, played_core, player, time_used_by}
 use Rattle.chess_match.specs.laws.Laws.{items_in_line}
 use Rattle.chess_match.proofs.LineCases.{handshake_by_items}
 use Rattle.chess_match.specs.ties.Texts.{all_sent, AreOfLast, AreTexts}
@@ -302,7 +302,7 @@ reply_kept r core played m moment since waited beyond b s from so_long is h =
 -- a line in a handshake, by its items
 pub shaken_goes : (r : Rules) (core : MatchState) (played : List Move) (given : Actions) (items : Colour → List Item)
     (S : Colour) (kind : LineKind) (moment : ℕ) (m : Match)
-    → Goes r core played given items (handshake_row r S (items_in_line kind) (heard kind moment m))
+    → Goes r core played given items (handshake_row r S (items_in_line kind) (counted kind moment m))
     → Goes r core played given items (line_row r (Handshake S) kind moment m)
 shaken_goes r core played given items S kind moment m h =
     subst (λ (e : Effect). Goes r core played given items e) (sym (handshake_by_items r S kind moment m)) h

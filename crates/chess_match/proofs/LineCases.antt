@@ -32,7 +32,7 @@ use Rattle.chess_match.specs.declared.reason.Reason.TheVariants.{Decided, Claime
 use Rattle.chess_match.specs.declared.reason.Reason.TheVariants as over_by
 use Rattle.chess_match.specs.laws.Laws.{move_said, is_pong, items_in_line}
 use Rattle.chess_match.specs.laws.OfActs.{whose_line}
-use Rattle.chess_match.specs.ties.Represents.{heard}
+use Rattle.chess_match.specs.ties.Represents.{counted}
 use Rattle.chess_game.specs.Ends.{verdict, claims, draw_claim}
 use Rattle.chess_game.specs.Line.{position_after}
 use Rattle.chess_text.specs.Moves.{reading}
@@ -282,7 +282,7 @@ module _ (r : Rules) (S : Colour) (kind : LineKind) (moment : ℕ) (m : Match) (
 
 -- a line in a handshake, by its items
 pub handshake_by_items : (r : Rules) (S : Colour) (kind : LineKind) (moment : ℕ) (m : Match)
-    → line_row r (Handshake S) kind moment m ≡ handshake_row r S (items_in_line kind) (heard kind moment m)
+    → line_row r (Handshake S) kind moment m ≡ handshake_row r S (items_in_line kind) (counted kind moment m)
 handshake_by_items r S (Features text) moment m = refl
 handshake_by_items r S _ moment m = refl
 
@@ -305,7 +305,7 @@ line_cases r S kind moment m Q aw l = at m.phase refl aw
     at : (p : Phase) → m.phase ≡ p → awaits_line p S ≡ true → Q (line_row r p kind moment m)
     at (Handshake c) e h = subst (λ (x : Colour). Q (line_row r (Handshake x) kind moment m))
         (sym (same_colour-true c S h)) (subst Q (sym (handshake_by_items r S kind moment m))
-        (handshake r S kind moment (heard kind moment m) Q (l (heard kind moment m).since)
+        (handshake r S kind moment (counted kind moment m) Q (l (counted kind moment m).since)
         (here m.phase c Handshake e h)))
     at (Setup c) e h = subst (λ (x : Colour). Q (line_row r (Setup x) kind moment m)) (sym (same_colour-true c S h))
         (setup (here m.phase c Setup e h))
@@ -364,5 +364,5 @@ silence_cases r S moment m Q l = at m.phase refl
         (λ timely. l.goes_on m.since)
     at (Setup side) e = owed NoAnswer (λ O. refl)
     at (AfterMove side) e = owed NoAnswer (λ O. refl)
-    at (Opening side) e = owed NoAnswer (λ O. refl)
-    at (Over reason) e = owed NoAnswer (λ O. refl)
+    at (Opening side) e = l.goes_on m.since
+    at (Over reason) e = l.goes_on m.since

@@ -1,6 +1,6 @@
 -- There is only one match of a run whose devices show all.
 use mathlib.Core.Bool.{or-true}
-use Rattle.std.proofs.Common.{◌≡◌, ℕ, ◌+◌, ◌<◌, ◌≤◌, ◌^◌, ◌-◌, zero, suc, ◌||◌, ◌⊎◌, inl, inr, min, Bool, true, false, List, [], ◌∷◌, ◌++◌, length, length-append, refl, ap, sym, ◌∙◌, Option, None, Some, arith}
+use Rattle.std.proofs.Common.{◌≡◌, ℕ, ◌+◌, ◌<◌, ◌≤◌, ◌^◌, ◌-◌, zero, suc, ◌||◌, ◌⊎◌, inl, inr, Bool, true, false, List, [], ◌∷◌, ◌++◌, length, length-append, refl, ap, sym, ◌∙◌, Option, None, Some, arith}
 use Rattle.std.specs.Prelude.{if◌then◌else◌, is_some, nat_lt, slice_get}
 use Rattle.std.specs.Option.{IfSome}
 use Rattle.std.specs.Io.KnownBytes.{Appends, Consumes}
@@ -70,24 +70,23 @@ one_taken None new a b h x y = cc
 one_taken (Some xs) None a b h x y = absurd x
 one_taken (Some xs) (Some ys) a b h x y = append_cancel_left xs a b (sym x ∙ y)
 
--- none is unflushed but what is left
-left_alone : (flag : Bool) (n : ℕ) → n ≡ 0 → (if flag then 0 else n) ≡ 0
-left_alone true n none = refl
-left_alone false n none = none
+-- a count that is not full is a sum
+sum_is : (n k sum : ℕ) → sum ≡ saturating_add n k → sum < 2 ^ 64 - 1 → sum ≡ n + k
+sum_is n zero sum e small = e ∙ omega arith
+sum_is n (suc k) sum e small = let full = e ∙ add_some n (suc k) (omega arith) in omega (arith, full, small)
 
--- what `saturating_add` leaves of a length
-added_to_none : (k : ℕ) → saturating_add 0 k ≡ min k (2 ^ 64 - 1)
-added_to_none zero = refl
-added_to_none (suc k) =
-    let e : 0 + suc k ≡ suc k = omega arith in
-    add_some 0 (suc k) (omega arith) ∙ ap (λ n. min n (2 ^ 64 - 1)) e
-
--- as many are unflushed as are left, if none was before
-unflushed_is : (old new : OutputState) (o : ToOutput) → old.unflushed ≡ 0 → OutputTook old new o
-    → new.unflushed ≡ min (length o.left) (2 ^ 64 - 1)
-unflushed_is old new o before took =
-    took.unflushed ∙ ap (λ n. saturating_add n (length o.left)) (left_alone o.any_flush old.unflushed before)
-    ∙ added_to_none (length o.left)
+-- of two accounts of a run by their lengths: each says whether a flush succeeded, how many bytes were flushed and how
+-- many were left. If both have as many bytes in all, and as many are unflushed after both, as many were flushed
+alike_flushed : (flush flush' : Bool) (flushed left flushed' left' before after : ℕ)
+    → (flush ≡ false → flushed ≡ 0) → (flush' ≡ false → flushed' ≡ 0) → flushed + left ≡ flushed' + left'
+    → after ≡ (if flush then 0 else before) + left → after ≡ (if flush' then 0 else before) + left'
+    → flushed ≡ flushed'
+alike_flushed true true flushed left flushed' left' before after none none' all e e' = omega (arith, all, e, e')
+alike_flushed false true flushed left flushed' left' before after none none' all e e' =
+    let zeros = none refl in omega (arith, all, e, e', zeros)
+alike_flushed true false flushed left flushed' left' before after none none' all e e' =
+    let zeros = none' refl in omega (arith, all, e, e', zeros)
+alike_flushed false false flushed left flushed' left' before after none none' all e e' = none refl ∙ sym (none' refl)
 
 -- as many bytes were flushed, if the output shows it
 one_flushed : (old new : OutputState) (o o' : ToOutput) → ShowsFlushed old new → OutputTook old new o
@@ -98,9 +97,10 @@ one_flushed old new o o' shows took took' =
     took.bytes took'.bytes) in
     let x : length (o.flushed ++ o.left) ≡ length o.flushed + length o.left = length-append o.flushed o.left in
     let y : length (o'.flushed ++ o'.left) ≡ length o'.flushed + length o'.left = length-append o'.flushed o'.left in
-    let l : new.unflushed ≡ min (length o.left) (2 ^ 64 - 1) = unflushed_is old new o shows.before took in
-    let l' : new.unflushed ≡ min (length o'.left) (2 ^ 64 - 1) = unflushed_is old new o' shows.before took' in
-    let few = shows.after in omega (arith, all, x, y, l, l', few)
+    alike_flushed o.any_flush o'.any_flush (length o.flushed) (length o.left) (length o'.flushed) (length o'.left)
+    old.unflushed new.unflushed (λ h. ap length (took.flushed h)) (λ h. ap length (took'.flushed h))
+    (sym x ∙ all ∙ y) (sum_is _ (length o.left) new.unflushed took.unflushed shows.after)
+    (sum_is _ (length o'.left) new.unflushed took'.unflushed shows.after)
 
 -- an engine whose end was reported had no read that failed
 no_failure : (S : Colour) (H : List Act) → reads_end H ≡ true → has_ended S H ≡ true → has_failed_read S H ≡ false

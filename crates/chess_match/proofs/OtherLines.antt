@@ -9,7 +9,7 @@ use Rattle.cecp_engine.specs.declared.engine_line.EngineLine.TheVariants.{Featur
 use Rattle.chess_match.specs.Effects.{Match, Setup, AfterMove, before_move, ends, ignores, line_row, move_row, turn_row}
 use Rattle.chess_match.specs.laws.Laws.{items_in_line}
 use Rattle.chess_match.specs.Rules.{Rules}
-use Rattle.chess_match.specs.ties.Represents.{since_heard}
+use Rattle.chess_match.specs.ties.Represents.{since_counted}
 use Rattle.chess_match.specs.declared.reason.Reason.TheVariants.{MovesIllegally}
 use Rattle.chess_base.specs.declared.man.Move as chess
 use Rattle.chess_text.specs.declared.reading.Reading.{Reading}
@@ -21,9 +21,9 @@ pub no_items_said : (line : EngineLine) → ((text : Bor (List ℕ)) → line �
 no_items_said line h1 = grind arith
 
 -- after no other line the time for a reply runs anew
-pub unheard : (line : EngineLine) (moment : ℕ) (since : Option ℕ)
-    → ((text : Bor (List ℕ)) → line ≡ Features text → ⊥) → since_heard (seen line) moment since ≡ since
-unheard line moment since h1 = grind arith
+pub uncounted : (line : EngineLine) (moment : ℕ) (since : Option ℕ)
+    → ((text : Bor (List ℕ)) → line ≡ Features text → ⊥) → since_counted (seen line) moment since ≡ since
+uncounted line moment since h1 = grind arith
 
 -- in a setup, a line that is no answer to a ping
 pub setup_other : (r : Rules) (S : Colour) (line : EngineLine) (moment : ℕ) (n : Match) → ((k : ℕ) → line ≡ Pong k → ⊥)

@@ -88,22 +88,22 @@ over_by : (b : Bool) (x y : Effect) → is_over x.after.phase ≡ true → is_ov
 over_by true x y over on = over
 over_by false x y over on = on
 
-beyond : (r : Rules) (m : Match) (S : Colour) (moment : ℕ) (p : Phase) → m.phase ≡ p → is_over p ≡ false
+beyond : (r : Rules) (m : Match) (S : Colour) (moment : ℕ) (p : Phase) → m.phase ≡ p → awaits_line p S ≡ true
     → is_over (silence_row r p S moment m).after.phase ≡ is_beyond r m p S moment
-beyond r m S moment p e on = at p (ap is_over e ∙ on)
+beyond r m S moment p e aw = at p aw (ap is_over e ∙ on_when_read p S aw)
   where
     test : Bool
     test = option_map_or (λ limit. nat_lt limit (moment - unwrap_or m.since moment)) r.patience.reply false
 
-    at : (p : Phase) → is_over m.phase ≡ false → is_over (silence_row r p S moment m).after.phase
-        ≡ is_beyond r m p S moment
-    at (BeforeMove c opened) h = over_by (nat_lt (clock r m S) (moment - opened)) (flag_row r S m) (sends_nothing m)
+    at : (p : Phase) → awaits_line p S ≡ true → is_over m.phase ≡ false
+        → is_over (silence_row r p S moment m).after.phase ≡ is_beyond r m p S moment
+    at (BeforeMove c opened) aw h = over_by (nat_lt (clock r m S) (moment - opened)) (flag_row r S m) (sends_nothing m)
         refl h
-    at (Handshake c) h = over_by test _ _ refl h
-    at (Setup c) h = over_by test _ _ refl h
-    at (Opening c) h = over_by test _ _ refl h
-    at (AfterMove c) h = over_by test _ _ refl h
-    at (Over reason) h = over_by test _ _ refl h
+    at (Handshake c) aw h = over_by test _ _ refl h
+    at (Setup c) aw h = over_by test _ _ refl h
+    at (AfterMove c) aw h = over_by test _ _ refl h
+    at (Opening c) aw h = absurd cc
+    at (Over reason) aw h = absurd cc
 
 pub silences_end_matches : SilencesEndMatches
 silences_end_matches r before after S moment final g = by_acts r
@@ -121,7 +121,7 @@ silences_end_matches r before after S moment final g = by_acts r
     at : (m : Match) (due : List Block) → IsMatchFrom r m due (Happens (Silent S moment) ∷ after) final
         → is_over (effect r m (Silent S moment)).after.phase ≡ is_beyond r m m.phase S moment
     at m [] (may, g) = beyond r m S moment m.phase refl
-        (on_when_read m.phase S (and_parts (awaits_line m.phase S) (is_limited r.patience m.phase) may).0)
+        (and_parts (awaits_line m.phase S) (is_limited r.patience m.phase) may).0
     at m (b ∷ due) g = absurd g
 
 -- ---- whether they change a match that goes on
@@ -149,9 +149,9 @@ within r m S moment p h some = at p h
         h refl (λ X. refl)
     at (Handshake c) h = untouched _ _ _ m h same (λ X. refl)
     at (Setup c) h = untouched _ _ _ m h same (λ X. refl)
-    at (Opening c) h = untouched _ _ _ m h same (λ X. refl)
     at (AfterMove c) h = untouched _ _ _ m h same (λ X. refl)
-    at (Over reason) h = untouched _ _ _ m h same (λ X. refl)
+    at (Opening c) h = (refl, λ X. refl)
+    at (Over reason) h = (refl, λ X. refl)
 
 pub silences_change_nothing : SilencesChangeNothing
 silences_change_nothing r before after S moment final g h some =

@@ -24,7 +24,7 @@ use Rattle.chess_match.specs.declared.reason.Reason.{Reason}
 use Rattle.chess_match.specs.declared.reason.Reason.TheVariants.{Claimed, ClaimsFalsely, Faulted, Forfeits, ForfeitsToBareKing, GameTooLong, RejectsLegalMove}
 use Rattle.chess_match.specs.declared.reason.Reason.TheVariants as over_by
 use Rattle.chess_match.specs.laws.Laws.{line_kind}
-use Rattle.chess_match.specs.laws.OfActs.{InEachMatch, OverstepsTime, TimeForfeitsAreShown, match_after, shows_fallen}
+use Rattle.chess_match.specs.laws.OfActs.{EndsOverstepped, InEachMatch, OverstepsTime, TimeForfeitsAreShown, match_after, only_sends, shows_fallen}
 use Rattle.chess_match.proofs.MatchCases.{both_not, by_acts, by_cases, on_when_read}
 use Rattle.chess_match.proofs.Points.{Stays, by_points, whole}
 
@@ -221,10 +221,10 @@ module _ (r : Rules) (S : Colour) (final : Match) where
 
 -- ---- who loses on time oversteps it
 
--- some of these acts shows the flag of S fallen, if the match is `m` before them
+-- the last of these acts but for blocks shows the flag of S fallen, if the match is `m` before them
 abbrev OverstepsFrom : Rules → Match → List Act → Colour → Type 0
 OverstepsFrom r m H S = (before : List Act) × (act : Act) × (after : List Act) × (H ≡ before ++ act ∷ after)
-    × (let n = match_after r m before in shows_fallen r n n.phase S act ≡ true)
+    × (only_sends after ≡ true) × (let n = match_after r m before in shows_fallen r n n.phase S act ≡ true)
 
 -- some side, the one that lost if one did, overstepped its time
 abbrev Overstepped : Rules → Match → List Act → Reason → Type 0
@@ -259,14 +259,17 @@ module _ (r : Rules) (reason : Reason) (is : is_forfeit reason ≡ true) where
       → Stays (effect r m e).after H n → shows_fallen r m m.phase S (Happens e) ≡ true → n.phase ≡ Over reason
       → Overstepped r m (Happens e ∷ H) reason
   now m n S e H flag stays shown o =
-      let over : is_over (effect r m e).after.phase ≡ true = ap (λ (x : Effect). is_over x.after.phase) flag in
-      (S, who_lost S m n ((stays over).0 ∙ ap (λ (x : Effect). x.after) flag) o, ([], Happens e, H, refl, shown))
+      let over : is_over (effect r m e).after.phase ≡ true = ap (λ (x : Effect). is_over x.after.phase) flag in (
+        S,
+        who_lost S m n ((stays over).0 ∙ ap (λ (x : Effect). x.after) flag) o,
+        ([], Happens e, H, refl, (stays over).1, shown),
+      )
 
   -- a later one does
   later : (m m' : Match) (a : Act) (H : List Act)
       → ((before : List Act) → match_after r m (a ∷ before) ≡ match_after r m' before)
       → Overstepped r m' H reason → Overstepped r m (a ∷ H) reason
-  later m m' a H goes (S, who, (before, act, after, e, shown)) = (
+  later m m' a H goes (S, who, (before, act, after, e, only, shown)) = (
     S,
     who,
     (
@@ -274,6 +277,7 @@ module _ (r : Rules) (reason : Reason) (is : is_forfeit reason ≡ true) where
       act,
       after,
       ap (λ (l : List Act). a ∷ l) e,
+      only,
       subst (λ (n : Match). shows_fallen r n n.phase S act ≡ true) (sym (goes before)) shown,
     ),
   )
@@ -330,6 +334,6 @@ pub time_forfeits_are_shown : InEachMatch TimeForfeitsAreShown
 time_forfeits_are_shown r H final g = record {
   overstepped = λ S o. overstepped r S final H g o;
   lost = λ S e. let (c, who, o) = shown r (Forfeits S) refl H final g e in
-      subst (λ (x : Colour). OverstepsTime r H x) (who S refl) o;
+      subst (λ (x : Colour). EndsOverstepped r H x) (who S refl) o;
   drawn = λ e. let (c, who, o) = shown r ForfeitsToBareKing refl H final g e in (c, o);
 }

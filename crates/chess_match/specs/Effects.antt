@@ -239,11 +239,14 @@ reply_row r S fault moment m =
 -- what it does in the phase given that no line of the side `S` that it waits for had come at this moment
 abbrev pub silence_row : Rules → Phase → Colour → ℕ → Match → Effect
 silence_row r (Handshake side) S moment m = reply_row r S NoHandshake moment m
+silence_row r (Setup side) S moment m = reply_row r S NoAnswer moment m
 -- before a move: if by then `S` has used more than it has left, its flag has fallen, as with a line. Otherwise nothing
 -- changes
 silence_row r (BeforeMove side opened) S moment m =
     if nat_lt (clock r m S) (moment - opened) then flag_row r S m else sends_nothing m
-silence_row r _ S moment m = reply_row r S NoAnswer moment m
+silence_row r (AfterMove side) S moment m = reply_row r S NoAnswer moment m
+-- in the other phases no line is awaited; a silence would change nothing
+silence_row r _ _ _ m = sends_nothing m
 
 -- ---- a line before the game
 

@@ -73,11 +73,12 @@ impl Moments for Hand<'_> {
 }
 
 /// An engine that sends these bytes in pieces of so many, and from the byte `before` on only when the clock shows
-/// `comes`.
+/// `comes`. When the match begins, the clock shows `begins`.
 #[derive(Clone, Copy)]
 struct Lateness {
     side: Colour,
     before: usize,
+    begins: u64,
     comes: u64,
     cut: usize,
 }
@@ -122,7 +123,7 @@ fn plays_late(
 ) -> Result<(), Fail> {
     let row: &Row = &FOOLS_MATE;
     let setup = setup_within(rt, row.level, Position::initial(), patience);
-    let clock = Cell::new(0);
+    let clock = Cell::new(late.begins);
     let mut white = late_ends(alloc, row.white, late, Colour::White, &clock);
     let mut black = late_ends(alloc, row.black, late, Colour::Black, &clock);
     let mut moments = Hand { clock: &clock };
@@ -252,6 +253,7 @@ fn hangs_anywhere(
             let late = Lateness {
                 side,
                 before,
+                begins: 0,
                 comes: NEVER,
                 cut: *cut,
             };
@@ -302,6 +304,7 @@ fn is_late_at(
     let late = Lateness {
         side: Colour::White,
         before: *before,
+        begins: 0,
         comes,
         cut: 1024,
     };
@@ -334,6 +337,46 @@ fn lines_in_time(rt: HostRuntime) -> Result<(), Fail> {
         for line in MOVES {
             is_late_at(&rt, rt.alloc(), *on, *line, BOTH, 10000, &mate_at(10000))?;
         }
+    }
+    Ok(())
+}
+
+// What the clock shows when a match begins: far more than the limit of a reply.
+const BEGINS: u64 = 1_000_000;
+
+// The match that begins at this moment, in which White's first line comes when the clock shows `comes`.
+fn begins_late(
+    rt: &impl Abort,
+    alloc: Global,
+    on: On,
+    comes: u64,
+    came: &Came,
+) -> Result<(), Fail> {
+    let late = Lateness {
+        side: Colour::White,
+        before: 0,
+        begins: BEGINS,
+        comes,
+        cut: 1024,
+    };
+    plays_late(rt, alloc, on, BOTH, late, came)
+}
+
+// White's first line is looked for when the clock shows 1,000,000, and has not come: by `reply_row` the time for it runs
+// from there, and not from 0. A silence ends the match if `moment - 1000000` is more than 7000, first at 1,007,001.
+// What comes by then is read in time, since no silence was beyond the limit before it.
+#[test]
+fn time_runs_from_the_first_silence(rt: HostRuntime) -> Result<(), Fail> {
+    let hangs = Came {
+        clock: 1_007_001,
+        ..WHITE_NO_HANDSHAKE
+    };
+    for on in BOARDS {
+        begins_late(&rt, rt.alloc(), *on, BEGINS, &mate_at(BEGINS))?;
+        begins_late(&rt, rt.alloc(), *on, 1_007_000, &mate_at(1_007_000))?;
+        begins_late(&rt, rt.alloc(), *on, 1_007_001, &mate_at(1_007_001))?;
+        begins_late(&rt, rt.alloc(), *on, 1_007_002, &hangs)?;
+        begins_late(&rt, rt.alloc(), *on, NEVER, &hangs)?;
     }
     Ok(())
 }

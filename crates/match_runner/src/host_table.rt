@@ -73,12 +73,12 @@ fn send_game<'t, W: Output>(
 
 impl<'t, H: Host> GamesTable for HostTable<'t, '_, H> {
     ghost use Rattle.chess_match.specs.Run.{engines_of};
-    ghost use Rattle.match_runner.specs.GamesTable.{at_host};
+    ghost use Rattle.match_runner.specs.ties.AtHost.{MarkedBy};
 
     type Engines = Engines<H::Running, H::Reader, H::Writer>;
 
-    // The steps whose part at the host may have passed there.
-    ghost passed = { λ t steps. H.passed t.host.now (at_host steps) };
+    // The steps whose part at the host may have passed there, at the same host.
+    ghost passed = { λ t. MarkedBy (H.passed t.host.now) t.host.ghost_name };
 
     ghost game = { λ t. t.game };
 

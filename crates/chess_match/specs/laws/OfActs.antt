@@ -171,10 +171,9 @@ OneMatchButForEndLines = (r : Rules) (s : Streams) (H K : List Act) (final final
     → (events_of r beginning.after H ≡ events_of r beginning.after K) × (final ≡ final')
 
 -- the states of an engine's input before a run (`w`) and after it (`w'`) show how many bytes of the run were flushed:
--- which bytes it took is known, none was unflushed before, and the count of those that are unflushed then is not full
+-- which bytes it took is known, and the count of those that are unflushed then is not full
 pub record ShowsFlushed (w w' : OutputState) : Type 0 where
   pub bytes : is_some w.known_bytes ≡ true
-  pub before : w.unflushed ≡ 0
   pub after : w'.unflushed < 2 ^ 64 - 1
 
 -- everything is known about the devices of a run, `w` before and `w'` after it: which bytes each engine sends, that no
@@ -416,16 +415,22 @@ abbrev pub OverstepsTime : Rules → List Act → Colour → Type 0
 OverstepsTime r H S = (before : List Act) × (act : Act) × (after : List Act) × (H ≡ before ++ act ∷ after)
     × (let m = match_after r beginning.after before in shows_fallen r m m.phase S act ≡ true)
 
+-- at such a moment the match ended: after the act that shows it only blocks were sent
+abbrev pub EndsOverstepped : Rules → List Act → Colour → Type 0
+EndsOverstepped r H S = (before : List Act) × (act : Act) × (after : List Act) × (H ≡ before ++ act ∷ after)
+    × (only_sends after ≡ true)
+    × (let m = match_after r beginning.after before in shows_fallen r m m.phase S act ≡ true)
+
 -- `final`, the end of the match of the acts `H`, is a loss on time exactly if the clock showed so
 pub record TimeForfeitsAreShown (r : Rules) (H : List Act) (final : Match) : Type 0 where
   -- a side that oversteps its time loses, or draws against a bare king
   pub overstepped : (S : Colour) → OverstepsTime r H S
       → final.phase ≡ Over (if has_bare_king (other S) (position_after r.start final.played).men then ForfeitsToBareKing
       else Forfeits S)
-  -- a side that lost on time overstepped it
-  pub lost : (S : Colour) → final.phase ≡ Over (Forfeits S) → OverstepsTime r H S
-  -- if a match ended on time against a bare king, a side overstepped its time
-  pub drawn : final.phase ≡ Over ForfeitsToBareKing → (S : Colour) × OverstepsTime r H S
+  -- a side that lost on time overstepped it, and by that the match ended
+  pub lost : (S : Colour) → final.phase ≡ Over (Forfeits S) → EndsOverstepped r H S
+  -- if a match ended on time against a bare king, a side overstepped its time, and by that the match ended
+  pub drawn : final.phase ≡ Over ForfeitsToBareKing → (S : Colour) × EndsOverstepped r H S
 
 -- ---- few lines
 

@@ -109,13 +109,13 @@ items_in _ kind = nothing_said
 
 -- since when a reply is awaited, once a line of this kind came at this moment in a handshake: after a `feature` line
 -- from there on, after any other as before (`since`)
-abbrev pub since_heard : LineKind → ℕ → Option ℕ → Option ℕ
-since_heard (Features text) moment since = Some moment
-since_heard _ moment since = since
+abbrev pub since_counted : LineKind → ℕ → Option ℕ → Option ℕ
+since_counted (Features text) moment since = Some moment
+since_counted _ moment since = since
 
 -- the match `m`, once a line of this kind came at this moment in a handshake
-abbrev pub heard : LineKind → ℕ → Match → Match
-heard kind moment m = record m { since = since_heard kind moment m.since }
+abbrev pub counted : LineKind → ℕ → Match → Match
+counted kind moment m = record m { since = since_counted kind moment m.since }
 
 -- the lines that end the match for the side `S`, by the reason that is reported; `m` is the match, and `owed` says
 -- whether the last move is among them

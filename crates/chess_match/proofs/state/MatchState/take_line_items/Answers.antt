@@ -4,7 +4,7 @@ use Rattle.std.proofs.Common.{ℕ, [], ◌++◌, Option, subst, sym}
 use Rattle.chess_match.specs.Effects.{awaited_since, with_seat}
 use Rattle.chess_match.specs.ties.Represents.{Represents}
 use Rattle.chess_match.proofs.CoreSteps.{no_items_stand}
-use Rattle.chess_match.proofs.OtherLines.{no_items_said, unheard}
+use Rattle.chess_match.proofs.OtherLines.{no_items_said, uncounted}
 use Rattle.chess_match.proofs.state.MatchState.take_line_items.Goals as goal
 
 pub returns-in-Features-clause-taken : goal.returns-in-Features-clause-taken
@@ -17,5 +17,5 @@ returns-in_default-clause-taken c r played m s =
     rw (no_items_said c.args.line c.in_default.not-Features)
     (subst (λ (x : Option ℕ). Represents r c.args.self.now played
     (with_seat c.args.side (λ s. record s { items = s.items ++ [] }) (record m { since = x })))
-    (sym (unheard c.args.line c.args.moment m.since c.in_default.not-Features))
+    (sym (uncounted c.args.line c.args.moment m.since c.in_default.not-Features))
     (no_items_stand r _ played c.args.side m s))
