@@ -61,8 +61,32 @@ impl Moments for MemoryClock<'_> {
     }
 }
 
-/// A host over memory, for tests of matches: what its engines say and what its clock shows is given to it, and what it
-/// sends to the engines can be asked for afterwards.
+/// A host over memory, for tests: what its engines say and what its clock shows is given, and what the engines were sent
+/// can be asked for after the match.
+///
+/// ```
+/// let engines = [
+///     MemoryEngine {
+///         command: "a",
+///         outputs: &[b"feature ping=1 done=1\npong 1\nmove e2e4\npong 2\nresign\n"],
+///         falls_silent: false,
+///     },
+///     MemoryEngine {
+///         command: "b",
+///         outputs: &[b"feature ping=1 done=1\npong 1\nmove e7e5\npong 2\n"],
+///         falls_silent: false,
+///     },
+/// ];
+/// let mut host = MemoryHost::new(alloc, &engines, &[]);
+/// play_games_with(&mut host, alloc, plan, &mut output, &mut log)?;
+/// for game in host.games() {
+///     print!(rt; "{}", str::from_utf8(game.sent.black.as_slice())?)?;
+/// }
+/// ```
+///
+/// An engine is started if its command is among those of `engines` and it has an output left; then its pipes give just
+/// this output. A start of two engines that can't both be started starts none. No engine has to be killed. An engine
+/// doesn't read: its output is there from the beginning, whatever it is sent.
 #[derive(Drop)]
 pub struct MemoryHost<'t> {
     engines: &'t [MemoryEngine<'t>],
