@@ -8,8 +8,8 @@ use std::alloc::Global;
 use std::process::Abort;
 use std::test::Fail;
 
-/// A match between the engines with the commands `A` and `B`: what each says in its games, whether it falls silent then,
-/// what the clock shows, and the arguments after `match --white A --black B --log`; and what comes of it.
+/// A match between the engines with the commands `A` and `B`: what each says in its games, whether `B` falls silent
+/// then, what the clock shows, and the arguments after `match --white A --black B --log`; and what comes of it.
 struct MatchRun {
     a_says: &'static [&'static [u8]],
     b_says: &'static [&'static [u8]],

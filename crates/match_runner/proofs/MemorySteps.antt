@@ -48,7 +48,8 @@ one_more host host' steps step e m g comes passed = record {
     | inl (p, q) ↦ rw (p, q, passed.started) comes
     | inr (rest, p) ↦ passed.each before x rest p
   ]);
-  started = flat_map-append started_by steps (step ∷ []) ∙ ap (λ K. started_in steps ++ K) (append-nil (started_by step))
+  started = flat_map-append started_by steps (step ∷ [])
+      ∙ ap (λ K. started_in steps ++ K) (append-nil (started_by step))
       ∙ ap (λ K. K ++ started_by step) passed.started ∙ sym g;
 }
 
@@ -143,8 +144,8 @@ none_starts_by host host' pipes white black limit (Ok v) bad e m g = absurd (let
 none_starts_by host host' pipes white black limit (Err f) fails e m g = none_starts host host' white black limit e m g
 
 -- both were started
-pub both_start : (host host' : MemoryHost) (white black white' black' : List ℕ) (limit : Option ℕ) (pipes : Colour → Devices)
-    (white_text black_text : List ℕ) → host'.engines ≡ host.engines → host'.moments ≡ host.moments
+pub both_start : (host host' : MemoryHost) (white black white' black' : List ℕ) (limit : Option ℕ)
+    (pipes : Colour → Devices) (white_text black_text : List ℕ) → host'.engines ≡ host.engines → host'.moments ≡ host.moments
     → started_for host'.games.items ≡ started_for host.games.items ++ white' ∷ black' ∷ []
     → white' ≡ white → black' ≡ black
     → next_text host.engines.now (started_for host.games.items) white ≡ Some white_text

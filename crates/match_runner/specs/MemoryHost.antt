@@ -1,8 +1,11 @@
--- What is known of a host over memory: what its engines say, and what its clock shows. So of a match with such a host,
--- which was just made, this is known (`PlaysGamesWith`, from `p` to `p'`): `[]` may have passed before, so `p'` holds for
--- the steps of the match, and then for each of them `MayCome`. The clock's moments and what each engine says, in each of
--- its games, are those given; and from these, the plan and the writes that fail, each game follows (chess_match's law
--- `OnlyOneMatchOfARun`). Not known is in which waits an engine that falls silent is silent, and when memory runs out.
+-- What is known of a host over memory: what its engines say, and what its clock shows.
+--
+-- Of a match with a new host, at which `[]` may have passed, `PlaysGamesWith` says that just the steps of the match may
+-- have passed there afterwards (`MayHavePassed`). So each engine says what the host has for this start of its command,
+-- and the clock shows the host's moments. From these, the plan, and the writes that fail follows each game (law
+-- `OnlyOneMatchOfARun` of chess_match), and from the games all that is written, logged and sent. It is not said that a
+-- match leaves the host its engines and moments (they are those that it has afterwards), in which waits an engine that
+-- falls silent is silent, nor when memory runs out.
 use Rattle.std.specs.Prelude.{◌≡◌, ⊤, ℕ, ◌-◌, ◌^◌, List, [], ◌∷◌, ◌++◌, Option, None, Some}
 use Rattle.std.specs.List.{count_by, find, flat_map, last_or, slice_get}
 use Rattle.std.specs.Option.{option_and_then, option_map, option_or}
@@ -17,8 +20,8 @@ use Rattle.match_runner.specs.declared.memory_host.MemoryHost.{MemoryHost}
 use Rattle.match_runner.specs.Games.{none_killed}
 use Rattle.match_runner.specs.GamesTable.{HostStep, OpensClock, Starts, StartFails, Finishes}
 
--- the moment that a clock shows at its reading n, from 0 on: it shows these moments one after another, and then the last
--- of them again and again; `shown`, if there are none
+-- the moment that a clock shows at its reading n, from 0 on: it shows these moments one after another, and then the
+-- last of them again and again; `shown`, if there are none
 abbrev pub moment_at : ℕ → List ℕ → ℕ → Option ℕ
 moment_at shown moments n = option_or (slice_get moments n) (last_or (Some shown) moments)
 
@@ -50,8 +53,8 @@ started_by _ = []
 abbrev pub started_in : List HostStep → List (List ℕ)
 started_in steps = flat_map started_by steps
 
--- this step may come at a host with these engines and moments, when the engines with the commands `earlier` were started
--- before
+-- this step may come at a host with these engines and moments, when the engines with the commands `earlier` were
+-- started before
 abbrev pub MayCome : List MemoryEngine → List ℕ → List (List ℕ) → HostStep → Type 0
 -- the clock will show these moments
 MayCome engines moments earlier (OpensClock coming) = coming ≡ moment_at 0 moments
