@@ -10,6 +10,8 @@ mod engines;
 #[cfg(test)]
 mod explained;
 #[cfg(test)]
+mod in_memory;
+#[cfg(test)]
 mod laws;
 #[cfg(test)]
 mod log;

@@ -1,5 +1,6 @@
 mod GamesWritten
 mod HostSteps
+mod MemorySteps
 mod GameFaults
 mod EntriesRead
 mod Logged

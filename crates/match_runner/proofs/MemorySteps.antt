@@ -1,0 +1,158 @@
+-- Steps at a host over memory.
+use Rattle.std.proofs.Common.{◌≡◌, ◌≢◌, ◌∙◌, ◌+◌, ◌≤◌, ◌⊎◌, ℕ, zero, suc, Bool, true, false, List, [], ◌∷◌, ◌++◌, Option, Some, Result, Ok, Err, refl, sym, ap, inl, inr, arith, append-nil, add-one, length}
+use Rattle.std.proofs.Math.ListN.{get_or, set}
+use Rattle.std.specs.Prelude.{IfSome, cond, count_by}
+use Rattle.std.specs.Result.{IsErr}
+use Rattle.std.specs.Option.{option_map}
+use Rattle.std.specs.List.{slice_get}
+use Rattle.std.proofs.lemmas.List.Concat.{flat_map-append}
+use Rattle.std.proofs.lemmas.List.Sums.{sum_by-cons}
+use Rattle.std.proofs.lemmas.Option.{slice_get_past}
+use Rattle.byte_devices.specs.Transfers.{Devices}
+use Rattle.chess_base.specs.declared.man.Colour.{Colour}
+use Rattle.chess_base.specs.declared.man.Colour.TheVariants.{White, Black}
+use Rattle.match_runner.specs.GamesTable.{HostStep, StartFails, Starts, StepsPass, starting}
+use Rattle.match_runner.specs.MemoryHost.{MayCome, MayHavePassed, fresh_pipes, moment_at, next_text, started_by, started_for, started_in}
+use Rattle.match_runner.specs.declared.memory_host.MemoryGame.{MemoryGame}
+use Rattle.match_runner.specs.declared.memory_host.MemoryHost.{MemoryHost}
+
+-- no list is empty that has an element after others
+not_empty : {A : Type 0} (before : List A) (x : A) (after : List A) → before ++ x ∷ after ≡ [] → ⊥
+not_empty [] x after e = cc
+not_empty (y ∷ before) x after e = cc
+
+-- an element of a list with one more at its end is that one, or one before it
+in_longer : {A : Type 0} (before : List A) (x : A) (after xs : List A) (y : A) → before ++ x ∷ after ≡ xs ++ y ∷ []
+    → ((before ≡ xs) × (x ≡ y)) ⊎ ((rest : List A) × (before ++ x ∷ rest ≡ xs))
+in_longer [] x after [] y e = inl (refl, cc)
+in_longer [] x after (z ∷ xs) y e = let f : x ≡ z = cc in inr (xs, ap (λ a. a ∷ xs) f)
+in_longer (b ∷ before) x after [] y e = let f : before ++ x ∷ after ≡ [] = cc in absurd (not_empty before x after f)
+in_longer (b ∷ before) x after (z ∷ xs) y e =
+    let f : b ≡ z = cc in
+    let g : before ++ x ∷ after ≡ xs ++ y ∷ [] = cc in
+    elim (in_longer before x after xs y g) [
+      | inl (p, q) ↦ inl (cc, q)
+      | inr (rest, p) ↦ inr (rest, cc)
+    ]
+
+-- ---- what may have passed
+
+-- one more step, which may come, passed from `host` to `host'`
+one_more : (host host' : MemoryHost) (steps : List HostStep) (step : HostStep)
+    → host'.engines.now ≡ host.engines.now → host'.moments.now ≡ host.moments.now
+    → started_for host'.games.items ≡ started_for host.games.items ++ started_by step
+    → MayCome host.engines.now host.moments.now (started_for host.games.items) step
+    → MayHavePassed host steps → MayHavePassed host' (steps ++ step ∷ [])
+one_more host host' steps step e m g comes passed = record {
+  each = λ before x after cut. rw (e, m) (elim (in_longer before x after steps step cut) [
+    | inl (p, q) ↦ rw (p, q, passed.started) comes
+    | inr (rest, p) ↦ passed.each before x rest p
+  ]);
+  started = flat_map-append started_by steps (step ∷ [])
+      ∙ ap (λ K. started_in steps ++ K) (append-nil (started_by step))
+      ∙ ap (λ K. K ++ started_by step) passed.started ∙ sym g;
+}
+
+pub step_passes : (host host' : MemoryHost) (step : HostStep)
+    → host'.engines.now ≡ host.engines.now → host'.moments.now ≡ host.moments.now
+    → started_for host'.games.items ≡ started_for host.games.items ++ started_by step
+    → MayCome host.engines.now host.moments.now (started_for host.games.items) step
+    → StepsPass (MayHavePassed host) (MayHavePassed host') (step ∷ [])
+step_passes host host' step e m g comes = record {
+  extends = λ before passed. one_more host host' before step e m g comes passed;
+}
+
+-- at a host that started nothing yet no step passed
+pub nothing_passed : (host : MemoryHost) → host.games.items ≡ [] → MayHavePassed host []
+nothing_passed host none = record {
+  each = λ before x after cut. absurd (not_empty before x after cut);
+  started = sym (ap started_for none);
+}
+
+-- ---- the clock
+
+-- what a clock shows after its first moment
+pub moments_go_on : (shown m : ℕ) (rest : List ℕ) (n : ℕ) → moment_at m rest n ≡ moment_at shown (m ∷ rest) (n + 1)
+moments_go_on shown m rest n = rw add-one refl
+
+-- a clock without moments shows the same again
+pub moments_stay : (shown n : ℕ) → moment_at shown [] n ≡ moment_at shown [] (n + 1)
+moments_stay shown n = refl
+
+-- ---- starts
+
+-- how often a command was started is how often as White's and as Black's
+pub started_as : (p : List ℕ → Bool) (games : List MemoryGame)
+    → count_by p (started_for games)
+    ≡ count_by (λ g. p g.commands.white.now) games + count_by (λ g. p g.commands.black.now) games
+started_as p [] = refl
+started_as p (g ∷ games) =
+    let weight : List ℕ → ℕ = λ c. cond (p c) 1 0 in
+    let white : MemoryGame → ℕ = λ h. weight h.commands.white.now in
+    let black : MemoryGame → ℕ = λ h. weight h.commands.black.now in
+    let rest = started_as p games in
+    let one = sum_by-cons weight g.commands.white.now (g.commands.black.now ∷ started_for games) in
+    let two = sum_by-cons weight g.commands.black.now (started_for games) in
+    rw (one, two, sum_by-cons white g games, sum_by-cons black g games, rest) (omega arith)
+
+-- ---- what engines were sent
+
+-- the texts of the game at index i are noted there
+pub sent_there : (games : List MemoryGame) (i : ℕ) (g : MemoryGame)
+    → IfSome (slice_get (set games i g) i) (λ h. h.sent ≡ g.sent)
+sent_there [] i g = tt
+sent_there (h ∷ games) zero g = refl
+sent_there (h ∷ games) (suc i) g = sent_there games i g
+
+-- no other game changes
+pub others_stay : (games : List MemoryGame) (i : ℕ) (g : MemoryGame) (k : ℕ) → k ≢ i
+    → slice_get (set games i g) k ≡ slice_get games k
+others_stay [] i g k apart = refl
+others_stay (h ∷ games) zero g zero apart = absurd (apart refl)
+others_stay (h ∷ games) zero g (suc k) apart = refl
+others_stay (h ∷ games) (suc i) g zero apart = refl
+others_stay (h ∷ games) (suc i) g (suc k) apart = others_stay games i g k (λ e. apart (ap suc e))
+
+-- its commands stay
+pub started_stay : (games : List MemoryGame) (i : ℕ) (g d : MemoryGame)
+    → g.commands ≡ (get_or games i d).commands → started_for (set games i g) ≡ started_for games
+started_stay [] i g d e = refl
+started_stay (h ∷ games) zero g d e = rw e refl
+started_stay (h ∷ games) (suc i) g d e =
+    ap (λ K. h.commands.white.now ∷ h.commands.black.now ∷ K) (started_stay games i g d e)
+
+-- past the games there is none
+pub none_there : (games : List MemoryGame) (i : ℕ) (P : MemoryGame → Type 0) → length games ≤ i
+    → IfSome (slice_get games i) P
+none_there games i P past = rw (slice_get_past games i past) tt
+
+-- ---- a start
+
+-- none was started
+pub none_starts : (host host' : MemoryHost) (white black : List ℕ) (limit : Option ℕ)
+    → host'.engines ≡ host.engines → host'.moments ≡ host.moments → host'.games.items ≡ host.games.items
+    → StepsPass (MayHavePassed host) (MayHavePassed host') (StartFails white black limit ∷ [])
+none_starts host host' white black limit e m g = step_passes host host' (StartFails white black limit)
+    (ap (λ r. r.now) e) (ap (λ r. r.now) m) (ap started_for g ∙ sym (append-nil (started_for host.games.items))) tt
+
+-- none was started, by the result
+pub none_starts_by : {E F : Type 0} (host host' : MemoryHost) (pipes : E → Colour → Devices) (white black : List ℕ)
+    (limit : Option ℕ) (r : Result E F) → IsErr r
+    → host'.engines ≡ host.engines → host'.moments ≡ host.moments → host'.games.items ≡ host.games.items
+    → StepsPass (MayHavePassed host) (MayHavePassed host') (starting pipes white black limit r ∷ [])
+none_starts_by host host' pipes white black limit (Ok v) bad e m g = absurd (let b : false ≡ true = bad in cc)
+none_starts_by host host' pipes white black limit (Err f) fails e m g = none_starts host host' white black limit e m g
+
+-- both were started
+pub both_start : (host host' : MemoryHost) (white black white' black' : List ℕ) (limit : Option ℕ)
+    (pipes : Colour → Devices) (white_text black_text : List ℕ) → host'.engines ≡ host.engines → host'.moments ≡ host.moments
+    → started_for host'.games.items ≡ started_for host.games.items ++ white' ∷ black' ∷ []
+    → white' ≡ white → black' ≡ black
+    → next_text host.engines.now (started_for host.games.items) white ≡ Some white_text
+    → next_text host.engines.now (started_for host.games.items ++ white ∷ []) black ≡ Some black_text
+    → pipes White ≡ fresh_pipes white_text → pipes Black ≡ fresh_pipes black_text
+    → StepsPass (MayHavePassed host) (MayHavePassed host') (Starts white black limit pipes ∷ [])
+both_start host host' white black white' black' limit pipes white_text black_text e m g w b wt bt pw pb =
+    step_passes host host' (Starts white black limit pipes) (ap (λ r. r.now) e) (ap (λ r. r.now) m)
+    (g ∙ ap (λ K. started_for host.games.items ++ K) (cc))
+    (ap (option_map fresh_pipes) wt ∙ ap Some (sym pw), ap (option_map fresh_pipes) bt ∙ ap Some (sym pb))

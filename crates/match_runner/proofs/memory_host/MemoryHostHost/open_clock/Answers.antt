@@ -1,0 +1,7 @@
+-- The clock's moments are those of the host.
+use Rattle.std.proofs.Common.{refl, sym, append-nil}
+use Rattle.match_runner.proofs.MemorySteps.{step_passes}
+use Rattle.match_runner.proofs.memory_host.MemoryHostHost.open_clock.Goals as goal
+
+pub returns : goal.returns
+returns c = record { passes = step_passes _ _ _ refl refl (sym (append-nil _)) refl }

@@ -1,0 +1,18 @@
+-- Both engines were started, with their texts, or none.
+use Rattle.std.proofs.Common.{refl}
+use Rattle.match_runner.proofs.MemorySteps.{both_start, none_starts, none_starts_by}
+use Rattle.match_runner.proofs.memory_host.MemoryHostHost.start.Goals as goal
+
+pub returns-in_err-starts-clause-passes : goal.returns-in_err-starts-clause-passes
+returns-in_err-starts-clause-passes c = none_starts_by _ _ _ _ _ _ _ c.from_residual.ensures.0 refl refl refl
+
+pub returns-in_default-clause-passes : goal.returns-in_default-clause-passes
+returns-in_default-clause-passes c =
+    let s = c.in_default.ensures in
+    none_starts _ _ _ _ _ s.engines s.moments s.same
+
+pub returns-clause-passes : goal.returns-clause-passes
+returns-clause-passes c =
+    let s = c.in_ok-starts.ensures in
+    let n = c.in-Ok.ensures in
+    both_start _ _ _ _ _ _ _ _ _ _ n.engines n.moments n.noted s.white_command s.black_command s.white_text s.black_text c.ends.ensures c.ends-2.ensures

@@ -1,0 +1,87 @@
+-- What is known of a host over memory: what its engines say, and what its clock shows.
+--
+-- Of a match with a new host, at which `[]` may have passed, `PlaysGamesWith` says that just the steps of the match may
+-- have passed there afterwards (`MayHavePassed`). So each engine says what the host has for this start of its command,
+-- and the clock shows the host's moments. From these, the plan, and the writes that fail follows each game (law
+-- `OnlyOneMatchOfARun` of chess_match), and from the games all that is written, logged and sent. It is not said that a
+-- match leaves the host its engines and moments (they are those that it has afterwards), in which waits an engine that
+-- falls silent is silent, nor when memory runs out.
+use Rattle.std.specs.Prelude.{◌≡◌, ⊤, ℕ, ◌-◌, ◌^◌, List, [], ◌∷◌, ◌++◌, Option, None, Some}
+use Rattle.std.specs.List.{count_by, find, flat_map, last_or, slice_get}
+use Rattle.std.specs.Option.{option_and_then, option_map, option_or}
+use Rattle.std.specs.Str.{bytes_eq}
+use Rattle.byte_devices.specs.Transfers.{Devices}
+use Rattle.chess_base.specs.declared.man.Colour.TheVariants.{White, Black}
+use Rattle.match_runner.specs.declared.fault.GamesFault.{GamesFault}
+use Rattle.match_runner.specs.declared.fault.GamesFault.TheVariants.{NoMemory, CanNotStart}
+use Rattle.match_runner.specs.declared.memory_host.MemoryEngine.{MemoryEngine}
+use Rattle.match_runner.specs.declared.memory_host.MemoryGame.{MemoryGame}
+use Rattle.match_runner.specs.declared.memory_host.MemoryHost.{MemoryHost}
+use Rattle.match_runner.specs.Games.{none_killed}
+use Rattle.match_runner.specs.GamesTable.{HostStep, OpensClock, Starts, StartFails, Finishes}
+
+-- the moment that a clock shows at its reading n, from 0 on: it shows these moments one after another, and then the
+-- last of them again and again; `shown`, if there are none
+abbrev pub moment_at : ℕ → List ℕ → ℕ → Option ℕ
+moment_at shown moments n = option_or (slice_get moments n) (last_or (Some shown) moments)
+
+-- what is said by that one of these engines which has this command (by the first, if several have it), when it is
+-- started after it was started so many times before; `None` if none has the command, or no more is given of it
+abbrev pub text_of_start : List MemoryEngine → List ℕ → ℕ → Option (List ℕ)
+text_of_start engines command times =
+    option_and_then (λ e. option_map (λ text. text.now) (slice_get e.outputs.now times))
+    (find (λ e. bytes_eq e.command.now command) engines)
+
+-- the same, if the engines with the commands `earlier` were started before, one after another
+abbrev pub next_text : List MemoryEngine → List (List ℕ) → List ℕ → Option (List ℕ)
+next_text engines earlier command = text_of_start engines command (count_by (λ c. bytes_eq c command) earlier)
+
+-- the pipes of an engine that was just started and will say just this text: nothing was read of it and nothing sent to
+-- it, and no call was made
+abbrev pub fresh_pipes : List ℕ → Devices
+fresh_pipes text = record {
+  input = record { known_bytes = Some text; failure_count = 0; end_count = 0; last_len = 0; pieces_left = 2 ^ 64 - 1 };
+  output = record { known_bytes = Some []; failure_count = 0; unflushed = 0 };
+}
+
+-- the commands of the engines that were started in this step: White's and Black's
+abbrev pub started_by : HostStep → List (List ℕ)
+started_by (Starts white black limit pipes) = white ∷ black ∷ []
+started_by _ = []
+
+-- the commands of the engines that were started in these steps, one after another
+abbrev pub started_in : List HostStep → List (List ℕ)
+started_in steps = flat_map started_by steps
+
+-- this step may come at a host with these engines and moments, when the engines with the commands `earlier` were
+-- started before
+abbrev pub MayCome : List MemoryEngine → List ℕ → List (List ℕ) → HostStep → Type 0
+-- the clock will show these moments
+MayCome engines moments earlier (OpensClock coming) = coming ≡ moment_at 0 moments
+-- each engine will say what is given for this start, and was sent nothing yet; White's is started first
+MayCome engines moments earlier (Starts white black limit pipes) =
+    (option_map fresh_pipes (next_text engines earlier white) ≡ Some (pipes White))
+    × (option_map fresh_pipes (next_text engines (earlier ++ white ∷ []) black) ≡ Some (pipes Black))
+MayCome engines moments earlier (StartFails white black limit) = ⊤
+-- no engine has to be killed
+MayCome engines moments earlier (Finishes pipes limit killed) = killed ≡ none_killed
+
+-- the commands of the engines that were started for these games, one after another
+abbrev pub started_for : List MemoryGame → List (List ℕ)
+started_for games = flat_map (λ g. g.commands.white.now ∷ g.commands.black.now ∷ []) games
+
+-- just these steps may have passed at this host, in their order
+pub record MayHavePassed (host : MemoryHost) (steps : List HostStep) : Type 0 where
+  -- each of them may come after those before it
+  pub each : (before : List HostStep) (step : HostStep) (after : List HostStep) → before ++ step ∷ after ≡ steps
+      → MayCome host.engines.now host.moments.now (started_in before) step
+  -- the engines that were started in them are those of the host's games
+  pub started : started_in steps ≡ started_for host.games.items
+
+-- why engines with these commands, White's and Black's, are not started, if these are the texts that they would say:
+-- White's has no text; or White's has one and Black's has none; or memory ran out
+abbrev pub IsFaultOfStart : List ℕ → List ℕ → Option (List ℕ) → Option (List ℕ) → GamesFault → Type 0
+IsFaultOfStart white black None _ (CanNotStart command) = command.now ≡ white
+IsFaultOfStart white black (Some _) None (CanNotStart command) = command.now ≡ black
+IsFaultOfStart white black (Some _) (Some _) fault = fault ≡ NoMemory
+IsFaultOfStart white black _ _ _ = ⊥
