@@ -82,6 +82,7 @@ plays_with plan result coming p p' p'' d d' opens (games, unwritten, written, tu
 )
 
 -- memory ran out before
-pub no_memory : (plan : GamesPlan) (p : HostPassing) (d : Outputs)
-    → (steps : List HostStep) × StepsPass p p steps × PlaysGamesWith plan (Err NoMemory) steps d d
-no_memory plan p d = ([], steps_none p, inr (refl, refl, refl))
+pub no_memory : (plan : GamesPlan) (result : Result (Unit {0}) GamesFault) (p : HostPassing) (d : Outputs)
+    → result ≡ Err NoMemory
+    → (steps : List HostStep) × StepsPass p p steps × PlaysGamesWith plan result steps d d
+no_memory plan result p d is = ([], steps_none p, inr (is, refl, refl))

@@ -112,14 +112,7 @@ impl<'t, H: Host> GamesTable for HostTable<'t, '_, '_, '_, '_, H> {
         first: Option<Colour>,
         log: &mut Log<E>,
     ) -> MatchEnd {
-        relay(
-            &mut engines.ends,
-            self.clock,
-            setup,
-            self.game,
-            first,
-            log,
-        )
+        relay(&mut engines.ends, self.clock, setup, self.game, first, log)
     }
 
     // Writes the game with the scratch board.

@@ -209,7 +209,11 @@ fn give_grace<C: Clock, P: OpenProcess>(rt: &C, child: &mut Child<P>) {
 const MOST_WAITS: u32 = 2_000_000;
 
 // Waits until this engine has ended, at most until the clock shows `until`. Returns whether it has.
-fn ends_by<R: Clock, P: OpenProcess>(host: &ProcessHost<'_, R>, child: &mut Child<P>, until: u64) -> bool {
+fn ends_by<R: Clock, P: OpenProcess>(
+    host: &ProcessHost<'_, R>,
+    child: &mut Child<P>,
+    until: u64,
+) -> bool {
     let mut clock = host.clock.again();
     for _ in 0..MOST_WAITS {
         match child.try_wait() {
