@@ -94,9 +94,8 @@ abbrev pub Does : Result Plan WordsFault → Surroundings → Surroundings → L
 -- a session ran on input and output. It begins at the initial position of normal chess, with the tags of a game of
 -- which nothing is known, and takes at most 20,000 half-moves (`MOST_MOVES`). Or nothing was read or written, as when
 -- memory ran out, and the status is 1
-Does (Ok Session) s s' steps status = (steps ≡ [])
-    × (Serves session_response (opened_session default_tags MOST_MOVES) s.devices s'.devices status
-    ⊎ ((s'.devices ≡ s.devices) × (status ≡ 1)))
+Does (Ok Session) s s' steps status = (steps ≡ []) × (Serves session_response (opened_session default_tags MOST_MOVES)
+    s.devices s'.devices status ⊎ ((s'.devices ≡ s.devices) × (status ≡ 1)))
 -- the input's games were verified, with some result, which gives the status: with the flag `--keep-going` piece by
 -- piece, where a fault ends only its piece (`VerifiesCollection`); without it as one text, up to its first fault
 -- (`Verifies`)

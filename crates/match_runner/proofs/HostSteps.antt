@@ -5,8 +5,8 @@ use Rattle.std.proofs.lemmas.List.Concat.{flat_map-append}
 use Rattle.match_runner.specs.declared.plan.GamesPlan.{GamesPlan}
 use Rattle.match_runner.specs.declared.fault.GamesFault.{GamesFault}
 use Rattle.match_runner.specs.declared.fault.GamesFault.TheVariants.{NoMemory}
-use Rattle.match_runner.specs.GamesTable.{AtHost, GamesStep, HostStep, OpensClock, Outputs, PlaysBy, PlaysGamesAt, PlaysGamesWith, StepsPass, WriteFails, Writes, at_host, of_host}
-use Rattle.match_runner.specs.ties.AtHost.{HostPassing, MarkedBy}
+use Rattle.match_runner.specs.GamesTable.{AtHost, GamesStep, HostPassing, HostStep, OpensClock, Outputs, PlaysBy, PlaysGamesAt, PlaysGamesWith, StepsPass, WriteFails, Writes, at_host, of_host}
+use Rattle.match_runner.specs.ties.AtHost.{MarkedBy}
 use Rattle.match_runner.proofs.GamesWritten.{steps_more, steps_none}
 
 -- a step of the host

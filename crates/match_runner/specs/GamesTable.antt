@@ -60,8 +60,15 @@ at_host steps = flat_map of_host steps
 
 -- ---- what passed
 
--- what contracts see of a table: the claim, for each list of steps, that just these may have passed there so far, in
--- this order. Of a host they see the same
+-- what contracts see of a host or a table: the claim, for each list of steps, that just these may have passed there so
+-- far, in this order
+abbrev pub HostPassing : Type 1
+HostPassing = List HostStep → Type 0
+
+-- any steps may have passed at a host
+abbrev pub anything : HostPassing
+anything steps = ⊤
+
 abbrev pub GamesPassing : Type 1
 GamesPassing = List GamesStep → Type 0
 
@@ -150,6 +157,5 @@ PlaysGamesAt plan result coming p p' d d' = PlaysBy plan result coming (StepsPas
 -- steps of the match. Or memory ran out before, and no step passed, and nothing was written or logged
 abbrev pub PlaysGamesWith : GamesPlan → Result (Unit {0}) GamesFault → List HostStep → Outputs → Outputs → Type 0
 PlaysGamesWith plan result steps d d' =
-    ((coming : ℕ → Option ℕ)
-    × PlaysBy plan result coming (λ at_table. steps ≡ OpensClock coming ∷ at_host at_table) d d')
+    ((c : ℕ → Option ℕ) × PlaysBy plan result c (λ at_table. steps ≡ OpensClock c ∷ at_host at_table) d d')
     ⊎ ((result ≡ Err NoMemory) × (steps ≡ []) × (d' ≡ d))

@@ -5,8 +5,7 @@ ghost use Rattle.std.specs.IoError.{error_kind};
 ghost use Rattle.chess_base.specs.declared.man.Colour.{Colour};
 ghost use Rattle.chess_match.specs.Run.{engines_of};
 ghost use Rattle.match_runner.specs.Games.{IsStartFault, none_killed};
-ghost use Rattle.match_runner.specs.GamesTable.{AreFresh, Finishes, StepsPass, starting};
-ghost use Rattle.match_runner.specs.ties.AtHost.{anything};
+ghost use Rattle.match_runner.specs.GamesTable.{AreFresh, Finishes, StepsPass, anything, starting};
 ghost use Rattle.match_runner.specs.ties.Playing.{FailsToStart};
 
 use crate::fault::GamesFault;
@@ -365,7 +364,7 @@ where
 
     type Clock = SinceStart<'t, R>;
 
-    ghost use Rattle.match_runner.specs.ties.AtHost.{anything};
+    ghost use Rattle.match_runner.specs.GamesTable.{anything};
 
     // Any steps may have passed: it doesn't count them.
     ghost passed = { λ h. anything };

@@ -1,10 +1,6 @@
 -- What passed at the table of a host, as the host shows it.
-use Rattle.std.specs.Prelude.{◌≡◌, ⊤, ℕ, List, [], ◌∷◌}
-use Rattle.match_runner.specs.GamesTable.{GamesStep, HostStep, WriteFails, Writes, at_host}
-
--- which steps may have passed at a host
-abbrev pub HostPassing : Type 1
-HostPassing = List HostStep → Type 0
+use Rattle.std.specs.Prelude.{◌≡◌, ℕ, List, [], ◌∷◌}
+use Rattle.match_runner.specs.GamesTable.{GamesStep, HostPassing, WriteFails, Writes, at_host}
 
 -- just these steps may have passed at a table whose host may have passed the steps in `p`. They stand behind a mark,
 -- which tells by its name which reference to the host the table holds; behind a mark of the second kind nothing else is
@@ -13,7 +9,3 @@ abbrev pub MarkedBy : HostPassing → ℕ → List GamesStep → Type 0
 MarkedBy p name (Writes mark ∷ steps) = (mark ≡ name ∷ []) × p (at_host steps)
 MarkedBy p name (WriteFails mark ∷ steps) = mark ≡ name ∷ []
 MarkedBy p name _ = ⊥
-
--- any steps may have passed at a host
-abbrev pub anything : HostPassing
-anything steps = ⊤

@@ -1,9 +1,8 @@
 -- What passed at the table passed at the host, to which the table still holds the reference (HostSteps.by_table,
 -- name_kept).
 use Rattle.std.proofs.Common.{◌≡◌, ap, subst, sym}
-use Rattle.match_runner.specs.GamesTable.{Outputs, PlaysBy, StepsPass, at_host}
+use Rattle.match_runner.specs.GamesTable.{HostPassing, Outputs, PlaysBy, StepsPass, at_host}
 use Rattle.match_runner.specs.Log.{log_seen}
-use Rattle.match_runner.specs.ties.AtHost.{HostPassing}
 use Rattle.match_runner.proofs.HostSteps.{by_table, name_kept}
 use Rattle.match_runner.proofs.games.play_games_by.Goals as goal
 
