@@ -86,7 +86,7 @@ not_begun options d d' same kept =
 
 session_or_want : (fault : WordsFault) (s s' : Surroundings) (steps : List HostStep) (status : ℕ)
     → IsWant fault → Does (Err fault) s s' steps status → Does (Ok Session) s s' steps status
-session_or_want faults.NoMemory s s' steps status want (none, (same, (kept, is))) =
+session_or_want faults.NoMemory s s' steps status want (none, same, (kept, is)) =
     (none, inr (both_same s.devices s'.devices same kept, is))
 session_or_want (faults.Words e) s s' steps status want ran = absurd want
 session_or_want faults.BadLevel s s' steps status want ran = absurd want
@@ -95,7 +95,7 @@ session_or_want faults.BadDate s s' steps status want ran = absurd want
 
 verify_or_want : (fault : WordsFault) (s s' : Surroundings) (steps : List HostStep) (status : ℕ)
     → IsWant fault → Does (Err fault) s s' steps status → Does (Ok (Verify bare_plan)) s s' steps status
-verify_or_want faults.NoMemory s s' steps status want (none, (same, (kept, is))) =
+verify_or_want faults.NoMemory s s' steps status want (none, same, (kept, is)) =
     (none, (Err verifying.NoMemory, is, not_begun (options_of bare_plan) s.devices s'.devices same kept))
 verify_or_want (faults.Words e) s s' steps status want ran = absurd want
 verify_or_want faults.BadLevel s s' steps status want ran = absurd want

@@ -62,7 +62,7 @@ shown k faults.BadDate w w' status help is reported = absurd is
 pub shows_help : (ws : List Text) (k : ErrorKind) → (k ≡ DisplayHelp) ⊎ (k ≡ DisplayVersion) → AreRefused ws (k ∷ [])
     → ShowsHelp ws
 shows_help ws k help one s s' steps status (Ok plan, is, ran) = absurd (no_plan ws k plan one is)
-shows_help ws k help one s s' steps status (Err fault, is, (none, (same, reported))) = (
+shows_help ws k help one s s' steps status (Err fault, is, (none, same, reported)) = (
   none,
   same,
   shown k fault s.devices.output s'.devices.output status help (refusal ws k fault one is) reported,
@@ -88,7 +88,7 @@ refused k faults.BadDate w w' status help version is reported = absurd is
 pub refuses_arguments : (ws : List Text) (k : ErrorKind) → k ≢ DisplayHelp → k ≢ DisplayVersion → AreRefused ws (k ∷ [])
     → RefusesArguments ws
 refuses_arguments ws k help version one s s' steps status (Ok plan, is, ran) = absurd (no_plan ws k plan one is)
-refuses_arguments ws k help version one s s' steps status (Err fault, is, (none, (same, reported))) =
+refuses_arguments ws k help version one s s' steps status (Err fault, is, (none, same, reported)) =
     let t = refused k fault s.devices.output s'.devices.output status help version (refusal ws k fault one is)
     reported in
     (none, both_same s.devices s'.devices same t.0, t.1)
