@@ -11,9 +11,7 @@ use chess_game::Game;
 use chess_match::{Ends, Moments, Patience, Setup, run_match};
 use chess_moves::Plain;
 use chess_pgn::Tags;
-use match_runner::{
-    GamesPlan, Log, MemoryEngine, MemoryHost, SinceStart, play_games, play_games_with,
-};
+use match_runner::{GamesPlan, Log, SinceStart, play_games};
 use pgn_verifier::{Verified, VerifyOptions, verify};
 use std::alloc::Global;
 use stub_engine::Stub;
@@ -80,44 +78,6 @@ fn match_of_processes(rt: &HostRuntime, alloc: Global) -> Result<()> {
     let mut log = Log::new(Counted::writing(Vec::<u8>::new(alloc)));
     play_games(rt, alloc, &plan, &mut output, &mut log)?;
     Ok(())
-}
-
-// MemoryHost, of match_runner
-fn match_in_memory(rt: &HostRuntime, alloc: Global, plan: &GamesPlan<'_>) -> Result<()> {
-    let mut output = Counted::writing(Vec::<u8>::new(alloc));
-    let mut log = Log::new(Counted::writing(Vec::<u8>::new(alloc)));
-    let engines = [
-        MemoryEngine {
-            command: "a",
-            outputs: &[b"feature ping=1 done=1\npong 1\nmove e2e4\npong 2\nresign\n"],
-            falls_silent: false,
-        },
-        MemoryEngine {
-            command: "b",
-            outputs: &[b"feature ping=1 done=1\npong 1\nmove e7e5\npong 2\n"],
-            falls_silent: false,
-        },
-    ];
-    let mut host = MemoryHost::new(alloc, &engines, &[]);
-    play_games_with(&mut host, alloc, plan, &mut output, &mut log)?;
-    for game in host.games() {
-        print!(rt; "{}", str::from_utf8(game.sent.black.as_slice())?)?;
-    }
-    Ok(())
-}
-
-// A game between the engines with the commands `a` and `b`.
-fn plan_in_memory() -> Result<GamesPlan<'static>> {
-    Ok(GamesPlan {
-        white: "a",
-        black: "b",
-        level: "40 5 0".parse()?,
-        patience: Patience::ENDLESS,
-        start: Position::initial(),
-        games: 1,
-        date: "????.??.??",
-        log: false,
-    })
 }
 
 // chess_cecp
@@ -203,7 +163,6 @@ pub(crate) fn run(rt: &HostRuntime) -> Result<()> {
     verified(rt, alloc)?;
     arguments(rt, alloc)?;
     println!(rt; "status {}", program(rt, alloc))?;
-    match_in_memory(rt, alloc, &plan_in_memory()?)?;
     // Whether these engines are there depends on the machine, so this one is only proved.
     if false {
         match_of_processes(rt, alloc)?;
