@@ -26,7 +26,7 @@ use std::time::Duration;
 /// A process that runs an engine.
 #[derive(Drop)]
 pub struct Process<P: OpenProcess + Drop> {
-    /// The command by which it was started.
+    /// A copy of the command by which it was to be started.
     command: String,
     child: Child<P>,
 }
