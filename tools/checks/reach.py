@@ -120,11 +120,13 @@ class Reach:
         return found
 
     def misplaced(self):
-        """For each file the definitions that are at the top of specs/ and serve no call, or that are below it and serve one."""
+        """For each file the definitions that are at the top of specs/ and serve no call, or that are below it and serve one. In
+        a crate of laws those at the top serve laws."""
         found = {}
         for key, room in self.rooms().items():
             is_top = not key.module.startswith(("laws.", "shared.", "ties."))
-            if is_top != (room in ("program", "calls")):
+            rooms = ("laws",) if key.crate.endswith("_laws") else ("program", "calls")
+            if is_top != (room in rooms):
                 found.setdefault(key.path, []).append(f"{key.name} ({room})")
         return found
 

@@ -32,6 +32,7 @@ SHORT = {
     "stub": "stub_engine",
     "arbiter": "chess_arbiter",
     "laws": "arbiter_laws",
+    "runner_laws": "match_runner_laws",
     "rules": "rules_laws",
     "devices_tests": "byte_devices_tests",
     "base_tests": "chess_base_tests",
@@ -446,7 +447,7 @@ class Sources:
         return f.is_pub and (f.owner or f.name) in self.exports[f.crate]
 
     def is_law(self, f):
-        return self.is_public(f) and f.path.endswith("/laws.rt")
+        return self.is_public(f) and (f.crate.endswith("_laws") or f.path.endswith("/laws.rt"))
 
     def bound_in_clause(self, f, text):
         """The names that stand for values in a clause: parameters, and what the clause binds."""

@@ -203,7 +203,7 @@ fn matched<H: Host, W: Output, E: Output>(
     output: &mut W,
     log: &mut Log<E>,
 ) -> u8
-    ensures { (λ (l l' : LogSeen). (steps : List HostStep) × StepsPass (H.passed host.old) (H.passed host.new) steps
+    ensures { (λ (l l' : LogSeen). (steps : List HostStep) × StepsPass (H.to_come host.old) (H.to_come host.new) steps
         × (played : Result (Unit {0}) GamesFault) × (logged : LogSeen) × PlaysGamesWith plan.now played steps
         (record { output = W.seen output.old; log = l }) (record { output = W.seen output.new; log = logged })
         × (result ≡ status_of played) × (result ≡ 0 → l' ≡ logged))
@@ -251,7 +251,7 @@ pub fn run_program<'a, H: Host, R: Input, W: Output, E: Output>(
     output: &mut W,
     errors: &mut Log<E>,
 ) -> u8
-    ensures { (steps : List HostStep) × StepsPass (H.passed host.old) (H.passed host.new) steps
+    ensures { (steps : List HostStep) × StepsPass (H.to_come host.old) (H.to_come host.new) steps
         × RanProgram (map (λ w. w.now) arguments.entry.now)
         (record {
           devices = record { input = R.seen input.old; output = W.seen output.old };

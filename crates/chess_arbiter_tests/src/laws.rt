@@ -5,13 +5,16 @@ use arbiter_laws::{
     plain_arguments_are_refused, plain_arguments_are_taken, plain_arguments_do_what_they_say,
     plans_are_named, refused_arguments_are_reported, verify_is_as_asked,
 };
-use match_runner::{logs_give_the_game, logs_have_one_reading, only_last_games_have_failed_writes};
+use match_runner_laws::{
+    logs_give_the_game, logs_have_one_reading, only_last_games_have_failed_writes, steps_might_come,
+};
 
 #[test]
 fn laws_of_matches_are_called() {
     logs_give_the_game();
     logs_have_one_reading();
     only_last_games_have_failed_writes();
+    steps_might_come();
 }
 
 #[test]

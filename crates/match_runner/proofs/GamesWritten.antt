@@ -27,7 +27,7 @@ use Rattle.chess_match.specs.declared.run.MatchEnd.{MatchEnd}
 use Rattle.chess_pgn.specs.GameText.{pgn}
 use Rattle.chess_pgn.specs.declared.tags.Tags.{Tags}
 use Rattle.match_runner.specs.Games.{AreAllGames, GameRecord, IsOfPlan, IsStartFault, LogsGame, LogsGames, PlaysGames, FaultlessGames, count_of, engine_command, first_side, game_log, game_text, game_texts, killed_lines, none_killed, score_line, tags_of}
-use Rattle.match_runner.specs.GamesTable.{AreFresh, AtHost, BeginsAt, ComeInTurn, Finishes, GamesPassing, GamesStep, HostStep, Outputs, Plays, StartFails, Starts, StepsPass, PlaysGamesAt, PlaysGamesWith, WriteFails, Writes, games_steps, steps_by, unstarted_steps}
+use Rattle.match_runner.specs.GamesTable.{AreFresh, AtHost, BeginsAt, ComeInTurn, Finishes, GamesFuture, GamesStep, HostStep, Outputs, Plays, StartFails, Starts, StepsPass, PlaysGamesAt, PlaysGamesWith, WriteFails, Writes, games_steps, steps_by, unstarted_steps}
 use Rattle.match_runner.specs.ties.Playing.{FailsToStart, HasPlayed, PlayedGame, clock_after, logged_side, no_score, plus, score_after, score_of, score_text}
 use Rattle.match_runner.specs.Log.{LogSeen, Logged, log_from}
 use Rattle.match_runner.proofs.Logged.{logged_more, logs_none}
@@ -80,15 +80,13 @@ plan_fault plan number _ h = h
 -- ---- steps
 
 pub steps_none : {S : Type 0} (p : List S → Type 0) → StepsPass p p []
-steps_none {S} p = record {
-  extends = λ before h. subst (λ (K : List S). p K) (sym (append-nil before)) h;
-}
+steps_none {S} p = record { extends = λ after h. h }
 
 pub steps_more : {S : Type 0} (p p' p'' : List S → Type 0) (K J : List S) → StepsPass p p' K → StepsPass p' p'' J
     → StepsPass p p'' (K ++ J)
 steps_more {S} p p' p'' K J h k = record {
-  extends = λ before x. subst (λ (all : List S). p'' all) (append_assoc before K J)
-      (k.extends (before ++ K) (h.extends before x));
+  extends = λ after x. subst (λ (all : List S). p all) (sym (append_assoc K J after))
+      (h.extends (J ++ after) (k.extends after x));
 }
 
 -- ---- one game, step by step
@@ -99,7 +97,7 @@ logs_if : (asked : Bool) (first : Colour) (l l' : LogSeen) (notes : List Note)
 logs_if false first l l' notes h = subst (λ (v : LogSeen). Logged l v []) (sym h) (logs_none l)
 logs_if true first l l' notes h = h
 
-module _ (plan : GamesPlan) (number : ℕ) (c c1 c3 c4 : ℕ → Option ℕ) (p p1 p2 p3 p4 : GamesPassing)
+module _ (plan : GamesPlan) (number : ℕ) (c c1 c3 c4 : ℕ → Option ℕ) (p p1 p2 p3 p4 : GamesFuture)
     (w w' : OutputState) (l l' l'' : LogSeen)
     (white black : List ℕ) (limit : Option ℕ) (first : Option Colour) (played : GameRecord) (tags : Tags)
     (for_white : white ≡ engine_command plan number White) (for_black : black ≡ engine_command plan number Black)
@@ -163,11 +161,11 @@ module _ (plan : GamesPlan) (number : ℕ) (c c1 c3 c4 : ℕ → Option ℕ) (p 
   )
 
 -- the engines could not be started
-pub was_not_started : (plan : GamesPlan) (number : ℕ) (c c' : ℕ → Option ℕ) (p p' : GamesPassing) (w : OutputState)
+pub was_not_started : (plan : GamesPlan) (number : ℕ) (c c' : ℕ → Option ℕ) (p p' : GamesFuture) (w : OutputState)
     (l : LogSeen) (white black : List ℕ) (limit : Option ℕ) (fault : GamesFault)
     → white ≡ engine_command plan number White
     → black ≡ engine_command plan number Black → limit ≡ plan.patience.reply → IsStartFault white black fault
-    → StepsPass p p' (AtHost (StartFails white black limit) ∷ [])
+    → StepsPass p p' (AtHost (StartFails white black limit fault) ∷ [])
     → PlayedGame plan number c c' p p' w w l l (Err fault)
 was_not_started plan number c c' p p' w l white black limit fault for_white for_black limited is steps =
     at fault
@@ -175,7 +173,7 @@ was_not_started plan number c c' p p' w l white black limit fault for_white for_
     (rw (← for_white, ← for_black, ← limited) steps)
   where
     at : (f : GamesFault) → IsStartFault plan.white.now plan.black.now f
-        → StepsPass p p' (unstarted_steps plan number) → PlayedGame plan number c c' p p' w w l l (Err f)
+        → StepsPass p p' (unstarted_steps plan number f) → PlayedGame plan number c c' p p' w w l l (Err f)
     at NoMemory h k = (h, refl, refl, k)
     at (CanNotStart command) h k = (h, refl, refl, k)
     at _ h k = absurd (cc)
@@ -288,7 +286,7 @@ sound_more plan (x ∷ games) g h of none = (h.0, sound_more plan games g h.1 of
 -- ---- so far
 
 -- games without a fault were played, written and logged
-pub record SoFar (plan : GamesPlan) (c c' : ℕ → Option ℕ) (p p' : GamesPassing) (w w' : OutputState) (l l' : LogSeen)
+pub record SoFar (plan : GamesPlan) (c c' : ℕ → Option ℕ) (p p' : GamesFuture) (w w' : OutputState) (l l' : LogSeen)
     (number : ℕ) (score : Score) (games : List GameRecord) : Type 0
   where
     pub games_sound : FaultlessGames plan games
@@ -301,7 +299,7 @@ pub record SoFar (plan : GamesPlan) (c c' : ℕ → Option ℕ) (p p' : GamesPas
     pub in_turn : ComeInTurn c games
     pub clock : c' ≡ clock_after c games
 
-pub start : (plan : GamesPlan) (c : ℕ → Option ℕ) (p : GamesPassing) (w : OutputState) (l : LogSeen)
+pub start : (plan : GamesPlan) (c : ℕ → Option ℕ) (p : GamesFuture) (w : OutputState) (l : LogSeen)
     → SoFar plan c c p p w w l l 1 no_score []
 start plan c p w l = record {
   games_sound = tt;
@@ -315,7 +313,7 @@ start plan c p w l = record {
   clock = refl;
 }
 
-module _ (plan : GamesPlan) (c c' c'' : ℕ → Option ℕ) (p p' p'' : GamesPassing) (w w' w'' : OutputState)
+module _ (plan : GamesPlan) (c c' c'' : ℕ → Option ℕ) (p p' p'' : GamesFuture) (w w' w'' : OutputState)
     (l l' l'' : LogSeen) (number : ℕ) (score : Score) (games : List GameRecord)
     (s : SoFar plan c c' p p' w w' l l' number score games) where
   logged_on : (g : GameRecord) → Logged l' l'' (game_log plan number g) → LogsGames plan l l'' (games ++ g ∷ [])
@@ -422,12 +420,12 @@ module _ (plan : GamesPlan) (c c' c'' : ℕ → Option ℕ) (p p' p'' : GamesPas
 
   -- an engine that could not be started
   not_started : (fault : GamesFault) → number ≤ plan.games → IsStartFault plan.white.now plan.black.now fault
-      → w'' ≡ w' → l'' ≡ l' → StepsPass p' p'' (unstarted_steps plan number)
+      → w'' ≡ w' → l'' ≡ l' → StepsPass p' p'' (unstarted_steps plan number fault)
       → (games : List GameRecord) × (o : ToOutput)
       × (FaultlessGames plan games × (length games < plan.games)
       × IsStartFault plan.white.now plan.black.now fault × (o ≡ all_for games (game_texts plan games)))
       × OutputTook w w'' o × LogsGames plan l l'' (games ++ []) × ComeInTurn c (games ++ [])
-      × StepsPass p p'' (games_steps plan games ++ unstarted_steps plan (length games + 1))
+      × StepsPass p p'' (games_steps plan games ++ unstarted_steps plan (length games + 1) fault)
   not_started fault le is same log steps =
       let n = s.numbered in (
         games,
@@ -437,7 +435,7 @@ module _ (plan : GamesPlan) (c c' c'' : ℕ → Option ℕ) (p p' p'' : GamesPas
         subst (LogsGames plan l l'') (sym (append-nil games))
             (subst (λ v. LogsGames plan l v games) (sym log) s.logged),
         subst (ComeInTurn c) (sym (append-nil games)) s.in_turn,
-        passed_last (λ n. unstarted_steps plan n) steps,
+        passed_last (λ n. unstarted_steps plan n fault) steps,
       )
 
   pub broke_off : (fault : GamesFault) → number ≤ plan.games → PlayedGame plan number c' c'' p' p'' w' w'' l' l'' (Err fault)
@@ -449,7 +447,7 @@ module _ (plan : GamesPlan) (c c' c'' : ℕ → Option ℕ) (p p' p'' : GamesPas
       let (games, o, writes, took, logs, turns, passes) = not_started fault le is same log steps in
       (games, is, (o, writes, took, logs), turns, passes)
 
-pub all_played : (plan : GamesPlan) (c c' : ℕ → Option ℕ) (p p' : GamesPassing) (w w' : OutputState) (l l' : LogSeen)
+pub all_played : (plan : GamesPlan) (c c' : ℕ → Option ℕ) (p p' : GamesFuture) (w w' : OutputState) (l l' : LogSeen)
     (number : ℕ) (score : Score) (games : List GameRecord) → SoFar plan c c' p p' w w' l l' number score games
     → plan.games < number → HasPlayed plan c p p' w w' l l' (Ok (record { score = score; fault = None }))
 all_played plan c c' p p' w w' l l' number score games s past =
@@ -460,7 +458,7 @@ all_played plan c c' p p' w w' l l' number score games s past =
 -- ---- the end of a match
 
 -- what broke off, at the table
-pub broke_at_table : (plan : GamesPlan) (c : ℕ → Option ℕ) (p p' : GamesPassing) (w w' : OutputState) (l l' : LogSeen)
+pub broke_at_table : (plan : GamesPlan) (c : ℕ → Option ℕ) (p p' : GamesFuture) (w w' : OutputState) (l l' : LogSeen)
     (fault : GamesFault) → HasPlayed plan c p p' w w' l l' (Err fault)
     → PlaysGamesAt plan (Err fault) c p p' (outputs w l) (outputs w' l')
 broke_at_table plan c p p' w w' l l' WriteFailed (games, unwritten, these, turns, steps) =
@@ -468,7 +466,7 @@ broke_at_table plan c p p' w w' l l' WriteFailed (games, unwritten, these, turns
 broke_at_table plan c p p' w w' l l' (Game number text) (games, is, these, turns, steps) = absurd (cc)
 broke_at_table plan c p p' w w' l l' _ (games, is, these, turns, steps) = (games, None, these, turns, steps)
 
-module _ (plan : GamesPlan) (c : ℕ → Option ℕ) (p p' : GamesPassing) (w w' w'' : OutputState) (l l' : LogSeen)
+module _ (plan : GamesPlan) (c : ℕ → Option ℕ) (p p' : GamesFuture) (w w' w'' : OutputState) (l l' : LogSeen)
     (played : GamesPlayed) (h : HasPlayed plan c p p' w w' l l' (Ok played)) where
   scored : score_text played.score ≡ score_line h.0
   scored = ap score_text h.2 ∙ score_text_is h.0

@@ -1,70 +1,100 @@
 -- The steps of a table, and those of its host.
-use Rattle.std.proofs.Common.{◌≡◌, ◌∙◌, ℕ, List, [], ◌∷◌, ◌++◌, Option, Result, Err, refl, sym, ap, subst, append-nil, inl, inr}
+use Rattle.std.proofs.Common.{◌≡◌, ◌∙◌, ℕ, List, [], ◌∷◌, ◌++◌, Option, Result, Err, refl, sym, ap, subst, append_assoc, inl, inr}
 use Rattle.std.specs.Prelude.{flat_map, map}
 use Rattle.std.proofs.lemmas.List.Concat.{flat_map-append}
 use Rattle.match_runner.specs.declared.plan.GamesPlan.{GamesPlan}
 use Rattle.match_runner.specs.declared.fault.GamesFault.{GamesFault}
 use Rattle.match_runner.specs.declared.fault.GamesFault.TheVariants.{NoMemory}
-use Rattle.match_runner.specs.GamesTable.{AtHost, GamesStep, HostPassing, HostStep, OpensClock, Outputs, PlaysBy, PlaysGamesAt, PlaysGamesWith, StepsPass, WriteFails, Writes, at_host, of_host}
+use Rattle.match_runner.specs.GamesTable.{AtHost, GamesStep, HostFuture, HostStep, OpensClock, Outputs, PlaysBy, PlaysGamesAt, PlaysGamesWith, StepsPass, WriteFails, Writes, at_host, of_host}
 use Rattle.match_runner.specs.ties.AtHost.{MarkedBy}
 use Rattle.match_runner.proofs.GamesWritten.{steps_more, steps_none}
 
 -- a step of the host
-pub host_passes : (p p' : HostPassing) (name name' : ℕ) (step : HostStep) → name' ≡ name → StepsPass p p' (step ∷ [])
+pub host_passes : (p p' : HostFuture) (name name' : ℕ) (step : HostStep) → name' ≡ name → StepsPass p p' (step ∷ [])
     → StepsPass (MarkedBy p name) (MarkedBy p' name') (AtHost step ∷ [])
 host_passes p p' name name' step same h = record { extends = extends }
   where
-    extends : (before : List GamesStep) → MarkedBy p name before → MarkedBy p' name' (before ++ AtHost step ∷ [])
-    extends (Writes mark ∷ steps) (is, x) = (
-      is ∙ ap (λ (n : ℕ). n ∷ []) (sym same),
-      subst (λ (K : List HostStep). p' K) (sym (flat_map-append of_host steps (AtHost step ∷ [])))
-          (h.extends (at_host steps) x),
-    )
-    extends (WriteFails mark ∷ steps) is = is ∙ ap (λ (n : ℕ). n ∷ []) (sym same)
-    extends _ x = absurd x
+    extends : (after : List GamesStep) → MarkedBy p' name' after → MarkedBy p name (AtHost step ∷ after)
+    extends after (inl (before, is, x)) =
+        inl (AtHost step ∷ before, rw (is, same) refl, h.extends (at_host before) x)
+    extends after (inr (before, is)) = inr (AtHost step ∷ before, rw (is, same) refl)
 
 -- a step at the table alone
-pub table_passes : (p : HostPassing) (name : ℕ) (step : GamesStep) → of_host step ≡ []
+pub table_passes : (p : HostFuture) (name : ℕ) (step : GamesStep) → of_host step ≡ []
     → StepsPass (MarkedBy p name) (MarkedBy p name) (step ∷ [])
 table_passes p name step none = record { extends = extends }
   where
-    extends : (before : List GamesStep) → MarkedBy p name before → MarkedBy p name (before ++ step ∷ [])
-    extends (Writes mark ∷ steps) (is, x) = (
-      is,
-      subst (λ (K : List HostStep). p K)
-          (sym (flat_map-append of_host steps (step ∷ []) ∙ ap (λ (K : List HostStep). at_host steps ++ (K ++ [])) none
-          ∙ append-nil (at_host steps))) x,
+    extends : (after : List GamesStep) → MarkedBy p name after → MarkedBy p name (step ∷ after)
+    extends after (inl (before, is, x)) = inl (
+      step ∷ before,
+      ap (λ (K : List GamesStep). step ∷ K) is,
+      subst (λ (K : List HostStep). p (K ++ at_host before)) (sym none) x,
     )
-    extends (WriteFails mark ∷ steps) is = is
-    extends _ x = absurd x
+    extends after (inr (before, is)) = inr (step ∷ before, ap (λ (K : List GamesStep). step ∷ K) is)
 
 -- the host's steps at a table are themselves
 steps_of_host : (steps : List HostStep) → at_host (map AtHost steps) ≡ steps
 steps_of_host [] = refl
 steps_of_host (step ∷ steps) = ap (λ (K : List HostStep). step ∷ K) (steps_of_host steps)
 
+-- no list is empty that has an element at its end
+not_empty : {A : Type 0} (xs : List A) (x : A) → [] ≡ xs ++ x ∷ [] → ⊥
+not_empty [] x e = cc
+not_empty (y ∷ xs) x e = cc
+
+-- equal lists with an element at their ends are equal before these, and the elements are equal
+parts_same : {A : Type 0} (xs ys : List A) (x y : A) → xs ++ x ∷ [] ≡ ys ++ y ∷ [] → (xs ≡ ys) × (x ≡ y)
+parts_same [] [] x y e = (refl, cc)
+parts_same [] (b ∷ ys) x y e = let f : [] ≡ ys ++ y ∷ [] = cc in absurd (not_empty ys y f)
+parts_same (a ∷ xs) [] x y e = let f : [] ≡ xs ++ x ∷ [] = cc in absurd (not_empty xs x f)
+parts_same (a ∷ xs) (b ∷ ys) x y e =
+    let f : a ≡ b = cc in
+    let g : xs ++ x ∷ [] ≡ ys ++ y ∷ [] = cc in
+    let (is, last) = parts_same xs ys x y g in
+    (rw (f, is) refl, last)
+
+-- a mark at the end of the steps is that of the table
+mark_same : (p : HostFuture) (name name' : ℕ) (steps : List GamesStep)
+    → MarkedBy p name (steps ++ WriteFails (name' ∷ []) ∷ []) → name ≡ name'
+mark_same p name name' steps (inl (before, is, x)) =
+    let last = (parts_same steps before (WriteFails (name' ∷ [])) (Writes (name ∷ [])) is).1 in absurd (cc)
+mark_same p name name' steps (inr (before, is)) =
+    let last = (parts_same steps before (WriteFails (name' ∷ [])) (WriteFails (name ∷ [])) is).1 in cc
+
+-- steps before a mark may come at the host
+unmarked : (p : HostFuture) (name name' : ℕ) (steps : List GamesStep)
+    → MarkedBy p name (steps ++ Writes (name' ∷ []) ∷ []) → p (at_host steps)
+unmarked p name name' steps (inl (before, is, x)) =
+    let same = (parts_same steps before (Writes (name' ∷ [])) (Writes (name ∷ [])) is).0 in
+    subst (λ (K : List GamesStep). p (at_host K)) (sym same) x
+unmarked p name name' steps (inr (before, is)) =
+    let last = (parts_same steps before (Writes (name' ∷ [])) (WriteFails (name ∷ [])) is).1 in absurd (cc)
+
 -- the table still holds the same reference
-pub name_kept : (p p' : HostPassing) (name name' : ℕ) (steps : List GamesStep)
+pub name_kept : (p p' : HostFuture) (name name' : ℕ) (steps : List GamesStep)
     → StepsPass (MarkedBy p name) (MarkedBy p' name') steps → name ≡ name'
-name_kept p p' name name' steps h = head_same (h.extends (WriteFails (name ∷ []) ∷ []) refl)
-  where
-    head_same : name ∷ [] ≡ name' ∷ [] → name ≡ name'
-    head_same e = cc
+name_kept p p' name name' steps h =
+    mark_same p name name' steps (h.extends (WriteFails (name' ∷ []) ∷ []) (inr ([], refl)))
 
 -- what passed at the table passed at the host
-from_table : (p p' : HostPassing) (name name' : ℕ) (steps : List GamesStep)
+from_table : (p p' : HostFuture) (name name' : ℕ) (steps : List GamesStep)
     → StepsPass (MarkedBy p name) (MarkedBy p' name') steps → StepsPass p p' (at_host steps)
 from_table p p' name name' steps h = record {
-  extends = λ before x. subst (λ (K : List HostStep). p' K)
-      (flat_map-append of_host (map AtHost before) steps
-      ∙ ap (λ (K : List HostStep). K ++ at_host steps) (steps_of_host before))
-      (h.extends (Writes (name ∷ []) ∷ map AtHost before)
-      (refl, subst (λ (K : List HostStep). p K) (sym (steps_of_host before)) x)).1;
+  extends = λ after x.
+      let marked = map AtHost after ++ Writes (name' ∷ []) ∷ [] in
+      let there : p' (at_host (map AtHost after)) = subst (λ (K : List HostStep). p' K) (sym (steps_of_host after)) x in
+      let all = subst (λ (K : List GamesStep). MarkedBy p name K)
+          (sym (append_assoc steps (map AtHost after) (Writes (name' ∷ []) ∷ [])))
+          (h.extends marked (inl (map AtHost after, refl, there))) in
+      subst (λ (K : List HostStep). p K)
+          (flat_map-append of_host steps (map AtHost after)
+          ∙ ap (λ (K : List HostStep). at_host steps ++ K) (steps_of_host after))
+          (unmarked p name name' (steps ++ map AtHost after) all);
 }
 
 -- a match at the table of a host, as the host shows it
 pub by_table : (plan : GamesPlan) (result : Result (Unit {0}) GamesFault) (coming : ℕ → Option ℕ)
-    (p p' : HostPassing) (name name' : ℕ) (d d' : Outputs)
+    (p p' : HostFuture) (name name' : ℕ) (d d' : Outputs)
     → PlaysGamesAt plan result coming (MarkedBy p name) (MarkedBy p' name') d d'
     → PlaysBy plan result coming (λ at_table. StepsPass p p' (at_host at_table)) d d'
 by_table plan result coming p p' name name' d d' (games, unwritten, written, turns, steps) =
@@ -72,7 +102,7 @@ by_table plan result coming p p' name name' d d' (games, unwritten, written, tur
 
 -- a match with the host, whose clock was opened before
 pub plays_with : (plan : GamesPlan) (result : Result (Unit {0}) GamesFault) (coming : ℕ → Option ℕ)
-    (p p' p'' : HostPassing) (d d' : Outputs) → StepsPass p p' (OpensClock coming ∷ [])
+    (p p' p'' : HostFuture) (d d' : Outputs) → StepsPass p p' (OpensClock coming ∷ [])
     → PlaysBy plan result coming (λ at_table. StepsPass p' p'' (at_host at_table)) d d'
     → (steps : List HostStep) × StepsPass p p'' steps × PlaysGamesWith plan result steps d d'
 plays_with plan result coming p p' p'' d d' opens (games, unwritten, written, turns, steps) = (
@@ -82,7 +112,7 @@ plays_with plan result coming p p' p'' d d' opens (games, unwritten, written, tu
 )
 
 -- memory ran out before
-pub no_memory : (plan : GamesPlan) (result : Result (Unit {0}) GamesFault) (p : HostPassing) (d : Outputs)
+pub no_memory : (plan : GamesPlan) (result : Result (Unit {0}) GamesFault) (p : HostFuture) (d : Outputs)
     → result ≡ Err NoMemory
     → (steps : List HostStep) × StepsPass p p steps × PlaysGamesWith plan result steps d d
 no_memory plan result p d is = ([], steps_none p, inr (is, refl, refl))

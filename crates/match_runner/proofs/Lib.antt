@@ -1,13 +1,6 @@
 mod GamesWritten
 mod HostSteps
 mod MemorySteps
-mod GameFaults
-mod EntriesRead
 mod Logged
 mod FaultTexts
-mod PlayedAgain
-mod Replays
-mod ResultLines
-mod LogsRead
-mod PgnOfLogs
 mod FirstBytes

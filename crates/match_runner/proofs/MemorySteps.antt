@@ -1,7 +1,7 @@
 -- Steps at a host over memory.
-use Rattle.std.proofs.Common.{◌≡◌, ◌≢◌, ◌∙◌, ◌+◌, ◌≤◌, ◌⊎◌, ℕ, zero, suc, Bool, true, false, List, [], ◌∷◌, ◌++◌, Option, Some, Result, Ok, Err, refl, sym, ap, inl, inr, arith, append-nil, add-one, length}
+use Rattle.std.proofs.Common.{◌≡◌, ◌≢◌, ◌∙◌, ◌+◌, ◌≤◌, ◌⊎◌, ℕ, zero, suc, Bool, true, false, List, [], ◌∷◌, ◌++◌, Option, Some, Result, Ok, Err, refl, sym, ap, inl, inr, arith, append-nil, append_assoc, add-one, length}
 use Rattle.std.proofs.Math.ListN.{get_or, set}
-use Rattle.std.specs.Prelude.{IfSome, cond, count_by}
+use Rattle.std.specs.Prelude.{IfErr, IfSome, cond, count_by}
 use Rattle.std.specs.Result.{IsErr}
 use Rattle.std.specs.Option.{option_map}
 use Rattle.std.specs.List.{slice_get}
@@ -12,62 +12,34 @@ use Rattle.byte_devices.specs.Transfers.{Devices}
 use Rattle.chess_base.specs.declared.man.Colour.{Colour}
 use Rattle.chess_base.specs.declared.man.Colour.TheVariants.{White, Black}
 use Rattle.match_runner.specs.GamesTable.{HostStep, StartFails, Starts, StepsPass, starting}
-use Rattle.match_runner.specs.MemoryHost.{MayCome, MayHavePassed, fresh_pipes, moment_at, next_text, started_by, started_for, started_in}
+use Rattle.match_runner.specs.MemoryHost.{IsFaultOfStart, IsNext, MayCome, fresh_pipes, moment_at, next_text, started_by, started_for, started_in}
+use Rattle.match_runner.specs.declared.fault.GamesFault.{GamesFault}
 use Rattle.match_runner.specs.declared.memory_host.MemoryGame.{MemoryGame}
 use Rattle.match_runner.specs.declared.memory_host.MemoryHost.{MemoryHost}
 
--- no list is empty that has an element after others
-not_empty : {A : Type 0} (before : List A) (x : A) (after : List A) → before ++ x ∷ after ≡ [] → ⊥
-not_empty [] x after e = cc
-not_empty (y ∷ before) x after e = cc
+-- ---- what may come
 
--- an element of a list with one more at its end is that one, or one before it
-in_longer : {A : Type 0} (before : List A) (x : A) (after xs : List A) (y : A) → before ++ x ∷ after ≡ xs ++ y ∷ []
-    → ((before ≡ xs) × (x ≡ y)) ⊎ ((rest : List A) × (before ++ x ∷ rest ≡ xs))
-in_longer [] x after [] y e = inl (refl, cc)
-in_longer [] x after (z ∷ xs) y e = let f : x ≡ z = cc in inr (xs, ap (λ a. a ∷ xs) f)
-in_longer (b ∷ before) x after [] y e = let f : before ++ x ∷ after ≡ [] = cc in absurd (not_empty before x after f)
-in_longer (b ∷ before) x after (z ∷ xs) y e =
-    let f : b ≡ z = cc in
-    let g : before ++ x ∷ after ≡ xs ++ y ∷ [] = cc in
-    elim (in_longer before x after xs y g) [
-      | inl (p, q) ↦ inl (cc, q)
-      | inr (rest, p) ↦ inr (rest, cc)
-    ]
-
--- ---- what may have passed
-
--- one more step, which may come, passed from `host` to `host'`
-one_more : (host host' : MemoryHost) (steps : List HostStep) (step : HostStep)
-    → host'.engines.now ≡ host.engines.now → host'.moments.now ≡ host.moments.now
-    → started_for host'.games.items ≡ started_for host.games.items ++ started_by step
-    → MayCome host.engines.now host.moments.now (started_for host.games.items) step
-    → MayHavePassed host steps → MayHavePassed host' (steps ++ step ∷ [])
-one_more host host' steps step e m g comes passed = record {
-  each = λ before x after cut. rw (e, m) (elim (in_longer before x after steps step cut) [
-    | inl (p, q) ↦ rw (p, q, passed.started) comes
-    | inr (rest, p) ↦ passed.each before x rest p
-  ]);
-  started = flat_map-append started_by steps (step ∷ [])
-      ∙ ap (λ K. started_in steps ++ K) (append-nil (started_by step))
-      ∙ ap (λ K. K ++ started_by step) passed.started ∙ sym g;
-}
-
+-- one step, which may come next, passed from `host` to `host'`
 pub step_passes : (host host' : MemoryHost) (step : HostStep)
     → host'.engines.now ≡ host.engines.now → host'.moments.now ≡ host.moments.now
     → started_for host'.games.items ≡ started_for host.games.items ++ started_by step
-    → MayCome host.engines.now host.moments.now (started_for host.games.items) step
-    → StepsPass (MayHavePassed host) (MayHavePassed host') (step ∷ [])
-step_passes host host' step e m g comes = record {
-  extends = λ before passed. one_more host host' before step e m g comes passed;
-}
-
--- at a host that started nothing yet no step passed
-pub nothing_passed : (host : MemoryHost) → host.games.items ≡ [] → MayHavePassed host []
-nothing_passed host none = record {
-  each = λ before x after cut. absurd (not_empty before x after cut);
-  started = sym (ap started_for none);
-}
+    → IsNext host.engines.now host.moments.now (started_for host.games.items) step
+    → StepsPass (MayCome host) (MayCome host') (step ∷ [])
+step_passes host host' step e m g next = record { extends = extends }
+  where
+    extends : (after : List HostStep) → MayCome host' after → MayCome host (step ∷ after)
+    extends after come [] x rest cut =
+        let is : x ≡ step = cc in
+        rw (is, append-nil (started_for host.games.items)) next
+    extends after come (y ∷ before) x rest cut =
+        let is : y ≡ step = cc in
+        let tail : before ++ x ∷ rest ≡ after = cc in
+        let earlier : started_for host'.games.items ++ started_in before
+            ≡ started_for host.games.items ++ started_in (y ∷ before) =
+            ap (λ K. K ++ started_in before) g
+            ∙ append_assoc (started_for host.games.items) (started_by step) (started_in before)
+            ∙ ap (λ s. started_for host.games.items ++ started_in (s ∷ before)) (sym is) in
+        rw (← e, ← m, ← earlier) (come before x rest tail)
 
 -- ---- the clock
 
@@ -129,19 +101,24 @@ none_there games i P past = rw (slice_get_past games i past) tt
 -- ---- a start
 
 -- none was started
-pub none_starts : (host host' : MemoryHost) (white black : List ℕ) (limit : Option ℕ)
+pub none_starts : (host host' : MemoryHost) (white black : List ℕ) (limit : Option ℕ) (fault : GamesFault)
     → host'.engines ≡ host.engines → host'.moments ≡ host.moments → host'.games.items ≡ host.games.items
-    → StepsPass (MayHavePassed host) (MayHavePassed host') (StartFails white black limit ∷ [])
-none_starts host host' white black limit e m g = step_passes host host' (StartFails white black limit)
-    (ap (λ r. r.now) e) (ap (λ r. r.now) m) (ap started_for g ∙ sym (append-nil (started_for host.games.items))) tt
+    → IsFaultOfStart white black (next_text host.engines.now (started_for host.games.items) white)
+    (next_text host.engines.now (started_for host.games.items ++ white ∷ []) black) fault
+    → StepsPass (MayCome host) (MayCome host') (StartFails white black limit fault ∷ [])
+none_starts host host' white black limit fault e m g is = step_passes host host' (StartFails white black limit fault)
+    (ap (λ r. r.now) e) (ap (λ r. r.now) m) (ap started_for g ∙ sym (append-nil (started_for host.games.items))) is
 
 -- none was started, by the result
-pub none_starts_by : {E F : Type 0} (host host' : MemoryHost) (pipes : E → Colour → Devices) (white black : List ℕ)
-    (limit : Option ℕ) (r : Result E F) → IsErr r
+pub none_starts_by : {E : Type 0} (host host' : MemoryHost) (pipes : E → Colour → Devices) (white black : List ℕ)
+    (limit : Option ℕ) (r : Result E GamesFault) → IsErr r
     → host'.engines ≡ host.engines → host'.moments ≡ host.moments → host'.games.items ≡ host.games.items
-    → StepsPass (MayHavePassed host) (MayHavePassed host') (starting pipes white black limit r ∷ [])
-none_starts_by host host' pipes white black limit (Ok v) bad e m g = absurd (let b : false ≡ true = bad in cc)
-none_starts_by host host' pipes white black limit (Err f) fails e m g = none_starts host host' white black limit e m g
+    → IfErr r (IsFaultOfStart white black (next_text host.engines.now (started_for host.games.items) white)
+    (next_text host.engines.now (started_for host.games.items ++ white ∷ []) black))
+    → StepsPass (MayCome host) (MayCome host') (starting pipes white black limit r ∷ [])
+none_starts_by host host' pipes white black limit (Ok v) bad e m g is = absurd (let b : false ≡ true = bad in cc)
+none_starts_by host host' pipes white black limit (Err f) fails e m g is =
+    none_starts host host' white black limit f e m g is
 
 -- both were started
 pub both_start : (host host' : MemoryHost) (white black white' black' : List ℕ) (limit : Option ℕ)
@@ -151,7 +128,7 @@ pub both_start : (host host' : MemoryHost) (white black white' black' : List ℕ
     → next_text host.engines.now (started_for host.games.items) white ≡ Some white_text
     → next_text host.engines.now (started_for host.games.items ++ white ∷ []) black ≡ Some black_text
     → pipes White ≡ fresh_pipes white_text → pipes Black ≡ fresh_pipes black_text
-    → StepsPass (MayHavePassed host) (MayHavePassed host') (Starts white black limit pipes ∷ [])
+    → StepsPass (MayCome host) (MayCome host') (Starts white black limit pipes ∷ [])
 both_start host host' white black white' black' limit pipes white_text black_text e m g w b wt bt pw pb =
     step_passes host host' (Starts white black limit pipes) (ap (λ r. r.now) e) (ap (λ r. r.now) m)
     (g ∙ ap (λ K. started_for host.games.items ++ K) (cc))

@@ -22,16 +22,17 @@ pub data HostStep : Type 0 where
   -- the engines with these commands, White's and Black's, were started, and `engines` are their pipes. If there is a
   -- limit, a write to them waits for at most so many milliseconds
   Starts : (white : List ℕ) → (black : List ℕ) → (limit : Option ℕ) → (engines : Colour → Devices) → HostStep
-  -- one of them could not be started, and neither runs
-  StartFails : (white : List ℕ) → (black : List ℕ) → (limit : Option ℕ) → HostStep
+  -- one of them could not be started, for this reason, and neither runs
+  StartFails : (white : List ℕ) → (black : List ℕ) → (limit : Option ℕ) → (fault : GamesFault) → HostStep
   -- the inputs of the engines with these pipes were closed, and their ends were waited for. If there is a limit, those
   -- that had not ended after so many milliseconds were killed
   Finishes : (engines : Colour → Devices) → (limit : Option ℕ) → (killed : ByColour Bool) → HostStep
 
 -- the step of starting the engines with these commands, by its result; `engines` gives the pipes of two engines
-abbrev pub starting : {E F : Type 0} → (E → Colour → Devices) → List ℕ → List ℕ → Option ℕ → Result E F → HostStep
+abbrev pub starting : {E : Type 0} → (E → Colour → Devices) → List ℕ → List ℕ → Option ℕ → Result E GamesFault
+    → HostStep
 starting engines white black limit (Ok started) = Starts white black limit (engines started)
-starting engines white black limit (Err _) = StartFails white black limit
+starting engines white black limit (Err fault) = StartFails white black limit fault
 
 -- one step of playing a match's games: one call of a method of the trait `GamesTable`. A table starts and ends engines,
 -- as a host does, and plays and writes their games
@@ -60,22 +61,22 @@ at_host steps = flat_map of_host steps
 
 -- ---- what passed
 
--- what contracts see of a host or a table: the claim, for each list of steps, that just these may have passed there so
--- far, in this order
-abbrev pub HostPassing : Type 1
-HostPassing = List HostStep → Type 0
+-- what contracts see of a host or a table: the claim, for each list of steps, that just these may come there from now
+-- on, in this order
+abbrev pub HostFuture : Type 1
+HostFuture = List HostStep → Type 0
 
--- any steps may have passed at a host
-abbrev pub anything : HostPassing
+-- any steps may come at a host
+abbrev pub anything : HostFuture
 anything steps = ⊤
 
-abbrev pub GamesPassing : Type 1
-GamesPassing = List GamesStep → Type 0
+abbrev pub GamesFuture : Type 1
+GamesFuture = List GamesStep → Type 0
 
--- from the state `old` of a host or a table to `new` these steps passed, in this order: each list of steps that may have
--- passed up to `old`, with these steps at its end, may have passed up to `new`
+-- from the state `old` of a host or a table to `new` these steps passed, in this order: whatever steps may come from
+-- `new` on, these steps and then those might come from `old` on
 pub record StepsPass {S : Type 0} (old new : List S → Type 0) (steps : List S) : Type 0 where
-  pub extends : (before : List S) → old before → new (before ++ steps)
+  pub extends : (after : List S) → new after → old (steps ++ after)
 
 -- ---- the steps of a match
 
@@ -89,10 +90,11 @@ steps_by write plan number played =
     ∷ Plays (record played { killed = none_killed }) ∷ write (game_text plan number played)
     ∷ AtHost (Finishes played.after.engines plan.patience.reply played.killed) ∷ []
 
--- the step of a game with this number whose engines can't be started
-abbrev pub unstarted_steps : GamesPlan → ℕ → List GamesStep
-unstarted_steps plan number =
-    AtHost (StartFails (engine_command plan number White) (engine_command plan number Black) plan.patience.reply) ∷ []
+-- the step of a game with this number whose engines can't be started for this reason
+abbrev pub unstarted_steps : GamesPlan → ℕ → GamesFault → List GamesStep
+unstarted_steps plan number fault =
+    AtHost (StartFails (engine_command plan number White) (engine_command plan number Black) plan.patience.reply fault)
+    ∷ []
 
 -- the steps of these games, one game after another, each of which was written and flushed; they are numbered from 1
 abbrev pub games_steps : GamesPlan → List GameRecord → List GamesStep
@@ -104,8 +106,8 @@ abbrev pub last_steps : GamesPlan → ℕ → Result (Unit {0}) GamesFault → O
 -- the next game was played, but its PGN could not be written
 last_steps plan number result (Some unwritten) = steps_by WriteFails plan number unwritten
 -- the engines of the next game could not be started
-last_steps plan number (Err NoMemory) None = unstarted_steps plan number
-last_steps plan number (Err (CanNotStart _)) None = unstarted_steps plan number
+last_steps plan number (Err NoMemory) None = unstarted_steps plan number NoMemory
+last_steps plan number (Err (CanNotStart command)) None = unstarted_steps plan number (CanNotStart command)
 -- any other result: no next game was begun
 last_steps plan number _ None = []
 
@@ -147,9 +149,9 @@ PlaysBy plan result coming passes d d' =
     × ComeInTurn coming (games ++ option_to_list unwritten)
     × passes (games_steps plan games ++ last_steps plan (length games + 1) result unwritten)
 
--- what playing a match at a table does, whose clock would show the moments `coming`. `p` is what may have passed there
--- before, and `p'` after
-abbrev pub PlaysGamesAt : GamesPlan → Result (Unit {0}) GamesFault → (ℕ → Option ℕ) → GamesPassing → GamesPassing
+-- what playing a match at a table does, whose clock would show the moments `coming`. `p` is what may come there from
+-- before it on, and `p'` from after it on
+abbrev pub PlaysGamesAt : GamesPlan → Result (Unit {0}) GamesFault → (ℕ → Option ℕ) → GamesFuture → GamesFuture
     → Outputs → Outputs → Type 0
 PlaysGamesAt plan result coming p p' d d' = PlaysBy plan result coming (StepsPass p p') d d'
 

@@ -2,5 +2,4 @@ pub mod Games
 pub mod GamesTable
 pub mod Log
 pub mod MemoryHost
-pub mod laws
 pub mod ties

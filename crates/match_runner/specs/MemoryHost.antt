@@ -1,11 +1,10 @@
 -- What is known of a host over memory: what its engines say, and what its clock shows.
 --
--- Of a match with a new host, at which `[]` may have passed, `PlaysGamesWith` says that just the steps of the match may
--- have passed there afterwards (`MayHavePassed`). So each engine says what the host has for this start of its command,
--- and the clock shows the host's moments. From these, the plan, and the writes that fail follows each game (law
--- `OnlyOneMatchOfARun` of chess_match), and from the games all that is written, logged and sent. It is not said that a
--- match leaves the host its engines and moments (they are those that it has afterwards), in which waits an engine that
--- falls silent is silent, nor when memory runs out.
+-- `MayCome` says which steps may come at such a host. No steps (`[]`) may always come, so of a match `PlaysGamesWith`
+-- says that just its steps might come at the host as it was before: each engine says what that host has for this start
+-- of its command, and the clock shows its moments. From these, the plan, and the writes that fail follows each game (law
+-- `OnlyOneMatchOfARun` of chess_match), and from the games all that is written, logged and sent. It is not said in which
+-- waits an engine that falls silent is silent, nor when memory runs out.
 use Rattle.std.specs.Prelude.{◌≡◌, ⊤, ℕ, ◌-◌, ◌^◌, List, [], ◌∷◌, ◌++◌, Option, None, Some}
 use Rattle.std.specs.List.{count_by, find, flat_map, last_or, slice_get}
 use Rattle.std.specs.Option.{option_and_then, option_map, option_or}
@@ -53,31 +52,6 @@ started_by _ = []
 abbrev pub started_in : List HostStep → List (List ℕ)
 started_in steps = flat_map started_by steps
 
--- this step may come at a host with these engines and moments, when the engines with the commands `earlier` were
--- started before
-abbrev pub MayCome : List MemoryEngine → List ℕ → List (List ℕ) → HostStep → Type 0
--- the clock will show these moments
-MayCome engines moments earlier (OpensClock coming) = coming ≡ moment_at 0 moments
--- each engine will say what is given for this start, and was sent nothing yet; White's is started first
-MayCome engines moments earlier (Starts white black limit pipes) =
-    (option_map fresh_pipes (next_text engines earlier white) ≡ Some (pipes White))
-    × (option_map fresh_pipes (next_text engines (earlier ++ white ∷ []) black) ≡ Some (pipes Black))
-MayCome engines moments earlier (StartFails white black limit) = ⊤
--- no engine has to be killed
-MayCome engines moments earlier (Finishes pipes limit killed) = killed ≡ none_killed
-
--- the commands of the engines that were started for these games, one after another
-abbrev pub started_for : List MemoryGame → List (List ℕ)
-started_for games = flat_map (λ g. g.commands.white.now ∷ g.commands.black.now ∷ []) games
-
--- just these steps may have passed at this host, in their order
-pub record MayHavePassed (host : MemoryHost) (steps : List HostStep) : Type 0 where
-  -- each of them may come after those before it
-  pub each : (before : List HostStep) (step : HostStep) (after : List HostStep) → before ++ step ∷ after ≡ steps
-      → MayCome host.engines.now host.moments.now (started_in before) step
-  -- the engines that were started in them are those of the host's games
-  pub started : started_in steps ≡ started_for host.games.items
-
 -- why engines with these commands, White's and Black's, are not started, if these are the texts that they would say:
 -- White's has no text; or White's has one and Black's has none; or memory ran out
 abbrev pub IsFaultOfStart : List ℕ → List ℕ → Option (List ℕ) → Option (List ℕ) → GamesFault → Type 0
@@ -85,3 +59,29 @@ IsFaultOfStart white black None _ (CanNotStart command) = command.now ≡ white
 IsFaultOfStart white black (Some _) None (CanNotStart command) = command.now ≡ black
 IsFaultOfStart white black (Some _) (Some _) fault = fault ≡ NoMemory
 IsFaultOfStart white black _ _ _ = ⊥
+
+-- this step may come next at a host with these engines and moments, when the engines with the commands `earlier` were
+-- started before
+abbrev pub IsNext : List MemoryEngine → List ℕ → List (List ℕ) → HostStep → Type 0
+-- the clock will show these moments
+IsNext engines moments earlier (OpensClock coming) = coming ≡ moment_at 0 moments
+-- each engine will say what is given for this start, and was sent nothing yet; White's is started first
+IsNext engines moments earlier (Starts white black limit pipes) =
+    (option_map fresh_pipes (next_text engines earlier white) ≡ Some (pipes White))
+    × (option_map fresh_pipes (next_text engines (earlier ++ white ∷ []) black) ≡ Some (pipes Black))
+-- nothing is given for one of these starts, or memory ran out
+IsNext engines moments earlier (StartFails white black limit fault) =
+    IsFaultOfStart white black (next_text engines earlier white) (next_text engines (earlier ++ white ∷ []) black) fault
+-- no engine has to be killed
+IsNext engines moments earlier (Finishes pipes limit killed) = killed ≡ none_killed
+
+-- the commands of the engines that were started for these games, one after another
+abbrev pub started_for : List MemoryGame → List (List ℕ)
+started_for games = flat_map (λ g. g.commands.white.now ∷ g.commands.black.now ∷ []) games
+
+-- just these steps may come at this host from now on: each may come after the engines that were started for the host's
+-- games, and then in the steps before it
+abbrev pub MayCome : MemoryHost → List HostStep → Type 0
+MayCome host steps =
+    (before : List HostStep) (step : HostStep) (after : List HostStep) → before ++ step ∷ after ≡ steps
+    → IsNext host.engines.now host.moments.now (started_for host.games.items ++ started_in before) step

@@ -121,7 +121,7 @@ fn play_game<'a, T: GamesTable, W: Output, E: Output>(
     requires limit { (T.game table.old).limit ≡ MOST_MOVES }
     ensures limit { (T.game table.new).limit ≡ MOST_MOVES }
     ensures played { PlayedGame plan.now number (T.coming table.old) (T.coming table.new)
-        (T.passed table.old) (T.passed table.new)
+        (T.to_come table.old) (T.to_come table.new)
         (W.seen output.old) (W.seen output.new)
         (log_seen (E.seen log.old.output) log.old.broken) (log_seen (E.seen log.new.output) log.new.broken)
         result }
@@ -173,7 +173,7 @@ fn play_each<'a, T: GamesTable, W: Output, E: Output>(
     log: &mut Log<E>,
 ) -> Result<GamesPlayed, GamesFault<'a>>
     requires { (T.game table.old).limit ≡ MOST_MOVES }
-    ensures { HasPlayed plan.now (T.coming table.old) (T.passed table.old) (T.passed table.new)
+    ensures { HasPlayed plan.now (T.coming table.old) (T.to_come table.old) (T.to_come table.new)
         (W.seen output.old) (W.seen output.new)
         (log_seen (E.seen log.old.output) log.old.broken) (log_seen (E.seen log.new.output) log.new.broken)
         result }
@@ -211,7 +211,7 @@ pub fn play_games_at<'a, T: GamesTable, W: Output, E: Output>(
     log: &mut Log<E>,
 ) -> Result<(), GamesFault<'a>>
     requires { (T.game table.old).limit ≡ MOST_MOVES }
-    ensures plays { PlaysGamesAt plan.now result (T.coming table.old) (T.passed table.old) (T.passed table.new)
+    ensures plays { PlaysGamesAt plan.now result (T.coming table.old) (T.to_come table.old) (T.to_come table.new)
         (record { output = W.seen output.old; log = log_seen (E.seen log.old.output) log.old.broken })
         (record { output = W.seen output.new; log = log_seen (E.seen log.new.output) log.new.broken }) }
 {
@@ -233,7 +233,7 @@ fn play_games_by<'a, 't, H: Host, W: Output, E: Output>(
 ) -> Result<(), GamesFault<'a>>
     requires { seat.game.limit ≡ MOST_MOVES }
     ensures { PlaysBy plan.now result (H.Clock.coming seat.entry.clock)
-        (λ at_table. StepsPass (H.passed host.old) (H.passed host.new) (at_host at_table))
+        (λ at_table. StepsPass (H.to_come host.old) (H.to_come host.new) (at_host at_table))
         (record { output = W.seen output.old; log = log_seen (E.seen log.old.output) log.old.broken })
         (record { output = W.seen output.new; log = log_seen (E.seen log.new.output) log.new.broken }) }
 {
@@ -269,7 +269,7 @@ pub fn play_games_with<'a, H: Host, W: Output, E: Output>(
     output: &mut W,
     log: &mut Log<E>,
 ) -> Result<(), GamesFault<'a>>
-    ensures plays { (steps : List HostStep) × StepsPass (H.passed host.old) (H.passed host.new) steps
+    ensures plays { (steps : List HostStep) × StepsPass (H.to_come host.old) (H.to_come host.new) steps
         × PlaysGamesWith plan.now result steps
         (record { output = W.seen output.old; log = log_seen (E.seen log.old.output) log.old.broken })
         (record { output = W.seen output.new; log = log_seen (E.seen log.new.output) log.new.broken }) }

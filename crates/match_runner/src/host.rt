@@ -40,12 +40,12 @@ pub trait Host {
     /// A clock.
     type Clock: Moments + Drop;
 
-    /// What contracts see of it: which steps may have passed, in their order.
-    ghost passed: { Self → List HostStep → Type 0 };
+    /// What contracts see of it: which steps may come from now on, in their order.
+    ghost to_come: { Self → List HostStep → Type 0 };
 
     /// Opens the clock of a match.
     fn open_clock(&mut self) -> Self::Clock
-        ensures passes { StepsPass (passed self.old) (passed self.new) (OpensClock (Self.Clock.coming result) ∷ []) };
+        ensures passes { StepsPass (to_come self.old) (to_come self.new) (OpensClock (Self.Clock.coming result) ∷ []) };
 
     /// Starts two engines by their commands, White's and Black's; or none, if one of them can't be started. Each write
     /// to them may wait for at most `limit` milliseconds, if there is a limit.
@@ -61,7 +61,7 @@ pub trait Host {
         ensures fails { IfErr result (IsStartFault white.entry.now black.entry.now) }
         ensures fresh { IfOk result (λ e. (S : Colour)
             → AreFresh (engines_of Self.Reader.seen Self.Writer.seen e.ends.white e.ends.black S)) }
-        ensures passes { StepsPass (passed self.old) (passed self.new)
+        ensures passes { StepsPass (to_come self.old) (to_come self.new)
             (starting (λ e. engines_of Self.Reader.seen Self.Writer.seen e.ends.white e.ends.black)
             white.entry.now black.entry.now limit result ∷ []) };
 
@@ -72,7 +72,7 @@ pub trait Host {
         engines: Engines<Self::Running, Self::Reader, Self::Writer>,
         limit: Option<u64>,
     ) -> ByColour<bool>
-        ensures passes { StepsPass (passed self.old) (passed self.new)
+        ensures passes { StepsPass (to_come self.old) (to_come self.new)
             (Finishes (engines_of Self.Reader.seen Self.Writer.seen engines.ends.white engines.ends.black)
             limit result ∷ []) }
         ensures spared { limit ≡ None → result ≡ none_killed };

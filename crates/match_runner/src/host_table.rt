@@ -85,8 +85,8 @@ impl<'t, H: Host> GamesTable for HostTable<'t, '_, '_, '_, '_, H> {
 
     type Engines = Engines<H::Running, H::Reader, H::Writer>;
 
-    // The steps whose part at the host may have passed there, at the same host.
-    ghost passed = { λ t. MarkedBy (H.passed t.host.now) t.host.ghost_name };
+    // The steps whose part at the host may come there, at the same host.
+    ghost to_come = { λ t. MarkedBy (H.to_come t.host.now) t.host.ghost_name };
 
     ghost game = { λ t. t.game.now };
 

@@ -7,7 +7,7 @@ ghost use Rattle.chess_base.specs.declared.man.Colour.{Colour};
 ghost use Rattle.chess_match.specs.Run.{engines_of};
 ghost use Rattle.match_runner.specs.Games.{IsStartFault, none_killed};
 ghost use Rattle.match_runner.specs.GamesTable.{AreFresh, Finishes, OpensClock, StepsPass, starting};
-ghost use Rattle.match_runner.specs.MemoryHost.{IsFaultOfStart, MayHavePassed, fresh_pipes, moment_at, next_text, started_for, text_of_start};
+ghost use Rattle.match_runner.specs.MemoryHost.{IsFaultOfStart, MayCome, fresh_pipes, moment_at, next_text, started_for, text_of_start};
 
 use crate::fault::GamesFault;
 use crate::host::{Engines, Host};
@@ -102,7 +102,7 @@ impl<'t> MemoryHost<'t> {
     pub fn new(alloc: Global, engines: &'t [MemoryEngine<'t>], moments: &'t [u64]) -> Self
         ensures engines { result.engines.now ≡ engines.now }
         ensures moments { result.moments.now ≡ moments.now }
-        ensures passed { MayHavePassed result [] }
+        ensures started { started_for result.games.items ≡ [] }
     {
         MemoryHost {
             engines,
@@ -268,7 +268,7 @@ impl<'t> Start<'t> {
 }
 
 impl<'t> Host for MemoryHost<'t> {
-    ghost use Rattle.match_runner.specs.MemoryHost.{MayHavePassed};
+    ghost use Rattle.match_runner.specs.MemoryHost.{MayCome};
 
     // The index of the game for which the engines were started.
     type Running = usize;
@@ -279,7 +279,7 @@ impl<'t> Host for MemoryHost<'t> {
 
     type Clock = MemoryClock<'t>;
 
-    ghost passed = { MayHavePassed };
+    ghost to_come = { MayCome };
 
     // Shows the moments from the first on.
     fn open_clock(&mut self) -> MemoryClock<'t> {
@@ -299,7 +299,7 @@ impl<'t> Host for MemoryHost<'t> {
         ensures fails { IfErr result (IsStartFault white.entry.now black.entry.now) }
         ensures fresh { IfOk result (λ e. (S : Colour) → AreFresh (engines_of
             ⟦<SilentAfter<&'t [u8]> as Input>⟧.seen ⟦<Counted<Vec<u8>> as Output>⟧.seen e.ends.white e.ends.black S)) }
-        ensures passes { StepsPass (MayHavePassed self.old) (MayHavePassed self.new) (starting (λ e. engines_of
+        ensures passes { StepsPass (MayCome self.old) (MayCome self.new) (starting (λ e. engines_of
             ⟦<SilentAfter<&'t [u8]> as Input>⟧.seen ⟦<Counted<Vec<u8>> as Output>⟧.seen e.ends.white e.ends.black)
             white.entry.now black.entry.now limit result ∷ []) }
         ensures cause { IfErr result (IsFaultOfStart white.entry.now black.entry.now
@@ -327,7 +327,7 @@ impl<'t> Host for MemoryHost<'t> {
         engines: Engines<usize, SilentAfter<&'t [u8]>, Counted<Vec<u8>>>,
         limit: Option<u64>,
     ) -> ByColour<bool>
-        ensures passes { StepsPass (MayHavePassed self.old) (MayHavePassed self.new) (Finishes (engines_of
+        ensures passes { StepsPass (MayCome self.old) (MayCome self.new) (Finishes (engines_of
             ⟦<SilentAfter<&'t [u8]> as Input>⟧.seen ⟦<Counted<Vec<u8>> as Output>⟧.seen
             engines.entry.ends.white engines.entry.ends.black) limit result ∷ []) }
         ensures spared { limit ≡ None → result ≡ none_killed }

@@ -366,8 +366,8 @@ where
 
     ghost use Rattle.match_runner.specs.GamesTable.{anything};
 
-    // Any steps may have passed: it doesn't count them.
-    ghost passed = { λ h. anything };
+    // Any steps may come: nothing is known of the processes.
+    ghost to_come = { λ h. anything };
 
     // Begins the clock anew: it is also the one by which engines are waited for.
     fn open_clock(&mut self) -> SinceStart<'t, R> {

@@ -29,8 +29,8 @@ pub trait GamesTable {
     /// Two running engines. Code that is generic in the table can't drop such a value: it must be given to `finish`.
     type Engines;
 
-    /// What contracts see of it: which steps may have passed, in their order.
-    ghost passed: { Self → List GamesStep → Type 0 };
+    /// What contracts see of it: which steps may come from now on, in their order.
+    ghost to_come: { Self → List GamesStep → Type 0 };
 
     /// The game that is played, or was played last.
     ghost game: { Self → Seen };
@@ -51,7 +51,7 @@ pub trait GamesTable {
     ) -> Result<Self::Engines, GamesFault<'a>>
         ensures fails { IfErr result (IsStartFault white.entry.now black.entry.now) }
         ensures fresh { IfOk result (λ e. (S : Colour) → AreFresh (devices e S)) }
-        ensures passes { StepsPass (passed self.old) (passed self.new)
+        ensures passes { StepsPass (to_come self.old) (to_come self.new)
             (AtHost (starting devices white.entry.now black.entry.now limit result) ∷ []) }
         ensures game { game self.new ≡ game self.old }
         ensures clock { coming self.new ≡ coming self.old };
@@ -71,7 +71,7 @@ pub trait GamesTable {
             × PlayedNoting (λ given. given ≡ notes) setup.now result
             (record { engines = devices engines.old; coming = coming self.old; game = game self.old })
             (record { engines = devices engines.new; coming = coming self.new; game = game self.new })
-            × StepsPass (passed self.old) (passed self.new)
+            × StepsPass (to_come self.old) (to_come self.new)
             (Plays (record {
               before = record { engines = devices engines.old; coming = coming self.old; game = game self.old };
               after = record { engines = devices engines.new; coming = coming self.new; game = game self.new };
@@ -84,7 +84,7 @@ pub trait GamesTable {
     fn write_game<W: Output>(&mut self, tags: &Tags, output: &mut W) -> Result<(), WriteFault>
         ensures sends { Sends (W.seen output.old) (W.seen output.new) result
             (pgn [] tags.now (game self.old).state) }
-        ensures passes { StepsPass (passed self.old) (passed self.new)
+        ensures passes { StepsPass (to_come self.old) (to_come self.new)
             (writing (is_err result) (pgn [] tags.now (game self.old).state) ∷ []) }
         ensures game { game self.new ≡ game self.old }
         ensures clock { coming self.new ≡ coming self.old };
@@ -92,7 +92,7 @@ pub trait GamesTable {
     /// Closes the inputs of these engines, and waits for their ends; if there is a limit, an engine that has not ended
     /// after so many milliseconds is killed. Returns which were killed.
     fn finish(&mut self, engines: Self::Engines, limit: Option<u64>) -> ByColour<bool>
-        ensures passes { StepsPass (passed self.old) (passed self.new)
+        ensures passes { StepsPass (to_come self.old) (to_come self.new)
             (AtHost (Finishes (devices engines) limit result) ∷ []) }
         ensures spared { limit ≡ None → result ≡ none_killed }
         ensures game { game self.new ≡ game self.old }

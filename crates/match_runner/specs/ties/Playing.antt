@@ -18,7 +18,7 @@ use Rattle.match_runner.specs.declared.fault.GamesFault.TheVariants.{WriteFailed
 use Rattle.match_runner.specs.declared.games.GamesPlayed.{GamesPlayed}
 use Rattle.match_runner.specs.declared.score.Score.{Score}
 use Rattle.match_runner.specs.Games.{first_side, GameRecord, IsOfPlan, game_text, game_log, IsStartFault, game_texts, LogsGames, WritesGames, count_of, AreAllGames}
-use Rattle.match_runner.specs.GamesTable.{BeginsAt, ComeInTurn, GamesPassing, Outputs, StepsPass, WriteFails, Writes, games_steps, steps_by, unstarted_steps}
+use Rattle.match_runner.specs.GamesTable.{BeginsAt, ComeInTurn, GamesFuture, Outputs, StepsPass, WriteFails, Writes, games_steps, steps_by, unstarted_steps}
 
 -- ---- the score, as it is counted
 
@@ -76,8 +76,8 @@ clock_after coming (played ∷ games) = clock_after played.after.coming games
 
 -- what playing the game of this number does, by its result: its PGN was written and flushed, and the game logged; or
 -- only a beginning of the PGN was written; or its engines could not be started. `c` is what the table's clock would
--- show before, `p` what may have passed there, `w` and `l` are output and log; `c'`, `p'`, `w'` and `l'` after
-abbrev pub PlayedGame : GamesPlan → ℕ → (ℕ → Option ℕ) → (ℕ → Option ℕ) → GamesPassing → GamesPassing → OutputState
+-- show before, `p` what may come there, `w` and `l` are output and log; `c'`, `p'`, `w'` and `l'` after
+abbrev pub PlayedGame : GamesPlan → ℕ → (ℕ → Option ℕ) → (ℕ → Option ℕ) → GamesFuture → GamesFuture → OutputState
     → OutputState → LogSeen → LogSeen → Result MatchEnd GamesFault → Type 0
 PlayedGame plan number c c' p p' w w' l l' (Ok end) =
     (played : GameRecord) × (played.end ≡ end) × IsOfPlan plan played × Sent w w' (game_text plan number played)
@@ -89,7 +89,7 @@ PlayedGame plan number c c' p p' w w' l l' (Err WriteFailed) =
     × BeginsAt c played
 PlayedGame plan number c c' p p' w w' l l' (Err fault) =
     IsStartFault plan.white.now plan.black.now fault × (w' ≡ w) × (l' ≡ l)
-    × StepsPass p p' (unstarted_steps plan number)
+    × StepsPass p p' (unstarted_steps plan number fault)
 
 -- from `d` to `d'` just these games were played, with this result, as `PlaysGames` has it: the PGN of `games` was
 -- written, and `unwritten` was played after them, but its PGN could not be written (`None`: there is no such game)
@@ -101,8 +101,8 @@ PlaysThese plan result games unwritten d d' =
 
 -- what playing the games of a match does, by its result: each was written and logged, and the score counts them, up to
 -- and with one that has a fault; or the match broke off in a game or at its start. `c` is what the table's clock would
--- show before, `p` what may have passed there, `w` and `l` are output and log; `p'`, `w'` and `l'` after
-abbrev pub HasPlayed : GamesPlan → (ℕ → Option ℕ) → GamesPassing → GamesPassing → OutputState → OutputState → LogSeen
+-- show before, `p` what may come there, `w` and `l` are output and log; `p'`, `w'` and `l'` after
+abbrev pub HasPlayed : GamesPlan → (ℕ → Option ℕ) → GamesFuture → GamesFuture → OutputState → OutputState → LogSeen
     → LogSeen → Result GamesPlayed GamesFault → Type 0
 HasPlayed plan c p p' w w' l l' (Ok played) =
     (games : List GameRecord) × AreAllGames plan games played.fault × (played.score ≡ score_of games)
@@ -117,4 +117,4 @@ HasPlayed plan c p p' w w' l l' (Err fault) =
     (games : List GameRecord) × IsStartFault plan.white.now plan.black.now fault
     × PlaysThese plan (Err fault) games None (record { output = w; log = l }) (record { output = w'; log = l' })
     × ComeInTurn c (games ++ [])
-    × StepsPass p p' (games_steps plan games ++ unstarted_steps plan (length games + 1))
+    × StepsPass p p' (games_steps plan games ++ unstarted_steps plan (length games + 1) fault)

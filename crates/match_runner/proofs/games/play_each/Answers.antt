@@ -13,7 +13,7 @@ use Rattle.match_runner.proofs.games.play_each.Goals as goal
 pub loop-number-init : goal.loop-number-init
 loop-number-init g c =
     let t = g.T.GamesTable.coming c.args.table.now in
-    let p = g.T.GamesTable.passed c.args.table.now in
+    let p = g.T.GamesTable.to_come c.args.table.now in
     let w = g.W.Output.seen c.args.output.now in
     let l = log_seen (g.E.Output.seen c.args.log.now.output) c.args.log.now.broken in (
       c.requires,
@@ -27,11 +27,11 @@ returns-in_err-end g c =
     let t = g.T.GamesTable.coming c.args.table.now in
     let t' = g.T.GamesTable.coming c.loop-number.table in
     let t'' = g.T.GamesTable.coming c.play_game.new.table in
-    let p = g.T.GamesTable.passed c.args.table.now in
+    let p = g.T.GamesTable.to_come c.args.table.now in
     let w = g.W.Output.seen c.args.output.now in
-    let p' = g.T.GamesTable.passed c.loop-number.table in
+    let p' = g.T.GamesTable.to_come c.loop-number.table in
     let w' = g.W.Output.seen c.loop-number.output in
-    let p'' = g.T.GamesTable.passed c.play_game.new.table in
+    let p'' = g.T.GamesTable.to_come c.play_game.new.table in
     let w'' = g.W.Output.seen c.play_game.new.output in
     let l = log_seen (g.E.Output.seen c.args.log.now.output) c.args.log.now.broken in
     let l' = log_seen (g.E.Output.seen c.loop-number.log.output) c.loop-number.log.broken in
@@ -48,11 +48,11 @@ returns-in-Some g c =
     let t' = g.T.GamesTable.coming c.loop-number.table in
     let t'' = g.T.GamesTable.coming c.play_game.new.table in
     let plan = c.args.plan.now in
-    let p = g.T.GamesTable.passed c.args.table.now in
+    let p = g.T.GamesTable.to_come c.args.table.now in
     let w = g.W.Output.seen c.args.output.now in
-    let p' = g.T.GamesTable.passed c.loop-number.table in
+    let p' = g.T.GamesTable.to_come c.loop-number.table in
     let w' = g.W.Output.seen c.loop-number.output in
-    let p'' = g.T.GamesTable.passed c.play_game.new.table in
+    let p'' = g.T.GamesTable.to_come c.play_game.new.table in
     let w'' = g.W.Output.seen c.play_game.new.output in
     let l = log_seen (g.E.Output.seen c.args.log.now.output) c.args.log.now.broken in
     let l' = log_seen (g.E.Output.seen c.loop-number.log.output) c.loop-number.log.broken in
@@ -83,11 +83,11 @@ loop-number-preserved g c =
     let t' = g.T.GamesTable.coming c.loop-number.table in
     let t'' = g.T.GamesTable.coming c.play_game.new.table in
     let plan = c.args.plan.now in
-    let p = g.T.GamesTable.passed c.args.table.now in
+    let p = g.T.GamesTable.to_come c.args.table.now in
     let w = g.W.Output.seen c.args.output.now in
-    let p' = g.T.GamesTable.passed c.loop-number.table in
+    let p' = g.T.GamesTable.to_come c.loop-number.table in
     let w' = g.W.Output.seen c.loop-number.output in
-    let p'' = g.T.GamesTable.passed c.play_game.new.table in
+    let p'' = g.T.GamesTable.to_come c.play_game.new.table in
     let w'' = g.W.Output.seen c.play_game.new.output in
     let l = log_seen (g.E.Output.seen c.args.log.now.output) c.args.log.now.broken in
     let l' = log_seen (g.E.Output.seen c.loop-number.log.output) c.loop-number.log.broken in
@@ -120,6 +120,6 @@ returns g c =
     let l = log_seen (g.E.Output.seen c.args.log.now.output) c.args.log.now.broken in
     let l' = log_seen (g.E.Output.seen c.loop-number.log.output) c.loop-number.log.broken in
     all_played c.args.plan.now (g.T.GamesTable.coming c.args.table.now) (g.T.GamesTable.coming c.loop-number.table)
-    (g.T.GamesTable.passed c.args.table.now) (g.T.GamesTable.passed c.loop-number.table)
+    (g.T.GamesTable.to_come c.args.table.now) (g.T.GamesTable.to_come c.loop-number.table)
     (g.W.Output.seen c.args.output.now) (g.W.Output.seen c.loop-number.output) l l'
     (c.loop-number.number + 1) c.loop-number.score c.loop-number.invariant.1 c.loop-number.invariant.2 past

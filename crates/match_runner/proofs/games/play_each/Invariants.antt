@@ -10,7 +10,7 @@ abbrev pub invariant-loop-number : goal.invariant-loop-number
 invariant-loop-number g l =
     ((g.T.GamesTable.game l.table).limit ≡ MOST_MOVES) × (games : List GameRecord)
     × SoFar l.plan (g.T.GamesTable.coming l.fn.table) (g.T.GamesTable.coming l.table)
-    (g.T.GamesTable.passed l.fn.table) (g.T.GamesTable.passed l.table)
+    (g.T.GamesTable.to_come l.fn.table) (g.T.GamesTable.to_come l.table)
     (g.W.Output.seen l.fn.output) (g.W.Output.seen l.output)
     (log_seen (g.E.Output.seen l.fn.log.output) l.fn.log.broken)
     (log_seen (g.E.Output.seen l.log.output) l.log.broken)

@@ -4,12 +4,12 @@ use Rattle.match_runner.proofs.MemorySteps.{both_start, none_starts, none_starts
 use Rattle.match_runner.proofs.memory_host.MemoryHostHost.start.Goals as goal
 
 pub returns-in_err-starts-clause-passes : goal.returns-in_err-starts-clause-passes
-returns-in_err-starts-clause-passes c = none_starts_by _ _ _ _ _ _ _ c.from_residual.ensures.0 refl refl refl
+returns-in_err-starts-clause-passes c = none_starts_by _ _ _ _ _ _ _ c.from_residual.ensures.0 refl refl refl _
 
 pub returns-in_default-clause-passes : goal.returns-in_default-clause-passes
 returns-in_default-clause-passes c =
     let s = c.in_default.ensures in
-    none_starts _ _ _ _ _ s.engines s.moments s.same
+    none_starts _ _ _ _ _ _ s.engines s.moments s.same refl
 
 pub returns-clause-passes : goal.returns-clause-passes
 returns-clause-passes c =

@@ -18,7 +18,7 @@ use Rattle.chess_match.specs.declared.reason.Reason.{Reason}
 use Rattle.chess_match.specs.declared.reason.Reason.TheVariants.{Faulted}
 use Rattle.chess_match.specs.declared.run.MatchEnd.{MatchEnd}
 use Rattle.chess_match.specs.declared.run.Setup.{Setup}
-use Rattle.match_runner.specs.laws.Faults.{OnlyLastGamesHaveFailedWrites}
+use Rattle.match_runner_laws.specs.Faults.{OnlyLastGamesHaveFailedWrites}
 
 -- ---- a match without a fault
 

@@ -1,14 +1,7 @@
-//! Laws of the games of a match.
+//! Laws of logs.
 
-ghost use Rattle.match_runner.specs.laws.Entries.{LogsHaveOneReading};
-ghost use Rattle.match_runner.specs.laws.Faults.{OnlyLastGamesHaveFailedWrites};
-ghost use Rattle.match_runner.specs.laws.ReadBack.{LogsGiveTheGame, LogsGiveTheOutput, LogsGiveThePgn, LogsShow};
-
-/// States a law and does nothing: a game without a fault of an engine leaves the counts of failed writes and flushes of
-/// both engines' inputs as they were, also at its end lines. So only the last game of a match can raise them.
-pub fn only_last_games_have_failed_writes()
-    ensures { OnlyLastGamesHaveFailedWrites }
-{}
+ghost use Rattle.match_runner_laws.specs.Entries.{LogsHaveOneReading};
+ghost use Rattle.match_runner_laws.specs.ReadBack.{LogsGiveTheGame, LogsGiveTheOutput, LogsGiveThePgn, LogsShow};
 
 /// States a law and does nothing: a log whose lines' texts are printable ASCII can be read in only one way, as these
 /// lines with their moments, marks and engines (`first`, the engine of `--white`, or `second`).

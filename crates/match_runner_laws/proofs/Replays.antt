@@ -20,8 +20,8 @@ use Rattle.chess_match.specs.declared.reason.MatchFault.TheVariants.{Ended, Read
 use Rattle.chess_match.specs.declared.reason.Reason.{Reason}
 use Rattle.chess_match.specs.declared.reason.Reason.TheVariants.{Faulted}
 use Rattle.chess_match.specs.laws.Laws.{events_in, line_kind, notes_given}
-use Rattle.match_runner.specs.laws.ReadBack.{events_shown}
-use Rattle.match_runner.proofs.PlayedAgain.{Again, Falls, Stops, again, anew, ends_by_flag, last_lines, line_again, opened, over_again, reopen, shown_reason, silence_again, waits}
+use Rattle.match_runner_laws.specs.ReadBack.{events_shown}
+use Rattle.match_runner_laws.proofs.PlayedAgain.{Again, Falls, Stops, again, anew, ends_by_flag, last_lines, line_again, opened, over_again, reopen, shown_reason, silence_again, waits}
 
 -- ---- the last notes
 

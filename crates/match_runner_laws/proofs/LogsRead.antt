@@ -26,12 +26,12 @@ use Rattle.chess_match.specs.declared.reason.MatchFault.{MatchFault}
 use Rattle.chess_match.specs.declared.reason.Reason.{Reason}
 use Rattle.chess_match.specs.declared.reason.Reason.TheVariants.{Decided, Faulted}
 use Rattle.match_runner.specs.Log.{lines_in, moment_after}
-use Rattle.match_runner.specs.laws.Entries.{Entry, entries_from, note_entries}
-use Rattle.match_runner.specs.laws.ReadBack.{LogsGiveTheGame, LogsShow, entry_event, entry_given, events_shown, result_line, text_of_result}
-use Rattle.match_runner.proofs.EntriesRead.{log_is, logs_have_one_reading}
-use Rattle.match_runner.proofs.PlayedAgain.{again, ends_by_flag, last_lines, shown_reason}
-use Rattle.match_runner.proofs.Replays.{EndsAs, match_goes, replayed}
-use Rattle.match_runner.proofs.ResultLines.{reason_of, reason_read, result_plain}
+use Rattle.match_runner_laws.specs.Entries.{Entry, entries_from, note_entries}
+use Rattle.match_runner_laws.specs.ReadBack.{LogsGiveTheGame, LogsShow, entry_event, entry_given, events_shown, result_line, text_of_result}
+use Rattle.match_runner_laws.proofs.EntriesRead.{log_is, logs_have_one_reading}
+use Rattle.match_runner_laws.proofs.PlayedAgain.{again, ends_by_flag, last_lines, shown_reason}
+use Rattle.match_runner_laws.proofs.Replays.{EndsAs, match_goes, replayed}
+use Rattle.match_runner_laws.proofs.ResultLines.{reason_of, reason_read, result_plain}
 
 -- ---- events
 

@@ -1,6 +1,6 @@
 -- The lines of a log are read back from its text.
 use Rattle.std.proofs.Common.{◌≡◌, ◌∙◌, ℕ, Bool, true, false, List, [], ◌∷◌, ◌++◌, map, refl, sym, ap, append_assoc, append-nil, Some, None, arith, rules}
-use Rattle.std.specs.Prelude.{◌==◌, codes, decimal, flat_map}
+use Rattle.std.specs.Prelude.{◌==◌, codes, decimal, flat_map, if◌then◌else◌}
 use Rattle.std.proofs.lemmas.Bool.{and_parts}
 use Rattle.std.proofs.lemmas.Bool.Decides.{nat_tests}
 use Rattle.std.specs.Str.Parse.{digits_value}
@@ -16,8 +16,11 @@ use Rattle.chess_game.specs.Results.{shown_byte}
 use Rattle.chess_match.specs.Events.{Line, Opened, Silent, OutputEnds, FailsToRead, FailsToWrite}
 use Rattle.chess_match.specs.Notes.{Note, Happened, Gives}
 use Rattle.match_runner.specs.Log.{lines_in, log_from, log_line, moment_after, note_text}
-use Rattle.match_runner.specs.laws.Entries.{Entry, IsShown, LogsHaveOneReading, entries_from, entries_text, is_printable, note_entries}
-use Rattle.match_runner.specs.ties.Logging.{engine_text}
+use Rattle.match_runner_laws.specs.Entries.{Entry, IsShown, LogsHaveOneReading, entries_from, entries_text, is_printable, note_entries}
+
+-- how the log names an engine: that of `--white` (`is_first`) is `first`
+abbrev engine_text : Bool → List ℕ
+engine_text is_first = if is_first then codes "first : " else codes "second: "
 
 -- no byte is `c`
 abbrev Without : ℕ → List ℕ → Type 0

@@ -29,7 +29,7 @@ use Rattle.chess_match.specs.Lines.{SentLine, Says, ping}
 use Rattle.chess_match.specs.shared.Parts.{answers_to}
 use Rattle.chess_match.specs.Reasons.{is_write_fault_of, reported_reason}
 use Rattle.chess_match.specs.declared.reason.Reason.TheVariants as over_by
-use Rattle.match_runner.specs.laws.ReadBack.{text_of_result}
+use Rattle.match_runner_laws.specs.ReadBack.{text_of_result}
 use Rattle.chess_game.specs.Ends.{verdict, claims, draw_claim}
 use Rattle.chess_game.specs.Line.{position_after}
 use Rattle.chess_text.specs.Moves.{reading}

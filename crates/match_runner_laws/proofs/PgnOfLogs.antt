@@ -2,6 +2,7 @@
 use Rattle.std.proofs.Common.{◌≡◌, ◌∙◌, ◌+◌, ℕ, List, [], ◌∷◌, ◌++◌, map, refl, sym, ap, subst}
 use Rattle.std.specs.Prelude.{⊤, codes, cond, decimal, flat_map, fold}
 use Rattle.std.specs.List.{AllByRecursion, enumerate_from}
+use Rattle.chess_base.specs.Letters.{new_line}
 use Rattle.chess_base.specs.declared.man.Colour.{Colour}
 use Rattle.chess_base.specs.declared.man.Colour.TheVariants.{White, Black}
 use Rattle.chess_base.specs.declared.man.Move.{Move}
@@ -22,15 +23,25 @@ use Rattle.chess_match.specs.Rules.{Rules, rules_of}
 use Rattle.chess_match.specs.declared.reason.Reason.{Reason}
 use Rattle.chess_pgn.specs.GameText.{pgn}
 use Rattle.match_runner.specs.declared.plan.GamesPlan.{GamesPlan}
-use Rattle.match_runner.specs.declared.score.Score.{Score}
 use Rattle.match_runner.specs.Games.{GameRecord, IsOfPlan, count_of, engine_command, first_side, game_text, game_texts, player_name, score_line}
-use Rattle.match_runner.specs.ties.Playing.{score_of, score_text}
 use Rattle.match_runner.specs.Log.{log_from}
-use Rattle.match_runner.specs.laws.Entries.{IsShown, entries_from}
-use Rattle.match_runner.specs.laws.ReadBack.{AreAlike, LogsGiveTheOutput, LogsGiveThePgn}
-use Rattle.match_runner.proofs.GamesWritten.{score_text_is}
-use Rattle.match_runner.proofs.LogsRead.{logs_give_the_game}
+use Rattle.match_runner_laws.specs.Entries.{IsShown, entries_from}
+use Rattle.match_runner_laws.specs.ReadBack.{AreAlike, LogsGiveTheOutput, LogsGiveThePgn}
+use Rattle.match_runner_laws.proofs.LogsRead.{logs_give_the_game}
 use Rattle.chess_game.specs.Ends.{verdict}
+
+-- the line of a score, by its numbers
+unfoldable line_of : ℕ → ℕ → ℕ → ℕ → List ℕ
+line_of first second drawn unfinished =
+    codes "score first " ++ decimal first ++ codes " second " ++ decimal second
+    ++ codes " drawn " ++ decimal drawn ++ codes " unfinished " ++ decimal unfinished ++ new_line ∷ []
+
+-- the line of the score of these games
+score_line_is : (games : List GameRecord) → line_of (count_of (λ number. win_of (first_side number)) games)
+    (count_of (λ number. win_of (other (first_side number))) games)
+    (count_of (λ number. Draw) games) (count_of (λ number. Unfinished) games) ≡ score_line games
+unfolding line_of
+score_line_is games = refl
 
 abbrev rules : GamesPlan → Rules
 rules plan = rules_of plan.start plan.level plan.patience MOST_MOVES
@@ -189,15 +200,12 @@ logs_give_the_output plan games games' h k same =
     let a = all_alike plan 1 games games' h k same in
     let counts : (wanted : ℕ → Outcome) → count_of wanted games ≡ count_of wanted games' =
     λ wanted. counts_alike plan wanted 0 (enumerate_from 1 games) (enumerate_from 1 games') a in
-    let score : score_of games ≡ score_of games' = score_is _ _ _ _ _ _ _ _
-    (counts (λ number. win_of (first_side number))) (counts (λ number. win_of (other (first_side number))))
-    (counts (λ number. Draw)) (counts (λ number. Unfinished)) in
     ap (λ (l : List ℕ). l ++ score_line games)
     (texts_alike plan (enumerate_from 1 games) (enumerate_from 1 games') a)
     ∙ ap (λ (line : List ℕ). game_texts plan games' ++ line)
-    (sym (score_text_is games) ∙ ap score_text score ∙ score_text_is games')
+    (sym (score_line_is games) ∙ line_is _ _ _ _ _ _ _ _
+    (counts (λ number. win_of (first_side number))) (counts (λ number. win_of (other (first_side number))))
+    (counts (λ number. Draw)) (counts (λ number. Unfinished)) ∙ score_line_is games')
   where
-    score_is : (a a' b b' c c' d d' : ℕ) → a ≡ a' → b ≡ b' → c ≡ c' → d ≡ d'
-        → (let s : Score = record { first = a; second = b; drawn = c; unfinished = d } in s)
-        ≡ (let s : Score = record { first = a'; second = b'; drawn = c'; unfinished = d' } in s)
-    score_is a a' b b' c c' d d' p q r t = rw (p, q, r, t) refl
+    line_is : (a a' b b' c c' d d' : ℕ) → a ≡ a' → b ≡ b' → c ≡ c' → d ≡ d' → line_of a b c d ≡ line_of a' b' c' d'
+    line_is a a' b b' c c' d d' e f g h = cc

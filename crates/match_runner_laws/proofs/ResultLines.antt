@@ -12,7 +12,7 @@ use Rattle.chess_game.specs.declared.verdicts.DrawClaim.TheVariants.{Threefold, 
 use Rattle.chess_match.specs.declared.reason.MatchFault.TheVariants.{Ended, Read, Write, NoDone, NoPing, NoSetboard, Flood, NoVariant, NoHandshake, NoAnswer}
 use Rattle.chess_match.specs.declared.reason.Reason.{Reason}
 use Rattle.chess_match.specs.declared.reason.Reason.TheVariants.{Decided, Claimed, Agreed, Resigns, MovesIllegally, MovesOutOfTurn, ClaimsFalsely, RejectsLegalMove, Forfeits, ForfeitsToBareKing, GameTooLong, Faulted}
-use Rattle.match_runner.specs.laws.ReadBack.{text_of_result}
+use Rattle.match_runner_laws.specs.ReadBack.{text_of_result}
 
 -- the reasons that name this side
 abbrev reasons_of : Colour → List Reason

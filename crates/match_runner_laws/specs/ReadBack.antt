@@ -15,7 +15,7 @@ use Rattle.chess_match.specs.laws.OfActs.{lines_given}
 use Rattle.match_runner.specs.declared.plan.GamesPlan.{GamesPlan}
 use Rattle.match_runner.specs.Games.{GameRecord, IsOfPlan, first_side, game_text, game_texts, score_line}
 use Rattle.match_runner.specs.Log.{log_from}
-use Rattle.match_runner.specs.laws.Entries.{Entry, IsShown, entries_from, entries_text}
+use Rattle.match_runner_laws.specs.Entries.{Entry, IsShown, entries_from, entries_text}
 use Rattle.chess_match.specs.Lines.{bytes_of}
 use Rattle.chess_match.specs.Reasons.{reported_reason, result_of}
 use Rattle.chess_match.specs.Rules.{Rules}

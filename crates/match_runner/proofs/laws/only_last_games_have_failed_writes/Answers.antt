@@ -1,5 +1,0 @@
-use Rattle.match_runner.proofs.GameFaults.{only_last_games_have_failed_writes}
-use Rattle.match_runner.proofs.laws.only_last_games_have_failed_writes.Goals as goal
-
-pub returns : goal.returns
-returns c = only_last_games_have_failed_writes

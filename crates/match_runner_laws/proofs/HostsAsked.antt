@@ -1,0 +1,14 @@
+-- Steps at a host over memory might come there before.
+use Rattle.std.proofs.Common.{◌≡◌, List, [], ◌∷◌, ◌++◌, append-nil, subst}
+use Rattle.match_runner.specs.GamesTable.{HostStep}
+use Rattle.match_runner.specs.MemoryHost.{MayCome}
+use Rattle.match_runner_laws.specs.Hosts.{StepsMightCome}
+
+-- no list is empty that has an element after others
+not_empty : (before : List HostStep) (x : HostStep) (after : List HostStep) → before ++ x ∷ after ≡ [] → ⊥
+not_empty [] x after e = cc
+not_empty (y ∷ before) x after e = cc
+
+pub steps_might_come : StepsMightCome
+steps_might_come host host' steps h = subst (MayCome host) (append-nil steps)
+    (h.extends [] (λ before x after cut. absurd (not_empty before x after cut)))

@@ -1,0 +1,11 @@
+use Rattle.match_runner_laws.proofs.LogsRead.{logs_give_the_game, logs_show}
+use Rattle.match_runner_laws.proofs.PgnOfLogs.{logs_give_the_output, logs_give_the_pgn}
+use Rattle.match_runner_laws.proofs.logs.logs_give_the_game.Goals as goal
+
+pub returns : goal.returns
+returns c = record {
+  shows = logs_show;
+  gives = logs_give_the_game;
+  pgn = logs_give_the_pgn;
+  output = logs_give_the_output;
+}

@@ -1,0 +1,4 @@
+pub mod Faults
+pub mod Entries
+pub mod ReadBack
+pub mod Hosts

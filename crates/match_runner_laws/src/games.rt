@@ -1,0 +1,9 @@
+//! Laws of the games of a match.
+
+ghost use Rattle.match_runner_laws.specs.Faults.{OnlyLastGamesHaveFailedWrites};
+
+/// States a law and does nothing: a game without a fault of an engine leaves the counts of failed writes and flushes of
+/// both engines' inputs as they were, also at its end lines. So only the last game of a match can raise them.
+pub fn only_last_games_have_failed_writes()
+    ensures { OnlyLastGamesHaveFailedWrites }
+{}
