@@ -6,11 +6,13 @@ use arbiter_laws::{
     plans_are_named, refused_arguments_are_reported, verify_is_as_asked,
 };
 use match_runner_laws::{
-    logs_give_the_game, logs_have_one_reading, only_last_games_have_failed_writes, steps_might_come,
+    hosts_fix_matches, logs_give_the_game, logs_have_one_reading,
+    only_last_games_have_failed_writes, steps_might_come,
 };
 
 #[test]
 fn laws_of_matches_are_called() {
+    hosts_fix_matches();
     logs_give_the_game();
     logs_have_one_reading();
     only_last_games_have_failed_writes();

@@ -6,3 +6,5 @@ mod ResultLines
 mod LogsRead
 mod PgnOfLogs
 mod HostsAsked
+mod GameFixed
+mod MatchFixed

@@ -14,11 +14,12 @@ use Rattle.chess_game.specs.declared.game.TheConstants.{MOST_MOVES}
 use Rattle.chess_game.specs.declared.results.Outcome.{Outcome}
 use Rattle.chess_game.specs.declared.results.Outcome.TheVariants.{Draw, Unfinished}
 use Rattle.chess_game.specs.declared.tags.HowEnded.{HowEnded}
-use Rattle.chess_match.specs.Acts.{Act, IsMatch}
-use Rattle.chess_match.specs.laws.Laws.{notes_given}
+use Rattle.chess_match.specs.Acts.{Act}
+use Rattle.chess_match.specs.laws.Laws.{is_broken, notes_given}
 use Rattle.chess_match.specs.Effects.{Match, Over}
 use Rattle.chess_match.specs.Notes.{Note}
-use Rattle.chess_match.specs.Reasons.{declared_at, ended_by, outcome_by_reason, reported_reason, win_of}
+use Rattle.chess_match.specs.Played.{Passed}
+use Rattle.chess_match.specs.Reasons.{declared_at, ended_by, outcome_by_reason, reported_fault, reported_reason, win_of}
 use Rattle.chess_match.specs.Rules.{Rules, rules_of}
 use Rattle.chess_match.specs.declared.reason.Reason.{Reason}
 use Rattle.chess_pgn.specs.GameText.{pgn}
@@ -43,11 +44,11 @@ score_line_is : (games : List GameRecord) → line_of (count_of (λ number. win_
 unfolding line_of
 score_line_is games = refl
 
-abbrev rules : GamesPlan → Rules
+abbrev pub rules : GamesPlan → Rules
 rules plan = rules_of plan.start plan.level plan.patience MOST_MOVES
 
 -- the game that a match of these moves leaves, if it ended for this reason
-abbrev left : GamesPlan → Reason → List Move → State
+abbrev pub left : GamesPlan → Reason → List Move → State
 left plan reason moves = record {
   start = plan.start;
   moves = moves;
@@ -55,38 +56,41 @@ left plan reason moves = record {
 }
 
 -- the reason that is reported of a match of these moves, if it ended for this reason
-abbrev reason_shown : GamesPlan → Reason → List Move → Reason
+abbrev pub reason_shown : GamesPlan → Reason → List Move → Reason
 reason_shown plan reason moves = reported_reason (verdict plan.start moves) reason
 
 -- an engine's name, by its items
-abbrev named : List Item → List ℕ
+abbrev pub named : List Item → List ℕ
 named items = cut_tag (last_said (λ v. v.text) [] (codes "myname") items)
 
 -- a match of these acts was played, ended for this reason and was reported
-record IsPlayed (plan : GamesPlan) (played : GameRecord) (H : List Act) (reason : Reason) (final : Match) : Type 0 where
-  pub is_match : IsMatch (rules plan) H final
+pub record IsPlayed (plan : GamesPlan) (played : GameRecord) (H : List Act) (reason : Reason) (final : Match) : Type 0 where
+  pub passed : Passed (rules plan) H final played.before played.after
   pub over : final.phase ≡ Over reason
   pub notes : notes_given reason H ≡ played.notes
   pub outcome : played.end.outcome ≡ outcome_by_reason (reason_shown plan reason final.played)
   pub ended : played.end.ended ≡ ended_by (reason_shown plan reason final.played)
   pub white : played.end.white_name ≡ named (final.seat White).items
   pub black : played.end.black_name ≡ named (final.seat Black).items
+  pub fault : played.end.fault ≡ reported_fault reason (is_broken H)
   pub game : played.after.game.state ≡ left plan reason final.played
 
-is_played : (plan : GamesPlan) (played : GameRecord) → IsOfPlan plan played
+pub is_played : (plan : GamesPlan) (played : GameRecord) → IsOfPlan plan played
     → (H : List Act) × (reason : Reason) × (final : Match) × IsPlayed plan played H reason final
 is_played plan played (limit, spared, (H, reason, notes, (final, passed, reported, game))) = (
   H,
   reason,
   final,
   record {
-    is_match = subst (λ (n : ℕ). IsMatch (rules_of plan.start plan.level plan.patience n) H final) limit passed.is_match;
+    passed = subst (λ (n : ℕ). Passed (rules_of plan.start plan.level plan.patience n) H final played.before played.after)
+        limit passed;
     over = reported.ended;
     notes = notes;
     outcome = sym (ap (λ (t : Outcome × List ℕ × HowEnded). t.0) reported.report);
     ended = sym (ap (λ (t : Outcome × List ℕ × HowEnded). t.2) reported.report);
     white = reported.name White;
     black = reported.name Black;
+    fault = reported.fault;
     game = subst (λ (n : ℕ). played.after.game.state ≡ (let s : State = record {
       start = plan.start;
       moves = final.played;
@@ -107,7 +111,7 @@ text_by plan number white black ended state = pgn [] (record {
   ended = ended;
 }) state
 
-text_is : (plan : GamesPlan) (number : ℕ) (w w' b b' : List ℕ) (e e' : HowEnded) (s s' : State) → w ≡ w' → b ≡ b'
+pub text_is : (plan : GamesPlan) (number : ℕ) (w w' b b' : List ℕ) (e e' : HowEnded) (s s' : State) → w ≡ w' → b ≡ b'
     → e ≡ e' → s ≡ s' → text_by plan number w b e s ≡ text_by plan number w' b' e' s'
 text_is plan number w w' b b' e e' s s' p q r t =
     ap (λ (v : List ℕ). text_by plan number v b e s) p ∙ ap (λ (v : List ℕ). text_by plan number w' v e s) q
@@ -123,7 +127,7 @@ logs_give_the_pgn plan number one two h k plain plain' same =
     let shown' : AllByRecursion IsShown (entries_from 0 (notes_given reason' K)) =
     subst (λ (l : List Note). AllByRecursion IsShown (entries_from 0 l)) (sym q.notes) plain' in
     let a : AreAlike reason reason' H K final final' =
-    logs_give_the_game (rules plan) first reason reason' H K final final' p.is_match q.is_match
+    logs_give_the_game (rules plan) first reason reason' H K final final' p.passed.is_match q.passed.is_match
     p.over q.over shown shown'
     (ap (λ (l : List Note). log_from first 0 l) p.notes ∙ same
     ∙ sym (ap (λ (l : List Note). log_from first 0 l) q.notes)) in
@@ -141,12 +145,12 @@ logs_give_the_pgn plan number one two h k plain plain' same =
 -- ---- all games of a match
 
 -- two games, each with its number, have the same number, PGN and outcome
-record AreAsOne (plan : GamesPlan) (g h : ℕ × GameRecord) : Type 0 where
+pub record AreAsOne (plan : GamesPlan) (g h : ℕ × GameRecord) : Type 0 where
   pub numbers : g.0 ≡ h.0
   pub texts : game_text plan g.0 g.1 ≡ game_text plan h.0 h.1
   pub outcomes : g.1.end.outcome ≡ h.1.end.outcome
 
-abbrev Alike : GamesPlan → List (ℕ × GameRecord) → List (ℕ × GameRecord) → Type 0
+abbrev pub Alike : GamesPlan → List (ℕ × GameRecord) → List (ℕ × GameRecord) → Type 0
 Alike plan [] [] = ⊤
 Alike plan (g ∷ gs) (h ∷ hs) = AreAsOne plan g h × Alike plan gs hs
 Alike plan _ _ = ⊥
@@ -157,7 +161,7 @@ IsOfLog plan g = IsOfPlan plan g.1 × AllByRecursion IsShown (entries_from 0 g.1
 abbrev log_of : ℕ × GameRecord → List ℕ
 log_of g = log_from (first_side g.0) 0 g.1.notes
 
-texts_alike : (plan : GamesPlan) (gs hs : List (ℕ × GameRecord)) → Alike plan gs hs
+pub texts_alike : (plan : GamesPlan) (gs hs : List (ℕ × GameRecord)) → Alike plan gs hs
     → flat_map (λ g. game_text plan g.0 g.1) gs ≡ flat_map (λ g. game_text plan g.0 g.1) hs
 texts_alike plan [] [] a = refl
 texts_alike plan (g ∷ gs) (h ∷ hs) (one, more) =
@@ -195,9 +199,11 @@ module _ (plan : GamesPlan) where
       )
   all_alike number gs gs' h k same = absurd cc
 
-pub logs_give_the_output : LogsGiveTheOutput
-logs_give_the_output plan games games' h k same =
-    let a = all_alike plan 1 games games' h k same in
+-- what a match writes of games that are alike
+pub written_alike : (plan : GamesPlan) (games games' : List GameRecord)
+    → Alike plan (enumerate_from 1 games) (enumerate_from 1 games')
+    → game_texts plan games ++ score_line games ≡ game_texts plan games' ++ score_line games'
+written_alike plan games games' a =
     let counts : (wanted : ℕ → Outcome) → count_of wanted games ≡ count_of wanted games' =
     λ wanted. counts_alike plan wanted 0 (enumerate_from 1 games) (enumerate_from 1 games') a in
     ap (λ (l : List ℕ). l ++ score_line games)
@@ -209,3 +215,6 @@ logs_give_the_output plan games games' h k same =
   where
     line_is : (a a' b b' c c' d d' : ℕ) → a ≡ a' → b ≡ b' → c ≡ c' → d ≡ d' → line_of a b c d ≡ line_of a' b' c' d'
     line_is a a' b b' c c' d d' e f g h = cc
+
+pub logs_give_the_output : LogsGiveTheOutput
+logs_give_the_output plan games games' h k same = written_alike plan games games' (all_alike plan 1 games games' h k same)

@@ -1,6 +1,9 @@
 //! Laws of hosts.
 
 ghost use Rattle.match_runner_laws.specs.Hosts.{StepsMightCome};
+ghost use Rattle.match_runner_laws.specs.OneMatch.{OneMatchOfAHost};
+
+use chess_match::{match_is_the_only_one, silences_end_matches};
 
 /// States a law and does nothing: the steps that passed at a host over memory might come at it as it was before them. So
 /// the engines of a match say what that host has for them, in the order in which they were started, and the clock shows
@@ -8,3 +11,13 @@ ghost use Rattle.match_runner_laws.specs.Hosts.{StepsMightCome};
 pub fn steps_might_come()
     ensures { StepsMightCome }
 {}
+
+/// States a law: a match at a host over memory is fixed by the host and the plan. If two matches by one plan without
+/// limits to waiting are played to their score at one host, and nothing fails at the pipes of their engines, then they
+/// write the same, log the same, and send their engines the same.
+pub fn hosts_fix_matches()
+    ensures { OneMatchOfAHost }
+{
+    match_is_the_only_one();
+    silences_end_matches();
+}

@@ -7,5 +7,5 @@ mod hosts;
 mod logs;
 
 pub use games::only_last_games_have_failed_writes;
-pub use hosts::steps_might_come;
+pub use hosts::{hosts_fix_matches, steps_might_come};
 pub use logs::{logs_give_the_game, logs_have_one_reading};

@@ -1,0 +1,59 @@
+-- A match at a host over memory is fixed by the host and the plan, if nothing fails and nobody is waited for only so
+-- long.
+use Rattle.std.specs.Prelude.{◌≡◌, ⊤, ℕ, Bool, List, Option, Some, Result, Ok, Err}
+use Rattle.std.specs.List.{AllByRecursion, flat_map}
+use Rattle.byte_devices.specs.Transfers.{Devices, OutputTook, all_of}
+use Rattle.chess_base.specs.declared.by_colour.ByColour.{ByColour}
+use Rattle.chess_base.specs.declared.man.Colour.{Colour}
+use Rattle.chess_base.specs.declared.man.Colour.TheVariants.{White, Black}
+use Rattle.chess_match.specs.laws.OfActs.{endless}
+use Rattle.match_runner.specs.Games.{none_killed}
+use Rattle.match_runner.specs.GamesTable.{HostStep, Finishes, Outputs, PlaysGamesWith}
+use Rattle.match_runner.specs.Log.{Logged}
+use Rattle.match_runner.specs.MemoryHost.{MayCome}
+use Rattle.match_runner.specs.declared.fault.GamesFault.{GamesFault}
+use Rattle.match_runner.specs.declared.fault.GamesFault.TheVariants.{Game}
+use Rattle.match_runner.specs.declared.memory_host.MemoryHost.{MemoryHost}
+use Rattle.match_runner.specs.declared.plan.GamesPlan.{GamesPlan}
+
+-- if engines are waited for in this step: no read, write or flush at their pipes had failed
+abbrev pub FinishesWell : HostStep → Type 0
+FinishesWell (Finishes engines limit killed) =
+    (S : Colour) → ((engines S).input.failure_count ≡ 0) × ((engines S).output.failure_count ≡ 0)
+FinishesWell _ = ⊤
+
+-- what the engines that are waited for in this step were sent: White's, and Black's
+abbrev pub sent_by_then : HostStep → List (Option (List ℕ))
+sent_by_then (Finishes engines limit killed) =
+    (engines White).output.known_bytes ∷ (engines Black).output.known_bytes ∷ []
+sent_by_then _ = []
+
+-- what all engines were sent, game by game
+abbrev pub sent_in : List HostStep → List (Option (List ℕ))
+sent_in steps = flat_map sent_by_then steps
+
+-- by this result of a match all its games were played, and the score was written; in the last game an engine may have
+-- had a fault
+abbrev pub HasScore : Result (Unit {0}) GamesFault → Type 0
+HasScore (Ok _) = ⊤
+HasScore (Err (Game number fault)) = ⊤
+HasScore _ = ⊥
+
+-- a match by this plan was played at this host to its score, from `d` to `d'`, by these steps, and nothing failed at its
+-- engines' pipes
+pub record WentWell (plan : GamesPlan) (host : MemoryHost) (steps : List HostStep) (d d' : Outputs) : Type 0 where
+  pub result : Result (Unit {0}) GamesFault
+  pub played : PlaysGamesWith plan result steps d d'
+  pub at_host : MayCome host steps
+  pub scored : HasScore result
+  pub nothing_failed : AllByRecursion FinishesWell steps
+
+-- two matches by one plan without limits to waiting, which were played to their score at one host over memory, and in
+-- which nothing failed at the engines' pipes: the same was written, the same was logged, and each engine was sent the
+-- same
+abbrev pub OneMatchOfAHost : Type 0
+OneMatchOfAHost = (plan : GamesPlan) (host : MemoryHost) (steps steps' : List HostStep) (d d' e e' : Outputs)
+    → plan.patience ≡ endless → WentWell plan host steps d d' → WentWell plan host steps' e e'
+    → ((text : List ℕ) × OutputTook d.output d'.output (all_of text) × OutputTook e.output e'.output (all_of text))
+    × ((log : List ℕ) × Logged d.log d'.log log × Logged e.log e'.log log)
+    × (sent_in steps ≡ sent_in steps')
