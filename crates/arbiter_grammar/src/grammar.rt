@@ -90,6 +90,8 @@ In the log, `312 <first : move e2e4` is a line from the first engine, whichever 
 line to the second; `!` marks an end of output, an I/O error, that no line came, or a line that is too long and left
 out.
 
+For a tournament, with openings, standings and SPRT, take tools/tournament.
+
 Examples:
   arbiter match --white sjeng --black phalanx
   arbiter match --white sjeng --black phalanx --games 10 --level \"40 5 0\" --date 2026.11.23 > match.txt
