@@ -33,6 +33,7 @@ SHORT = {
     "arbiter": "chess_arbiter",
     "laws": "arbiter_laws",
     "runner_laws": "match_runner_laws",
+    "session_laws": "session_laws",
     "rules": "rules_laws",
     "devices_tests": "byte_devices_tests",
     "base_tests": "chess_base_tests",

@@ -15,7 +15,7 @@ use Rattle.chess_game.specs.declared.verdicts.Verdict.TheVariants.{FivefoldRepet
 use Rattle.chess_game.specs.Ends.{has_insufficient_material, verdict}
 use Rattle.chess_game.specs.Line.{positions_of, position_after}
 use Rattle.chess_game.specs.Same.{is_same_position, repetition_count}
-use Rattle.rules_laws.specs.Endings.{position_at, IsThere, IsQuiet, IsQuietFor, CountingEnds}
+use Rattle.rules_laws.specs.Endings.{position_at, IsThere, IsQuiet, IsQuietFor, ClocksCountQuietMoves, CountingEnds}
 use Rattle.rules_laws.proofs.NoMove.{judged, judged_at, has_none}
 
 -- ---- numbers that rise, from k on
@@ -313,3 +313,6 @@ counting_ends start ms =
         λ h. le-leb _ _ (clock_from 100 start ms (omega arith) h),
       );
     }
+
+pub clocks_count_quiet_moves : ClocksCountQuietMoves
+clocks_count_quiet_moves n start ms few = (λ e. quiet_for n start ms few e, λ h. clock_from n start ms few h)

@@ -5,6 +5,7 @@ use Rattle.chess_base.specs.declared.man.Colour.TheVariants.{White, Black}
 use Rattle.chess_base.specs.declared.man.Kind.TheVariants.{Pawn}
 use Rattle.chess_base.specs.declared.man.Move.{Move}
 use Rattle.chess_base.specs.declared.setup.Setup.{Setup}
+use Rattle.chess_base.specs.declared.setup.TheConstants.{COUNTER_LIMIT}
 use Rattle.chess_base.specs.Attacks.{is_in_check}
 use Rattle.chess_base.specs.Men.{man_at, is_of, is_man, other}
 use Rattle.chess_base.specs.Moves.{is_legal}
@@ -69,6 +70,12 @@ pub record IsQuiet (p : Setup) (m : Move) : Type 0 where
 pub record IsQuietFor (n : ℕ) (start : Setup) (ms : List Move) : Type 0 where
   pub many : n ≤ start.halfmove + length ms
   pub quiet : (k : ℕ) (m : Move) → slice_get ms k ≡ Some m → length ms ≤ k + n → IsQuiet (position_at start ms k) m
+
+-- in each game: nobody has captured or moved a pawn for n half-moves exactly if the halfmove clock is at least n. The
+-- clock stops at 999,999 (`COUNTER_LIMIT`)
+abbrev pub ClocksCountQuietMoves : Type 0
+ClocksCountQuietMoves = (n : ℕ) (start : Setup) (ms : List Move) → n ≤ COUNTER_LIMIT
+    → ((n ≤ (position_after start ms).halfmove) ↔ IsQuietFor n start ms)
 
 -- ---- what follows from both
 

@@ -1,6 +1,6 @@
 //! Laws of how a game ends. A caller learns one by calling its function, which does nothing.
 
-ghost use Rattle.rules_laws.specs.Endings.{CountingEnds, InsufficientNeverMates, NoMoveEnds};
+ghost use Rattle.rules_laws.specs.Endings.{ClocksCountQuietMoves, CountingEnds, InsufficientNeverMates, NoMoveEnds};
 
 /// A law: the contract says it, and the function does nothing. A game ends by mate exactly if the side on move is in
 /// check and no move is legal, and by stalemate exactly if it is not in check and no move is legal (FIDE Laws of Chess
@@ -28,4 +28,13 @@ pub fn repetitions_and_quiet_moves_end_a_game()
 /// It refuses to call two knights insufficient, bishops on squares of both colours, or a pawn.
 pub fn insufficient_material_never_mates()
     ensures { InsufficientNeverMates }
+{}
+
+/// A law: the contract says it, and the function does nothing. The halfmove clock counts the half-moves since the last
+/// capture or pawn move, as FEN has it: it is at least n exactly if the last n half-moves were neither. Where the game
+/// has fewer half-moves, those before its start are counted by the start's clock.
+///
+/// It refuses a clock that some capture or pawn move leaves on, or that counts full moves.
+pub fn halfmove_clocks_count_quiet_moves()
+    ensures { ClocksCountQuietMoves }
 {}

@@ -8,7 +8,8 @@ mod mirror;
 mod moves;
 
 pub use endings::{
-    a_game_ends_where_no_move_is_legal, insufficient_material_never_mates,
+    a_game_ends_where_no_move_is_legal, halfmove_clocks_count_quiet_moves,
+    insufficient_material_never_mates,
     repetitions_and_quiet_moves_end_a_game,
 };
 pub use mirror::{
