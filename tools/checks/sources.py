@@ -23,6 +23,7 @@ SHORT = {
     "pgn": "chess_pgn",
     "pieces": "pgn_pieces",
     "verifier": "pgn_verifier",
+    "verifier_laws": "pgn_verifier_laws",
     "cecp": "chess_cecp",
     "engine": "cecp_engine",
     "match": "chess_match",

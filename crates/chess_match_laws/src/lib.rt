@@ -1,5 +1,5 @@
-//! Laws of the matches that chess_match plays, each the contract of a function that does nothing. They are in a crate of
-//! their own so that no other crate waits for their proofs.
+//! Laws of the matches that chess_match plays, each the contract of a function that does nothing. They are in a crate
+//! of their own so that no other crate waits for their proofs.
 #![tactic(auto)]
 
 mod laws;

@@ -20,9 +20,9 @@ use Rattle.chess_pgn.specs.declared.tagged_result.ResultTag.{ResultTag}
 use Rattle.chess_pgn.specs.laws.PgnLaw.{PgnIsReadBack, ResultIsWritten}
 use Rattle.chess_pgn.proofs.shared.Tokens.{read_split}
 use Rattle.pgn_verifier.specs.GameFaults.{result_differs, board_says_otherwise, judged, IsJudged}
-use Rattle.pgn_verifier.specs.ties.OnTheWay.{contradiction}
-use Rattle.pgn_verifier.proofs.ReportsAre.{judged_is}
-use Rattle.pgn_verifier.specs.laws.WrittenGames.{WrittenGamesHaveNoFault}
+use Rattle.pgn_verifier.specs.shared.Contradictions.{contradiction}
+use Rattle.pgn_verifier.proofs.shared.ReportsAre.{judged_is}
+use Rattle.pgn_verifier_laws.specs.WrittenGames.{WrittenGamesHaveNoFault}
 
 same_self : (o : Outcome) → same_outcome o o ≡ true
 same_self WhiteWins = refl

@@ -12,7 +12,7 @@ use Rattle.chess_pgn.specs.declared.read.PgnEnd.{PgnEnd}
 use Rattle.chess_pgn.specs.declared.read.PgnFaultKind.TheVariants.{NoResult}
 use Rattle.chess_pgn.specs.laws.TokenByToken.{SoFar, word_step, step, read_rest_with, game_of}
 use Rattle.chess_pgn.proofs.shared.Tokens.{read_kinds}
-use Rattle.pgn_verifier.proofs.PartsAlike.{over, OnOrFails, on, goes_on, Does, ends_game, no_end, does, tags_alike, HaveSameTags, skip_more, tag_more, word_more, word_ends, none_left, faults_stop}
+use Rattle.pgn_verifier_laws.proofs.PartsAlike.{over, OnOrFails, on, goes_on, Does, ends_game, no_end, does, tags_alike, HaveSameTags, skip_more, tag_more, word_more, word_ends, none_left, faults_stop}
 
 -- the text has this token at this place, and then some rest
 pub record Fits (text : List ℕ) (place : ℕ) (kind : Kind) (front : List ℕ) : Type 0 where

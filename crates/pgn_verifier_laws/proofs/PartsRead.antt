@@ -33,11 +33,11 @@ use Rattle.chess_pgn.specs.laws.TokenByToken.{SoFar, Step, On, Stop, move_step, 
 use Rattle.chess_pgn.proofs.shared.Words.{word_cases}
 use Rattle.chess_pgn.proofs.shared.Tokens.{read_kinds, kinds_read, stays_longest, token_some}
 use Rattle.pgn_verifier.specs.GameFaults.{judged}
-use Rattle.pgn_verifier.specs.ties.OnTheWay.{contradiction}
+use Rattle.pgn_verifier.specs.shared.Contradictions.{contradiction}
 use Rattle.pgn_verifier.specs.declared.game_fault.GameFault.{GameFault}
-use Rattle.pgn_verifier.specs.laws.Parts.{BeginsAlike}
-use Rattle.pgn_verifier.proofs.GamesAlike.{Fits, found}
-use Rattle.pgn_verifier.proofs.PartsAlike.{TokenByToken, there, lines, over, own_more, same_variant, outcome_in, same_result, faults_stop, read_so, found_so, judged_so, agrees, not_before, no_mark}
+use Rattle.pgn_verifier_laws.specs.Parts.{BeginsAlike}
+use Rattle.pgn_verifier_laws.proofs.GamesAlike.{Fits, found}
+use Rattle.pgn_verifier_laws.proofs.PartsAlike.{TokenByToken, there, lines, over, own_more, same_variant, outcome_in, same_result, faults_stop, read_so, found_so, judged_so, agrees, not_before, no_mark}
 use Rattle.pgn_verifier.specs.laws.Reported.{judged_at, read_at, report_then, reports_from}
 
 abbrev no_game : Result (Option PgnEnd) PgnFault

@@ -1,5 +1,5 @@
-use Rattle.pgn_verifier.proofs.WrittenTexts.{written_texts}
-use Rattle.pgn_verifier.proofs.laws.written_texts_have_no_fault.Goals as goal
+use Rattle.pgn_verifier_laws.proofs.WrittenTexts.{written_texts}
+use Rattle.pgn_verifier_laws.proofs.laws.written_texts_have_no_fault.Goals as goal
 
 pub returns : goal.returns
 returns c =

@@ -22,15 +22,15 @@ use Rattle.chess_pgn.specs.laws.TokenByToken.{tokens_read}
 use Rattle.chess_pgn.proofs.shared.Tokens.{kinds_read}
 use Rattle.pgn_verifier.specs.GameFaults.{judged}
 use Rattle.pgn_verifier.specs.Reports.{Report, Game}
-use Rattle.pgn_verifier.specs.laws.NoFaults.{begins_with_mark}
-use Rattle.pgn_verifier.specs.laws.Parts.{BeginsAlike, AllHoldWhole, no_parts, next_part}
-use Rattle.pgn_verifier.specs.laws.WrittenGames.{HasNoFault, TaggedGame, AreWritable, written_text, report_of, WrittenTextsHaveNoFault}
-use Rattle.pgn_verifier.proofs.FaultlessTexts.{is_game, part_holds, begins_first, begins_later}
-use Rattle.pgn_verifier.proofs.Parts.{all_reported_alike}
-use Rattle.pgn_verifier.proofs.PartsAlike.{TokenByToken, read_so, judged_so, no_mark}
-use Rattle.pgn_verifier.proofs.PartsRead.{in_text}
-use Rattle.pgn_verifier.proofs.ReportsAre.{only_judged}
-use Rattle.pgn_verifier.proofs.WrittenGames.{written_games}
+use Rattle.pgn_verifier_laws.specs.NoFaults.{begins_with_mark}
+use Rattle.pgn_verifier_laws.specs.Parts.{BeginsAlike, AllHoldWhole, no_parts, next_part}
+use Rattle.pgn_verifier_laws.specs.WrittenGames.{HasNoFault, TaggedGame, AreWritable, written_text, report_of, WrittenTextsHaveNoFault}
+use Rattle.pgn_verifier_laws.proofs.FaultlessTexts.{is_game, part_holds, begins_first, begins_later}
+use Rattle.pgn_verifier_laws.proofs.Parts.{all_reported_alike}
+use Rattle.pgn_verifier_laws.proofs.PartsAlike.{TokenByToken, read_so, judged_so, no_mark}
+use Rattle.pgn_verifier_laws.proofs.PartsRead.{in_text}
+use Rattle.pgn_verifier_laws.proofs.OnlyReports.{only_judged}
+use Rattle.pgn_verifier_laws.proofs.WrittenGames.{written_games}
 use Rattle.pgn_verifier.specs.laws.Reported.{judged_at, read_at, report_then, reports_from, reports_on}
 
 -- ---- the end of a game's text

@@ -30,7 +30,7 @@ use Rattle.chess_pgn.specs.declared.tagged_result.ResultTag.{ResultTag}
 use Rattle.chess_pgn.specs.laws.TokenByToken.{SoFar, Step, On, Stop, ends, move_step, word_step, fen_step, step, read_rest_with, game_of, tokens_read}
 use Rattle.chess_pgn.proofs.shared.Words.{word_cases}
 use Rattle.pgn_verifier.specs.GameFaults.{result_differs, board_says_otherwise, judged}
-use Rattle.pgn_verifier.specs.ties.OnTheWay.{contradiction}
+use Rattle.pgn_verifier.specs.shared.Contradictions.{contradiction}
 use Rattle.pgn_verifier.specs.declared.game_fault.GameFault.{GameFault}
 
 -- what is read of a text is read token by token

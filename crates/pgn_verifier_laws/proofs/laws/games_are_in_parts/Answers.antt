@@ -1,5 +1,5 @@
-use Rattle.pgn_verifier.proofs.Parts.{in_parts, reported_alike, all_reported_alike, pieces_alike}
-use Rattle.pgn_verifier.proofs.laws.games_are_in_parts.Goals as goal
+use Rattle.pgn_verifier_laws.proofs.Parts.{in_parts, reported_alike, all_reported_alike, pieces_alike}
+use Rattle.pgn_verifier_laws.proofs.laws.games_are_in_parts.Goals as goal
 
 pub returns-clause-game : goal.returns-clause-game
 returns-clause-game c = in_parts c.a_game_is_tags_and_moves.ensures.token_by_token

@@ -1,5 +1,6 @@
-use Rattle.pgn_verifier.proofs.ReportsAre.{judged_is, only_judged, are_reports, only_reports, are_collection_reports, only_collection_reports}
-use Rattle.pgn_verifier.proofs.laws.reports_are_the_only_ones.Goals as goal
+use Rattle.pgn_verifier.proofs.shared.ReportsAre.{judged_is, are_reports, are_collection_reports}
+use Rattle.pgn_verifier_laws.proofs.OnlyReports.{only_judged, only_reports, only_collection_reports}
+use Rattle.pgn_verifier_laws.proofs.laws.reports_are_the_only_ones.Goals as goal
 
 pub returns-clause-game : goal.returns-clause-game
 returns-clause-game c = judged_is

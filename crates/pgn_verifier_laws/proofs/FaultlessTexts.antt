@@ -16,11 +16,11 @@ use Rattle.pgn_pieces.proofs.shared.Cuts.{AreLines, no_texts, last_text, next_te
 use Rattle.pgn_verifier.specs.Reports.{Report, Game, Faulty, half_moves_of, counts_of, verified}
 use Rattle.pgn_verifier.specs.declared.game_fault.GameFault.{GameFault}
 use Rattle.pgn_verifier.specs.declared.tally.Verified.TheVariants.{EachGame, FaultReported}
-use Rattle.pgn_verifier.specs.laws.NoFaults.{begins_with_mark, FaultlessTextsAreReportedAlike}
-use Rattle.pgn_verifier.specs.laws.Parts.{BeginsAlike, HoldsWhole, no_more, game, AllHoldWhole, no_parts, next_part}
-use Rattle.pgn_verifier.proofs.Parts.{next_begins, reported_alike, reported_alone, all_reported_alike}
-use Rattle.pgn_verifier.proofs.PartsAlike.{TokenByToken, no_mark}
-use Rattle.pgn_verifier.proofs.PartsRead.{IsClosed, in_text, skips_to_end}
+use Rattle.pgn_verifier_laws.specs.NoFaults.{begins_with_mark, FaultlessTextsAreReportedAlike}
+use Rattle.pgn_verifier_laws.specs.Parts.{BeginsAlike, HoldsWhole, no_more, game, AllHoldWhole, no_parts, next_part}
+use Rattle.pgn_verifier_laws.proofs.Parts.{next_begins, reported_alike, reported_alone, all_reported_alike}
+use Rattle.pgn_verifier_laws.proofs.PartsAlike.{TokenByToken, no_mark}
+use Rattle.pgn_verifier_laws.proofs.PartsRead.{IsClosed, in_text, skips_to_end}
 use Rattle.pgn_verifier.specs.laws.Reported.{collection_reports, judged_at, read_at, report_then, reports_from, reports_in, reports_on, too_long_report}
 
 -- ---- reports without a fault

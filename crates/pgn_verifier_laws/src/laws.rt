@@ -9,10 +9,9 @@ ghost use Rattle.pgn_verifier.specs.Collection.{AreCollectionReports};
 ghost use Rattle.pgn_verifier.specs.GameFaults.{IsJudged};
 ghost use Rattle.pgn_verifier.specs.Reports.{AreReports, Report};
 ghost use Rattle.pgn_verifier.specs.laws.Reported.{collection_reports, judged_at, read_at, reports_on};
-ghost use Rattle.pgn_verifier.specs.laws.NoFaults.{FaultlessTextsAreReportedAlike};
-ghost use Rattle.pgn_verifier.specs.laws.Parts.{GamesAreInParts, WholeGamesAreReportedAlike};
-ghost use Rattle.pgn_verifier.specs.laws.Parts.{PiecesAreReportedAlike, TextsAreReportedInParts};
-ghost use Rattle.pgn_verifier.specs.laws.WrittenGames.{WrittenGamesHaveNoFault, WrittenTextsHaveNoFault};
+ghost use Rattle.pgn_verifier_laws.specs.NoFaults.{FaultlessTextsAreReportedAlike};
+ghost use Rattle.pgn_verifier_laws.specs.Parts.{GamesAreInParts, WholeGamesAreReportedAlike, PiecesAreReportedAlike, TextsAreReportedInParts};
+ghost use Rattle.pgn_verifier_laws.specs.WrittenGames.{WrittenGamesHaveNoFault, WrittenTextsHaveNoFault};
 
 use chess_pgn::{a_game_is_tags_and_moves, pgn_is_read_back};
 

@@ -1,4 +1,4 @@
--- The reason for a fault is the one that the function gives, and no other: what a bad tag lacks is found part by part.
+-- The reason for a fault is the one that the function gives: what a bad tag lacks is found part by part.
 use Rattle.std.proofs.Common.{◌≡◌, ℕ, ◌<◌, Bool, true, false, cond, eqb, List, [], ◌∷◌, ◌++◌, length, Option, Some, None, refl, sym, ap, subst, ◌∙◌, arith}
 use Rattle.std.specs.Prelude.{codes, is_some}
 use Rattle.std.specs.List.{list_all}
@@ -27,17 +27,17 @@ has_name text (gap, c, rest, h, first, is) =
     ap (λ xs. is_some (name_at (after_gap xs))) (inside_is is) ∙ name_comes gap c rest h first
 
 -- the text after a name
-same_end : {a b : List ℕ × List ℕ} → Some a ≡ Some b → a.1 ≡ b.1
+pub same_end : {a b : List ℕ × List ℕ} → Some a ≡ Some b → a.1 ≡ b.1
 same_end e = ap (λ (o : Option (List ℕ × List ℕ)). option_map_or (λ (f : List ℕ × List ℕ). f.1) o []) e
 
 -- the name and the text after it, and the rest after the quote
-record Opened (text rest : List ℕ) : Type 0 where
+pub record Opened (text rest : List ℕ) : Type 0 where
   pub name : List ℕ
   pub after_name : List ℕ
   pub named : name_at (after_gap text) ≡ Some (name, after_name)
   pub quoted : after_next 34 after_name ≡ Some rest
 
-opened : (text rest : List ℕ) → HasOpening (91 ∷ text) rest → Opened text rest
+pub opened : (text rest : List ℕ) → HasOpening (91 ∷ text) rest → Opened text rest
 opened text rest (name, opening, o, is) =
     let read = opening_read o rest in record {
       name = name;
@@ -51,7 +51,7 @@ has_string text (string, rest, h, is) = ap (λ xs. is_some (string_at xs)) is �
 
 -- ---- what is read is what the text has
 
-name_found : (text : List ℕ) (found : List ℕ × List ℕ) → name_at (after_gap text) ≡ Some found → HasName (91 ∷ text)
+pub name_found : (text : List ℕ) (found : List ℕ × List ℕ) → name_at (after_gap text) ≡ Some found → HasName (91 ∷ text)
 name_found text found h = by_name found.0 read.some read.named (name_after_gap text found h)
   where
     read : NameIs (after_gap text) found
@@ -100,7 +100,7 @@ by_name text = by_found (name_at (after_gap text)) refl
     by_found None e = no_name (λ h. (let some : false ≡ true = sym (ap is_some e) ∙ has_name text h in absurd (cc)))
     by_found (Some found) e = by_value text found e
 
-tag_reason_is : (text : List ℕ) → IsTagReason text (Some (tag_reason text))
+pub tag_reason_is : (text : List ℕ) → IsTagReason text (Some (tag_reason text))
 tag_reason_is [] = no_name empty
   where
     empty : HasName [] → ⊥
@@ -118,40 +118,6 @@ tag_reason_is (c ∷ rest) = by_test (eqb c 91) refl
         subst (λ d. IsTagReason (d ∷ rest) (Some (name_reason rest))) (sym (eqb-true c 91 e)) (by_name rest)
     by_test false e = no_name (no_bracket_first e)
 
--- ---- there is no other
-
-opening_name : (text rest : List ℕ) → HasOpening text rest → HasName text
-opening_name text rest (name, opening, o, is) =
-    let read = opening_read o rest in
-    subst HasName (sym (is ∙ read.is)) (name_found read.inside (name, read.after_name) read.named)
-
-same_rest : (text rest others : List ℕ) → HasOpening text rest → HasOpening text others → rest ≡ others
-same_rest text rest others (name, opening, o, is) h =
-    let read = opening_read o rest in
-    let there = opened read.inside others (subst (λ xs. HasOpening xs others) (is ∙ read.is) h) in
-    let both : Some rest ≡ Some others =
-    sym read.quoted ∙ ap (after_next 34) (same_end (sym read.named ∙ there.named)) ∙ there.quoted in cc (both)
-
-one_reason : {text : List ℕ} {r s : Option (List ℕ)} → IsTagReason text r → IsTagReason text s → r ≡ s
-one_reason (no_name a) (no_name b) = refl
-one_reason (no_name a) (no_value h b) = absurd (a h)
-one_reason {text} (no_name a) (not_closed {rest} o b) = absurd (a (opening_name text rest o))
-one_reason {text} (no_name a) (no_bracket {rest} o b) = absurd (a (opening_name text rest o))
-one_reason (no_value h a) (no_name b) = absurd (b h)
-one_reason (no_value h a) (no_value k b) = refl
-one_reason (no_value h a) (not_closed {rest} o b) = absurd (a rest o)
-one_reason (no_value h a) (no_bracket {rest} o b) = absurd (a rest o)
-one_reason {text} (not_closed {rest} o a) (no_name b) = absurd (b (opening_name text rest o))
-one_reason (not_closed {rest} o a) (no_value k b) = absurd (b rest o)
-one_reason (not_closed o a) (not_closed p b) = refl
-one_reason {text} (not_closed {rest} o a) (no_bracket {rest = others} p b) =
-    absurd (a (subst HasString (same_rest text others rest p o) b))
-one_reason {text} (no_bracket {rest} o a) (no_name b) = absurd (b (opening_name text rest o))
-one_reason (no_bracket {rest} o a) (no_value k b) = absurd (b rest o)
-one_reason {text} (no_bracket {rest} o a) (not_closed {rest = others} p b) =
-    absurd (b (subst HasString (same_rest text rest others o p) a))
-one_reason (no_bracket o a) (no_bracket p b) = refl
-
 -- ---- the reasons for all faults
 
 pub reason_is : (kind : FaultKind) (text : List ℕ) (verdict : Option Verdict)
@@ -168,18 +134,3 @@ reason_is (Pgn pgn.UnclosedVariation) text verdict = refl
 reason_is (Pgn pgn.NoResult) text verdict = refl
 reason_is (ResultDiffers tag_len outcome) text verdict = refl
 reason_is BoardSaysOtherwise text verdict = refl
-
-pub only_reason : (kind : FaultKind) (text : List ℕ) (verdict : Option Verdict) (r : Option (List ℕ))
-    → IsReason kind text verdict r → r ≡ reason kind text verdict
-only_reason (Pgn pgn.BadTag) text verdict r h = one_reason h (tag_reason_is text)
-only_reason (Pgn (pgn.BadFen fault)) text verdict r h = h
-only_reason (Pgn pgn.BadToken) text verdict r h = h
-only_reason (Pgn pgn.IllegalMove) text verdict r h = h
-only_reason (Pgn pgn.AmbiguousMove) text verdict r h = h
-only_reason (Pgn pgn.AfterEnd) text verdict r h = h
-only_reason (Pgn pgn.TooLong) text verdict r h = h
-only_reason (Pgn pgn.UnclosedComment) text verdict r h = h
-only_reason (Pgn pgn.UnclosedVariation) text verdict r h = h
-only_reason (Pgn pgn.NoResult) text verdict r h = h
-only_reason (ResultDiffers tag_len outcome) text verdict r h = h
-only_reason BoardSaysOtherwise text verdict r h = h

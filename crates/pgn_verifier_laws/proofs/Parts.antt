@@ -17,14 +17,14 @@ use Rattle.chess_pgn.specs.declared.read.PgnEnd.{PgnEnd}
 use Rattle.chess_pgn.specs.laws.TokenByToken.{game_of, nothing_read, tokens_read}
 use Rattle.chess_pgn.proofs.shared.Tokens.{read_kinds, kinds_read}
 use Rattle.pgn_verifier.specs.GameFaults.{judged}
-use Rattle.pgn_verifier.specs.laws.Parts.{BeginsAlike, GamesAreInParts, HoldsWhole, no_more, game, WholeGamesAreReportedAlike, AllHoldWhole, no_parts, next_part, TextsAreReportedInParts, PiecesAreReportedAlike}
+use Rattle.pgn_verifier_laws.specs.Parts.{BeginsAlike, GamesAreInParts, HoldsWhole, no_more, game, WholeGamesAreReportedAlike, AllHoldWhole, no_parts, next_part, TextsAreReportedInParts, PiecesAreReportedAlike}
 use Rattle.pgn_pieces.specs.Pieces.{cut}
 use Rattle.pgn_pieces.specs.Stream.{with_offsets, pieces}
 use Rattle.pgn_pieces.specs.declared.pieces.TheConstants.{PIECE_LEN}
 use Rattle.pgn_pieces.proofs.shared.Cuts.{cut_is_all}
 use Rattle.pgn_verifier.specs.Reports.{Report, Game}
-use Rattle.pgn_verifier.proofs.GamesAlike.{Fits, found}
-use Rattle.pgn_verifier.proofs.PartsAlike.{TokenByToken, there, lines, over, same_variant, outcome_in, same_result, judged_so, agrees, not_before, no_mark}
+use Rattle.pgn_verifier_laws.proofs.GamesAlike.{Fits, found}
+use Rattle.pgn_verifier_laws.proofs.PartsAlike.{TokenByToken, there, lines, over, same_variant, outcome_in, same_result, judged_so, agrees, not_before, no_mark}
 use Rattle.pgn_verifier.specs.laws.Reported.{read_at, report_then, reports_from, reports_in, reports_on, too_long_report}
 
 -- ---- the part
