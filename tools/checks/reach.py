@@ -1,9 +1,9 @@
 """Counts, from the sources, which definitions of specs/ the contract of a function reaches; tools/checks/reach prints it.
 
-What is at the top of specs/ is to be reached by the contract of a function that a user of the crates can call; what is in
-specs/laws/, specs/shared/ or specs/ties/ is not. A function reaches the definitions that its clauses name, those by which contracts see its
-arguments, and what these name in turn. A definition's lines are counted without comments, imports and empty lines. Names are
-resolved by the imports of their file; no prover is asked."""
+What is at the top of specs/ is to be reached by the contract of a function that a user of the crates can call and that is no
+law, but for crates of laws (NAME_laws); what is in specs/laws/, specs/shared/ or specs/ties/ is not. A function reaches the
+definitions that its clauses name, those by which contracts see its arguments, and what these name in turn. A definition's lines
+are counted without comments, imports and empty lines. Names are resolved by the imports of their file; no prover is asked."""
 
 import copy
 import re
@@ -125,8 +125,7 @@ class Reach:
         found = {}
         for key, room in self.rooms().items():
             is_top = not key.module.startswith(("laws.", "shared.", "ties."))
-            rooms = ("laws",) if key.crate.endswith("_laws") else ("program", "calls")
-            if is_top != (room in rooms):
+            if is_top != (room in ("program", "calls") or room == "laws" and key.crate.endswith("_laws")):
                 found.setdefault(key.path, []).append(f"{key.name} ({room})")
         return found
 

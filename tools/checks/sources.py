@@ -23,9 +23,11 @@ SHORT = {
     "pgn": "chess_pgn",
     "pieces": "pgn_pieces",
     "verifier": "pgn_verifier",
+    "verifier_laws": "pgn_verifier_laws",
     "cecp": "chess_cecp",
     "engine": "cecp_engine",
     "match": "chess_match",
+    "match_laws": "chess_match_laws",
     "grammar": "arbiter_grammar",
     "cli": "arbiter_cli",
     "runner": "match_runner",
@@ -448,7 +450,8 @@ class Sources:
         return f.is_pub and (f.owner or f.name) in self.exports[f.crate]
 
     def is_law(self, f):
-        return self.is_public(f) and (f.crate.endswith("_laws") or f.path.endswith("/laws.rt"))
+        """A public function of a file laws.rt, or of a crate of laws."""
+        return self.is_public(f) and (f.path.endswith("/laws.rt") or f.crate.endswith("_laws"))
 
     def bound_in_clause(self, f, text):
         """The names that stand for values in a clause: parameters, and what the clause binds."""

@@ -9,7 +9,7 @@ use Rattle.chess_base.specs.Men.{other}
 use Rattle.text_lines.specs.Lines.{Held, LineSeen, nothing_held}
 use Rattle.text_lines.specs.Next.{NextLine, NextLineUntil}
 use Rattle.chess_match.specs.Acts.{Act, Block, Sends, SendFails, Happens}
-use Rattle.chess_match.specs.laws.Laws.{has_ended, has_failed_read, lines_read, moments_shown, notes_given}
+use Rattle.chess_match.specs.laws.Laws.{moments_shown, notes_given}
 use Rattle.chess_match.specs.Events.{Line, Opened, Silent, OutputEnds, FailsToRead, FailsToWrite}
 use Rattle.chess_base.specs.Options.{list_if}
 use Rattle.chess_match.specs.Lines.{SentLine, bytes_of}
@@ -24,7 +24,7 @@ use Rattle.chess_match.specs.ties.EngineOutput.{OutputAt}
 use Rattle.chess_match.specs.ties.Reported.{SendsIf}
 use Rattle.chess_match.proofs.ClockAsked.{asked_more, asked_none}
 use Rattle.chess_match.proofs.LinesRead.{act_read, other_read, other_silent, own_read, own_silent}
-use Rattle.chess_match.proofs.MatchCases.{unread}
+use Rattle.chess_match.proofs.shared.MatchCases.{unread}
 
 -- ---- one step more
 
@@ -358,19 +358,6 @@ notes_watched reason (Happens (FailsToWrite c) ∷ H) =
     ap (λ (l : List Note). Happened (FailsToWrite c) ∷ l) (notes_watched reason H)
 
 -- ---- what was read
-
--- acts that read from no engine
-pub quiet_read : (S : Colour) (H : List Act) → unread H ≡ true
-    → (lines_read S H ≡ []) × (has_ended S H ≡ false) × (has_failed_read S H ≡ false)
-quiet_read S [] u = (refl, refl, refl)
-quiet_read S (Sends b ∷ H) u = quiet_read S H u
-quiet_read S (SendFails b ∷ H) u = quiet_read S H u
-quiet_read S (Happens (Opened c n) ∷ H) u = quiet_read S H u
-quiet_read S (Happens (FailsToWrite c) ∷ H) u = quiet_read S H u
-quiet_read S (Happens (Line c t n) ∷ H) u = absurd cc
-quiet_read S (Happens (Silent c n) ∷ H) u = absurd cc
-quiet_read S (Happens (OutputEnds c) ∷ H) u = absurd cc
-quiet_read S (Happens (FailsToRead c) ∷ H) u = absurd cc
 
 pub tail_same : (S : Colour) (H : List Act) (r r' : InputState) (h h' : Held) → unread H ≡ true → ReadsOf S H r r' h h'
     → r' ≡ r

@@ -8,7 +8,7 @@ use Rattle.chess_match.specs.Effects.{Match, beginning, effect}
 use Rattle.chess_match.specs.Events.{Line, Silent, OutputEnds, FailsToRead, FailsToWrite}
 use Rattle.chess_match.specs.Lines.{SentLine}
 use Rattle.chess_match.specs.Rules.{Rules}
-use Rattle.chess_match.proofs.MatchCases.{by_cases}
+use Rattle.chess_match.proofs.shared.MatchCases.{by_cases}
 
 -- there is a line
 abbrev pub HasLine : List SentLine → Type 0

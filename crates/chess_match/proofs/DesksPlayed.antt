@@ -26,9 +26,9 @@ use Rattle.chess_match.specs.ties.AtDesk.{Did, NotedSince, WritesOf}
 use Rattle.chess_match.proofs.BlocksFilled.{HasLine, SendFilled, blocks_filled}
 use Rattle.chess_match.proofs.AtDesk.{moments_watched, notes_watched, reads_watched, writes_watched}
 use Rattle.chess_match.proofs.ClockAsked.{asked_none}
-use Rattle.chess_match.proofs.MatchCases.{all_reads_end, all_sends_end, sends_end, unsent_in}
+use Rattle.chess_match.proofs.shared.MatchCases.{all_reads_end, all_sends_end, sends_end, unsent_in}
 use Rattle.chess_match.proofs.OutputByActs.{all_read}
-use Rattle.chess_match.proofs.Sends.{bytes_of-append}
+use Rattle.chess_match.proofs.shared.Lines.{bytes_of-append}
 
 -- ---- what was written
 

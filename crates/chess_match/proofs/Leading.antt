@@ -5,7 +5,7 @@ use Rattle.std.specs.Cmp.Derive.{both_true}
 use Rattle.chess_base.specs.declared.man.Colour.{Colour}
 use Rattle.chess_base.specs.declared.man.Colour.TheVariants.{White, Black}
 use Rattle.chess_base.specs.Men.{other, same_colour}
-use Rattle.chess_base.proofs.shared.Men.{same_colour-self, same_colour-true}
+use Rattle.chess_base.proofs.shared.Men.{same_colour-true}
 use Rattle.chess_match.specs.Acts.{Act, Block, Sends, SendFails, Happens, IsMatchFrom, awaits_line, is_limited, is_over, block_of, blocks_from}
 use Rattle.chess_match.specs.shared.Parts.{blocks_after}
 use Rattle.chess_match.specs.laws.Laws.{broken_blocks, is_broken}
@@ -17,10 +17,9 @@ use Rattle.chess_match.specs.Notes.{Happened, Gives}
 use Rattle.chess_match.specs.Reasons.{is_write_fault_of}
 use Rattle.chess_match.specs.Rules.{Rules}
 use Rattle.chess_match.specs.Table.{Step, Does, Notes, watched}
-use Rattle.chess_match.specs.declared.reason.MatchFault.TheVariants.{Write}
 use Rattle.chess_match.specs.declared.reason.Reason.{Reason}
-use Rattle.chess_match.specs.declared.reason.Reason.TheVariants.{Faulted}
-use Rattle.chess_match.proofs.LineCases.{silence_cases}
+use Rattle.chess_match.proofs.shared.LineCases.{silence_cases}
+use Rattle.chess_match.proofs.shared.Reasons.{unwritten}
 use Rattle.chess_match.specs.ties.Driving.{Leads, giving, is_of_output, is_silence, steps_of}
 
 -- no write failed
@@ -100,10 +99,6 @@ pub leads_farewell : (r : Rules) (m : Match) (S : Colour) (lines : List SentLine
     → Leads r m (block_of S lines ++ due) (giving failed S lines) m due (only failed S)
 leads_farewell r m S lines due true over some apart = leads_broken r m S lines due over (some refl) apart
 leads_farewell r m S lines due false over some apart = leads_sent r m S lines due
-
-pub unwritten : (S : Colour) (reason : Reason) → Over (Faulted S Write) ≡ Over reason → is_write_fault_of reason S ≡ true
-unwritten S reason e = let same : Faulted S Write ≡ reason = cc in
-    ap (λ (x : Reason). is_write_fault_of x S) (sym same) ∙ same_colour-self S
 
 -- a write failed, and that ended the match
 pub leads_failed : (r : Rules) (m : Match) (S : Colour) (lines : List SentLine) (due : List Block)

@@ -9,7 +9,7 @@ use Rattle.cecp_engine.specs.declared.engine_line.EngineLine.TheVariants.{Featur
 use Rattle.chess_match.specs.Effects.{Match, Setup, AfterMove, before_move, ends, ignores, line_row, move_row, turn_row}
 use Rattle.chess_match.specs.laws.Laws.{items_in_line}
 use Rattle.chess_match.specs.Rules.{Rules}
-use Rattle.chess_match.specs.ties.Represents.{since_counted}
+use Rattle.chess_match.specs.shared.Parts.{since_counted}
 use Rattle.chess_match.specs.declared.reason.Reason.TheVariants.{MovesIllegally}
 use Rattle.chess_base.specs.declared.man.Move as chess
 use Rattle.chess_text.specs.declared.reading.Reading.{Reading}

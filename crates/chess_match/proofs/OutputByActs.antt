@@ -19,8 +19,8 @@ use Rattle.chess_match.specs.Run.{text_read, engine_lines}
 use Rattle.chess_match.specs.declared.run.TheConstants.{ENGINE_LINE_LEN}
 use Rattle.chess_match.specs.ties.AtDesk.{ReadsOf}
 use Rattle.chess_match.specs.ties.EngineOutput.{OutputSoFar, OutputEnded}
-use Rattle.chess_match.proofs.AtDesk.{quiet_read, tail_same}
-use Rattle.chess_match.proofs.MatchCases.{reads_end}
+use Rattle.chess_match.proofs.shared.MatchCases.{quiet_read, reads_end}
+use Rattle.chess_match.proofs.AtDesk.{tail_same}
 use Rattle.chess_match.proofs.OutputByCalls.{output_more, output_last, output_none, output_fault, output_silent, output_start}
 
 map_both : (xs ys : List LineSeen) → map text_read (xs ++ ys) ≡ map text_read xs ++ map text_read ys

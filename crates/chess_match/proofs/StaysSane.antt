@@ -17,8 +17,7 @@ use Rattle.chess_match.specs.declared.reason.Reason.TheVariants.{Decided}
 use Rattle.chess_match.specs.ties.Driving.{is_of_output}
 use Rattle.chess_match.specs.ties.Sane.{IsSane, IsWritten, in_turn}
 use Rattle.chess_match.proofs.CoreSteps.{on_awaiting}
-use Rattle.chess_match.proofs.LineCases.{LineCases, line_cases, offering, said_by, silence_cases}
-use Rattle.chess_match.proofs.Points.{offered_used, said_used}
+use Rattle.chess_match.proofs.shared.LineCases.{LineCases, line_cases, offering, said_by, silence_cases, offered_used, said_used}
 use Rattle.chess_game.specs.Ends.{verdict}
 
 pub sane_start : (r : Rules) → IsSane r beginning.after

@@ -1,3 +1,2 @@
--- Claims about the definitions: each is the contract of a function that does nothing.
+-- What laws of matches speak of; the laws are in chess_match_laws and match_runner.
 pub mod Laws
-pub mod OfActs

@@ -22,7 +22,6 @@ mod desk;
 mod events;
 mod game;
 mod handshake;
-mod laws;
 mod match_game;
 mod moments;
 mod patience;
@@ -39,12 +38,6 @@ mod turn;
 mod witness;
 
 pub use chess_game::DrawClaim;
-pub use laws::{
-    acts_are_in_order, clocks_do_not_underflow, each_is_sent_the_others, failed_blocks_are_last,
-    games_are_lines, last_line_is_theirs, lines_are_few, match_is_the_only_one, moves_are_read,
-    moves_are_sent_once, moves_sent_are_known, notes_have_all, silences_end_matches,
-    time_forfeits_are_shown, times_are_clocks, used_times_are_differences, verdicts_end_matches,
-};
 pub use moments::Moments;
 pub use patience::Patience;
 pub use phase::Phase;

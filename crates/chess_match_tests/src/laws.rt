@@ -1,6 +1,6 @@
-//! Each law of chess_match can be called, without a condition.
+//! Each law of chess_match_laws can be called, without a condition.
 
-use chess_match::{
+use chess_match_laws::{
     acts_are_in_order, clocks_do_not_underflow, each_is_sent_the_others, failed_blocks_are_last,
     games_are_lines, last_line_is_theirs, lines_are_few, match_is_the_only_one, moves_are_read,
     moves_are_sent_once, moves_sent_are_known, notes_have_all, silences_end_matches,

@@ -20,8 +20,9 @@ use Rattle.chess_match.specs.Played.{Passed, SaidBy, WasSent, World}
 use Rattle.chess_match.specs.Rules.{Rules}
 use Rattle.chess_match.specs.Run.{ClockReadings, engine_lines, text_read}
 use Rattle.chess_match.specs.declared.run.TheConstants.{ENGINE_LINE_LEN}
-use Rattle.chess_match.specs.laws.Laws.{Streams, has_ended, has_failed_read, is_broken, lines_read, moments_shown, broken_blocks, lines_sent}
-use Rattle.chess_match.specs.laws.OfActs.{AreOf, AreSilent, ReadFrom}
+use Rattle.chess_match_laws.specs.Streams.{Streams}
+use Rattle.chess_match.specs.laws.Laws.{has_ended, has_failed_read, is_broken, lines_read, moments_shown, broken_blocks, lines_sent}
+use Rattle.chess_match_laws.specs.OfActs.{AreOf, AreSilent, ReadFrom}
 
 -- ---- lines of the beginning of a text
 

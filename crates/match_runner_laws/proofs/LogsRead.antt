@@ -16,8 +16,7 @@ use Rattle.chess_match.specs.Events.{Event, Line, Opened, Silent, FailsToWrite}
 use Rattle.chess_match.specs.Lines.{SentLine, bytes_of, text_of}
 use Rattle.chess_match.specs.Notes.{Note, Happened, Gives}
 use Rattle.chess_match.specs.Reasons.{is_write_fault_of, reported_reason}
-use Rattle.chess_match.specs.laws.Laws.{events_in, notes_given}
-use Rattle.chess_match.specs.laws.OfActs.{lines_given}
+use Rattle.chess_match.specs.laws.Laws.{events_in, notes_given, lines_given}
 use Rattle.chess_game.specs.Ends.{verdict}
 use Rattle.chess_game.specs.declared.verdicts.Verdict.{Verdict}
 use Rattle.chess_match.proofs.shared.Verdicts.{verdicts_end_matches}

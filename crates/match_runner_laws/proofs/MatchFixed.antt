@@ -16,7 +16,7 @@ use Rattle.chess_match.specs.Reasons.{ended_by, outcome_by_reason, reported_faul
 use Rattle.chess_match.specs.declared.reason.MatchFault.{MatchFault}
 use Rattle.chess_match.specs.declared.reason.Reason.{Reason}
 use Rattle.chess_match.specs.laws.Laws.{is_broken, lines_sent, moments_shown, notes_given}
-use Rattle.chess_match.specs.laws.OfActs.{OnlyOneMatch, SilencesAreAskedFor, endless}
+use Rattle.chess_match_laws.specs.OfActs.{OnlyOneMatch, SilencesAreAskedFor, endless}
 use Rattle.match_runner.specs.declared.fault.GamesFault.{GamesFault}
 use Rattle.match_runner.specs.declared.fault.GamesFault.TheVariants.{CanNotStart, Game, NoMemory, WriteFailed}
 use Rattle.match_runner.specs.declared.memory_host.MemoryEngine.{MemoryEngine}

@@ -6,7 +6,7 @@ use Rattle.byte_devices.specs.Transfers.{Devices, OutputTook, all_of}
 use Rattle.chess_base.specs.declared.by_colour.ByColour.{ByColour}
 use Rattle.chess_base.specs.declared.man.Colour.{Colour}
 use Rattle.chess_base.specs.declared.man.Colour.TheVariants.{White, Black}
-use Rattle.chess_match.specs.laws.OfActs.{endless}
+use Rattle.chess_match_laws.specs.OfActs.{endless}
 use Rattle.match_runner.specs.Games.{none_killed}
 use Rattle.match_runner.specs.GamesTable.{HostStep, Finishes, Outputs, PlaysGamesWith}
 use Rattle.match_runner.specs.Log.{Logged}

@@ -10,8 +10,7 @@ use Rattle.chess_base.specs.declared.man.Colour.{Colour}
 use Rattle.chess_match.specs.Acts.{Act, IsMatch}
 use Rattle.chess_match.specs.Effects.{Match, Over}
 use Rattle.chess_match.specs.Events.{Event, Line, Opened, Silent, OutputEnds, FailsToRead, FailsToWrite}
-use Rattle.chess_match.specs.laws.Laws.{events_in, notes_given}
-use Rattle.chess_match.specs.laws.OfActs.{lines_given}
+use Rattle.chess_match.specs.laws.Laws.{events_in, notes_given, lines_given}
 use Rattle.match_runner.specs.declared.plan.GamesPlan.{GamesPlan}
 use Rattle.match_runner.specs.Games.{GameRecord, IsOfPlan, first_side, game_text, game_texts, score_line}
 use Rattle.match_runner.specs.Log.{log_from}

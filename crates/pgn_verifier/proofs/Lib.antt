@@ -1,18 +1,10 @@
+pub mod shared
 mod CollectionVerified
-mod FaultlessTexts
 mod FaultsInText
 mod Finished
 mod InputRead
 mod LinesWritten
-mod Parts
-mod GamesAlike
-mod PartsAlike
-mod PartsRead
 mod Placed
-mod ReportsAre
-mod TagReasons
 mod TextVerified
 mod TooLong
 mod Verifying
-mod WrittenGames
-mod WrittenTexts

@@ -16,7 +16,7 @@ use Rattle.pgn_verifier.specs.Verify.{Verifies}
 use Rattle.pgn_verifier.specs.Collection.{AreCollectionReports, VerifiesCollection}
 use Rattle.pgn_verifier.specs.laws.Reported.{reports_on, collection_reports}
 use Rattle.pgn_verifier.specs.Faults.{of_piece}
-use Rattle.pgn_verifier.proofs.ReportsAre.{are_reports, are_collection_reports}
+use Rattle.pgn_verifier.proofs.shared.ReportsAre.{are_reports, are_collection_reports}
 use Rattle.pgn_verifier.specs.ties.OnTheWay.{IsAll, IsNotAll, WritesText, text_lines, collection_lines, collection_written}
 
 gave : (r r' : InputState) (text : List ℕ) (ended : Bool) → HasRead ended r r' text

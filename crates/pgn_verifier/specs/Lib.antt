@@ -5,5 +5,6 @@ pub mod GameFaults
 pub mod Reports
 pub mod Faults
 pub mod Verify
+pub mod shared
 pub mod ties
 pub mod laws

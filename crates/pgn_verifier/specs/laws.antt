@@ -1,6 +1,3 @@
--- Claims about the definitions: each is the contract of a function that does nothing.
+-- What laws of the reports on games speak of; the laws are in pgn_verifier_laws.
 pub mod Reasons
 pub mod Reported
-pub mod WrittenGames
-pub mod Parts
-pub mod NoFaults

@@ -7,7 +7,7 @@ ghost use Rattle.chess_pgn.specs.LastTags.{result_tag_of};
 ghost use Rattle.chess_pgn.specs.Tokens.{after_byte_order_mark, tokens_from};
 ghost use Rattle.chess_game.specs.Results.{same_outcome};
 ghost use Rattle.pgn_verifier.specs.GameFaults.{result_differs, board_says_otherwise};
-ghost use Rattle.pgn_verifier.specs.ties.OnTheWay.{contradiction};
+ghost use Rattle.pgn_verifier.specs.shared.Contradictions.{contradiction};
 
 use crate::game_fault::{FaultKind, GameFault};
 use chess_game::{Game, Outcome, Verdict};

@@ -22,7 +22,6 @@ mod fault;
 mod fen_field;
 mod game_fault;
 mod games;
-mod laws;
 mod options;
 mod report;
 mod shown;
@@ -33,9 +32,5 @@ mod token_reason;
 pub use buffered::verify;
 pub use collection::verify_collection;
 pub use fault::VerifyFault;
-pub use laws::{
-    a_text_without_faults_is_reported_alike, games_are_in_parts, reports_are_the_only_ones,
-    written_games_have_no_fault, written_texts_have_no_fault,
-};
 pub use options::VerifyOptions;
 pub use tally::Verified;

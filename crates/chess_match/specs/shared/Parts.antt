@@ -1,9 +1,11 @@
--- Parts of effects, and what is due after a line, by names that proofs use, also those of match_runner.
-use Rattle.std.specs.Prelude.{if◌then◌else◌, List, [], ◌∷◌, ◌++◌, map, codes}
+-- Parts of effects, and what is due after a line, by names that proofs use, also those of chess_match_laws and of
+-- match_runner.
+use Rattle.std.specs.Prelude.{ℕ, if◌then◌else◌, List, [], ◌∷◌, ◌++◌, map, codes, Option, Some}
 use Rattle.chess_base.specs.declared.man.Colour.{Colour}
 use Rattle.chess_base.specs.declared.man.Colour.TheVariants.{White}
 use Rattle.chess_base.specs.Men.{same_colour}
 use Rattle.chess_base.specs.Options.{list_if}
+use Rattle.cecp_engine.specs.EngineLines.{LineKind, Features}
 use Rattle.cecp_engine.specs.Items.{Item, is_known}
 use Rattle.chess_match.specs.Acts.{Block, blocks_from, is_over}
 use Rattle.chess_match.specs.Effects.{Effect, Match, Phase, is_owed_move, move_line}
@@ -16,6 +18,16 @@ use Rattle.chess_match.specs.Lines.{SentLine, Says}
 -- the match `m` at the beginning of this phase: no line was counted in it yet
 abbrev pub enter : Phase → Match → Match
 enter phase m = record m { phase = phase; count = 0 }
+
+-- since when a reply is awaited, once a line of this kind came at this moment in a handshake: after a `feature` line
+-- from there on, after any other as before (`since`)
+abbrev pub since_counted : LineKind → ℕ → Option ℕ → Option ℕ
+since_counted (Features text) moment since = Some moment
+since_counted _ moment since = since
+
+-- the match `m`, once a line of this kind came at this moment in a handshake
+abbrev pub counted : LineKind → ℕ → Match → Match
+counted kind moment m = record m { since = since_counted kind moment m.since }
 
 -- the lines that answer these items of `feature` lines, one for each, in their order, whatever the item's value:
 -- `accepted` and its name, such as `accepted ping`, if the arbiter knows the name (`is_known`); otherwise `rejected`

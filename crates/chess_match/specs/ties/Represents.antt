@@ -10,7 +10,7 @@ use Rattle.chess_base.specs.Options.{list_if}
 use Rattle.chess_game.specs.Ends.{result_text, verdict}
 use Rattle.chess_game.specs.Results.{cut_tag}
 use Rattle.cecp_engine.specs.Clocks.{ClocksSeen, Spent, charged}
-use Rattle.cecp_engine.specs.EngineLines.{LineKind, Features}
+use Rattle.cecp_engine.specs.EngineLines.{LineKind}
 use Rattle.cecp_engine.specs.Items.{Item, last_said}
 use Rattle.cecp_engine.specs.Seen.{features_of}
 use Rattle.cecp_engine.specs.Levels.{LevelSeen}
@@ -106,16 +106,6 @@ nothing_said S = []
 abbrev pub items_in : CorePhase → LineKind → Colour → List Item
 items_in (core_in.Handshake c) kind = items_to c (items_in_line kind)
 items_in _ kind = nothing_said
-
--- since when a reply is awaited, once a line of this kind came at this moment in a handshake: after a `feature` line
--- from there on, after any other as before (`since`)
-abbrev pub since_counted : LineKind → ℕ → Option ℕ → Option ℕ
-since_counted (Features text) moment since = Some moment
-since_counted _ moment since = since
-
--- the match `m`, once a line of this kind came at this moment in a handshake
-abbrev pub counted : LineKind → ℕ → Match → Match
-counted kind moment m = record m { since = since_counted kind moment m.since }
 
 -- the lines that end the match for the side `S`, by the reason that is reported; `m` is the match, and `owed` says
 -- whether the last move is among them

@@ -1,17 +1,14 @@
 -- What becomes of verifying on the way: of a text that is read as a whole, and of pieces before their counts are
 -- written.
-use Rattle.std.specs.Prelude.{◌≡◌, ◌<◌, ℕ, true, false, List, [], ◌∷◌, length, take, drop, codes, decimal, Option, Some, None, Result, Ok, Err, ◌≤◌, ◌+◌, ◌++◌, if◌then◌else◌, Bool}
+use Rattle.std.specs.Prelude.{◌≡◌, ◌<◌, ℕ, true, false, List, [], ◌∷◌, length, take, drop, codes, decimal, Option, Some, Result, Ok, Err, ◌≤◌, ◌+◌, ◌++◌, if◌then◌else◌, Bool}
 use Rattle.std.specs.List.{flat_map, fold}
-use Rattle.std.specs.Option.{option_map_or, option_or}
+use Rattle.std.specs.Option.{option_map_or}
 use Rattle.chess_pgn.specs.declared.read.PgnFaultKind.TheVariants.{TooLong}
 use Rattle.pgn_verifier.specs.Explanations.{shown}
-use Rattle.pgn_verifier.specs.GameFaults.{fault_name, result_differs, board_says_otherwise}
+use Rattle.pgn_verifier.specs.GameFaults.{fault_name}
 use Rattle.chess_game.specs.Results.{outcome_text}
 use Rattle.chess_game.specs.declared.results.Outcome.{Outcome}
-use Rattle.chess_game.specs.declared.verdicts.Verdict.{Verdict}
 use Rattle.chess_pgn.specs.Terminations.{termination_text}
-use Rattle.chess_pgn.specs.declared.read.PgnEnd.{PgnEnd}
-use Rattle.chess_pgn.specs.declared.tagged_result.ResultTag.{ResultTag}
 use Rattle.chess_pgn.specs.declared.termination.Termination.{Termination}
 use Rattle.pgn_verifier.specs.declared.game_fault.FaultKind.TheVariants.{Pgn}
 use Rattle.byte_devices.specs.Devices.{InputState, OutputState, Took, Sent, CutShort}
@@ -148,9 +145,3 @@ PieceStandsIf explain number input piece = explain ≡ true → PieceStandsAt nu
 pub record GrowsBy (len : ℕ) (before after : Tally) : Type 0 where
   pub reports : after.games + after.faults ≤ before.games + before.faults + len + 1
   pub half_moves : after.half_moves ≤ before.half_moves + len
-
--- the fault of a game whose termination marker (`end`) contradicts its last tag Result (`tag`) or the board's verdict,
--- as in `judged`; `None` without a contradiction, or if `strict` is false
-abbrev pub contradiction : Bool → Option ResultTag → Option Verdict → PgnEnd → Option GameFault
-contradiction strict tag verdict end =
-    if strict then option_or (result_differs tag end) (board_says_otherwise verdict end) else None

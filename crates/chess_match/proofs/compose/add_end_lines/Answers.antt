@@ -1,6 +1,6 @@
 -- The bytes of the end are those of the last move, where the side wasn't sent it, and of the result and `quit`.
 use Rattle.std.proofs.Common.{append_assoc}
-use Rattle.chess_match.proofs.Sends.{bytes_of-append}
+use Rattle.chess_match.proofs.shared.Lines.{bytes_of-append}
 use Rattle.chess_match.proofs.compose.add_end_lines.Goals as goal
 
 pub returns-clause-text : goal.returns-clause-text

@@ -5,7 +5,8 @@ use Rattle.std.specs.Prelude.{nat_lt, codes}
 use Rattle.chess_match.specs.Lines.{Says}
 use Rattle.chess_match.specs.ties.Delivering.{clocks, last_move}
 use Rattle.chess_match.proofs.CoreSteps.{clocks_moves}
-use Rattle.chess_match.proofs.Sends.{bytes_of-append, go_line}
+use Rattle.chess_match.proofs.shared.Lines.{bytes_of-append}
+use Rattle.chess_match.proofs.Sends.{go_line}
 use Rattle.chess_match.proofs.compose.add_opening.Goals as goal
 
 pub returns-then-moves-gt0-clause-text : goal.returns-then-moves-gt0-clause-text

@@ -1,9 +1,0 @@
-use Rattle.chess_match.proofs.MoveLaw.{moves_sent_are_known}
-use Rattle.chess_match.proofs.Points.{end_after_acts}
-use Rattle.chess_match.proofs.laws.moves_sent_are_known.Goals as goal
-
-pub returns-clause-whole : goal.returns-clause-whole
-returns-clause-whole c = moves_sent_are_known
-
-pub returns-clause-after : goal.returns-clause-after
-returns-clause-after c = end_after_acts

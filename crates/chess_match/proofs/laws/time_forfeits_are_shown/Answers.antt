@@ -1,5 +1,0 @@
-use Rattle.chess_match.proofs.TimeForfeits.{time_forfeits_are_shown}
-use Rattle.chess_match.proofs.laws.time_forfeits_are_shown.Goals as goal
-
-pub returns : goal.returns
-returns c = time_forfeits_are_shown

@@ -1,0 +1,372 @@
+-- What a line can do to a match, whatever it says: what holds of each of these effects holds of the line's.
+use native.Mathlib.Omega.{arith}
+use Rattle.std.specs.List.{list_any}
+use Rattle.std.proofs.Common.{◌≡◌, ℕ, ◌+◌, ◌-◌, ◌≤◌, ◌<◌, Bool, true, false, not, ◌&&◌, List, [], ◌∷◌, ◌++◌, length, refl, sym, ap, ◌∙◌, subst, Option, None, Some}
+use Rattle.std.specs.Option.{option_map_or}
+use Rattle.std.specs.Prelude.{if◌then◌else◌, nat_lt, nat_le, ◌==◌, codes, is_some}
+use Rattle.std.proofs.lemmas.Bool.{leb-false, ltb-false}
+use Rattle.chess_base.specs.declared.man.Colour.{Colour}
+use Rattle.chess_base.specs.declared.man.Colour.TheVariants.{White, Black}
+use Rattle.chess_base.specs.declared.man.Move.{Move}
+use Rattle.chess_base.specs.Men.{other, same_colour}
+use Rattle.chess_base.specs.Options.{list_if}
+use Rattle.chess_base.proofs.shared.Men.{same_colour-true}
+use Rattle.chess_game.specs.declared.verdicts.Verdict.{Verdict}
+use Rattle.cecp_engine.specs.EngineLines.{LineKind, Features, Moves, Resigns, OffersDraw, ClaimsDraw, ClaimsWin, Rejects, Answers, SaysElse}
+use Rattle.cecp_engine.specs.Items.{Item, ends_handshake, plays_fischerandom, takes}
+use Rattle.chess_match.specs.Acts.{awaits_line, is_limited}
+use Rattle.chess_match.specs.Effects.{Match, Phase, Handshake, Setup, Opening, BeforeMove, AfterMove, Over, Effect, awaited_since, before_move, begins_turn, clock, ends, flag_row, handshake_done, handshake_lines, handshake_row, ignores, judged, line_row, missing, move_row, moved, offer_row, ping_number, reply_row, sends_nothing, sends_to, setup_done, silence_row, turn_row, with_seat}
+use Rattle.chess_match.specs.shared.Parts.{enter, with_answers, counted}
+use Rattle.chess_match.specs.Lines.{Says, ping, setup_lines}
+use Rattle.chess_match.specs.Reasons.{is_write_fault_of}
+use Rattle.chess_match.specs.Rules.{Rules, start_fen, has_bare_king}
+use Rattle.chess_text.specs.San.{is_fischerandom}
+use Rattle.chess_text.specs.declared.reading.Reading.{Reading}
+use Rattle.chess_text.specs.declared.reading.Reading.TheVariants as reads
+use Rattle.chess_game.specs.declared.verdicts.DrawClaim.{DrawClaim}
+use Rattle.chess_match.specs.declared.reason.MatchFault.{MatchFault}
+use Rattle.chess_match.specs.declared.patience.Patience.{Patience}
+use Rattle.chess_match.specs.declared.reason.MatchFault.TheVariants.{Flood, NoAnswer, NoDone, NoHandshake, NoPing, NoSetboard, NoVariant}
+use Rattle.chess_match.specs.declared.reason.Reason.{Reason}
+use Rattle.chess_match.specs.declared.reason.Reason.TheVariants.{Decided, Claimed, Agreed, MovesIllegally, MovesOutOfTurn, ClaimsFalsely, RejectsLegalMove, Forfeits, ForfeitsToBareKing, GameTooLong, Faulted}
+use Rattle.chess_match.specs.declared.reason.Reason.TheVariants as over_by
+use Rattle.chess_match.specs.laws.Laws.{move_said, is_pong, items_in_line, whose_line}
+use Rattle.chess_game.specs.Ends.{verdict, claims, draw_claim}
+use Rattle.chess_game.specs.Line.{position_after}
+use Rattle.chess_text.specs.Moves.{reading}
+
+-- whether a match ended for a verdict of the board
+abbrev pub is_decided : Reason → Bool
+is_decided (Decided v) = true
+is_decided _ = false
+
+-- whether a match ended by a fault
+abbrev pub is_fault : Reason → Bool
+is_fault (Faulted c fault) = true
+is_fault _ = false
+
+-- whether a match in this phase waits for a move, or for the `pong` after one
+abbrev pub in_turn : Phase → Bool
+in_turn (BeforeMove S opened) = true
+in_turn (AfterMove S) = true
+in_turn _ = false
+
+-- a line of S may end a match in this phase for this reason: it is no failed write, what no line of the other did, and
+-- no verdict; out of a turn it is a fault
+abbrev pub MayStop : Patience → Phase → Colour → Reason → Type 0
+MayStop patience p S reason = ((O : Colour) → is_write_fault_of reason O ≡ false)
+    × ((c : Colour) → whose_line patience reason ≡ Some c → S ≡ c) × (is_decided reason ≡ false)
+    × (in_turn p ≡ false → is_fault reason ≡ true)
+
+-- whether no handshake is on in this phase
+abbrev pub handshakes_done : Phase → Bool
+handshakes_done (Handshake S) = false
+handshakes_done _ = true
+
+pub turn_done : (p : Phase) → in_turn p ≡ true → handshakes_done p ≡ true
+turn_done p h1 = grind arith
+
+never : {A : Type 0} {b : Bool} → b ≡ true → b ≡ false → A
+never on off = let no : true ≡ false = sym on ∙ off in absurd cc
+
+-- the match with the items of a line of S
+abbrev pub said_by : Colour → LineKind → Match → Match
+said_by S kind m = with_seat S (λ s. record s { items = s.items ++ items_in_line kind }) m
+
+-- a line more is counted
+abbrev pub counting : Match → Effect
+counting m = sends_nothing (record m { count = m.count + 1 })
+
+-- S's offer is opened
+abbrev pub offering : Colour → Match → Effect
+offering S m = sends_to (other S) (list_if (takes (codes "draw") (m.seat (other S)).items) (Says (codes "draw") ∷ []))
+    (with_seat S (λ s. record s { offers = true }) m)
+
+-- S's move is played, and decides nothing
+abbrev pub playing : Colour → Move → ℕ → Match → Effect
+playing S move used m = let n = moved S move used m in sends_to S (ping (ping_number n S) ∷ []) n
+
+pub said_used : (S C : Colour) (kind : LineKind) (m : Match) → ((said_by S kind m).seat C).used ≡ (m.seat C).used
+said_used S C kind m = grind arith
+
+pub offered_used : (S C : Colour) (m : Match) → ((offering S m).after.seat C).used ≡ (m.seat C).used
+offered_used S C m = grind arith
+
+-- whatever a line of S says, in each phase that awaits it
+pub record LineCases (r : Rules) (S : Colour) (kind : LineKind) (moment : ℕ) (m : Match) (Q : Effect → Type 0) : Type 0
+  where
+    -- in its handshake
+    pub handshake_stops : m.phase ≡ Handshake S → (reason : Reason) (k : ℕ) → k ≤ m.count → MayStop r.patience m.phase S reason
+        → Q (with_answers S (items_in_line kind) (ends r reason (record (said_by S kind m) { count = k })))
+    pub handshake_counts : m.phase ≡ Handshake S → list_any ends_handshake (items_in_line kind) ≡ false
+        → m.count + 1 < 1000
+        → Q (with_answers S (items_in_line kind) (sends_nothing (record (said_by S kind m) { count = m.count + 1 })))
+    pub handshake_next : m.phase ≡ Handshake S → S ≡ White → list_any ends_handshake (items_in_line kind) ≡ true
+        → Q (with_answers S (items_in_line kind)
+        (sends_to Black handshake_lines (enter (Handshake Black) (said_by S kind m))))
+    pub handshake_last : m.phase ≡ Handshake S → S ≡ Black → list_any ends_handshake (items_in_line kind) ≡ true
+        → Q (with_answers S (items_in_line kind) (sends_to White (setup_lines r) (enter (Setup White) (said_by S kind m))))
+    -- in its setup
+    pub setup_counts : m.phase ≡ Setup S → is_pong 1 kind ≡ false → m.count + 1 < 10000 → Q (counting m)
+    pub setup_next : m.phase ≡ Setup S → S ≡ White → is_pong 1 kind ≡ true
+        → Q (sends_to Black (setup_lines r) (enter (Setup Black) m))
+    pub setup_last : m.phase ≡ Setup S → S ≡ Black → is_pong 1 kind ≡ true → verdict r.start m.played ≡ None
+        → Q (begins_turn r r.start.side m)
+    pub setup_decides : m.phase ≡ Setup S → (v : Verdict) → verdict r.start m.played ≡ Some v → Q (ends r (Decided v) m)
+    -- in its setup or in its turn
+    pub stops : handshakes_done m.phase ≡ true → (reason : Reason) → MayStop r.patience m.phase S reason
+        → Q (ends r reason m)
+    -- in its turn
+    pub counts : in_turn m.phase ≡ true → move_said kind ≡ [] → m.count + 1 < 10000 → Q (counting m)
+    pub offers : in_turn m.phase ≡ true → move_said kind ≡ [] → (m.seat S).offers ≡ false → Q (offering S m)
+    pub plays : (text : List ℕ) (move : Move) (opened : ℕ) → kind ≡ Moves text → m.phase ≡ BeforeMove S opened
+        → reading (position_after r.start m.played) text ≡ reads.Move move → length m.played < r.limit → moment - opened ≤ clock r m S
+        → verdict r.start (m.played ++ move ∷ []) ≡ None → Q (playing S move (moment - opened) m)
+    pub decides : (text : List ℕ) (move : Move) (opened : ℕ) (v : Verdict) → kind ≡ Moves text
+        → m.phase ≡ BeforeMove S opened → reading (position_after r.start m.played) text ≡ reads.Move move → length m.played < r.limit
+        → moment - opened ≤ clock r m S → verdict r.start (m.played ++ move ∷ []) ≡ Some v
+        → Q (ends r (Decided v) (moved S move (moment - opened) m))
+    pub passes : m.phase ≡ AfterMove S → move_said kind ≡ [] → Q (begins_turn r (other S) m)
+
+by_test : (Q : Effect → Type 0) (b : Bool) {x y : Effect} → (b ≡ true → Q x) → (b ≡ false → Q y)
+    → Q (if b then x else y)
+by_test Q true f g = f refl
+by_test Q false f g = g refl
+
+-- what is missing of an engine is no write that failed
+abbrev NoWriteFault : Option MatchFault → Type 0
+NoWriteFault None = Unit {0}
+NoWriteFault (Some f) = (c O : Colour) → is_write_fault_of (Faulted c f) O ≡ false
+
+if_fault : (b : Bool) (x y : Option MatchFault) → NoWriteFault x → NoWriteFault y → NoWriteFault (if b then x else y)
+if_fault true x y p q = p
+if_fault false x y p q = q
+
+misses : (r : Rules) (items : List Item) → NoWriteFault (missing r items)
+misses r items = if_fault (not (takes (codes "ping") items)) (Some NoPing) _ (λ c O. refl)
+    (if_fault (is_some (start_fen r.start) && not (takes (codes "setboard") items)) (Some NoSetboard) _ (λ c O. refl)
+    (if_fault (is_fischerandom r.start.variant && not (plays_fischerandom items)) (Some NoVariant) None (λ c O. refl) tt))
+
+setup_by_pong : (r : Rules) (S : Colour) (kind : LineKind) (moment : ℕ) (m : Match)
+    → line_row r (Setup S) kind moment m
+    ≡ (if is_pong 1 kind then setup_done r S (awaited_since moment m) else ignores r S m)
+setup_by_pong r S kind moment m = grind arith
+
+-- a flag that falls is a loss of its side alone
+own_flag : (patience : Patience) (S c : Colour) → whose_line patience (Forfeits S) ≡ Some c → S ≡ c
+own_flag patience S c e = at patience.flag e
+  where
+    at : (b : Bool) → (if b then None else Some S) ≡ Some c → S ≡ c
+    at true e = absurd cc
+    at false e = cc
+
+module _ (r : Rules) (S : Colour) (kind : LineKind) (moment : ℕ) (m : Match) (Q : Effect → Type 0)
+    (l : LineCases r S kind moment m Q) where
+  ignored : handshakes_done m.phase ≡ true → (m.count + 1 < 10000 → Q (counting m)) → Q (ignores r S m)
+  ignored done more = by_test Q (nat_le 10000 (m.count + 1))
+      (λ h. l.stops done (Faulted S Flood) ((λ O. refl), (λ c e. cc), refl, (λ off. refl)))
+      (λ h. more (leb-false 10000 (m.count + 1) h))
+
+  -- a line of a turn that is no move
+  module _ (on : in_turn m.phase ≡ true) (none : move_said kind ≡ []) where
+    offered : Q (offer_row r S m)
+    offered = by_test Q (m.seat (other S)).offers (λ h. l.stops (turn_done m.phase on) Agreed
+        ((λ O. refl), (λ c e. cc), refl, never on))
+        (λ h. by_test Q (m.seat S).offers (λ h. ignored (turn_done m.phase on) (l.counts on none)) (l.offers on none))
+
+    turn : (k : LineKind) → Q (turn_row r S k m)
+    turn Resigns = l.stops (turn_done m.phase on) (over_by.Resigns S) ((λ O. refl), (λ c e. cc), refl, never on)
+    turn OffersDraw = offered
+    turn ClaimsDraw = at (draw_claim (claims r.start m.played))
+      where
+        at : (claim : Option DrawClaim) → Q (option_map_or (λ c. ends r (Claimed c) m) claim (offer_row r S m))
+        at (Some c) = l.stops (turn_done m.phase on) (Claimed c) ((λ O. refl), (λ c e. cc), refl, never on)
+        at None = offered
+    turn (ClaimsWin c) = at (same_colour c S)
+      where
+        at : (b : Bool) → Q (ends r (if b then ClaimsFalsely S else over_by.Resigns S) m)
+        at true = l.stops (turn_done m.phase on) (ClaimsFalsely S) ((λ O. refl), (λ c e. cc), refl, never on)
+        at false = l.stops (turn_done m.phase on) (over_by.Resigns S) ((λ O. refl), (λ c e. cc), refl, never on)
+    turn Rejects = by_test Q (nat_lt 0 (length (m.seat (other S)).used)) (λ h. l.stops (turn_done m.phase on) (RejectsLegalMove S)
+        ((λ O. refl), (λ c e. cc), refl, never on))
+        (λ h. ignored (turn_done m.phase on) (l.counts on none))
+    turn (Features t) = ignored (turn_done m.phase on) (l.counts on none)
+    turn (Moves t) = ignored (turn_done m.phase on) (l.counts on none)
+    turn (Answers n) = ignored (turn_done m.phase on) (l.counts on none)
+    turn SaysElse = ignored (turn_done m.phase on) (l.counts on none)
+
+  said_none : (k : LineKind) → kind ≡ k → move_said k ≡ [] → move_said kind ≡ []
+  said_none k e h = ap move_said e ∙ h
+
+  -- before its move
+  module _ (opened : ℕ) (p : m.phase ≡ BeforeMove S opened) (timely : moment - opened ≤ clock r m S) where
+    a_move : (text : List ℕ) (read : Reading) → kind ≡ Moves text → reading (position_after r.start m.played) text ≡ read
+        → length m.played < r.limit → Q (move_row r S (moment - opened) read m)
+    a_move text reads.Ambiguous is e room = l.stops (ap handshakes_done p) (MovesIllegally S)
+        ((λ O. refl), (λ c e. cc), refl, never (ap in_turn p))
+    a_move text reads.NoSuch is e room = l.stops (ap handshakes_done p) (MovesIllegally S)
+        ((λ O. refl), (λ c e. cc), refl, never (ap in_turn p))
+    a_move text reads.NotAMove is e room = l.stops (ap handshakes_done p) (MovesIllegally S)
+        ((λ O. refl), (λ c e. cc), refl, never (ap in_turn p))
+    a_move text (reads.Move move) is e room = at (verdict r.start (m.played ++ move ∷ [])) refl
+      where
+        at : (v : Option Verdict) → verdict r.start (m.played ++ move ∷ []) ≡ v
+            → Q (option_map_or (λ v. ends r (Decided v) (moved S move (moment - opened) m)) v
+            (playing S move (moment - opened) m))
+        at None h = l.plays text move opened is p e room timely h
+        at (Some v) h = l.decides text move opened v is p e room timely h
+
+    before : (k : LineKind) → kind ≡ k → Q (before_move r S (moment - opened) k m)
+    before (Moves text) e = by_test Q (nat_le r.limit (length m.played))
+        (λ h. l.stops (ap handshakes_done p) GameTooLong ((λ O. refl), (λ c e. cc), refl, never (ap in_turn p)))
+        (λ h. a_move text (reading (position_after r.start m.played) text) e refl (leb-false r.limit (length m.played) h))
+    before (Features t) e = turn (ap in_turn p) (said_none (Features t) e refl) (Features t)
+    before Resigns e = turn (ap in_turn p) (said_none Resigns e refl) Resigns
+    before OffersDraw e = turn (ap in_turn p) (said_none OffersDraw e refl) OffersDraw
+    before ClaimsDraw e = turn (ap in_turn p) (said_none ClaimsDraw e refl) ClaimsDraw
+    before (ClaimsWin c) e = turn (ap in_turn p) (said_none (ClaimsWin c) e refl) (ClaimsWin c)
+    before Rejects e = turn (ap in_turn p) (said_none Rejects e refl) Rejects
+    before (Answers n) e = turn (ap in_turn p) (said_none (Answers n) e refl) (Answers n)
+    before SaysElse e = turn (ap in_turn p) (said_none SaysElse e refl) SaysElse
+
+  flagged : in_turn m.phase ≡ true → Q (flag_row r S m)
+  flagged on = at (has_bare_king (other S) (position_after r.start m.played).men)
+    where
+      at : (bare : Bool) → Q (ends r (if bare then ForfeitsToBareKing else Forfeits S) m)
+      at true = l.stops (turn_done m.phase on) ForfeitsToBareKing ((λ O. refl), (λ c e. cc), refl, never on)
+      at false = l.stops (turn_done m.phase on) (Forfeits S) ((λ O. refl), own_flag r.patience S, refl, never on)
+
+  -- after its move
+  after : m.phase ≡ AfterMove S → (k : LineKind) → kind ≡ k → Q (line_row r (AfterMove S) k moment m)
+  after p (Moves t) e = l.stops (ap handshakes_done p) (MovesOutOfTurn S) ((λ O. refl), (λ c e. cc), refl, never (ap in_turn p))
+  after p (Answers n) e = by_test Q (n == ping_number m S) (λ h. l.passes p (said_none (Answers n) e refl))
+      (λ h. ignored (ap handshakes_done p) (l.counts (ap in_turn p) (said_none (Answers n) e refl)))
+  after p (Features t) e = turn (ap in_turn p) (said_none (Features t) e refl) (Features t)
+  after p Resigns e = turn (ap in_turn p) (said_none Resigns e refl) Resigns
+  after p OffersDraw e = turn (ap in_turn p) (said_none OffersDraw e refl) OffersDraw
+  after p ClaimsDraw e = turn (ap in_turn p) (said_none ClaimsDraw e refl) ClaimsDraw
+  after p (ClaimsWin c) e = turn (ap in_turn p) (said_none (ClaimsWin c) e refl) (ClaimsWin c)
+  after p Rejects e = turn (ap in_turn p) (said_none Rejects e refl) Rejects
+  after p SaysElse e = turn (ap in_turn p) (said_none SaysElse e refl) SaysElse
+
+  -- in its setup
+  set_up : (c : Colour) → S ≡ c → m.phase ≡ Setup S → is_pong 1 kind ≡ true → Q (setup_done r c m)
+  set_up White e p pong = l.setup_next p e pong
+  set_up Black e p pong = at (verdict r.start m.played) refl
+    where
+      at : (v : Option Verdict) → verdict r.start m.played ≡ v
+          → Q (option_map_or (λ v. ends r (Decided v) m) v (begins_turn r r.start.side m))
+      at (Some v) h = l.setup_decides p v h
+      at None h = l.setup_last p e pong h
+
+  not_set_up : m.phase ≡ Setup S → is_pong 1 kind ≡ false → Q (ignores r S m)
+  not_set_up p h = ignored (ap handshakes_done p) (l.setup_counts p h)
+
+  -- in its handshake
+  shaken : (c : Colour) → S ≡ c → m.phase ≡ Handshake S → list_any ends_handshake (items_in_line kind) ≡ true
+      → Q (with_answers S (items_in_line kind) (handshake_done r c (said_by S kind m)))
+  shaken White e p d = l.handshake_next p e d
+  shaken Black e p d =
+      at (missing r ((said_by S kind m).seat White).items) (missing r ((said_by S kind m).seat Black).items)
+      (misses r ((said_by S kind m).seat White).items) (misses r ((said_by S kind m).seat Black).items)
+    where
+      at : (w b : Option MatchFault) → NoWriteFault w → NoWriteFault b
+          → Q (with_answers S (items_in_line kind) (judged r w b (said_by S kind m)))
+      at (Some f) b x y = l.handshake_stops p (Faulted White f) 0 (omega arith) (x White, (λ c e. cc), refl, (λ off. refl))
+      at None (Some f) x y = l.handshake_stops p (Faulted Black f) 0 (omega arith) (y Black, (λ c e. cc), refl, (λ off. refl))
+      at None None x y = l.handshake_last p e d
+
+  handshake : m.phase ≡ Handshake S → Q (handshake_row r S (items_in_line kind) m)
+  handshake p = by_test (λ (e : Effect). Q (with_answers S (items_in_line kind) e))
+      (list_any ends_handshake (items_in_line kind))
+      (shaken S refl p)
+      (λ d. by_test (λ (e : Effect). Q (with_answers S (items_in_line kind) e)) (nat_le 1000 (m.count + 1))
+      (λ h. l.handshake_stops p (Faulted S NoDone) m.count (omega arith) ((λ O. refl), (λ c e. cc), refl, (λ off. refl)))
+      (λ h. l.handshake_counts p d (leb-false 1000 (m.count + 1) h)))
+
+-- a line in a handshake, by its items
+pub handshake_by_items : (r : Rules) (S : Colour) (kind : LineKind) (moment : ℕ) (m : Match)
+    → line_row r (Handshake S) kind moment m ≡ handshake_row r S (items_in_line kind) (counted kind moment m)
+handshake_by_items r S (Features text) moment m = refl
+handshake_by_items r S _ moment m = refl
+
+-- from when on a reply is awaited is left open: what holds of the effects is to hold whichever moment that is
+pub line_cases : (r : Rules) (S : Colour) (kind : LineKind) (moment : ℕ) (m : Match) (Q : Effect → Type 0)
+    → awaits_line m.phase S ≡ true
+    → ((since : Option ℕ) → LineCases r S kind moment (record m { since = since }) Q)
+    → Q (line_row r m.phase kind moment m)
+line_cases r S kind moment m Q aw l = at m.phase refl aw
+  where
+    -- the phase's side is S
+    here : (p : Phase) (c : Colour) (q : Colour → Phase) → m.phase ≡ q c → same_colour c S ≡ true → m.phase ≡ q S
+    here p c q e h = e ∙ ap q (same_colour-true c S h)
+
+    setup : m.phase ≡ Setup S → Q (line_row r (Setup S) kind moment m)
+    setup p = subst Q (sym (setup_by_pong r S kind moment m)) (by_test Q (is_pong 1 kind)
+        (set_up r S kind moment (awaited_since moment m) Q (l (Some moment)) S refl p)
+        (not_set_up r S kind moment m Q (l m.since) p))
+
+    at : (p : Phase) → m.phase ≡ p → awaits_line p S ≡ true → Q (line_row r p kind moment m)
+    at (Handshake c) e h = subst (λ (x : Colour). Q (line_row r (Handshake x) kind moment m))
+        (sym (same_colour-true c S h)) (subst Q (sym (handshake_by_items r S kind moment m))
+        (handshake r S kind moment (counted kind moment m) Q (l (counted kind moment m).since)
+        (here m.phase c Handshake e h)))
+    at (Setup c) e h = subst (λ (x : Colour). Q (line_row r (Setup x) kind moment m)) (sym (same_colour-true c S h))
+        (setup (here m.phase c Setup e h))
+    at (BeforeMove c opened) e h = subst (λ (x : Colour). Q (line_row r (BeforeMove x opened) kind moment m))
+        (sym (same_colour-true c S h))
+        (by_test Q (nat_lt (clock r m S) (moment - opened))
+        (λ late. flagged r S kind moment m Q (l m.since) (ap in_turn e))
+        (λ timely. before r S kind moment (awaited_since moment m) Q (l (Some moment)) opened
+        (here m.phase c (λ x. BeforeMove x opened) e h)
+        (ltb-false (clock r m S) (moment - opened) timely) kind refl))
+    at (AfterMove c) e h = subst (λ (x : Colour). Q (line_row r (AfterMove x) kind moment m)) (sym (same_colour-true c S h))
+        (after r S kind moment m Q (l m.since) (here m.phase c AfterMove e h) kind refl)
+    at (Opening c) e h = absurd cc
+    at (Over reason) e h = absurd cc
+
+-- ---- silences
+
+-- that no line had come may end a match in this phase for this reason: it is no failed write, what no line did, and no
+-- verdict; out of a turn it is a fault
+abbrev pub MayStopSilent : Patience → Phase → Reason → Type 0
+MayStopSilent patience p reason = ((O : Colour) → is_write_fault_of reason O ≡ false)
+    × (is_limited patience p ≡ true → whose_line patience reason ≡ None) × (is_decided reason ≡ false)
+    × (in_turn p ≡ false → is_fault reason ≡ true)
+
+-- what it can do to a match that no line had come
+pub record SilenceCases (r : Rules) (m : Match) (Q : Effect → Type 0) : Type 0 where
+  pub stops : (reason : Reason) → MayStopSilent r.patience m.phase reason → Q (ends r reason m)
+  pub goes_on : (since : Option ℕ) → Q (sends_nothing (record m { since = since }))
+
+flag_shown : (patience : Patience) (S : Colour) → patience.flag ≡ true → whose_line patience (Forfeits S) ≡ None
+flag_shown patience S e = ap (λ (b : Bool). if b then None else Some S) e
+
+pub silence_cases : (r : Rules) (S : Colour) (moment : ℕ) (m : Match) (Q : Effect → Type 0) → SilenceCases r m Q
+    → Q (silence_row r m.phase S moment m)
+silence_cases r S moment m Q l = at m.phase refl
+  where
+    owed : (fault : MatchFault) → ((O : Colour) → is_write_fault_of (Faulted S fault) O ≡ false)
+        → Q (reply_row r S fault moment m)
+    owed fault w = by_test Q _ (λ h. l.stops (Faulted S fault) (w, (λ b. refl), refl, (λ off. refl)))
+        (λ h. l.goes_on _)
+
+    bare : (b : Bool) (side : Colour) (opened : ℕ) → m.phase ≡ BeforeMove side opened
+        → Q (ends r (if b then ForfeitsToBareKing else Forfeits S) m)
+    bare true side opened e = l.stops ForfeitsToBareKing ((λ O. refl), (λ b. refl), refl, never (ap in_turn e))
+    bare false side opened e = l.stops (Forfeits S) (
+      (λ O. refl),
+      (λ b. flag_shown r.patience S (sym (ap (is_limited r.patience) e) ∙ b)),
+      refl,
+      never (ap in_turn e),
+    )
+
+    at : (p : Phase) → m.phase ≡ p → Q (silence_row r p S moment m)
+    at (Handshake side) e = owed NoHandshake (λ O. refl)
+    at (BeforeMove side opened) e = by_test Q (nat_lt (clock r m S) (moment - opened))
+        (λ late. bare (has_bare_king (other S) (position_after r.start m.played).men) side opened e)
+        (λ timely. l.goes_on m.since)
+    at (Setup side) e = owed NoAnswer (λ O. refl)
+    at (AfterMove side) e = owed NoAnswer (λ O. refl)
+    at (Opening side) e = l.goes_on m.since
+    at (Over reason) e = l.goes_on m.since

@@ -1,0 +1,13 @@
+-- Reasons that are failed writes.
+use Rattle.std.proofs.Common.{◌≡◌, true, Bool, sym, ap, ◌∙◌}
+use Rattle.chess_base.specs.declared.man.Colour.{Colour}
+use Rattle.chess_base.proofs.shared.Men.{same_colour-self}
+use Rattle.chess_match.specs.Effects.{Over}
+use Rattle.chess_match.specs.Reasons.{is_write_fault_of}
+use Rattle.chess_match.specs.declared.reason.MatchFault.TheVariants.{Write}
+use Rattle.chess_match.specs.declared.reason.Reason.{Reason}
+use Rattle.chess_match.specs.declared.reason.Reason.TheVariants.{Faulted}
+
+pub unwritten : (S : Colour) (reason : Reason) → Over (Faulted S Write) ≡ Over reason → is_write_fault_of reason S ≡ true
+unwritten S reason e = let same : Faulted S Write ≡ reason = cc in
+    ap (λ (x : Reason). is_write_fault_of x S) (sym same) ∙ same_colour-self S

@@ -1,0 +1,90 @@
+-- The acts of a match are in order.
+use Rattle.std.proofs.Common.{◌≡◌, ℕ, Bool, true, false, List, [], ◌∷◌, ◌++◌, refl, Option, None, Some}
+use Rattle.chess_base.specs.Options.{list_if}
+use Rattle.chess_base.specs.declared.man.Colour.{Colour}
+use Rattle.chess_match.specs.Acts.{Act, Sends, SendFails, Happens}
+use Rattle.chess_match.specs.Events.{Event, Line, Opened, Silent, OutputEnds, FailsToRead, FailsToWrite}
+use Rattle.chess_match.specs.Notes.{Note, Happened}
+use Rattle.chess_match.specs.Reasons.{is_write_fault_of}
+use Rattle.chess_match.specs.Table.{Step, Does, ReadsLine, FindsNoLine, ReadsClock, Notes, watched}
+use Rattle.chess_match.specs.declared.reason.Reason.{Reason}
+use Rattle.chess_match_laws.specs.OfActs.{LinesAreReadInOrder, NothingIsDueAtEvents, SilencesAreReadInOrder}
+
+-- the step of a look for a line of this side, by what it found: a line, or none; and the event that this is
+abbrev looks : Colour → Option (Option (List ℕ)) → Step
+looks S (Some text) = ReadsLine S text
+looks S None = FindsNoLine S
+
+abbrev looked : Colour → Option (Option (List ℕ)) → ℕ → Event
+looked S (Some text) moment = Line S text moment
+looked S None moment = Silent S moment
+
+-- in these steps the clock is read after such a look, and then what it found is noted
+abbrev Followed : Colour → Option (Option (List ℕ)) → List Step → Type 0
+Followed S found after =
+    (moment : ℕ) × (rest : List Step) × (after ≡ ReadsClock S moment ∷ Notes (Happened (looked S found moment)) ∷ rest)
+
+-- and so after each look
+abbrev InOrder : List Step → Type 0
+InOrder K = (before after : List Step) (S : Colour) (found : Option (Option (List ℕ)))
+    → K ≡ before ++ looks S found ∷ after → Followed S found after
+
+none : InOrder []
+none [] after S found e = cc
+none (s ∷ before) after S found e = cc
+
+after_note : (n : Note) (K : List Step) → InOrder K → InOrder (Notes n ∷ K)
+after_note n K p [] after S (Some text) e = cc
+after_note n K p [] after S None e = cc
+after_note n K p (s ∷ before) after S found e = p before after S found cc
+
+after_act : (a : Act) (K : List Step) → InOrder K → InOrder (Does a ∷ K)
+after_act a K p [] after S (Some text) e = cc
+after_act a K p [] after S None e = cc
+after_act a K p (s ∷ before) after S found e = p before after S found cc
+
+after_clock : (c : Colour) (n : ℕ) (K : List Step) → InOrder K → InOrder (ReadsClock c n ∷ K)
+after_clock c n K p [] after S (Some text) e = cc
+after_clock c n K p [] after S None e = cc
+after_clock c n K p (s ∷ before) after S found e = p before after S found cc
+
+after_line : (c : Colour) (t : Option (List ℕ)) (n : ℕ) (K : List Step) → InOrder K
+    → InOrder (ReadsLine c t ∷ ReadsClock c n ∷ Notes (Happened (Line c t n)) ∷ K)
+after_line c t n K p [] after S (Some text) e = (n, K, cc)
+after_line c t n K p [] after S None e = cc
+after_line c t n K p (s ∷ before) after S found e =
+    after_clock c n _ (after_note (Happened (Line c t n)) K p) before after S found cc
+
+after_silence : (c : Colour) (n : ℕ) (K : List Step) → InOrder K
+    → InOrder (FindsNoLine c ∷ ReadsClock c n ∷ Notes (Happened (Silent c n)) ∷ K)
+after_silence c n K p [] after S (Some text) e = cc
+after_silence c n K p [] after S None e = (n, K, cc)
+after_silence c n K p (s ∷ before) after S found e =
+    after_clock c n _ (after_note (Happened (Silent c n)) K p) before after S found cc
+
+after_failure : (noted : Bool) (c : Colour) (K : List Step) → InOrder K
+    → InOrder (list_if noted (Notes (Happened (FailsToWrite c)) ∷ []) ++ K)
+after_failure true c K p = after_note (Happened (FailsToWrite c)) K p
+after_failure false c K p = p
+
+in_order : (reason : Reason) (H : List Act) → InOrder (watched reason H)
+in_order reason [] = none
+in_order reason (Sends b ∷ H) = after_note _ _ (after_act (Sends b) _ (in_order reason H))
+in_order reason (SendFails b ∷ H) =
+    after_note _ _ (after_act (SendFails b) _ (after_failure (is_write_fault_of reason b.to) b.to _ (in_order reason H)))
+in_order reason (Happens (Line c t n) ∷ H) = after_line c t n _ (in_order reason H)
+in_order reason (Happens (Opened c n) ∷ H) = after_clock c n _ (after_note _ _ (in_order reason H))
+in_order reason (Happens (Silent c n) ∷ H) = after_silence c n _ (in_order reason H)
+in_order reason (Happens (OutputEnds c) ∷ H) = after_act _ _ (after_note _ _ (in_order reason H))
+in_order reason (Happens (FailsToRead c) ∷ H) = after_act _ _ (after_note _ _ (in_order reason H))
+in_order reason (Happens (FailsToWrite c) ∷ H) = after_act _ _ (after_note _ _ (in_order reason H))
+
+pub read_in_order : LinesAreReadInOrder
+read_in_order reason H before after S text e = in_order reason H before after S (Some text) e
+
+pub silent_in_order : SilencesAreReadInOrder
+silent_in_order reason H before after S e = in_order reason H before after S None e
+
+pub none_due : NothingIsDueAtEvents
+none_due r m n [] e H g = refl
+none_due r m n (b ∷ due) e H g = absurd g

@@ -1,0 +1,34 @@
+-- Why a match ended, and its outcome: by the board's verdict.
+use Rattle.std.proofs.Common.{◌≡◌, ℕ, List, refl, ap, sym, ◌∙◌, subst, Option, None, Some}
+use Rattle.std.specs.Option.{option_map, option_map_or, option_or}
+use Rattle.chess_game.specs.declared.verdicts.Verdict.{Verdict}
+use Rattle.chess_match.specs.Effects.{Phase}
+use Rattle.chess_match.specs.Reasons.{declared_at, outcome_by_reason, reported_reason}
+use Rattle.chess_match.specs.declared.reason.Reason.{Reason}
+use Rattle.chess_match_laws.specs.OfActs.{DecidedByTheBoard, OutcomesAreOfTheGame}
+use Rattle.chess_game.specs.Ends.{verdict, verdict_result}
+use Rattle.chess_game.specs.Game.{Seen, outcome_now}
+use Rattle.chess_game.specs.declared.results.Outcome.{Outcome}
+use Rattle.chess_game.specs.declared.results.Outcome.TheVariants.{Unfinished}
+use Rattle.chess_game.specs.declared.tags.HowEnded.{HowEnded}
+use Rattle.chess_match.proofs.shared.Verdicts.{ByBoard, judged_at_end}
+
+pub decided_by_the_board : DecidedByTheBoard
+decided_by_the_board r v H final g e =
+    subst (λ (p : Phase). ByBoard r final.played p) e (judged_at_end r H final g).1
+
+-- the outcome of a game with this verdict, in which what a match of this reason declares was declared
+abbrev outcome_at : Option Verdict → Reason → Outcome
+outcome_at v reason =
+    option_map_or (λ d. d.outcome) (option_or (option_map verdict_result v) (declared_at v reason)) Unfinished
+
+outcome_is : (v : Option Verdict) (reason : Reason)
+    → outcome_by_reason (reported_reason v reason) ≡ outcome_at v reason
+outcome_is None reason = refl
+outcome_is (Some v) reason = refl
+
+pub outcomes_are_of_the_game : OutcomesAreOfTheGame
+outcomes_are_of_the_game H reason setup end w w' (final, passed, is, left) =
+    sym (ap (λ (t : Outcome × List ℕ × HowEnded). t.0) is.report)
+    ∙ outcome_is (verdict setup.start final.played) reason
+    ∙ sym (ap (λ (g : Seen). outcome_now g.state) left)

@@ -1,0 +1,16 @@
+use Rattle.chess_match_laws.specs.OfActs.{ItemsAreSaid}
+use Rattle.chess_match_laws.proofs.Points.{in_each}
+use Rattle.chess_match_laws.proofs.SentByLinesLaw.{each_is_sent_so_far, each_is_sent_the_others, items_are_said}
+use Rattle.chess_match_laws.proofs.laws.each_is_sent_the_others.Goals as goal
+
+pub returns-clause-said : goal.returns-clause-said
+returns-clause-said c = in_each ItemsAreSaid items_are_said
+
+pub returns-clause-sent : goal.returns-clause-sent
+returns-clause-sent c = each_is_sent_the_others
+
+pub returns-clause-said_so_far : goal.returns-clause-said_so_far
+returns-clause-said_so_far c = items_are_said
+
+pub returns-clause-sent_so_far : goal.returns-clause-sent_so_far
+returns-clause-sent_so_far c = each_is_sent_so_far

@@ -1,0 +1,5 @@
+use Rattle.chess_match_laws.proofs.LastLine.{last_line_is_theirs}
+use Rattle.chess_match_laws.proofs.laws.last_line_is_theirs.Goals as goal
+
+pub returns : goal.returns
+returns c = last_line_is_theirs

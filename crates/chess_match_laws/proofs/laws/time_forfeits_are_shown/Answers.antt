@@ -1,0 +1,5 @@
+use Rattle.chess_match_laws.proofs.TimeForfeits.{time_forfeits_are_shown}
+use Rattle.chess_match_laws.proofs.laws.time_forfeits_are_shown.Goals as goal
+
+pub returns : goal.returns
+returns c = time_forfeits_are_shown

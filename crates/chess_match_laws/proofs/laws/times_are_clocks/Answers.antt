@@ -1,0 +1,16 @@
+use Rattle.chess_match_laws.specs.OfActs.{OtherTimesAreClocks, TimesAreClocks}
+use Rattle.chess_match_laws.proofs.Points.{in_each}
+use Rattle.chess_match_laws.proofs.TimeLaw.{other_times_are_clocks, times_are_clocks}
+use Rattle.chess_match_laws.proofs.laws.times_are_clocks.Goals as goal
+
+pub returns-clause-own : goal.returns-clause-own
+returns-clause-own c = in_each TimesAreClocks times_are_clocks
+
+pub returns-clause-others : goal.returns-clause-others
+returns-clause-others c = in_each OtherTimesAreClocks other_times_are_clocks
+
+pub returns-clause-own_so_far : goal.returns-clause-own_so_far
+returns-clause-own_so_far c = times_are_clocks
+
+pub returns-clause-others_so_far : goal.returns-clause-others_so_far
+returns-clause-others_so_far c = other_times_are_clocks

@@ -1,0 +1,2 @@
+pub mod OfActs
+pub mod Streams

@@ -1,0 +1,438 @@
+-- Laws of the acts of a match.
+use Rattle.std.specs.Prelude.{◌≡◌, ◌<◌, ◌≤◌, ◌+◌, ◌-◌, ◌*◌, ◌^◌, ◌&&◌, ◌⊎◌, ℕ, Bool, true, false, if◌then◌else◌, List, [], ◌∷◌, ◌++◌, length, drop, nat_lt, sum, codes, slice_get, Option, None, Some, is_some, unwrap_or}
+use Rattle.std.specs.List.{flat_map, fold, list_any}
+use Rattle.std.specs.Option.{IfSome, option_map_or}
+use Rattle.byte_devices.specs.Devices.{OutputState}
+use Rattle.chess_base.specs.declared.man.Colour.{Colour}
+use Rattle.chess_base.specs.declared.man.Colour.TheVariants.{White, Black}
+use Rattle.chess_base.specs.declared.man.Move.{Move}
+use Rattle.chess_base.specs.Men.{other, same_colour}
+use Rattle.chess_base.specs.declared.setup.Setup.{Setup as Position}
+use Rattle.chess_game.specs.Line.{IsLine, position_after}
+use Rattle.chess_game.specs.declared.verdicts.Verdict.{Verdict}
+use Rattle.cecp_engine.specs.Items.{Item, takes}
+use Rattle.cecp_engine.specs.Levels.{LevelSeen, allotted}
+use Rattle.chess_base.specs.Options.{list_if}
+use Rattle.chess_match.specs.Lines.{bytes_of}
+use Rattle.chess_match_laws.specs.Streams.{Streams, AreRead, given_in, lines_noted, moments_noted, is_move, moves_of, items_said, moves_sent, texts_from, time_sent, otim_sent, centiseconds, looks, blocks_sent}
+use Rattle.chess_match.specs.laws.Laws.{events_in, lines_read, has_ended, has_failed_read, moments_shown, lines_sent, broken_blocks, is_broken, line_kind, notes_given, match_after, whose_line, lines_given}
+use Rattle.chess_match.specs.Acts.{Act, Block, Sends, SendFails, Happens, IsMatch, IsMatchFrom, is_over}
+use Rattle.chess_match.specs.Effects.{Match, Phase, BeforeMove, Over, beginning, clock, effect, is_owed_move}
+use Rattle.chess_match.specs.Events.{Event, Line, Opened, Silent, FailsToWrite}
+use Rattle.chess_match.specs.Notes.{Happened}
+use Rattle.chess_match.specs.Played.{World, Passed, PlayedBy}
+use Rattle.chess_match.specs.Reasons.{is_write_fault_of}
+use Rattle.chess_match.specs.Rules.{Rules, rules_of, has_bare_king}
+use Rattle.chess_match.specs.declared.patience.Patience.{Patience}
+use Rattle.chess_match.specs.Table.{Step, ReadsLine, FindsNoLine, ReadsClock, Notes, watched}
+use Rattle.chess_match.specs.declared.reason.Reason.{Reason}
+use Rattle.chess_match.specs.declared.reason.Reason.TheVariants.{Decided, Forfeits, ForfeitsToBareKing}
+use Rattle.chess_match.specs.declared.run.MatchEnd.{MatchEnd}
+use Rattle.chess_match.specs.declared.run.Setup.{Setup}
+use Rattle.chess_game.specs.Game.{outcome_now}
+use Rattle.chess_game.specs.Ends.{verdict}
+
+-- ---- each match, and each moment of one
+
+-- the events of these acts, in order, if the match is `m` before them: those that were read, and a failed write, if the
+-- match ended by it; one after the end is none
+abbrev pub events_of : Rules → Match → List Act → List Event
+events_of r m [] = []
+events_of r m (Sends block ∷ H) = events_of r m H
+events_of r m (SendFails block ∷ H) =
+    let failure = FailsToWrite block.to in
+    if is_over m.phase then events_of r m H else failure ∷ events_of r (effect r m failure).after H
+events_of r m (Happens event ∷ H) = event ∷ events_of r (effect r m event).after H
+
+-- in every match `P` holds of the rules, of all acts, and of the match at its end
+abbrev pub InEachMatch : (Rules → List Act → Match → Type 0) → Type 0
+InEachMatch P = (r : Rules) (H : List Act) (final : Match) → IsMatch r H final → P r H final
+
+-- after any number of acts of every match `P` holds of the rules, of these acts (`before`), and of the match after
+-- them; a line and the clock read after it are one act
+abbrev pub AtEachMoment : (Rules → List Act → Match → Type 0) → Type 0
+AtEachMoment P = (r : Rules) (before after : List Act) (final : Match) → IsMatch r (before ++ after) final
+    → P r before (match_after r beginning.after before)
+
+-- whenever a line of a side is read, `P` holds of the rules, of the side, of the acts before, and of the match then
+abbrev pub AtEachLine : (Rules → Colour → List Act → Match → Type 0) → Type 0
+AtEachLine P = (r : Rules) (before after : List Act) (S : Colour) (text : Option (List ℕ)) (moment : ℕ) (final : Match)
+    → IsMatch r (before ++ Happens (Line S text moment) ∷ after) final
+    → P r S before (match_after r beginning.after before)
+
+-- whenever the clock is read for the opening of a side's turn, `P` holds of the rules, of the side, of the acts before,
+-- and of the match then
+abbrev pub AtEachOpening : (Rules → Colour → List Act → Match → Type 0) → Type 0
+AtEachOpening P = (r : Rules) (before after : List Act) (S : Colour) (moment : ℕ) (final : Match)
+    → IsMatch r (before ++ Happens (Opened S moment) ∷ after) final
+    → P r S before (match_after r beginning.after before)
+
+-- the match after all its acts is the match at its end
+abbrev pub EndsAfterItsActs : Rules → List Act → Match → Type 0
+EndsAfterItsActs r H m = match_after r beginning.after H ≡ m
+
+-- ---- order
+
+-- among the steps of any acts, a match or not: after a line is read, the next steps are to read the clock for that side
+-- and to note the line with the moment that the clock showed
+abbrev pub LinesAreReadInOrder : Type 0
+LinesAreReadInOrder = (reason : Reason) (H : List Act) (before after : List Step) (S : Colour)
+    (text : Option (List ℕ)) → watched reason H ≡ before ++ ReadsLine S text ∷ after
+    → (moment : ℕ) × (rest : List Step)
+    × (after ≡ ReadsClock S moment ∷ Notes (Happened (Line S text moment)) ∷ rest)
+
+-- and so after no line was found: the clock is read for that side, and the silence is noted with the moment
+abbrev pub SilencesAreReadInOrder : Type 0
+SilencesAreReadInOrder = (reason : Reason) (H : List Act) (before after : List Step) (S : Colour)
+    → watched reason H ≡ before ++ FindsNoLine S ∷ after
+    → (moment : ℕ) × (rest : List Step)
+    × (after ≡ ReadsClock S moment ∷ Notes (Happened (Silent S moment)) ∷ rest)
+
+-- in a match from any state on (`IsMatchFrom`): if the next act is an event (a line or the clock is read, no
+-- line has come, an output ends, or a read fails), nothing is due
+abbrev pub NothingIsDueAtEvents : Type 0
+NothingIsDueAtEvents = (r : Rules) (m final : Match) (due : List Block) (event : Event) (H : List Act)
+    → IsMatchFrom r m due (Happens event ∷ H) final → due ≡ []
+
+-- ---- blocks that could not be sent
+
+-- the blocks for the side `S`, in order, sent or not
+abbrev pub blocks_given : Colour → List Act → List Block
+blocks_given S [] = []
+blocks_given S (Sends block ∷ H) = list_if (same_colour block.to S) (block ∷ []) ++ blocks_given S H
+blocks_given S (SendFails block ∷ H) = list_if (same_colour block.to S) (block ∷ []) ++ blocks_given S H
+blocks_given S (_ ∷ H) = blocks_given S H
+
+-- in every match: after a block that could not be sent there is no block for the same side, sent or not
+abbrev pub FailedBlocksAreLast : Type 0
+FailedBlocksAreLast = (r : Rules) (before after : List Act) (block : Block) (final : Match)
+    → IsMatch r (before ++ SendFails block ∷ after) final → blocks_given block.to after ≡ []
+
+-- of the blocks for each side `S` at most one could not be sent
+abbrev pub OneBlockFails : Rules → List Act → Match → Type 0
+OneBlockFails r H m = (S : Colour) → length (broken_blocks S H) ≤ 1
+
+-- whether in this phase the match has ended because writing to the side `S` failed
+abbrev pub ended_by_write_to : Colour → Phase → Bool
+ended_by_write_to S (Over reason) = is_write_fault_of reason S
+ended_by_write_to S _ = false
+
+-- if the match ended because writing to the side `S` failed, a block for `S` could not be sent
+abbrev pub WriteFaultsAreOfBlocks : Rules → List Act → Match → Type 0
+WriteFaultsAreOfBlocks r H m = (S : Colour) → ended_by_write_to S m.phase ≡ true → is_broken H S ≡ true
+
+-- ---- what two engines and a clock give fixes the match
+
+-- just those looks for a line in the acts `H` found none that `silent` names for each side: its looks are numbered
+-- from 0
+abbrev pub AreSilent : (Colour → ℕ → Bool) → List Act → Type 0
+AreSilent silent H = (S : Colour) (n : ℕ) → n < length (looks S H) → slice_get (looks S H) n ≡ Some (silent S n)
+
+-- what the acts `H` read is what these engines and this clock (`s`) give: the lines read are the first of each engine's
+-- lines, or all of them if its output ended or a read failed; none had come where `s.silent` says so; and the moments
+-- shown are the first of the clock's
+pub record ReadFrom (s : Streams) (H : List Act) : Type 0 where
+  pub lines : (S : Colour) → (rest : List (Option (List ℕ))) × (s.lines S ≡ lines_read S H ++ rest)
+  pub ends : (S : Colour) → has_ended S H ≡ true → (s.lines S ≡ lines_read S H) × (s.fails S ≡ false)
+  pub failures : (S : Colour) → has_failed_read S H ≡ true → (s.lines S ≡ lines_read S H) × (s.fails S ≡ true)
+  pub silences : AreSilent s.silent H
+  pub moments : (n : ℕ) → n < length (moments_shown H) → slice_get (moments_shown H) n ≡ Some (s.moments n)
+
+-- the acts `H` come from these engines and this clock (`s`): they read what these give, and sending a block failed just
+-- where `s.breaks` says. If that is `None` for both sides, each block was sent
+pub record AreOf (s : Streams) (H : List Act) : Type 0 where
+  pub reads : ReadFrom s H
+  -- if no block for `S` failed, `S` was sent at most as many as `s.breaks` says; any number, if it says `None`
+  pub sent : (S : Colour) → is_broken H S ≡ false → IfSome (s.breaks S) (λ n. length (blocks_sent S H) ≤ n)
+  -- if one failed, `S` had been sent just as many
+  pub broken : (S : Colour) → is_broken H S ≡ true → s.breaks S ≡ Some (length (blocks_sent S H))
+
+-- two matches by the same rules, from the same engines and clock (`s`), are the same, act by act, and so are their
+-- states at the end
+abbrev pub OnlyOneMatch : Type 0
+OnlyOneMatch = (r : Rules) (s : Streams) (H K : List Act) (final final' : Match) → IsMatch r H final
+    → IsMatch r K final' → AreOf s H → AreOf s K → (H ≡ K) × (final ≡ final')
+
+-- in two matches by the same rules that read what the same engines and clock give (`s`), neither of which ended because
+-- a write failed, the same events happen, and the states at the end are the same. Which end lines could be sent may
+-- differ
+abbrev pub OneMatchButForEndLines : Type 0
+OneMatchButForEndLines = (r : Rules) (s : Streams) (H K : List Act) (final final' : Match) → IsMatch r H final
+    → IsMatch r K final' → ReadFrom s H → ReadFrom s K → ((S : Colour) → ended_by_write_to S final.phase ≡ false)
+    → ((S : Colour) → ended_by_write_to S final'.phase ≡ false)
+    → (events_of r beginning.after H ≡ events_of r beginning.after K) × (final ≡ final')
+
+-- the states of an engine's input before a run (`w`) and after it (`w'`) show how many bytes of the run were flushed:
+-- which bytes it took is known, and the count of those that are unflushed then is not full
+pub record ShowsFlushed (w w' : OutputState) : Type 0 where
+  pub bytes : is_some w.known_bytes ≡ true
+  pub after : w'.unflushed < 2 ^ 64 - 1
+
+-- everything is known about the devices of a run, `w` before and `w'` after it: which bytes each engine sends, that no
+-- count of failed calls is full, so that a failure shows, and which times the clock will give; and to each engine no
+-- write or flush failed, or its input shows how much was flushed before
+pub record ShowsAll (w w' : World) : Type 0 where
+  pub bytes : (S : Colour) → is_some (w.engines S).input.known_bytes ≡ true
+  pub reads : (S : Colour) → (w.engines S).input.failure_count < 2 ^ 64 - 1
+  pub writes : (S : Colour) → (w.engines S).output.failure_count < 2 ^ 64 - 1
+  pub moments : (n : ℕ) → is_some (w.coming n) ≡ true
+  pub sent : (S : Colour) → ((w'.engines S).output.failure_count ≡ (w.engines S).output.failure_count)
+      ⊎ ShowsFlushed (w.engines S).output (w'.engines S).output
+
+-- no limit to waiting: neither flags nor replies have one
+abbrev pub endless : Patience
+endless = record { flag = false; reply = None }
+
+-- in the acts `H` and `K` the same looks for a line found none. It holds of all matches by rules that set no limit to
+-- waiting (`silences_end_matches`); devices show nothing of silences
+abbrev pub HaveSameSilences : Rules → List Act → List Act → Type 0
+HaveSameSilences r H K =
+    (r.patience ≡ endless) ⊎ ((silent : Colour → ℕ → Bool) × AreSilent silent H × AreSilent silent K)
+
+-- two matches by the same rules that were played from the world `w` to `w'` are the same, act by act, and so are their
+-- states at the end, if everything is known about the devices, and the same looks for a line found none
+abbrev pub OnlyOneMatchOfARun : Type 0
+OnlyOneMatchOfARun = (r : Rules) (H K : List Act) (final final' : Match) (w w' : World) → Passed r H final w w'
+    → Passed r K final' w w' → ShowsAll w w' → HaveSameSilences r H K → (H ≡ K) × (final ≡ final')
+
+-- ---- ends
+
+-- in every match that ended for the verdict `v` of the board: `v` is the verdict after the moves played
+abbrev pub DecidedByTheBoard : Type 0
+DecidedByTheBoard = (r : Rules) (v : Verdict) (H : List Act) (final : Match) → IsMatch r H final
+    → final.phase ≡ Over (Decided v) → verdict r.start final.played ≡ Some v
+
+-- in every match that was played: the outcome that is reported is that of its game
+abbrev pub OutcomesAreOfTheGame : Type 0
+OutcomesAreOfTheGame = (H : List Act) (reason : Reason) (setup : Setup) (end : MatchEnd) (w w' : World)
+    → PlayedBy H reason setup end w w' → end.outcome ≡ outcome_now w'.game.state
+
+-- whether these acts are only blocks, sent or not
+abbrev pub only_sends : List Act → Bool
+only_sends [] = true
+only_sends (Sends block ∷ H) = only_sends H
+only_sends (SendFails block ∷ H) = only_sends H
+only_sends (_ ∷ H) = false
+
+-- in every match that ended by a line of the side `S`, such as one with an illegal move: the last line read is one of
+-- `S`, and after it only blocks were sent
+abbrev pub LastLineIsTheirs : Type 0
+LastLineIsTheirs = (r : Rules) (reason : Reason) (S : Colour) (H : List Act) (final : Match) → IsMatch r H final
+    → final.phase ≡ Over reason → whose_line r.patience reason ≡ Some S
+    → (before : List Act) × (text : Option (List ℕ)) × (moment : ℕ) × (after : List Act)
+    × (H ≡ before ++ Happens (Line S text moment) ∷ after) × (only_sends after ≡ true)
+
+-- ---- moves
+
+-- the moves played are what the two engines' `move` lines after their setup denote in turn, beginning with the side
+-- that moves first; at most one `move` line is left over
+abbrev pub MovesAreRead : Rules → List Act → Match → Type 0
+MovesAreRead r H m =
+    AreRead r [] m.played (moves_of (lines_read r.start.side H)) (moves_of (lines_read (other r.start.side) H))
+
+-- the items known of the engine of each side `S` are those of its `feature` lines, up to and with the line that has
+-- `done=1`
+abbrev pub ItemsAreSaid : Rules → List Act → Match → Type 0
+ItemsAreSaid r H m = (S : Colour) → (m.seat S).items ≡ items_said (lines_read S H)
+
+-- the texts of the moves `ms` that the side `O` is to be sent, those of the other side, in the notation that its engine
+-- asked for with these items
+abbrev pub others_moves : Rules → Colour → List Item → List Move → List (List ℕ)
+others_moves r O items ms = texts_from r (takes (codes "san") items) (other O) r.start.side [] ms
+
+-- each side `O` is sent the other side's moves, each once and in order (a block that could not be sent counts); `rest`
+-- is what `O` was not sent yet, at most the last of them. While the `pong` of the side that made the last move is
+-- awaited (`is_owed_move`), `rest` is that move, so `O` is not sent it before
+abbrev pub MovesAreSent : Rules → List Act → Match → Type 0
+MovesAreSent r H m = (O : Colour) → (rest : List (List ℕ)) × (length rest ≤ 1)
+    × (is_owed_move m.phase O ≡ true → length rest ≡ 1)
+    × (moves_sent (lines_given O H) ++ rest ≡ others_moves r O (m.seat O).items m.played)
+
+-- the engines' lines fix the moves that each engine is sent, but for the last: there are moves `ms`, which the two
+-- engines' `move` lines denote in turn (all of them, or all but the last). Each side `O` is sent those of the other
+-- side, each once, in order, in SAN or by squares, as its handshake asked for; a block that could not be sent counts.
+-- `rest` is what `O` was not sent: at most the last of them; and nothing, if the match is whole (`whole`) and didn't
+-- end because writing to `O` failed
+abbrev pub EachIsSentOthersMoves : Bool → Rules → List Act → Match → Type 0
+EachIsSentOthersMoves whole r H m =
+    (ms : List Move)
+    × AreRead r [] ms (moves_of (lines_read r.start.side H)) (moves_of (lines_read (other r.start.side) H))
+    × ((O : Colour) → (rest : List (List ℕ)) × (length rest ≤ 1)
+    × (whole ≡ true → ended_by_write_to O m.phase ≡ false → rest ≡ [])
+    × (moves_sent (lines_given O H) ++ rest ≡ others_moves r O (items_said (lines_read O H)) ms))
+
+-- the blocks for each side `O` have all moves of the other side, each once and in order, if the match didn't end
+-- because writing to `O` failed. The last block, with the end lines, may have failed
+abbrev pub AllMovesAreGiven : Rules → List Act → Match → Type 0
+AllMovesAreGiven r H m = (O : Colour) → ended_by_write_to O m.phase ≡ false
+    → moves_sent (lines_given O H) ≡ others_moves r O (m.seat O).items m.played
+
+-- each side `O` was sent all moves of the other side, each once and in order, if each block for `O` was sent
+abbrev pub AllMovesAreSent : Rules → List Act → Match → Type 0
+AllMovesAreSent r H m = (O : Colour) → is_broken H O ≡ false
+    → moves_sent (lines_sent O H) ≡ others_moves r O (m.seat O).items m.played
+
+-- the side `S` was sent all moves of the other side, each once and in order
+abbrev pub IsSentAllMoves : Rules → Colour → List Act → Match → Type 0
+IsSentAllMoves r S H m = moves_sent (lines_sent S H) ≡ others_moves r S (m.seat S).items m.played
+
+-- the side `S` was sent a move if and only if the other side has made one (`used` has a time for each), as is tested
+-- when `S` sends `Illegal move` (`turn_row`)
+abbrev pub MovesSentAreKnown : Rules → Colour → List Act → Match → Type 0
+MovesSentAreKnown r S H m =
+    nat_lt 0 (length (m.seat (other S)).used) ≡ nat_lt 0 (length (moves_sent (lines_sent S H)))
+
+-- in every match of chess: each move played is legal in the position in which it is made, from the start on
+abbrev pub GamesAreLines : Type 0
+GamesAreLines = (start : Position) (level : LevelSeen) (patience : Patience) (limit : ℕ) (H : List Act) (final : Match)
+    → IsMatch (rules_of start level patience limit) H final → IsLine start final.played
+
+-- ---- clocks
+
+-- the `time` lines that each side `S` is sent show its own clock before its first move and after each of its moves, in
+-- order (none, if its engine has `time=0`; those of a block that could not be sent count). `rest` is what is missing:
+-- at most the last one
+abbrev pub TimesAreClocks : Rules → List Act → Match → Type 0
+TimesAreClocks r H m = (S : Colour) → (rest : List ℕ) × (length rest ≤ 1)
+    × (flat_map time_sent (lines_given S H) ++ rest
+    ≡ (if takes (codes "time") (m.seat S).items then centiseconds r.level 0 0 (m.seat S).used else []))
+
+-- the `otim` lines that each side `S` is sent show the other's clock after each of the other's moves, in order, and
+-- before the first of them if `S` moves first (none, if its engine has `time=0`). `rest` is what is missing: at most
+-- the last one
+abbrev pub OtherTimesAreClocks : Rules → List Act → Match → Type 0
+OtherTimesAreClocks r H m = (S : Colour) → (rest : List ℕ) × (length rest ≤ 1)
+    × (flat_map otim_sent (lines_given S H) ++ rest
+    ≡ (if takes (codes "time") (m.seat S).items
+    then (if same_colour S r.start.side
+    then centiseconds r.level 0 0 (m.seat (other S)).used
+    else drop 1 (centiseconds r.level 0 0 (m.seat (other S)).used))
+    else []))
+
+-- the milliseconds from when each turn of the side `S` was opened to its first `move` line after that (0 if the clock
+-- went back). `opened` is when the present turn of `S` was opened; `None` if no move of `S` is awaited
+abbrev pub move_times : Colour → Option ℕ → List Act → List ℕ
+move_times S opened [] = []
+move_times S opened (Happens (Line side text moment) ∷ H) =
+    if is_some opened && (same_colour side S && is_move (line_kind text))
+    then (moment - unwrap_or opened 0) ∷ move_times S None H
+    else move_times S opened H
+move_times S opened (Happens (Opened side moment) ∷ H) =
+    move_times S (if same_colour side S then Some moment else None) H
+move_times S opened (_ ∷ H) = move_times S opened H
+
+-- the times charged to each side `S` are those from when each of its turns was opened to its `move` line. `rest` is
+-- what was not charged: at most the last, of a line that ended the match, and nothing while the match is on
+abbrev pub UsedTimesAreDifferences : Rules → List Act → Match → Type 0
+UsedTimesAreDifferences r H m = (S : Colour) → (rest : List ℕ) × (length rest ≤ 1)
+    × (move_times S None H ≡ (m.seat S).used ++ rest) × (is_over m.phase ≡ false → rest ≡ [])
+
+-- the time that each side `S` has left and the sum of what its moves took are together what it was given so far, so
+-- that its clock never goes below 0
+abbrev pub ClocksDoNotUnderflow : Rules → List Act → Match → Type 0
+ClocksDoNotUnderflow r H m =
+    (S : Colour) → clock r m S + sum (m.seat S).used ≡ allotted r.level (length (m.seat S).used)
+
+-- ---- silences
+
+-- whether this act is a silence
+abbrev pub is_silent : Act → Bool
+is_silent (Happens (Silent side moment)) = true
+is_silent _ = false
+
+-- in every match by rules that set no limit to waiting: no act is a silence, so no look for a line found none
+abbrev pub SilencesAreAskedFor : Type 0
+SilencesAreAskedFor = (r : Rules) (H : List Act) (final : Match) → IsMatch r H final → r.patience ≡ endless
+    → (list_any is_silent H ≡ false) × AreSilent (λ S n. false) H
+
+-- whether at this moment the side `S`, whose line is awaited, is beyond its limit: before its move, if the time used is
+-- more than it had left; otherwise, if it has owed its line for longer than the rules allow
+abbrev pub is_beyond : Rules → Match → Phase → Colour → ℕ → Bool
+is_beyond r m (BeforeMove side opened) S moment = nat_lt (clock r m S) (moment - opened)
+is_beyond r m _ S moment =
+    option_map_or (λ limit. nat_lt limit (moment - unwrap_or m.since moment)) r.patience.reply false
+
+-- in every match: after a silence of the side `S` the match is over if and only if `S` was beyond its limit then
+abbrev pub SilencesEndMatches : Type 0
+SilencesEndMatches = (r : Rules) (before after : List Act) (S : Colour) (moment : ℕ) (final : Match)
+    → IsMatch r (before ++ Happens (Silent S moment) ∷ after) final
+    → let m = match_after r beginning.after before in
+    is_over (effect r m (Silent S moment)).after.phase ≡ is_beyond r m m.phase S moment
+
+-- in every match: a silence of the side `S` that was not beyond its limit changed nothing, and no line was sent, if the
+-- time for a reply ran already; otherwise that time may run from this silence on
+abbrev pub SilencesChangeNothing : Type 0
+SilencesChangeNothing = (r : Rules) (before after : List Act) (S : Colour) (moment : ℕ) (final : Match)
+    → IsMatch r (before ++ Happens (Silent S moment) ∷ after) final
+    → let m = match_after r beginning.after before in
+    is_beyond r m m.phase S moment ≡ false → is_some m.since ≡ true
+    → ((effect r m (Silent S moment)).after ≡ m) × ((X : Colour) → (effect r m (Silent S moment)).to X ≡ [])
+
+-- whether this act shows the flag of the side `S` fallen, in a match that is `m` before it: before the move of `S` a
+-- line came, or none yet, and the clock showed more than `S` had left
+abbrev pub shows_fallen : Rules → Match → Phase → Colour → Act → Bool
+shows_fallen r m (BeforeMove side opened) S (Happens (Line c text moment)) =
+    same_colour side S && nat_lt (clock r m S) (moment - opened)
+shows_fallen r m (BeforeMove side opened) S (Happens (Silent c moment)) =
+    same_colour side S && nat_lt (clock r m S) (moment - opened)
+shows_fallen r m _ S _ = false
+
+-- at some moment of a turn of the side `S`, with a line or without, the clock showed more than `S` had left
+abbrev pub OverstepsTime : Rules → List Act → Colour → Type 0
+OverstepsTime r H S = (before : List Act) × (act : Act) × (after : List Act) × (H ≡ before ++ act ∷ after)
+    × (let m = match_after r beginning.after before in shows_fallen r m m.phase S act ≡ true)
+
+-- at such a moment the match ended: after the act that shows it only blocks were sent
+abbrev pub EndsOverstepped : Rules → List Act → Colour → Type 0
+EndsOverstepped r H S = (before : List Act) × (act : Act) × (after : List Act) × (H ≡ before ++ act ∷ after)
+    × (only_sends after ≡ true)
+    × (let m = match_after r beginning.after before in shows_fallen r m m.phase S act ≡ true)
+
+-- `final`, the end of the match of the acts `H`, is a loss on time exactly if the clock showed so
+pub record TimeForfeitsAreShown (r : Rules) (H : List Act) (final : Match) : Type 0 where
+  -- a side that oversteps its time loses, or draws against a bare king
+  pub overstepped : (S : Colour) → OverstepsTime r H S
+      → final.phase ≡ Over (if has_bare_king (other S) (position_after r.start final.played).men then ForfeitsToBareKing
+      else Forfeits S)
+  -- a side that lost on time overstepped it, and by that the match ended
+  pub lost : (S : Colour) → final.phase ≡ Over (Forfeits S) → EndsOverstepped r H S
+  -- if a match ended on time against a bare king, a side overstepped its time, and by that the match ended
+  pub drawn : final.phase ≡ Over ForfeitsToBareKing → (S : Colour) × EndsOverstepped r H S
+
+-- ---- few lines
+
+-- there are not more than 22,000 + 10,002 * (limit + 1) lines of both engines, where `limit` is the most half-moves:
+-- two handshakes, two setups, and in each turn the ignored lines, an offer, the move and the pong
+abbrev pub LinesAreFew : Rules → List Act → Match → Type 0
+LinesAreFew r H m = length (lines_read White H) + length (lines_read Black H) ≤ 22000 + 10002 * (r.limit + 1)
+
+-- ---- notes
+
+-- the match after these events, if it is `m` before them
+abbrev pub after_events : Rules → Match → List Event → Match
+after_events r m events = fold (λ n e. (effect r n e).after) m events
+
+-- in every match that ended for this reason: the events among its notes lead from the beginning to its end
+abbrev pub NotesHaveTheEvents : Type 0
+NotesHaveTheEvents = (r : Rules) (reason : Reason) (H : List Act) (final : Match) → IsMatch r H final
+    → final.phase ≡ Over reason → final ≡ after_events r beginning.after (events_in (notes_given reason H))
+
+-- in every match that ended for this reason: the events among its notes are just the events of the match, in order
+abbrev pub NotesAreInOrder : Type 0
+NotesAreInOrder = (r : Rules) (reason : Reason) (H : List Act) (final : Match) → IsMatch r H final
+    → final.phase ≡ Over reason → events_in (notes_given reason H) ≡ events_of r beginning.after H
+
+-- for any acts, a match or not: the bytes in the notes for the side `S`, one after another, are those of all lines of
+-- the blocks for `S`, also of those that could not be sent
+abbrev pub NotesHaveAllLines : Type 0
+NotesHaveAllLines = (reason : Reason) (H : List Act) (S : Colour)
+    → given_in S (notes_given reason H) ≡ bytes_of (lines_given S H)
+
+-- in every match: the lines of each side `S` in the notes are just those that were read of it, in order
+abbrev pub NotesHaveLinesRead : Type 0
+NotesHaveLinesRead = (r : Rules) (reason : Reason) (H : List Act) (final : Match) (S : Colour) → IsMatch r H final
+    → lines_noted S (notes_given reason H) ≡ lines_read S H
+
+-- for any acts, a match or not: the moments in the notes are just those that the clock showed, in order
+abbrev pub NotesHaveMoments : Type 0
+NotesHaveMoments = (reason : Reason) (H : List Act) → moments_noted (notes_given reason H) ≡ moments_shown H

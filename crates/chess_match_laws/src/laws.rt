@@ -1,0 +1,156 @@
+//! Laws of matches.
+
+ghost use Rattle.std.specs.Prelude.{true, false};
+ghost use Rattle.chess_match_laws.specs.OfActs.{AtEachLine, AtEachMoment, AtEachOpening, InEachMatch, EndsAfterItsActs, LinesAreReadInOrder, SilencesAreReadInOrder, NothingIsDueAtEvents, FailedBlocksAreLast, OneBlockFails, WriteFaultsAreOfBlocks, OnlyOneMatch, OneMatchButForEndLines, OnlyOneMatchOfARun, DecidedByTheBoard, OutcomesAreOfTheGame, LastLineIsTheirs, MovesAreRead, ItemsAreSaid, MovesAreSent, EachIsSentOthersMoves, AllMovesAreGiven, AllMovesAreSent, IsSentAllMoves, MovesSentAreKnown, GamesAreLines, TimesAreClocks, OtherTimesAreClocks, UsedTimesAreDifferences, ClocksDoNotUnderflow, LinesAreFew, SilencesAreAskedFor, SilencesChangeNothing, SilencesEndMatches, TimeForfeitsAreShown, NotesAreInOrder, NotesHaveTheEvents, NotesHaveAllLines, NotesHaveLinesRead, NotesHaveMoments};
+ghost use Rattle.chess_match.specs.laws.Laws.{VerdictsEndMatches};
+
+use chess_text::read_moves_are_legal;
+
+/// States a law and does nothing: by the same rules, two engines and a clock fix the match. Two matches with the same
+/// lines, ends and moments, in which the same looks for a line found none yet, are the same, act by act, if in both
+/// each block was sent, or sending failed after as many blocks to each engine. If neither ended because a write failed,
+/// their events and their ends are the same, whichever end lines could be sent. And two matches of one run are the
+/// same, act by act, on devices about which everything is known, after a failed write also how much was flushed before,
+/// if the same looks found none; without a limit to waiting none does.
+pub fn match_is_the_only_one()
+    ensures of_streams { OnlyOneMatch }
+    ensures events { OneMatchButForEndLines }
+    ensures of_a_run { OnlyOneMatchOfARun }
+{}
+
+/// States a law and does nothing: after a block that could not be sent to an engine, no block for this engine is sent
+/// or tried. So at most one block for each engine fails. A match that ended because writing to an engine failed has
+/// one.
+pub fn failed_blocks_are_last()
+    ensures last { FailedBlocksAreLast }
+    ensures single { InEachMatch OneBlockFails }
+    ensures reason { InEachMatch WriteFaultsAreOfBlocks }
+{}
+
+/// States a law and does nothing: a match that ended for a verdict of the board has this verdict after its moves; and
+/// if the board has a verdict then, the match ended for it, or by a fault before its first move. Then too the verdict
+/// is the result: the outcome that is reported of a match is always that of its game.
+pub fn verdicts_end_matches()
+    ensures decided { DecidedByTheBoard }
+    ensures verdicts { VerdictsEndMatches }
+    ensures outcomes { OutcomesAreOfTheGame }
+{}
+
+/// States a law and does nothing: in a match that ended for what a side's line did (it resigned, made an illegal move,
+/// moved out of turn, made a false claim, rejected a legal move, or lost on time where flags fall only with a line),
+/// the last line read is of that side. Then the clock was read, and after that only blocks were sent, or could not be
+/// sent.
+pub fn last_line_is_theirs()
+    ensures { LastLineIsTheirs }
+{}
+
+/// States a law and does nothing: the moves of a match are what the two engines' `move` lines denote in turn, each as
+/// the one legal move that the next `move` line of the side to move denotes, where lines before the end of its setup
+/// don't count and one last line may be left over; so far too, while the match is on.
+pub fn moves_are_read()
+    ensures whole { InEachMatch MovesAreRead }
+    ensures so_far { AtEachMoment MovesAreRead }
+{}
+
+/// States a law: the game of a match is one of the Laws of Chess, in which each move is legal where it is made.
+pub fn games_are_lines()
+    ensures { GamesAreLines }
+{
+    read_moves_are_legal();
+}
+
+/// States a law and does nothing: the two engines' lines say which moves each is sent, but for the last. Their `move`
+/// lines denote moves in turn, and each engine is sent the other's, each once and in order, in SAN or by squares, as
+/// its handshake asks for; at most the last is not sent. So far too, while the match is on.
+pub fn each_is_sent_the_others()
+    ensures said { InEachMatch ItemsAreSaid }
+    ensures sent { InEachMatch (EachIsSentOthersMoves true) }
+    ensures said_so_far { AtEachMoment ItemsAreSaid }
+    ensures sent_so_far { AtEachMoment (EachIsSentOthersMoves false) }
+{}
+
+/// States a law and does nothing: an engine is sent the other's moves, each once and in order, and no others. The last
+/// one is not sent while the `pong` of the engine that made it is awaited. All are sent by the end, unless a write to
+/// the engine failed, and whenever a line of it is read or the clock is read for the opening of its turn. If only its
+/// end lines could not be sent, its blocks have all moves.
+pub fn moves_are_sent_once()
+    ensures whole { InEachMatch AllMovesAreSent }
+    ensures given { InEachMatch AllMovesAreGiven }
+    ensures each { AtEachMoment MovesAreSent }
+    ensures all { AtEachLine IsSentAllMoves }
+    ensures opened { AtEachOpening IsSentAllMoves }
+{}
+
+/// States a law and does nothing: an engine of which a line is read was sent a move if and only if its opponent has
+/// moved. And the match at its end is the one after all its acts.
+pub fn moves_sent_are_known()
+    ensures whole { AtEachLine MovesSentAreKnown }
+    ensures after { InEachMatch EndsAfterItsActs }
+{}
+
+/// States a law and does nothing: the number in each `time` line is the engine's own clock in centiseconds, rounded
+/// down, and the number in each `otim` line is its opponent's; so far too, while the match is on.
+pub fn times_are_clocks()
+    ensures own { InEachMatch TimesAreClocks }
+    ensures others { InEachMatch OtherTimesAreClocks }
+    ensures own_so_far { AtEachMoment TimesAreClocks }
+    ensures others_so_far { AtEachMoment OtherTimesAreClocks }
+{}
+
+/// States a law and does nothing: the time that a move used is the moment of its line less the moment when its turn was
+/// opened, or 0 if that is negative; so far too, while the match is on.
+pub fn used_times_are_differences()
+    ensures whole { InEachMatch UsedTimesAreDifferences }
+    ensures so_far { AtEachMoment UsedTimesAreDifferences }
+{}
+
+/// States a law and does nothing: the moves of a side take no more time than it was given. What it has left and what
+/// they took are together what it was given; so far too, while the match is on.
+pub fn clocks_do_not_underflow()
+    ensures whole { InEachMatch ClocksDoNotUnderflow }
+    ensures so_far { AtEachMoment ClocksDoNotUnderflow }
+{}
+
+/// States a law and does nothing: a side loses on time, or draws against a bare king, exactly if at some moment of its
+/// turn, with a line or without, the clock showed more than it had left.
+pub fn time_forfeits_are_shown()
+    ensures { InEachMatch TimeForfeitsAreShown }
+{}
+
+/// States a law and does nothing: no act is a silence unless flags or replies have a limit. After a silence the match
+/// is over exactly if the side that was silent was beyond its limit: before its move, if it used more time than it had
+/// left; otherwise, if it owed its line for longer than the rules allow. A silence that is not beyond the limit changes
+/// nothing, but that the first one of a match may begin the time for a reply.
+pub fn silences_end_matches()
+    ensures asked_for { SilencesAreAskedFor }
+    ensures beyond { SilencesEndMatches }
+    ensures otherwise { SilencesChangeNothing }
+{}
+
+/// States a law and does nothing: in a game of at most `limit` half-moves at most 22,000 + 10,002 * (limit + 1) lines
+/// of both engines together are read; so far too, while the match is on.
+pub fn lines_are_few()
+    ensures whole { InEachMatch LinesAreFew }
+    ensures so_far { AtEachMoment LinesAreFew }
+{}
+
+/// States a law and does nothing: the events among the notes of a match are just its events, in order, so they lead
+/// from the beginning to its end. A failed write is an event only if the match ended by it. For each engine the notes
+/// have the bytes of all lines that it is sent, also of a block that could not be sent. The lines of each side in the
+/// notes are just those that were read of it, and the moments just those that the clock showed, all in order.
+pub fn notes_have_all()
+    ensures of_matches { NotesHaveTheEvents }
+    ensures in_order { NotesAreInOrder }
+    ensures lines_of_matches { NotesHaveAllLines }
+    ensures lines_read { NotesHaveLinesRead }
+    ensures moments { NotesHaveMoments }
+{}
+
+/// States a law and does nothing: in a match nothing is due when a line is read or none has come, an output ends, a
+/// read fails or the clock is read. After each line the next steps are to read the clock and to note the line with that
+/// moment; after each look that found no line, to read the clock and to note the silence.
+pub fn acts_are_in_order()
+    ensures lines { LinesAreReadInOrder }
+    ensures silences { SilencesAreReadInOrder }
+    ensures events { NothingIsDueAtEvents }
+{}

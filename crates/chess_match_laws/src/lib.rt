@@ -1,0 +1,12 @@
+//! Laws of the matches that chess_match plays, each the contract of a function that does nothing. They are in a crate
+//! of their own so that no other crate waits for their proofs.
+#![tactic(auto)]
+
+mod laws;
+
+pub use laws::{
+    acts_are_in_order, clocks_do_not_underflow, each_is_sent_the_others, failed_blocks_are_last,
+    games_are_lines, last_line_is_theirs, lines_are_few, match_is_the_only_one, moves_are_read,
+    moves_are_sent_once, moves_sent_are_known, notes_have_all, silences_end_matches,
+    time_forfeits_are_shown, times_are_clocks, used_times_are_differences, verdicts_end_matches,
+};

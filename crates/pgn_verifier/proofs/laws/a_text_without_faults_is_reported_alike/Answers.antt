@@ -1,5 +1,0 @@
-use Rattle.pgn_verifier.proofs.FaultlessTexts.{faultless_alike}
-use Rattle.pgn_verifier.proofs.laws.a_text_without_faults_is_reported_alike.Goals as goal
-
-pub returns : goal.returns
-returns c = faultless_alike c.a_game_is_tags_and_moves.ensures.token_by_token

@@ -1,5 +1,0 @@
-use Rattle.pgn_verifier.proofs.WrittenGames.{written_games}
-use Rattle.pgn_verifier.proofs.laws.written_games_have_no_fault.Goals as goal
-
-pub returns : goal.returns
-returns c = written_games c.pgn_is_read_back.ensures.read c.pgn_is_read_back.ensures.result

@@ -1,0 +1,114 @@
+-- The reports that are made one after another are those of the definitions.
+use Rattle.std.proofs.Common.{◌≡◌, ℕ, zero, suc, ◌+◌, ◌<◌, ◌≤◌, Bool, List, [], ◌∷◌, length, drop, Option, Some, None, IfSome, true, false, Result, Ok, Err, IfOk, refl, arith}
+use Rattle.std.specs.List.{flat_map}
+use Rattle.std.specs.Option.{option_map_or}
+use Rattle.std.specs.Prelude.{nat_le, if◌then◌else◌}
+use Rattle.std.specs.Bool.{MatchBool}
+use Rattle.chess_game.specs.Game.{verdict_now}
+use Rattle.chess_game.specs.declared.game.TheConstants.{MOST_MOVES}
+use Rattle.chess_game.specs.declared.verdicts.Verdict.{Verdict}
+use Rattle.chess_pgn.specs.GameRead.{pgn_read}
+use Rattle.chess_pgn.specs.LastTags.{result_tag_of}
+use Rattle.chess_pgn.specs.Tokens.{after_byte_order_mark, tokens_from}
+use Rattle.chess_pgn.specs.declared.read.PgnEnd.{PgnEnd}
+use Rattle.chess_pgn.specs.declared.read.PgnFault.{PgnFault}
+use Rattle.chess_pgn.specs.declared.tagged_result.ResultTag.{ResultTag}
+use Rattle.chess_pgn.proofs.shared.Ends.{ends_in_text}
+use Rattle.chess_pgn.proofs.shared.Tokens.{read_split}
+use Rattle.pgn_pieces.specs.Pieces.{known_pieces}
+use Rattle.pgn_pieces.specs.Stream.{Piece, with_offsets, pieces}
+use Rattle.pgn_pieces.specs.declared.pieces.TheConstants.{PIECE_LEN}
+use Rattle.pgn_verifier.specs.Collection.{AreCollectionReports, no_piece, next_piece}
+use Rattle.pgn_verifier.specs.GameFaults.{judged, IsJudged}
+use Rattle.pgn_verifier.specs.shared.Contradictions.{contradiction}
+use Rattle.pgn_verifier.specs.Reports.{AreReports, none_left, next_game, last_fault, AreReportsIn}
+use Rattle.pgn_verifier.specs.declared.game_fault.GameFault.{GameFault}
+use Rattle.pgn_verifier.specs.laws.Reasons.{reason}
+use Rattle.pgn_verifier.proofs.shared.TagReasons.{reason_is}
+use Rattle.pgn_verifier.specs.laws.Reported.{read_at, judged_at, report_then, reports_from, reports_on, reports_in, collection_reports, too_long_report}
+
+-- ---- one game
+
+pub judged_is : (strict : Bool) (text : List ℕ) (at : ℕ)
+    → IsJudged strict text at (read_at text at).state (judged_at strict text at)
+unfolding pgn_read
+judged_is strict text at = record {
+  tokens = tokens_from text (after_byte_order_mark text at);
+  split = read_split text (after_byte_order_mark text at);
+  ended = (read_at text at).answer;
+  read = refl;
+  is = refl;
+}
+
+-- ---- a text
+
+abbrev EndsIn : ℕ → ℕ → Result (Option PgnEnd) GameFault → Type 0
+EndsIn total at r = IfOk r (λ o. IfSome o (λ e. (at < e.offset) × (e.offset ≤ total)))
+
+judged_end : (strict : Bool) (tag : Option ResultTag) (verdict : Option Verdict) (total at : ℕ)
+    (r : Result (Option PgnEnd) PgnFault) → IfOk r (λ o. IfSome o (λ e. (at < e.offset) × (e.offset ≤ total)))
+    → EndsIn total at (judged strict tag verdict r)
+judged_end strict tag verdict total at (Ok None) h = tt
+judged_end strict tag verdict total at (Err f) h = tt
+judged_end strict tag verdict total at (Ok (Some end)) h = by_fault (contradiction strict tag verdict end)
+  where
+    by_fault : (o : Option GameFault) → EndsIn total at (option_map_or Err o (Ok (Some end)))
+    by_fault None = h
+    by_fault (Some f) = tt
+
+ends : (strict : Bool) (text : List ℕ) (at : ℕ) → at ≤ length text
+    → EndsIn (length text) at (judged_at strict text at)
+ends strict text at h =
+    judged_end strict (result_tag_of (length text) (tokens_from text (after_byte_order_mark text at)))
+    (verdict_now (read_at text at).state) (length text) at (read_at text at).answer (ends_in_text MOST_MOVES text at h)
+
+from_here : (strict : Bool) (start n : ℕ) (text : List ℕ) (at : ℕ) → at ≤ length text → length text < n + at
+    → AreReports strict start text at (reports_from strict start n text at)
+unfolding reports_from
+from_here strict start zero text at h k = absurd (omega (arith, h, k))
+from_here strict start (suc n) text at h k =
+    by_answer (judged_at strict text at) (judged_is strict text at) (ends strict text at h)
+    (λ m i j. from_here strict start n text m i j)
+  where
+    by_answer : (r : Result (Option PgnEnd) GameFault) → IsJudged strict text at (read_at text at).state r
+        → EndsIn (length text) at r
+        → ((m : ℕ) → m ≤ length text → length text < n + m
+        → AreReports strict start text m (reports_from strict start n text m))
+        → AreReports strict start text at
+        (report_then start text r (read_at text at).state (λ next. reports_from strict start n text next))
+    by_answer (Ok None) j i later = none_left j
+    by_answer (Ok (Some end)) j i later =
+        let low = i.0 in next_game j (later end.offset i.1 (omega (arith, k, low)))
+    by_answer (Err fault) j i later =
+        let rest : List ℕ = drop fault.offset text in
+        let verdict : Option Verdict = verdict_now (read_at text at).state in
+        last_fault (reason fault.kind rest verdict) j (reason_is fault.kind rest verdict)
+
+pub are_reports : (strict : Bool) (start : ℕ) (text : List ℕ)
+    → AreReports strict start text 0 (reports_on strict start text)
+are_reports strict start text = from_here strict start (length text + 1) text 0 (omega arith) (omega arith)
+
+-- ---- pieces
+
+reports_are_in : (strict : Bool) (piece : Piece)
+    → AreReportsIn strict piece.offset piece.bytes (reports_in strict piece)
+reports_are_in strict piece = by_test (nat_le (length piece.bytes) PIECE_LEN)
+  where
+    by_test : (b : Bool) → MatchBool b (AreReports strict piece.offset piece.bytes 0
+        (if b then reports_on strict piece.offset piece.bytes else too_long_report piece ∷ []))
+        ((if b then reports_on strict piece.offset piece.bytes else too_long_report piece ∷ [])
+        ≡ too_long_report piece ∷ [])
+    by_test true = are_reports strict piece.offset piece.bytes
+    by_test false = refl
+
+are_all : (strict : Bool) (offset : ℕ) (all : List (List ℕ))
+    → AreCollectionReports strict offset all (flat_map (reports_in strict) (with_offsets offset all))
+are_all strict offset [] = no_piece
+are_all strict offset (piece ∷ more) =
+    next_piece (reports_in strict (record { offset = offset; bytes = piece }))
+    (reports_are_in strict (record { offset = offset; bytes = piece })) (are_all strict (offset + length piece) more)
+
+pub are_collection_reports : (strict ended : Bool) (text : List ℕ)
+    → AreCollectionReports strict 0 (known_pieces ended text) (collection_reports strict ended text)
+unfolding pieces
+are_collection_reports strict ended text = are_all strict 0 (known_pieces ended text)

@@ -1,0 +1,225 @@
+-- If no fault is reported on a text's pieces, then their reports are those on the text.
+use Rattle.std.proofs.Common.{◌≡◌, ℕ, zero, suc, ◌+◌, ◌-◌, ◌<◌, ◌≤◌, Bool, true, false, cond, eqb, not, List, [], ◌∷◌, ◌++◌, length, is_some, get_or, drop, Option, Some, None, Result, Ok, Err, refl, sym, ap, subst, ◌∙◌, inl, inr, ◌⊎◌, append_assoc, append-nil, length-append, arith}
+use Rattle.std.specs.Prelude.{nat_le, if◌then◌else◌}
+use Rattle.std.specs.List.{concat, flat_map, list_all, list_any}
+use Rattle.std.proofs.lemmas.Bool.{and_parts, or_parts}
+use Rattle.std.proofs.lemmas.Bool.Decides.{nat_tests}
+use Rattle.std.proofs.lemmas.List.{get_or_at}
+use Rattle.std.proofs.Math.Path.{fun_ext}
+use Rattle.std.proofs.lemmas.List.Folds.{list_all-append, sum_by-zero}
+use Rattle.chess_pgn.specs.Tokens.{after_byte_order_mark, begins_line}
+use Rattle.chess_pgn.specs.declared.read.PgnEnd.{PgnEnd}
+use Rattle.pgn_pieces.specs.Pieces.{cut}
+use Rattle.pgn_pieces.specs.Stream.{with_offsets, pieces}
+use Rattle.pgn_pieces.specs.declared.pieces.TheConstants.{PIECE_LEN}
+use Rattle.pgn_pieces.proofs.shared.Cuts.{AreLines, no_texts, last_text, next_text, cut_is_all, cut_ends}
+use Rattle.pgn_verifier.specs.Reports.{Report, Game, Faulty, half_moves_of, counts_of, verified}
+use Rattle.pgn_verifier.specs.declared.game_fault.GameFault.{GameFault}
+use Rattle.pgn_verifier.specs.declared.tally.Verified.TheVariants.{EachGame, FaultReported}
+use Rattle.pgn_verifier_laws.specs.NoFaults.{begins_with_mark, FaultlessTextsAreReportedAlike}
+use Rattle.pgn_verifier_laws.specs.Parts.{BeginsAlike, HoldsWhole, no_more, game, AllHoldWhole, no_parts, next_part}
+use Rattle.pgn_verifier_laws.proofs.Parts.{next_begins, reported_alike, reported_alone, all_reported_alike}
+use Rattle.pgn_verifier_laws.proofs.PartsAlike.{TokenByToken, no_mark}
+use Rattle.pgn_verifier_laws.proofs.PartsRead.{IsClosed, in_text, skips_to_end}
+use Rattle.pgn_verifier.specs.laws.Reported.{collection_reports, judged_at, read_at, report_then, reports_from, reports_in, reports_on, too_long_report}
+
+-- ---- reports without a fault
+
+abbrev pub is_game : Report → Bool
+is_game r = is_some (half_moves_of r)
+
+no_fault : (r : Report) → eqb (cond (not (is_game r)) 1 0) 0 ≡ is_game r
+no_fault (Game plies outcome termination) = refl
+no_fault (Faulty fault at explanation) = refl
+
+all_games : (rs : List Report) → verified (counts_of rs) ≡ EachGame → list_all is_game rs ≡ true
+all_games rs h = ap (λ p. list_all p rs) (sym (fun_ext no_fault))
+    ∙ sym (sum_by-zero (λ r. cond (not (is_game r)) 1 0) rs) ∙ by_test (eqb (counts_of rs).faults 0) refl h
+  where
+    by_test : (b : Bool) → eqb (counts_of rs).faults 0 ≡ b → (if b then EachGame else FaultReported) ≡ EachGame
+        → eqb (counts_of rs).faults 0 ≡ true
+    by_test true e k = e
+    by_test false e k = absurd (cc)
+
+-- ---- one part
+
+pub record Holds (strict : Bool) (before part after : List ℕ) (at : ℕ) : Type 0 where
+  pub games : List Report
+  pub holds : HoldsWhole strict before part after at games
+
+module _ (law : TokenByToken) (strict : Bool) (start : ℕ) (before part after : List ℕ) (closed : IsClosed part after)
+  where
+    holds_whole : (k at : ℕ) → BeginsAlike before part after at → at ≤ length part → length part < k + at
+        → list_all is_game (reports_from strict start k part at) ≡ true → Holds strict before part after at
+    unfolding reports_from
+    holds_whole zero at begins within many h = absurd (omega (arith, within, many))
+    holds_whole (suc k) at begins within many h =
+        by_judged (judged_at strict part at) refl (λ next b w m g. holds_whole k next b w m g) h
+      where
+        by_judged : (j : Result (Option PgnEnd) GameFault) → judged_at strict part at ≡ j
+            → ((next : ℕ) → BeginsAlike before part after next → next ≤ length part → length part < k + next
+            → list_all is_game (reports_from strict start k part next) ≡ true → Holds strict before part after next)
+            → list_all is_game (report_then start part j (read_at part at).state
+            (λ next. reports_from strict start k part next)) ≡ true
+            → Holds strict before part after at
+        by_judged (Ok None) e again all = record {
+          games = [];
+          holds = no_more e
+              (λ from most. skips_to_end law strict before part after at begins closed within e from most);
+        }
+        by_judged (Ok (Some end)) e again all =
+            let found = in_text law strict before part after at end begins closed e in
+            let here : length before + end.offset - length before ≡ end.offset = omega arith in
+            let inside : length before + end.offset ≤ length before + length part = omega (arith, found.inside) in
+            let rest = again end.offset
+            (next_begins before part after at end.offset begins (omega (arith, found.some_bytes))) found.inside
+            (omega (arith, many, found.some_bytes)) all in
+            record {
+              games = Game (length (read_at (before ++ (part ++ after)) (length before + at)).state.moves) end.outcome
+                  end.termination ∷ rest.games;
+              holds = game (record end { offset = length before + end.offset }) found.judged inside
+                  (subst (λ n. HoldsWhole strict before part after n rest.games) (sym here) rest.holds);
+            }
+        by_judged (Err fault) e again all = absurd (cc)
+
+-- a part whose reports are on games holds whole games
+pub part_holds : TokenByToken → (strict : Bool) (start : ℕ) (before part after : List ℕ) → IsClosed part after
+    → BeginsAlike before part after 0 → list_all is_game (reports_on strict start part) ≡ true
+    → Holds strict before part after 0
+part_holds law strict start before part after closed begins all =
+    holds_whole law strict start before part after closed (length part + 1) 0 begins (omega arith) (omega arith) all
+
+-- ---- where parts begin
+
+mark_alike : (part after : List ℕ) → IsClosed part after → begins_with_mark (part ++ after) ≡ begins_with_mark part
+mark_alike part after (inr none) =
+    ap (λ l. begins_with_mark (part ++ l)) none ∙ ap begins_with_mark (append-nil part)
+mark_alike part after (inl (body, is)) =
+    ap (λ l. begins_with_mark (l ++ after)) is ∙ by_body body ∙ sym (ap begins_with_mark is)
+  where
+    by_body : (body : List ℕ)
+        → begins_with_mark ((body ++ 10 ∷ []) ++ after) ≡ begins_with_mark (body ++ 10 ∷ [])
+    by_body [] = refl
+    by_body (a ∷ []) = refl
+    by_body (a ∷ b ∷ []) = refl
+    by_body (a ∷ b ∷ c ∷ rest) = refl
+
+pub begins_first : (part after : List ℕ) → IsClosed part after → BeginsAlike [] part after 0
+begins_first part after closed = record {
+  line = refl;
+  first = ap (λ b. cond b 3 0) (mark_alike part after closed) ∙ plus_none (after_byte_order_mark part 0);
+}
+  where
+    plus_none : (n : ℕ) → n ≡ 0 + n
+    plus_none n = omega arith
+
+pub begins_later : (front part after : List ℕ) → begins_with_mark part ≡ false
+    → BeginsAlike (front ++ 10 ∷ []) part after 0
+begins_later front part after unmarked =
+    let text : List ℕ = (front ++ 10 ∷ []) ++ (part ++ after) in
+    let n : ℕ = length (front ++ 10 ∷ []) in
+    let count : length (front ++ 10 ∷ []) ≡ suc (length front) = omega (arith, length-append front (10 ∷ [])) in
+    record {
+      line = ap (begins_line text) count
+          ∙ ap (λ t. begins_line t (suc (length front))) (append_assoc front (10 ∷ []) (part ++ after)) ∙ line_there;
+      first = no_mark text (n + 0) (omega (arith, count))
+          ∙ sym (ap (λ m. n + m) (ap (λ b. cond b 3 0) unmarked));
+    }
+  where
+    line_there : begins_line (front ++ 10 ∷ (part ++ after)) (suc (length front)) ≡ true
+    line_there =
+        let there : get_or (front ++ 10 ∷ (part ++ after)) (suc (length front) - 1) 0 ≡ 10 =
+        get_or_at front 10 (part ++ after) 0 (suc (length front) - 1) (omega arith) in
+        let later : eqb (suc (length front)) 0 ≡ false = grind (arith, nat_tests) in
+        rw (later, there) refl
+
+-- the parts begin a text, or come after a line's end, and then none of them begins with a byte order mark
+abbrev Starts : List ℕ → List (List ℕ) → Type 0
+Starts before parts = ((before ≡ []) × (list_any begins_with_mark (drop 1 parts) ≡ false))
+    ⊎ ((front : List ℕ) × (before ≡ front ++ 10 ∷ []) × (list_any begins_with_mark parts ≡ false))
+
+begins_at : (before first : List ℕ) (parts : List (List ℕ)) → Starts before (first ∷ parts)
+    → IsClosed first (concat parts) → BeginsAlike before first (concat parts) 0
+begins_at before first parts (inl (none, unmarked)) closed =
+    subst (λ b. BeginsAlike b first (concat parts) 0) (sym none) (begins_first first (concat parts) closed)
+begins_at before first parts (inr (front, is, unmarked)) closed =
+    subst (λ b. BeginsAlike b first (concat parts) 0) (sym is)
+    (begins_later front first (concat parts)
+    (or_parts (begins_with_mark first) (list_any begins_with_mark parts) unmarked).0)
+
+next_starts : (before front : List ℕ) (parts : List (List ℕ)) → Starts before ((front ++ 10 ∷ []) ∷ parts)
+    → Starts (before ++ (front ++ 10 ∷ [])) parts
+next_starts before front parts (inl (none, unmarked)) =
+    inr (before ++ front, sym (append_assoc before front (10 ∷ [])), unmarked)
+next_starts before front parts (inr (line, is, unmarked)) = inr (
+  before ++ front,
+  sym (append_assoc before front (10 ∷ [])),
+  (or_parts (begins_with_mark (front ++ 10 ∷ [])) (list_any begins_with_mark parts) unmarked).1,
+)
+
+-- ---- all parts
+
+record AllHold (strict : Bool) (offset : ℕ) (before : List ℕ) (parts : List (List ℕ)) : Type 0 where
+  games : List Report
+  holds : AllHoldWhole strict before parts games
+  reported : flat_map (reports_in strict) (with_offsets offset parts) ≡ games
+
+nothing_held : (strict : Bool) (offset : ℕ) (before : List ℕ) → AllHold strict offset before []
+nothing_held strict offset before = record { games = []; holds = no_parts; reported = refl }
+
+module _ (law : TokenByToken) (strict : Bool) where
+  one_part : (first : List ℕ) (parts : List (List ℕ)) (before : List ℕ) (offset : ℕ)
+      → BeginsAlike before first (concat parts) 0 → IsClosed first (concat parts)
+      → list_all is_game (flat_map (reports_in strict) (with_offsets offset (first ∷ parts))) ≡ true
+      → (list_all is_game (flat_map (reports_in strict) (with_offsets (offset + length first) parts)) ≡ true
+      → AllHold strict (offset + length first) (before ++ first) parts)
+      → AllHold strict offset before (first ∷ parts)
+  one_part first parts before offset begins closed all again =
+      by_length (nat_le (length first) PIECE_LEN) refl all
+    where
+      later : List Report
+      later = flat_map (reports_in strict) (with_offsets (offset + length first) parts)
+
+      by_length : (b : Bool) → nat_le (length first) PIECE_LEN ≡ b
+          → list_all is_game ((if b then reports_on strict offset first else
+          too_long_report (record { offset = offset; bytes = first }) ∷ []) ++ later) ≡ true
+          → AllHold strict offset before (first ∷ parts)
+      by_length false e k = absurd (cc)
+      by_length true e k =
+          let both = and_parts (list_all is_game (reports_on strict offset first)) (list_all is_game later)
+          (sym (list_all-append is_game (reports_on strict offset first) later) ∙ k) in
+          let part = part_holds law strict offset before first (concat parts) closed begins both.0 in
+          let rest = again both.1 in
+          record {
+            games = part.games ++ rest.games;
+            holds = next_part begins part.holds rest.holds;
+            reported = ap (λ b. (if b then reports_on strict offset first else
+                too_long_report (record { offset = offset; bytes = first }) ∷ []) ++ later) e
+                ∙ ap (λ l. l ++ later)
+                (reported_alike law strict offset before first (concat parts) part.games begins part.holds).alone
+                ∙ ap (λ l. part.games ++ l) rest.reported;
+          }
+
+  all_hold : {parts : List (List ℕ)} → AreLines parts → (before : List ℕ) (offset : ℕ) → Starts before parts
+      → list_all is_game (flat_map (reports_in strict) (with_offsets offset parts)) ≡ true
+      → AllHold strict offset before parts
+  all_hold no_texts before offset starts all = nothing_held strict offset before
+  all_hold (last_text text) before offset starts all =
+      one_part text [] before offset (begins_at before text [] starts (inr refl)) (inr refl) all
+      (λ rest. nothing_held strict (offset + length text) (before ++ text))
+  all_hold (next_text front {texts} lines) before offset starts all =
+      one_part (front ++ 10 ∷ []) texts before offset
+      (begins_at before (front ++ 10 ∷ []) texts starts (inl (front, refl))) (inl (front, refl)) all
+      (λ rest. all_hold lines (before ++ (front ++ 10 ∷ [])) (offset + length (front ++ 10 ∷ []))
+      (next_starts before front texts starts) rest)
+
+pub faultless_alike : TokenByToken → FaultlessTextsAreReportedAlike
+unfolding pieces
+faultless_alike law strict text none unmarked =
+    let games : list_all is_game (flat_map (reports_in strict) (with_offsets 0 (cut text))) ≡ true =
+    all_games (collection_reports strict true text) none in
+    let all = all_hold law strict (cut_ends text) [] 0 (inl (refl, unmarked)) games in
+    let starts : List ℕ → ℕ = λ part. 0 in
+    all.reported ∙ sym (reported_alone law strict all.holds starts)
+    ∙ sym (all_reported_alike law strict 0 (cut text) all.games all.holds starts)
+    ∙ ap (reports_on strict 0) (cut_is_all text)

@@ -1,0 +1,9 @@
+mod OnlyReasons
+mod OnlyReports
+mod FaultlessTexts
+mod Parts
+mod GamesAlike
+mod PartsAlike
+mod PartsRead
+mod WrittenGames
+mod WrittenTexts

@@ -1,0 +1,75 @@
+-- A game as it is written is read back, and neither its tag Result nor the board contradicts its outcome.
+use Rattle.std.proofs.Common.{◌≡◌, ℕ, Bool, true, false, List, [], ◌++◌, length, Option, Some, None, Ok, Err, refl, sym, ap, subst, ◌∙◌}
+use Rattle.std.specs.Prelude.{option_and_then}
+use Rattle.std.specs.Option.{option_map, option_map_or, option_or}
+use Rattle.chess_game.specs.Ends.{verdict_result}
+use Rattle.chess_game.specs.Game.{outcome_now, verdict_now}
+use Rattle.chess_game.specs.Results.{same_outcome}
+use Rattle.chess_game.specs.declared.game.TheConstants.{MOST_MOVES}
+use Rattle.chess_game.specs.declared.results.Declared.{Declared}
+use Rattle.chess_game.specs.declared.results.Outcome.{Outcome}
+use Rattle.chess_game.specs.declared.results.Outcome.TheVariants.{WhiteWins, BlackWins, Draw, Unfinished}
+use Rattle.chess_game.specs.declared.verdicts.Verdict.{Verdict}
+use Rattle.chess_pgn.specs.GameRead.{GameRead, pgn_read}
+use Rattle.chess_pgn.specs.GameText.{pgn}
+use Rattle.chess_pgn.specs.LastTags.{result_tag_of}
+use Rattle.chess_pgn.specs.Terminations.{termination_of}
+use Rattle.chess_pgn.specs.Tokens.{after_byte_order_mark, tokens_from}
+use Rattle.chess_pgn.specs.declared.read.PgnEnd.{PgnEnd}
+use Rattle.chess_pgn.specs.declared.tagged_result.ResultTag.{ResultTag}
+use Rattle.chess_pgn.specs.laws.PgnLaw.{PgnIsReadBack, ResultIsWritten}
+use Rattle.chess_pgn.proofs.shared.Tokens.{read_split}
+use Rattle.pgn_verifier.specs.GameFaults.{result_differs, board_says_otherwise, judged, IsJudged}
+use Rattle.pgn_verifier.specs.shared.Contradictions.{contradiction}
+use Rattle.pgn_verifier.proofs.shared.ReportsAre.{judged_is}
+use Rattle.pgn_verifier_laws.specs.WrittenGames.{WrittenGamesHaveNoFault}
+
+same_self : (o : Outcome) → same_outcome o o ≡ true
+same_self WhiteWins = refl
+same_self BlackWins = refl
+same_self Draw = refl
+same_self Unfinished = refl
+
+tag_agrees : (o : Outcome) (end : PgnEnd) (tag : Option ResultTag) → end.outcome ≡ o
+    → option_and_then (λ (t : ResultTag). t.outcome) tag ≡ Some o → result_differs tag end ≡ None
+tag_agrees o end None is named = absurd (cc)
+tag_agrees o end (Some t) is named = rw (named, is, same_self o) refl
+
+board_agrees : (v : Option Verdict) (d : Option Declared) (end : PgnEnd)
+    → end.outcome ≡ option_map_or (λ (x : Declared). x.outcome) (option_or (option_map verdict_result v) d) Unfinished
+    → board_says_otherwise v end ≡ None
+board_agrees None d end is = refl
+board_agrees (Some v) d end is = rw (is, same_self (verdict_result v).outcome) refl
+
+nothing_contradicts : (strict : Bool) (tag : Option ResultTag) (v : Option Verdict) (end : PgnEnd)
+    → result_differs tag end ≡ None → board_says_otherwise v end ≡ None → contradiction strict tag v end ≡ None
+nothing_contradicts true tag v end first second = rw (first, second) refl
+nothing_contradicts false tag v end first second = refl
+
+pub written_games : PgnIsReadBack → ResultIsWritten → WrittenGamesHaveNoFault
+written_games read result strict tags s before after texts h =
+    let text : List ℕ = before ++ pgn [] tags s ++ after in
+    let begin : ℕ = after_byte_order_mark text (length before) in
+    let r : GameRead = pgn_read MOST_MOVES text (length before) in
+    let back = read MOST_MOVES tags s before after texts h in
+    let tag : Option ResultTag = result_tag_of (length text) (tokens_from text begin) in
+    let named = result MOST_MOVES tags s before after texts h (tokens_from text begin) (read_split text begin) in
+    let end : PgnEnd = record {
+      outcome = outcome_now s;
+      termination = Some (termination_of tags.ended (outcome_now s));
+      offset = back.offset;
+    } in
+    record {
+      read = r.state;
+      end = end;
+      judged = subst (IsJudged strict text (length before) r.state)
+          (ap (judged strict tag (verdict_now r.state)) back.answer
+          ∙ ap (λ fault. option_map_or Err fault (Ok (Some end)))
+          (nothing_contradicts strict tag (verdict_now r.state) end (tag_agrees (outcome_now s) end tag refl named)
+          (board_agrees (verdict_now r.state) r.state.declared end (sym back.outcome))))
+          (judged_is strict text (length before));
+      start = back.start;
+      moves = back.moves;
+      outcome = refl;
+      two_before_end = back.two_before_end;
+    }

@@ -1,0 +1,14 @@
+use Rattle.pgn_verifier_laws.proofs.Parts.{in_parts, reported_alike, all_reported_alike, pieces_alike}
+use Rattle.pgn_verifier_laws.proofs.laws.games_are_in_parts.Goals as goal
+
+pub returns-clause-game : goal.returns-clause-game
+returns-clause-game c = in_parts c.a_game_is_tags_and_moves.ensures.token_by_token
+
+pub returns-clause-reports : goal.returns-clause-reports
+returns-clause-reports c = reported_alike c.a_game_is_tags_and_moves.ensures.token_by_token
+
+pub returns-clause-text : goal.returns-clause-text
+returns-clause-text c = all_reported_alike c.a_game_is_tags_and_moves.ensures.token_by_token
+
+pub returns-clause-pieces : goal.returns-clause-pieces
+returns-clause-pieces c = pieces_alike c.a_game_is_tags_and_moves.ensures.token_by_token

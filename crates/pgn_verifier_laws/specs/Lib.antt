@@ -1,0 +1,3 @@
+pub mod NoFaults
+pub mod Parts
+pub mod WrittenGames

@@ -1,0 +1,78 @@
+//! Laws of the definitions, each the contract of a function that does nothing.
+
+ghost use Rattle.std.specs.Prelude.{◌≡◌, Bool, List, Option, Result, ℕ};
+ghost use Rattle.chess_game.specs.Game.{State};
+ghost use Rattle.chess_pgn.specs.declared.read.PgnEnd.{PgnEnd};
+ghost use Rattle.pgn_verifier.specs.declared.game_fault.GameFault.{GameFault};
+ghost use Rattle.pgn_pieces.specs.Pieces.{known_pieces};
+ghost use Rattle.pgn_verifier.specs.Collection.{AreCollectionReports};
+ghost use Rattle.pgn_verifier.specs.GameFaults.{IsJudged};
+ghost use Rattle.pgn_verifier.specs.Reports.{AreReports, Report};
+ghost use Rattle.pgn_verifier.specs.laws.Reported.{collection_reports, judged_at, read_at, reports_on};
+ghost use Rattle.pgn_verifier_laws.specs.NoFaults.{FaultlessTextsAreReportedAlike};
+ghost use Rattle.pgn_verifier_laws.specs.Parts.{GamesAreInParts, WholeGamesAreReportedAlike, PiecesAreReportedAlike, TextsAreReportedInParts};
+ghost use Rattle.pgn_verifier_laws.specs.WrittenGames.{WrittenGamesHaveNoFault, WrittenTextsHaveNoFault};
+
+use chess_pgn::{a_game_is_tags_and_moves, pgn_is_read_back};
+
+/// States a law and does nothing: a game is judged in one way, and a text and a collection have one list of reports. It
+/// is the one that is made by reading games one after another.
+pub fn reports_are_the_only_ones()
+    ensures game { (strict : Bool) (text : List ℕ) (at : ℕ)
+        → IsJudged strict text at (read_at text at).state (judged_at strict text at) }
+    ensures no_other_game { (strict : Bool) (text : List ℕ) (at : ℕ) (s : State)
+        (answer : Result (Option PgnEnd) GameFault) → IsJudged strict text at s answer
+        → (s ≡ (read_at text at).state) × (answer ≡ judged_at strict text at) }
+    ensures text { (strict : Bool) (start : ℕ) (text : List ℕ)
+        → AreReports strict start text 0 (reports_on strict start text) }
+    ensures no_other_of_text { (strict : Bool) (start : ℕ) (text : List ℕ) (reports : List Report)
+        → AreReports strict start text 0 reports → reports ≡ reports_on strict start text }
+    ensures collection { (strict ended : Bool) (text : List ℕ)
+        → AreCollectionReports strict 0 (known_pieces ended text) (collection_reports strict ended text) }
+    ensures no_other_of_collection { (strict ended : Bool) (text : List ℕ) (reports : List Report)
+        → AreCollectionReports strict 0 (known_pieces ended text) reports
+        → reports ≡ collection_reports strict ended text }
+{}
+
+/// States a law and does nothing: the text that `write_pgn` of chess_pgn writes of a game has no fault when it is
+/// verified from its first byte on, with `strict` neither, whatever text comes before and after it.
+pub fn written_games_have_no_fault()
+    ensures { WrittenGamesHaveNoFault }
+{
+    // The prover wants this law: what is written of a game is read back.
+    pgn_is_read_back();
+}
+
+/// States a law and does nothing: if the texts that `write_pgn` of chess_pgn writes of some games come one after
+/// another, as a match writes its games before the line of the score, then the reports on the whole text are on just
+/// these games, and none is a fault.
+pub fn written_texts_have_no_fault()
+    ensures { WrittenTextsHaveNoFault }
+{
+    // The prover wants these laws: what is written of a game is read back, token by token.
+    pgn_is_read_back();
+    a_game_is_tags_and_moves();
+}
+
+/// States a law and does nothing: a game that is read in a text without a fault, from a place in one of its parts on,
+/// and that ends in that part, is read in the part alone, if the part begins where a line begins. So where the pieces
+/// of a text of at most 16,777,216 bytes hold whole games, `verify` and `verify_collection` report the same games.
+pub fn games_are_in_parts()
+    ensures game { GamesAreInParts }
+    ensures reports { WholeGamesAreReportedAlike }
+    ensures text { TextsAreReportedInParts }
+    ensures pieces { PiecesAreReportedAlike }
+{
+    // The prover wants this law: a game is read token by token.
+    a_game_is_tags_and_moves();
+}
+
+/// States a law and does nothing: if `verify_collection` reports no fault of a text, then the reports on the text as a
+/// whole are on the same games, unless a piece of the text after the first begins with a byte order mark. `verify`
+/// writes these reports if the text has at most 16,777,216 bytes; it takes no longer one.
+pub fn a_text_without_faults_is_reported_alike()
+    ensures { FaultlessTextsAreReportedAlike }
+{
+    // The prover wants this law: a game is read token by token.
+    a_game_is_tags_and_moves();
+}

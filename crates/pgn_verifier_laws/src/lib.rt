@@ -1,0 +1,10 @@
+//! Laws of the reports on games that pgn_verifier makes, each the contract of a function that does nothing. They are in
+//! a crate of their own so that no other crate waits for their proofs.
+#![tactic(auto)]
+
+mod laws;
+
+pub use laws::{
+    a_text_without_faults_is_reported_alike, games_are_in_parts, reports_are_the_only_ones,
+    written_games_have_no_fault, written_texts_have_no_fault,
+};
