@@ -70,7 +70,7 @@ class Lists:
         return [f"--faults={self.faults}"] + ([f"--sprt={self.sprt}"] if self.sprt else [])
 
 
-@dataclass
+@dataclass(frozen=True)
 class Game:
     """A game of the list: its number, its round, and the names of its engines. A round is an opening and a turn."""
 

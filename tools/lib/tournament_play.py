@@ -3,161 +3,33 @@
 A host plays a game by tools/lib/play_game, here as a process of this script, elsewhere by ssh.
 """
 
-import contextlib
-import os
-import re
-import shlex
-import shutil
-import signal
-import subprocess
 import threading
 import time
-from collections import Counter, deque
 from concurrent.futures import ThreadPoolExecutor
 from pathlib import Path
 
 import match_records
 from boards import INITIAL
+from hosts import END_SECONDS, READY_SECONDS, STOP, Jobs, Run, captured, read_hosts
 from tournament_lists import Patience, refuse, report, show, without_date
 from tournament_table import CRASHES, STATUS, TIMED_OUT, collect, read_game
 
 LIB = Path(__file__).resolve().parent
-# With these ssh gives a host up after three intervals without an answer, and at the latest at the end of the fourth.
-# They follow the options that the user gives, since ssh takes the first value of each.
-SSH_OPTIONS = "-o ServerAliveInterval=15 -o ConnectTimeout=15".split()
-READY_SECONDS = 30  # for a host's answer to whether it can play
 TRIAL_WAITS = 10  # how many times as long as a reply a trial may take
 EXTRA_SECONDS = 60  # for a host to end a game whose time is over
-END_SECONDS = 5  # for a game to end that is ended from here
-TICK = 0.2  # the seconds after which a signal is noticed
+TICK = 0.2  # the seconds after which a signal, or a game's time, is noticed
 MOST_TRIALS = 16
 STUB = "exec arbiter stub"
-READY = """lacks=
-for program; do command -v "$program" >/dev/null || lacks+=" $program"; done
-[ "$lacks" ] && echo "it lacks$lacks" || echo "ready $(nproc)"
-"""
-
-
-# Processes
-
-
-class Stop:
-    """When a signal asked this script to end: at `at`, or not yet. All runs are then asked to end."""
-
-    def __init__(self):
-        self.at, self.runs = None, set()
-
-    def catch_signals(self):
-        for number in (signal.SIGINT, signal.SIGTERM, signal.SIGHUP):
-            if signal.getsignal(number) != signal.SIG_IGN:
-                signal.signal(number, lambda *_: self.now())
-
-    def now(self):
-        self.at = self.at or time.monotonic()
-        for run in list(self.runs):
-            run.ask_to_end()
-
-
-STOP = Stop()
-
-
-class Run:
-    """A script that runs on a host. It ends when its standard input ends, and thus with this process."""
-
-    def __init__(self, words, output, errors):
-        reader, writer = os.pipe()
-        self.inputs = [writer]
-        with os.fdopen(reader) as stdin:
-            self.process = subprocess.Popen(words, stdin=stdin, stdout=output, stderr=errors, start_new_session=True)
-        STOP.runs.add(self)
-        if STOP.at:
-            self.ask_to_end()
-
-    def ask_to_end(self):
-        # A list gives each entry once, also to threads and a signal's handler.
-        with contextlib.suppress(IndexError):
-            os.close(self.inputs.pop())
-
-    def end(self):
-        """Asks the script to end, and ends it if it doesn't."""
-        self.ask_to_end()
-        time.sleep(END_SECONDS)
-        self.kill()
-
-    def kill(self):
-        with contextlib.suppress(ProcessLookupError):
-            if self.process.returncode is None:
-                os.killpg(self.process.pid, signal.SIGKILL)
-
-    def wait(self):
-        self.process.wait()
-        self.ask_to_end()
-        STOP.runs.discard(self)
-
-
-def captured(words, seconds):
-    """Returns what a script on a host writes to standard output and error; it is ended after so many seconds."""
-    run = Run(words, subprocess.PIPE, subprocess.PIPE)
-    watch = threading.Timer(seconds, run.end)
-    watch.start()
-    with run.process.stdout, run.process.stderr, ThreadPoolExecutor(1) as reader:
-        errors = reader.submit(run.process.stderr.read)
-        found = run.process.stdout.read(), errors.result()
-    run.wait()
-    watch.cancel()
-    return tuple(text.decode("latin-1") for text in found)
 
 
 # Hosts
 
 
-class Host:
-    """A host of --hosts, `[N/][SSH_COMMAND ]NAME`: how many games it plays at a time, and how it is reached. The name
-    `:` is this machine."""
-
-    def __init__(self, label):
-        number, slash, rest = label.partition("/")
-        if not (slash and number.isdigit()):
-            number, rest = "", label
-        *ssh, self.name = shlex.split(rest) or [""]
-        self.label, self.slots = label, int(number or 0)
-        self.ssh = ssh or shlex.split(os.environ.get("PARALLEL_SSH", "")) or ["ssh"]
-        if Path(self.ssh[0]).name == "ssh":
-            self.ssh += SSH_OPTIONS
-        self.is_here = self.name == ":"
-        self.fault, self.is_suspect, self.played, self.lock = None, False, 0, threading.Lock()
-        self.failed = set()  # the games that were not played here since one was
-
-    def words(self, script, *arguments):
-        """Returns the command that runs a bash script there."""
-        words = ["bash", "-c", script, "tournament", *arguments]
-        if self.is_here:
-            return words
-        return [*self.ssh, self.name, "--", shlex.join(["exec", "env", f"PATH={os.environ['PATH']}", *words])]
-
-    def trouble(self, programs):
-        """Asks the host for its programs; returns why it can't play, or None. Sets the number of its slots if none was
-        given."""
-        if not self.is_here and not shutil.which(self.ssh[0]):
-            return f"{self.ssh[0]} is no program that can be run"
-        output, errors = captured(self.words(READY, "arbiter", *programs), READY_SECONDS)
-        ready = re.search(r"(?m)^ready (\d+)$", output)
-        if ready:
-            self.slots = self.slots or int(ready[1])
-            return None
-        return " ".join((output + errors).split()) or "no answer"
-
-
 def ready_hosts(label, programs):
-    """Returns the hosts that can play; the others are left out, with a line each."""
-    try:
-        hosts = [Host(part.strip()) for part in label.split(",")]
-    except ValueError:
-        hosts = []  # A quote is open.
-    if not hosts or not all(host.name for host in hosts):
-        refuse([f"--hosts '{label}' is no list of hosts"])
+    """Returns the hosts of a list that can play; the others are left out, with a line each."""
+    hosts = read_hosts(label)
     with ThreadPoolExecutor(len(hosts)) as pool:
-        troubles = list(pool.map(lambda host: host.trouble(programs), hosts))
+        troubles = list(pool.map(lambda host: host.trouble(["arbiter", *programs]), hosts))
     for host, trouble in zip(hosts, troubles):
         if trouble:
             report(f"host {host.label} is left out: {trouble}")
@@ -244,7 +116,8 @@ def try_engine(host, engine, opening, options, seconds):
 def game_words(host, seconds, pair, opening, options):
     """Returns the command that plays a game on a host."""
     play_game, watch_engine = (LIB / "play_game").read_text(), (LIB.parent / "watch_engine").read_text()
-    return host.words(play_game, str(seconds), watch_engine, *pair, "--fen", opening, *options)
+    script = ["bash", "-c", play_game, "tournament"]
+    return host.command([*script, str(seconds), watch_engine, *pair, "--fen", opening, *options])
 
 
 def trials_of(hosts, lists, seconds):
@@ -287,86 +160,63 @@ def try_engines(hosts, lists, seconds):
 # Games
 
 
-class Player:
-    """Plays games on hosts, with a thread for each game that a host plays at a time. A game whose host fails is played
-    again, at most `most_tries` times, and on another host if there is one; a host that can't play any more is given up,
-    and so is one on which `most_tries` games in a row were not played, if there is another one. Once the test of the
-    tournament accepts a hypothesis, no game begins and the running ones are called off. Those that were over all the
-    same are kept; if the test accepts nothing with them any more, games are played again."""
+class Player(Jobs):
+    """Plays games on hosts. A game whose host fails is played again, at most `most_tries` times. A host that can't play
+    any more is given up, and so is one on which `most_tries` games in a row were not played, if there is another one.
+    Once the test of the tournament accepts a hypothesis, no game begins and the running ones are called off. Those that
+    were over all the same are kept; if the test accepts nothing with them any more, games are played again."""
 
     def __init__(self, book, lists, hosts, timeout, most_tries, date):
-        self.book, self.folder, self.lists, self.hosts = book, book.folder, lists, hosts
+        super().__init__(hosts)
+        self.book, self.folder, self.lists = book, book.folder, lists
         self.timeout, self.most_tries, self.date = timeout, most_tries, date
-        self.queue, self.running, self.tries = deque(), {}, Counter()
-        self.changed, self.workers = threading.Condition(), 0
+        self.runs, self.suspects = {}, set()  # of the running games; hosts that are to be asked whether they can play
+        self.asking = {host: threading.Lock() for host in hosts}
 
     def play(self, games):
         """Plays these games, until all are played, a test is decided, no host is left, or a signal ends the script."""
-        self.queue.extend(games)
-        threads = [threading.Thread(target=self.serve, args=[host]) for host in self.hosts for _ in range(host.slots)]
-        self.workers = len(threads)
-        for thread in threads:
-            thread.start()
+        self.waiting.extend(games)
+        self.start()
         with self.changed:
-            while self.workers:
+            while self.serving:
                 self.changed.wait(TICK)
                 self.end_late()
-        for host in self.hosts:
-            if host.fault:
-                report(f"host {host.label} was given up after {host.played} games: {host.fault}")
+        for host in self.given_up:
+            report(f"host {host.label} was given up after {host.done} games: {host.fault}")
 
     def end_late(self):
         """Ends the games whose host did not end them, and all once the script was stopped."""
         now = time.monotonic()
-        for run, _ in self.running.values():
+        for run in self.runs.values():
             late = now - min(run.deadline, STOP.at or run.deadline)
             if late > 0:
                 run.ask_to_end()
             if late > END_SECONDS:
                 run.kill()
 
-    def serve(self, host):
-        """Plays games on a host, one after another."""
+    def work(self, host):
         try:
-            while game := self.next_game(host):
-                self.play_game(host, game)
+            super().work(host)
         except OSError as fault:
             report(f"{fault.filename or self.folder} can't be written: {fault.strerror}")
             STOP.now()
-        except BaseException:
-            STOP.now()
-            raise
-        finally:
-            with self.changed:
-                self.workers -= 1
-                self.changed.notify_all()
 
-    def next_game(self, host):
-        """Returns the next game for a host; None if there is none, nor may be one."""
-        with self.changed:
-            while not STOP.at and not host.fault and self.may_begin():
-                game = next((game for game in self.queue if self.suits(host, game)), None)
-                if game:
-                    self.queue.remove(game)
-                    self.running[game.number] = self.start(host, game), host
-                    return game
-                self.changed.wait()
-
-    def may_begin(self):
-        """Says whether a game may still begin, now or when a running one has ended."""
-        return self.running or (self.queue and not self.book.accepted)
+    def may_come(self):
+        return self.running or (self.waiting and not self.book.accepted)
 
     def suits(self, host, game):
-        """Says whether a host should play a game now. After it failed there, a host where it did not should play it."""
-        others = (game.number not in other.failed for other in self.others(host))
-        is_wanted = not self.book.accepted and not host.is_suspect
-        return is_wanted and not (game.number in host.failed and any(others))
+        is_wanted = not self.book.accepted and host not in self.suspects
+        return is_wanted and super().suits(host, game)
 
-    def others(self, host):
-        """Returns the other hosts that were not given up."""
-        return [other for other in self.hosts if other is not host and not other.fault]
+    def take(self, host):
+        """Takes a game, and starts it, so that it can be called off."""
+        with self.changed:
+            game = super().take(host)
+            if game:
+                self.runs[game] = self.started(host, game)
+            return game
 
-    def start(self, host, game):
+    def started(self, host, game):
         engines = {engine.name: engine for engine in self.lists.engines}
         pair = [engines[name].script for name in (game.white, game.black)]
         opening, options = self.lists.openings[game.opening], [*without_date(self.lists.options), "--date", self.date]
@@ -377,56 +227,56 @@ class Player:
         run.is_called_off, run.deadline = False, time.monotonic() + self.timeout + EXTRA_SECONDS
         return run
 
-    def play_game(self, host, game):
+    def do(self, host, game):
         """Waits for the end of a game, and keeps it; if it was not played, its host is asked whether it can play."""
-        run, _ = self.running[game.number]
+        run = self.runs[game]
         run.wait()
         outcome = collect(self.folder, game, self.date)
         with self.changed:
-            del self.running[game.number]
+            del self.running[game], self.runs[game]
             if outcome:
-                host.played += 1
-                host.failed.clear()
-                self.book.add(outcome)
-                show(self.book.line(outcome))
-                self.call_off()
+                self.keep(host, game, outcome)
             elif run.is_called_off:
-                self.queue.appendleft(game)
+                self.waiting.appendleft(game)
             elif not STOP.at:
                 self.put_back(host, game)
             self.changed.notify_all()
         if not outcome and not STOP.at and not run.is_called_off:
             self.ask_again(host)
 
-    def call_off(self):
-        """Ends the running games if the test is decided."""
-        for run, _ in self.running.values() if self.book.accepted else ():
+    def keep(self, host, game, outcome):
+        """Keeps a game's outcome. If it decides the test, the running games are called off."""
+        host.done += 1
+        host.failed.clear()
+        self.book.add(outcome)
+        show(self.book.line(outcome))
+        for run in self.runs.values() if self.book.accepted else ():
             run.is_called_off, run.deadline = True, time.monotonic()
 
     def put_back(self, host, game):
-        """Puts a game that was not played back into the queue, unless it was tried often enough."""
-        self.tries[game.number] += 1
-        host.failed.add(game.number)
+        """Lets a game that was not played wait again, unless it was tried often enough."""
+        self.count_failure(host, game)
+        host.failed.add(game)
+        self.suspects.add(host)
         reason, log = why_not_played(self.folder, game)
-        again = self.tries[game.number] < self.most_tries
-        host.is_suspect = True
+        again = self.tries[game] < self.most_tries
         if again:
-            self.queue.appendleft(game)
+            self.waiting.appendleft(game)
         where = "" if host.is_here else f" on {host.label}"
         report(f"game {game.number}{where} was not played{', and is played again' if again else ''}: {reason} ({log})")
 
     def ask_again(self, host):
         """Gives a host up if it can't play any more, with the games that it is playing."""
-        with host.lock:
-            fault = host.fault or (None if host.is_here else host.trouble(self.lists.programs()))
+        with self.asking[host]:
+            fault = host.fault or (None if host.is_here else host.trouble(["arbiter", *self.lists.programs()]))
         with self.changed:
-            host.is_suspect = False
-            if len(host.failed) >= self.most_tries and self.others(host):
+            self.suspects.discard(host)
+            if len(host.failed) >= self.most_tries and len(self.hosts) > 1:
                 fault = fault or f"{len(host.failed)} games in a row were not played"
             if fault and not host.fault:
-                host.fault = fault
+                self.give_up(host, fault)
                 report(f"host {host.label} is given up: {fault}")
-                for run, where in self.running.values():
-                    if where is host:
+                for game, run in self.runs.items():
+                    if self.running[game] is host:
                         run.kill()
             self.changed.notify_all()
