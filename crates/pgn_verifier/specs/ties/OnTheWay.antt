@@ -9,10 +9,10 @@ use Rattle.pgn_verifier.specs.GameFaults.{fault_name, result_differs, board_says
 use Rattle.chess_game.specs.Results.{outcome_text}
 use Rattle.chess_game.specs.declared.results.Outcome.{Outcome}
 use Rattle.chess_game.specs.declared.verdicts.Verdict.{Verdict}
-use Rattle.chess_pgn.specs.Terminations.{termination_text}
+use Rattle.pgn_writer.specs.Terminations.{termination_text}
 use Rattle.chess_pgn.specs.declared.read.PgnEnd.{PgnEnd}
 use Rattle.chess_pgn.specs.declared.tagged_result.ResultTag.{ResultTag}
-use Rattle.chess_pgn.specs.declared.termination.Termination.{Termination}
+use Rattle.pgn_writer.specs.declared.termination.Termination.{Termination}
 use Rattle.pgn_verifier.specs.declared.game_fault.FaultKind.TheVariants.{Pgn}
 use Rattle.byte_devices.specs.Devices.{InputState, OutputState, Took, Sent, CutShort}
 use Rattle.byte_devices.specs.Transfers.{Ran}
