@@ -12,7 +12,7 @@ use Rattle.byte_devices.specs.Transfers.{ToOutput, Devices, OutputTook, Ran, not
 use Rattle.chess_cecp.specs.declared.run.End.{End}
 use Rattle.chess_cecp.specs.declared.run.Fault.{Fault}
 use Rattle.chess_cecp.specs.Held.{opened_session}
-use Rattle.chess_pgn.specs.Tags.{default_tags}
+use Rattle.pgn_writer.specs.Tags.{default_tags}
 use Rattle.chess_cecp.specs.Serving.{Server}
 use Rattle.chess_cecp.specs.Session.{session_response}
 use Rattle.chess_cecp.specs.Served.{Served}

@@ -2,7 +2,7 @@
 
 ghost use Rattle.std.specs.Prelude.{◌≡◌, ◌⊎◌, IfOk, List, Result, Ok, Err, cond, map};
 ghost use Rattle.chess_cecp.specs.Held.{opened_session};
-ghost use Rattle.chess_pgn.specs.Tags.{default_tags};
+ghost use Rattle.pgn_writer.specs.Tags.{default_tags};
 ghost use Rattle.chess_cecp.specs.Session.{session_response};
 ghost use Rattle.match_runner.specs.GamesTable.{HostStep, PlaysGamesWith, StepsPass};
 ghost use Rattle.match_runner.specs.Log.{LogSeen};
@@ -20,9 +20,9 @@ use byte_devices::{Input, Output, send};
 use chess_bits::{AttackTables, Bits};
 use chess_cecp::{Session, run_session, serve_lines};
 use chess_game::MOST_MOVES;
-use chess_pgn::Tags;
 use match_runner::{GamesPlan, Host, Log, play_games_with};
 use pgn_verifier::{Verified, VerifyFault, VerifyOptions, verify, verify_collection};
+use pgn_writer::Tags;
 use std::alloc::{AllocError, Global};
 use std::fmt::Display;
 use stub_engine::Stub;

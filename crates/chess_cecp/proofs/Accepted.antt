@@ -6,7 +6,7 @@ use Rattle.chess_base.specs.declared.man.Move.{Move}
 use Rattle.chess_game.specs.Game.{State, from_start, played, current, verdict_now}
 use Rattle.chess_text.specs.declared.reading.Reading.TheVariants as reads
 use Rattle.chess_text.specs.Moves.{reading}
-use Rattle.chess_pgn.specs.declared.tags.Tags.{Tags}
+use Rattle.pgn_writer.specs.declared.tags.Tags.{Tags}
 use Rattle.chess_pgn.specs.GameRead.{pgn_read}
 use Rattle.chess_pgn.proofs.shared.Words.{AreRead, game_words}
 use Rattle.chess_cecp.specs.declared.command.Command.TheVariants.{UserMove}

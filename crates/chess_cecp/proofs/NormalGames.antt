@@ -23,10 +23,10 @@ use Rattle.chess_game.specs.Game.{State, outcome_now}
 use Rattle.chess_game.specs.Line.{positions_of, position_after}
 use Rattle.chess_game.specs.Results.{outcome_text}
 use Rattle.chess_game.specs.Same.{legal_en_passant_square, is_same_position, repetition_count}
-use Rattle.chess_pgn.specs.declared.tags.Tags.{Tags}
-use Rattle.chess_pgn.specs.GameText.{tag_lines, move_tokens, game_tokens, pgn}
-use Rattle.chess_pgn.specs.Terminations.{termination_text, termination_of}
-use Rattle.chess_pgn.specs.Written.{tag_line, ended, lines_of}
+use Rattle.pgn_writer.specs.declared.tags.Tags.{Tags}
+use Rattle.pgn_writer.specs.GameText.{tag_lines, move_tokens, game_tokens, pgn}
+use Rattle.pgn_writer.specs.Terminations.{termination_text, termination_of}
+use Rattle.pgn_writer.specs.Written.{tag_line, ended, lines_of}
 use Rattle.chess_cecp.specs.laws.NormalGame.{normal_initial, normal_line, normal_last, normal_legal_en_passant_square, normal_same, normal_rep, normal_verdict, normal_outcome_now}
 use Rattle.chess_cecp.specs.laws.NormalPgn.{normal_is_initial, normal_tag_lines, normal_move_tokens, normal_game_tokens, normal_pgn}
 

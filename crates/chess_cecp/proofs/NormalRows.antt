@@ -19,7 +19,7 @@ use Rattle.chess_text.specs.laws.Normal.{normal_moves, normal_reading}
 use Rattle.chess_text.proofs.shared.Normal.{normal_kept as texts_kept}
 use Rattle.chess_game.specs.declared.results.Declared.{Declared}
 use Rattle.chess_game.specs.Game.{State, from_start, played, current}
-use Rattle.chess_pgn.specs.declared.tags.Tags.{Tags}
+use Rattle.pgn_writer.specs.declared.tags.Tags.{Tags}
 use Rattle.chess_cecp.specs.declared.command.Command.{Command}
 use Rattle.chess_cecp.specs.declared.command.Command.TheVariants.{New, SetBoard, UserMove, BareMove, Declare, Claim, Protover, Variant, ShowFen, ShowMoves, ShowState, ShowPgn}
 use Rattle.chess_cecp.specs.Declaring.{read_result, state_text}

@@ -2,7 +2,7 @@
 use Rattle.std.proofs.Common.{◌≡◌, List, ℕ, true, false, not, if◌then◌else◌, codes, refl, sym, ap, ◌∙◌, arith}
 use Rattle.std.proofs.lemmas.Bool.{and_parts, not-true}
 use Rattle.chess_base.specs.MoveList.{moves}
-use Rattle.chess_pgn.specs.GameText.{pgn}
+use Rattle.pgn_writer.specs.GameText.{pgn}
 use Rattle.chess_cecp.specs.Commands.{command_of}
 use Rattle.text_lines.specs.Words.{argument_of}
 use Rattle.chess_cecp.specs.Held.{SessionSeen}

@@ -11,7 +11,7 @@ use Rattle.chess_base.specs.Initial.{initial_setup, initial_setup_of}
 use Rattle.chess_base.specs.Letters.{new_line}
 use Rattle.text_lines.specs.Lines.{LineSeen}
 use Rattle.chess_cecp.specs.Held.{SessionSeen}
-use Rattle.chess_pgn.specs.declared.tags.Tags.{Tags}
+use Rattle.pgn_writer.specs.declared.tags.Tags.{Tags}
 use Rattle.chess_text.specs.Moves.{reading}
 use Rattle.chess_text.specs.declared.reading.Reading.{Reading}
 use Rattle.chess_text.specs.declared.reading.Reading.TheVariants as reads

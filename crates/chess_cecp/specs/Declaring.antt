@@ -8,7 +8,7 @@ use Rattle.chess_game.specs.Results.{cut_comment}
 use Rattle.chess_game.specs.Same.{repetition_count}
 use Rattle.chess_game.specs.declared.verdicts.Claims.{Claims}
 use Rattle.chess_game.specs.declared.results.Declared.{Declared}
-use Rattle.chess_pgn.specs.Words.{outcome_of}
+use Rattle.pgn_writer.specs.Outcomes.{outcome_of}
 use Rattle.text_lines.specs.Words.{word_of, argument_of}
 use Rattle.chess_base.specs.Options.{◌>>=◌}
 

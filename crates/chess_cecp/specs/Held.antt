@@ -4,7 +4,7 @@ use Rattle.std.specs.Prelude.{ℕ}
 use Rattle.chess_base.specs.Initial.{initial_setup}
 use Rattle.chess_game.specs.Game as game
 use Rattle.chess_game.specs.Game.{State, from_start}
-use Rattle.chess_pgn.specs.declared.tags.Tags.{Tags}
+use Rattle.pgn_writer.specs.declared.tags.Tags.{Tags}
 
 -- a session as contracts see it: the tags that `showpgn` writes, the most half-moves that its game may have, and the
 -- state of its game

@@ -18,8 +18,8 @@ use Rattle.chess_fen.specs.Writing.{fen}
 use Rattle.text_lines.specs.Lines.{LineSeen}
 use Rattle.chess_cecp.specs.Serving.{Response, says, becomes}
 use Rattle.chess_cecp.specs.Held.{SessionSeen}
-use Rattle.chess_pgn.specs.GameText.{pgn}
-use Rattle.chess_pgn.specs.declared.tags.Tags.{Tags}
+use Rattle.pgn_writer.specs.GameText.{pgn}
+use Rattle.pgn_writer.specs.declared.tags.Tags.{Tags}
 use Rattle.chess_text.specs.Moves.{reading}
 use Rattle.chess_text.specs.San.{is_fischerandom, shown_move}
 use Rattle.chess_text.specs.declared.reading.Reading.{Reading}

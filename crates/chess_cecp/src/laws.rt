@@ -4,7 +4,7 @@ ghost use Rattle.std.specs.Prelude.{◌≡◌, ℕ, true, List, Ok};
 ghost use Rattle.byte_devices.specs.Transfers.{Devices, FromInput, InputGave, Ran};
 ghost use Rattle.chess_base.specs.declared.man.Variant.TheVariants.{Normal};
 ghost use Rattle.chess_game.specs.Game.{State};
-ghost use Rattle.chess_pgn.specs.declared.tags.Tags.{Tags};
+ghost use Rattle.pgn_writer.specs.declared.tags.Tags.{Tags};
 ghost use Rattle.chess_cecp.specs.declared.command.Command.{Command};
 ghost use Rattle.chess_cecp.specs.Held.{SessionSeen};
 ghost use Rattle.text_lines.specs.Lines.{LineSeen};

@@ -5,7 +5,7 @@ ghost use Rattle.std.specs.Option.{option_map};
 ghost use Rattle.chess_cecp.specs.Declaring.{result_comment, read_result};
 
 use chess_game::{Comment, Declared};
-use chess_pgn::outcome_of;
+use pgn_writer::outcome_of;
 use text_lines::{argument, first_word};
 
 // The comment after the outcome of `result`: of `{White resigns}` the text within the braces, of an empty text the

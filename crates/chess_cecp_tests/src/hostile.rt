@@ -8,7 +8,7 @@ use byte_devices::{PieceReader, PieceWriter};
 use chess_bits::{AttackTables, Bits};
 use chess_cecp::{Fault, Session};
 use chess_moves::{Board, Plain};
-use chess_pgn::Tags;
+use pgn_writer::Tags;
 use std::alloc::Global;
 use std::process::Abort;
 use std::test::Fail;

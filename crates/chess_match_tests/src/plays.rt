@@ -8,7 +8,7 @@ use chess_fen::read_fen_as;
 use chess_game::{Game, Outcome};
 use chess_match::{Ends, MatchEnd, MatchFault, Moments, Patience, Setup, run_match};
 use chess_moves::{Board, Plain};
-use chess_pgn::{Tags, write_pgn};
+use pgn_writer::{Tags, write_pgn};
 use std::alloc::Global;
 use std::process::Abort;
 use std::test::Fail;

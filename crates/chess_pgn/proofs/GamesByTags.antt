@@ -24,21 +24,22 @@ use Rattle.chess_game.specs.declared.results.Outcome.{Outcome}
 use Rattle.chess_text.specs.declared.reading.Reading.{Reading}
 use Rattle.chess_text.specs.declared.reading.Reading.TheVariants as reads
 use Rattle.chess_text.specs.Moves.{reading}
-use Rattle.chess_pgn.specs.declared.termination.Termination.{Termination}
-use Rattle.chess_pgn.specs.Terminations.{termination_named}
+use Rattle.pgn_writer.specs.declared.termination.Termination.{Termination}
+use Rattle.pgn_writer.specs.Terminations.{termination_named}
 use Rattle.chess_pgn.specs.GameRead.{GameRead, tagged_variant, pgn_read, Goes_on, Ends, failed, move_row, row, after_row, moves_read, fen_read, last_start, read_after_tags, read_of_split}
 use Rattle.chess_pgn.specs.laws.TokenByToken.{SoFar, Step, On, word_step, move_step, fen_step, step, read_rest_with, game_of, termination_after, tokens_read}
 use Rattle.chess_pgn.specs.GameRead.{IsRead}
 use Rattle.chess_pgn.specs.LastTags.{says_nothing, may_precede_tags, tag_section, tags_named, last_tag}
 use Rattle.chess_pgn.specs.declared.word_kind.WordKind.{WordKind}
 use Rattle.chess_pgn.specs.declared.word_kind.WordKind.TheVariants.{End, Number, Marks, Move}
-use Rattle.chess_pgn.specs.Words.{outcome_of, is_marks}
+use Rattle.pgn_writer.specs.Outcomes.{outcome_of}
+use Rattle.chess_pgn.specs.Words.{is_marks}
 use Rattle.chess_pgn.specs.laws.WordKinds.{word_kind}
 use Rattle.chess_pgn.specs.Tokens.{Token, Skip, Tag, Word, Bad_tag, Unclosed_comment, Unclosed_variation, Bad, tokens_from, after_byte_order_mark}
 use Rattle.chess_pgn.proofs.PgnWords.{are_marks, marks_by_kind}
 use Rattle.chess_pgn.proofs.ByteRuns.{run_passes}
 use Rattle.chess_pgn.proofs.FenVariants.{initial_variant, read_variant}
-use Rattle.chess_pgn.proofs.Splits.{read_split, split_read}
+use Rattle.chess_pgn.proofs.Splits.{split_read}
 
 -- ---- words, where `met` and `begun` say what came before them
 
@@ -460,16 +461,7 @@ pub reads_alike : (limit : ℕ) (text : List ℕ) (at : ℕ)
 unfolding pgn_read
 reads_alike limit text at = tokens_are limit (length text) (tokens_from text (after_byte_order_mark text at))
 
--- it is what the only split of the text says
-pub is_read : (limit : ℕ) (text : List ℕ) (at : ℕ) → IsRead limit text at (pgn_read limit text at)
-unfolding pgn_read
-is_read limit text at = record {
-  tokens = tokens_from text (after_byte_order_mark text at);
-  split = read_split text (after_byte_order_mark text at);
-  is = refl;
-}
-
--- and nothing else
+-- what the split of the text says is that and nothing else
 pub only_read : (limit : ℕ) (text : List ℕ) (at : ℕ) (r : GameRead) → IsRead limit text at r
     → r ≡ pgn_read limit text at
 unfolding pgn_read

@@ -6,7 +6,7 @@ use Rattle.std.proofs.lemmas.List.{take_rest}
 use Rattle.std.proofs.lemmas.List.Splits.{join_with_byte-slice_split}
 use Rattle.text_lines.specs.Lines.{parts}
 use Rattle.chess_pgn.specs.Tokens.{is_white_space, after_white_space, is_gap_line, after_gap_lines, after_gap, after_byte, after_next}
-use Rattle.chess_pgn.specs.ties.Gaps.{gap_left}
+use Rattle.chess_pgn.specs.shared.Gaps.{gap_left}
 use Rattle.chess_pgn.proofs.ByteRuns.{differs}
 
 -- the bytes of the first line

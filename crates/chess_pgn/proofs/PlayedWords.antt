@@ -18,11 +18,12 @@ use Rattle.chess_text.specs.Moves.{reading}
 use Rattle.chess_pgn.specs.declared.read.PgnEnd.{PgnEnd}
 use Rattle.chess_pgn.specs.declared.read.PgnFault.{PgnFault}
 use Rattle.chess_pgn.specs.declared.read.PgnFaultKind.TheVariants.{AfterEnd, TooLong}
-use Rattle.chess_pgn.specs.declared.termination.Termination.{Termination}
+use Rattle.pgn_writer.specs.declared.termination.Termination.{Termination}
 use Rattle.chess_pgn.specs.GameRead.{GameRead, Row, Goes_on, Ends, Fails, failed, move_row, row, after_row, moves_read, last_start, tagged_variant, read_after_tags, pgn_read}
 use Rattle.chess_pgn.specs.LastTags.{says_nothing, tag_section}
 use Rattle.chess_pgn.specs.Tokens.{Token, Skip, Tag, Word, Bad_tag, Unclosed_comment, Unclosed_variation, Bad, after_byte_order_mark, tokens_from}
-use Rattle.chess_pgn.specs.Words.{outcome_of, is_marks}
+use Rattle.pgn_writer.specs.Outcomes.{outcome_of}
+use Rattle.chess_pgn.specs.Words.{is_marks}
 use Rattle.chess_pgn.proofs.GamesByTags.{fens, termination_in}
 
 -- from the game `s` on each word denotes the move at its index, where the game has no verdict and fewer than `limit`

@@ -6,7 +6,7 @@ use Rattle.std.proofs.Math.Seq.{drop-cons}
 use Rattle.std.proofs.lemmas.Bool.Decides.{nat_tests}
 use Rattle.std.proofs.lemmas.List.{drop_all, take_rest}
 use Rattle.chess_pgn.specs.Tokens.{line_end, is_white_space, after_brace}
-use Rattle.chess_pgn.specs.ties.Gaps.{gap_left}
+use Rattle.chess_pgn.specs.shared.Gaps.{gap_left}
 
 -- the end of a line whose first byte is not 10
 pub line_end-more : (c : ℕ) (rest : List ℕ) → eqb c 10 ≡ false → line_end (c ∷ rest) ≡ line_end rest

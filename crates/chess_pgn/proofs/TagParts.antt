@@ -7,7 +7,7 @@ use Rattle.std.specs.List.{prefix_len, take_while}
 use Rattle.std.specs.Option.{option_and_then, unwrap_or}
 use Rattle.chess_pgn.specs.Tokens.{Token, Tag, Bad_tag, after_gap, after_next, string_at, tag_at}
 use Rattle.text_lines.specs.Words.{is_name_byte}
-use Rattle.chess_pgn.specs.ties.TagParts.{closed, with_text, with_string, with_tag_name, tag_by_parts}
+use Rattle.chess_pgn.specs.shared.TagParts.{closed, with_text, with_string, with_tag_name, tag_by_parts}
 
 abbrev after_string : List ℕ → ℕ → List ℕ × List ℕ → Option (Token × List ℕ)
 after_string name left inside =

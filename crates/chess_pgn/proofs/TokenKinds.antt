@@ -7,7 +7,7 @@ use Rattle.std.proofs.lemmas.List.{take-append-drop, append-nil, append_assoc, l
 use Rattle.std.proofs.lemmas.List.Folds.{list_all-append}
 use Rattle.chess_base.specs.Letters.{is_digit}
 use Rattle.chess_pgn.specs.Tokens.{Token, Skip, Tag, Word, Bad_tag, Unclosed_comment, Unclosed_variation, Bad, is_white_space, is_word_byte, line_end, after_brace, comment_at, variation_at, token_at}
-use Rattle.chess_pgn.specs.ties.TagParts.{tag_by_parts}
+use Rattle.chess_pgn.specs.shared.TagParts.{tag_by_parts}
 use Rattle.chess_pgn.proofs.TagParts.{parts_are}
 use Rattle.chess_pgn.specs.Split.{lacks, skips_line, HasOpenComment}
 use Rattle.chess_pgn.specs.shared.Kinds.{Kind, Blank, Line, Comment, Nag, Variation, Tag_pair, Asterisk, Symbol, IsOf, IsLongest, token_of, HasNoToken, HasUnclosedComment, IsFault}

@@ -24,12 +24,13 @@ use Rattle.chess_pgn.specs.declared.read.PgnEnd.{PgnEnd}
 use Rattle.chess_pgn.specs.declared.read.PgnFault.{PgnFault}
 use Rattle.chess_pgn.specs.declared.read.PgnFaultKind.{PgnFaultKind}
 use Rattle.chess_pgn.specs.declared.read.PgnFaultKind.TheVariants.{BadTag, BadFen, BadToken, IllegalMove, AmbiguousMove, AfterEnd, TooLong, UnclosedComment, UnclosedVariation, NoResult}
-use Rattle.chess_pgn.specs.declared.termination.Termination.{Termination}
-use Rattle.chess_pgn.specs.Terminations.{termination_named}
+use Rattle.pgn_writer.specs.declared.termination.Termination.{Termination}
+use Rattle.pgn_writer.specs.Terminations.{termination_named}
 use Rattle.chess_pgn.specs.LastTags.{says_nothing, tag_section, tags_named, last_tag}
 use Rattle.chess_pgn.specs.Tokens.{Token, Skip, Word, Bad_tag, Unclosed_comment, Unclosed_variation, Bad, after_byte_order_mark, tokens_from}
 use Rattle.chess_pgn.specs.Split.{IsSplit}
-use Rattle.chess_pgn.specs.Words.{outcome_of, is_marks}
+use Rattle.pgn_writer.specs.Outcomes.{outcome_of}
+use Rattle.chess_pgn.specs.Words.{is_marks}
 
 -- ---- what is read in the end
 

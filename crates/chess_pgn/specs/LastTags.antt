@@ -6,7 +6,8 @@ use Rattle.std.specs.Option.{option_map}
 use Rattle.std.specs.Str.{bytes_eq}
 use Rattle.chess_pgn.specs.declared.tagged_result.ResultTag.{ResultTag}
 use Rattle.chess_pgn.specs.Tokens.{Token, Skip, Tag, Word}
-use Rattle.chess_pgn.specs.Words.{outcome_of, is_marks}
+use Rattle.pgn_writer.specs.Outcomes.{outcome_of}
+use Rattle.chess_pgn.specs.Words.{is_marks}
 
 -- whether a token says nothing of a game: it is skipped, or marks such as `!?`
 abbrev pub says_nothing : Token → Bool

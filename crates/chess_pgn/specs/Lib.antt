@@ -1,13 +1,8 @@
 pub mod Tokens
 pub mod Split
 pub mod Words
-pub mod Written
-pub mod Tags
-pub mod Terminations
 pub mod LastTags
 pub mod GameRead
-pub mod GameText
-pub mod PgnText
 pub mod laws
 pub mod shared
 pub mod ties

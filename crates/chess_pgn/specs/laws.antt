@@ -1,9 +1,5 @@
--- Claims about the definitions: each is the contract of a function that does nothing.
-pub mod PgnLaw
+-- Claims about the definitions, each the contract of a function that does nothing; and what only these and the laws of
+-- chess_pgn_laws need.
 pub mod Offsets
 pub mod WordKinds
 pub mod TokenByToken
-pub mod GameOfTokens
-pub mod Layout
-pub mod Normal
-pub mod Examples

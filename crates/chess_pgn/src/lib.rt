@@ -1,4 +1,4 @@
-//! Games' texts, read and written (PGN standard of 1994).
+//! Games' texts, read (PGN standard of 1994). What pgn_writer has to write them can also be imported from here.
 //!
 //! The first game of a text, written anew; the next one is read from `offset` on:
 //!
@@ -11,35 +11,23 @@
 //! ```
 #![tactic(auto)]
 
-mod buffer;
 mod bytes;
 mod last_tag;
 mod laws;
-mod line_writer;
 mod progress;
 mod read;
 mod skips;
 mod tag;
-mod tag_lines;
 mod tagged_result;
-mod tags;
 mod termination;
 mod token;
 pub mod token_parts;
 mod variation;
 mod word_kind;
 mod words;
-mod write;
 
 pub use chess_game::{HowEnded, TagText};
-pub use laws::{
-    a_game_is_tags_and_moves, a_text_has_one_split, faults_have_offsets, games_are_laid_out,
-    games_are_of_tokens, half_moves_have_bytes, lines_are_filled, normal_is_kept, pgn_is_read_back,
-    texts_are_worked_out,
-};
+pub use laws::{faults_have_offsets, half_moves_have_bytes};
+pub use pgn_writer::{Tags, Termination, outcome_of, write_pgn};
 pub use read::{PgnEnd, PgnFault, PgnFaultKind, read_pgn};
 pub use tagged_result::{ResultTag, result_tag};
-pub use tags::Tags;
-pub use termination::Termination;
-pub use word_kind::outcome_of;
-pub use write::write_pgn;

@@ -4,7 +4,8 @@ ghost use Rattle.std.specs.Prelude.{◌≡◌, true, false, None};
 ghost use Rattle.chess_pgn.specs.laws.TokenByToken.{termination_after};
 
 use crate::tag::Tag;
-use crate::termination::Termination;
+use crate::termination::termination_named;
+use pgn_writer::Termination;
 
 // What is known, apart from the moves, of a game that is being read.
 #[derive(Clone, Copy)]
@@ -65,7 +66,7 @@ fn termination_after(before: Option<Termination>, tag: &Tag<'_>) -> Option<Termi
     ensures { result ≡ termination_after before tag.now.name.now tag.now.text.now }
 {
     if tag.name == b"Termination".as_slice() {
-        Termination::named(tag.text)
+        termination_named(tag.text)
     } else {
         before
     }

@@ -22,7 +22,6 @@ ghost use Rattle.chess_pgn.specs.ties.GameSteps.{refusal_kind, EndsIn, so_far, s
 use crate::last_tag::{last_tag, may_precede_tags, named_tag};
 use crate::progress::Progress;
 use crate::tag::Tag;
-use crate::termination::Termination;
 use crate::token::{Token, TokenFault, after_blanks, after_byte_order_mark, next_token};
 use crate::word_kind::{WordKind, word_kind};
 use crate::words::{after_skipped, play_words};
@@ -31,6 +30,7 @@ use chess_fen::read_fen_as;
 use chess_game::{Comment, Game, Outcome, PlayRefusal};
 use chess_moves::Board;
 use chess_text::{Reading, read_move};
+use pgn_writer::Termination;
 
 /// How a game's text ended, and where. It ends with its termination marker, the token `1-0`, `0-1`, `1/2-1/2` or `*`.
 #[derive(Clone, Copy, Debug, PartialEq, Eq)]

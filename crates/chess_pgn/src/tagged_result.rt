@@ -8,8 +8,8 @@ ghost use Rattle.chess_pgn.specs.Tokens.{Token, after_byte_order_mark};
 
 use crate::last_tag::last_tag;
 use crate::token::after_byte_order_mark;
-use crate::word_kind::outcome_of;
 use chess_game::Outcome;
+use pgn_writer::outcome_of;
 
 /// The last tag `Result` of a game, such as `[Result "1-0"]`.
 #[derive(Clone, Copy, Debug, PartialEq, Eq)]

@@ -3,16 +3,17 @@
 ghost use Rattle.std.specs.Prelude.{◌≡◌, ◌||◌, ◌==◌, false};
 ghost use Rattle.std.specs.List.{list_all};
 ghost use Rattle.chess_base.specs.Letters.{byte, is_digit};
-ghost use Rattle.chess_pgn.specs.Words.{outcome_of, is_marks};
+ghost use Rattle.chess_pgn.specs.Words.{is_marks};
 ghost use Rattle.chess_pgn.specs.laws.WordKinds.{word_kind};
-ghost use Rattle.chess_pgn.specs.ties.Begins.{begins_as_move};
+ghost use Rattle.chess_pgn.specs.shared.Begins.{begins_as_move};
 
 use crate::bytes::is_digit;
 use chess_game::Outcome;
+use pgn_writer::outcome_of;
 
 /// The kinds of words of a game's text.
 #[derive(Clone, Copy, Debug, PartialEq, Eq)]
-pub(crate) enum WordKind {
+pub enum WordKind {
     /// An outcome, such as `1-0` or `*`: the game's text ends with it.
     End(Outcome),
     /// The number of a move: only digits, as the `12` of `12.`.
@@ -21,15 +22,6 @@ pub(crate) enum WordKind {
     Marks,
     /// Any other word. It may be a move: whether it denotes a legal one depends on the position.
     Move,
-}
-
-/// The outcome that is written as this word: `1-0`, `0-1`, `1/2-1/2` or `*`; `None` for any other word. The words of a
-/// game, the tag `Result` and the session's command `result` are read by this function.
-#[tactic(auto, using(crate::proofs::PgnWords::outcome_parsed))]
-pub fn outcome_of(word: &[u8]) -> Option<Outcome>
-    ensures { result ≡ outcome_of word.now }
-{
-    Outcome::try_from(word).ok()
 }
 
 // Whether all bytes of a word are digits, as in the number `12`; true of the empty word.

@@ -5,12 +5,13 @@ use chess_bits::{AttackTables, Bits};
 use chess_fen::{read_fen, read_fen_as};
 use chess_game::{Comment, Game, Outcome};
 use chess_moves::{Board, Plain};
-use chess_pgn::{
-    HowEnded, TagText, Tags, a_game_is_tags_and_moves, a_text_has_one_split, faults_have_offsets,
-    games_are_laid_out, games_are_of_tokens, half_moves_have_bytes, lines_are_filled,
-    normal_is_kept, pgn_is_read_back, texts_are_worked_out, write_pgn,
+use chess_pgn::{faults_have_offsets, half_moves_have_bytes};
+use chess_pgn_laws::{
+    a_game_is_tags_and_moves, a_text_has_one_split, games_are_laid_out, games_are_of_tokens,
+    lines_are_filled, normal_is_kept, pgn_is_read_back, texts_are_worked_out,
 };
 use chess_text::{Reading, read_move};
+use pgn_writer::{HowEnded, TagText, Tags, write_pgn};
 use std::alloc::Global;
 use std::process::Abort;
 use std::test::Fail;

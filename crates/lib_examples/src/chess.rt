@@ -5,10 +5,11 @@ use byte_devices::{Counted, Output};
 use chess_base::{Move, Position};
 use chess_bits::{AttackTables, Bits};
 use chess_fen::{Fen, read_fen, write_fen};
-use chess_game::Game;
+use chess_game::{Game, TagText};
 use chess_moves::{Board, Plain};
-use chess_pgn::{Tags, read_pgn, write_pgn};
+use chess_pgn::read_pgn;
 use chess_text::{Reading, read_move};
+use pgn_writer::{Tags, write_pgn};
 use std::alloc::Global;
 
 // chess_base
@@ -78,6 +79,17 @@ fn read_text(rt: &HostRuntime, game: &mut Game<Plain>) -> Result<()> {
     Ok(())
 }
 
+// pgn_writer
+fn written<W: Output + Drop>(game: Game<Plain>, mut output: W) -> Result<()> {
+    let mut scratch = Plain::new();
+    let tags = Tags {
+        white: TagText::cut(b"Morphy, Paul"),
+        ..Tags::default()
+    };
+    write_pgn(&game, &mut scratch, &tags, b"", &mut output)?;
+    Ok(())
+}
+
 // chess_pgn
 fn written_anew<W: Output + Drop>(alloc: Global, text: &[u8], mut output: W) -> Result<usize> {
     let mut game = Game::open(alloc, Plain::new(), 300)?;
@@ -102,6 +114,7 @@ pub(crate) fn run(rt: &HostRuntime) -> Result<()> {
     if let Ok(m) = played.take_back() {
         println!(rt; "{}", game(rt, alloc, m)?)?;
     }
+    written(played, Counted::writing(Vec::<u8>::new(alloc)))?;
     let output = Counted::writing(Vec::<u8>::new(alloc));
     println!(rt; "to byte {}", written_anew(alloc, b"1. e4 *", output)?)?;
     Ok(())

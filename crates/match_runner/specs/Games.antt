@@ -24,12 +24,12 @@ use Rattle.chess_match.specs.declared.reason.MatchFault.{MatchFault}
 use Rattle.chess_match.specs.declared.reason.Reason.{Reason}
 use Rattle.chess_match.specs.declared.reason.Reason.TheVariants.{Faulted}
 use Rattle.chess_match.specs.declared.run.MatchEnd.{MatchEnd}
-use Rattle.chess_pgn.specs.GameText.{pgn}
-use Rattle.chess_pgn.specs.Tags.{default_tags}
+use Rattle.pgn_writer.specs.GameText.{pgn}
+use Rattle.pgn_writer.specs.Tags.{default_tags}
 use Rattle.match_runner.specs.Log.{LogSeen, Logged, log_from}
 use Rattle.match_runner.specs.declared.fault.GamesFault.{GamesFault}
 use Rattle.match_runner.specs.declared.fault.GamesFault.TheVariants.{WriteFailed, NoMemory, CanNotStart, Game}
-use Rattle.chess_pgn.specs.declared.tags.Tags.{Tags}
+use Rattle.pgn_writer.specs.declared.tags.Tags.{Tags}
 use Rattle.chess_game.specs.declared.game.TheConstants.{MOST_MOVES}
 
 -- the side that the first engine, that of `--white`, has in the game of this number: White in odd games, Black in even

@@ -4,7 +4,7 @@ ghost use Rattle.std.specs.Prelude.{[]};
 ghost use Rattle.byte_devices.specs.Devices.{Sends};
 ghost use Rattle.chess_match.specs.Played.{PlayedNoting};
 ghost use Rattle.chess_match.specs.Run.{engines_of};
-ghost use Rattle.chess_pgn.specs.GameText.{pgn};
+ghost use Rattle.pgn_writer.specs.GameText.{pgn};
 ghost use Rattle.match_runner.specs.Games.{LogsGame};
 ghost use Rattle.match_runner.specs.Log.{log_seen};
 
@@ -17,7 +17,7 @@ use chess_base::{ByColour, Colour};
 use chess_bits::Bits;
 use chess_game::Game;
 use chess_match::{Ends, MatchEnd, Moments, Setup, run_match};
-use chess_pgn::{Tags, write_pgn};
+use pgn_writer::{Tags, write_pgn};
 
 /// What the games of a match are played with, one after another: the clock, the game, and a board on which its moves are
 /// made again.

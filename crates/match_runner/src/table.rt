@@ -5,7 +5,7 @@ ghost use Rattle.std.specs.Result.{is_err};
 ghost use Rattle.byte_devices.specs.Devices.{Sends};
 ghost use Rattle.chess_match.specs.Notes.{Note};
 ghost use Rattle.chess_match.specs.Played.{PlayedNoting};
-ghost use Rattle.chess_pgn.specs.GameText.{pgn};
+ghost use Rattle.pgn_writer.specs.GameText.{pgn};
 ghost use Rattle.match_runner.specs.Games.{IsStartFault, LogsGame, none_killed};
 ghost use Rattle.match_runner.specs.GamesTable.{AreFresh, AtHost, Finishes, Plays, StepsPass, starting, writing};
 ghost use Rattle.match_runner.specs.Log.{log_seen};
@@ -15,7 +15,7 @@ use crate::log::Log;
 use byte_devices::{Output, WriteFault};
 use chess_base::{ByColour, Colour};
 use chess_match::{MatchEnd, Setup};
-use chess_pgn::Tags;
+use pgn_writer::Tags;
 
 /// Where the games of a match are played: what starts and ends engines, plays their games and writes them. Each call is
 /// one step of the match, and contracts see in which order the steps come.

@@ -22,7 +22,7 @@ use Rattle.chess_match.specs.Played.{Passed}
 use Rattle.chess_match.specs.Reasons.{declared_at, ended_by, outcome_by_reason, reported_fault, reported_reason, win_of}
 use Rattle.chess_match.specs.Rules.{Rules, rules_of}
 use Rattle.chess_match.specs.declared.reason.Reason.{Reason}
-use Rattle.chess_pgn.specs.GameText.{pgn}
+use Rattle.pgn_writer.specs.GameText.{pgn}
 use Rattle.match_runner.specs.declared.plan.GamesPlan.{GamesPlan}
 use Rattle.match_runner.specs.Games.{GameRecord, IsOfPlan, count_of, engine_command, first_side, game_text, game_texts, player_name, score_line}
 use Rattle.match_runner.specs.Log.{log_from}

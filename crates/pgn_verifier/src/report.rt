@@ -3,7 +3,7 @@
 ghost use Rattle.pgn_verifier.specs.declared.report.TheConstants.{LINE_LEN};
 ghost use Rattle.std.specs.Prelude.{◌≡◌, ◌≤◌, ◌+◌, ◌++◌, [], length, codes, if◌then◌else◌};
 ghost use Rattle.std.specs.Option.{option_map_or};
-ghost use Rattle.chess_pgn.specs.Terminations.{termination_text};
+ghost use Rattle.pgn_writer.specs.Terminations.{termination_text};
 ghost use Rattle.arrayvec.specs.ArrayVec.{array_vec_len};
 ghost use Rattle.byte_devices.specs.Devices.{Puts};
 ghost use Rattle.pgn_verifier.specs.Reports.{counts_line};

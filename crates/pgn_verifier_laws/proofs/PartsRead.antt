@@ -23,7 +23,7 @@ use Rattle.chess_pgn.specs.GameRead.{GameRead, pgn_read, tagged_variant, variant
 use Rattle.chess_pgn.specs.LastTags.{may_precede_tags, tag_section, tags_named, result_tag_of}
 use Rattle.chess_pgn.specs.shared.Kinds.{IsSplitByKinds, IsOf, IsLongest, Kind, token_of, Blank, Line, Comment, Nag, Variation, Tag_pair, Asterisk, Symbol, ended, token, stopped}
 use Rattle.chess_pgn.specs.Tokens.{Token, Skip, Tag, Word, Bad_tag, Unclosed_comment, Unclosed_variation, Bad, after_byte_order_mark, begins_line, tokens_from}
-use Rattle.chess_pgn.specs.Words.{outcome_of}
+use Rattle.pgn_writer.specs.Outcomes.{outcome_of}
 use Rattle.chess_pgn.specs.laws.WordKinds.{word_kind}
 use Rattle.chess_pgn.specs.declared.read.PgnEnd.{PgnEnd}
 use Rattle.chess_pgn.specs.declared.read.PgnFault.{PgnFault}

@@ -8,16 +8,16 @@ use Rattle.chess_game.specs.Game.{State, outcome_now, verdict_now, IsPlayable}
 use Rattle.chess_game.specs.declared.game.TheConstants.{MOST_MOVES}
 use Rattle.chess_game.specs.declared.results.Outcome.{Outcome}
 use Rattle.chess_pgn.specs.GameRead.{GameRead, pgn_read}
-use Rattle.chess_pgn.specs.GameText.{pgn, tag_lines, game_tokens}
+use Rattle.pgn_writer.specs.GameText.{pgn, tag_lines, game_tokens}
 use Rattle.chess_pgn.specs.LastTags.{result_tag_of}
 use Rattle.chess_pgn.specs.shared.Kinds.{IsSplitByKinds, IsOf, IsLongest, Blank, ended, token}
-use Rattle.chess_pgn.specs.Terminations.{termination_of}
+use Rattle.pgn_writer.specs.Terminations.{termination_of}
 use Rattle.chess_pgn.specs.Tokens.{Token, Skip, after_byte_order_mark, begins_line, tokens_from}
-use Rattle.chess_pgn.specs.Written as written
+use Rattle.pgn_writer.specs.Written as written
 use Rattle.chess_pgn.specs.declared.read.PgnEnd.{PgnEnd}
-use Rattle.chess_pgn.specs.declared.tags.Tags.{Tags}
-use Rattle.chess_pgn.specs.declared.termination.Termination.{Termination}
-use Rattle.chess_pgn.specs.laws.PgnLaw.{AreTagTexts, IsReadBack, PgnIsReadBack, ResultIsWritten}
+use Rattle.pgn_writer.specs.declared.tags.Tags.{Tags}
+use Rattle.pgn_writer.specs.declared.termination.Termination.{Termination}
+use Rattle.chess_pgn_laws.specs.laws.PgnLaw.{AreTagTexts, IsReadBack, PgnIsReadBack, ResultIsWritten}
 use Rattle.chess_pgn.specs.laws.TokenByToken.{tokens_read}
 use Rattle.chess_pgn.proofs.shared.Tokens.{kinds_read}
 use Rattle.pgn_verifier.specs.GameFaults.{judged}

@@ -3,11 +3,11 @@ use Rattle.std.specs.Prelude.{◌≡◌, ℕ, ◌+◌, Bool, List, [], ◌∷◌
 use Rattle.std.specs.List.{flat_map}
 use Rattle.chess_game.specs.Game.{State, outcome_now, IsPlayable}
 use Rattle.chess_game.specs.declared.game.TheConstants.{MOST_MOVES}
-use Rattle.chess_pgn.specs.GameText.{pgn}
-use Rattle.chess_pgn.specs.Terminations.{termination_of}
+use Rattle.pgn_writer.specs.GameText.{pgn}
+use Rattle.pgn_writer.specs.Terminations.{termination_of}
 use Rattle.chess_pgn.specs.declared.read.PgnEnd.{PgnEnd}
-use Rattle.chess_pgn.specs.declared.tags.Tags.{Tags}
-use Rattle.chess_pgn.specs.laws.PgnLaw.{AreTagTexts}
+use Rattle.pgn_writer.specs.declared.tags.Tags.{Tags}
+use Rattle.chess_pgn_laws.specs.laws.PgnLaw.{AreTagTexts}
 use Rattle.pgn_verifier.specs.GameFaults.{IsJudged}
 use Rattle.pgn_verifier.specs.Reports.{Report, Game}
 use Rattle.pgn_verifier.specs.laws.Reported.{reports_on}

@@ -13,7 +13,7 @@ ghost use Rattle.pgn_verifier_laws.specs.NoFaults.{FaultlessTextsAreReportedAlik
 ghost use Rattle.pgn_verifier_laws.specs.Parts.{GamesAreInParts, WholeGamesAreReportedAlike, PiecesAreReportedAlike, TextsAreReportedInParts};
 ghost use Rattle.pgn_verifier_laws.specs.WrittenGames.{WrittenGamesHaveNoFault, WrittenTextsHaveNoFault};
 
-use chess_pgn::{a_game_is_tags_and_moves, pgn_is_read_back};
+use chess_pgn_laws::{a_game_is_tags_and_moves, pgn_is_read_back};
 
 /// States a law and does nothing: a game is judged in one way, and a text and a collection have one list of reports. It
 /// is the one that is made by reading games one after another.

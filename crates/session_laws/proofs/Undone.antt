@@ -8,7 +8,7 @@ use Rattle.chess_text.specs.Moves.{reading}
 use Rattle.chess_text.specs.declared.reading.Reading.{Reading}
 use Rattle.chess_text.specs.declared.reading.Reading.TheVariants as reads
 use Rattle.chess_game.specs.Game.{State, current, is_over, played, taken_back, verdict_now}
-use Rattle.chess_pgn.specs.declared.tags.Tags.{Tags}
+use Rattle.pgn_writer.specs.declared.tags.Tags.{Tags}
 use Rattle.text_lines.specs.Lines.{LineSeen}
 use Rattle.text_lines.specs.Words.{argument_of}
 use Rattle.chess_cecp.specs.Commands.{command_of}

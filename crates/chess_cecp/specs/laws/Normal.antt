@@ -19,7 +19,7 @@ use Rattle.chess_game.specs.declared.results.Declared.{Declared}
 use Rattle.chess_game.specs.declared.results.Outcome.TheVariants.{Draw}
 use Rattle.chess_game.specs.Ends.{verdict_result, result_text, draw_claim, claim_comment}
 use Rattle.chess_game.specs.Game.{State, from_start, played, contradicts_verdict}
-use Rattle.chess_pgn.specs.declared.tags.Tags.{Tags}
+use Rattle.pgn_writer.specs.declared.tags.Tags.{Tags}
 use Rattle.chess_cecp.specs.declared.command.Command.{Command}
 use Rattle.chess_cecp.specs.declared.command.Command.TheVariants.{New, SetBoard, UserMove, BareMove, Undo, Remove, Declare, Claim, Ping, Protover, Variant, Go, ShowFen, ShowMoves, ShowState, ShowPgn, Quit, Silent, BadNumber, Unknown}
 use Rattle.chess_cecp.specs.Declaring.{read_result, claims_text}

@@ -12,9 +12,9 @@ use Rattle.chess_fen.specs.laws.Normal.{normal_fen}
 use Rattle.chess_text.specs.laws.Normal.{normal_san}
 use Rattle.chess_game.specs.Game.{State}
 use Rattle.chess_game.specs.Results.{outcome_text}
-use Rattle.chess_pgn.specs.declared.tags.Tags.{Tags}
-use Rattle.chess_pgn.specs.Terminations.{termination_text, termination_of}
-use Rattle.chess_pgn.specs.Written.{tag_line, ended, lines_of}
+use Rattle.pgn_writer.specs.declared.tags.Tags.{Tags}
+use Rattle.pgn_writer.specs.Terminations.{termination_text, termination_of}
+use Rattle.pgn_writer.specs.Written.{tag_line, ended, lines_of}
 use Rattle.chess_cecp.specs.laws.NormalGame.{normal_initial, normal_outcome_now}
 
 -- whether `start` is the initial position of normal chess; for normal chess alone

@@ -15,9 +15,9 @@ use Rattle.chess_pgn.specs.declared.read.PgnFaultKind.{PgnFaultKind}
 use Rattle.chess_pgn.specs.declared.read.PgnFaultKind.TheVariants.{BadTag, BadFen, BadToken, IllegalMove, AmbiguousMove, AfterEnd, TooLong, UnclosedComment, UnclosedVariation, NoResult}
 use Rattle.chess_pgn.specs.declared.word_kind.WordKind.{WordKind}
 use Rattle.chess_pgn.specs.declared.word_kind.WordKind.TheVariants.{End, Number, Marks, Move}
-use Rattle.chess_pgn.specs.declared.termination.Termination.{Termination}
+use Rattle.pgn_writer.specs.declared.termination.Termination.{Termination}
 use Rattle.chess_text.specs.Moves.{reading}
-use Rattle.chess_pgn.specs.Terminations.{termination_named}
+use Rattle.pgn_writer.specs.Terminations.{termination_named}
 use Rattle.chess_pgn.specs.LastTags.{tag_section}
 use Rattle.chess_pgn.specs.Tokens.{Token, Skip, Tag, Word, Bad_tag, Unclosed_comment, Unclosed_variation, Bad}
 use Rattle.chess_pgn.specs.laws.WordKinds.{word_kind}

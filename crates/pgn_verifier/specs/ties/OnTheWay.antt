@@ -8,8 +8,8 @@ use Rattle.pgn_verifier.specs.Explanations.{shown}
 use Rattle.pgn_verifier.specs.GameFaults.{fault_name}
 use Rattle.chess_game.specs.Results.{outcome_text}
 use Rattle.chess_game.specs.declared.results.Outcome.{Outcome}
-use Rattle.chess_pgn.specs.Terminations.{termination_text}
-use Rattle.chess_pgn.specs.declared.termination.Termination.{Termination}
+use Rattle.pgn_writer.specs.Terminations.{termination_text}
+use Rattle.pgn_writer.specs.declared.termination.Termination.{Termination}
 use Rattle.pgn_verifier.specs.declared.game_fault.FaultKind.TheVariants.{Pgn}
 use Rattle.byte_devices.specs.Devices.{InputState, OutputState, Took, Sent, CutShort}
 use Rattle.byte_devices.specs.Transfers.{Ran}

@@ -2,7 +2,7 @@
 use Rattle.std.proofs.Common.{Ok, Err, inl, inr, refl}
 use Rattle.chess_cecp.specs.Held.{opened_session}
 use Rattle.chess_cecp.specs.Session.{session_response}
-use Rattle.chess_pgn.specs.Tags.{default_tags}
+use Rattle.pgn_writer.specs.Tags.{default_tags}
 use Rattle.chess_game.specs.declared.game.TheConstants.{MOST_MOVES}
 use Rattle.chess_arbiter.proofs.Serving.{failed_status, server_ran}
 use Rattle.chess_arbiter.proofs.program.session.Goals as goal

@@ -1,7 +1,7 @@
 -- What follows the gap of the rest follows the gap of the text, since the definition too skips a `%` line
 -- and white space (Skipped.gap_line_more, gap_blank_more).
 use Rattle.std.proofs.Common.{sym, ap, ◌∙◌, false}
-use Rattle.chess_pgn.specs.ties.Gaps.{gap_left}
+use Rattle.chess_pgn.specs.shared.Gaps.{gap_left}
 use Rattle.chess_pgn.proofs.Gaps.{gap_same}
 use Rattle.chess_pgn.proofs.Skipped.{gap_line_more, gap_blank_more}
 use Rattle.chess_pgn.proofs.skips.after_gap.Goals as goal

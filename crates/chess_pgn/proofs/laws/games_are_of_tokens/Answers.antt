@@ -1,5 +1,0 @@
-use Rattle.chess_pgn.proofs.OfTokens.{game_of_tokens}
-use Rattle.chess_pgn.proofs.laws.games_are_of_tokens.Goals as goal
-
-pub returns : goal.returns
-returns c = game_of_tokens

@@ -1,0 +1,12 @@
+mod FullLines
+mod LastTexts
+mod NormalGames
+mod OfTokens
+mod PgnFen
+mod PgnMoves
+mod PgnPieces
+mod PgnTags
+mod PgnWhole
+mod TagTexts
+mod WorkedOut
+mod WrittenWords

@@ -1,0 +1,47 @@
+-- On starts of normal chess, and in texts that name no variant, games are written and read as in normal chess.
+use Rattle.std.proofs.Common.{◌≡◌, ℕ, cond, List, ◌++◌, length, drop, Option, None, Ok, refl, ap, ◌∙◌}
+use Rattle.std.specs.Prelude.{codes, slice_get}
+use Rattle.std.specs.List.{filter_map, list_all}
+use Rattle.std.specs.Option.{option_map_or}
+use Rattle.std.specs.Result.{result_err}
+use Rattle.chess_base.specs.declared.man.Variant.{Variant}
+use Rattle.chess_base.specs.declared.man.Variant.TheVariants.{Normal}
+use Rattle.chess_base.specs.declared.setup.Setup.{Setup}
+use Rattle.chess_base.specs.Initial.{initial_setup, initial_setup_of}
+use Rattle.chess_game.specs.Game.{from_start, outcome_now}
+use Rattle.chess_pgn.specs.GameRead.{GameRead, failed, last_start, variant_named, read_after_tags, pgn_read}
+use Rattle.pgn_writer.specs.shared.TagGroups.{roster_lines, start_lines_in, last_lines}
+use Rattle.chess_pgn.specs.LastTags.{says_nothing, tag_section, last_tag}
+use Rattle.chess_pgn_laws.specs.laws.Normal.{normal_read, NormalIsKept}
+use Rattle.pgn_writer.specs.Terminations.{termination_of}
+use Rattle.chess_pgn.proofs.shared.Games.{fens}
+use Rattle.chess_pgn.specs.Tokens.{Token, after_byte_order_mark, tokens_from}
+
+initial_is : initial_setup_of Normal ≡ initial_setup
+unfolding initial_setup
+initial_is = refl
+
+read_so : (limit : ℕ) (text : List ℕ) (at : ℕ)
+    → last_tag (codes "Variant") (tag_section (tokens_from text (after_byte_order_mark text at))) ≡ None
+    → pgn_read limit text at ≡ normal_read limit (length text) (tokens_from text (after_byte_order_mark text at))
+unfolding pgn_read
+read_so limit text at none =
+    let tokens : List (ℕ × Token) = tokens_from text (after_byte_order_mark text at) in
+    let tags : List (ℕ × Token) = tag_section tokens in
+    let read : Variant → Setup → GameRead = λ v p.
+    cond (list_all (λ (t : ℕ × Token). says_nothing t.1) tokens)
+    (record { state = from_start (last_start p (fens (length text) v tags)); answer = Ok None })
+    (option_map_or (failed (from_start (last_start p (fens (length text) v tags))))
+    (slice_get (filter_map result_err (fens (length text) v tags)) 0)
+    (read_after_tags limit (length text) (from_start (last_start p (fens (length text) v tags))) tags
+    (drop (length tags) tokens))) in
+    ap (λ v. read v (initial_setup_of v))
+    (ap (λ (tag : Option (List ℕ × ℕ)). option_map_or (λ (t : List ℕ × ℕ). variant_named t.0) tag Normal) none)
+    ∙ ap (read Normal) initial_is
+
+pub normal_kept : NormalIsKept
+normal_kept = record {
+  written = λ t s is. ap (λ v. roster_lines t (outcome_now s)
+      ++ (start_lines_in v s.start ++ last_lines v (termination_of t.ended (outcome_now s)))) is;
+  read = read_so;
+}

@@ -1,0 +1,116 @@
+-- Small texts worked out: how they are split, read and laid out.
+use Rattle.std.proofs.Common.{◌≡◌, ℕ, true, cond, List, [], ◌∷◌, ◌++◌, length, Option, None, refl, sym, ap, ◌∙◌, append_assoc, arith}
+use Rattle.std.specs.Prelude.{codes, is_some, nat_lt}
+use Rattle.std.proofs.lemmas.List.{length-append}
+use Rattle.std.proofs.lemmas.List.Concat.{flat_map-append}
+use Rattle.chess_base.specs.declared.man.Move.{Move}
+use Rattle.chess_base.specs.declared.man.Variant.TheVariants.{Normal}
+use Rattle.chess_base.specs.Initial.{initial_setup_of}
+use Rattle.chess_game.specs.declared.verdicts.Verdict.{Verdict}
+use Rattle.chess_game.specs.Game.{State, from_start, played, current, verdict_now}
+use Rattle.chess_game.specs.declared.results.Outcome.TheVariants.{Unfinished}
+use Rattle.chess_text.specs.declared.reading.Reading.{Reading}
+use Rattle.chess_text.specs.declared.reading.Reading.TheVariants as reads
+use Rattle.chess_text.specs.Moves.{reading}
+use Rattle.chess_pgn.specs.declared.read.PgnFaultKind.TheVariants.{AfterEnd, TooLong}
+use Rattle.pgn_writer.specs.declared.tags.Tags.{Tags}
+use Rattle.chess_pgn.specs.GameRead.{GameRead, Row, Goes_on, Fails, move_row, after_row, moves_read, read_of_split}
+use Rattle.chess_pgn.specs.GameRead.{IsRead}
+use Rattle.pgn_writer.specs.GameText.{tag_lines, game_tokens}
+use Rattle.chess_pgn.specs.Tokens.{Token, Skip, Tag, Word, after_byte_order_mark, token_at, tokens_of, tokens_from}
+use Rattle.pgn_writer.specs.Written.{ended}
+use Rattle.chess_pgn_laws.specs.laws.Examples.{finished, TextsAreSplit, TextsAreRead, TextsAreLaidOut}
+use Rattle.pgn_writer.specs.PgnText.{IsPgn}
+use Rattle.chess_pgn_laws.proofs.FullLines.{full_cons, grouped_full}
+use Rattle.chess_pgn.proofs.shared.Tokens.{read_split}
+
+pub texts_are_split : TextsAreSplit
+unfolding token_at tokens_of tokens_from
+texts_are_split = record {
+  tokens = read_split (codes "[A \"b\"] e4{!}(d4)*") 0;
+  lines = read_split (codes "%a\n%b") 0;
+  string = read_split (codes "[A\"\\\"\" ]") 0;
+  no_string = read_split (codes "[A b]") 0;
+  no_end = read_split (codes "(a(b)") 0;
+  no_comment_end = read_split (codes "(a(b{c") 0;
+}
+
+-- ---- read
+
+-- a word that denotes one move is played where the game is neither over nor full
+move_plays : (limit : ℕ) (s : State) (left : ℕ) (m : Move) (r : Reading) → r ≡ reads.Move m → verdict_now s ≡ None
+    → nat_lt (length s.moves) limit ≡ true → move_row limit s left r ≡ Goes_on (played s m)
+move_plays limit s left m r is open_yet room =
+    ap (move_row limit s left) is
+    ∙ ap (λ (o : Option Verdict). cond (is_some o) (Fails AfterEnd left)
+    (cond (nat_lt (length s.moves) limit) (Goes_on (played s m)) (Fails TooLong left))) open_yet
+    ∙ ap (λ t. cond t (Goes_on (played s m)) (Fails TooLong left)) room
+
+abbrev start : State
+start = from_start (initial_setup_of Normal)
+
+abbrev text : List ℕ
+text = codes "[Event \"a\"]\n1. e4 *"
+
+abbrev tokens : List (ℕ × Token)
+tokens = (19, Tag (codes "Event") (codes "a") 11) ∷ (8, Skip) ∷ (7, Word (codes "1")) ∷ (6, Skip) ∷ (5, Skip)
+    ∷ (4, Word (codes "e4")) ∷ (2, Skip) ∷ (1, Word (codes "*")) ∷ []
+
+game_is_read : (m : Move) → verdict_now (from_start (initial_setup_of Normal)) ≡ None
+    → reading (current (from_start (initial_setup_of Normal))) (codes "e4") ≡ reads.Move m
+    → IsRead 1 text 0 (finished (played (from_start (initial_setup_of Normal)) m) Unfinished None 19)
+unfolding token_at tokens_of tokens_from
+game_is_read m over says = record {
+  tokens = tokens;
+  split = read_split text 0;
+  is = sym (ap (λ (r : Row). after_row 19 None start 4 r
+      (λ next. moves_read 1 19 None next ((2, Skip) ∷ (1, Word (codes "*")) ∷ [])))
+      (move_plays 1 start 4 m (reading (current start) (codes "e4")) says over refl));
+}
+
+-- a text is read as its tokens say
+read_so : (at_text : List ℕ) (r : GameRead)
+    → r ≡ read_of_split 1 (length at_text) (tokens_from at_text (after_byte_order_mark at_text 0))
+    → IsRead 1 at_text 0 r
+read_so at_text r is = record {
+  tokens = tokens_from at_text (after_byte_order_mark at_text 0);
+  split = read_split at_text (after_byte_order_mark at_text 0);
+  is = is;
+}
+
+pub texts_are_read : TextsAreRead
+unfolding token_at tokens_of tokens_from
+texts_are_read = record {
+  game = game_is_read;
+  no_game = read_so (codes " {a}") _ refl;
+  no_result = read_so (codes "[A \"b\"]") _ refl;
+  bad_tag = read_so (codes "[A \"b\"][A b]") _ refl;
+  bad_fen = read_so (codes "[FEN \"x\"] *") _ refl;
+}
+
+-- ---- laid out
+
+lines_laid_out : (tags : List (List ℕ)) → ended (codes "# ") tags ++ codes "# \n# 1. e4 *\n# \n"
+    ≡ ended (codes "# ") (tags ++ [] ∷ codes "1. e4 *" ∷ [] ++ [] ∷ [])
+lines_laid_out tags =
+    sym (flat_map-append (λ (line : List ℕ). codes "# " ++ line ++ 10 ∷ []) (tags ++ [] ∷ codes "1. e4 *" ∷ [])
+    ([] ∷ [])
+    ∙ ap (λ xs. xs ++ codes "# \n")
+    (flat_map-append (λ (line : List ℕ). codes "# " ++ line ++ 10 ∷ []) tags ([] ∷ codes "1. e4 *" ∷ []))
+    ∙ append_assoc (ended (codes "# ") tags) (codes "# \n# 1. e4 *\n") (codes "# \n"))
+
+game_is_laid_out : (t : Tags) (s : State) → game_tokens s ≡ codes "1." ∷ codes "e4" ∷ codes "*" ∷ []
+    → IsPgn (codes "# ") t s (ended (codes "# ") (tag_lines t s) ++ codes "# \n# 1. e4 *\n# \n")
+game_is_laid_out t s is = record {
+  lines = (codes "1." ∷ codes "e4" ∷ codes "*" ∷ []) ∷ [];
+  full = grouped_full (codes "1.") (codes "e4" ∷ codes "*" ∷ []) [] (omega arith) tt;
+  all = sym is;
+  is = lines_laid_out (tag_lines t s);
+}
+
+pub texts_are_laid_out : TextsAreLaidOut
+texts_are_laid_out = record {
+  game = game_is_laid_out;
+  lines = λ a b first next. full_cons (a ∷ []) b [] (omega arith) (omega (arith, first))
+      (omega (arith, first, next, length-append a (32 ∷ b))) (grouped_full b [] [] (omega (arith, next)) tt);
+}

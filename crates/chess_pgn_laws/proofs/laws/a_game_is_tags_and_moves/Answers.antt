@@ -1,0 +1,24 @@
+use Rattle.std.proofs.Common.{ℕ, List, refl}
+use Rattle.chess_pgn.specs.GameRead.{IsRead, pgn_read}
+use Rattle.chess_pgn.specs.Tokens.{after_byte_order_mark, tokens_from}
+use Rattle.chess_pgn.proofs.shared.Games.{only_read, reads_alike}
+use Rattle.chess_pgn.proofs.shared.Tokens.{read_split}
+use Rattle.chess_pgn_laws.proofs.laws.a_game_is_tags_and_moves.Goals as goal
+
+-- what is read is what the only split of the text says
+is_read : (limit : ℕ) (text : List ℕ) (at : ℕ) → IsRead limit text at (pgn_read limit text at)
+unfolding pgn_read
+is_read limit text at = record {
+  tokens = tokens_from text (after_byte_order_mark text at);
+  split = read_split text (after_byte_order_mark text at);
+  is = refl;
+}
+
+pub returns-clause-read : goal.returns-clause-read
+returns-clause-read c = is_read
+
+pub returns-clause-no_other : goal.returns-clause-no_other
+returns-clause-no_other c = only_read
+
+pub returns-clause-token_by_token : goal.returns-clause-token_by_token
+returns-clause-token_by_token c = reads_alike

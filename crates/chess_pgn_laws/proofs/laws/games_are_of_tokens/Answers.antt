@@ -1,0 +1,5 @@
+use Rattle.chess_pgn_laws.proofs.OfTokens.{game_of_tokens}
+use Rattle.chess_pgn_laws.proofs.laws.games_are_of_tokens.Goals as goal
+
+pub returns : goal.returns
+returns c = game_of_tokens

@@ -1,0 +1,8 @@
+use Rattle.chess_pgn_laws.proofs.FullLines.{are_filled, only_filled}
+use Rattle.chess_pgn_laws.proofs.laws.lines_are_filled.Goals as goal
+
+pub returns-clause-filled : goal.returns-clause-filled
+returns-clause-filled c = are_filled
+
+pub returns-clause-no_other : goal.returns-clause-no_other
+returns-clause-no_other c = only_filled

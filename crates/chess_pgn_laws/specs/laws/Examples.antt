@@ -1,0 +1,76 @@
+-- Small texts by which the law `texts_are_worked_out` shows what the definitions of a split, of a game that is read and
+-- of a game's text mean.
+use Rattle.std.specs.Prelude.{◌≡◌, ℕ, List, [], ◌∷◌, ◌++◌, length, codes, Option, Some, None, Ok, is_some}
+use Rattle.chess_base.specs.declared.fen_fault.FenFault.TheVariants.{Fields}
+use Rattle.chess_base.specs.declared.man.Move.{Move}
+use Rattle.chess_base.specs.declared.man.Variant.TheVariants.{Normal}
+use Rattle.chess_base.specs.Initial.{initial_setup_of}
+use Rattle.chess_game.specs.Game.{State, from_start, played, current, verdict_now}
+use Rattle.chess_game.specs.declared.results.Outcome.{Outcome}
+use Rattle.chess_game.specs.declared.results.Outcome.TheVariants.{Unfinished}
+use Rattle.pgn_writer.specs.declared.termination.Termination.{Termination}
+use Rattle.chess_text.specs.declared.reading.Reading.TheVariants as reads
+use Rattle.chess_text.specs.Moves.{reading}
+use Rattle.chess_pgn.specs.declared.read.PgnFaultKind.TheVariants.{BadTag, BadFen, NoResult}
+use Rattle.pgn_writer.specs.declared.tags.Tags.{Tags}
+use Rattle.pgn_writer.specs.GameText.{tag_lines, game_tokens}
+use Rattle.chess_pgn.specs.Tokens.{Skip, Tag, Word, Bad_tag, Unclosed_comment, Unclosed_variation}
+use Rattle.pgn_writer.specs.Written.{ended}
+use Rattle.pgn_writer.specs.PgnText.{AreFullLines, IsPgn}
+use Rattle.chess_pgn.specs.Split.{IsSplit}
+use Rattle.chess_pgn.specs.GameRead.{GameRead, declared_after, failed}
+use Rattle.chess_pgn.specs.GameRead.{IsRead}
+
+-- what is read if the game `s` was read and then the termination marker of this outcome. `offset` is that of the byte
+-- after the marker
+abbrev pub finished : State → Outcome → Option Termination → ℕ → GameRead
+finished s o termination offset = record {
+  state = record s { declared = declared_after (is_some (verdict_now s)) o };
+  answer = Ok (Some (record { outcome = o; termination = termination; offset = offset }));
+}
+
+-- texts are split so
+pub record TextsAreSplit : Type 0 where
+  -- a tag, a blank, a word, a comment, a variation and an outcome, each after how many bytes are left where it begins;
+  -- 14 are left at the tag's string
+  pub tokens : IsSplit (codes "[A \"b\"] e4{!}(d4)*") 0
+      ((18, Tag (codes "A") (codes "b") 14) ∷ (11, Skip) ∷ (10, Word (codes "e4")) ∷ (8, Skip) ∷ (5, Skip)
+      ∷ (1, Word (codes "*")) ∷ [])
+  -- a line is skipped from `%` only at its front
+  pub lines : IsSplit (codes "%a\n%b") 0 ((5, Skip) ∷ (3, Skip) ∷ (2, Skip) ∷ [])
+  -- a string may hold a quote after a backslash, and a gap may come before the bracket
+  pub string : IsSplit (codes "[A\"\\\"\" ]") 0 ((8, Tag (codes "A") (codes "\\\"") 5) ∷ [])
+  -- a tag without quotes
+  pub no_string : IsSplit (codes "[A b]") 0 ((5, Bad_tag) ∷ [])
+  -- a variation that isn't closed
+  pub no_end : IsSplit (codes "(a(b)") 0 ((5, Unclosed_variation) ∷ [])
+  -- one in which a comment isn't closed, with 2 bytes left at its brace
+  pub no_comment_end : IsSplit (codes "(a(b{c") 0 ((6, Unclosed_comment 2) ∷ [])
+
+-- texts are read so, in games of at most one half-move
+pub record TextsAreRead : Type 0 where
+  -- one move, where the initial position has no verdict and `e4` denotes the move m in it
+  pub game : (m : Move) → verdict_now (from_start (initial_setup_of Normal)) ≡ None
+      → reading (current (from_start (initial_setup_of Normal))) (codes "e4") ≡ reads.Move m
+      → IsRead 1 (codes "[Event \"a\"]\n1. e4 *") 0
+      (finished (played (from_start (initial_setup_of Normal)) m) Unfinished None 19)
+  -- only what is skipped: no game
+  pub no_game : IsRead 1 (codes " {a}") 0
+      (record { state = from_start (initial_setup_of Normal); answer = Ok None })
+  -- a tag, and then nothing
+  pub no_result : IsRead 1 (codes "[A \"b\"]") 0
+      (failed (from_start (initial_setup_of Normal)) (record { kind = NoResult; offset = 7 }))
+  -- a tag that can't be read, after one that can
+  pub bad_tag : IsRead 1 (codes "[A \"b\"][A b]") 0
+      (failed (from_start (initial_setup_of Normal)) (record { kind = BadTag; offset = 7 }))
+  -- a FEN of one field: the fault is at the first byte of its text
+  pub bad_fen : IsRead 1 (codes "[FEN \"x\"] *") 0
+      (failed (from_start (initial_setup_of Normal)) (record { kind = BadFen Fields; offset = 6 }))
+
+-- texts are laid out so
+pub record TextsAreLaidOut : Type 0 where
+  -- a game of one move, with `# ` before each line
+  pub game : (t : Tags) (s : State) → game_tokens s ≡ codes "1." ∷ codes "e4" ∷ codes "*" ∷ []
+      → IsPgn (codes "# ") t s (ended (codes "# ") (tag_lines t s) ++ codes "# \n# 1. e4 *\n# \n")
+  -- tokens of 40 and 39 characters need two lines, since one would have 80
+  pub lines : (a b : List ℕ) → length a ≡ 40 → length b ≡ 39 → AreFullLines ((a ∷ []) ∷ (b ∷ []) ∷ [])

@@ -1,0 +1,51 @@
+-- The definitions that Chess960 widened, as they are for normal chess alone.
+use Rattle.std.specs.Prelude.{◌≡◌, ℕ, ◌-◌, not, List, [], ◌∷◌, ◌++◌, length, drop, map, slice_get, Ok, None, codes, if◌then◌else◌}
+use Rattle.std.specs.List.{filter_map, list_all}
+use Rattle.std.specs.Option.{option_map_or}
+use Rattle.std.specs.Result.{result_err, result_map_both}
+use Rattle.chess_base.specs.declared.man.Variant.TheVariants.{Normal}
+use Rattle.chess_base.specs.Initial.{initial_setup}
+use Rattle.chess_base.specs.Options.{list_if}
+use Rattle.chess_fen.specs.Reading.{fen_reading}
+use Rattle.chess_fen.specs.Writing.{fen, is_initial}
+use Rattle.chess_game.specs.Game.{State, from_start, outcome_now}
+use Rattle.chess_game.specs.Results.{outcome_text}
+use Rattle.pgn_writer.specs.declared.tags.Tags.{Tags}
+use Rattle.chess_pgn.specs.declared.read.PgnFaultKind.TheVariants.{BadFen}
+use Rattle.chess_pgn.specs.GameRead.{GameRead, failed, last_start, read_after_tags, pgn_read}
+use Rattle.pgn_writer.specs.GameText.{tag_lines}
+use Rattle.chess_pgn.specs.LastTags.{says_nothing, tag_section, tags_named, last_tag}
+use Rattle.pgn_writer.specs.Terminations.{termination_text, termination_of}
+use Rattle.chess_pgn.specs.Tokens.{Token, after_byte_order_mark, tokens_from}
+use Rattle.pgn_writer.specs.Written.{tag_line}
+
+-- the lines of the tags of the game `s`, for a game of normal chess: no tag Variant
+abbrev pub normal_tag_lines : Tags → State → List (List ℕ)
+normal_tag_lines t s =
+    tag_line (codes "Event") t.event ∷ tag_line (codes "Site") t.site ∷ tag_line (codes "Date") t.date
+    ∷ tag_line (codes "Round") t.round ∷ tag_line (codes "White") t.white ∷ tag_line (codes "Black") t.black
+    ∷ tag_line (codes "Result") (outcome_text (outcome_now s))
+    ∷ list_if (not (is_initial s.start))
+    (tag_line (codes "FEN") (fen s.start) ∷ tag_line (codes "SetUp") (codes "1") ∷ [])
+    ++ tag_line (codes "Termination") (termination_text (termination_of t.ended (outcome_now s))) ∷ []
+
+-- what is read of these tokens, in a text of `total` bytes, if there were no Chess960: FEN is read as one of normal
+-- chess, and without it the game begins at the initial position. `limit` is the most half-moves of a game
+abbrev pub normal_read : ℕ → ℕ → List (ℕ × Token) → GameRead
+normal_read limit total tokens =
+    let tags = tag_section tokens in
+    let fens = map (λ tag. result_map_both (λ start. start)
+    (λ fault. record { kind = BadFen fault; offset = total - tag.1 }) (fen_reading tag.0))
+    (tags_named (codes "FEN") tags) in
+    let s = from_start (last_start initial_setup fens) in
+    if list_all (λ t. says_nothing t.1) tokens then record { state = s; answer = Ok None }
+    else option_map_or (failed s) (slice_get (filter_map result_err fens) 0)
+    (read_after_tags limit total s tags (drop (length tags) tokens))
+
+-- a game of normal chess is written, and a text with no tag Variant among the game's own tags is read, as if there were
+-- no Chess960
+pub record NormalIsKept : Type 0 where
+  pub written : (t : Tags) (s : State) → s.start.variant ≡ Normal → tag_lines t s ≡ normal_tag_lines t s
+  pub read : (limit : ℕ) (text : List ℕ) (at : ℕ)
+      → last_tag (codes "Variant") (tag_section (tokens_from text (after_byte_order_mark text at))) ≡ None
+      → pgn_read limit text at ≡ normal_read limit (length text) (tokens_from text (after_byte_order_mark text at))

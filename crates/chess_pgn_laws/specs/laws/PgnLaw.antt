@@ -1,0 +1,51 @@
+-- The law of games' texts: what is written is read back.
+use Rattle.std.specs.Prelude.{◌≡◌, ℕ, ◌+◌, List, [], ◌++◌, length, Some, Ok, option_and_then}
+use Rattle.chess_game.specs.Game.{State, outcome_now, IsPlayable}
+use Rattle.pgn_writer.specs.declared.tags.Tags.{Tags}
+use Rattle.pgn_writer.specs.declared.termination.Termination.{Termination}
+use Rattle.pgn_writer.specs.Terminations.{termination_of}
+use Rattle.chess_pgn.specs.GameRead.{GameRead, pgn_read}
+use Rattle.pgn_writer.specs.GameText.{pgn}
+use Rattle.chess_pgn.specs.LastTags.{result_tag_of}
+use Rattle.chess_pgn.specs.Split.{IsSplit}
+use Rattle.chess_pgn.specs.Tokens.{Token, after_byte_order_mark}
+use Rattle.chess_game.specs.Results.{IsTagText}
+
+-- the text of each tag is at most 60 bytes of printable ASCII
+pub record AreTagTexts (t : Tags) : Type 0 where
+  pub event : IsTagText t.event
+  pub site : IsTagText t.site
+  pub date : IsTagText t.date
+  pub round : IsTagText t.round
+  pub white : IsTagText t.white
+  pub black : IsTagText t.black
+
+-- reading the written text of the game `s` gave its start, moves and outcome and this termination. `text_end` is the
+-- offset after its text; the game ends two bytes before (after its outcome come the ends of its last line and of an
+-- empty one)
+pub record IsReadBack (s : State) (termination : Termination) (text_end : ℕ) (r : GameRead) : Type 0 where
+  pub start : r.state.start ≡ s.start
+  pub moves : r.state.moves ≡ s.moves
+  pub outcome : outcome_now r.state ≡ outcome_now s
+  pub offset : ℕ
+  pub answer : r.answer ≡ Ok
+      (Some (record { outcome = outcome_now s; termination = Some termination; offset = offset }))
+  pub two_before_end : offset + 2 ≡ text_end
+
+-- the text that is written of a playable game `s` of at most `limit` half-moves, with no line prefix, is read back as
+-- that game, whatever text comes before and after it
+abbrev pub PgnIsReadBack : Type 0
+PgnIsReadBack =
+    (limit : ℕ) → (tags : Tags) → (s : State) → (before after : List ℕ) → AreTagTexts tags
+    → IsPlayable (record { limit = limit; state = s })
+    → IsReadBack s (termination_of tags.ended (outcome_now s)) (length (before ++ pgn [] tags s))
+    (pgn_read limit (before ++ pgn [] tags s ++ after) (length before))
+
+-- the last tag Result of a playable game's text, as it is written, names the game's outcome, whatever text comes before
+-- and after it
+abbrev pub ResultIsWritten : Type 0
+ResultIsWritten =
+    (limit : ℕ) → (tags : Tags) → (s : State) → (before after : List ℕ) → AreTagTexts tags
+    → IsPlayable (record { limit = limit; state = s }) → let text = before ++ pgn [] tags s ++ after in
+    (tokens : List (ℕ × Token)) → IsSplit text (after_byte_order_mark text (length before)) tokens
+    → option_and_then (λ tag. tag.outcome) (result_tag_of (length text) tokens) ≡ Some (outcome_now s)

@@ -1,0 +1,100 @@
+//! Laws of the definitions, each the contract of a function that does nothing.
+
+ghost use Rattle.std.specs.Prelude.{◌≡◌, List, length, ℕ};
+ghost use Rattle.chess_game.specs.Game.{State, IsPlayable};
+ghost use Rattle.pgn_writer.specs.declared.tags.Tags.{Tags};
+ghost use Rattle.chess_pgn.specs.GameRead.{GameRead, pgn_read};
+ghost use Rattle.chess_pgn.specs.GameRead.{IsRead};
+ghost use Rattle.chess_pgn.specs.laws.TokenByToken.{tokens_read};
+ghost use Rattle.pgn_writer.specs.GameText.{pgn};
+ghost use Rattle.pgn_writer.specs.Written.{lines_of};
+ghost use Rattle.chess_pgn.specs.Tokens.{Token, after_byte_order_mark, tokens_from};
+ghost use Rattle.chess_pgn_laws.specs.laws.Examples.{TextsAreLaidOut, TextsAreRead, TextsAreSplit};
+ghost use Rattle.chess_pgn_laws.specs.laws.GameOfTokens.{GamesAreOfTokens};
+ghost use Rattle.pgn_writer.specs.laws.Layout.{AreFilled, AreShort};
+ghost use Rattle.chess_pgn_laws.specs.laws.Normal.{NormalIsKept};
+ghost use Rattle.chess_pgn_laws.specs.laws.PgnLaw.{PgnIsReadBack, ResultIsWritten};
+ghost use Rattle.pgn_writer.specs.PgnText.{IsPgn};
+ghost use Rattle.chess_pgn.specs.Split.{IsSplit};
+
+use chess_base::{Position, Variant, after_is_sound};
+use chess_fen::written_is_denoted;
+
+/// States a law and does nothing: if a game is written without a prefix, and its text is read where it begins, the
+/// start, the moves, the outcome and the termination that are read are the written ones, whatever text comes before and
+/// after it. The offset returned is right after the outcome. The law is about readers that allow as many half-moves as
+/// the game has.
+///
+/// A result that was declared is read without its comment, since the text doesn't contain the comment. Tags such as
+/// `White` are not kept. The last tag `Result` of the text names the game's outcome (`result`).
+pub fn pgn_is_read_back()
+    ensures read { PgnIsReadBack }
+    ensures result { ResultIsWritten }
+{
+    // The prover wants these laws: each position of a game is sound, and a FEN that was written is read back.
+    after_is_sound();
+    written_is_denoted();
+    // The prover wants this fact: the initial position of normal chess is sound.
+    let initial = Position::initial_of(Variant::Normal);
+    let _sound = initial.setup();
+}
+
+/// States a law and does nothing: the support for Chess960 changes nothing for normal chess. Definitions without
+/// Chess960 give the same for the tags that are written of a game of normal chess, and for what is read of a text whose
+/// game has no tag `Variant`.
+pub fn normal_is_kept()
+    ensures { NormalIsKept }
+{}
+
+/// States a law and does nothing: from each offset on, a text can be split into tokens in exactly one way, which is
+/// `tokens_from`. A split (`IsSplit`) takes the tokens from left to right, each the longest at its place. It ends at
+/// the text's end, or with a fault at the first offset where no token can be read.
+pub fn a_text_has_one_split()
+    ensures read { (text : List ℕ) → (at : ℕ) → IsSplit text at (tokens_from text at) }
+    ensures no_other { (text : List ℕ) → (at : ℕ) → (tokens : List (ℕ × Token)) → IsSplit text at tokens
+        → tokens ≡ tokens_from text at }
+{}
+
+/// States a law and does nothing: three definitions of what is read of a text agree. `IsRead` takes any split of the
+/// text into tokens, first its tags and then its moves; `pgn_read` is the only result of which `IsRead` holds; and
+/// `tokens_read` takes the tokens one after another, with a step for each.
+pub fn a_game_is_tags_and_moves()
+    ensures read { (limit : ℕ) → (text : List ℕ) → (at : ℕ) → IsRead limit text at (pgn_read limit text at) }
+    ensures no_other { (limit : ℕ) → (text : List ℕ) → (at : ℕ) → (r : GameRead) → IsRead limit text at r
+        → r ≡ pgn_read limit text at }
+    ensures token_by_token { (limit : ℕ) → (text : List ℕ) → (at : ℕ) → pgn_read limit text at
+        ≡ tokens_read limit (length text) (tokens_from text (after_byte_order_mark text at)) }
+{}
+
+/// States a law and does nothing: a game that is read is made of the first tokens of its text. It begins from the
+/// position of their last tag `FEN`, or from the initial position if they have none. Its moves are those that their
+/// words denote, each in the position after the moves before it. Reading stops at the text's end or at the next token:
+/// an outcome, or one that can't be taken, such as an illegal move. The end or the fault returned is the one there.
+pub fn games_are_of_tokens()
+    ensures { GamesAreOfTokens }
+{}
+
+/// States a law and does nothing: tokens of 1 to 79 bytes are put into lines (`lines_of`) that are as full as they can
+/// be. A line has at most 79 bytes, and with a space and the first token of the next line it would have more. There are
+/// no other lines of these tokens, in this order, of which that is true.
+pub fn lines_are_filled()
+    ensures filled { (tokens : List (List ℕ)) → AreShort tokens → AreFilled tokens (lines_of tokens) }
+    ensures no_other { (tokens texts : List (List ℕ)) → AreFilled tokens texts → texts ≡ lines_of tokens }
+{}
+
+/// States a law and does nothing: the text that is written of a game has its tags, an empty line, its moves in lines as
+/// full as they can be, and an empty line. No other text has this form (`IsPgn`). `IsPlayable` holds of every game.
+pub fn games_are_laid_out()
+    ensures written { (prefix : List ℕ) → (t : Tags) → (limit : ℕ) → (s : State)
+        → IsPlayable (record { limit = limit; state = s }) → IsPgn prefix t s (pgn prefix t s) }
+    ensures no_other { (prefix : List ℕ) → (t : Tags) → (s : State) → (text : List ℕ) → IsPgn prefix t s text
+        → text ≡ pgn prefix t s }
+{}
+
+/// States a law and does nothing: small examples of how the definitions split texts into tokens, what they read of
+/// them, and how they lay out games.
+pub fn texts_are_worked_out()
+    ensures split { TextsAreSplit }
+    ensures read { TextsAreRead }
+    ensures laid_out { TextsAreLaidOut }
+{}

@@ -1,0 +1,14 @@
+-- The text that is written of a game is laid out as said, and no other text is.
+use Rattle.std.proofs.Common.{◌≡◌, ℕ, List, [], ◌∷◌, ◌++◌, ap, ◌∙◌}
+use Rattle.chess_game.specs.Game.{State}
+use Rattle.pgn_writer.specs.declared.tags.Tags.{Tags}
+use Rattle.pgn_writer.specs.GameText.{tag_lines, pgn}
+use Rattle.pgn_writer.specs.Written.{ended, lines_of}
+use Rattle.pgn_writer.specs.PgnText.{IsPgn}
+use Rattle.pgn_writer.proofs.FilledLines.{only_lines}
+
+pub only_written : (prefix : List ℕ) (t : Tags) (s : State) (text : List ℕ) → IsPgn prefix t s text
+    → text ≡ pgn prefix t s
+unfolding pgn
+only_written prefix t s text h =
+    h.is ∙ ap (λ xs. ended prefix (tag_lines t s ++ [] ∷ xs ++ [] ∷ [])) (only_lines h.lines h.full ∙ ap lines_of h.all)

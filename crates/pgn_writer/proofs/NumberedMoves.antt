@@ -1,0 +1,63 @@
+-- A game's tokens are those of its moves one after another, and its outcome.
+use Rattle.std.proofs.Common.{◌≡◌, ℕ, true, false, ◌&&◌, ◌==◌, List, [], ◌∷◌, ◌++◌, length, refl, sym, ap, ◌∙◌, append_assoc, arith}
+use Rattle.std.specs.Prelude.{codes, decimal, not}
+use Rattle.std.proofs.lemmas.Bool.Decides.{nat_tests}
+use Rattle.chess_base.specs.declared.man.Colour.{Colour}
+use Rattle.chess_base.specs.declared.man.Colour.TheVariants.{White, Black}
+use Rattle.chess_base.specs.declared.man.Move.{Move}
+use Rattle.chess_base.specs.declared.setup.Setup.{Setup}
+use Rattle.chess_base.specs.Men.{same_colour}
+use Rattle.chess_base.specs.Moves.{after}
+use Rattle.chess_base.specs.Options.{list_if}
+use Rattle.chess_game.specs.Game.{State, outcome_now}
+use Rattle.chess_game.specs.Results.{outcome_text}
+use Rattle.chess_text.specs.San.{san}
+use Rattle.pgn_writer.specs.GameText.{move_tokens, game_tokens}
+use Rattle.pgn_writer.specs.shared.NumberedMoves.{number_if_due, numbered_moves}
+
+later_number : (c : Colour) (n : ℕ)
+    → number_if_due c false n ≡ list_if (same_colour c White) ((decimal n ++ codes ".") ∷ [])
+later_number White n = refl
+later_number Black n = refl
+
+later_moves : (p : Setup) (ms : List Move) → numbered_moves false p ms ≡ move_tokens p ms
+later_moves p [] = refl
+later_moves p (m ∷ ms) =
+    append_assoc (number_if_due p.side false p.fullmove) (san p m ∷ []) (numbered_moves false (after p m) ms)
+    ∙ ap (λ number. number ++ san p m ∷ numbered_moves false (after p m) ms) (later_number p.side p.fullmove)
+    ∙ ap (λ tokens. list_if (same_colour p.side White) ((decimal p.fullmove ++ codes ".") ∷ []) ++ san p m ∷ tokens)
+    (later_moves (after p m) ms)
+
+-- the number before the first of these moves, from this position on, if Black makes it
+abbrev first_number : Setup → List Move → List (List ℕ)
+first_number p ms =
+    list_if (same_colour p.side Black && not (length ms == 0)) ((decimal p.fullmove ++ codes "...") ∷ [])
+
+all_moves : (p : Setup) (ms : List Move) → numbered_moves true p ms ≡ first_number p ms ++ move_tokens p ms
+all_moves p [] = by_colour p.side
+  where
+    by_colour : (c : Colour)
+        → [] ≡ list_if (same_colour c Black && false) ((decimal p.fullmove ++ codes "...") ∷ []) ++ []
+    by_colour White = refl
+    by_colour Black = refl
+all_moves p (m ∷ ms) =
+    by_colour p.side
+    ∙ ap (λ b. list_if (same_colour p.side Black && not b) ((decimal p.fullmove ++ codes "...") ∷ [])
+    ++ move_tokens p (m ∷ ms)) (sym some)
+  where
+    some : (length (m ∷ ms) == 0) ≡ false
+    some = grind (arith, nat_tests)
+
+    by_colour : (c : Colour) → (number_if_due c true p.fullmove ++ san p m ∷ []) ++ numbered_moves false (after p m) ms
+        ≡ list_if (same_colour c Black && true) ((decimal p.fullmove ++ codes "...") ∷ [])
+        ++ (list_if (same_colour c White) ((decimal p.fullmove ++ codes ".") ∷ []) ++ san p m
+        ∷ move_tokens (after p m) ms)
+    by_colour White = ap (λ tokens. (decimal p.fullmove ++ codes ".") ∷ san p m ∷ tokens) (later_moves (after p m) ms)
+    by_colour Black = ap (λ tokens. (decimal p.fullmove ++ codes "...") ∷ san p m ∷ tokens) (later_moves (after p m) ms)
+
+pub game_numbered : (s : State)
+    → game_tokens s ≡ numbered_moves true s.start s.moves ++ outcome_text (outcome_now s) ∷ []
+game_numbered s =
+    sym (ap (λ tokens. tokens ++ outcome_text (outcome_now s) ∷ []) (all_moves s.start s.moves)
+    ∙ append_assoc (first_number s.start s.moves) (move_tokens s.start s.moves)
+    (outcome_text (outcome_now s) ∷ []))

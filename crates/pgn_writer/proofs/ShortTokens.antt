@@ -1,0 +1,59 @@
+-- Each token of a game fits a line.
+use Rattle.std.proofs.Common.{◌≡◌, append_assoc, ℕ, ◌+◌, ◌≤◌, Bool, true, false, List, [], ◌∷◌, ◌++◌, length, arith}
+use Rattle.std.specs.Prelude.{codes, decimal}
+use Rattle.std.proofs.lemmas.Bool.{leb-true}
+use Rattle.std.proofs.lemmas.Fmt.{length-decimal-le}
+use Rattle.std.proofs.lemmas.List.{length-append}
+use Rattle.chess_base.specs.declared.man.Colour.{Colour}
+use Rattle.chess_base.specs.declared.man.Colour.TheVariants.{White, Black}
+use Rattle.chess_base.specs.declared.man.Move.{Move}
+use Rattle.chess_base.specs.declared.setup.Setup.{Setup}
+use Rattle.chess_base.specs.Moves.{after}
+use Rattle.chess_base.specs.Sound.{IsSound}
+use Rattle.chess_game.specs.Game.{Seen, outcome_now, IsPlayable}
+use Rattle.chess_game.specs.Line.{IsLine}
+use Rattle.chess_game.specs.Results.{outcome_text}
+use Rattle.chess_game.specs.declared.results.Outcome.{Outcome}
+use Rattle.chess_game.specs.declared.results.Outcome.TheVariants.{WhiteWins, BlackWins, Draw, Unfinished}
+use Rattle.pgn_writer.specs.GameText.{game_tokens}
+use Rattle.pgn_writer.specs.shared.NumberedMoves.{number_if_due, numbered_moves}
+use Rattle.chess_text.specs.San.{san}
+use Rattle.chess_base.proofs.shared.LegalMoves.{IsSound-after}
+use Rattle.chess_text.proofs.shared.San.{san_short}
+use Rattle.pgn_writer.specs.laws.Layout.{AreShort}
+use Rattle.pgn_writer.proofs.NumberedMoves.{game_numbered}
+
+short_outcome : (o : Outcome) → AreShort (outcome_text o ∷ [])
+short_outcome WhiteWins = ((omega arith, omega arith), tt)
+short_outcome BlackWins = ((omega arith, omega arith), tt)
+short_outcome Draw = ((omega arith, omega arith), tt)
+short_outcome Unfinished = ((omega arith, omega arith), tt)
+
+short_number : (c : Colour) (is_first : Bool) (n : ℕ) (ts : List (List ℕ)) → n ≤ 999999 → AreShort ts
+    → AreShort (number_if_due c is_first n ++ ts)
+short_number White is_first n ts h rest =
+    let digits : length (decimal n) ≤ 10 = length-decimal-le 10 n (omega arith) (omega (arith, h)) (omega arith) in
+    let all : length (decimal n ++ codes ".") ≡ length (decimal n) + 1 = length-append (decimal n) (codes ".") in
+    ((omega (arith, all), omega (arith, all, digits)), rest)
+short_number Black true n ts h rest =
+    let digits : length (decimal n) ≤ 10 = length-decimal-le 10 n (omega arith) (omega (arith, h)) (omega arith) in
+    let all : length (decimal n ++ codes "...") ≡ length (decimal n) + 3 = length-append (decimal n) (codes "...") in
+    ((omega (arith, all), omega (arith, all, digits)), rest)
+short_number Black false n ts h rest = rest
+
+short_moves : (is_first : Bool) (p : Setup) (ms : List Move) (ts : List (List ℕ)) → IsSound p → IsLine p ms
+    → AreShort ts → AreShort (numbered_moves is_first p ms ++ ts)
+short_moves is_first p [] ts sound line rest = rest
+short_moves is_first p (m ∷ ms) ts sound line rest =
+    let tail = short_moves false (after p m) ms ts (IsSound-after p m sound line.0) line.1 rest in
+    let short = san_short p m sound line.0 in
+    let tokens : numbered_moves is_first p (m ∷ ms) ++ ts ≡ number_if_due p.side is_first p.fullmove
+    ++ san p m ∷ (numbered_moves false (after p m) ms ++ ts) = simp append_assoc in
+    rw tokens (short_number p.side is_first p.fullmove _ (leb-true _ _ sound.fullmove_high)
+    ((omega (arith, short.0), omega (arith, short.1)), tail))
+
+pub game_is_short : (game : Seen) → IsPlayable game → AreShort (game_tokens game.state)
+game_is_short game playable =
+    let s = game.state in
+    rw (game_numbered s) (short_moves true s.start s.moves (outcome_text (outcome_now s) ∷ []) playable.start playable.line
+    (short_outcome (outcome_now s)))

@@ -1,0 +1,17 @@
+-- The tags after the seven are those of the start and then the last ones, so their lines come one after the other
+-- (GameTexts.further_put).
+use Rattle.pgn_writer.proofs.Added.{adds_exit}
+use Rattle.pgn_writer.proofs.GameTexts.{start_broke, further_put}
+use Rattle.pgn_writer.proofs.write.put_further.Goals as goal
+
+pub returns-in_err-put_start-clause-added : goal.returns-in_err-put_start-clause-added
+returns-in_err-put_start-clause-added g c =
+    adds_exit _ _ c.from_residual.result _ _ _
+    (start_broke _ _ _ c.args.lines.now.prefix.now c.args.start.now c.args.termination c.in_err-put_start.ensures.added)
+    c.from_residual.ensures.0
+
+pub returns-clause-added : goal.returns-clause-added
+returns-clause-added g c =
+    further_put _ _ _ c.put_last.result _ _ _ c.args.lines.now.prefix.now c.put_start.new.lines.prefix.now
+    c.args.start.now c.variant.result c.args.termination c.variant.ensures c.in_ok-put_start.ensures.prefix
+    c.in_ok-put_start.ensures.added c.put_last.ensures.added

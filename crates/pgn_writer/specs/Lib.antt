@@ -1,0 +1,9 @@
+pub mod Written
+pub mod Tags
+pub mod Terminations
+pub mod Outcomes
+pub mod GameText
+pub mod PgnText
+pub mod laws
+pub mod shared
+pub mod ties

@@ -1,0 +1,2 @@
+-- Definitions that only laws need.
+pub mod Layout

@@ -1,0 +1,5 @@
+-- Definitions for private contracts and proofs of this crate and of crates above: equal to those at the top of specs/,
+-- or parts of them.
+pub mod Lines
+pub mod NumberedMoves
+pub mod TagGroups
