@@ -19,6 +19,7 @@ use Rattle.chess_match.specs.Rules.{Rules}
 use Rattle.chess_match.specs.Table.{Step, Does, Notes, watched}
 use Rattle.chess_match.specs.declared.reason.Reason.{Reason}
 use Rattle.chess_match.proofs.shared.LineCases.{silence_cases}
+use Rattle.chess_match.proofs.shared.Reasons.{unwritten}
 use Rattle.chess_match.specs.ties.Driving.{Leads, giving, is_of_output, is_silence, steps_of}
 
 -- no write failed

@@ -16,7 +16,7 @@ use Rattle.chess_match.specs.Rules.{Rules}
 use Rattle.chess_match.specs.declared.reason.MatchFault.TheVariants.{Ended, Read, Write}
 use Rattle.chess_match.specs.declared.reason.Reason.TheVariants.{Faulted}
 use Rattle.chess_match_laws.specs.OfActs.{AtEachMoment, EndsAfterItsActs, InEachMatch, only_sends}
-use Rattle.chess_match.proofs.shared.LineCases.{line_cases, offering, said_by, silence_cases}
+use Rattle.chess_match.proofs.shared.LineCases.{line_cases, offered_used, offering, said_by, said_used, silence_cases}
 use Rattle.chess_match.proofs.shared.MatchCases.{both_not, by_acts, on_when_read}
 
 -- ---- who moves
