@@ -25,12 +25,11 @@ line_from : ReadMovesAreLegal → (start : Setup) (level : LevelSeen) (patience 
     → AreRead (rules_of start level patience limit) before ms mine theirs
     → IsLine (position_after start before) ms
 line_from legal start level patience limit before [] mine theirs h = tt
-line_from legal start level patience limit before (m ∷ ms) mine theirs (text, rest, e, denoted, more) =
-    (
-      legal (position_after start before) text m denoted,
-      subst (λ (p : Setup). IsLine p ms) (one_after start before m)
-          (line_from legal start level patience limit (before ++ m ∷ []) ms theirs rest more),
-    )
+line_from legal start level patience limit before (m ∷ ms) mine theirs (text, rest, e, denoted, more) = (
+  legal (position_after start before) text m denoted,
+  subst (λ (p : Setup). IsLine p ms) (one_after start before m)
+      (line_from legal start level patience limit (before ++ m ∷ []) ms theirs rest more),
+)
 
 pub games_are_lines : ReadMovesAreLegal → GamesAreLines
 games_are_lines legal start level patience limit H final is_match =

@@ -1,5 +1,5 @@
 -- Reasons that are failed writes.
-use Rattle.std.proofs.Common.{◌≡◌, true, Bool, sym, ap, ◌∙◌}
+use Rattle.std.proofs.Common.{◌≡◌, true, sym, ap, ◌∙◌}
 use Rattle.chess_base.specs.declared.man.Colour.{Colour}
 use Rattle.chess_base.proofs.shared.Men.{same_colour-self}
 use Rattle.chess_match.specs.Effects.{Over}
