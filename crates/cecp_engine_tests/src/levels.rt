@@ -14,12 +14,27 @@ const LEVELS: [(&str, &str); 12] = [
     ("1 12:5 0", "1 12:05 0: 725 s, 725000 ms and 0 s, 0 ms"),
     ("0 0:10 0.1", "0 0:10 0.1: 10 s, 10000 ms and 0 s, 100 ms"),
     ("0 0:08 0.08", "0 0:08 0.08: 8 s, 8000 ms and 0 s, 80 ms"),
-    ("0 1:30.5 0.25", "0 1:30.5 0.25: 90 s, 90500 ms and 0 s, 250 ms"),
-    ("0 0:0.025 1.005", "0 0:00.025 1.005: 0 s, 25 ms and 1 s, 1005 ms"),
-    ("0 0:8.500 00.100", "0 0:08.5 0.1: 8 s, 8500 ms and 0 s, 100 ms"),
+    (
+        "0 1:30.5 0.25",
+        "0 1:30.5 0.25: 90 s, 90500 ms and 0 s, 250 ms",
+    ),
+    (
+        "0 0:0.025 1.005",
+        "0 0:00.025 1.005: 0 s, 25 ms and 1 s, 1005 ms",
+    ),
+    (
+        "0 0:8.500 00.100",
+        "0 0:08.5 0.1: 8 s, 8500 ms and 0 s, 100 ms",
+    ),
     ("40 1:00.000 2.0", "40 1 2: 60 s, 60000 ms and 2 s, 2000 ms"),
-    ("0 2:00.001 0.110", "0 2:00.001 0.11: 120 s, 120001 ms and 0 s, 110 ms"),
-    ("0 999:59.999 999.999", "0 999:59.999 999.999: 59999 s, 59999999 ms and 999 s, 999999 ms"),
+    (
+        "0 2:00.001 0.110",
+        "0 2:00.001 0.11: 120 s, 120001 ms and 0 s, 110 ms",
+    ),
+    (
+        "0 999:59.999 999.999",
+        "0 999:59.999 999.999: 59999 s, 59999999 ms and 999 s, 999999 ms",
+    ),
     ("999 0 0", "999 0 0: 0 s, 0 ms and 0 s, 0 ms"),
 ];
 
@@ -89,7 +104,10 @@ fn the_first_fault_of_a_level_is_reported(rt: HostRuntime) {
 fn levels_have_milliseconds(rt: HostRuntime) -> Result<(), Fail> {
     let level: Level = "0 0:30 0.5".parse()?;
     let text = format!(in rt.alloc();
-        "{level}: {} seconds and {} ms per move", level.base(), level.increment_milliseconds())?;
+        "{level}: {} seconds and {} ms per move",
+        level.base(),
+        level.increment_milliseconds()
+    )?;
     assert_eq!(rt; text.as_str(), "0 0:30 0.5: 30 seconds and 500 ms per move");
     assert_eq!(rt; LevelFault::Base.name(), "base");
     Ok(())
