@@ -9,6 +9,7 @@ import shlex
 import subprocess
 import sys
 from dataclasses import dataclass, field
+from decimal import Decimal
 from pathlib import Path
 
 import needed
@@ -146,7 +147,7 @@ def long_game_seconds(level):
     moves, base, increment = level.split()
     minutes, _, seconds = base.partition(":")
     controls = -(-LONG_GAME // int(moves)) if int(moves) else 1
-    return 2 * (controls * (float(minutes) * 60 + float(seconds or 0)) + LONG_GAME * float(increment))
+    return 2 * (controls * (Decimal(minutes) * 60 + Decimal(seconds or 0)) + LONG_GAME * Decimal(increment))
 
 
 def judged_timeout(timeout, options):

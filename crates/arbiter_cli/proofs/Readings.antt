@@ -5,9 +5,9 @@ use Rattle.clap.specs.Words.{HasKind, IsAmong, Kinds, Row, Text, found_of, kind_
 use Rattle.clap.specs.declared.error.Error.{Error}
 use Rattle.clap.specs.declared.parser.matches.ArgMatches.{ArgMatches}
 use Rattle.arbiter_grammar.specs.Grammar.{AreVariants, IsComplete, IsParsed, VariantNames, arbiter_app, asked, faults_in}
-use Rattle.arbiter_cli.specs.Plans.{IsMatchPlan, IsPlanOf, IsReadAs, IsReading, Said, Values, is_date, is_set, level_start_and_date, number_of, said_by, start_asked}
+use Rattle.arbiter_cli.specs.Plans.{IsMatchPlan, IsPlanOf, IsReadAs, IsReading, Said, Values, is_date, is_set, level_asked, level_start_and_date, number_of, said_by, start_asked}
 use Rattle.arbiter_cli.specs.ties.Requests.{IsJudged, IsJudgedFault, IsMatchOf, IsPlanFault, IsPlanned, IsRequestOf, Refuses, patience_by, start_of}
-use Rattle.cecp_engine.specs.Levels.{level_of}
+use Rattle.cecp_engine.specs.Levels.{level_reading}
 use Rattle.match_runner.specs.declared.plan.GamesPlan.{GamesPlan}
 use Rattle.chess_match.specs.declared.patience.Patience.{Patience}
 use Rattle.arbiter_cli.specs.declared.fault.WordsFault.{WordsFault}
@@ -29,14 +29,14 @@ refusal_by kinds e (Words x) (inl none) (other, same) = absurd (other none)
 refusal_by kinds e (Words x) (inr among) (other, same) =
     subst (λ (y : Error). IsAmong (kind_of y) kinds) (sym same) among
 refusal_by kinds e NoMemory h fits = tt
-refusal_by kinds e BadLevel h fits = absurd fits
+refusal_by kinds e (BadLevel x) h fits = absurd fits
 refusal_by kinds e (BadFen x) h fits = absurd fits
 refusal_by kinds e BadDate h fits = absurd fits
 
 refused_by : (kinds : Kinds) (said : Said) (f : WordsFault) → IsRefusalBy kinds f → IsReadAs kinds said (Err f)
 refused_by kinds said (Words x) h = h
 refused_by kinds said NoMemory h = h
-refused_by kinds said BadLevel h = absurd h
+refused_by kinds said (BadLevel x) h = absurd h
 refused_by kinds said (BadFen x) h = absurd h
 refused_by kinds said BadDate h = absurd h
 
@@ -56,8 +56,8 @@ with_flag value reply = record { flag = is_set (codes "flag") value; reply = rep
 
 -- a match that was taken as written and then judged is played by what its options denote
 module _ (value : Values) (m : MatchRequest) (is : IsMatchOf value m) where
-  level_is : level_of (unwrap_or (value (codes "level")) (codes "40 5 0")) ≡ level_of m.level.now
-  level_is = ap level_of (sym is.level)
+  level_is : level_asked value ≡ level_reading m.level.now
+  level_is = ap level_reading (sym is.level)
 
   start_is : start_asked value ≡ start_of m.variant (option_map (λ t. t.now) m.fen)
   start_is = ap₂ start_of (sym is.variant) (sym is.fen)
@@ -66,7 +66,7 @@ module _ (value : Values) (m : MatchRequest) (is : IsMatchOf value m) where
   match_judged plan validate = record {
     white = is.white ∙ ap (λ (t : Bor Text). Some t.now) (sym validate.white);
     black = is.black ∙ ap (λ (t : Bor Text). Some t.now) (sym validate.black);
-    read = read_as value (Some plan.level) (Ok plan.start) plan.date.now true (level_is ∙ validate.level)
+    read = read_as value (Ok plan.level) (Ok plan.start) plan.date.now true (level_is ∙ validate.level)
         (start_is ∙ validate.start) (sym is.date ∙ ap (λ (t : Bor Text). t.now) (sym validate.date))
         (ap (λ (t : Bor Text). is_date t.now) validate.date ∙ validate.good_date);
     games = validate.games ∙ is.games;
@@ -79,19 +79,19 @@ module _ (value : Values) (m : MatchRequest) (is : IsMatchOf value m) where
   judged_fault : (f : WordsFault) → IsJudgedFault m f → level_start_and_date value ≡ Err f
   judged_fault (Words x) h = absurd h
   judged_fault NoMemory h = absurd h
-  judged_fault BadLevel h =
-      read_as value None (start_asked value) m.date.now (is_date m.date.now) (level_is ∙ h) refl (sym is.date) refl
+  judged_fault (BadLevel x) h =
+      read_as value (Err x) (start_asked value) m.date.now (is_date m.date.now) (level_is ∙ h) refl (sym is.date) refl
   judged_fault (BadFen x) (l, level, start) =
-      read_as value (Some l) (Err x) m.date.now (is_date m.date.now) (level_is ∙ level) (start_is ∙ start)
+      read_as value (Ok l) (Err x) m.date.now (is_date m.date.now) (level_is ∙ level) (start_is ∙ start)
       (sym is.date) refl
   judged_fault BadDate (l, p, level, start, date) =
-      read_as value (Some l) (Ok p) m.date.now false (level_is ∙ level) (start_is ∙ start) (sym is.date) date
+      read_as value (Ok l) (Ok p) m.date.now false (level_is ∙ level) (start_is ∙ start) (sym is.date) date
 
 match_fault : (kinds : Kinds) (said : Said) (f : WordsFault) → kinds ≡ [] → said.command ≡ codes "match"
     → (m : MatchRequest) → IsMatchOf said.value m → IsJudgedFault m f → IsReadAs kinds said (Err f)
 match_fault kinds said (Words x) none name m is h = absurd h
 match_fault kinds said NoMemory none name m is h = absurd h
-match_fault kinds said BadLevel none name m is h = (none, name, judged_fault _ m is BadLevel h)
+match_fault kinds said (BadLevel x) none name m is h = (none, name, judged_fault _ m is (BadLevel x) h)
 match_fault kinds said (BadFen x) none name m is h = (none, name, judged_fault _ m is (BadFen x) h)
 match_fault kinds said BadDate none name m is h = (none, name, judged_fault _ m is BadDate h)
 

@@ -1,5 +1,5 @@
 -- What a plan has to do with the arguments.
-use Rattle.std.specs.Prelude.{◌≡◌, ◌≤◌, ◌*◌, ◌&&◌, ℕ, Bool, List, [], codes, length, map, nat_le, if◌then◌else◌, Option, Some, Result, Ok, Err, unwrap_or, ok_or, option_map, ⊤}
+use Rattle.std.specs.Prelude.{◌≡◌, ◌≤◌, ◌*◌, ◌&&◌, ℕ, Bool, List, [], codes, length, map, nat_le, if◌then◌else◌, Option, Some, Result, Ok, Err, unwrap_or, option_map, ⊤}
 use Rattle.std.specs.List.{list_all}
 use Rattle.std.specs.Option.{option_map_or}
 use Rattle.std.specs.Result.{result_map_both}
@@ -20,7 +20,8 @@ use Rattle.chess_base.specs.declared.fen_fault.FenFault.{FenFault}
 use Rattle.chess_base.specs.declared.man.Variant.{Variant}
 use Rattle.chess_base.specs.declared.man.Variant.TheVariants.{Normal, Fischerandom}
 use Rattle.chess_base.specs.declared.setup.Setup.{Setup}
-use Rattle.cecp_engine.specs.Levels.{LevelSeen, level_of}
+use Rattle.cecp_engine.specs.Levels.{LevelSeen, level_reading}
+use Rattle.cecp_engine.specs.declared.level_fault.LevelFault.{LevelFault}
 
 -- ---- what arguments say
 
@@ -68,17 +69,20 @@ abbrev pub start_asked : Values → Result Setup FenFault
 start_asked value = let v = variant_in value in
     option_map_or (fen_reading_as v) (value (codes "fen")) (Ok (initial_setup_of v))
 
+-- the time control of a match, by `--level`; without it `40 5 0`, 40 moves in 5 minutes without an increment
+abbrev pub level_asked : Values → Result LevelSeen LevelFault
+level_asked value = level_reading (unwrap_or (value (codes "level")) (codes "40 5 0"))
+
 -- whether a text may be the value of the tag Date: at most 60 bytes of printable ASCII (32 to 126). It need not be a
 -- date
 abbrev pub is_date : Text → Bool
 is_date text = nat_le (length text) 60 && list_all (λ b. nat_le 32 b && nat_le b 126) text
 
 -- the time control of a match, the position in which its games start, and their date as a text; or if level, FEN or
--- date is invalid, the fault of the first that is. Without `--level` the time control is `40 5 0`, 40 moves in 5
--- minutes without an increment; without `--date` the date is `????.??.??`
+-- date is invalid, the fault of the first that is. Without `--date` the date is `????.??.??`
 abbrev pub level_start_and_date : Values → Result (LevelSeen × Setup × Text) WordsFault
 level_start_and_date value = let date = unwrap_or (value (codes "date")) (codes "????.??.??") in do
-  level ← ok_or (level_of (unwrap_or (value (codes "level")) (codes "40 5 0"))) BadLevel
+  level ← result_map_both (λ level. level) BadLevel (level_asked value)
   start ← result_map_both (λ setup. setup) BadFen (start_asked value)
   if is_date date then Ok (level, start, date) else Err BadDate
 

@@ -1,9 +1,10 @@
 //! Why there is no plan for the arguments.
 
 ghost use Rattle.std.specs.Prelude.{◌≡◌};
-ghost use Rattle.arbiter_cli.specs.declared.fault.WordsFault.TheVariants.{BadFen};
+ghost use Rattle.arbiter_cli.specs.declared.fault.WordsFault.TheVariants.{BadLevel, BadFen};
 ghost use Rattle.arbiter_cli.specs.ties.Requests.{Refuses};
 
+use cecp_engine::LevelFault;
 use chess_base::FenFault;
 use clap::Error;
 use clap::error::ErrorKind;
@@ -18,14 +19,22 @@ pub enum WordsFault {
     #[error("no memory")]
     NoMemory,
     /// The text of a match's level denotes no level.
-    #[error("bad level")]
-    BadLevel,
+    #[error("bad level ({})", .0.name())]
+    BadLevel(LevelFault),
     /// The text of a match's start denotes no sound position.
     #[error("illegal position ({})", .0.name())]
     BadFen(FenFault),
     /// The date of a match has more than 60 bytes, or one outside 32 to 126.
     #[error("bad date")]
     BadDate,
+}
+
+impl From<LevelFault> for WordsFault {
+    ghost from_gives = { λ level fault. fault ≡ BadLevel level };
+
+    fn from(fault: LevelFault) -> WordsFault {
+        WordsFault::BadLevel(fault)
+    }
 }
 
 impl From<FenFault> for WordsFault {

@@ -80,9 +80,7 @@ fn validate<'a>(request: &MatchRequest<'a>) -> Result<GamesPlan<'a>, WordsFault>
     ensures plan { IfOk result (IsJudged request.now) }
     ensures fault { IfErr result (IsJudgedFault request.now) }
 {
-    let Some(level) = Level::read(request.level.as_bytes()) else {
-        return Err(WordsFault::BadLevel);
-    };
+    let level = Level::try_from(request.level.as_bytes())?;
     let start = start_of(request.variant, request.fen)?;
     if !is_date(request.date) {
         return Err(WordsFault::BadDate);

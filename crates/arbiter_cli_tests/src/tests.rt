@@ -148,7 +148,7 @@ fn a_stub_keeps_its_arguments(rt: HostRuntime) -> Result<(), Fail> {
 }
 
 // Arguments of `match`, and what they ask for; `level` is the moves per session, the base and the increment, both in
-// seconds.
+// milliseconds.
 struct MatchRow {
     arguments: &'static [&'static str],
     white: &'static str,
@@ -166,7 +166,7 @@ const MATCHES: [MatchRow; 4] = [
         arguments: &["match", "--white", "a b", "--black=c"],
         white: "a b",
         black: "c",
-        level: [40, 300, 0],
+        level: [40, 300_000, 0],
         variant: Variant::Normal,
         fen: b"rnbqkbnr/pppppppp/8/8/8/8/PPPPPPPP/RNBQKBNR w KQkq - 0 1",
         games: 1,
@@ -182,7 +182,7 @@ const MATCHES: [MatchRow; 4] = [
             "1000",
             "--fen",
             "4k3/8/8/8/8/8/8/RK5R w KQ - 0 1",
-            "--level=0 0:30 1",
+            "--level=0 0:30.5 0.08",
             "--variant",
             "fischerandom",
             "--log",
@@ -192,7 +192,7 @@ const MATCHES: [MatchRow; 4] = [
         ],
         white: "-x",
         black: "y",
-        level: [0, 30, 1],
+        level: [0, 30_500, 80],
         variant: Variant::Fischerandom,
         fen: b"4k3/8/8/8/8/8/8/RK5R w HA - 0 1",
         games: 1000,
@@ -211,7 +211,7 @@ const MATCHES: [MatchRow; 4] = [
         ],
         white: "x",
         black: "y",
-        level: [40, 300, 0],
+        level: [40, 300_000, 0],
         variant: Variant::Normal,
         fen: b"rnbqkbnr/pppppppp/8/8/8/8/PPPPPPPP/RNBQKBNR w KQkq - 0 1",
         games: 1,
@@ -230,7 +230,7 @@ const MATCHES: [MatchRow; 4] = [
         ],
         white: "x",
         black: "y",
-        level: [40, 300, 0],
+        level: [40, 300_000, 0],
         variant: Variant::Fischerandom,
         fen: b"rnbqkbnr/pppppppp/8/8/8/8/PPPPPPPP/RNBQKBNR w HAha - 0 1",
         games: 1,
@@ -242,8 +242,8 @@ const MATCHES: [MatchRow; 4] = [
 fn check_setup(rt: &impl Abort, plan: &GamesPlan<'_>, row: &MatchRow) {
     let level = [
         plan.level.moves(),
-        plan.level.base(),
-        plan.level.increment(),
+        plan.level.base_milliseconds(),
+        plan.level.increment_milliseconds(),
     ];
     is_equal(rt, &level, &row.level);
     is_equal(rt, &plan.start.variant(), &row.variant);
@@ -333,20 +333,32 @@ fn other_patience_is_refused(rt: HostRuntime) -> Result<(), Fail> {
 }
 
 // Arguments of a match, and what is reported of them.
-const FAULTS: [(&[&str], &str); 8] = [
+const FAULTS: [(&[&str], &str); 10] = [
     (
         &[
             "match", "--white", "x", "--black", "y", "--level", "40 5", "--fen", "x", "--date",
             "\u{7f}",
         ],
-        "bad level",
+        "bad level (words)",
     ),
     (
         &[
             "match", "--white", "x", "--black", "y", "--level", "0 0:60 0", "--fen", "x", "--date",
             "x",
         ],
-        "bad level",
+        "bad level (base)",
+    ),
+    (
+        &[
+            "match", "--white", "x", "--black", "y", "--level", "4.5 0:60 x", "--fen", "x",
+        ],
+        "bad level (moves)",
+    ),
+    (
+        &[
+            "match", "--white", "x", "--black", "y", "--level", "0 0:10 0.0001", "--fen", "x",
+        ],
+        "bad level (increment)",
     ),
     (
         &[

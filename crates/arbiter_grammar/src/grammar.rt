@@ -215,7 +215,7 @@ fn match_command<'a>(alloc: Global) -> Result<Command<'a>, AllocError>
         alloc,
         "level",
         "LEVEL",
-        "Moves per time control (0: the whole game), minutes or M:SS, seconds added per move [default: 40 5 0]",
+        "Moves per time control (0: the whole game), minutes or M:SS, seconds added per move, as 0.1 [default: 40 5 0]",
     ))?
     .arg(option(
         alloc,

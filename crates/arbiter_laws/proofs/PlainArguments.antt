@@ -44,7 +44,7 @@ refused_argument : (arguments : List Text) (name : Text) (fault : WordsFault) �
 refused_argument ws name (faults.Words e) a other (names, are, among) =
     absurd (subst (IsAmong (kind_of e)) (a.taken names) among)
 refused_argument ws name faults.NoMemory a other is = tt
-refused_argument ws name faults.BadLevel a other (names, are, (none, named, h)) =
+refused_argument ws name (faults.BadLevel f) a other (names, are, (none, named, h)) =
     absurd (other (sym (a.named names) ∙ named))
 refused_argument ws name (faults.BadFen f) a other (names, are, (none, named, h)) =
     absurd (other (sym (a.named names) ∙ named))
@@ -89,7 +89,7 @@ session_or_want : (fault : WordsFault) (s s' : Surroundings) (steps : List HostS
 session_or_want faults.NoMemory s s' steps status want (none, same, (kept, is)) =
     (none, inr (both_same s.devices s'.devices same kept, is))
 session_or_want (faults.Words e) s s' steps status want ran = absurd want
-session_or_want faults.BadLevel s s' steps status want ran = absurd want
+session_or_want (faults.BadLevel f) s s' steps status want ran = absurd want
 session_or_want (faults.BadFen f) s s' steps status want ran = absurd want
 session_or_want faults.BadDate s s' steps status want ran = absurd want
 
@@ -98,7 +98,7 @@ verify_or_want : (fault : WordsFault) (s s' : Surroundings) (steps : List HostSt
 verify_or_want faults.NoMemory s s' steps status want (none, same, (kept, is)) =
     (none, (Err verifying.NoMemory, is, not_begun (options_of bare_plan) s.devices s'.devices same kept))
 verify_or_want (faults.Words e) s s' steps status want ran = absurd want
-verify_or_want faults.BadLevel s s' steps status want ran = absurd want
+verify_or_want (faults.BadLevel f) s s' steps status want ran = absurd want
 verify_or_want (faults.BadFen f) s s' steps status want ran = absurd want
 verify_or_want faults.BadDate s s' steps status want ran = absurd want
 

@@ -17,7 +17,7 @@ use Rattle.chess_base.specs.declared.setup.Setup.{Setup}
 use Rattle.chess_base.specs.Initial.{initial_setup_of}
 use Rattle.chess_fen.specs.Reading.{fen_reading_as}
 use Rattle.chess_base.specs.declared.man.Variant.TheVariants.{Normal, Fischerandom}
-use Rattle.arbiter_cli.specs.Plans.{IsMatchPlan, IsReadAs, Said, Values, is_date, is_set, level_start_and_date, number_of, said_by, start_asked, variant_in, verify_plan_of}
+use Rattle.arbiter_cli.specs.Plans.{IsMatchPlan, IsReadAs, Said, Values, is_date, is_set, level_asked, level_start_and_date, number_of, said_by, start_asked, variant_in, verify_plan_of}
 use Rattle.arbiter_cli.specs.declared.plan.Plan.{Plan}
 use Rattle.arbiter_cli.specs.declared.plan.Plan.TheVariants.{Session, Verify, Stub, Match}
 use Rattle.match_runner.specs.declared.plan.GamesPlan.{GamesPlan}
@@ -26,7 +26,7 @@ use Rattle.arbiter_cli.specs.declared.plan.VerifyPlan.{VerifyPlan}
 use Rattle.arbiter_cli.specs.declared.fault.WordsFault.{WordsFault}
 use Rattle.arbiter_cli.specs.declared.fault.WordsFault.TheVariants.{Words, NoMemory, BadLevel, BadFen, BadDate}
 use Rattle.arbiter_laws.specs.PlainArguments.{CommandLine, Given, IsOfMatch, IsOfVerify, IsPlain, PlainArgumentsAreRead, arguments_of, empty, match, said_in, session, stub, values_in, verify, written}
-use Rattle.cecp_engine.specs.Levels.{level_of}
+use Rattle.cecp_engine.specs.Levels.{level_reading}
 use Rattle.arbiter_laws.proofs.Literals as literals
 use Rattle.arbiter_laws.proofs.PlainOptions.{match_shape, of_match, of_verify, stub_shape, verify_shape}
 use Rattle.arbiter_laws.proofs.PlainRows.{default_in, value_found, value_given}
@@ -113,9 +113,8 @@ same_start : (v w : Values) → Agrees v w → level_start_and_date v ≡ level_
 same_start v w a =
     let variant : variant_in v ≡ variant_in w = ap (λ (o : Option Text).
     if bytes_eq (unwrap_or o (codes "normal")) (codes "fischerandom") then Fischerandom else Normal) a.variant in
-    read_as v (level_of (unwrap_or (w (codes "level")) (codes "40 5 0"))) (start_asked w) (date_asked w)
-    (is_date (date_asked w))
-    (ap (λ (o : Option Text). level_of (unwrap_or o (codes "40 5 0"))) a.level)
+    read_as v (level_asked w) (start_asked w) (date_asked w) (is_date (date_asked w))
+    (ap (λ (o : Option Text). level_reading (unwrap_or o (codes "40 5 0"))) a.level)
     (ap₂ start_by variant a.fen)
     (ap (λ (o : Option Text). unwrap_or o (codes "????.??.??")) a.date) refl
 
@@ -148,7 +147,7 @@ read_alike a b s (Ok (Match plan)) (none, is) =
     (none, (sym s.command ∙ is.0, same_match a.value b.value (s.on_match is.0) plan is.1))
 read_alike a b s (Err (Words e)) is = is
 read_alike a b s (Err NoMemory) is = is
-read_alike a b s (Err BadLevel) (none, named, h) =
+read_alike a b s (Err (BadLevel f)) (none, named, h) =
     (none, sym s.command ∙ named, sym (same_start a.value b.value (s.on_match named)) ∙ h)
 read_alike a b s (Err (BadFen f)) (none, named, h) =
     (none, sym s.command ∙ named, sym (same_start a.value b.value (s.on_match named)) ∙ h)

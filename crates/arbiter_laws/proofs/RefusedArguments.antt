@@ -33,7 +33,7 @@ refusal : (ws : List Text) (k : ErrorKind) (fault : WordsFault) → AreRefused w
     → IsRefusal k fault
 refusal ws k (faults.Words e) one (names, are, among) = the_fault k (kind_of e) _ (one names) among
 refusal ws k faults.NoMemory one is = tt
-refusal ws k faults.BadLevel one (names, are, (none, named, h)) = absurd (no_fault k _ none (one names))
+refusal ws k (faults.BadLevel f) one (names, are, (none, named, h)) = absurd (no_fault k _ none (one names))
 refusal ws k (faults.BadFen f) one (names, are, (none, named, h)) = absurd (no_fault k _ none (one names))
 refusal ws k faults.BadDate one (names, are, (none, named, h)) = absurd (no_fault k _ none (one names))
 
@@ -55,7 +55,7 @@ shown k (faults.Words e) w w' status help is (inl (asked, writes)) = writes
 shown k (faults.Words e) w w' status help is (inr (no_help, no_version, same, ends)) =
     absurd (is_shown k (kind_of e) help is no_help no_version)
 shown k faults.NoMemory w w' status help is (same, ends) = inr (ends, inl same)
-shown k faults.BadLevel w w' status help is reported = absurd is
+shown k (faults.BadLevel f) w w' status help is reported = absurd is
 shown k (faults.BadFen f) w w' status help is reported = absurd is
 shown k faults.BadDate w w' status help is reported = absurd is
 
@@ -81,7 +81,7 @@ refused k (faults.Words e) w w' status help version is (inl (asked, writes)) =
     no_help_asked (kind_of e) asked (λ x. help (sym is ∙ x)) (λ x. version (sym is ∙ x))
 refused k (faults.Words e) w w' status help version is (inr (no_help, no_version, same, ends)) = (same, inl ends)
 refused k faults.NoMemory w w' status help version is (same, ends) = (same, inr ends)
-refused k faults.BadLevel w w' status help version is reported = absurd is
+refused k (faults.BadLevel f) w w' status help version is reported = absurd is
 refused k (faults.BadFen f) w w' status help version is reported = absurd is
 refused k faults.BadDate w w' status help version is reported = absurd is
 

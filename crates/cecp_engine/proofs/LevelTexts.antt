@@ -1,8 +1,9 @@
 -- What is written of a level is parsed as that level: its three words have neither spaces nor tabs, and each is parsed as
 -- the number that it was written for.
-use Rattle.std.proofs.Common.{◌≡◌, ℕ, suc, ◌+◌, ◌*◌, ◌/◌, ◌%◌, ◌<◌, ◌≤◌, Bool, true, false, eqb, ltb, leb, List, [], ◌∷◌, ◌++◌, length, take, drop, Some, refl, sym, ap, ◌∙◌, arith, rules}
+use Rattle.std.proofs.Common.{◌≡◌, ℕ, zero, suc, ◌+◌, ◌*◌, ◌/◌, ◌%◌, ◌<◌, ◌≤◌, Bool, true, false, eqb, ltb, leb, List, [], ◌∷◌, ◌++◌, length, take, drop, Some, refl, sym, ap, ◌∙◌, arith, rules}
 use Rattle.std.specs.Prelude.{decimal, ◌==◌}
 use Rattle.std.specs.List.{list_all, position_or_len}
+use Rattle.std.specs.Str.{IsAscii}
 use Rattle.std.proofs.lemmas.Bool.{and_parts}
 use Rattle.std.proofs.lemmas.Bool.Decides.{nat_tests}
 use Rattle.std.proofs.lemmas.List.{append-nil, length-append, take_all}
@@ -10,11 +11,13 @@ use Rattle.std.proofs.lemmas.Fmt.{digits_decimal, digits_value-decimal, length-d
 use Rattle.std.proofs.lemmas.Str.Parse.{IsNumeralModel, numerals_by_value}
 use Rattle.std.specs.Char.{digit_value}
 use Rattle.std.specs.Str.Parse.{digits_value}
-use Rattle.std.proofs.lemmas.Str.{digit_value_digit}
+use Rattle.std.proofs.lemmas.Str.{digit_value_digit, IsAscii-append}
+use Rattle.std.proofs.lemmas.Str.Ascii.{IsAscii-nil}
 use Rattle.chess_base.specs.Letters.{byte, is_digit}
 use Rattle.text_lines.specs.Lines.{is_blank, without_front_blanks}
 use Rattle.text_lines.specs.Words.{short_number, word_of, argument_of}
-use Rattle.cecp_engine.specs.Levels.{level_of, level_text, base_of, base_text, two_digits}
+use Rattle.cecp_engine.specs.ties.Bounds.{IsLevel}
+use Rattle.cecp_engine.specs.Levels.{LevelSeen, level_of, level_reading, level_text, base_of, base_text, two_digits, decimals_text, increment_text, milliseconds_of, thousandths_of}
 
 -- ---- words
 
@@ -89,67 +92,219 @@ number_back n h =
     let t1 : leb (length (decimal n)) 3 ≡ true = grind (arith, nat_tests) in
     rw (t0, t1, are_digits n h, digits_value-decimal numeral n (omega arith)) refl
 
-two_value : (a b x y : ℕ) → digit_value a + 48 ≡ 48 + x → digit_value b + 48 ≡ 48 + y
-    → digits_value 10 (a ∷ b ∷ []) ≡ 10 * x + y
-two_value a b x y h k =
-    let e : digit_value a ≡ x = omega (arith, h) in
-    let f : digit_value b ≡ y = omega (arith, k) in
-    let is : (0 * 10 + x) * 10 + y ≡ 10 * x + y = omega arith in
-    ap (λ (u : ℕ). (0 * 10 + u) * 10 + digit_value b) e ∙ ap (λ (v : ℕ). (0 * 10 + x) * 10 + v) f ∙ is
+digit_is : (d : ℕ) → d ≤ 9 → is_digit (48 + d) ≡ true
+digit_is d h =
+    let a : leb 48 (48 + d) ≡ true = grind (arith, nat_tests) in
+    let b : leb (48 + d) 57 ≡ true = grind (arith, nat_tests) in
+    rw (a, b) refl
 
-two_digits_back : (n : ℕ) → n < 100 → short_number 2 (two_digits n) ≡ Some n
-two_digits_back n h =
-    let a : leb 48 (48 + n / 10) ≡ true = grind (arith, nat_tests) in
-    let tens : n / 10 < 10 = omega arith in
-    let b : leb (48 + n / 10) 57 ≡ true = grind (arith, nat_tests) in
-    let c : leb 48 (48 + n % 10) ≡ true = grind (arith, nat_tests) in
-    let ones : n % 10 < 10 = omega arith in
-    let d : leb (48 + n % 10) 57 ≡ true = grind (arith, nat_tests) in
-    let first : digit_value (48 + n / 10) + 48 ≡ 48 + n / 10 =
-    digit_value_digit (48 + n / 10) (omega arith, omega (arith, tens)) in
-    let second : digit_value (48 + n % 10) + 48 ≡ 48 + n % 10 =
-    digit_value_digit (48 + n % 10) (omega arith, omega (arith, ones)) in
-    let is : 10 * (n / 10) + n % 10 ≡ n = omega arith in
-    rw (a, b, c, d) (ap Some (two_value (48 + n / 10) (48 + n % 10) (n / 10) (n % 10) first second ∙ is))
+digit_back : (d : ℕ) → d ≤ 9 → digit_value (48 + d) ≡ d
+digit_back d h =
+    let e : digit_value (48 + d) + 48 ≡ 48 + d = digit_value_digit (48 + d) (omega arith, omega arith) in omega (arith, e)
 
-two_digits_solid : (n : ℕ) → n < 100 → Solid (two_digits n)
-two_digits_solid n h =
-    let a : is_blank (48 + n / 10) ≡ false = grind (arith, nat_tests) in
-    let b : is_blank (48 + n % 10) ≡ false = grind (arith, nat_tests) in (a, (b, tt))
+-- digits, and the number that they denote
+one_digit_back : (d : ℕ) → d ≤ 9 → short_number 3 ((48 + d) ∷ []) ≡ Some d
+one_digit_back d h =
+    let is : 0 * 10 + d ≡ d = omega arith in
+    rw (digit_is d h, digit_back d h) (ap Some is)
 
--- ---- the base time
+two_digits_are : (n : ℕ) → n < 100 → list_all is_digit (two_digits n) ≡ true
+two_digits_are n h =
+    let tens : n / 10 ≤ 9 = omega arith in
+    let ones : n % 10 ≤ 9 = omega arith in
+    rw (digit_is (n / 10) tens, digit_is (n % 10) ones) refl
 
-digit_before_colon : (c : ℕ) → is_digit c ≡ true → eqb c 58 ≡ false
-digit_before_colon c h = grind (arith, nat_tests)
+two_digits_back : (most n : ℕ) → 2 ≤ most → n < 100 → short_number most (two_digits n) ≡ Some n
+two_digits_back most n room h =
+    let tens : n / 10 ≤ 9 = omega arith in
+    let ones : n % 10 ≤ 9 = omega arith in
+    let short : leb 2 most ≡ true = grind (arith, nat_tests) in
+    let is : (0 * 10 + n / 10) * 10 + n % 10 ≡ n = omega arith in
+    rw (short, digit_is (n / 10) tens, digit_is (n % 10) ones, digit_back (n / 10) tens, digit_back (n % 10) ones)
+    (ap Some is)
 
--- the index of the first colon; the text's length if there is none
-abbrev colon_at : List ℕ → ℕ
-colon_at text = position_or_len (λ c. c == byte ":") text
+three_digits_back : (n : ℕ) → n < 1000 → short_number 3 ((48 + n / 100) ∷ two_digits (n % 100)) ≡ Some n
+three_digits_back n h =
+    let hundreds : n / 100 ≤ 9 = omega arith in
+    let tens : n % 100 / 10 ≤ 9 = omega arith in
+    let ones : n % 100 % 10 ≤ 9 = omega arith in
+    let is : ((0 * 10 + n / 100) * 10 + n % 100 / 10) * 10 + n % 100 % 10 ≡ n = omega arith in
+    rw (
+      digit_is (n / 100) hundreds,
+      digit_is (n % 100 / 10) tens,
+      digit_is (n % 100 % 10) ones,
+      digit_back (n / 100) hundreds,
+      digit_back (n % 100 / 10) tens,
+      digit_back (n % 100 % 10) ones,
+    ) (ap Some is)
+
+-- ---- decimals
+
+-- what is written after a point: digits, which are parsed as `n` thousandths
+record AreDecimals (ds : List ℕ) (n : ℕ) : Type 0 where
+  back : thousandths_of ds ≡ Some n
+  digits : list_all is_digit ds ≡ true
+
+tenths : (n : ℕ) → n < 1000 → n % 100 ≡ 0 → AreDecimals ((48 + n / 100) ∷ []) n
+unfolding thousandths_of
+tenths n h none =
+    let few : n / 100 ≤ 9 = omega arith in
+    let is : n / 100 * 100 ≡ n = omega arith in
+    record { back = rw (one_digit_back (n / 100) few) (ap Some is); digits = rw (digit_is (n / 100) few) refl }
+
+hundredths : (n : ℕ) → n < 1000 → n % 10 ≡ 0 → AreDecimals (two_digits (n / 10)) n
+unfolding thousandths_of
+hundredths n h none =
+    let few : n / 10 < 100 = omega arith in
+    let is : n / 10 * 10 ≡ n = omega arith in
+    record {
+      back = rw (two_digits_back 3 (n / 10) (omega arith) few) (ap Some is);
+      digits = two_digits_are (n / 10) few;
+    }
+
+all_thousandths : (n : ℕ) → n < 1000 → AreDecimals ((48 + n / 100) ∷ two_digits (n % 100)) n
+unfolding thousandths_of
+all_thousandths n h =
+    let few : n / 100 ≤ 9 = omega arith in
+    let is : n * 1 ≡ n = omega arith in
+    record {
+      back = rw (three_digits_back n h) (ap Some is);
+      digits = rw (digit_is (n / 100) few) (two_digits_are (n % 100) (omega arith));
+    }
+
+-- the decimals that are written of `n` thousandths, which are not none
+record Decimals (n : ℕ) : Type 0 where
+  digits : List ℕ
+  text : decimals_text n ≡ byte "." ∷ digits
+  are : AreDecimals digits n
+
+decimals : (n : ℕ) → n < 1000 → eqb n 0 ≡ false → Decimals n
+unfolding decimals_text
+decimals n h some = by_tests (eqb (n % 100) 0) (eqb (n % 10) 0) refl refl
+  where
+    by_tests : (a b : Bool) → eqb (n % 100) 0 ≡ a → eqb (n % 10) 0 ≡ b → Decimals n
+    by_tests true b e f = record {
+      digits = (48 + n / 100) ∷ [];
+      text = rw (some, e) refl;
+      are = tenths n h (grind (arith, nat_tests));
+    }
+    by_tests false true e f = record {
+      digits = two_digits (n / 10);
+      text = rw (some, e, f) refl;
+      are = hundredths n h (grind (arith, nat_tests));
+    }
+    by_tests false false e f = record {
+      digits = (48 + n / 100) ∷ two_digits (n % 100);
+      text = rw (some, e, f) refl;
+      are = all_thousandths n h;
+    }
+
+no_decimals : (n : ℕ) → eqb n 0 ≡ true → decimals_text n ≡ []
+unfolding decimals_text
+no_decimals n e = rw e refl
+
+decimals_solid : (n : ℕ) → n < 1000 → Solid (decimals_text n)
+decimals_solid n h = by_test (eqb n 0) refl
+  where
+    by_test : (b : Bool) → eqb n 0 ≡ b → Solid (decimals_text n)
+    by_test true e = rw (no_decimals n e) tt
+    by_test false e = let d = decimals n h e in rw d.text (refl, digits_solid d.digits d.are.digits)
+
+-- ---- what comes before a colon or a point
+
+-- the index of the first byte `mark`; the text's length if there is none
+abbrev mark_at : ℕ → List ℕ → ℕ
+mark_at mark text = position_or_len (λ c. c == mark) text
+
+-- a byte that is no digit
+abbrev IsNoDigit : ℕ → Type 0
+IsNoDigit mark = (c : ℕ) → is_digit c ≡ true → eqb c mark ≡ false
+
+colon_no_digit : IsNoDigit 58
+colon_no_digit c h = grind (arith, nat_tests)
+
+point_no_digit : IsNoDigit 46
+point_no_digit c h = grind (arith, nat_tests)
 
 one_more : {a b : ℕ} → a ≡ b → 1 + a ≡ suc b
 one_more h = omega (arith, h)
 
-colon_after : (ds rest : List ℕ) → list_all is_digit ds ≡ true → colon_at (ds ++ byte ":" ∷ rest) ≡ length ds
-colon_after [] rest h = refl
-colon_after (c ∷ cs) rest h =
-    let p = and_parts (is_digit c) (list_all is_digit cs) h in
-    rw (digit_before_colon c p.0) (one_more (colon_after cs rest p.1))
+same_mark : (mark : ℕ) → eqb mark mark ≡ true
+same_mark mark = grind (arith, nat_tests)
 
-no_colon : (ds : List ℕ) → list_all is_digit ds ≡ true → colon_at ds ≡ length ds
-no_colon [] h = refl
-no_colon (c ∷ cs) h =
+mark_after : (mark : ℕ) → IsNoDigit mark → (ds rest : List ℕ) → list_all is_digit ds ≡ true
+    → mark_at mark (ds ++ mark ∷ rest) ≡ length ds
+mark_after mark other [] rest h = rw (same_mark mark) refl
+mark_after mark other (c ∷ cs) rest h =
     let p = and_parts (is_digit c) (list_all is_digit cs) h in
-    rw (digit_before_colon c p.0) (one_more (no_colon cs p.1))
+    rw (other c p.0) (one_more (mark_after mark other cs rest p.1))
 
-base_back : (base : ℕ) → base ≤ 59999 → base_of (base_text base) ≡ Some base
-unfolding base_of
-base_back base h = by_seconds (eqb (base % 60) 0) refl
+no_mark : (mark : ℕ) → IsNoDigit mark → (ds : List ℕ) → list_all is_digit ds ≡ true → mark_at mark ds ≡ length ds
+no_mark mark other [] h = refl
+no_mark mark other (c ∷ cs) h =
+    let p = and_parts (is_digit c) (list_all is_digit cs) h in
+    rw (other c p.0) (one_more (no_mark mark other cs p.1))
+
+not_all : (ds : List ℕ) (mark : ℕ) (rest : List ℕ) → eqb (length ds) (length (ds ++ mark ∷ rest)) ≡ false
+not_all ds mark rest =
+    let more : length (ds ++ mark ∷ rest) ≡ length ds + length (mark ∷ rest) = length-append ds (mark ∷ rest) in
+    let one : length (mark ∷ rest) ≡ 1 + length rest = omega arith in
+    rw more (grind (arith, nat_tests))
+
+all_of : (ds : List ℕ) → eqb (length ds) (length ds) ≡ true
+all_of ds = grind (arith, nat_tests)
+
+-- ---- seconds
+
+seconds_back : (most s n : ℕ) (ds : List ℕ) → list_all is_digit ds ≡ true → short_number most ds ≡ Some s → n < 1000
+    → milliseconds_of most (ds ++ decimals_text n) ≡ Some (1000 * s + n)
+unfolding milliseconds_of
+seconds_back most s n ds h e few = by_test (eqb n 0) refl
+  where
+    by_test : (b : Bool) → eqb n 0 ≡ b → milliseconds_of most (ds ++ decimals_text n) ≡ Some (1000 * s + n)
+    by_test true none =
+        let is : 1000 * s + 0 ≡ 1000 * s + n = grind (arith, nat_tests) in
+        rw (
+          no_decimals n none,
+          append-nil ds,
+          no_mark 46 point_no_digit ds h,
+          all_of ds,
+          take_all (length ds) ds (omega arith),
+          e,
+        ) (ap Some is)
+    by_test false some =
+        let d = decimals n few some in
+        rw (
+          d.text,
+          mark_after 46 point_no_digit ds d.digits h,
+          not_all ds 46 d.digits,
+          taken ds (46 ∷ d.digits),
+          dropped_one ds 46 d.digits,
+          e,
+          d.are.back,
+        ) refl
+
+-- ---- the base time
+
+-- the seconds of a base time as they are written, with decimals
+abbrev seconds_of : ℕ → List ℕ
+seconds_of base = two_digits (base % 60000 / 1000) ++ decimals_text (base % 1000)
+
+base_seconds_back : (base : ℕ) → milliseconds_of 2 (seconds_of base) ≡ Some (base % 60000)
+base_seconds_back base =
+    let few : base % 60000 / 1000 < 100 = omega arith in
+    let part : base % 1000 < 1000 = omega arith in
+    let is : 1000 * (base % 60000 / 1000) + base % 1000 ≡ base % 60000 = omega arith in
+    seconds_back 2 (base % 60000 / 1000) (base % 1000) (two_digits (base % 60000 / 1000))
+    (two_digits_are (base % 60000 / 1000) few) (two_digits_back 2 (base % 60000 / 1000) (omega arith) few) part
+    ∙ ap Some is
+
+base_back : (base : ℕ) → base ≤ 59999999 → base_of (base_text base) ≡ Some base
+unfolding base_of base_text
+base_back base h = by_seconds (eqb (base % 60000) 0) refl
   where
     minutes : ℕ
-    minutes = base / 60
-
-    seconds : ℕ
-    seconds = base % 60
+    minutes = base / 60000
 
     few : minutes ≤ 999
     few = omega arith
@@ -157,87 +312,166 @@ base_back base h = by_seconds (eqb (base % 60) 0) refl
     ds : List ℕ
     ds = decimal minutes
 
-    by_seconds : (whole : Bool) → eqb seconds 0 ≡ whole → base_of (base_text base) ≡ Some base
+    by_seconds : (whole : Bool) → eqb (base % 60000) 0 ≡ whole → base_of (base_text base) ≡ Some base
     by_seconds true e =
-        let none : seconds ≡ 0 = grind (arith, nat_tests) in
-        let same : eqb (length ds) (length ds) ≡ true = grind (arith, nat_tests) in
-        let all : take (length ds) ds ≡ ds = take_all (length ds) ds (omega arith) in
-        let is : 60 * minutes + 0 ≡ base = omega (arith, none) in
+        let none : base % 60000 ≡ 0 = grind (arith, nat_tests) in
+        let is : 60000 * minutes + 0 ≡ base = omega (arith, none) in
         rw (
           e,
           append-nil ds,
-          no_colon ds (are_digits minutes few),
-          same,
-          all,
+          no_mark 58 colon_no_digit ds (are_digits minutes few),
+          all_of ds,
+          take_all (length ds) ds (omega arith),
           number_back minutes few,
         ) (ap Some is)
     by_seconds false e =
-        let some : 0 < length ds = decimal_nonempty minutes (omega arith) in
-        let more : length (ds ++ byte ":" ∷ two_digits seconds) ≡ length ds + 3 = length-append ds (byte ":" ∷ two_digits seconds) in
-        let other : eqb (length ds) (length ds + 3) ≡ false = grind (arith, nat_tests) in
-        let below : ltb seconds 60 ≡ true = grind (arith, nat_tests) in
-        let after : drop (length ds + 1) (ds ++ byte ":" ∷ two_digits seconds) ≡ two_digits seconds =
-        dropped_one ds (byte ":") (two_digits seconds) in
-        let is : 60 * minutes + seconds ≡ base = omega arith in
+        let below : ltb (base % 60000) 60000 ≡ true = grind (arith, nat_tests) in
+        let is : 60000 * minutes + base % 60000 ≡ base = omega arith in
         rw (
           e,
-          colon_after ds (two_digits seconds) (are_digits minutes few),
-          more,
-          other,
-          taken ds (byte ":" ∷ two_digits seconds),
-          after,
+          mark_after 58 colon_no_digit ds (seconds_of base) (are_digits minutes few),
+          not_all ds 58 (seconds_of base),
+          taken ds (58 ∷ seconds_of base),
+          dropped_one ds 58 (seconds_of base),
           number_back minutes few,
-          two_digits_back seconds (omega arith),
+          base_seconds_back base,
           below,
         ) (ap Some is)
 
-base_solid : (base : ℕ) → base ≤ 59999 → Solid (base_text base)
-base_solid base h = by_seconds (eqb (base % 60) 0) refl
+base_solid : (base : ℕ) → base ≤ 59999999 → Solid (base_text base)
+unfolding base_text
+base_solid base h = by_seconds (eqb (base % 60000) 0) refl
   where
-    few : base / 60 ≤ 999
-    few = omega arith
+    minutes : Solid (decimal (base / 60000))
+    minutes = decimal_solid (base / 60000) (omega arith)
 
-    by_seconds : (whole : Bool) → eqb (base % 60) 0 ≡ whole → Solid (base_text base)
-    by_seconds true e = rw (e, append-nil (decimal (base / 60))) (decimal_solid (base / 60) few)
-    by_seconds false e = rw e (solid_append (decimal (base / 60)) (byte ":" ∷ two_digits (base % 60))
-        (decimal_solid (base / 60) few) (refl, two_digits_solid (base % 60) (omega arith)))
+    seconds : Solid (seconds_of base)
+    seconds = solid_append (two_digits (base % 60000 / 1000)) (decimals_text (base % 1000))
+        (digits_solid (two_digits (base % 60000 / 1000)) (two_digits_are (base % 60000 / 1000) (omega arith)))
+        (decimals_solid (base % 1000) (omega arith))
 
-base_some : (base : ℕ) → base ≤ 59999 → 0 < length (base_text base)
-base_some base h = by_seconds (eqb (base % 60) 0) refl
-  where
-    some : 0 < length (decimal (base / 60))
-    some = decimal_nonempty (base / 60) (omega arith)
+    by_seconds : (whole : Bool) → eqb (base % 60000) 0 ≡ whole → Solid (base_text base)
+    by_seconds true e = rw (e, append-nil (decimal (base / 60000))) minutes
+    by_seconds false e =
+        rw e (solid_append (decimal (base / 60000)) (byte ":" ∷ seconds_of base) minutes (refl, seconds))
 
-    by_seconds : (whole : Bool) → eqb (base % 60) 0 ≡ whole → 0 < length (base_text base)
-    by_seconds true e = rw (e, append-nil (decimal (base / 60))) some
-    by_seconds false e = rw e (omega (arith, some, length-append (decimal (base / 60)) (byte ":" ∷ two_digits (base % 60))))
+some_before : (xs ys : List ℕ) → 0 < length xs → 0 < length (xs ++ ys)
+some_before xs ys h = omega (arith, h, length-append xs ys)
+
+base_some : (base : ℕ) → base ≤ 59999999 → 0 < length (base_text base)
+unfolding base_text
+base_some base h = some_before (decimal (base / 60000)) _ (decimal_nonempty (base / 60000) (omega arith))
+
+-- ---- the increment
+
+increment_back : (increment : ℕ) → increment ≤ 999999
+    → milliseconds_of 3 (increment_text increment) ≡ Some increment
+unfolding increment_text
+increment_back increment h =
+    let few : increment / 1000 ≤ 999 = omega arith in
+    let part : increment % 1000 < 1000 = omega arith in
+    let is : 1000 * (increment / 1000) + increment % 1000 ≡ increment = omega arith in
+    seconds_back 3 (increment / 1000) (increment % 1000) (decimal (increment / 1000))
+    (are_digits (increment / 1000) few) (number_back (increment / 1000) few) part
+    ∙ ap Some is
+
+increment_solid : (increment : ℕ) → increment ≤ 999999 → Solid (increment_text increment)
+unfolding increment_text
+increment_solid increment h = solid_append (decimal (increment / 1000)) (decimals_text (increment % 1000))
+    (decimal_solid (increment / 1000) (omega arith)) (decimals_solid (increment % 1000) (omega arith))
+
+increment_some : (increment : ℕ) → increment ≤ 999999 → 0 < length (increment_text increment)
+unfolding increment_text
+increment_some increment h =
+    some_before (decimal (increment / 1000)) _ (decimal_nonempty (increment / 1000) (omega arith))
 
 -- ---- the level
 
-pub level_back : (moves base increment : ℕ) → moves ≤ 999 → base ≤ 59999 → increment ≤ 999
+pub level_back : (moves base increment : ℕ) → moves ≤ 999 → base ≤ 59999999 → increment ≤ 999999
     → level_of (level_text (record { moves = moves; base = base; increment = increment }))
     ≡ Some (record { moves = moves; base = base; increment = increment })
-unfolding level_of level_text
+unfolding level_reading level_text
 level_back moves base increment few_moves few_seconds few =
     let A : List ℕ = decimal moves in
     let B : List ℕ = base_text base in
-    let C : List ℕ = decimal increment in
+    let C : List ℕ = increment_text increment in
     let a = decimal_solid moves few_moves in
     let b = base_solid base few_seconds in
-    let c = decimal_solid increment few in
+    let c = increment_solid increment few in
+    let some : 0 < length C = increment_some increment few in
+    let is_there : eqb (length C) 0 ≡ false = grind (arith, nat_tests, some) in
     let last : without_front_blanks C ≡ C = ap without_front_blanks (sym (append-nil C))
-    ∙ front_solid C [] (decimal_nonempty increment (omega arith)) c ∙ append-nil C in
+    ∙ front_solid C [] some c ∙ append-nil C in
     rw (
       front_solid A (byte " " ∷ (B ++ byte " " ∷ C)) (decimal_nonempty moves (omega arith)) a,
       argument_before A (B ++ byte " " ∷ C) a,
       front_solid B (byte " " ∷ C) (base_some base few_seconds) b,
       argument_before B C b,
       last,
+      is_there,
       argument_whole C c,
       word_before A (B ++ byte " " ∷ C) a,
       word_before B C b,
       word_whole C c,
       number_back moves few_moves,
       base_back base few_seconds,
-      number_back increment few,
+      increment_back increment few,
     ) refl
+
+-- ---- ASCII
+
+digits_ascii : (ds : List ℕ) → list_all is_digit ds ≡ true → IsAscii ds
+digits_ascii [] h i = omega arith
+digits_ascii (c ∷ cs) h zero =
+    let p = and_parts (is_digit c) (list_all is_digit cs) h in
+    let d : is_digit c ≡ true = p.0 in
+    grind (arith, nat_tests, d)
+digits_ascii (c ∷ cs) h (suc i) =
+    let p = and_parts (is_digit c) (list_all is_digit cs) h in digits_ascii cs p.1 i
+
+more_ascii : (c : ℕ) (cs : List ℕ) → c < 128 → IsAscii cs → IsAscii (c ∷ cs)
+more_ascii c cs h all zero = h
+more_ascii c cs h all (suc i) = all i
+
+decimals_ascii : (n : ℕ) → n < 1000 → IsAscii (decimals_text n)
+decimals_ascii n h = by_test (eqb n 0) refl
+  where
+    by_test : (b : Bool) → eqb n 0 ≡ b → IsAscii (decimals_text n)
+    by_test true e = rw (no_decimals n e) IsAscii-nil
+    by_test false e = let d = decimals n h e in
+        rw d.text (more_ascii 46 d.digits (omega arith) (digits_ascii d.digits d.are.digits))
+
+base_ascii : (base : ℕ) → base ≤ 59999999 → IsAscii (base_text base)
+unfolding base_text
+base_ascii base h = by_seconds (eqb (base % 60000) 0) refl
+  where
+    minutes : IsAscii (decimal (base / 60000))
+    minutes = digits_ascii (decimal (base / 60000)) (are_digits (base / 60000) (omega arith))
+
+    seconds : IsAscii (seconds_of base)
+    seconds = IsAscii-append (two_digits (base % 60000 / 1000)) (decimals_text (base % 1000))
+        (digits_ascii (two_digits (base % 60000 / 1000)) (two_digits_are (base % 60000 / 1000) (omega arith)))
+        (decimals_ascii (base % 1000) (omega arith))
+
+    by_seconds : (whole : Bool) → eqb (base % 60000) 0 ≡ whole → IsAscii (base_text base)
+    by_seconds true e = rw (e, append-nil (decimal (base / 60000))) minutes
+    by_seconds false e = rw e (IsAscii-append (decimal (base / 60000)) (byte ":" ∷ seconds_of base) minutes
+        (more_ascii 58 (seconds_of base) (omega arith) seconds))
+
+increment_ascii : (increment : ℕ) → increment ≤ 999999 → IsAscii (increment_text increment)
+unfolding increment_text
+increment_ascii increment h =
+    IsAscii-append (decimal (increment / 1000)) (decimals_text (increment % 1000))
+    (digits_ascii (decimal (increment / 1000)) (are_digits (increment / 1000) (omega arith)))
+    (decimals_ascii (increment % 1000) (omega arith))
+
+pub level_ascii : (level : LevelSeen) → IsLevel level → IsAscii (level_text level)
+unfolding level_text
+level_ascii level is =
+    let last = more_ascii 32 (increment_text level.increment) (omega arith)
+    (increment_ascii level.increment is.increment) in
+    let base = IsAscii-append (base_text level.base) (byte " " ∷ increment_text level.increment)
+    (base_ascii level.base is.base) last in
+    IsAscii-append (decimal level.moves) (byte " " ∷ (base_text level.base ++ byte " " ∷ increment_text level.increment))
+    (digits_ascii (decimal level.moves) (are_digits level.moves is.moves))
+    (more_ascii 32 (base_text level.base ++ byte " " ∷ increment_text level.increment) (omega arith) base)

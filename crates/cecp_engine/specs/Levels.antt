@@ -1,13 +1,17 @@
--- Levels of time, their denotation, and the time that a level gives (CECP, version 2: command `level`).
-use Rattle.std.specs.Prelude.{ℕ, ◌+◌, ◌*◌, ◌/◌, ◌%◌, ◌==◌, nat_lt, if◌then◌else◌, List, [], ◌∷◌, ◌++◌, length, take, drop, codes, decimal, Option, None, Some}
+-- Levels of time, their denotation, and the time that a level gives (CECP, version 2: command `level`). Decimals are an
+-- addition to CECP, whose seconds are whole.
+use Rattle.std.specs.Prelude.{ℕ, ◌+◌, ◌-◌, ◌*◌, ◌/◌, ◌%◌, ◌^◌, ◌==◌, ◌||◌, nat_lt, if◌then◌else◌, List, [], ◌∷◌, ◌++◌, length, take, drop, codes, decimal, Option, None, Some, Result, Ok, Err, option_map}
 use Rattle.std.specs.List.{position_or_len}
+use Rattle.std.specs.Result.{result_ok}
 use Rattle.chess_base.specs.Letters.{byte}
 use Rattle.text_lines.specs.Words.{short_number, word_of, argument_of}
 use Rattle.text_lines.specs.Lines.{without_front_blanks}
 use Rattle.chess_base.specs.Options.{◌>>=◌}
+use Rattle.cecp_engine.specs.declared.level_fault.LevelFault.{LevelFault}
+use Rattle.cecp_engine.specs.declared.level_fault.LevelFault.TheVariants.{Words, Moves, Base, Increment}
 
 -- a time control: `moves` per session (0: one session for the whole game), the `base` time of each session and the
--- `increment` per move, both in seconds. The base of `level 40 5 0`, 5 minutes, is 300 here
+-- `increment` per move, both in milliseconds. The base of `level 40 5 0`, 5 minutes, is 300,000 here
 pub record LevelSeen : Type 0 where
   pub moves : ℕ
   pub base : ℕ
@@ -15,28 +19,60 @@ pub record LevelSeen : Type 0 where
 
 -- ---- denotation
 
--- the base time that a text denotes, in seconds: minutes of 1 to 3 digits (`5` is 300), or these with a colon and
--- seconds of 1 or 2 digits, below 60 (`0:30` is 30, `1:5` is 65); `None` for any other text
+-- the thousandths that decimals, 1 to 3 digits, denote: `5`, as in `0.5`, is 500, `25` is 250, `125` is 125; `None` for
+-- any other text
+unfoldable pub thousandths_of : List ℕ → Option ℕ
+thousandths_of decimals = option_map (λ n. n * 10 ^ (3 - length decimals)) (short_number 3 decimals)
+
+-- the milliseconds that a text of seconds denotes: 1 to `most` digits (`2` is 2000), or these with a point and 1 to 3
+-- decimals (`0.25` is 250); `None` for any other text
+unfoldable pub milliseconds_of : ℕ → List ℕ → Option ℕ
+milliseconds_of most text =
+    let point = position_or_len (λ c. c == byte ".") text in do
+      seconds ← short_number most (take point text)
+      thousandths ← if point == length text then Some 0 else thousandths_of (drop (point + 1) text)
+      Some (1000 * seconds + thousandths)
+
+-- the base time that a text denotes, in milliseconds: minutes of 1 to 3 digits (`5` is 300,000), or these with a colon
+-- and seconds of 1 or 2 digits, below 60, perhaps with decimals (`0:30` is 30,000, `1:5` is 65,000, `0:08.5` is 8,500);
+-- `None` for any other text
 unfoldable pub base_of : List ℕ → Option ℕ
 base_of text =
     let colon = position_or_len (λ c. c == byte ":") text in do
       minutes ← short_number 3 (take colon text)
-      seconds ← if colon == length text then Some 0 else short_number 2 (drop (colon + 1) text)
-      if nat_lt seconds 60 then Some (60 * minutes + seconds) else None
+      milliseconds ← if colon == length text then Some 0 else milliseconds_of 2 (drop (colon + 1) text)
+      if nat_lt milliseconds 60000 then Some (60000 * minutes + milliseconds) else None
 
--- the time control that a text of three words denotes, such as `40 5 0`: moves per session (1 to 3 digits), base time,
--- and increment in seconds (1 to 3 digits). Spaces and tabs before and after each word are ignored; `None` for any
--- other text
-unfoldable pub level_of : List ℕ → Option LevelSeen
-level_of text =
+-- the time control with these parts; if any is `None`, the first that is, as the fault
+abbrev pub level_with : Option ℕ → Option ℕ → Option ℕ → Result LevelSeen LevelFault
+level_with None base increment = Err Moves
+level_with (Some moves) None increment = Err Base
+level_with (Some moves) (Some base) None = Err Increment
+level_with (Some moves) (Some base) (Some increment) =
+    Ok (record { moves = moves; base = base; increment = increment })
+
+-- the time control that a text of three words denotes, such as `40 5 0` or `0 0:10 0.1`: moves per session (1 to 3
+-- digits), base time, and increment in seconds (1 to 3 digits, perhaps with decimals). Spaces and tabs before and after
+-- each word are ignored. For any other text its first fault: that it has not three words, or the first word that
+-- denotes nothing
+unfoldable pub level_reading : List ℕ → Result LevelSeen LevelFault
+level_reading text =
     let first = without_front_blanks text in
     let second = argument_of first in
     let third = argument_of second in
-    if nat_lt 0 (length (argument_of third)) then None else do
-      moves ← short_number 3 (word_of first)
-      base ← base_of (word_of second)
-      increment ← short_number 3 (word_of third)
-      Some (record { moves = moves; base = base; increment = increment })
+    if length third == 0 || nat_lt 0 (length (argument_of third)) then Err Words
+    else level_with (short_number 3 (word_of first)) (base_of (word_of second)) (milliseconds_of 3 (word_of third))
+
+-- the time control that a text denotes; `None` if it denotes none
+abbrev pub level_of : List ℕ → Option LevelSeen
+level_of text = result_ok (level_reading text)
+
+-- the name of a level's fault, by which it is reported
+abbrev pub level_fault_name : LevelFault → List ℕ
+level_fault_name Words = codes "words"
+level_fault_name Moves = codes "moves"
+level_fault_name Base = codes "base"
+level_fault_name Increment = codes "increment"
 
 -- ---- writing
 
@@ -44,14 +80,29 @@ level_of text =
 abbrev pub two_digits : ℕ → List ℕ
 two_digits n = (byte "0" + n / 10) ∷ (byte "0" + n % 10) ∷ []
 
--- a base time, given in seconds, as it is written: minutes, and seconds if there are any, such as `5` or `0:30`
-abbrev pub base_text : ℕ → List ℕ
-base_text base = decimal (base / 60) ++ (if base % 60 == 0 then [] else byte ":" ∷ two_digits (base % 60))
+-- a part of a second, given in milliseconds, as it is written after whole seconds: nothing, or a point and decimals
+-- without zeros at their end, such as `.5`, `.08` or `.125`
+unfoldable pub decimals_text : ℕ → List ℕ
+decimals_text n =
+    if n == 0 then []
+    else if n % 100 == 0 then byte "." ∷ (byte "0" + n / 100) ∷ []
+    else if n % 10 == 0 then byte "." ∷ two_digits (n / 10)
+    else byte "." ∷ (byte "0" + n / 100) ∷ two_digits (n % 100)
 
--- a time control as it is written after `level`, such as `40 5 0`
+-- a base time, given in milliseconds, as it is written: minutes, and seconds if there are any, such as `5`, `0:30` or
+-- `0:08.5`
+unfoldable pub base_text : ℕ → List ℕ
+base_text base = decimal (base / 60000) ++ (if base % 60000 == 0 then [] else byte ":" ∷
+    (two_digits (base % 60000 / 1000) ++ decimals_text (base % 1000)))
+
+-- an increment, given in milliseconds, as it is written: in seconds, such as `2` or `0.1`
+unfoldable pub increment_text : ℕ → List ℕ
+increment_text increment = decimal (increment / 1000) ++ decimals_text (increment % 1000)
+
+-- a time control as it is written after `level`, such as `40 5 0` or `0 0:10 0.1`
 unfoldable pub level_text : LevelSeen → List ℕ
 level_text level =
-    decimal level.moves ++ (codes " " ++ (base_text level.base ++ (codes " " ++ decimal level.increment)))
+    decimal level.moves ++ (codes " " ++ (base_text level.base ++ (codes " " ++ increment_text level.increment)))
 
 -- ---- time
 
@@ -59,4 +110,4 @@ level_text level =
 -- increment for each move. With 40 moves per session the number of sessions begun is 1 for k from 0 to 39, 2 from 40 to
 -- 79; it is always 1 if one session lasts for the whole game
 unfoldable pub allotted : LevelSeen → ℕ → ℕ
-allotted level k = 1000 * (level.base * (if level.moves == 0 then 1 else 1 + k / level.moves) + level.increment * k)
+allotted level k = level.base * (if level.moves == 0 then 1 else 1 + k / level.moves) + level.increment * k

@@ -1,20 +1,20 @@
 //! Levels of time.
 
-ghost use Rattle.std.specs.Prelude.{◌≡◌, ◌≤◌, ◌<◌, ◌==◌, ◌^◌, IfSome, length};
+ghost use Rattle.std.specs.Prelude.{◌≡◌, ◌≤◌, ◌==◌, ◌/◌, ◌^◌, IfSome, length};
 ghost use Rattle.std.specs.List.{position_or_len};
-ghost use Rattle.chess_base.specs.Letters.{byte};
-ghost use Rattle.cecp_engine.specs.Levels.{level_of, base_of, allotted};
+ghost use Rattle.cecp_engine.specs.Levels.{level_of, level_reading, base_of, milliseconds_of, thousandths_of, allotted};
 ghost use Rattle.chess_base.specs.declared.setup.TheConstants.{MOST_MOVES};
 
+use crate::level_fault::LevelFault;
 use std::marker::Model;
 use text_lines::{argument, first_word, short_number, trim_start};
 
 /// A time control (CECP, version 2, command `level`): moves per session, 0 for one session without end, and a base and
-/// an increment in seconds.
+/// an increment in seconds, both with up to three decimals.
 ///
 /// ```
-/// let level: Level = "0 0:30 2".parse()?;
-/// println!(rt; "{level}: {} seconds and {} per move", level.base(), level.increment())?;
+/// let level: Level = "0 0:30 0.5".parse()?;
+/// println!(rt; "{level}: {} seconds and {} ms per move", level.base(), level.increment_milliseconds())?;
 /// ```
 #[derive(Clone, Copy, Debug, PartialEq, Eq, Hash)]
 pub struct Level {
@@ -40,61 +40,105 @@ impl Model for Level {
     ghost inverse = { λ v. record { moves = v.moves; base = v.base; increment = v.increment } };
 }
 
-// The index of the first colon; the text's length if there is none.
-fn colon_at(text: &[u8]) -> usize
-    ensures value { result ≡ position_or_len (λ c. c == byte ":") text.now }
+// The index of the first byte `mark`; the text's length if there is none.
+fn mark_at(text: &[u8], mark: u8) -> usize
+    ensures value { result ≡ position_or_len (λ c. c == mark) text.now }
     ensures in_range { result ≤ length text.now }
 {
     let mut at = 0;
-    while at < text.len() && text[at] != b':' {
+    while at < text.len() && text[at] != mark {
         at += 1;
     }
     at
 }
 
-// The base time that a text denotes, in seconds: minutes (`5`), or minutes and seconds (`0:30`); `None` for any other
-// text.
+// The thousandths that decimals, one to three digits, denote: `5` is 500; `None` for any other text.
+#[tactic(auto, unfolding(crate::specs::Levels::thousandths_of))]
+fn thousandths(decimals: &[u8]) -> Option<u32>
+    ensures value { result ≡ thousandths_of decimals.now }
+    ensures small { IfSome result (λ n. n ≤ 999) }
+{
+    match decimals.len() {
+        1 => Some(100 * short_number(decimals, 1)?),
+        2 => Some(10 * short_number(decimals, 2)?),
+        _ => short_number(decimals, 3),
+    }
+}
+
+// The milliseconds that a text of seconds denotes: one to `most` digits, and then perhaps a point and decimals; `None`
+// for any other text.
+#[tactic(auto, unfolding(crate::specs::Levels::milliseconds_of))]
+fn milliseconds(text: &[u8], most: usize) -> Option<u32>
+    requires { most ≤ 3 }
+    ensures value { result ≡ milliseconds_of most text.now }
+    ensures small { IfSome result (λ n. n ≤ 999999) }
+{
+    let point = mark_at(text, b'.');
+    let seconds = short_number(&text[..point], most)?;
+    let thousandths = if point == text.len() {
+        0
+    } else {
+        thousandths(&text[point + 1..])?
+    };
+    Some(1000 * seconds + thousandths)
+}
+
+// The base time that a text denotes, in milliseconds: minutes (`5`), or minutes and seconds (`0:30`, `0:08.5`); `None`
+// for any other text.
 #[tactic(auto, unfolding(crate::specs::Levels::base_of))]
 fn base(text: &[u8]) -> Option<u32>
     ensures value { result ≡ base_of text.now }
-    ensures small { IfSome result (λ n. n ≤ 59999) }
+    ensures small { IfSome result (λ n. n ≤ 59999999) }
 {
-    let colon = colon_at(text);
+    let colon = mark_at(text, b':');
     let minutes = short_number(&text[..colon], 3)?;
-    let seconds = if colon == text.len() {
+    let milliseconds = if colon == text.len() {
         0
     } else {
-        short_number(&text[colon + 1..], 2)?
+        milliseconds(&text[colon + 1..], 2)?
     };
-    if seconds < 60 {
-        Some(60 * minutes + seconds)
+    if milliseconds < 60000 {
+        Some(60000 * minutes + milliseconds)
     } else {
         None
     }
 }
 
+// The time control that a text denotes, or the text's first fault.
+#[tactic(auto, unfolding(crate::specs::Levels::level_reading))]
+pub(crate) fn read_level(text: &[u8]) -> Result<Level, LevelFault>
+    ensures { result ≡ level_reading text.now }
+{
+    let first = trim_start(text);
+    let second = argument(first);
+    let third = argument(second);
+    if third.is_empty() || !argument(third).is_empty() {
+        return Err(LevelFault::Words);
+    }
+    let Some(moves) = short_number(first_word(first), 3) else {
+        return Err(LevelFault::Moves);
+    };
+    let Some(base) = base(first_word(second)) else {
+        return Err(LevelFault::Base);
+    };
+    let Some(increment) = milliseconds(first_word(third), 3) else {
+        return Err(LevelFault::Increment);
+    };
+    Ok(Level {
+        moves,
+        base,
+        increment,
+    })
+}
+
 impl Level {
-    /// The time control that a text denotes: `MOVES BASE INCREMENT`, each a number of one to three digits, with spaces
-    /// or tabs between and perhaps around. The base is in minutes, or `minutes:seconds` with one or two digits for
-    /// fewer than 60 seconds.
-    #[tactic(auto, unfolding(crate::specs::Levels::level_of))]
+    /// The time control that a text denotes: `MOVES BASE INCREMENT`, with spaces or tabs between and perhaps around.
+    /// Each number has one to three digits. The base is in minutes, or `minutes:seconds` with one or two digits for
+    /// fewer than 60 seconds. These seconds and the increment, in seconds, may have a point and one to three decimals.
     pub fn read(text: &[u8]) -> Option<Self>
         ensures { result ≡ level_of text.now }
     {
-        let first = trim_start(text);
-        let second = argument(first);
-        let third = argument(second);
-        if !argument(third).is_empty() {
-            return None;
-        }
-        let moves = short_number(first_word(first), 3)?;
-        let base = base(first_word(second))?;
-        let increment = short_number(first_word(third), 3)?;
-        Some(Level {
-            moves,
-            base,
-            increment,
-        })
+        read_level(text).ok()
     }
 
     /// How many moves a session has; 0 for one session without end.
@@ -105,18 +149,34 @@ impl Level {
         self.moves
     }
 
-    /// The base time of a session in seconds.
+    /// The base time of a session in whole seconds, rounded down.
     pub fn base(self) -> u32
-        ensures value { result ≡ self.base }
+        ensures value { result ≡ self.base / 1000 }
         ensures few { result ≤ 59999 }
+    {
+        self.base / 1000
+    }
+
+    /// The base time of a session in milliseconds.
+    pub fn base_milliseconds(self) -> u32
+        ensures value { result ≡ self.base }
+        ensures few { result ≤ 59999999 }
     {
         self.base
     }
 
-    /// The increment per move in seconds.
+    /// The increment per move in whole seconds, rounded down.
     pub fn increment(self) -> u32
-        ensures value { result ≡ self.increment }
+        ensures value { result ≡ self.increment / 1000 }
         ensures few { result ≤ 999 }
+    {
+        self.increment / 1000
+    }
+
+    /// The increment per move in milliseconds.
+    pub fn increment_milliseconds(self) -> u32
+        ensures value { result ≡ self.increment }
+        ensures few { result ≤ 999999 }
     {
         self.increment
     }
@@ -134,7 +194,6 @@ impl Level {
         } else {
             1 + moves / self.moves
         };
-        1000 * (u64::from(self.base) * u64::from(sessions)
-            + u64::from(self.increment) * u64::from(moves))
+        u64::from(self.base) * u64::from(sessions) + u64::from(self.increment) * u64::from(moves)
     }
 }

@@ -30,6 +30,7 @@ mod features;
 mod item;
 mod laws;
 mod level;
+mod level_fault;
 mod level_text;
 
 pub use clocks::Clocks;
@@ -38,4 +39,5 @@ pub use features::Features;
 pub use item::{Item, Value, is_known, next_item};
 pub use laws::levels_are_parsed_back;
 pub use level::Level;
-pub use level_text::ParseLevelError;
+pub use level_fault::LevelFault;
+pub use level_text::LevelText;

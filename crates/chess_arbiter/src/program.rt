@@ -188,7 +188,7 @@ fn report_arguments<W: Output, E: Output>(
             help(alloc, error, output, errors)
         }
         WordsFault::NoMemory => reported(errors, fault, 1),
-        WordsFault::BadLevel | WordsFault::BadFen(_) | WordsFault::BadDate => {
+        WordsFault::BadLevel(_) | WordsFault::BadFen(_) | WordsFault::BadDate => {
             reported(errors, fault, 2)
         }
     }

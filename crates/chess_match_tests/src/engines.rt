@@ -108,6 +108,19 @@ const ROWS: &[Row] = &[
         to_white: b"xboard\nprotover 2\naccepted ping\naccepted usermove\naccepted done\nnew\nlevel 2 1 3\nnopost\neasy\nforce\nping 1\ntime 6000\notim 6000\ngo\nping 2\ntime 5300\notim 6300\nusermove e7e5\nping 3\nusermove d8h4\nresult 0-1 {Black mates}\nquit\n",
         to_black: b"xboard\nprotover 2\naccepted ping\naccepted done\nnew\nlevel 2 1 3\nnopost\neasy\nforce\nping 1\nf2f3\ntime 6000\notim 5300\ngo\nping 2\ntime 6300\notim 9600\ng2g4\nresult 0-1 {Black mates}\nquit\n",
     },
+    // White's moves take 250 and 1,008 ms, Black's none.
+    Row {
+        level: b"0 0:08.25 0.08",
+        start: b"",
+        limit: 100,
+        white: b"feature ping=1 usermove=1 done=1\npong 1\nmove f2f3\npong 2\nmove g2g4\npong 3\n",
+        black: b"feature ping=1 done=1\npong 1\nmove e7e5\npong 2\nmove d8h4\n",
+        moments: &[
+            0, 0, 0, 0, 0, 250, 250, 250, 250, 250, 250, 1258, 1258, 1258, 1258,
+        ],
+        to_white: b"xboard\nprotover 2\naccepted ping\naccepted usermove\naccepted done\nnew\nlevel 0 0:08.25 0.08\nnopost\neasy\nforce\nping 1\ntime 825\notim 825\ngo\nping 2\ntime 808\notim 833\nusermove e7e5\nping 3\nusermove d8h4\nresult 0-1 {Black mates}\nquit\n",
+        to_black: b"xboard\nprotover 2\naccepted ping\naccepted done\nnew\nlevel 0 0:08.25 0.08\nnopost\neasy\nforce\nping 1\nf2f3\ntime 825\notim 808\ngo\nping 2\ntime 833\notim 715\ng2g4\nresult 0-1 {Black mates}\nquit\n",
+    },
     Row {
         level: b"0 0:10 0",
         start: b"",

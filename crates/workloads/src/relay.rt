@@ -3,7 +3,7 @@
 use crate::matches::{Script, Talk, Ticking, ends, write_script};
 use crate::random::Random;
 use crate::walk::{Style, walk_on};
-use cecp_engine::{Level, ParseLevelError};
+use cecp_engine::{Level, LevelFault};
 use chess_base::Position;
 use chess_bits::Bits;
 use chess_game::Game;
@@ -50,7 +50,7 @@ pub fn relay(
     times: u32,
     script: &Script,
     game: &mut Game<Bits<'_>>,
-) -> Result<u64, ParseLevelError> {
+) -> Result<u64, LevelFault> {
     let level: Level = "0 60 0".parse()?;
     let mut half_moves: u64 = 0;
     for _ in 0..times {

@@ -16,7 +16,7 @@ use Rattle.chess_base.specs.declared.fen_fault.FenFault.{FenFault}
 use Rattle.chess_base.specs.declared.man.Variant.{Variant}
 use Rattle.chess_base.specs.declared.setup.Setup.{Setup}
 use Rattle.chess_fen.specs.Reading.{fen_reading_as}
-use Rattle.cecp_engine.specs.Levels.{LevelSeen, level_of}
+use Rattle.cecp_engine.specs.Levels.{LevelSeen, level_reading}
 use Rattle.arbiter_cli.specs.Plans.{Said, Values, is_date, is_set, number_of, variant_in, verify_plan_of}
 use Rattle.clap.specs.declared.error.Error.{Error}
 use Rattle.clap.specs.declared.error.kind.ErrorKind.TheVariants.{OutOfMemory}
@@ -65,7 +65,7 @@ IsRequestOf said (request.Match m) = (said.command ≡ codes "match") × IsMatch
 pub record IsJudged (m : MatchRequest) (plan : GamesPlan) : Type 0 where
   pub white : plan.white ≡ m.white
   pub black : plan.black ≡ m.black
-  pub level : level_of m.level.now ≡ Some plan.level
+  pub level : level_reading m.level.now ≡ Ok plan.level
   pub start : start_of m.variant (option_map (λ t. t.now) m.fen) ≡ Ok plan.start
   pub games : plan.games ≡ m.games
   pub date : plan.date ≡ m.date
@@ -77,10 +77,10 @@ pub record IsJudged (m : MatchRequest) (plan : GamesPlan) : Type 0 where
 abbrev pub IsJudgedFault : MatchRequest → WordsFault → Type 0
 IsJudgedFault m (Words e) = ⊥
 IsJudgedFault m NoMemory = ⊥
-IsJudgedFault m BadLevel = level_of m.level.now ≡ None
-IsJudgedFault m (BadFen f) = (l : LevelSeen) × (level_of m.level.now ≡ Some l)
+IsJudgedFault m (BadLevel f) = level_reading m.level.now ≡ Err f
+IsJudgedFault m (BadFen f) = (l : LevelSeen) × (level_reading m.level.now ≡ Ok l)
     × (start_of m.variant (option_map (λ t. t.now) m.fen) ≡ Err f)
-IsJudgedFault m BadDate = (l : LevelSeen) × (p : Setup) × (level_of m.level.now ≡ Some l)
+IsJudgedFault m BadDate = (l : LevelSeen) × (p : Setup) × (level_reading m.level.now ≡ Ok l)
     × (start_of m.variant (option_map (λ t. t.now) m.fen) ≡ Ok p) × (is_date m.date.now ≡ false)
 
 -- the plan is what the request asks for; of a match, level and FEN are read, and the date is checked

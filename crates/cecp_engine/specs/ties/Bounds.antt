@@ -4,11 +4,12 @@ use Rattle.cecp_engine.specs.Levels.{LevelSeen, allotted}
 use Rattle.chess_base.specs.declared.setup.TheConstants.{MOST_MOVES}
 use Rattle.cecp_engine.specs.Clocks.{Spent}
 
--- the numbers of a time control are within what a text can denote: 999 moves, 999 minutes and 59 seconds, 999 seconds
+-- the numbers of a time control are within what a text can denote: 999 moves, 999 minutes and 59.999 seconds, 999.999
+-- seconds
 pub record IsLevel (level : LevelSeen) : Type 0 where
   pub moves : level.moves ≤ 999
-  pub base : level.base ≤ 59999
-  pub increment : level.increment ≤ 999
+  pub base : level.base ≤ 59999999
+  pub increment : level.increment ≤ 999999
 
 -- what a side used (`s`) is no more time than the time control gave it, and at most 20,000 moves
 pub record IsWithin (level : LevelSeen) (s : Spent) : Type 0 where

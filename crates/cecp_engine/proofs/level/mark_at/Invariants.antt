@@ -1,13 +1,12 @@
 use Rattle.std.proofs.Common.{length, drop, ◌-◌, ◌+◌, ◌≡◌, ◌≤◌}
 use Rattle.std.specs.Prelude.{◌==◌}
 use Rattle.std.specs.List.{position_or_len}
-use Rattle.chess_base.specs.Letters.{byte}
-use Rattle.cecp_engine.proofs.level.colon_at.Given as goal
+use Rattle.cecp_engine.proofs.level.mark_at.Given as goal
 
 abbrev pub invariant-loop-at : goal.invariant-loop-at
 invariant-loop-at l = record {
-  before : position_or_len (λ c. c == byte ":") l.text
-      ≡ l.at + position_or_len (λ c. c == byte ":") (drop l.at l.text);
+  before : position_or_len (λ c. c == l.mark) l.text
+      ≡ l.at + position_or_len (λ c. c == l.mark) (drop l.at l.text);
   in_range : l.at ≤ length l.text;
 }
 
