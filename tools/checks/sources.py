@@ -26,6 +26,7 @@ SHORT = {
     "pieces": "pgn_pieces",
     "verifier": "pgn_verifier",
     "cecp": "chess_cecp",
+    "cecp_laws": "chess_cecp_laws",
     "engine": "cecp_engine",
     "match": "chess_match",
     "grammar": "arbiter_grammar",

@@ -1,9 +1,9 @@
-//! Each law of chess_cecp can be called, without a condition.
+//! Each law of chess_cecp and chess_cecp_laws can be called, without a condition.
 
 use chess_cecp::{
-    Session, normal_chess_keeps_its_rows, read_games_are_accepted, reads_change_no_answer,
-    refusals_change_nothing,
+    Session, normal_chess_keeps_its_rows, reads_change_no_answer, refusals_change_nothing,
 };
+use chess_cecp_laws::read_games_are_accepted;
 use chess_moves::Plain;
 
 #[test]
