@@ -19,7 +19,7 @@ pub enum WordsFault {
     #[error("no memory")]
     NoMemory,
     /// The text of a match's level denotes no level.
-    #[error("bad level ({})", .0.name())]
+    #[error("bad level")]
     BadLevel(LevelFault),
     /// The text of a match's start denotes no sound position.
     #[error("illegal position ({})", .0.name())]

@@ -339,26 +339,26 @@ const FAULTS: [(&[&str], &str); 10] = [
             "match", "--white", "x", "--black", "y", "--level", "40 5", "--fen", "x", "--date",
             "\u{7f}",
         ],
-        "bad level (words)",
+        "bad level",
     ),
     (
         &[
             "match", "--white", "x", "--black", "y", "--level", "0 0:60 0", "--fen", "x", "--date",
             "x",
         ],
-        "bad level (base)",
+        "bad level",
     ),
     (
         &[
             "match", "--white", "x", "--black", "y", "--level", "4.5 0:60 x", "--fen", "x",
         ],
-        "bad level (moves)",
+        "bad level",
     ),
     (
         &[
             "match", "--white", "x", "--black", "y", "--level", "0 0:10 0.0001", "--fen", "x",
         ],
-        "bad level (increment)",
+        "bad level",
     ),
     (
         &[

@@ -347,13 +347,13 @@ fn engines_that_can_not_start(rt: HostRuntime) -> Result<(), Fail> {
 const OUT_OF_FORM: [(&[&str], &[u8]); 4] = [
     (
         &["match", "--white", "x", "--black", "y", "--level", "40 5"],
-        b"arbiter: bad level (words)\n",
+        b"arbiter: bad level\n",
     ),
     (
         &[
             "match", "--white", "x", "--black", "y", "--level", "0 0:60 0",
         ],
-        b"arbiter: bad level (base)\n",
+        b"arbiter: bad level\n",
     ),
     (
         &[

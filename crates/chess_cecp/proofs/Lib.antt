@@ -8,4 +8,3 @@ mod Rows
 mod OwnRows
 mod NormalGames
 mod NormalRows
-mod Accepted

@@ -3,4 +3,3 @@ pub mod KnownInput
 pub mod NormalGame
 pub mod NormalPgn
 pub mod Normal
-pub mod Accepted

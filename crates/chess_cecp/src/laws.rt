@@ -10,7 +10,6 @@ ghost use Rattle.chess_cecp.specs.Held.{SessionSeen};
 ghost use Rattle.text_lines.specs.Lines.{LineSeen};
 ghost use Rattle.chess_cecp.specs.declared.run.End.{End};
 ghost use Rattle.chess_cecp.specs.Served.{Served};
-ghost use Rattle.chess_cecp.specs.laws.Accepted.{ReadGamesAreAccepted};
 ghost use Rattle.chess_cecp.specs.laws.KnownInput.{AnswersInput, AreFirstLines};
 ghost use Rattle.chess_cecp.specs.laws.Normal.{normal_row_of, has_normal_row};
 ghost use Rattle.chess_cecp.specs.Session.{row, session_response, IsRefusal};
@@ -40,11 +39,4 @@ pub fn reads_change_no_answer<S: LineServer>()
     ensures lines { (d d2 : Devices) (i : FromInput) → InputGave d.input d2.input i → AreFirstLines d i }
     ensures answers { (s s2 : S) (end : End) (d d2 : Devices)
         → Ran (Served S.respond s s2 (Ok end)) d d2 → AnswersInput S.respond s s2 d d2 }
-{}
-
-/// States a law and does nothing: the moves of a game whose text `read_pgn` of chess_pgn reads without a fault are
-/// accepted, by the table of commands, in a session that is at the game's start and has the same limit of
-/// half-moves: sent one after another by `usermove`, each is played, whichever text denotes it.
-pub fn read_games_are_accepted()
-    ensures { ReadGamesAreAccepted }
 {}

@@ -15,10 +15,7 @@ mod run;
 mod session;
 
 pub use command::{Command, read_command};
-pub use laws::{
-    normal_chess_keeps_its_rows, read_games_are_accepted, reads_change_no_answer,
-    refusals_change_nothing,
-};
+pub use laws::{normal_chess_keeps_its_rows, reads_change_no_answer, refusals_change_nothing};
 pub use run::{End, Fault, LineServer, run_session, serve_lines};
 pub use session::{COMMAND_LEN, Go, Session};
 pub use text_lines::{Line, Lines};

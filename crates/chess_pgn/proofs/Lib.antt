@@ -26,4 +26,3 @@ mod TokenKinds
 mod TokenSplits
 mod Splits
 mod GamesByTags
-mod PlayedWords

@@ -1,4 +1,4 @@
--- What marks in a game's text are (PGN standard of 1994, section 8.2.3.8).
+-- Which words of a game's text are marks such as `!?` (PGN standard of 1994, section 8.2.3.8).
 use Rattle.std.specs.Prelude.{ℕ, Bool, not, ◌&&◌, ◌||◌, List, length, ◌==◌}
 use Rattle.chess_base.specs.Letters.{byte}
 use Rattle.std.specs.List.{list_all}

@@ -1,5 +1,5 @@
-//! Laws of the definitions that code of other crates calls, each the contract of a function that does nothing. The others
-//! are in chess_pgn_laws.
+//! Laws of the definitions, each the contract of a function that does nothing. Code of other crates calls these two; the
+//! others are in chess_pgn_laws.
 
 ghost use Rattle.chess_pgn.specs.laws.Offsets.{FaultsHaveOffsets, HalfMovesHaveBytes};
 

@@ -12,7 +12,7 @@ use Rattle.chess_game.specs.Game.{from_start, outcome_now}
 use Rattle.chess_pgn.specs.GameRead.{GameRead, failed, last_start, variant_named, read_after_tags, pgn_read}
 use Rattle.pgn_writer.specs.shared.TagGroups.{roster_lines, start_lines_in, last_lines}
 use Rattle.chess_pgn.specs.LastTags.{says_nothing, tag_section, last_tag}
-use Rattle.chess_pgn_laws.specs.laws.Normal.{normal_read, NormalIsKept}
+use Rattle.chess_pgn_laws.specs.Normal.{normal_read, NormalIsKept}
 use Rattle.pgn_writer.specs.Terminations.{termination_of}
 use Rattle.chess_pgn.proofs.shared.Games.{fens}
 use Rattle.chess_pgn.specs.Tokens.{Token, after_byte_order_mark, tokens_from}

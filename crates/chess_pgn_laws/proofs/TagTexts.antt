@@ -26,7 +26,7 @@ use Rattle.pgn_writer.specs.GameText.{tag_lines, game_tokens}
 use Rattle.pgn_writer.specs.shared.TagGroups.{fen_lines, start_lines_in, last_lines}
 use Rattle.pgn_writer.specs.shared.NumberedMoves.{number_if_due, numbered_moves}
 use Rattle.chess_pgn.specs.LastTags.{may_precede_tags, named_tag}
-use Rattle.chess_pgn_laws.specs.laws.PgnLaw.{AreTagTexts}
+use Rattle.chess_pgn_laws.specs.PgnLaw.{AreTagTexts}
 use Rattle.pgn_writer.specs.Terminations.{termination_text, termination_of}
 use Rattle.pgn_writer.specs.shared.Lines.{next_column}
 use Rattle.chess_pgn.specs.Tokens.{Token, Skip, Tag, Word, is_word_byte, token_at, tokens_of}

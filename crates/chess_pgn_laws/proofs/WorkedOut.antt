@@ -19,7 +19,7 @@ use Rattle.chess_pgn.specs.GameRead.{IsRead}
 use Rattle.pgn_writer.specs.GameText.{tag_lines, game_tokens}
 use Rattle.chess_pgn.specs.Tokens.{Token, Skip, Tag, Word, after_byte_order_mark, token_at, tokens_of, tokens_from}
 use Rattle.pgn_writer.specs.Written.{ended}
-use Rattle.chess_pgn_laws.specs.laws.Examples.{finished, TextsAreSplit, TextsAreRead, TextsAreLaidOut}
+use Rattle.chess_pgn_laws.specs.Examples.{finished, TextsAreSplit, TextsAreRead, TextsAreLaidOut}
 use Rattle.pgn_writer.specs.PgnText.{IsPgn}
 use Rattle.chess_pgn_laws.proofs.FullLines.{full_cons, grouped_full}
 use Rattle.chess_pgn.proofs.shared.Tokens.{read_split}

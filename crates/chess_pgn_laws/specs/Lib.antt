@@ -1,1 +1,4 @@
-pub mod laws
+pub mod PgnLaw
+pub mod GameOfTokens
+pub mod Normal
+pub mod Examples

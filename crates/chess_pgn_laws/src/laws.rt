@@ -9,11 +9,11 @@ ghost use Rattle.chess_pgn.specs.laws.TokenByToken.{tokens_read};
 ghost use Rattle.pgn_writer.specs.GameText.{pgn};
 ghost use Rattle.pgn_writer.specs.Written.{lines_of};
 ghost use Rattle.chess_pgn.specs.Tokens.{Token, after_byte_order_mark, tokens_from};
-ghost use Rattle.chess_pgn_laws.specs.laws.Examples.{TextsAreLaidOut, TextsAreRead, TextsAreSplit};
-ghost use Rattle.chess_pgn_laws.specs.laws.GameOfTokens.{GamesAreOfTokens};
+ghost use Rattle.chess_pgn_laws.specs.Examples.{TextsAreLaidOut, TextsAreRead, TextsAreSplit};
+ghost use Rattle.chess_pgn_laws.specs.GameOfTokens.{GamesAreOfTokens};
 ghost use Rattle.pgn_writer.specs.laws.Layout.{AreFilled, AreShort};
-ghost use Rattle.chess_pgn_laws.specs.laws.Normal.{NormalIsKept};
-ghost use Rattle.chess_pgn_laws.specs.laws.PgnLaw.{PgnIsReadBack, ResultIsWritten};
+ghost use Rattle.chess_pgn_laws.specs.Normal.{NormalIsKept};
+ghost use Rattle.chess_pgn_laws.specs.PgnLaw.{PgnIsReadBack, ResultIsWritten};
 ghost use Rattle.pgn_writer.specs.PgnText.{IsPgn};
 ghost use Rattle.chess_pgn.specs.Split.{IsSplit};
 

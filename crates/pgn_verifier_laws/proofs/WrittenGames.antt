@@ -17,7 +17,7 @@ use Rattle.pgn_writer.specs.Terminations.{termination_of}
 use Rattle.chess_pgn.specs.Tokens.{after_byte_order_mark, tokens_from}
 use Rattle.chess_pgn.specs.declared.read.PgnEnd.{PgnEnd}
 use Rattle.chess_pgn.specs.declared.tagged_result.ResultTag.{ResultTag}
-use Rattle.chess_pgn_laws.specs.laws.PgnLaw.{PgnIsReadBack, ResultIsWritten}
+use Rattle.chess_pgn_laws.specs.PgnLaw.{PgnIsReadBack, ResultIsWritten}
 use Rattle.chess_pgn.proofs.shared.Tokens.{read_split}
 use Rattle.pgn_verifier.specs.GameFaults.{result_differs, board_says_otherwise, judged, IsJudged}
 use Rattle.pgn_verifier.specs.shared.Contradictions.{contradiction}

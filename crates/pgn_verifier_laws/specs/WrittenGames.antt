@@ -7,7 +7,7 @@ use Rattle.pgn_writer.specs.GameText.{pgn}
 use Rattle.pgn_writer.specs.Terminations.{termination_of}
 use Rattle.chess_pgn.specs.declared.read.PgnEnd.{PgnEnd}
 use Rattle.pgn_writer.specs.declared.tags.Tags.{Tags}
-use Rattle.chess_pgn_laws.specs.laws.PgnLaw.{AreTagTexts}
+use Rattle.chess_pgn_laws.specs.PgnLaw.{AreTagTexts}
 use Rattle.pgn_verifier.specs.GameFaults.{IsJudged}
 use Rattle.pgn_verifier.specs.Reports.{Report, Game}
 use Rattle.pgn_verifier.specs.laws.Reported.{reports_on}

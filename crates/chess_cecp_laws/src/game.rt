@@ -1,6 +1,6 @@
 //! Laws of a session's game. A caller learns one by calling its function, which does nothing.
 
-ghost use Rattle.session_laws.specs.Undo.{UndoTakesAMoveBack};
+ghost use Rattle.chess_cecp_laws.specs.Undo.{UndoTakesAMoveBack};
 
 /// A law: the contract says it, and the function does nothing. `undo` after a move that a session accepted has no
 /// answer, and leaves the session as it was before the move.

@@ -8,9 +8,9 @@ use Rattle.chess_text.specs.declared.reading.Reading.TheVariants as reads
 use Rattle.chess_text.specs.Moves.{reading}
 use Rattle.pgn_writer.specs.declared.tags.Tags.{Tags}
 use Rattle.chess_pgn.specs.GameRead.{pgn_read}
-use Rattle.chess_pgn.proofs.shared.Words.{AreRead, game_words}
+use Rattle.chess_cecp_laws.proofs.PlayedWords.{AreRead, game_words}
 use Rattle.chess_cecp.specs.declared.command.Command.TheVariants.{UserMove}
-use Rattle.chess_cecp.specs.laws.Accepted.{AreAccepted, ReadGamesAreAccepted}
+use Rattle.chess_cecp_laws.specs.Accepted.{AreAccepted, ReadGamesAreAccepted}
 use Rattle.chess_cecp.specs.Session.{becomes_judged, row}
 
 move_accepted : (tags : Tags) (limit : ℕ) (s : State) (m : Move) → verdict_now s ≡ None → s.declared ≡ None

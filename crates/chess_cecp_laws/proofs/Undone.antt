@@ -17,7 +17,7 @@ use Rattle.chess_cecp.specs.Serving.{Response}
 use Rattle.chess_cecp.specs.Session.{IsRefusal, answers, move_row, reading_row, row, session_response, take_back_row}
 use Rattle.chess_cecp.specs.declared.command.Command.{Command}
 use Rattle.chess_cecp.specs.declared.command.Command.TheVariants.{BareMove, Undo, UserMove}
-use Rattle.session_laws.specs.Undo.{IsMoveLine, IsUndoLine, UndoTakesAMoveBack}
+use Rattle.chess_cecp_laws.specs.Undo.{IsMoveLine, IsUndoLine, UndoTakesAMoveBack}
 
 -- the response to `undo` leaves the state `s`, without an answer
 record Undone (s : State) (r : Response State) : Type 0 where

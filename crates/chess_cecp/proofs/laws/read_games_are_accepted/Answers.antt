@@ -1,5 +1,0 @@
-use Rattle.chess_cecp.proofs.Accepted.{read_games}
-use Rattle.chess_cecp.proofs.laws.read_games_are_accepted.Goals as goal
-
-pub returns : goal.returns
-returns c = read_games

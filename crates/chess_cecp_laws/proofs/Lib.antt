@@ -1,0 +1,3 @@
+mod Accepted
+mod PlayedWords
+mod Undone

@@ -1,5 +1,0 @@
--- Claims about the definitions: each is the contract of a function that does nothing.
-pub mod PgnLaw
-pub mod GameOfTokens
-pub mod Normal
-pub mod Examples

@@ -1,5 +1,0 @@
-use Rattle.session_laws.proofs.Undone.{undo_takes_a_move_back}
-use Rattle.session_laws.proofs.game.undo_takes_a_move_back.Goals as goal
-
-pub returns : goal.returns
-returns c = undo_takes_a_move_back
