@@ -25,13 +25,15 @@ pub step_passes : (host host' : MemoryHost) (step : HostStep)
     → started_for host'.games.items ≡ started_for host.games.items ++ started_by step
     → IsNext host.engines.now host.moments.now (started_for host.games.items) step
     → StepsPass (MayCome host) (MayCome host') (step ∷ [])
-step_passes host host' step e m g next = record { extends = extends }
+step_passes host host' step e m g next = record { extends = λ after come. record { each = each after come } }
   where
-    extends : (after : List HostStep) → MayCome host' after → MayCome host (step ∷ after)
-    extends after come [] x rest cut =
+    each : (after : List HostStep) → MayCome host' after
+        → (before : List HostStep) (x : HostStep) (rest : List HostStep) → before ++ x ∷ rest ≡ step ∷ after
+        → IsNext host.engines.now host.moments.now (started_for host.games.items ++ started_in before) x
+    each after come [] x rest cut =
         let is : x ≡ step = cc in
         rw (is, append-nil (started_for host.games.items)) next
-    extends after come (y ∷ before) x rest cut =
+    each after come (y ∷ before) x rest cut =
         let is : y ≡ step = cc in
         let tail : before ++ x ∷ rest ≡ after = cc in
         let earlier : started_for host'.games.items ++ started_in before
@@ -39,7 +41,7 @@ step_passes host host' step e m g next = record { extends = extends }
             ap (λ K. K ++ started_in before) g
             ∙ append_assoc (started_for host.games.items) (started_by step) (started_in before)
             ∙ ap (λ s. started_for host.games.items ++ started_in (s ∷ before)) (sym is) in
-        rw (← e, ← m, ← earlier) (come before x rest tail)
+        rw (← e, ← m, ← earlier) (come.each before x rest tail)
 
 -- ---- the clock
 

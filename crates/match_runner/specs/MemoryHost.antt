@@ -79,9 +79,8 @@ IsNext engines moments earlier (Finishes pipes limit killed) = killed ≡ none_k
 abbrev pub started_for : List MemoryGame → List (List ℕ)
 started_for games = flat_map (λ g. g.commands.white.now ∷ g.commands.black.now ∷ []) games
 
--- just these steps may come at this host from now on: each may come after the engines that were started for the host's
--- games, and then in the steps before it
-abbrev pub MayCome : MemoryHost → List HostStep → Type 0
-MayCome host steps =
-    (before : List HostStep) (step : HostStep) (after : List HostStep) → before ++ step ∷ after ≡ steps
-    → IsNext host.engines.now host.moments.now (started_for host.games.items ++ started_in before) step
+-- just these steps may come at this host from now on
+pub record MayCome (host : MemoryHost) (steps : List HostStep) : Type 0 where
+  -- each may come after the engines that were started for the host's games, and then in the steps before it
+  pub each : (before : List HostStep) (step : HostStep) (after : List HostStep) → before ++ step ∷ after ≡ steps
+      → IsNext host.engines.now host.moments.now (started_for host.games.items ++ started_in before) step

@@ -11,4 +11,4 @@ not_empty (y ∷ before) x after e = cc
 
 pub steps_might_come : StepsMightCome
 steps_might_come host host' steps h = subst (MayCome host) (append-nil steps)
-    (h.extends [] (λ before x after cut. absurd (not_empty before x after cut)))
+    (h.extends [] (record { each = λ before x after cut. absurd (not_empty before x after cut) }))

@@ -342,9 +342,9 @@ one_match only asked plan host steps steps' d d' e e' patient one two =
     let a = scored plan steps d d' one.result one.played one.scored in
     let b = scored plan steps' e e' two.result two.played two.scored in
     let next = subst (EachNext host.engines.now host.moments.now (started_for host.games.items)) a.steps_are
-        (each_next host.engines.now host.moments.now (started_for host.games.items) steps one.at_host) in
+        (each_next host.engines.now host.moments.now (started_for host.games.items) steps one.at_host.each) in
     let next' = subst (EachNext host.engines.now host.moments.now (started_for host.games.items)) b.steps_are
-        (each_next host.engines.now host.moments.now (started_for host.games.items) steps' two.at_host) in
+        (each_next host.engines.now host.moments.now (started_for host.games.items) steps' two.at_host.each) in
     let well = subst (AllByRecursion FinishesWell) a.steps_are one.nothing_failed in
     let well' = subst (AllByRecursion FinishesWell) b.steps_are two.nothing_failed in
     let known : (n : ℕ) → is_some (a.clock n) ≡ true = λ n.

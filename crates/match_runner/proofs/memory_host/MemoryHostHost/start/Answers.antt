@@ -8,8 +8,9 @@ returns-in_err-starts-clause-passes c = none_starts_by _ _ _ _ _ _ _ c.from_resi
 
 pub returns-in_default-clause-passes : goal.returns-in_default-clause-passes
 returns-in_default-clause-passes c =
+    let t = c.in_ok-starts.ensures in
     let s = c.in_default.ensures in
-    none_starts _ _ _ _ _ _ s.engines s.moments s.same refl
+    none_starts _ _ _ _ _ _ s.engines s.moments s.same (rw (t.white_text, t.black_text) refl)
 
 pub returns-clause-passes : goal.returns-clause-passes
 returns-clause-passes c =
