@@ -105,17 +105,17 @@ undo_takes_a_move_back session move undo moves takes accepted = at moves.command
         let texts : (session_response session move).text ≡ (move_row session.limit session.state text).text =
         ap (λ (r : Response SessionSeen). r.text) e ∙ ap (λ (r : Response State). r.text) row_is in
         let states : (session_response session move).state
-            ≡ with_game session (move_row session.limit session.state text).state =
+        ≡ with_game session (move_row session.limit session.state text).state =
         ap (λ (r : Response SessionSeen). r.state) e
         ∙ ap (λ (r : Response State). with_game session r.state) row_is in
         let back = move_undone session.limit session.state text
-            (λ refused. accepted (subst IsRefusal (sym texts) refused)) in
+        (λ refused. accepted (subst IsRefusal (sym texts) refused)) in
         let u = responds_by (with_game session (move_row session.limit session.state text).state) undo Undo takes.fits
-            takes.command in (
+        takes.command in (
           ap (λ (q : SessionSeen). (session_response q undo).text) states
-          ∙ ap (λ (r : Response SessionSeen). r.text) u ∙ back.text,
+              ∙ ap (λ (r : Response SessionSeen). r.text) u ∙ back.text,
           ap (λ (q : SessionSeen). (session_response q undo).state) states
-          ∙ ap (λ (r : Response SessionSeen). r.state) u ∙ ap (with_game session) back.state,
+              ∙ ap (λ (r : Response SessionSeen). r.state) u ∙ ap (with_game session) back.state,
         )
 
     at : (command_of move.text ≡ UserMove) ⊎ (command_of move.text ≡ BareMove)

@@ -84,12 +84,12 @@ from_table p p' name name' steps h = record {
       let marked = map AtHost after ++ Writes (name' ∷ []) ∷ [] in
       let there : p' (at_host (map AtHost after)) = subst (λ (K : List HostStep). p' K) (sym (steps_of_host after)) x in
       let all = subst (λ (K : List GamesStep). MarkedBy p name K)
-          (sym (append_assoc steps (map AtHost after) (Writes (name' ∷ []) ∷ [])))
-          (h.extends marked (inl (map AtHost after, refl, there))) in
+      (sym (append_assoc steps (map AtHost after) (Writes (name' ∷ []) ∷ [])))
+      (h.extends marked (inl (map AtHost after, refl, there))) in
       subst (λ (K : List HostStep). p K)
-          (flat_map-append of_host steps (map AtHost after)
-          ∙ ap (λ (K : List HostStep). at_host steps ++ K) (steps_of_host after))
-          (unmarked p name name' (steps ++ map AtHost after) all);
+      (flat_map-append of_host steps (map AtHost after)
+      ∙ ap (λ (K : List HostStep). at_host steps ++ K) (steps_of_host after))
+      (unmarked p name name' (steps ++ map AtHost after) all);
 }
 
 -- a match at the table of a host, as the host shows it

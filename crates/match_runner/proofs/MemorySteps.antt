@@ -37,10 +37,10 @@ step_passes host host' step e m g next = record { extends = λ after come. recor
         let is : y ≡ step = cc in
         let tail : before ++ x ∷ rest ≡ after = cc in
         let earlier : started_for host'.games.items ++ started_in before
-            ≡ started_for host.games.items ++ started_in (y ∷ before) =
-            ap (λ K. K ++ started_in before) g
-            ∙ append_assoc (started_for host.games.items) (started_by step) (started_in before)
-            ∙ ap (λ s. started_for host.games.items ++ started_in (s ∷ before)) (sym is) in
+        ≡ started_for host.games.items ++ started_in (y ∷ before) =
+        ap (λ K. K ++ started_in before) g
+        ∙ append_assoc (started_for host.games.items) (started_by step) (started_in before)
+        ∙ ap (λ s. started_for host.games.items ++ started_in (s ∷ before)) (sym is) in
         rw (← e, ← m, ← earlier) (come.each before x rest tail)
 
 -- ---- the clock

@@ -41,14 +41,14 @@ lines_begin n part (c ∷ a) b = at (nat_eq c 10) refl
         let (rest, is) = lines_begin n [] a b in (
           rest,
           ten_step n false part c (a ++ b) ten ∙ ap (λ (ls : List LineSeen). line_of n true part ∷ ls) is
-          ∙ ap (λ (ls : List LineSeen). ls ++ rest) (sym (ten_step n false part c a ten)),
+              ∙ ap (λ (ls : List LineSeen). ls ++ rest) (sym (ten_step n false part c a ten)),
         )
     at false e =
         let other : c ≢ 10 = λ ten. absurd (grind (arith, e, ten)) in
         let (rest, is) = lines_begin n (part ++ c ∷ []) a b in (
           rest,
           byte_step n false part c (a ++ b) other ∙ is
-          ∙ ap (λ (ls : List LineSeen). ls ++ rest) (sym (byte_step n false part c a other)),
+              ∙ ap (λ (ls : List LineSeen). ls ++ rest) (sym (byte_step n false part c a other)),
         )
 
 engine_lines_begin : (a b : List ℕ) → (rest : List (Option (List ℕ))) × (engine_lines (a ++ b) ≡ engine_lines a ++ rest)
@@ -153,7 +153,7 @@ module _ (texts : Colour → List ℕ) (coming : ℕ → Option ℕ) (r : Rules)
       let (rest, first) = (p.passed S).4.0.lines in (
         rest ++ more,
         ap engine_lines cut ∙ begins ∙ ap (λ (ls : List (Option (List ℕ))). ls ++ more) first
-        ∙ append_assoc (lines_read S H) rest more,
+            ∙ append_assoc (lines_read S H) rest more,
       )
 
   -- at the end of an output nothing is left of it

@@ -181,10 +181,10 @@ module _ (only : OnlyOneMatch) (asked : SilencesAreAskedFor) (plan : GamesPlan) 
       let (white, w, w') = one_text _ (g.before.engines White) (h.before.engines White) next.0 next'.0 in
       let (black, b, b') = one_text _ (g.before.engines Black) (h.before.engines Black) next.1 next'.1 in
       let one = one_game only asked plan patient (by_colour white black) c g h of of'
-          (is_fresh white black c g w b (λ n. ap (λ (f : ℕ → Option ℕ). f n) turn.1) known)
-          (is_fresh white black c h w' b' (λ n. ap (λ (f : ℕ → Option ℕ). f n) turn'.1 ∙ sym (same n)) known)
-          (record { reads = λ S. (well S).0; writes = λ S. (well S).1 })
-          (record { reads = λ S. (well' S).0; writes = λ S. (well' S).1 }) in (
+      (is_fresh white black c g w b (λ n. ap (λ (f : ℕ → Option ℕ). f n) turn.1) known)
+      (is_fresh white black c h w' b' (λ n. ap (λ (f : ℕ → Option ℕ). f n) turn'.1 ∙ sym (same n)) known)
+      (record { reads = λ S. (well S).0; writes = λ S. (well S).1 })
+      (record { reads = λ S. (well' S).0; writes = λ S. (well' S).1 }) in (
         one,
         begin_alike (number + 1) _ g.after.coming h.after.coming gs hs ofs ofs' turns turns' one.clock one.known
             nexts nexts' wells wells',
@@ -342,17 +342,17 @@ one_match only asked plan host steps steps' d d' e e' patient one two =
     let a = scored plan steps d d' one.result one.played one.scored in
     let b = scored plan steps' e e' two.result two.played two.scored in
     let next = subst (EachNext host.engines.now host.moments.now (started_for host.games.items)) a.steps_are
-        (each_next host.engines.now host.moments.now (started_for host.games.items) steps one.at_host.each) in
+    (each_next host.engines.now host.moments.now (started_for host.games.items) steps one.at_host.each) in
     let next' = subst (EachNext host.engines.now host.moments.now (started_for host.games.items)) b.steps_are
-        (each_next host.engines.now host.moments.now (started_for host.games.items) steps' two.at_host.each) in
+    (each_next host.engines.now host.moments.now (started_for host.games.items) steps' two.at_host.each) in
     let well = subst (AllByRecursion FinishesWell) a.steps_are one.nothing_failed in
     let well' = subst (AllByRecursion FinishesWell) b.steps_are two.nothing_failed in
     let known : (n : ℕ) → is_some (a.clock n) ≡ true = λ n.
-        ap (λ (f : ℕ → Option ℕ). is_some (f n)) next.0
-        ∙ moment_known (slice_get host.moments.now n) _ (some_last 0 host.moments.now) in
+    ap (λ (f : ℕ → Option ℕ). is_some (f n)) next.0
+    ∙ moment_known (slice_get host.moments.now n) _ (some_last 0 host.moments.now) in
     let begun = begin_alike only asked plan patient host.engines.now host.moments.now 1 _ a.clock b.clock a.games b.games
-        a.of_plan b.of_plan a.turns b.turns (λ n. ap (λ (f : ℕ → Option ℕ). f n) (next.0 ∙ sym next'.0)) known
-        next.1 next'.1 well.1 well'.1 in
+    a.of_plan b.of_plan a.turns b.turns (λ n. ap (λ (f : ℕ → Option ℕ). f n) (next.0 ∙ sym next'.0)) known
+    next.1 next'.1 well.1 well'.1 in
     let same = all_same plan plan.games a.games b.games a.closed b.closed begun in
     let written = written_alike plan a.games b.games (alike plan 1 a.games b.games same) in
     let log = logs_alike plan 1 a.games b.games same in (
