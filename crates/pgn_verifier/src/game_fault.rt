@@ -10,7 +10,7 @@ use chess_pgn::{PgnFault, PgnFaultKind};
 
 /// What is wrong with a game.
 #[derive(Clone, Copy, Debug, PartialEq, Eq)]
-pub(crate) enum FaultKind {
+pub enum FaultKind {
     /// Its text can't be read or played.
     Pgn(PgnFaultKind),
     /// Its tag `Result`, whose text has `tag_len` bytes, differs from its termination marker, which names `outcome`.
@@ -21,7 +21,7 @@ pub(crate) enum FaultKind {
 
 /// A fault of a game, and its byte.
 #[derive(Clone, Copy, Debug, PartialEq, Eq)]
-pub(crate) struct GameFault {
+pub struct GameFault {
     /// What is wrong.
     pub kind: FaultKind,
     /// The byte at which it is, counted from the text's first byte; from the input's, once it is reported.

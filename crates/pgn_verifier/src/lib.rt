@@ -32,5 +32,6 @@ mod token_reason;
 pub use buffered::verify;
 pub use collection::verify_collection;
 pub use fault::VerifyFault;
+pub use game_fault::{FaultKind, GameFault};
 pub use options::VerifyOptions;
 pub use tally::Verified;
