@@ -67,7 +67,7 @@ argument_whole xs h = rw (word_whole xs h) (ap without_front_blanks (
 
 -- ---- numbers
 
-numeral : IsNumeralModel (λ ds. list_all is_digit ds ≡ true) (digits_value 10)
+pub numeral : IsNumeralModel (λ ds. list_all is_digit ds ≡ true) (digits_value 10)
 numeral = numerals_by_value _ (search rules)
 
 are_digits : (n : ℕ) → n ≤ 999 → list_all is_digit (decimal n) ≡ true

@@ -2,4 +2,5 @@ pub mod shared
 mod Allotment
 mod Pieces
 mod LevelTexts
+mod LevelRanges
 mod FeatureRuns

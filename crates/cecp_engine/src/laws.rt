@@ -1,11 +1,14 @@
 //! Laws of the definitions. A caller learns one by calling its function, which does nothing.
 
-ghost use Rattle.std.specs.Prelude.{◌≡◌, ◌≤◌, ℕ, Some};
-ghost use Rattle.cecp_engine.specs.Levels.{level_of, level_text};
+ghost use Rattle.std.specs.Prelude.{◌≡◌, ◌≤◌, ℕ, List, Some};
+ghost use Rattle.cecp_engine.specs.Levels.{LevelSeen, level_of, level_text};
 
-/// States a law and does nothing: what is written of a level is parsed as the same level.
+/// States a law and does nothing: what is written of a level is parsed as the same level, if it was parsed before or its
+/// numbers are within the ranges of levels.
 pub fn levels_are_parsed_back()
-    ensures { (moves base increment : ℕ) → moves ≤ 999 → base ≤ 59999999 → increment ≤ 999999
+    ensures parsed { (text : List ℕ) (level : LevelSeen) → level_of text ≡ Some level
+        → level_of (level_text level) ≡ Some level }
+    ensures ranges { (moves base increment : ℕ) → moves ≤ 999 → base ≤ 59999999 → increment ≤ 999999
         → level_of (level_text (record { moves = moves; base = base; increment = increment }))
         ≡ Some (record { moves = moves; base = base; increment = increment }) }
 {}

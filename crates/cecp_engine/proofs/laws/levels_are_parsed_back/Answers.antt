@@ -1,5 +1,9 @@
+use Rattle.cecp_engine.proofs.LevelRanges.{read_back}
 use Rattle.cecp_engine.proofs.LevelTexts.{level_back}
 use Rattle.cecp_engine.proofs.laws.levels_are_parsed_back.Goals as goal
 
-pub returns : goal.returns
-returns c = level_back
+pub returns-clause-parsed : goal.returns-clause-parsed
+returns-clause-parsed c = read_back
+
+pub returns-clause-ranges : goal.returns-clause-ranges
+returns-clause-ranges c = level_back
