@@ -1,11 +1,11 @@
 -- The steps of a table, and those of its host.
-use Rattle.std.proofs.Common.{◌≡◌, ◌∙◌, ℕ, List, [], ◌∷◌, ◌++◌, Option, Result, Err, refl, sym, ap, subst, append_assoc, inl, inr}
+use Rattle.std.proofs.Common.{◌≡◌, ◌∙◌, ℕ, Bool, true, false, List, [], ◌∷◌, ◌++◌, Option, Result, Err, refl, sym, ap, subst, append_assoc, inl, inr}
 use Rattle.std.specs.Prelude.{flat_map, map}
 use Rattle.std.proofs.lemmas.List.Concat.{flat_map-append}
 use Rattle.match_runner.specs.declared.plan.GamesPlan.{GamesPlan}
 use Rattle.match_runner.specs.declared.fault.GamesFault.{GamesFault}
 use Rattle.match_runner.specs.declared.fault.GamesFault.TheVariants.{NoMemory}
-use Rattle.match_runner.specs.GamesTable.{AtHost, GamesStep, HostFuture, HostStep, OpensClock, Outputs, PlaysBy, PlaysGamesAt, PlaysGamesWith, StepsPass, WriteFails, Writes, at_host, of_host}
+use Rattle.match_runner.specs.GamesTable.{AtHost, GamesStep, HostFuture, HostStep, OpensClock, Outputs, PlaysBy, PlaysGamesAt, PlaysGamesWith, StepsPass, WriteFails, Writes, at_host, of_host, writing}
 use Rattle.match_runner.specs.ties.AtHost.{MarkedBy}
 use Rattle.match_runner.proofs.GamesWritten.{steps_more, steps_none}
 
@@ -31,6 +31,11 @@ table_passes p name step none = record { extends = extends }
       subst (λ (K : List HostStep). p (K ++ at_host before)) (sym none) x,
     )
     extends after (inr (before, is)) = inr (step ∷ before, ap (λ (K : List GamesStep). step ∷ K) is)
+
+-- writing a text is no step of the host
+pub writes_at_table : (failed : Bool) (text : List ℕ) → of_host (writing failed text) ≡ []
+writes_at_table true text = refl
+writes_at_table false text = refl
 
 -- the host's steps at a table are themselves
 steps_of_host : (steps : List HostStep) → at_host (map AtHost steps) ≡ steps

@@ -1,6 +1,6 @@
 //! A host over memory, of which all is known.
 
-ghost use Rattle.std.specs.Prelude.{◌≡◌, ◌≢◌, ◌<◌, ◌-◌, ◌^◌, ◌∷◌, ◌++◌, [], ℕ, IfErr, IfOk, IfSome, Some, None, count_by, option_map};
+ghost use Rattle.std.specs.Prelude.{◌≡◌, ◌≢◌, ◌<◌, ◌-◌, ◌^◌, ◌∷◌, ◌++◌, [], ℕ, IfErr, IfOk, IfSome, Some, None, count_by, length, option_map};
 ghost use Rattle.std.specs.List.{find, slice_get};
 ghost use Rattle.std.specs.Str.{bytes_eq};
 ghost use Rattle.chess_base.specs.declared.man.Colour.{Colour};
@@ -213,6 +213,7 @@ impl<'t> MemoryHost<'t> {
         ensures noted { IfOk result (λ n. started_for self.new.games.items ≡ started_for self.old.games.items
             ++ starts.now.white.command.now ∷ starts.now.black.command.now ∷ []) }
         ensures same { IfErr result (λ e. self.new.games.items ≡ self.old.games.items) }
+        ensures index { IfOk result (λ n. n ≡ length self.old.games.items) }
     {
         let number = self.games.len();
         let game = MemoryGame {
@@ -306,6 +307,7 @@ impl<'t> Host for MemoryHost<'t> {
             (next_text self.old.engines.now (started_for self.old.games.items) white.entry.now)
             (next_text self.old.engines.now (started_for self.old.games.items ++ white.entry.now ∷ [])
             black.entry.now)) }
+        ensures running { IfOk result (λ e. e.running ≡ length self.old.games.items) }
     {
         let starts = self.starts_of(white, black)?;
         let Ok(running) = self.note_start(&starts) else {

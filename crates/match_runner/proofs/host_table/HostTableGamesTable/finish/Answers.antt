@@ -1,0 +1,7 @@
+-- Waiting for engines is a step of the host.
+use Rattle.std.proofs.Common.{refl}
+use Rattle.match_runner.proofs.HostSteps.{host_passes}
+use Rattle.match_runner.proofs.host_table.HostTableGamesTable.finish.Goals as goal
+
+pub returns-clause-passes : goal.returns-clause-passes
+returns-clause-passes g c = host_passes _ _ _ _ _ refl c.finish.ensures.passes
