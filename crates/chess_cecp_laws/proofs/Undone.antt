@@ -1,5 +1,5 @@
 -- A move that was accepted is taken back.
-use Rattle.std.proofs.Common.{◌≡◌, ◌∙◌, ◌+◌, ◌-◌, ◌⊎◌, ℕ, Bool, true, false, List, [], ◌∷◌, ◌++◌, length, take, nat_le, Option, None, Some, refl, sym, ap, subst, inl, inr, arith, length-append}
+use Rattle.std.proofs.Common.{◌≡◌, ◌∙◌, ◌+◌, ◌-◌, ◌⊎◌, ℕ, suc, Bool, true, false, List, [], ◌∷◌, ◌++◌, length, take, nat_le, Option, None, Some, refl, sym, ap, subst, inl, inr, arith, length-append}
 use Rattle.std.specs.Prelude.{codes, if◌then◌else◌, is_some, ◌||◌}
 use Rattle.std.proofs.lemmas.Bool.{or_parts}
 use Rattle.chess_base.specs.Letters.{new_line}
@@ -29,7 +29,7 @@ without_last : (moves : List Move) (m : Move) → take (length (moves ++ m ∷ [
 without_last [] m = refl
 without_last (x ∷ moves) m =
     let longer = length-append moves (m ∷ []) in
-    let n : length (x ∷ (moves ++ m ∷ [])) - 1 ≡ 1 + (length (moves ++ m ∷ []) - 1) = omega (arith, longer) in
+    let n : length (x ∷ (moves ++ m ∷ [])) - 1 ≡ suc (length (moves ++ m ∷ []) - 1) = omega (arith, longer) in
     ap (λ (k : ℕ). take k (x ∷ (moves ++ m ∷ []))) n ∙ ap (λ (ms : List Move). x ∷ ms) (without_last moves m)
 
 -- a game in which nothing is declared comes back
@@ -41,7 +41,7 @@ comes_back s m none =
 
 undone_after : (s : State) (m : Move) → s.declared ≡ None
     → Undone s (take_back_row 1 (codes "undo") (played s m))
-undone_after s m none = at (nat_le 1 (length (s.moves ++ m ∷ []))) some
+undone_after s m none = at (nat_le 1 (length (s.moves ++ m ∷ []))) refl some
   where
     some : nat_le 1 (length (s.moves ++ m ∷ [])) ≡ true
     some = (let longer = length-append s.moves (m ∷ []) in grind (arith, longer))
