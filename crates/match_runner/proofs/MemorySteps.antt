@@ -111,17 +111,6 @@ pub none_starts : (host host' : MemoryHost) (white black : List ℕ) (limit : Op
 none_starts host host' white black limit fault e m g is = step_passes host host' (StartFails white black limit fault)
     (ap (λ r. r.now) e) (ap (λ r. r.now) m) (ap started_for g ∙ sym (append-nil (started_for host.games.items))) is
 
--- none was started, by the result
-pub none_starts_by : {E : Type 0} (host host' : MemoryHost) (pipes : E → Colour → Devices) (white black : List ℕ)
-    (limit : Option ℕ) (r : Result E GamesFault) → IsErr r
-    → host'.engines ≡ host.engines → host'.moments ≡ host.moments → host'.games.items ≡ host.games.items
-    → IfErr r (IsFaultOfStart white black (next_text host.engines.now (started_for host.games.items) white)
-    (next_text host.engines.now (started_for host.games.items ++ white ∷ []) black))
-    → StepsPass (MayCome host) (MayCome host') (starting pipes white black limit r ∷ [])
-none_starts_by host host' pipes white black limit (Ok v) bad e m g is = absurd (let b : false ≡ true = bad in cc)
-none_starts_by host host' pipes white black limit (Err f) fails e m g is =
-    none_starts host host' white black limit f e m g is
-
 -- both were started
 pub both_start : (host host' : MemoryHost) (white black white' black' : List ℕ) (limit : Option ℕ)
     (pipes : Colour → Devices) (white_text black_text : List ℕ) → host'.engines ≡ host.engines → host'.moments ≡ host.moments

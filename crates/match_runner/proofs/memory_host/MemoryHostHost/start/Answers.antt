@@ -1,10 +1,14 @@
 -- Both engines were started, with their texts, or none.
 use Rattle.std.proofs.Common.{refl}
-use Rattle.match_runner.proofs.MemorySteps.{both_start, none_starts, none_starts_by}
+use Rattle.std.proofs.lemmas.Result.{err_from_is_err_and}
+use Rattle.match_runner.proofs.MemorySteps.{both_start, none_starts}
 use Rattle.match_runner.proofs.memory_host.MemoryHostHost.start.Goals as goal
 
 pub returns-in_err-starts-clause-passes : goal.returns-in_err-starts-clause-passes
-returns-in_err-starts-clause-passes c = none_starts_by _ _ _ _ _ _ _ c.from_residual.ensures.0 refl refl refl _
+returns-in_err-starts-clause-passes c =
+    let p = err_from_is_err_and c.from_residual.result c.from_residual.ensures.1 in
+    rw (p.1, p.2)
+    (none_starts _ _ _ _ _ c.in_err-starts.field-0.0 refl refl refl c.in_err-starts.ensures.cause)
 
 pub returns-in_default-clause-passes : goal.returns-in_default-clause-passes
 returns-in_default-clause-passes c =
