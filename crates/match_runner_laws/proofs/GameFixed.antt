@@ -1,10 +1,9 @@
 -- A game is fixed by what its engines say and its clock shows, if nothing fails at its engines' pipes.
 use Rattle.std.proofs.Common.{◌≡◌, ◌≢◌, ◌∙◌, ◌+◌, ◌<◌, ◌^◌, ◌-◌, ℕ, Bool, true, false, List, [], ◌∷◌, ◌++◌, length, Option, None, Some, refl, sym, ap, subst, append_assoc, append-nil, arith}
-use Rattle.std.specs.Prelude.{if◌then◌else◌, is_some, nat_eq, nat_lt, slice_get}
+use Rattle.std.specs.Prelude.{if◌then◌else◌, is_some, map, nat_eq, nat_lt, slice_get}
 use Rattle.std.specs.List.{flat_map}
 use Rattle.std.specs.Option.{IfSome}
 use Rattle.std.specs.Io.KnownBytes.{Appends, Consumes, IsAtEnd}
-use Rattle.std.specs.List.{map}
 use Rattle.std.proofs.lemmas.List.{map-append}
 use Rattle.chess_base.specs.declared.man.Colour.{Colour}
 use Rattle.chess_base.specs.declared.man.Colour.TheVariants.{White, Black}
@@ -32,20 +31,21 @@ Begun all some = (rest : List LineSeen) × (all ≡ some ++ rest)
 -- the lines of a beginning of a stream are the first lines of the whole
 lines_begin : (n : ℕ) (part a b : List ℕ) → Begun (lines_from n false part (a ++ b)) (lines_from n false part a)
 lines_begin n part [] b = (lines_from n false part b, rw (none_from n part) refl)
-lines_begin n part (c ∷ a) b = at (nat_eq c 10) refl
+lines_begin n part (c ∷ a) b =
+    at (nat_eq c 10) refl (lines_begin n [] a b) (lines_begin n (part ++ c ∷ []) a b)
   where
     at : (is : Bool) → nat_eq c 10 ≡ is
+        → Begun (lines_from n false [] (a ++ b)) (lines_from n false [] a)
+        → Begun (lines_from n false (part ++ c ∷ []) (a ++ b)) (lines_from n false (part ++ c ∷ []) a)
         → Begun (lines_from n false part (c ∷ (a ++ b))) (lines_from n false part (c ∷ a))
-    at true e =
-        let ten : c ≡ 10 = grind (arith, e) in
-        let (rest, is) = lines_begin n [] a b in (
+    at true e (rest, is) more =
+        let ten : c ≡ 10 = grind (arith, e) in (
           rest,
           ten_step n false part c (a ++ b) ten ∙ ap (λ (ls : List LineSeen). line_of n true part ∷ ls) is
               ∙ ap (λ (ls : List LineSeen). ls ++ rest) (sym (ten_step n false part c a ten)),
         )
-    at false e =
-        let other : c ≢ 10 = λ ten. absurd (grind (arith, e, ten)) in
-        let (rest, is) = lines_begin n (part ++ c ∷ []) a b in (
+    at false e more (rest, is) =
+        let other : c ≢ 10 = λ ten. absurd (grind (arith, e, ten)) in (
           rest,
           byte_step n false part c (a ++ b) other ∙ is
               ∙ ap (λ (ls : List LineSeen). ls ++ rest) (sym (byte_step n false part c a other)),
@@ -110,13 +110,13 @@ streams texts coming = record {
 }
 
 -- the world before a game whose engines will say just these texts
-pub record Fresh (texts : Colour → List ℕ) (coming : ℕ → Option ℕ) (w : World) : Type 0 where
-  pub texts : (S : Colour) → (w.engines S).input.known_bytes ≡ Some (texts S)
+pub record Fresh (said : Colour → List ℕ) (shown : ℕ → Option ℕ) (w : World) : Type 0 where
+  pub texts : (S : Colour) → (w.engines S).input.known_bytes ≡ Some (said S)
   pub unsent : (S : Colour) → (w.engines S).output.known_bytes ≡ Some []
   pub reads : (S : Colour) → (w.engines S).input.failure_count ≡ 0
   pub writes : (S : Colour) → (w.engines S).output.failure_count ≡ 0
-  pub clock : (n : ℕ) → w.coming n ≡ coming n
-  pub known : (n : ℕ) → is_some (coming n) ≡ true
+  pub clock : (n : ℕ) → w.coming n ≡ shown n
+  pub known : (n : ℕ) → is_some (shown n) ≡ true
 
 -- nothing failed up to this world
 pub record Whole (w : World) : Type 0 where

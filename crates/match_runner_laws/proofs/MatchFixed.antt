@@ -1,6 +1,6 @@
 -- A match at a host over memory is fixed by the host and the plan.
-use Rattle.std.proofs.Common.{◌≡◌, ◌∙◌, ◌+◌, ◌<◌, ◌≤◌, ◌-◌, ◌⊎◌, ℕ, List, [], ◌∷◌, ◌++◌, length, Option, None, Some, Result, Ok, Err, refl, sym, ap, subst, append_assoc, append-nil, length-append, arith, inl, inr}
-use Rattle.std.specs.Prelude.{⊤, ⊥, is_some}
+use Rattle.std.proofs.Common.{◌≡◌, ◌∙◌, ◌+◌, ◌<◌, ◌≤◌, ◌-◌, ◌⊎◌, ℕ, true, List, [], ◌∷◌, ◌++◌, length, Option, None, Some, Result, Ok, Err, refl, sym, ap, subst, append_assoc, append-nil, length-append, arith, inl, inr}
+use Rattle.std.specs.Prelude.{⊤, is_some}
 use Rattle.std.specs.List.{AllByRecursion, enumerate_from, flat_map, last_or, slice_get}
 use Rattle.std.specs.Option.{option_map, option_or, option_to_list}
 use Rattle.byte_devices.specs.Transfers.{Devices, ToOutput, OutputTook, all_of}
@@ -177,7 +177,7 @@ module _ (only : OnlyOneMatch) (asked : SilencesAreAskedFor) (plan : GamesPlan) 
   begin_alike number earlier c c' [] games' of of' turn turn' same known next next' well well' = tt
   begin_alike number earlier c c' (g ∷ gs) [] of of' turn turn' same known next next' well well' = tt
   begin_alike number earlier c c' (g ∷ gs) (h ∷ hs) (of, ofs) (of', ofs') (turn, turns) (turn', turns') same known
-      (next, last, nexts) (next', last', nexts') (start, well, wells) (start', well', wells') =
+      (next, (last, nexts)) (next', (last', nexts')) (start, (well, wells)) (start', (well', wells')) =
       let (white, w, w') = one_text _ (g.before.engines White) (h.before.engines White) next.0 next'.0 in
       let (black, b, b') = one_text _ (g.before.engines Black) (h.before.engines Black) next.1 next'.1 in
       let one = one_game only asked plan patient (by_colour white black) c g h of of'
@@ -230,18 +230,20 @@ all_same : (plan : GamesPlan) (left : ℕ) (games games' : List GameRecord) → 
 all_same plan left [] [] closed closed' alike = tt
 all_same plan left [] (h ∷ hs) closed (more, closed') alike = absurd (omega (arith, closed, more))
 all_same plan left (g ∷ gs) [] (more, closed) closed' alike = absurd (omega (arith, closed', more))
-all_same plan left (g ∷ gs) (h ∷ hs) (more, closed) (more', closed') (one, alike) = (one, at closed closed')
+all_same plan left (g ∷ gs) (h ∷ hs) (more, closed) (more', closed') (one, alike) =
+    (one, at closed closed' (λ rest rest'. all_same plan (left - 1) gs hs rest rest' alike))
   where
     at : ((g.end.fault ≡ None) × Closed (left - 1) gs)
         ⊎ ((fault : Colour × MatchFault) × (g.end.fault ≡ Some fault) × (gs ≡ []))
         → ((h.end.fault ≡ None) × Closed (left - 1) hs)
-        ⊎ ((fault : Colour × MatchFault) × (h.end.fault ≡ Some fault) × (hs ≡ [])) → AllSame plan gs hs
-    at (inl (none, rest)) (inl (none', rest')) = all_same plan (left - 1) gs hs rest rest' alike
-    at (inl (none, rest)) (inr (fault, is, end)) =
+        ⊎ ((fault : Colour × MatchFault) × (h.end.fault ≡ Some fault) × (hs ≡ []))
+        → (Closed (left - 1) gs → Closed (left - 1) hs → AllSame plan gs hs) → AllSame plan gs hs
+    at (inl (none, rest)) (inl (none', rest')) on = on rest rest'
+    at (inl (none, rest)) (inr (fault, is, end)) on =
         absurd (let e : None ≡ Some fault = sym none ∙ one.faults ∙ is in cc)
-    at (inr (fault, is, end)) (inl (none, rest)) =
+    at (inr (fault, is, end)) (inl (none, rest)) on =
         absurd (let e : Some fault ≡ None = sym is ∙ one.faults ∙ none in cc)
-    at (inr (fault, is, end)) (inr (fault', is', end')) = rw (end, end') tt
+    at (inr (fault, is, end)) (inr (fault', is', end')) on = rw (end, end') tt
 
 -- ---- what comes of the same games
 

@@ -1,13 +1,11 @@
 -- A match at a host over memory is fixed by the host and the plan, if nothing fails and nobody is waited for only so
 -- long.
-use Rattle.std.specs.Prelude.{◌≡◌, ⊤, ℕ, Bool, List, Option, Some, Result, Ok, Err}
+use Rattle.std.specs.Prelude.{◌≡◌, ⊤, ℕ, List, [], ◌∷◌, Option, Result, Ok, Err}
 use Rattle.std.specs.List.{AllByRecursion, flat_map}
 use Rattle.byte_devices.specs.Transfers.{Devices, OutputTook, all_of}
-use Rattle.chess_base.specs.declared.by_colour.ByColour.{ByColour}
 use Rattle.chess_base.specs.declared.man.Colour.{Colour}
 use Rattle.chess_base.specs.declared.man.Colour.TheVariants.{White, Black}
 use Rattle.chess_match_laws.specs.OfActs.{endless}
-use Rattle.match_runner.specs.Games.{none_killed}
 use Rattle.match_runner.specs.GamesTable.{HostStep, Finishes, Outputs, PlaysGamesWith}
 use Rattle.match_runner.specs.Log.{Logged}
 use Rattle.match_runner.specs.MemoryHost.{MayCome}
