@@ -1,5 +1,5 @@
 -- What the program does with its arguments, its devices and its host.
-use Rattle.std.specs.Prelude.{◌≡◌, ◌≢◌, ◌⊎◌, ℕ, cond, if◌then◌else◌, List, [], Result, Ok, Err, is_ok}
+use Rattle.std.specs.Prelude.{◌≡◌, ◌≢◌, ◌⊎◌, ℕ, Bool, false, cond, if◌then◌else◌, List, [], Result, Ok, Err, is_ok}
 use Rattle.clap.specs.Words.{Text, kind_of}
 use Rattle.clap.specs.declared.error.kind.ErrorKind.TheVariants.{DisplayHelp, DisplayVersion}
 use Rattle.arbiter_cli.specs.Plans.{IsReading}
@@ -26,7 +26,8 @@ use Rattle.pgn_verifier.specs.Collection.{VerifiesCollection}
 use Rattle.pgn_verifier.specs.Verify.{Verifies}
 use Rattle.match_runner.specs.GamesTable.{HostStep, PlaysGamesWith}
 use Rattle.match_runner.specs.declared.fault.GamesFault.{GamesFault}
-use Rattle.match_runner.specs.Log.{LogSeen}
+use Rattle.match_runner.specs.Games.{report_of}
+use Rattle.match_runner.specs.Log.{LogSeen, Logged, log_seen}
 use Rattle.stub_engine.specs.Stub.{stub_response, waiting}
 use Rattle.chess_arbiter.specs.declared.fault.ProgramFault.TheVariants.{InvalidArguments}
 use Rattle.chess_game.specs.declared.game.TheConstants.{MOST_MOVES}
@@ -79,6 +80,13 @@ ReportsArguments faults.NoMemory w w' status = (w' ≡ w) × (status ≡ 1)
 -- an invalid level, FEN or date of a match: the output stays as it is, and the status is 2
 ReportsArguments _ w w' status = (w' ≡ w) × (status ≡ 2)
 
+-- from the state `l` of a log to `l'` this text was written where the log goes, even if the log was broken: all of it
+-- was written and flushed; or a beginning of it, and then a write or a flush failed (`Logged`). If there is no text,
+-- nothing was done
+abbrev pub Reports : List ℕ → LogSeen → LogSeen → Type 0
+Reports text l l' = (l'.broken ≡ l.broken)
+    × ((failed : Bool) × Logged (log_seen l.output false) (log_seen l'.output failed) text)
+
 -- what contracts see of what the program works with, but for its host
 pub record Surroundings : Type 0 where
   -- its input and its output
@@ -107,13 +115,13 @@ Does (Ok (Stub arguments)) s s' steps status =
     (steps ≡ []) × Serves stub_response (waiting arguments.items) s.devices s'.devices status
 -- nothing of the input was read, and the games of the match were played with the host, written and logged as
 -- `PlaysGamesWith` says; just its steps passed. The status is 0 if all were played without a fault and were written,
--- and the score too; otherwise 1. `logged` is the error output, to which the log goes, after the games. With status 0
--- it stays so; with status 1 more may be written to it, and of its state at the end nothing is said
+-- and the score too; otherwise 1. `logged` is the error output, to which the log goes, after the games. After that a
+-- fault is reported on it (`report_of`), even if writing the log failed
 Does (Ok (Match plan)) s s' steps status = (s'.devices.input ≡ s.devices.input)
     × ((result : Result (Unit {0}) GamesFault) × (logged : LogSeen)
     × PlaysGamesWith plan result steps
     (record { output = s.devices.output; log = s.errors }) (record { output = s'.devices.output; log = logged })
-    × (status ≡ status_of result) × (status ≡ 0 → s'.errors ≡ logged))
+    × (status ≡ status_of result) × Reports (report_of result) logged s'.errors)
 -- no plan: nothing of the input is read; what is written is as `ReportsArguments` says
 Does (Err fault) s s' steps status = (steps ≡ [])
     × (s'.devices.input ≡ s.devices.input) × ReportsArguments fault s.devices.output s'.devices.output status

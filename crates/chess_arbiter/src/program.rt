@@ -4,13 +4,14 @@ ghost use Rattle.std.specs.Prelude.{◌≡◌, ◌⊎◌, IfOk, List, Result, Ok
 ghost use Rattle.chess_cecp.specs.Held.{opened_session};
 ghost use Rattle.pgn_writer.specs.Tags.{default_tags};
 ghost use Rattle.chess_cecp.specs.Session.{session_response};
+ghost use Rattle.match_runner.specs.Games.{report_of};
 ghost use Rattle.match_runner.specs.GamesTable.{HostStep, PlaysGamesWith, StepsPass};
 ghost use Rattle.match_runner.specs.Log.{LogSeen};
 ghost use Rattle.match_runner.specs.declared.fault.GamesFault.{GamesFault};
 ghost use Rattle.pgn_verifier.specs.Collection.{VerifiesCollection};
 ghost use Rattle.pgn_verifier.specs.Verify.{Verifies};
 ghost use Rattle.byte_devices.specs.Transfers.{Devices, Ran};
-ghost use Rattle.chess_arbiter.specs.Program.{RanProgram, ReportsArguments, Serves, WritesHelp, options_of, status_of, verify_status};
+ghost use Rattle.chess_arbiter.specs.Program.{RanProgram, Reports, ReportsArguments, Serves, WritesHelp, options_of, status_of, verify_status};
 ghost use Rattle.stub_engine.specs.Stub.{stub_response, waiting};
 ghost use Rattle.chess_game.specs.declared.game.TheConstants.{MOST_MOVES};
 
@@ -206,13 +207,16 @@ fn matched<H: Host, W: Output, E: Output>(
     ensures { (λ (l l' : LogSeen). (steps : List HostStep) × StepsPass (H.to_come host.old) (H.to_come host.new) steps
         × (played : Result (Unit {0}) GamesFault) × (logged : LogSeen) × PlaysGamesWith plan.now played steps
         (record { output = W.seen output.old; log = l }) (record { output = W.seen output.new; log = logged })
-        × (result ≡ status_of played) × (result ≡ 0 → l' ≡ logged))
+        × (result ≡ status_of played) × Reports (report_of played) logged l')
         (record { output = E.seen log.old.output; broken = log.old.broken })
         (record { output = E.seen log.new.output; broken = log.new.broken }) }
 {
     match play_games_with(host, alloc, plan, output, log) {
         Ok(()) => 0,
-        Err(fault) => reported(&mut log.output, &fault, 1),
+        Err(fault) => {
+            log.report(&fault);
+            1
+        }
     }
 }
 
@@ -239,10 +243,10 @@ fn matched<H: Host, W: Output, E: Output>(
 /// by itself, as it is given no runtime.
 ///
 /// The contract says what was read and written, which steps passed at the host (none but in a match), and the status.
-/// After a match with status 0 the error output has just the logs of its games if `--log` was given, and a line for
-/// each engine that was killed, up to a failed write. Only tests show what else is written to the error output:
-/// `arbiter: FAULT`, after the logs if there are any; what `clap` says of invalid arguments; and nothing if a game
-/// verified has a fault.
+/// After a match the error output has just the logs of its games if `--log` was given, a line for each engine that was
+/// killed, and `arbiter: FAULT` after a fault; each of these up to a failed write. What else is written to the error
+/// output only tests show: `arbiter: FAULT` if anything but a match failed; what `clap` says of invalid arguments; and
+/// nothing if a game verified has a fault.
 pub fn run_program<'a, H: Host, R: Input, W: Output, E: Output>(
     host: &mut H,
     alloc: Global,

@@ -60,6 +60,21 @@ tags_of plan number end = record default_tags {
   ended = end.ended;
 }
 
+-- ---- what is reported
+
+-- why a match was not played to its end, in words such as `can not start ./engine`
+abbrev pub fault_text : GamesFault → List ℕ
+fault_text WriteFailed = codes "write failed"
+fault_text NoMemory = codes "no memory"
+fault_text (CanNotStart command) = codes "can not start " ++ command.now
+fault_text (Game number text) = codes "game " ++ decimal number ++ codes ": " ++ text.now
+
+-- what is reported of a match with this result: nothing if all went well, and otherwise a line such as
+-- `arbiter: game 3: White has no ping`
+abbrev pub report_of : Result (Unit {0}) GamesFault → List ℕ
+report_of (Ok _) = []
+report_of (Err fault) = codes "arbiter: " ++ fault_text fault ++ new_line ∷ []
+
 -- ---- one game
 
 -- a game that was played

@@ -1,6 +1,6 @@
 //! The log of a match: what the engines send and are sent.
 
-ghost use Rattle.std.specs.Prelude.{◌≡◌, ◌<◌, ◌∷◌, ◌++◌, [], decimal, false, length, map};
+ghost use Rattle.std.specs.Prelude.{◌≡◌, ◌<◌, ◌∷◌, ◌++◌, [], Bool, Err, decimal, false, length, map};
 ghost use Rattle.arrayvec.specs.ArrayVec.{array_vec_len};
 ghost use Rattle.chess_base.specs.Letters.{new_line};
 ghost use Rattle.chess_base.specs.Options.{list_if};
@@ -10,11 +10,12 @@ ghost use Rattle.chess_match.specs.Notes.{Gives, Happened};
 ghost use Rattle.chess_match.specs.Played.{PlayedNoting};
 ghost use Rattle.chess_match.specs.Reasons.{colour_name};
 ghost use Rattle.chess_match.specs.Run.{engines_of, text_read};
-ghost use Rattle.match_runner.specs.Games.{killed_line, killed_lines};
+ghost use Rattle.match_runner.specs.Games.{fault_text, killed_line, killed_lines, report_of};
 ghost use Rattle.match_runner.specs.Log.{Logged, LogsNote};
 ghost use Rattle.match_runner.specs.Log.{lines_in, log_line, log_seen, log_from};
 ghost use Rattle.match_runner.specs.ties.Logging.{Adds, IsLog, engine_text, line_head, noted_by};
 
+use crate::fault::GamesFault;
 use arrayvec::ArrayVec;
 use byte_devices::{Input, Output, len_before, send};
 use chess_base::{ByColour, Colour, same_colour};
@@ -158,6 +159,36 @@ impl Pending {
         self.add(output, b'\n');
     }
 
+    // Logs why a match was not played to its end.
+    fn add_fault<E: Output>(&mut self, output: &mut E, fault: &GamesFault<'_>)
+        ensures { Adds (E.seen output.old) (E.seen output.new) self.old self.new (fault_text fault.now) }
+    {
+        match fault {
+            GamesFault::WriteFailed => self.add_text(output, b"write failed"),
+            GamesFault::NoMemory => self.add_text(output, b"no memory"),
+            GamesFault::CanNotStart(command) => {
+                self.add_text(output, b"can not start ");
+                self.add_text(output, command.as_bytes());
+            }
+            GamesFault::Game(number, text) => {
+                self.add_text(output, b"game ");
+                self.add_number(output, u64::from(*number));
+                self.add_text(output, b": ");
+                self.add_text(output, text.as_bytes());
+            }
+        }
+    }
+
+    // Logs the line that reports a fault of the match.
+    fn add_report<E: Output>(&mut self, output: &mut E, fault: &GamesFault<'_>)
+        ensures adds { Adds (E.seen output.old) (E.seen output.new) self.old self.new (report_of (Err fault.now)) }
+        ensures nothing { self.new.bytes.items ≡ [] }
+    {
+        self.add_text(output, b"arbiter: ");
+        self.add_fault(output, fault);
+        self.add(output, b'\n');
+    }
+
     // Logs a whole line, such as `312 <first : move e2e4`; `mark` is `<`, `>` or `!`, and `is_first` says whether the
     // engine is that of `--white`.
     fn add_line<E: Output>(
@@ -278,6 +309,17 @@ impl<E: Output> Log<E> {
     {
         self.note_if_killed(number, Colour::White, killed.white);
         self.note_if_killed(number, Colour::Black, killed.black);
+    }
+
+    /// Writes the line that reports why a match was not played to its end, such as `arbiter: game 3: White has no ping`,
+    /// to the log's output, also after a write or a flush of the log that failed.
+    pub fn report(&mut self, fault: &GamesFault<'_>)
+        ensures reports { (failed : Bool) × Logged (log_seen (E.seen self.old.output) false)
+            (log_seen (E.seen self.new.output) failed) (report_of (Err fault.now)) }
+        ensures broken { self.new.broken ≡ self.old.broken }
+    {
+        let mut line = Pending::new(false);
+        line.add_report(&mut self.output, fault);
     }
 
     // Logs a line of this side's engine at the time of the last event, such as `312 !first : output ended`; `mark` is

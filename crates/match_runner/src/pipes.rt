@@ -38,6 +38,8 @@ const MOST_LATE: u32 = 64;
 /// An engine's output, with the clock by which it is waited for.
 #[derive(Drop)]
 pub struct EngineOutput<'t, T, S> {
+    /// A copy of the command by which the engine was started.
+    pub(crate) command: String,
     pipe: Counted<S>,
     clock: SinceStart<'t, T>,
     /// How many pieces were found after the moment until which the output was waited for.
@@ -45,9 +47,10 @@ pub struct EngineOutput<'t, T, S> {
 }
 
 impl<'t, T: Clock, S: Read> EngineOutput<'t, T, S> {
-    /// The output that this end of a pipe gives, waited for by this clock.
-    pub fn new(end: S, clock: SinceStart<'t, T>) -> Self
-        ensures { ⟦<Counted<S> as Input>⟧.seen result.pipe
+    /// The output that this end of a pipe gives, waited for by this clock; `command` is the engine's.
+    pub fn new(command: String, end: S, clock: SinceStart<'t, T>) -> Self
+        ensures command { result.command ≡ command.entry }
+        ensures seen { ⟦<Counted<S> as Input>⟧.seen result.pipe
             ≡ record {
               known_bytes = S.remaining end;
               failure_count = 0;
@@ -57,6 +60,7 @@ impl<'t, T: Clock, S: Read> EngineOutput<'t, T, S> {
             } }
     {
         EngineOutput {
+            command,
             pipe: Counted::reading(end),
             clock,
             late: 0,
@@ -105,18 +109,22 @@ const PIPE_LEN: usize = 4096;
 /// An engine's input. With a limit, a write that can't go on for so many milliseconds fails.
 #[derive(Drop)]
 pub struct EngineInput<S> {
+    /// A copy of the command by which the engine was started.
+    pub(crate) command: String,
     pipe: Counted<S>,
     limit: Option<u64>,
 }
 
 impl<S: Write> EngineInput<S> {
     /// The input that this end of a pipe takes; a write waits for at most `limit` milliseconds, without it as long as
-    /// it takes.
-    pub fn new(end: S, limit: Option<u64>) -> Self
-        ensures { ⟦<Counted<S> as Output>⟧.seen result.pipe
+    /// it takes. `command` is the engine's.
+    pub fn new(command: String, end: S, limit: Option<u64>) -> Self
+        ensures command { result.command ≡ command.entry }
+        ensures seen { ⟦<Counted<S> as Output>⟧.seen result.pipe
             ≡ record { known_bytes = S.contents end; failure_count = 0; unflushed = 0 } }
     {
         EngineInput {
+            command,
             pipe: Counted::writing(end),
             limit,
         }

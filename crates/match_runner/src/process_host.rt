@@ -26,7 +26,7 @@ use std::time::Duration;
 /// A process that runs an engine.
 #[derive(Drop)]
 pub struct Process<P: OpenProcess + Drop> {
-    /// A copy of the command by which it was to be started.
+    /// A copy of the command by which it was started.
     command: String,
     child: Child<P>,
 }
@@ -163,20 +163,24 @@ where
     <R::Started as OpenProcess>::Stdout: AsRawFd,
     <R::Started as OpenProcess>::Stdin: AsRawFd,
     ensures fails { IfErr result (FailsToStart text.entry.now) }
-    ensures command { IfOk result (λ e. string_bytes e.process.command ≡ text.entry.now) }
+    ensures command { IfOk result (λ e. (string_bytes e.process.command ≡ text.entry.now)
+        × (string_bytes e.ends.reader.command ≡ text.entry.now)
+        × (string_bytes e.ends.writer.command ≡ text.entry.now)) }
     ensures fresh { IfOk result (λ e. AreFresh (record {
       input = ⟦<EngineOutput<'t, R, <R::Started as OpenProcess>::Stdout> as Input>⟧.seen e.ends.reader;
       output = ⟦<EngineInput<<R::Started as OpenProcess>::Stdin> as Output>⟧.seen e.ends.writer;
     })) }
 {
     let command = copy_of(host.alloc, text)?;
+    let of_output = copy_of(host.alloc, text)?;
+    let of_input = copy_of(host.alloc, text)?;
     let mut child = spawn(host.rt, host.alloc, text)?;
     match (child.stdin.take(), child.stdout.take()) {
         (Some(input), Some(output)) => Ok(Engine {
             process: Process { command, child },
             ends: Ends {
-                reader: EngineOutput::new(output, host.clock.again()),
-                writer: EngineInput::new(input, limit),
+                reader: EngineOutput::new(of_output, output, host.clock.again()),
+                writer: EngineInput::new(of_input, input, limit),
             },
         }),
         (input, output) => {
@@ -335,8 +339,12 @@ where
     <R::Started as OpenProcess>::Stdout: AsRawFd,
     <R::Started as OpenProcess>::Stdin: AsRawFd,
     ensures faults { IfErr result (λ f. FailsToStart white.entry.now f ⊎ FailsToStart black.entry.now f) }
-    ensures white_command { IfOk result (λ e. string_bytes e.running.white.command ≡ white.entry.now) }
-    ensures black_command { IfOk result (λ e. string_bytes e.running.black.command ≡ black.entry.now) }
+    ensures white_command { IfOk result (λ e. (string_bytes e.running.white.command ≡ white.entry.now)
+        × (string_bytes e.ends.white.reader.command ≡ white.entry.now)
+        × (string_bytes e.ends.white.writer.command ≡ white.entry.now)) }
+    ensures black_command { IfOk result (λ e. (string_bytes e.running.black.command ≡ black.entry.now)
+        × (string_bytes e.ends.black.reader.command ≡ black.entry.now)
+        × (string_bytes e.ends.black.writer.command ≡ black.entry.now)) }
     ensures fresh { IfOk result (λ e. (S : Colour) → AreFresh (engines_of
         ⟦<EngineOutput<'t, R, <R::Started as OpenProcess>::Stdout> as Input>⟧.seen
         ⟦<EngineInput<<R::Started as OpenProcess>::Stdin> as Output>⟧.seen e.ends.white e.ends.black S)) }
@@ -390,8 +398,12 @@ where
             ⟦<EngineOutput<'t, R, <R::Started as OpenProcess>::Stdout> as Input>⟧.seen
             ⟦<EngineInput<<R::Started as OpenProcess>::Stdin> as Output>⟧.seen e.ends.white e.ends.black)
             white.entry.now black.entry.now limit result ∷ []) }
-        ensures white_command { IfOk result (λ e. string_bytes e.running.white.command ≡ white.entry.now) }
-        ensures black_command { IfOk result (λ e. string_bytes e.running.black.command ≡ black.entry.now) }
+        ensures white_command { IfOk result (λ e. (string_bytes e.running.white.command ≡ white.entry.now)
+            × (string_bytes e.ends.white.reader.command ≡ white.entry.now)
+            × (string_bytes e.ends.white.writer.command ≡ white.entry.now)) }
+        ensures black_command { IfOk result (λ e. (string_bytes e.running.black.command ≡ black.entry.now)
+            × (string_bytes e.ends.black.reader.command ≡ black.entry.now)
+            × (string_bytes e.ends.black.writer.command ≡ black.entry.now)) }
     {
         start_both(self, white, black, limit)
     }

@@ -1,10 +1,11 @@
 -- A match at a host over memory is fixed by the host and the plan.
 use Rattle.std.proofs.Common.{◌≡◌, ◌∙◌, ◌+◌, ◌<◌, ◌≤◌, ◌-◌, ◌⊎◌, ℕ, true, List, [], ◌∷◌, ◌++◌, length, Option, None, Some, Result, Ok, Err, refl, sym, ap, subst, append_assoc, append-nil, length-append, arith, inl, inr}
-use Rattle.std.specs.Prelude.{⊤, is_some}
+use Rattle.std.specs.Prelude.{⊤, codes, decimal, is_some}
 use Rattle.std.specs.List.{AllByRecursion, enumerate_from, flat_map, last_or, slice_get}
 use Rattle.std.specs.Option.{option_map, option_or, option_to_list}
 use Rattle.byte_devices.specs.Transfers.{Devices, ToOutput, OutputTook, all_of}
 use Rattle.chess_base.specs.ByColour.{by_colour}
+use Rattle.chess_base.specs.Letters.{new_line}
 use Rattle.chess_base.specs.declared.by_colour.ByColour.{ByColour}
 use Rattle.chess_base.specs.declared.man.Colour.{Colour}
 use Rattle.chess_base.specs.declared.man.Colour.TheVariants.{White, Black}
@@ -12,9 +13,10 @@ use Rattle.chess_game.specs.declared.results.Outcome.{Outcome}
 use Rattle.chess_match.specs.Acts.{Act}
 use Rattle.chess_match.specs.Effects.{Match, Over}
 use Rattle.chess_match.specs.Lines.{bytes_of}
-use Rattle.chess_match.specs.Reasons.{ended_by, outcome_by_reason, reported_fault}
+use Rattle.chess_match.specs.Reasons.{comment_of, ended_by, outcome_by_reason, reported_fault}
 use Rattle.chess_match.specs.declared.reason.MatchFault.{MatchFault}
 use Rattle.chess_match.specs.declared.reason.Reason.{Reason}
+use Rattle.chess_match.specs.declared.reason.Reason.TheVariants.{Faulted}
 use Rattle.chess_match.specs.laws.Laws.{is_broken, lines_sent, moments_shown, notes_given}
 use Rattle.chess_match_laws.specs.OfActs.{OnlyOneMatch, SilencesAreAskedFor, endless}
 use Rattle.match_runner.specs.declared.fault.GamesFault.{GamesFault}
@@ -22,7 +24,7 @@ use Rattle.match_runner.specs.declared.fault.GamesFault.TheVariants.{CanNotStart
 use Rattle.match_runner.specs.declared.memory_host.MemoryEngine.{MemoryEngine}
 use Rattle.match_runner.specs.declared.memory_host.MemoryHost.{MemoryHost}
 use Rattle.match_runner.specs.declared.plan.GamesPlan.{GamesPlan}
-use Rattle.match_runner.specs.Games.{AreAllGames, FaultlessGames, GameRecord, IsOfPlan, LogsGames, WritesGames, game_log, game_text, game_texts, none_killed, score_line}
+use Rattle.match_runner.specs.Games.{AreAllGames, FaultlessGames, GameRecord, IsOfPlan, LogsGames, WritesGames, game_log, game_text, game_texts, none_killed, report_of, score_line}
 use Rattle.match_runner.specs.GamesTable.{BeginsAt, ComeInTurn, Finishes, GamesStep, HostStep, OpensClock, Outputs, PlaysGamesWith, Starts, Writes, at_host, games_steps, last_steps, steps_by}
 use Rattle.match_runner.specs.Log.{LogSeen, Logged}
 use Rattle.match_runner.specs.MemoryHost.{IsNext, MayCome, fresh_pipes, moment_at, next_text, started_by, started_for, started_in}
@@ -269,11 +271,79 @@ sent_alike plan number (g ∷ gs) (k ∷ ks) (one, more) =
     rw (one.sent White, one.sent Black, sent_alike plan (number + 1) gs ks more) refl
 sent_alike plan number gs ks h = absurd h
 
+-- ---- the fault that is reported
+
+-- the fault in the last of these games, if there is one
+last_fault : List GameRecord → Option (Colour × MatchFault)
+last_fault [] = None
+last_fault (g ∷ []) = g.end.fault
+last_fault (g ∷ h ∷ gs) = last_fault (h ∷ gs)
+
+no_fault : (plan : GamesPlan) (games : List GameRecord) → FaultlessGames plan games → last_fault games ≡ None
+no_fault plan [] h = refl
+no_fault plan (g ∷ []) ((of, none), h) = none
+no_fault plan (g ∷ k ∷ gs) (of, h) = no_fault plan (k ∷ gs) h
+
+fault_at_end : (before : List GameRecord) (last : GameRecord) → last_fault (before ++ last ∷ []) ≡ last.end.fault
+fault_at_end [] last = refl
+fault_at_end (g ∷ []) last = refl
+fault_at_end (g ∷ h ∷ gs) last = fault_at_end (h ∷ gs) last
+
+same_fault : (plan : GamesPlan) (games games' : List GameRecord) → AllSame plan games games'
+    → last_fault games ≡ last_fault games'
+same_fault plan [] [] h = refl
+same_fault plan (g ∷ []) (k ∷ []) (one, more) = one.faults
+same_fault plan (g ∷ []) (k ∷ k' ∷ ks) (one, more) = absurd more
+same_fault plan (g ∷ g' ∷ gs) (k ∷ []) (one, more) = absurd more
+same_fault plan (g ∷ g' ∷ gs) (k ∷ k' ∷ ks) (one, more) = same_fault plan (g' ∷ gs) (k' ∷ ks) more
+same_fault plan [] (k ∷ ks) h = absurd h
+same_fault plan (g ∷ gs) [] h = absurd h
+
+as_many : (plan : GamesPlan) (games games' : List GameRecord) → AllSame plan games games'
+    → length games ≡ length games'
+as_many plan [] [] h = refl
+as_many plan (g ∷ gs) (k ∷ ks) (one, more) = ap (λ n. suc n) (as_many plan gs ks more)
+as_many plan [] (k ∷ ks) h = absurd h
+as_many plan (g ∷ gs) [] h = absurd h
+
+-- a fault in the game of this number
+in_game : ℕ → Option (Colour × MatchFault) → Option (ℕ × Colour × MatchFault)
+in_game number None = None
+in_game number (Some (side, fault)) = Some (number, side, fault)
+
+fault_of_last : (plan : GamesPlan) (games : List GameRecord) (fault : Option (ℕ × Colour × MatchFault))
+    → AreAllGames plan games fault → fault ≡ in_game (length games) (last_fault games)
+fault_of_last plan games None (h, many) =
+    sym (ap (λ (f : Option (Colour × MatchFault)). in_game (length games) f) (no_fault plan games h))
+fault_of_last plan games (Some (number, side, fault)) (before, last, is, h, of, found, counted, few) =
+    ap (λ n. Some (n, side, fault)) counted
+    ∙ sym (ap (λ (f : Option (Colour × MatchFault)). in_game (length games) f)
+    (ap last_fault is ∙ fault_at_end before last ∙ found))
+
+-- what is reported if this is the fault, or none is
+reported : Option (ℕ × Colour × MatchFault) → List ℕ
+reported None = []
+reported (Some (number, side, fault)) =
+    codes "arbiter: " ++ (codes "game " ++ decimal number ++ codes ": " ++ comment_of (Faulted side fault))
+    ++ new_line ∷ []
+
+one_fault : (plan : GamesPlan) (games games' : List GameRecord) (fault fault' : Option (ℕ × Colour × MatchFault))
+    → AreAllGames plan games fault → AreAllGames plan games' fault' → AllSame plan games games' → fault ≡ fault'
+one_fault plan games games' fault fault' all all' same =
+    fault_of_last plan games fault all
+    ∙ ap (λ (n : ℕ). in_game n (last_fault games)) (as_many plan games games' same)
+    ∙ ap (λ (f : Option (Colour × MatchFault)). in_game (length games') f) (same_fault plan games games' same)
+    ∙ sym (fault_of_last plan games' fault' all')
+
 -- ---- a match that was played to its score
 
-record Scored (plan : GamesPlan) (steps : List HostStep) (d d' : Outputs) : Type 0 where
+record Scored (plan : GamesPlan) (result : Result (Unit {0}) GamesFault) (steps : List HostStep) (d d' : Outputs)
+    : Type 0 where
   pub clock : ℕ → Option ℕ
   pub games : List GameRecord
+  pub fault : Option (ℕ × Colour × MatchFault)
+  pub all_games : AreAllGames plan games fault
+  pub report : report_of result ≡ reported fault
   pub of_plan : AllByRecursion (IsOfPlan plan) games
   pub closed : Closed plan.games games
   pub turns : ComeInTurn clock games
@@ -281,15 +351,19 @@ record Scored (plan : GamesPlan) (steps : List HostStep) (d d' : Outputs) : Type
   pub wrote : OutputTook d.output d'.output (all_of (game_texts plan games ++ score_line games))
   pub logged : LogsGames plan d.log d'.log games
 
-scored_by : (plan : GamesPlan) (steps : List HostStep) (d d' : Outputs) (c : ℕ → Option ℕ) (games : List GameRecord)
-    (o : ToOutput) (fault : Option (ℕ × Colour × MatchFault)) → AreAllGames plan games fault
+scored_by : (plan : GamesPlan) (result : Result (Unit {0}) GamesFault) (steps : List HostStep) (d d' : Outputs)
+    (c : ℕ → Option ℕ) (games : List GameRecord) (o : ToOutput) (fault : Option (ℕ × Colour × MatchFault))
+    → report_of result ≡ reported fault → AreAllGames plan games fault
     → o ≡ all_of (game_texts plan games ++ score_line games) → OutputTook d.output d'.output o
     → LogsGames plan d.log d'.log (games ++ []) → ComeInTurn c (games ++ [])
-    → steps ≡ OpensClock c ∷ at_host (games_steps plan games ++ []) → Scored plan steps d d'
-scored_by plan steps d d' c games o fault all is took logs turns steps_are =
+    → steps ≡ OpensClock c ∷ at_host (games_steps plan games ++ []) → Scored plan result steps d d'
+scored_by plan result steps d d' c games o fault told all is took logs turns steps_are =
     let (ofs, closed) = closed_games plan games fault all in record {
       clock = c;
       games = games;
+      fault = fault;
+      all_games = all;
+      report = told;
       of_plan = ofs;
       closed = closed;
       turns = subst (ComeInTurn c) (append-nil games) turns;
@@ -300,7 +374,7 @@ scored_by plan steps d d' c games o fault all is took logs turns steps_are =
     }
 
 scored : (plan : GamesPlan) (steps : List HostStep) (d d' : Outputs) (result : Result (Unit {0}) GamesFault)
-    → PlaysGamesWith plan result steps d d' → HasScore result → Scored plan steps d d'
+    → PlaysGamesWith plan result steps d d' → HasScore result → Scored plan result steps d d'
 scored plan steps d d' (Ok v) (inr (is, none, kept)) s = absurd (cc)
 scored plan steps d d' (Err (Game number text)) (inr (is, none, kept)) s = absurd (cc)
 scored plan steps d d' (Ok v) (inl (c, (games, unwritten, (o, writes, took, logs), turns, is))) s =
@@ -309,8 +383,8 @@ scored plan steps d d' (Ok v) (inl (c, (games, unwritten, (o, writes, took, logs
     at : (u : Option GameRecord) → WritesGames plan (Ok v) games u o
         → LogsGames plan d.log d'.log (games ++ option_to_list u) → ComeInTurn c (games ++ option_to_list u)
         → steps ≡ OpensClock c ∷ at_host (games_steps plan games ++ last_steps plan (length games + 1) (Ok v) u)
-        → Scored plan steps d d'
-    at None (all, is_o) l t e = scored_by plan steps d d' c games o None all is_o took l t e
+        → Scored plan (Ok v) steps d d'
+    at None (all, is_o) l t e = scored_by plan (Ok v) steps d d' c games o None refl all is_o took l t e
     at (Some u) w l t e = absurd w
 scored plan steps d d' (Err (Game number text)) (inl (c, (games, unwritten, (o, writes, took, logs), turns, is))) s =
     at unwritten writes logs turns is
@@ -319,9 +393,15 @@ scored plan steps d d' (Err (Game number text)) (inl (c, (games, unwritten, (o, 
         → LogsGames plan d.log d'.log (games ++ option_to_list u) → ComeInTurn c (games ++ option_to_list u)
         → steps ≡ OpensClock c ∷ at_host (games_steps plan games
         ++ last_steps plan (length games + 1) (Err (Game number text)) u)
-        → Scored plan steps d d'
-    at None (side, fault, all, named, is_o) l t e =
-        scored_by plan steps d d' c games o (Some (number, side, fault)) all is_o took l t e
+        → Scored plan (Err (Game number text)) steps d d'
+    at None (side, fault, all, words, is_o) l t e =
+        scored_by plan (Err (Game number text)) steps d d' c games o (Some (number, side, fault)) (told words) all is_o
+        took l t e
+      where
+        told : text.now ≡ comment_of (Faulted side fault)
+            → report_of (Err (Game number text)) ≡ reported (Some (number, side, fault))
+        told words = ap (λ (t : List ℕ). codes "arbiter: " ++ (codes "game " ++ decimal number ++ codes ": " ++ t)
+        ++ new_line ∷ []) words
     at (Some u) w l t e = absurd w
 scored plan steps d d' (Err WriteFailed) played s = absurd s
 scored plan steps d d' (Err NoMemory) played s = absurd s
@@ -369,4 +449,7 @@ one_match only asked plan host steps steps' d d' e e' patient one two =
         subst (λ (text : List ℕ). Logged e.log e'.log text) (sym log) b.logged,
       ),
       ap sent_in a.steps_are ∙ sent_alike plan 1 a.games b.games same ∙ sym (ap sent_in b.steps_are),
+      a.report
+          ∙ ap reported (one_fault plan a.games b.games a.fault b.fault a.all_games b.all_games same)
+          ∙ sym b.report,
     )

@@ -6,6 +6,7 @@ use Rattle.byte_devices.specs.Transfers.{Devices, OutputTook, all_of}
 use Rattle.chess_base.specs.declared.man.Colour.{Colour}
 use Rattle.chess_base.specs.declared.man.Colour.TheVariants.{White, Black}
 use Rattle.chess_match_laws.specs.OfActs.{endless}
+use Rattle.match_runner.specs.Games.{report_of}
 use Rattle.match_runner.specs.GamesTable.{HostStep, Finishes, Outputs, PlaysGamesWith}
 use Rattle.match_runner.specs.Log.{Logged}
 use Rattle.match_runner.specs.MemoryHost.{MayCome}
@@ -47,11 +48,12 @@ pub record WentWell (plan : GamesPlan) (host : MemoryHost) (steps : List HostSte
   pub nothing_failed : AllByRecursion FinishesWell steps
 
 -- two matches by one plan without limits to waiting, which were played to their score at one host over memory, and in
--- which nothing failed at the engines' pipes: the same was written, the same was logged, and each engine was sent the
--- same
+-- which nothing failed at the engines' pipes: the same was written, the same was logged, each engine was sent the same,
+-- and the same fault is reported, or none of both
 abbrev pub OneMatchOfAHost : Type 0
 OneMatchOfAHost = (plan : GamesPlan) (host : MemoryHost) (steps steps' : List HostStep) (d d' e e' : Outputs)
-    → plan.patience ≡ endless → WentWell plan host steps d d' → WentWell plan host steps' e e'
+    → plan.patience ≡ endless → (one : WentWell plan host steps d d') (other : WentWell plan host steps' e e')
     → ((text : List ℕ) × OutputTook d.output d'.output (all_of text) × OutputTook e.output e'.output (all_of text))
     × ((log : List ℕ) × Logged d.log d'.log log × Logged e.log e'.log log)
     × (sent_in steps ≡ sent_in steps')
+    × (report_of one.result ≡ report_of other.result)

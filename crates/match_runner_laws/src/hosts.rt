@@ -14,7 +14,7 @@ pub fn steps_might_come()
 
 /// States a law: a match at a host over memory is fixed by the host and the plan. If two matches by one plan without
 /// limits to waiting are played to their score at one host, and nothing fails at the pipes of their engines, then they
-/// write the same, log the same, and send their engines the same.
+/// write the same, log the same, send their engines the same, and report the same fault or both none.
 pub fn hosts_fix_matches()
     ensures { OneMatchOfAHost }
 {

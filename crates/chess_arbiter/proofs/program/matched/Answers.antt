@@ -1,19 +1,14 @@
--- Where nothing failed, nothing was written after the logs.
+-- After the logs nothing was written, or the report of the fault.
 use Rattle.std.proofs.Common.{Ok, Err, refl}
+use Rattle.chess_arbiter.proofs.Reporting.{reports_nothing}
 use Rattle.chess_arbiter.proofs.program.matched.Goals as goal
 
 pub returns-in-Ok : goal.returns-in-Ok
 returns-in-Ok g c =
-    let (steps, passes, plays) = c.in-Ok.ensures.plays in (steps, passes, Ok tt, _, plays, refl, λ e. refl)
+    let (steps, passes, plays) = c.in-Ok.ensures.plays in
+    (steps, passes, Ok tt, _, plays, refl, reports_nothing _)
 
 pub returns-in-Err : goal.returns-in-Err
 returns-in-Err g c =
-    let (steps, passes, plays) = c.in-Err.ensures.plays in (
-      steps,
-      passes,
-      Err c.in-Err.fault,
-      _,
-      plays,
-      c.reported.ensures,
-      λ e. absurd (cc),
-    )
+    let (steps, passes, plays) = c.in-Err.ensures.plays in
+    (steps, passes, Err c.in-Err.fault, _, plays, refl, (c.report.ensures.broken, c.report.ensures.reports))
