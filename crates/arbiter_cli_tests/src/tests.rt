@@ -3,6 +3,7 @@
 use arbiter_cli::{Plan, VerifyPlan, WordsFault, read_words};
 use chess_base::Variant;
 use chess_fen::write_fen;
+use chess_match::Draws;
 use match_runner::GamesPlan;
 use std::alloc::{AllocError, Global};
 use std::fmt::Debug;
@@ -316,6 +317,47 @@ fn a_match_has_its_patience(rt: HostRuntime) -> Result<(), Fail> {
         };
         is_equal(&rt, &plan.patience.flag, flag);
         is_equal(&rt, &plan.patience.reply, reply);
+    }
+    Ok(())
+}
+
+// Options of a match after its engines, and whether its draws must be claimed.
+const DRAWS: [(&[&str], Draws); 4] = [
+    (&[], Draws::Claimed),
+    (&["--draws", "claimed"], Draws::Claimed),
+    (&["--draws", "automatic"], Draws::Automatic),
+    (&["--draws=automatic", "--games", "2"], Draws::Automatic),
+];
+
+// Options of a match after its engines that are refused.
+const NO_DRAWS: [&[&str]; 5] = [
+    &["--draws", "Automatic"],
+    &["--draws", "auto"],
+    &["--draws", ""],
+    &["--draws"],
+    &["--draws", "claimed", "--draws", "automatic"],
+];
+
+#[test]
+fn a_match_has_its_draws(rt: HostRuntime) -> Result<(), Fail> {
+    for (options, draws) in &DRAWS {
+        let arguments = match_with(rt.alloc(), options)?;
+        let Plan::Match(plan) = read_words(rt.alloc(), arguments.as_slice())? else {
+            return Err(Fail::new("another plan"));
+        };
+        is_equal(&rt, &plan.draws, draws);
+    }
+    Ok(())
+}
+
+#[test]
+fn other_draws_are_refused(rt: HostRuntime) -> Result<(), Fail> {
+    for options in &NO_DRAWS {
+        let arguments = match_with(rt.alloc(), options)?;
+        match read_words(rt.alloc(), arguments.as_slice()) {
+            Err(WordsFault::Words(error)) => is_equal(&rt, &error.exit_code(), &2),
+            _ => return Err(Fail::new("not clap's fault")),
+        }
     }
     Ok(())
 }
