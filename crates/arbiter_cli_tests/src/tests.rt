@@ -621,7 +621,7 @@ fn other_arguments_are_refused(rt: HostRuntime) -> Result<(), Fail> {
 }
 
 // Arguments that ask for help, the beginning of a line in that text, and the arguments of the example on that line.
-const EXAMPLES: [(&[&str], &str, &[&str]); 17] = [
+const EXAMPLES: [(&[&str], &str, &[&str]); 18] = [
     (&["--help"], "\n  arbiter     ", &[]),
     (&["--help"], "\n  arbiter verify < games.pgn ", &["verify"]),
     (
@@ -723,6 +723,19 @@ const EXAMPLES: [(&[&str], &str, &[&str]); 17] = [
             "./b",
             "--variant",
             "fischerandom",
+        ],
+    ),
+    (
+        &["match", "--help"],
+        "\n  arbiter match --white ./a --black ./b --draws automatic\n",
+        &[
+            "match",
+            "--white",
+            "./a",
+            "--black",
+            "./b",
+            "--draws",
+            "automatic",
         ],
     ),
     (

@@ -97,6 +97,11 @@ of_fault : (reason : Reason) → is_fault reason ≡ true
 of_fault (Faulted c fault) is = (c, fault, refl)
 of_fault reason is = absurd cc
 
+-- what follows of a match in this phase with the draw `claim`
+abbrev Ended : DrawClaim → Match → Phase → Type 0
+Ended claim final p = (p ≡ Over (Claimed claim))
+    ⊎ ((final.played ≡ []) × (c : Colour) × (fault : MatchFault) × (p ≡ Over (Faulted c fault)))
+
 pub automatic_draws_end_matches : AutomaticDrawsEndMatches
 automatic_draws_end_matches r claim H final g automatic none e =
     let (over, j) = drawn_at_end r H final g in at final.phase over j
@@ -104,19 +109,15 @@ automatic_draws_end_matches r claim H final g automatic none e =
     drawn : draw_by_itself r final.played ≡ Some claim
     drawn = ap (λ (d : Draws). if_automatic d (draw_claim (claims r.start final.played))) automatic ∙ e
 
-    abbrev Ended : Phase → Type 0
-    Ended p = (p ≡ Over (Claimed claim))
-        ⊎ ((final.played ≡ []) × (c : Colour) × (fault : MatchFault) × (p ≡ Over (Faulted c fault)))
-
-    for : (reason : Reason) → EndedBy r final.played reason → Ended (Over reason)
-    for reason (inl n) = let no : None ≡ Some claim = sym n ∙ drawn in absurd cc
-    for reason (inr (inl (is, empty))) = let (c, fault, same) = of_fault reason is in inr (empty, c, fault, same)
-    for reason (inr (inr (inl (other, is, d)))) =
+    by : (reason : Reason) → EndedBy r final.played reason → Ended claim final (Over reason)
+    by reason (inl n) = let no : None ≡ Some claim = sym n ∙ drawn in absurd cc
+    by reason (inr (inl (is, empty))) = let (c, fault, same) = of_fault reason is in inr (empty, c, fault, same)
+    by reason (inr (inr (inl (other, is, d)))) =
         let same : Some other ≡ Some claim = sym d ∙ drawn in
         let claimed : other ≡ claim = cc in
         inl (ap Over is ∙ ap (λ (x : DrawClaim). Over (Claimed x)) claimed)
-    for reason (inr (inr (inr (v, s)))) = let no : None ≡ Some v = sym none ∙ s in absurd cc
+    by reason (inr (inr (inr (v, s)))) = let no : None ≡ Some v = sym none ∙ s in absurd cc
 
-    at : (p : Phase) → is_over p ≡ true → ByDraw r final.played p → Ended p
-    at (Over reason) o j = for reason j
+    at : (p : Phase) → is_over p ≡ true → ByDraw r final.played p → Ended claim final p
+    at (Over reason) o j = by reason j
     at p o j = absurd cc
