@@ -4,7 +4,7 @@ use Rattle.std.specs.Prelude.{◌*◌}
 use Rattle.clap.specs.Words.{HasKind, IsAmong, Kinds, Row, Text, found_of, kind_of, rows_of, subcommand_of, subcommand_rows_of}
 use Rattle.clap.specs.declared.error.Error.{Error}
 use Rattle.clap.specs.declared.parser.matches.ArgMatches.{ArgMatches}
-use Rattle.arbiter_grammar.specs.Grammar.{AreVariants, IsComplete, IsParsed, VariantNames, arbiter_app, asked, faults_in}
+use Rattle.arbiter_grammar.specs.Grammar.{AreOptionNames, IsComplete, IsParsed, OptionNames, arbiter_app, asked, faults_in}
 use Rattle.arbiter_cli.specs.Plans.{IsMatchPlan, IsPlanOf, IsReadAs, IsReading, Said, Values, is_date, is_set, level_asked, level_start_and_date, number_of, said_by, start_asked}
 use Rattle.arbiter_cli.specs.ties.Requests.{IsJudged, IsJudgedFault, IsMatchOf, IsPlanFault, IsPlanned, IsRequestOf, Refuses, patience_by, start_of}
 use Rattle.cecp_engine.specs.Levels.{level_reading}
@@ -74,6 +74,7 @@ module _ (value : Values) (m : MatchRequest) (is : IsMatchOf value m) where
     log = validate.log ∙ is.log;
     patience = validate.patience ∙ ap₂ patience_by is.flag is.reply
         ∙ ap (with_flag value) (in_millis (value (codes "reply-timeout")));
+    draws = validate.draws ∙ is.draws;
   }
 
   judged_fault : (f : WordsFault) → IsJudgedFault m f → level_start_and_date value ≡ Err f
@@ -110,7 +111,7 @@ plan_fault kinds said (request.Stub arguments) f none is h = absurd h
 plan_fault kinds said (request.Match m) f none is h = match_fault kinds said f none is.0 m is.1 h
 
 -- what was taken as written was planned
-pub planned_reading : (names : VariantNames) (texts : List Text) → AreVariants names → faults_in names texts ≡ []
+pub planned_reading : (names : OptionNames) (texts : List Text) → AreOptionNames names → faults_in names texts ≡ []
     → (s : Request) → IsRequestOf (said_by (asked names texts)) s
     → (r : Result Plan WordsFault) → IfOk r (IsPlanned s) → IfErr r (IsPlanFault s) → IsReading texts r
 planned_reading names texts are none s is (Ok plan) p f =

@@ -6,10 +6,13 @@ use Rattle.std.specs.Result.{result_map_both}
 use Rattle.std.specs.Str.{bytes_eq}
 use Rattle.std.specs.Str.Parse.{digits_value, without_leading_plus}
 use Rattle.clap.specs.Words.{IsAmong, Kinds, Row, Text, all_of, first_of, kind_of}
-use Rattle.arbiter_grammar.specs.Grammar.{AreVariants, VariantNames, asked, faults_in}
+use Rattle.arbiter_grammar.specs.Grammar.{AreOptionNames, OptionNames, asked, faults_in}
 use Rattle.arbiter_cli.specs.declared.plan.Plan.{Plan}
 use Rattle.arbiter_cli.specs.declared.plan.Plan.TheVariants.{Session, Verify, Stub, Match}
 use Rattle.match_runner.specs.declared.plan.GamesPlan.{GamesPlan}
+use Rattle.chess_match.specs.declared.draws.Draws.{Draws}
+use Rattle.chess_match.specs.declared.draws.Draws.TheVariants.{Automatic}
+use Rattle.chess_match.specs.declared.draws.Draws.TheVariants as draws
 use Rattle.chess_match.specs.declared.patience.Patience.{Patience}
 use Rattle.arbiter_cli.specs.declared.plan.VerifyPlan.{VerifyPlan}
 use Rattle.arbiter_cli.specs.declared.fault.WordsFault.{WordsFault}
@@ -42,6 +45,11 @@ abbrev pub variant_in : Values → Variant
 variant_in value =
     if bytes_eq (unwrap_or (value (codes "variant")) (codes "normal")) (codes "fischerandom") then Fischerandom
     else Normal
+
+-- how `--draws` asks for draws to end games: without a claim for `automatic`, by a claim for any other name or none
+abbrev pub draws_in : Values → Draws
+draws_in value =
+    if bytes_eq (unwrap_or (value (codes "draws")) (codes "claimed")) (codes "automatic") then Automatic else draws.Claimed
 
 -- whether the flag with this name, such as `quiet` for `--quiet`, was given
 abbrev pub is_set : Text → Values → Bool
@@ -105,6 +113,7 @@ pub record IsMatchPlan (value : Values) (plan : GamesPlan) : Type 0 where
   pub games_range : (1 ≤ plan.games) × (plan.games ≤ 1000)
   pub log : plan.log ≡ is_set (codes "log") value
   pub patience : plan.patience ≡ patience_of value
+  pub draws : plan.draws ≡ draws_in value
 
 -- the plan is what the arguments ask for; `said` is their subcommand, its options, and the words after `stub`. The
 -- fields of the plan are as the options say; the plan of `stub` has these words, in order
@@ -139,7 +148,8 @@ said_by p =
 
 -- the result of reading these arguments, which come without the program's name, is right (`IsReadAs`) by the grammar of
 -- the command line: by the faults that `clap` finds in them (`faults_in`), and by what they say (`asked`, `said_by`).
--- The grammar refers to the list `normal`, `fischerandom`; `names` is some reference to it, anywhere in memory
+-- The grammar refers to the lists `normal`, `fischerandom` and `claimed`, `automatic`; `names` are some references to
+-- them, anywhere in memory
 abbrev pub IsReading : List Text → Result Plan WordsFault → Type 0
-IsReading arguments result = (names : VariantNames) × AreVariants names
+IsReading arguments result = (names : OptionNames) × AreOptionNames names
     × IsReadAs (faults_in names arguments) (said_by (asked names arguments)) result

@@ -90,6 +90,7 @@ fn validate<'a>(request: &MatchRequest<'a>) -> Result<GamesPlan<'a>, WordsFault>
         black: request.black,
         level,
         patience: patience_of(request.flag, request.reply),
+        draws: request.draws,
         start,
         games: request.games,
         date: request.date,

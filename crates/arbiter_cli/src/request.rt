@@ -3,11 +3,12 @@
 ghost use Rattle.std.specs.Prelude.{◌≡◌, ◌≤◌, ℕ, [], IfOk, IfSome, IsSome, true, codes, is_some, map, option_map, unwrap_or};
 ghost use Rattle.clap.specs.Words.{all_of, first_of, found_of, rows_of, subcommand_rows_of};
 ghost use Rattle.arbiter_grammar.specs.Grammar.{HasNumber, HasNumbers, IsCommand, NamesBoth};
-ghost use Rattle.arbiter_cli.specs.Plans.{is_set, number_of, said_by, variant_in, verify_plan_of};
+ghost use Rattle.arbiter_cli.specs.Plans.{draws_in, is_set, number_of, said_by, variant_in, verify_plan_of};
 ghost use Rattle.arbiter_cli.specs.ties.Requests.{IsMatchOf, IsRequestOf, games_in, matched};
 
 use crate::plan::VerifyPlan;
 use chess_base::Variant;
+use chess_match::Draws;
 use clap::ArgMatches;
 use std::alloc::{AllocError, Global};
 
@@ -24,6 +25,7 @@ pub(crate) struct MatchRequest<'a> {
     pub log: bool,
     pub flag: bool,
     pub reply: Option<u16>,
+    pub draws: Draws,
 }
 
 /// What the arguments ask for; texts are not yet read as levels or positions.
@@ -109,6 +111,17 @@ fn variant_of(found: &ArgMatches<'_>) -> Variant
     }
 }
 
+// Whether draws must be claimed, by `--draws`; they must if it was not given. `found` are the options as matched.
+fn draws_of(found: &ArgMatches<'_>) -> Draws
+    ensures { result ≡ draws_in (matched (rows_of (found_of found.now))) }
+{
+    if text_or(found, "draws", "claimed") == "automatic" {
+        Draws::Automatic
+    } else {
+        Draws::Claimed
+    }
+}
+
 // The options of `match`, each as given or by default; `None` if `--white` or `--black` was not given. `found` are the
 // options as matched.
 fn match_request<'a>(found: &ArgMatches<'a>) -> Option<MatchRequest<'a>>
@@ -130,6 +143,7 @@ fn match_request<'a>(found: &ArgMatches<'a>) -> Option<MatchRequest<'a>>
         log: is_set(found, "log"),
         flag: is_set(found, "flag"),
         reply: number_in(found, "reply-timeout"),
+        draws: draws_of(found),
     })
 }
 

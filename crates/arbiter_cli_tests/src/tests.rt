@@ -3,6 +3,7 @@
 use arbiter_cli::{Plan, VerifyPlan, WordsFault, read_words};
 use chess_base::Variant;
 use chess_fen::write_fen;
+use chess_match::Draws;
 use match_runner::GamesPlan;
 use std::alloc::{AllocError, Global};
 use std::fmt::Debug;
@@ -320,6 +321,47 @@ fn a_match_has_its_patience(rt: HostRuntime) -> Result<(), Fail> {
     Ok(())
 }
 
+// Options of a match after its engines, and whether its draws must be claimed.
+const DRAWS: [(&[&str], Draws); 4] = [
+    (&[], Draws::Claimed),
+    (&["--draws", "claimed"], Draws::Claimed),
+    (&["--draws", "automatic"], Draws::Automatic),
+    (&["--draws=automatic", "--games", "2"], Draws::Automatic),
+];
+
+// Options of a match after its engines that are refused.
+const NO_DRAWS: [&[&str]; 5] = [
+    &["--draws", "Automatic"],
+    &["--draws", "auto"],
+    &["--draws", ""],
+    &["--draws"],
+    &["--draws", "claimed", "--draws", "automatic"],
+];
+
+#[test]
+fn a_match_has_its_draws(rt: HostRuntime) -> Result<(), Fail> {
+    for (options, draws) in &DRAWS {
+        let arguments = match_with(rt.alloc(), options)?;
+        let Plan::Match(plan) = read_words(rt.alloc(), arguments.as_slice())? else {
+            return Err(Fail::new("another plan"));
+        };
+        is_equal(&rt, &plan.draws, draws);
+    }
+    Ok(())
+}
+
+#[test]
+fn other_draws_are_refused(rt: HostRuntime) -> Result<(), Fail> {
+    for options in &NO_DRAWS {
+        let arguments = match_with(rt.alloc(), options)?;
+        match read_words(rt.alloc(), arguments.as_slice()) {
+            Err(WordsFault::Words(error)) => is_equal(&rt, &error.exit_code(), &2),
+            _ => return Err(Fail::new("not clap's fault")),
+        }
+    }
+    Ok(())
+}
+
 #[test]
 fn other_patience_is_refused(rt: HostRuntime) -> Result<(), Fail> {
     for options in &NO_PATIENCE {
@@ -579,7 +621,7 @@ fn other_arguments_are_refused(rt: HostRuntime) -> Result<(), Fail> {
 }
 
 // Arguments that ask for help, the beginning of a line in that text, and the arguments of the example on that line.
-const EXAMPLES: [(&[&str], &str, &[&str]); 17] = [
+const EXAMPLES: [(&[&str], &str, &[&str]); 18] = [
     (&["--help"], "\n  arbiter     ", &[]),
     (&["--help"], "\n  arbiter verify < games.pgn ", &["verify"]),
     (
@@ -681,6 +723,19 @@ const EXAMPLES: [(&[&str], &str, &[&str]); 17] = [
             "./b",
             "--variant",
             "fischerandom",
+        ],
+    ),
+    (
+        &["match", "--help"],
+        "\n  arbiter match --white ./a --black ./b --draws automatic\n",
+        &[
+            "match",
+            "--white",
+            "./a",
+            "--black",
+            "./b",
+            "--draws",
+            "automatic",
         ],
     ),
     (

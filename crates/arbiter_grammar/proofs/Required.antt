@@ -21,7 +21,7 @@ use Rattle.clap.specs.declared.error.kind.ErrorKind.TheVariants as kind
 use Rattle.clap.specs.declared.parser.matches.ValueSource.{ValueSource}
 use Rattle.clap.specs.declared.parser.matches.ValueSource.TheVariants.{CommandLine, DefaultValue}
 use Rattle.clap.proofs.WalkLemmas.{both}
-use Rattle.arbiter_grammar.specs.Grammar.{IsCommand, IsComplete, VariantNames, arbiter_app}
+use Rattle.arbiter_grammar.specs.Grammar.{IsCommand, IsComplete, OptionNames, arbiter_app}
 use Rattle.clap.specs.ValueTests.{is_unsigned_in}
 use Rattle.clap.specs.Takes.{value_passes}
 use Rattle.clap.specs.Faults.{values_fault}
@@ -514,7 +514,7 @@ third : (b : Bool) → check_kinds false false b ≡ [] → b ≡ false
 third false e = refl
 third true e = absurd (some_kind kind.MissingRequiredArgument [] e)
 
-subs_need : (names : VariantNames) → AllNeed (built (arbiter_app names)).subs
+subs_need : (names : OptionNames) → AllNeed (built (arbiter_app names)).subs
 subs_need names =
     let not_session : codes "session" ≡ codes "match" → ⊥ = λ e. shorter (codes "match") (codes "session") (lit< tt)
     (sym e) in
@@ -570,8 +570,11 @@ subs_need names =
                               (
                                 (refl, (λ t e. refl), refl, refl),
                                 (
-                                  (refl, (λ t e. e), refl, refl),
-                                  ((refl, (λ t e. refl), refl, refl), tt),
+                                  (refl, (λ t e. refl), refl, refl),
+                                  (
+                                    (refl, (λ t e. e), refl, refl),
+                                    ((refl, (λ t e. refl), refl, refl), tt),
+                                  ),
                                 ),
                               ),
                             ),
@@ -616,7 +619,7 @@ stop_level a None n none = tt
 stop_level a (Some p) n none = level_of (find (λ s. answers_to p.0 (label_of s)) a.subs) p.1 (find_level _ a.subs n)
     none
 
-pub required_there : (names : VariantNames) (words : List Text) → fault_of (arbiter_app names) words ≡ []
+pub required_there : (names : OptionNames) (words : List Text) → fault_of (arbiter_app names) words ≡ []
     → IfSome (subcommand_of (arbiter_app names) words) IsComplete
 required_there names words none =
     let whole = built (arbiter_app names) in

@@ -16,18 +16,20 @@ option_rule name = record (new_rule name) { long = Some name; value_names = 1 }
 abbrev pub flag_rule : Text → Rule
 flag_rule name = record (new_rule name) { long = Some name; action = Some SetTrue }
 
--- a reference to the list of the names that `--variant` takes; `AreVariants` says which these are. The list and the
--- names may be anywhere in memory
-abbrev pub VariantNames : Type 0
-VariantNames = Bor (List (Bor Text))
+-- references to the lists of the names that `--variant` and `--draws` take; `AreOptionNames` says which these are. The
+-- lists and the names may be anywhere in memory
+pub record OptionNames : Type 0 where
+  pub variants : Bor (List (Bor Text))
+  pub draws : Bor (List (Bor Text))
 
--- these names, in their order, are `normal` and `fischerandom`
-abbrev pub AreVariants : VariantNames → Type 0
-AreVariants names = map (λ n. n.now) names.now ≡ codes "normal" ∷ codes "fischerandom" ∷ []
+-- the names of variants, in their order, are `normal` and `fischerandom`, and those of draws `claimed` and `automatic`
+abbrev pub AreOptionNames : OptionNames → Type 0
+AreOptionNames names = (map (λ n. n.now) names.variants.now ≡ codes "normal" ∷ codes "fischerandom" ∷ [])
+    × (map (λ n. n.now) names.draws.now ≡ codes "claimed" ∷ codes "automatic" ∷ [])
 
 -- the subcommand `match` with its options: `--white` and `--black` are required, `--games` takes a number from 1 to
--- 1,000, `--reply-timeout` one from 1 to 999, and `--variant` one of `names`
-abbrev pub match_app : VariantNames → App
+-- 1,000, `--reply-timeout` one from 1 to 999, and `--variant` and `--draws` one of their `names`
+abbrev pub match_app : OptionNames → App
 match_app names = fold with_rule (new_app (codes "match")) (
     record (option_rule (codes "white")) { required = true }
     ∷ record (option_rule (codes "black")) { required = true }
@@ -35,7 +37,8 @@ match_app names = fold with_rule (new_app (codes "match")) (
     ∷ option_rule (codes "fen")
     ∷ record (option_rule (codes "games")) { parser = Some (Unsigned 1 1000) }
     ∷ option_rule (codes "date")
-    ∷ record (option_rule (codes "variant")) { parser = Some (Names names) }
+    ∷ record (option_rule (codes "variant")) { parser = Some (Names names.variants) }
+    ∷ record (option_rule (codes "draws")) { parser = Some (Names names.draws) }
     ∷ flag_rule (codes "log")
     ∷ flag_rule (codes "flag")
     ∷ record (option_rule (codes "reply-timeout")) { parser = Some (Unsigned 1 999) }
@@ -58,31 +61,32 @@ bare_app = let a = new_app (codes "arbiter") in
     record a { top = record a.top { has_version = true; no_binary_name = true; disable_help_subcommand = true } }
 
 -- the whole grammar: `arbiter` with the subcommands `session` (which has no options), `verify`, `stub` and `match`.
--- `names` are those that `--variant` takes
-abbrev pub arbiter_app : VariantNames → App
+-- `names` are those that `--variant` and `--draws` take
+abbrev pub arbiter_app : OptionNames → App
 arbiter_app names = fold with_subcommand bare_app
     ((new_app (codes "session")).top ∷ verify_app.top ∷ stub_app.top ∷ (match_app names).top ∷ [])
 
 -- what the arguments (`words`) ask for if they have no fault (see `faults_in`): the subcommand's name and its options,
--- as `clap` matches them; `session` without options if there is no subcommand. `names` are those that `--variant` takes
-abbrev pub asked : VariantNames → List Text → Text × List Row
+-- as `clap` matches them; `session` without options if there is no subcommand. `names` are those that `--variant` and
+-- `--draws` take
+abbrev pub asked : OptionNames → List Text → Text × List Row
 asked names words = unwrap_or (subcommand_of (arbiter_app names) words) (codes "session", [])
 
 -- the kinds of fault, apart from out of memory, that `clap` may report for the arguments `words`; empty if it accepts
--- them. A request for help or for the version counts as a fault. `names` are those that `--variant` takes
-abbrev pub faults_in : VariantNames → List Text → Kinds
+-- them. A request for help or for the version counts as a fault. `names` are those that `--variant` and `--draws` take
+abbrev pub faults_in : OptionNames → List Text → Kinds
 faults_in names words = fault_of (arbiter_app names) words
 
 -- the result of parsing the arguments `words` is right: their subcommand and options if they have no fault, otherwise
--- an error of one of the kinds of fault that they have. `names` are those that `--variant` takes
-abbrev pub IsParsedBy : VariantNames → List Text → Result ArgMatches Error → Type 0
+-- an error of one of the kinds of fault that they have. `names` are those that `--variant` and `--draws` take
+abbrev pub IsParsedBy : OptionNames → List Text → Result ArgMatches Error → Type 0
 IsParsedBy names words (Ok m) = (faults_in names words ≡ [])
     × (subcommand_rows_of m ≡ subcommand_of (arbiter_app names) words)
 IsParsedBy names words (Err e) = HasKind (faults_in names words) e
 
--- the result of parsing the arguments `words` is right by the grammar, wherever in memory its names of variants are
+-- the result of parsing the arguments `words` is right by the grammar, wherever in memory its names of variants and of draws are
 abbrev pub IsParsed : List Text → Result ArgMatches Error → Type 0
-IsParsed words result = (names : VariantNames) × AreVariants names × IsParsedBy names words result
+IsParsed words result = (names : OptionNames) × AreOptionNames names × IsParsedBy names words result
 
 -- the text is the name of a subcommand: `session`, `verify`, `stub` or `match`
 abbrev pub IsCommand : Text → Type 0

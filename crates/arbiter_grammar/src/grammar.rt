@@ -1,11 +1,11 @@
 //! The grammar of the command line, and its texts of help.
 
-ghost use Rattle.std.specs.Prelude.{◌≡◌, IfOk, Some, codes, false, true};
+ghost use Rattle.std.specs.Prelude.{◌≡◌, ◌∷◌, [], IfOk, Some, codes, false, map, true};
 ghost use Rattle.clap.specs.Words.{app_of, new_app, rule_of};
 ghost use Rattle.clap.specs.declared.builder.texts.Texts.TheVariants.{One};
 ghost use Rattle.clap.specs.declared.builder.value_parser.ValueParser.TheVariants.{Names, Unsigned};
 ghost use Rattle.clap.specs.declared.builder.command.Command.TheViews.{out-Command as fields_of};
-ghost use Rattle.arbiter_grammar.specs.Grammar.{AreVariants, bare_app, flag_rule, option_rule, stub_app, verify_app};
+ghost use Rattle.arbiter_grammar.specs.Grammar.{bare_app, flag_rule, option_rule, stub_app, verify_app};
 ghost use Rattle.arbiter_grammar.specs.ties.Grammars.{GivesMatchApp, GivesArbiterApp};
 
 use clap::builder::ValueParser;
@@ -97,6 +97,7 @@ Examples:
   arbiter match --white sjeng --black phalanx --games 10 --level \"40 5 0\" --date 2026.11.23 > match.txt
   arbiter match --white ./a --black \"./b -x\" --level \"0 0:30 1\" --fen \"4k3/8/8/8/8/8/4P3/4K3 w - - 0 1\"
   arbiter match --white ./a --black ./b --variant fischerandom
+  arbiter match --white ./a --black ./b --draws automatic
   arbiter match --white ./a --black ./b --log 2> match.debug
   arbiter match --white ./a --black ./b --flag --reply-timeout 10";
 
@@ -164,9 +165,12 @@ fn games_option<'a>(alloc: Global) -> Arg<'a>
     .value_parser(ValueParser::unsigned(1, 1000))
 }
 
+// The names that `--draws` takes.
+static DRAWS: [&str; 2] = ["claimed", "automatic"];
+
 // The option `--variant NAME`, where NAME is `normal` or `fischerandom`.
 fn variant_option<'a>(alloc: Global) -> Arg<'a>
-    ensures rule { (names : _) × AreVariants names
+    ensures rule { (names : _) × (map (λ n. n.now) names.now ≡ codes "normal" ∷ codes "fischerandom" ∷ [])
         × (rule_of result ≡ record (option_rule (codes "variant")) { parser = Some (Names names) }) }
     ensures local { result.global ≡ false }
 {
@@ -177,6 +181,21 @@ fn variant_option<'a>(alloc: Global) -> Arg<'a>
         "Normal chess or Chess960 [default: normal]",
     )
     .value_parser(VARIANTS.as_slice())
+}
+
+// The option `--draws NAME`, where NAME is `claimed` or `automatic`.
+fn draws_option<'a>(alloc: Global) -> Arg<'a>
+    ensures rule { (names : _) × (map (λ n. n.now) names.now ≡ codes "claimed" ∷ codes "automatic" ∷ [])
+        × (rule_of result ≡ record (option_rule (codes "draws")) { parser = Some (Names names) }) }
+    ensures local { result.global ≡ false }
+{
+    option(
+        alloc,
+        "draws",
+        "NAME",
+        "Whether draws by threefold repetition and 50 moves must be claimed, or end the game [default: claimed]",
+    )
+    .value_parser(DRAWS.as_slice())
 }
 
 // The option `--reply-timeout S`, with S from 1 to 999.
@@ -231,6 +250,7 @@ fn match_command<'a>(alloc: Global) -> Result<Command<'a>, AllocError>
         "Date tag of every game [default: ????.??.??]",
     ))?
     .arg(variant_option(alloc))?
+    .arg(draws_option(alloc))?
     .arg(flag(
         alloc,
         "log",

@@ -12,8 +12,8 @@ use Rattle.clap.specs.declared.builder.value_parser.ValueParser.TheVariants as v
 use Rattle.clap.specs.declared.error.kind.ErrorKind.TheVariants as kind
 use Rattle.clap.proofs.ValueTestLemmas.{Accepts-accepts}
 use Rattle.clap.proofs.WalkLemmas.{list_any-map}
-use Rattle.arbiter_grammar.specs.Grammar.{AreVariants, VariantNames, match_app, stub_app, verify_app}
-use Rattle.arbiter_laws.specs.PlainArguments.{Given, IsNumberTo, IsOfMatch, IsOfVerify, IsVariant, flag, has_hyphen, valued}
+use Rattle.arbiter_grammar.specs.Grammar.{AreOptionNames, OptionNames, match_app, stub_app, verify_app}
+use Rattle.arbiter_laws.specs.PlainArguments.{Given, IsDraws, IsNumberTo, IsOfMatch, IsOfVerify, IsVariant, flag, has_hyphen, valued}
 use Rattle.arbiter_laws.proofs.PlainWalk.{IsFlag, Known, TakesValue}
 
 -- a subcommand as `build` leaves it, with these rules
@@ -31,7 +31,7 @@ verify_shape = built_shape (codes "verify") verify_app.top.rules
 abbrev pub stub_shape : Shape
 stub_shape = built_shape (codes "stub") stub_app.top.rules
 
-abbrev pub match_shape : VariantNames → Shape
+abbrev pub match_shape : OptionNames → Shape
 match_shape names = built_shape (codes "match") (match_app names).top.rules
 
 -- ---- verify
@@ -71,7 +71,14 @@ variant_named text (inl e) =
 variant_named text (inr e) =
     subst (λ t. list_any (is_text t) (codes "normal" ∷ codes "fischerandom" ∷ []) ≡ true) (sym e) refl
 
-module _ (names : VariantNames) (text : Text) (plain : has_hyphen text ≡ false) where
+draws_named : (text : Text) → IsDraws text
+    → list_any (is_text text) (codes "claimed" ∷ codes "automatic" ∷ []) ≡ true
+draws_named text (inl e) =
+    subst (λ t. list_any (is_text t) (codes "claimed" ∷ codes "automatic" ∷ []) ≡ true) (sym e) refl
+draws_named text (inr e) =
+    subst (λ t. list_any (is_text t) (codes "claimed" ∷ codes "automatic" ∷ []) ≡ true) (sym e) refl
+
+module _ (names : OptionNames) (text : Text) (plain : has_hyphen text ≡ false) where
   white : TakesValue (match_shape names) (codes "white") text
   unfolding walked
   white = record {
@@ -151,7 +158,7 @@ module _ (names : VariantNames) (text : Text) (plain : has_hyphen text ≡ false
         (or_else (if b then [] else kind.ValueValidation ∷ []) [])) (number_passes 999 (omega arith) text number);
   }
 
-  variant : AreVariants names → IsVariant text → TakesValue (match_shape names) (codes "variant") text
+  variant : AreOptionNames names → IsVariant text → TakesValue (match_shape names) (codes "variant") text
   unfolding walked
   variant are is = record {
     first = λ rows p. refl;
@@ -160,19 +167,32 @@ module _ (names : VariantNames) (text : Text) (plain : has_hyphen text ≡ false
     taken = λ rows. refl;
     uses = λ rows. refl;
     passes = λ rows. ap (λ (b : Bool). or_else (repeat_fault false (codes "variant") rows)
-        (or_else (if b then [] else kind.InvalidValue ∷ []) [])) (list_any-map (is_text text) now_of names.now
-        ∙ ap (list_any (is_text text)) are ∙ variant_named text is);
+        (or_else (if b then [] else kind.InvalidValue ∷ []) [])) (list_any-map (is_text text) now_of names.variants.now
+        ∙ ap (list_any (is_text text)) are.0 ∙ variant_named text is);
   }
 
-log : (names : VariantNames) → IsFlag (match_shape names) (codes "log")
+  draws : AreOptionNames names → IsDraws text → TakesValue (match_shape names) (codes "draws") text
+  unfolding walked
+  draws are is = record {
+    first = λ rows p. refl;
+    first_fault = λ rows p. refl;
+    plain = plain;
+    taken = λ rows. refl;
+    uses = λ rows. refl;
+    passes = λ rows. ap (λ (b : Bool). or_else (repeat_fault false (codes "draws") rows)
+        (or_else (if b then [] else kind.InvalidValue ∷ []) [])) (list_any-map (is_text text) now_of names.draws.now
+        ∙ ap (list_any (is_text text)) are.1 ∙ draws_named text is);
+  }
+
+log : (names : OptionNames) → IsFlag (match_shape names) (codes "log")
 unfolding walked
 log names = record { first = λ rows p. refl; first_fault = λ rows p. refl }
 
-falls : (names : VariantNames) → IsFlag (match_shape names) (codes "flag")
+falls : (names : OptionNames) → IsFlag (match_shape names) (codes "flag")
 unfolding walked
 falls names = record { first = λ rows p. refl; first_fault = λ rows p. refl }
 
-pub of_match : (names : VariantNames) → AreVariants names → (g : Given) → IsOfMatch g → Known (match_shape names) g
+pub of_match : (names : OptionNames) → AreOptionNames names → (g : Given) → IsOfMatch g → Known (match_shape names) g
 of_match names are (flag name) (inl e) = subst (IsFlag (match_shape names)) (sym e) (log names)
 of_match names are (flag name) (inr e) = subst (IsFlag (match_shape names)) (sym e) (falls names)
 of_match names are (valued name text) (plain, inl e) =
@@ -189,5 +209,7 @@ of_match names are (valued name text) (plain, inr (inr (inr (inr (inr (inl (e, n
     subst (λ n. TakesValue (match_shape names) n text) (sym e) (games names text plain number)
 of_match names are (valued name text) (plain, inr (inr (inr (inr (inr (inr (inl (e, number)))))))) =
     subst (λ n. TakesValue (match_shape names) n text) (sym e) (reply_timeout names text plain number)
-of_match names are (valued name text) (plain, inr (inr (inr (inr (inr (inr (inr (e, is)))))))) =
+of_match names are (valued name text) (plain, inr (inr (inr (inr (inr (inr (inr (inl (e, is))))))))) =
     subst (λ n. TakesValue (match_shape names) n text) (sym e) (variant names text plain are is)
+of_match names are (valued name text) (plain, inr (inr (inr (inr (inr (inr (inr (inr (e, is))))))))) =
+    subst (λ n. TakesValue (match_shape names) n text) (sym e) (draws names text plain are is)

@@ -10,7 +10,7 @@ use Rattle.clap.specs.Simple.{App, Shape, built, entered, label_of, names_of, ro
 use Rattle.clap.specs.Walk.{Walk, answers_to, finished, nothing_held, rows_after, settled, walk, walk_from, walked}
 use Rattle.clap.proofs.FaultLemmas.{stopped_fault}
 use Rattle.clap.proofs.WalkLemmas.{walk_stopped}
-use Rattle.arbiter_grammar.specs.Grammar.{AreVariants, VariantNames, arbiter_app, asked, faults_in}
+use Rattle.arbiter_grammar.specs.Grammar.{AreOptionNames, OptionNames, arbiter_app, asked, faults_in}
 use Rattle.chess_base.specs.declared.man.Variant.{Variant}
 use Rattle.chess_base.specs.declared.fen_fault.FenFault.{FenFault}
 use Rattle.chess_base.specs.declared.setup.Setup.{Setup}
@@ -21,6 +21,9 @@ use Rattle.arbiter_cli.specs.Plans.{IsMatchPlan, IsReadAs, Said, Values, is_date
 use Rattle.arbiter_cli.specs.declared.plan.Plan.{Plan}
 use Rattle.arbiter_cli.specs.declared.plan.Plan.TheVariants.{Session, Verify, Stub, Match}
 use Rattle.match_runner.specs.declared.plan.GamesPlan.{GamesPlan}
+use Rattle.chess_match.specs.declared.draws.Draws.{Draws}
+use Rattle.chess_match.specs.declared.draws.Draws.TheVariants.{Automatic}
+use Rattle.chess_match.specs.declared.draws.Draws.TheVariants as draws
 use Rattle.chess_match.specs.declared.patience.Patience.{Patience}
 use Rattle.arbiter_cli.specs.declared.plan.VerifyPlan.{VerifyPlan}
 use Rattle.arbiter_cli.specs.declared.fault.WordsFault.{WordsFault}
@@ -39,7 +42,7 @@ shorter xs ys lt e = let same : length xs ≡ length ys = ap length e in absurd 
 
 -- ---- the first argument names the subcommand
 
-abbrev whole : VariantNames → App
+abbrev whole : OptionNames → App
 whole names = built (arbiter_app names)
 
 abbrev with_name : Text → List Row → Text × List Row
@@ -48,7 +51,7 @@ with_name name rows = (name, rows)
 abbrev stopped_at : Text → List Text → Walk
 stopped_at command rest = record (walk_from nothing_held) { stopped = Some (command, rest) }
 
-module _ (names : VariantNames) (command : Text) (s : Shape) (rest : List Text)
+module _ (names : OptionNames) (command : Text) (s : Shape) (rest : List Text)
     (stops : walked (whole names).top.rules (names_of (whole names)) (walk_from nothing_held) command
     ≡ stopped_at command [])
     (turns : turn_fault (whole names).top (names_of (whole names)) (walk_from nothing_held) command ≡ [])
@@ -104,6 +107,7 @@ record Agrees (v w : Values) : Type 0 where
   log : is_set (codes "log") v ≡ is_set (codes "log") w
   falls : is_set (codes "flag") v ≡ is_set (codes "flag") w
   reply : v (codes "reply-timeout") ≡ w (codes "reply-timeout")
+  draws : v (codes "draws") ≡ w (codes "draws")
 
 -- the start that these two options ask for
 abbrev start_by : Variant → Option Text → Result Setup FenFault
@@ -122,6 +126,10 @@ same_start v w a =
 abbrev patience_with : Bool → Option Text → Patience
 patience_with falls seconds = record { flag = falls; reply = option_map (λ text. number_of text * 1000) seconds }
 
+-- how draws end games by this value of `--draws`
+abbrev draws_with : Option Text → Draws
+draws_with name = if bytes_eq (unwrap_or name (codes "claimed")) (codes "automatic") then Automatic else draws.Claimed
+
 same_match : (v w : Values) → Agrees v w → (plan : GamesPlan) → IsMatchPlan v plan → IsMatchPlan w plan
 same_match v w a plan is = record {
   white = sym a.white ∙ is.white;
@@ -131,6 +139,7 @@ same_match v w a plan is = record {
   games_range = is.games_range;
   log = is.log ∙ a.log;
   patience = is.patience ∙ ap₂ patience_with a.falls a.reply;
+  draws = is.draws ∙ ap draws_with a.draws;
 }
 
 record SaysTheSame (a b : Said) : Type 0 where
@@ -156,7 +165,7 @@ read_alike a b s (Err BadDate) (none, named, h) =
 
 -- ---- each kind of line
 
-record SaysIt (names : VariantNames) (line : CommandLine) : Type 0 where
+record SaysIt (names : OptionNames) (line : CommandLine) : Type 0 where
   passes : faults_in names (arguments_of line) ≡ []
   says : SaysTheSame (said_by (asked names (arguments_of line))) (said_in line)
 
@@ -207,7 +216,7 @@ verify_alike options =
     ∙ ap₂ (plan_with (is_set (codes "keep-going") (values_in options)) (is_set (codes "quiet") (values_in options)))
     (alike (codes "strict") refl) (alike (codes "explain") refl)
 
-match_alike : (names : VariantNames) (options : List Given)
+match_alike : (names : OptionNames) (options : List Given)
     → Agrees (matched (rows_of_given (match_shape names) options)) (values_in options)
 match_alike names options =
     let alike = value_alike (match_shape names) options in
@@ -222,6 +231,7 @@ match_alike names options =
       log = flag_alike (match_shape names) options (codes "log") refl;
       falls = flag_alike (match_shape names) options (codes "flag") refl;
       reply = alike (codes "reply-timeout") refl;
+      draws = alike (codes "draws") refl;
     }
 
 of_verify_only : (a b : Said) → a.command ≡ codes "verify" → b.command ≡ codes "verify"
@@ -251,7 +261,7 @@ of_match_only a b e f same = record {
   on_match = λ is. same;
 }
 
-says_it : (names : VariantNames) → AreVariants names → (line : CommandLine) → IsPlain line → SaysIt names line
+says_it : (names : OptionNames) → AreOptionNames names → (line : CommandLine) → IsPlain line → SaysIt names line
 unfolding walked
 says_it names are empty plain = record {
   passes = literals.none_asked.taken names;

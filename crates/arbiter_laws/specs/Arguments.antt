@@ -3,7 +3,7 @@ use Rattle.std.specs.Prelude.{◌≡◌, List, [], codes, false}
 use Rattle.std.specs.List.{list_any}
 use Rattle.clap.specs.Words.{Kinds, Text}
 use Rattle.clap.specs.Facts.{explicit_source}
-use Rattle.arbiter_grammar.specs.Grammar.{VariantNames, asked, faults_in}
+use Rattle.arbiter_grammar.specs.Grammar.{OptionNames, asked, faults_in}
 use Rattle.arbiter_cli.specs.declared.plan.Plan.{Plan}
 use Rattle.arbiter_cli.specs.declared.plan.Plan.TheVariants.{Session, Verify, Stub, Match}
 use Rattle.arbiter_cli.specs.declared.plan.VerifyPlan.{VerifyPlan}
@@ -26,13 +26,13 @@ VerifyIsAsAsked = (said : Said) (v : VerifyPlan) → IsPlanOf said (Verify v) �
 
 -- `clap` accepts these arguments, and they ask for the subcommand `name` with no options given
 pub record AskFor (arguments : List Text) (name : Text) : Type 0 where
-  pub taken : (names : VariantNames) → faults_in names arguments ≡ []
-  pub named : (names : VariantNames) → (asked names arguments).0 ≡ name
-  pub bare : (names : VariantNames) → list_any (λ r. explicit_source r.source) (asked names arguments).1 ≡ false
+  pub taken : (names : OptionNames) → faults_in names arguments ≡ []
+  pub named : (names : OptionNames) → (asked names arguments).0 ≡ name
+  pub bare : (names : OptionNames) → list_any (λ r. explicit_source r.source) (asked names arguments).1 ≡ false
 
 -- `clap` refuses these arguments, and `kinds` are the kinds of fault that it may report for them
 abbrev pub AreRefused : List Text → Kinds → Type 0
-AreRefused arguments kinds = (names : VariantNames) → faults_in names arguments ≡ kinds
+AreRefused arguments kinds = (names : OptionNames) → faults_in names arguments ≡ kinds
 
 -- the plan of `verify` without flags
 abbrev pub bare_plan : VerifyPlan
@@ -40,4 +40,4 @@ bare_plan = record { keep_going = false; quiet = false; strict = false; explain 
 
 -- the options of these arguments make the plan of `verify` without flags
 abbrev pub VerifyAsBare : List Text → Type 0
-VerifyAsBare arguments = (names : VariantNames) → verify_plan_of (said_by (asked names arguments)).value ≡ bare_plan
+VerifyAsBare arguments = (names : OptionNames) → verify_plan_of (said_by (asked names arguments)).value ≡ bare_plan

@@ -71,6 +71,10 @@ IsNumberTo most text = let digits = without_leading_plus text in
 abbrev pub IsVariant : Text → Type 0
 IsVariant text = (text ≡ codes "normal") ⊎ (text ≡ codes "fischerandom")
 
+-- the text says how draws end games
+abbrev pub IsDraws : Text → Type 0
+IsDraws text = (text ≡ codes "claimed") ⊎ (text ≡ codes "automatic")
+
 -- `verify` has this option: one of its four flags
 abbrev pub IsOfVerify : Given → Type 0
 IsOfVerify (valued name value) = ⊥
@@ -82,7 +86,8 @@ abbrev pub IsOfMatch : Given → Type 0
 IsOfMatch (valued name value) = (has_hyphen value ≡ false)
     × ((name ≡ codes "white") ⊎ (name ≡ codes "black") ⊎ (name ≡ codes "level") ⊎ (name ≡ codes "fen")
     ⊎ (name ≡ codes "date") ⊎ ((name ≡ codes "games") × IsNumberTo 1000 value)
-    ⊎ ((name ≡ codes "reply-timeout") × IsNumberTo 999 value) ⊎ ((name ≡ codes "variant") × IsVariant value))
+    ⊎ ((name ≡ codes "reply-timeout") × IsNumberTo 999 value) ⊎ ((name ≡ codes "variant") × IsVariant value)
+    ⊎ ((name ≡ codes "draws") × IsDraws value))
 IsOfMatch (flag name) = (name ≡ codes "log") ⊎ (name ≡ codes "flag")
 
 -- each of the options passes the test, and none is given twice

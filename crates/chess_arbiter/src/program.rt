@@ -228,9 +228,9 @@ fn matched<H: Host, W: Output, E: Output>(
 ///   tag line. A fault ends only its piece, and totals follow at the end. `--quiet` leaves out games without a fault;
 ///   with `--strict` a result that contradicts the tag Result or the final position is a fault too; with `--explain` a
 ///   second line explains each fault.
-/// - `match` with `--white`, `--black` and perhaps `--games`, `--level`, `--fen`, `--variant`, `--date`, `--log`,
-///   `--flag` and `--reply-timeout`: games between two engines that the host starts, the text of each game, and then
-///   the score. The input is left untouched.
+/// - `match` with `--white`, `--black` and perhaps `--games`, `--level`, `--fen`, `--variant`, `--draws`, `--date`,
+///   `--log`, `--flag` and `--reply-timeout`: games between two engines that the host starts, the text of each game, and
+///   then the score. The input is left untouched.
 /// - `stub`, and arguments to play: an engine that plays these on the input and the output.
 /// - Help or the version, if `clap` asks for it: a text on the output. The input is left untouched.
 ///

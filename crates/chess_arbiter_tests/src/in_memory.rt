@@ -382,3 +382,41 @@ const NO_SECOND_GAME: MatchRun = MatchRun {
 fn no_second_game(rt: HostRuntime) -> Result<(), Fail> {
     play_out(&rt, rt.alloc(), &NO_SECOND_GAME, &ILLEGAL_MOVE_SENT)
 }
+
+// What each engine says in the match below: its knight goes out and back, twice.
+const A_KNIGHT: &[u8] =
+    b"feature ping=1 done=1\npong 1\nmove g1f3\npong 2\nmove f3g1\npong 3\nmove g1f3\npong 4\nmove f3g1\npong 5\n";
+const B_KNIGHT: &[u8] =
+    b"feature ping=1 done=1\npong 1\nmove g8f6\npong 2\nmove f6g8\npong 3\nmove g8f6\npong 4\nmove f6g8\n";
+
+// A line from one engine and one to the other, for each move and its `pong`.
+const KNIGHTS_LOG: &str =
+    "0 <first : move g1f3\n0 >first : ping 2\n0 <first : pong 2\n0 >second: g1f3\n0 >second: time 1000\n0 >second: otim 1000\n0 >second: go\n0 <second: move g8f6\n0 >second: ping 2\n0 <second: pong 2\n0 >first : time 1000\n0 >first : otim 1000\n0 >first : g8f6\n0 <first : move f3g1\n0 >first : ping 3\n0 <first : pong 3\n0 >second: time 1000\n0 >second: otim 1000\n0 >second: f3g1\n0 <second: move f6g8\n0 >second: ping 3\n0 <second: pong 3\n0 >first : time 1000\n0 >first : otim 1000\n0 >first : f6g8\n0 <first : move g1f3\n0 >first : ping 4\n0 <first : pong 4\n0 >second: time 1000\n0 >second: otim 1000\n0 >second: g1f3\n0 <second: move g8f6\n0 >second: ping 4\n0 <second: pong 4\n0 >first : time 1000\n0 >first : otim 1000\n0 >first : g8f6\n0 <first : move f3g1\n0 >first : ping 5\n0 <first : pong 5\n0 >second: time 1000\n0 >second: otim 1000\n0 >second: f3g1\n";
+
+// With automatic draws the game ends when its start is there for the third time.
+const AUTOMATIC_DRAW: MatchRun = MatchRun {
+    a_says: &[A_KNIGHT],
+    b_says: &[B_KNIGHT],
+    b_falls_silent: false,
+    moments: &[],
+    others: &["--level", "0 0:10 0", "--draws", "automatic"],
+    output: "[Event \"CECP match\"]\n[Site \"?\"]\n[Date \"????.??.??\"]\n[Round \"1\"]\n[White \"A\"]\n[Black \"B\"]\n[Result \"1/2-1/2\"]\n[Termination \"normal\"]\n\n1. Nf3 Nf6 2. Ng1 Ng8 3. Nf3 Nf6 4. Ng1 Ng8 {Threefold repetition} 1/2-1/2\n\nscore first 0 second 0 drawn 1 unfinished 0\n",
+    log: &[
+        SETUP_LOG,
+        KNIGHTS_LOG,
+        "0 <second: move f6g8\n",
+        "0 >first : f6g8\n0 >first : result 1/2-1/2 {Threefold repetition}\n0 >first : quit\n",
+        "0 >second: result 1/2-1/2 {Threefold repetition}\n0 >second: quit\n",
+    ],
+    status: 0,
+};
+
+const AUTOMATIC_DRAW_SENT: [Sent; 1] = [Sent {
+    white: "xboard\nprotover 2\naccepted ping\naccepted done\nnew\nlevel 0 0:10 0\nnopost\neasy\nforce\nping 1\ntime 1000\notim 1000\ngo\nping 2\ntime 1000\notim 1000\ng8f6\nping 3\ntime 1000\notim 1000\nf6g8\nping 4\ntime 1000\notim 1000\ng8f6\nping 5\nf6g8\nresult 1/2-1/2 {Threefold repetition}\nquit\n",
+    black: "xboard\nprotover 2\naccepted ping\naccepted done\nnew\nlevel 0 0:10 0\nnopost\neasy\nforce\nping 1\ng1f3\ntime 1000\notim 1000\ngo\nping 2\ntime 1000\notim 1000\nf3g1\nping 3\ntime 1000\notim 1000\ng1f3\nping 4\ntime 1000\notim 1000\nf3g1\nresult 1/2-1/2 {Threefold repetition}\nquit\n",
+}];
+
+#[test]
+fn an_automatic_draw(rt: HostRuntime) -> Result<(), Fail> {
+    play_out(&rt, rt.alloc(), &AUTOMATIC_DRAW, &AUTOMATIC_DRAW_SENT)
+}

@@ -6,7 +6,7 @@ use cecp_engine::Level;
 use chess_arbiter::{Log, run_match_logged};
 use chess_base::{ByColour, Colour, Position};
 use chess_game::Game;
-use chess_match::{Ends, MatchFault, Moments, Patience, Setup};
+use chess_match::{Draws, Ends, MatchFault, Moments, Patience, Setup};
 use chess_moves::Plain;
 use std::alloc::Global;
 use std::process::Abort;
@@ -86,6 +86,7 @@ fn play(rt: &impl Abort, alloc: Global, input: &MatchInput<'_>) -> Result<Logged
             flag: input.silences > 0,
             reply: (input.silences > 0).then_some(2000),
         },
+        draws: Draws::Claimed,
     };
     let white = Ends {
         reader: SilentAfter::new(

@@ -15,7 +15,7 @@ use Rattle.cecp_engine.specs.EngineLines.{LineKind}
 use Rattle.cecp_engine.specs.Items.{Item, takes}
 use Rattle.cecp_engine.specs.Seen.{features_of}
 use Rattle.chess_match.specs.Acts.{awaits_line, is_over}
-use Rattle.chess_match.specs.Effects.{Match, Phase, Handshake, Opening, BeforeMove, Over, Effect, awaited_since, begins_turn, clock, ends, handshake_row, is_owed_move, line_row, moved, reply_row, sends_nothing, sends_to, silence_row, unless_decided, with_seat}
+use Rattle.chess_match.specs.Effects.{Match, Phase, Handshake, Opening, BeforeMove, Over, Effect, awaited_since, begins_turn, clock, ends, handshake_row, is_owed_move, line_row, moved, reply_row, sends_nothing, sends_to, over_by_position, silence_row, unless_over, with_seat}
 use Rattle.chess_match.specs.shared.Parts.{enter, with_answers, answers_to, counted}
 use Rattle.chess_match.specs.Events.{Seat}
 use Rattle.chess_match.specs.Lines.{SentLine, Says}
@@ -23,10 +23,8 @@ use Rattle.chess_match.specs.Reasons.{is_write_fault_of, reported_reason}
 use Rattle.chess_match.specs.Rules.{Rules}
 use Rattle.chess_match.specs.declared.phase.Phase.{Phase as CorePhase}
 use Rattle.chess_match.specs.declared.phase.Phase.TheVariants as core_in
-use Rattle.chess_game.specs.declared.verdicts.Verdict.{Verdict}
 use Rattle.chess_match.specs.declared.reason.MatchFault.TheVariants.{NoAnswer}
 use Rattle.chess_match.specs.declared.reason.Reason.{Reason}
-use Rattle.chess_match.specs.declared.reason.Reason.TheVariants.{Decided}
 use Rattle.chess_match.specs.declared.state.Actions.{Actions}
 use Rattle.chess_match.specs.declared.state.MatchState.{MatchState}
 use Rattle.chess_match.specs.declared.state.Player.{Player}
@@ -228,13 +226,13 @@ pinged_goes r core played S m e s = record {
   gives = λ X. ap (λ (p : CorePhase). phase_lines r core.last m X p) e;
 }
 
--- the match ends for the verdict that the board has
-pub decided_goes : (r : Rules) (core : MatchState) (played : List Move) (given : Actions) (items : Colour → List Item)
-    (m : Match) (v : Verdict) (otherwise : Effect) → verdict r.start m.played ≡ Some v
-    → Goes r core played given items (ends r (Decided v) m)
-    → Goes r core played given items (unless_decided r m otherwise)
-decided_goes r core played given items m v otherwise e g =
-    subst (λ (w : Option Verdict). Goes r core played given items (option_map_or (λ x. ends r (Decided x) m) w otherwise))
+-- the match ends by its position, or goes on
+pub over_by_goes : (r : Rules) (core : MatchState) (played : List Move) (given : Actions) (items : Colour → List Item)
+    (m : Match) (over : Option Reason) (otherwise : Effect) → over_by_position r m.played ≡ over
+    → Goes r core played given items (option_map_or (λ reason. ends r reason m) over otherwise)
+    → Goes r core played given items (unless_over r m otherwise)
+over_by_goes r core played given items m over otherwise e g =
+    subst (λ (o : Option Reason). Goes r core played given items (option_map_or (λ reason. ends r reason m) o otherwise))
     (sym e) g
 
 -- a line by the phase that is known

@@ -179,7 +179,7 @@ pub desk_ran : (setup : Setup) (end : MatchEnd) (engines engines' : Colour → D
     (record { engines = engines'; coming = coming''; game = g' })
 desk_ran setup end engines engines' held held' coming coming' coming'' witness witness' witness'' names names' g g'
     (H, reason, final, is_match, passes, reported, left) none clock watcher =
-    let r : Rules = rules_of setup.start setup.level setup.patience g.limit in
+    let r : Rules = rules_of setup.start setup.level setup.patience setup.draws g.limit in
     let K : List Step = watched reason H in
     let named : names' ≡ names =
     names_kept engines engines' held held' coming coming' witness witness' names names' K passes none in

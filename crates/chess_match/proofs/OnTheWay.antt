@@ -19,7 +19,6 @@ use Rattle.chess_game.specs.declared.results.Outcome.{Outcome}
 use Rattle.chess_game.specs.declared.results.Outcome.TheVariants.{Unfinished}
 use Rattle.chess_game.specs.declared.tags.HowEnded.{HowEnded}
 use Rattle.cecp_engine.specs.Items.{Item, last_said}
-use Rattle.cecp_engine.specs.Levels.{LevelSeen}
 use Rattle.chess_match.specs.Acts.{Block, awaits_line, blocks_from, is_limited, is_over}
 use Rattle.chess_match.specs.shared.Parts.{blocks_after}
 use Rattle.chess_match.specs.Effects.{Match, Phase, Handshake, Setup as SetupPhase, Opening, BeforeMove, AfterMove, Over, Effect, beginning, effect}
@@ -72,20 +71,21 @@ steps_left (Over reason) n = 0
 
 -- the rules of a match that begins so, in this game
 abbrev pub rules_in : run_setup.Setup → game.Seen → Rules
-rules_in setup g = rules_of setup.start setup.level setup.patience g.limit
+rules_in setup g = rules_of setup.start setup.level setup.patience setup.draws g.limit
 
-pub plays_anew : (g h : game.Seen) (begin : Setup) (level : LevelSeen) (patience : Patience)
-    → h ≡ game.with_state g (from_start begin) → Plays h (rules_of begin level patience g.limit)
-plays_anew g h begin level patience e =
-    subst (λ (x : game.Seen). Plays x (rules_of begin level patience g.limit)) (sym e) (level, patience, refl, refl)
+pub plays_anew : (g h : game.Seen) (setup : run_setup.Setup)
+    → h ≡ game.with_state g (from_start setup.start) → Plays h (rules_in setup g)
+plays_anew g h setup e = subst (λ (x : game.Seen). Plays x (rules_in setup g)) (sym e)
+    (setup.level, setup.patience, setup.draws, refl, refl)
 
 pub plays_on : (g h : game.Seen) (setup : run_setup.Setup) → h.state.start ≡ setup.start → h.limit ≡ g.limit
     → h.state.declared ≡ None → Plays h (rules_in setup g)
 plays_on g h setup s l d = (
   setup.level,
   setup.patience,
-  ap (λ (x : Setup). rules_of x setup.level setup.patience g.limit) (sym s)
-      ∙ ap (λ (n : ℕ). rules_of h.state.start setup.level setup.patience n) (sym l),
+  setup.draws,
+  ap (λ (x : Setup). rules_of x setup.level setup.patience setup.draws g.limit) (sym s)
+      ∙ ap (λ (n : ℕ). rules_of h.state.start setup.level setup.patience setup.draws n) (sym l),
   d,
 )
 
@@ -238,7 +238,7 @@ ended limit start moves reason = record {
 }
 
 -- the game at the end: its start and its limit, the moves of the match, and what was declared
-game_kept : (g h h' : game.Seen) (start : Setup) (level : LevelSeen) (m : Match) (reason : Reason)
+game_kept : (g h h' : game.Seen) (start : Setup) (m : Match) (reason : Reason)
     → h.state.start ≡ start → h.limit ≡ g.limit → h.state.moves ≡ m.played
     → h' ≡ game.with_state h (record h.state { declared = declared_at (verdict_now h.state) reason })
     → h' ≡ game.with_state g (record {
@@ -246,7 +246,7 @@ game_kept : (g h h' : game.Seen) (start : Setup) (level : LevelSeen) (m : Match)
       moves = m.played;
       declared = declared_at (verdict start m.played) reason;
     })
-game_kept g h h' start level m reason s l k e =
+game_kept g h h' start m reason s l k e =
     e
     ∙ ap (λ (n : ℕ). ended n h.state.start h.state.moves reason) l
     ∙ ap (λ (a : Setup). ended g.limit a h.state.moves reason) s
@@ -295,7 +295,7 @@ played_at setup old new g h h' core reason failed end (m, K, w) over end_is wn b
         name = λ S. names S;
         fault = end_is.fault ∙ ap (reported_fault reason) (fun_ext (λ S. sym (broken S)));
       },
-      game_kept g h h' setup.start setup.level m reason s l w.stands.moves e,
+      game_kept g h h' setup.start m reason s l w.stands.moves e,
     )
   where
     board : verdict_now h.state ≡ verdict setup.start m.played

@@ -13,7 +13,7 @@ use Rattle.chess_match.specs.Events.{Event, Line, Silent, OutputEnds, FailsToRea
 use Rattle.chess_match.specs.Reasons.{is_write_fault_of}
 use Rattle.chess_match.specs.Rules.{Rules}
 use Rattle.chess_match.specs.declared.reason.Reason.{Reason}
-use Rattle.chess_match.specs.declared.reason.Reason.TheVariants.{Decided}
+use Rattle.chess_match.specs.declared.reason.Reason.TheVariants.{Claimed, Decided}
 use Rattle.chess_match.specs.ties.Driving.{is_of_output}
 use Rattle.chess_match.specs.ties.Sane.{IsSane, IsWritten, in_turn}
 use Rattle.chess_match.proofs.CoreSteps.{on_awaiting}
@@ -78,17 +78,24 @@ module _ (r : Rules) (S : Colour) (kind : LineKind) (m : Match) (on : is_over m.
     handshake_last = λ p t d. entered_fine r (said_by S kind m) (Setup White) refl (λ h. absurd cc) said;
     setup_counts = λ p pong few. counted few;
     setup_next = λ p t pong. entered_fine r m (Setup Black) refl (λ h. absurd cc) s;
-    setup_last = λ p t pong v. entered_fine r m (Opening r.start.side) refl (λ h. v) s;
+    setup_last = λ p t pong v d. entered_fine r m (Opening r.start.side) refl (λ h. v) s;
+    setup_draws = λ p claim v d. over_fine r m (Claimed claim) s (λ X. refl);
     setup_decides = λ p v e. over_fine r m (Decided v) s (λ X. refl);
     stops = λ g reason w. over_fine r m reason s w.0;
     counts = λ t none few. counted few;
     offers = λ t none own. on_fine r (offering S m).after on
         (record { undecided = s.undecided; few = λ X. rw (offered_used S X m) (s.few X); count = s.count });
-    plays = λ text move opened is p read room timely v. on_fine r (moved S move (moment - opened) m) refl (record {
+    plays = λ text move opened is p read room timely v d. on_fine r (moved S move (moment - opened) m) refl (record {
       undecided = λ h. v;
       few = λ X. moved_few m S X move (moment - opened) (s.few X);
       count = s.count;
     });
+    draws = λ text move opened claim is p read room timely v d.
+        over_fine r (record (moved S move (moment - opened) m) { phase = Over (Claimed claim) }) (Claimed claim) (record {
+          undecided = λ h. absurd cc;
+          few = λ X. moved_few m S X move (moment - opened) (s.few X);
+          count = s.count;
+        }) (λ X. refl);
     decides = λ text move opened v is p read room timely e.
         over_fine r (record (moved S move (moment - opened) m) { phase = Over (Decided v) }) (Decided v) (record {
           undecided = λ h. absurd cc;

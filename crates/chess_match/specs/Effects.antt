@@ -1,8 +1,8 @@
 -- What each event of a match does: the match after it, and the lines that each side is then sent. A definition with the
 -- name `.._row` is the effect of a line, or of one kind of line.
-use Rattle.std.specs.Prelude.{ℕ, ◌+◌, ◌-◌, ◌/◌, ◌==◌, ◌&&◌, nat_le, nat_lt, Bool, true, false, not, if◌then◌else◌, List, [], ◌∷◌, ◌++◌, length, codes, sum, Option, None, Some, is_some, unwrap_or, map}
+use Rattle.std.specs.Prelude.{ℕ, ◌+◌, ◌-◌, ◌/◌, ◌==◌, ◌&&◌, nat_le, nat_lt, Bool, true, false, not, if◌then◌else◌, List, [], ◌∷◌, ◌++◌, length, codes, sum, Option, None, Some, is_some, option_map, unwrap_or, map}
 use Rattle.std.specs.List.{list_any}
-use Rattle.std.specs.Option.{option_map_or}
+use Rattle.std.specs.Option.{option_map_or, option_or}
 use Rattle.chess_base.specs.declared.man.Colour.{Colour}
 use Rattle.chess_base.specs.declared.man.Colour.TheVariants.{White, Black}
 use Rattle.chess_base.specs.declared.man.Move.{Move}
@@ -20,6 +20,9 @@ use Rattle.chess_text.specs.declared.reading.Reading.TheVariants as reads
 use Rattle.chess_base.specs.Options.{list_if}
 use Rattle.chess_match.specs.Lines.{SentLine, Says, MoveSent, Time, Otim, setup_lines, ping}
 use Rattle.chess_match.specs.Reasons.{is_write_fault_of}
+use Rattle.chess_game.specs.declared.verdicts.DrawClaim.{DrawClaim}
+use Rattle.chess_match.specs.declared.draws.Draws.{Draws}
+use Rattle.chess_match.specs.declared.draws.Draws.TheVariants.{Automatic}
 use Rattle.chess_match.specs.declared.reason.MatchFault.{MatchFault}
 use Rattle.chess_match.specs.declared.reason.MatchFault.TheVariants.{Ended, Read, Write, NoDone, NoPing, NoSetboard, Flood, NoVariant, NoHandshake, NoAnswer}
 use Rattle.chess_match.specs.declared.reason.Reason.{Reason}
@@ -86,6 +89,17 @@ missing r items =
     else if is_fischerandom r.start.variant && not (plays_fischerandom items) then Some NoVariant
     else None
 
+-- the draw that may be claimed (the option), if draws are automatic; otherwise `None`
+abbrev pub if_automatic : Draws → Option DrawClaim → Option DrawClaim
+if_automatic Automatic claim = claim
+if_automatic _ claim = None
+
+-- why a match is over by the position after the moves ms: for the board's verdict, if there is one; otherwise, if draws
+-- are automatic and one may be claimed, for this draw. `None` if the position ends nothing
+abbrev pub over_by_position : Rules → List Move → Option Reason
+over_by_position r ms = option_or (option_map (λ v. Decided v) (verdict r.start ms))
+    (option_map (λ claim. Claimed claim) (if_automatic r.draws (draw_claim (claims r.start ms))))
+
 -- whether in this phase the side `S` was not yet sent the last move: the other side made it, and has yet to send `pong`
 abbrev pub is_owed_move : Phase → Colour → Bool
 is_owed_move (AfterMove side) S = same_colour (other side) S
@@ -151,9 +165,9 @@ ignores r S m =
 abbrev pub begins_turn : Rules → Colour → Match → Effect
 begins_turn r S m = sends_to S (opening r m S) (record m { phase = Opening S; count = 0 })
 
--- the end of the match `m`, if the board has a verdict after its moves; otherwise the effect `otherwise`
-abbrev pub unless_decided : Rules → Match → Effect → Effect
-unless_decided r m otherwise = option_map_or (λ v. ends r (Decided v) m) (verdict r.start m.played) otherwise
+-- the end of the match `m`, if it is over by the position after its moves; otherwise the effect `otherwise`
+abbrev pub unless_over : Rules → Match → Effect → Effect
+unless_over r m otherwise = option_map_or (λ reason. ends r reason m) (over_by_position r m.played) otherwise
 
 -- ---- a line in a turn
 
@@ -197,10 +211,10 @@ moved S move used m =
 
 -- what a line `move M` of the side `S` does, `used` milliseconds after its turn began, by what M denotes
 abbrev pub move_row : Rules → Colour → ℕ → Reading → Match → Effect
--- one legal move: it is made. The board's verdict then ends the match, if there is one; otherwise `S` is sent the next
--- `ping`
+-- one legal move: it is made. The match is then over, if the position ends it (`over_by_position`); otherwise `S` is
+-- sent the next `ping`
 move_row r S used (reads.Move move) m =
-    let m' = moved S move used m in unless_decided r m' (sends_to S (ping (ping_number m' S) ∷ []) m')
+    let m' = moved S move used m in unless_over r m' (sends_to S (ping (ping_number m' S) ∷ []) m')
 -- no legal move, or more than one: `S` loses
 move_row r S used _ m = ends r (MovesIllegally S) m
 
@@ -281,10 +295,10 @@ handshake_row r S items m =
     record next { to = λ side. list_if (same_colour S side) reply ++ next.to side }
 
 -- what follows when this side is set up: after White's setup comes Black's. Then the first turn begins, unless the
--- board has a verdict at the start: that ends the match
+-- match is over by the position at the start
 abbrev pub setup_done : Rules → Colour → Match → Effect
 setup_done r White m = sends_to Black (setup_lines r) (record m { phase = Setup Black; count = 0 })
-setup_done r Black m = unless_decided r m (begins_turn r r.start.side m)
+setup_done r Black m = unless_over r m (begins_turn r r.start.side m)
 
 -- ---- one event
 

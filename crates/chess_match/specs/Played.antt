@@ -91,7 +91,7 @@ pub record ReportedAs (r : Rules) (H : List Act) (final : Match) (reason : Reaso
 -- it, but none if the board has a verdict, such as mate. What was in the game before is gone
 abbrev pub PlayedBy : List Act → Reason → Setup → MatchEnd → World → World → Type 0
 PlayedBy H reason setup end w w' =
-    let r = rules_of setup.start setup.level setup.patience w.game.limit in
+    let r = rules_of setup.start setup.level setup.patience setup.draws w.game.limit in
     (final : Match) × Passed r H final w w' × ReportedAs r H final reason end
     × (w'.game ≡ game.with_state w.game (record {
       start = setup.start;
@@ -116,7 +116,7 @@ PlayedNoting noted setup end w w' =
 -- after: it has this start, the moves of the match, and the result as in `PlayedBy`
 abbrev pub PlayedAt : Setup → MatchEnd → Passing → Passing → game.Seen → game.Seen → Type 0
 PlayedAt setup end old new g g' =
-    let r = rules_of setup.start setup.level setup.patience g.limit in
+    let r = rules_of setup.start setup.level setup.patience setup.draws g.limit in
     (H : List Act) × (reason : Reason) × (final : Match)
     × IsMatch r H final × Passes old new (watched reason H) × ReportedAs r H final reason end
     × (g' ≡ game.with_state g (record {

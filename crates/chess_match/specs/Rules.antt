@@ -11,6 +11,7 @@ use Rattle.chess_fen.specs.Writing.{fen, is_initial}
 use Rattle.chess_game.specs.Line.{position_after}
 use Rattle.chess_text.specs.San.{is_fischerandom, san, shown_move}
 use Rattle.cecp_engine.specs.Levels.{LevelSeen}
+use Rattle.chess_match.specs.declared.draws.Draws.{Draws}
 use Rattle.chess_match.specs.declared.patience.Patience.{Patience}
 
 -- what is fixed when a match begins
@@ -21,13 +22,16 @@ pub record Rules : Type 0 where
   pub level : LevelSeen
   -- how long its engines are waited for
   pub patience : Patience
+  -- whether draws by threefold repetition and by 50 moves must be claimed
+  pub draws : Draws
   -- how many half-moves can be played at most
   pub limit : ℕ
 
--- the rules of a match from this start, with this time control and this patience, of at most `limit` half-moves
-abbrev pub rules_of : Setup → LevelSeen → Patience → ℕ → Rules
-rules_of start level patience limit =
-    record { start = start; level = level; patience = patience; limit = limit }
+-- the rules of a match from this start, with this time control, this patience and these draws, of at most `limit`
+-- half-moves
+abbrev pub rules_of : Setup → LevelSeen → Patience → Draws → ℕ → Rules
+rules_of start level patience draws limit =
+    record { start = start; level = level; patience = patience; draws = draws; limit = limit }
 
 -- the FEN that engines are sent by `setboard` for a match from this start; `None` for the initial position of normal
 -- chess, which `new` sets up. In Chess960 there is always one

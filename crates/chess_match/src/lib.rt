@@ -8,6 +8,7 @@
 //!     start: Position::initial(),
 //!     level: "40 5 0".parse()?,
 //!     patience: Patience::ENDLESS,
+//!     draws: Draws::Claimed,
 //! };
 //! let mut white = Ends { reader: white_output, writer: white_input };
 //! let mut black = Ends { reader: black_output, writer: black_input };
@@ -19,6 +20,7 @@
 mod block;
 mod compose;
 mod desk;
+mod draws;
 mod events;
 mod game;
 mod handshake;
@@ -38,6 +40,7 @@ mod turn;
 mod witness;
 
 pub use chess_game::DrawClaim;
+pub use draws::Draws;
 pub use moments::Moments;
 pub use patience::Patience;
 pub use phase::Phase;

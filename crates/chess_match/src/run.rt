@@ -33,6 +33,7 @@ ghost use Rattle.chess_match.specs.ties.Sane.{IsSane, IsWritten};
 
 use crate::block::{Block, Blocks};
 use crate::desk::Desk;
+use crate::draws::Draws;
 use crate::match_game::MatchGame;
 use crate::moments::Moments;
 use crate::patience::Patience;
@@ -70,6 +71,8 @@ pub struct Setup {
     pub level: Level,
     /// How long the engines are waited for.
     pub patience: Patience,
+    /// Whether draws must be claimed.
+    pub draws: Draws,
 }
 
 /// How a match ended.
@@ -193,7 +196,7 @@ pub fn run_match_at<T: MatchTable, B: Board>(
     ensures outcome { outcome_now game.new.state ≡ result.outcome }
 {
     game.restart(&setup.start);
-    let mut core = MatchState::new(setup.level, setup.patience);
+    let mut core = MatchState::new(setup.level, setup.patience, setup.draws);
     let mut line = Line::new();
     let mut blocks = Blocks::new();
     let mut failed = deliver(table, &mut core, game, ENTRY, &mut blocks, Colour::White);

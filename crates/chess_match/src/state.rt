@@ -15,6 +15,7 @@ ghost use Rattle.chess_match.specs.shared.Parts.{answers_to};
 ghost use Rattle.chess_match.specs.ties.Texts.{unsent_in};
 
 use crate::block::{Block, add_answer};
+use crate::draws::Draws;
 use crate::patience::Patience;
 use crate::phase::Phase;
 use crate::texts::LastMove;
@@ -55,6 +56,8 @@ pub(crate) struct MatchState {
     pub since: Option<u64>,
     /// How long lines are waited for.
     pub patience: Patience,
+    /// Whether draws must be claimed.
+    pub draws: Draws,
 }
 
 /// So many ignored lines in one setup or turn end the match.
@@ -119,9 +122,9 @@ impl Player {
 
 impl MatchState {
     /// A match before its first line: White's handshake is awaited.
-    pub(crate) fn new(level: Level, patience: Patience) -> Self
+    pub(crate) fn new(level: Level, patience: Patience, draws: Draws) -> Self
         ensures phase { result.phase ≡ Phase.Handshake Colour.White }
-        ensures stands { (r : Rules) → r.level ≡ level → r.patience ≡ patience
+        ensures stands { (r : Rules) → r.level ≡ level → r.patience ≡ patience → r.draws ≡ draws
             → Represents r result [] beginning.after }
     {
         MatchState {
@@ -136,6 +139,7 @@ impl MatchState {
             opened: 0,
             since: None,
             patience,
+            draws,
         }
     }
 

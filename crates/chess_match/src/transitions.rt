@@ -4,17 +4,21 @@ ghost use Rattle.std.specs.Prelude.{◌≡◌, ◌+◌, ◌<◌, List, false};
 ghost use Rattle.chess_base.specs.declared.man.Colour.{Colour};
 ghost use Rattle.chess_base.specs.declared.man.Move.{Move};
 ghost use Rattle.chess_match.specs.Acts.{is_over};
-ghost use Rattle.chess_match.specs.Effects.{Match, begins_turn, ends, ignores, is_owed_move};
+ghost use Rattle.chess_game.specs.Ends.{claims, draw_claim};
+ghost use Rattle.chess_match.specs.Effects.{Match, begins_turn, ends, if_automatic, ignores, is_owed_move, over_by_position};
 ghost use Rattle.chess_match.specs.shared.Parts.{enter};
 ghost use Rattle.chess_match.specs.Rules.{Rules};
 ghost use Rattle.chess_match.specs.ties.Represents.{Represents, Goes, is_unsent, nothing_said, phase_lines, phase_of};
 ghost use Rattle.chess_match.specs.ties.Texts.{all_sent};
 ghost use Rattle.chess_match.specs.declared.state.TheConstants.{FLOOD_LEN};
 
+use crate::draws::Draws;
+use crate::match_game::MatchGame;
 use crate::phase::Phase;
 use crate::reason::{MatchFault, Reason};
 use crate::state::{Actions, ENTRY, FLOOD_LEN, MatchState, NOTHING};
 use chess_base::Colour;
+use chess_game::DrawClaim;
 
 impl MatchState {
     // Ends the match for this reason, and returns what is to be sent: the lines of the end.
@@ -24,6 +28,32 @@ impl MatchState {
     {
         self.phase = Phase::Over(reason);
         ENTRY
+    }
+
+    // The draw that may be claimed now, if draws are automatic; `None` if they must be claimed.
+    fn automatic_draw<G: MatchGame>(&self, game: &G) -> Option<DrawClaim>
+        ensures { (r : Rules) → G.plays game.now r
+            → result ≡ if_automatic self.now.draws (draw_claim (claims r.start (G.played game.now))) }
+    {
+        match self.draws {
+            Draws::Claimed => None,
+            Draws::Automatic => game.claim(),
+        }
+    }
+
+    // Why the match is over by the position on the board: for the board's verdict; otherwise, if draws are automatic,
+    // for the draw that may be claimed. `None` if the position ends nothing.
+    pub(crate) fn over_by_position<G: MatchGame>(&self, game: &G) -> Option<Reason>
+        ensures { (r : Rules) → G.plays game.now r → self.now.draws ≡ r.draws
+            → result ≡ over_by_position r (G.played game.now) }
+    {
+        match game.verdict() {
+            Some(verdict) => Some(Reason::Decided(verdict)),
+            None => match self.automatic_draw(game) {
+                Some(claim) => Some(Reason::Claimed(claim)),
+                None => None,
+            },
+        }
     }
 
     // Goes on to this phase, in which lines are counted from 0, and returns what is to be sent: the lines of the phase.

@@ -53,12 +53,14 @@ line_in_time r S kind moment m aw w = line_cases r S kind moment m (λ e. AreInT
   handshake_last = λ p s d. said;
   setup_counts = λ p pong few. w;
   setup_next = λ p s pong. w;
-  setup_last = λ p s pong v. w;
+  setup_last = λ p s pong v d. w;
+  setup_draws = λ p claim v d. w;
   setup_decides = λ p v e. w;
   stops = λ g reason n. w;
   counts = λ on none few. w;
   offers = λ on none own C. rw (offered_used S C m) (w C);
-  plays = λ text move opened is p read room timely verdict C. played r S C move (moment - opened) m timely w;
+  plays = λ text move opened is p read room timely verdict d C. played r S C move (moment - opened) m timely w;
+  draws = λ text move opened claim is p read room timely verdict d C. played r S C move (moment - opened) m timely w;
   decides = λ text move opened v is p read room timely verdict C. played r S C move (moment - opened) m timely w;
   passes = λ p none. w;
 })

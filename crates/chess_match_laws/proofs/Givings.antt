@@ -19,7 +19,7 @@ use Rattle.chess_match.specs.Events.{Line}
 use Rattle.chess_match.specs.Lines.{SentLine, Says, MoveSent, Time, Otim, setup_lines}
 use Rattle.chess_match.specs.Rules.{Rules}
 use Rattle.chess_match.specs.declared.reason.Reason.{Reason}
-use Rattle.chess_match.specs.declared.reason.Reason.TheVariants.{Decided}
+use Rattle.chess_match.specs.declared.reason.Reason.TheVariants.{Claimed, Decided}
 use Rattle.chess_match.proofs.shared.LineCases.{LineCases, line_cases, offering, said_by}
 use Rattle.chess_match.proofs.shared.MatchCases.{both_not, on_when_read}
 use Rattle.chess_match_laws.proofs.Points.{Kept, by_points}
@@ -214,15 +214,20 @@ module _ {A : Type 0} (f : SentLine → List A) (says : (text : List ℕ) → f 
     setup_next = λ p s pong. instead m _ rest [] _ (quiet (list_if (same_colour Black O) (setup_lines r))
         (if_says (same_colour Black O) (setup_lines r) (setup_says r)))
         (keeps all Rest m (enter (Setup Black) m) rest l (k.sets_up m S Black rest p h));
-    setup_last = λ p s pong v. k.begins m S rest p l kept h;
+    setup_last = λ p s pong v d. k.begins m S rest p l kept h;
+    setup_draws = λ p claim v d. k.stops m (Claimed claim) rest (on_when_read m.phase S aw) l h;
     setup_decides = λ p v e. k.stops m (Decided v) rest (on_when_read m.phase S aw) l h;
     stops = λ g reason w. k.stops m reason rest (on_when_read m.phase S aw) l h;
     counts = λ on none few. counted;
     offers = λ on none own. instead m _ rest [] _ (quiet ((offering S m).to O) (draw_says S O m))
         (keeps all Rest m (offering S m).after rest l (k.offers m S rest h));
-    plays = λ text move opened is p read room timely verdict. instead m _ rest [] _
+    plays = λ text move opened is p read room timely verdict d. instead m _ rest [] _
         (quiet _ (if_says (same_colour S O) _ refl))
         (k.plays m S move opened (moment - opened) rest p l kept h);
+    draws = λ text move opened claim is p read room timely verdict d. then_on m (moved S move (moment - opened) m) _
+        rest _
+        (k.plays m S move opened (moment - opened) rest p l kept h)
+        (λ rest' l' h'. k.stops (moved S move (moment - opened) m) _ rest' refl l' h');
     decides = λ text move opened v is p read room timely verdict. then_on m (moved S move (moment - opened) m) _
         rest _
         (k.plays m S move opened (moment - opened) rest p l kept h)
@@ -283,12 +288,14 @@ module _ {A : Type 0} (f : SentLine → List A) (says : (text : List ℕ) → f 
     setup_counts = λ p pong few on some. refl;
     setup_next = λ p s pong on some. quiet (list_if (same_colour Black (other S)) (setup_lines r))
         (if_says (same_colour Black (other S)) (setup_lines r) (setup_says r));
-    setup_last = λ p s pong v. apart_turn S r.start.side m;
+    setup_last = λ p s pong v d. apart_turn S r.start.side m;
+    setup_draws = λ p claim v d on some. absurd cc;
     setup_decides = λ p v e on some. absurd cc;
     stops = λ g reason w on some. absurd cc;
     counts = λ on none few on' some. refl;
     offers = λ on none own on' some. quiet ((offering S m).to (other S)) (draw_says S (other S) m);
-    plays = λ text move opened is p read room timely verdict on some. apart_own S _;
+    plays = λ text move opened is p read room timely verdict d on some. apart_own S _;
+    draws = λ text move opened claim is p read room timely verdict d on some. absurd cc;
     decides = λ text move opened v is p read room timely verdict on some. absurd cc;
     passes = λ p none. apart_turn S (other S) m;
   })

@@ -11,7 +11,7 @@ use Rattle.chess_match.specs.declared.patience.Patience.{Patience}
 use Rattle.chess_match.specs.declared.reason.MatchFault.{MatchFault}
 use Rattle.chess_match.specs.declared.reason.MatchFault.TheVariants.{Ended, Read, Write}
 use Rattle.chess_match.specs.declared.reason.Reason.{Reason}
-use Rattle.chess_match.specs.declared.reason.Reason.TheVariants.{Decided, Faulted}
+use Rattle.chess_match.specs.declared.reason.Reason.TheVariants.{Claimed, Decided, Faulted}
 use Rattle.chess_match_laws.specs.OfActs.{LastLineIsTheirs, only_sends}
 use Rattle.chess_match.proofs.shared.LineCases.{line_cases}
 use Rattle.chess_match.proofs.shared.MatchCases.{both_not, on_when_read}
@@ -36,12 +36,14 @@ line_theirs r S kind n m aw = line_cases r S kind n m (λ e. Theirs r.patience S
   handshake_last = λ p s d. on _ refl;
   setup_counts = λ p pong few. on m.phase (on_when_read m.phase S aw);
   setup_next = λ p s pong. on _ refl;
-  setup_last = λ p s pong v. on _ refl;
+  setup_last = λ p s pong v d. on _ refl;
+  setup_draws = λ p claim v d. stopped r.patience S (Claimed claim) (λ c h. cc);
   setup_decides = λ p v e. stopped r.patience S (Decided v) (λ c h. cc);
   stops = λ g reason w. stopped r.patience S reason w.1;
   counts = λ t none few. on m.phase (on_when_read m.phase S aw);
   offers = λ t none own. on m.phase (on_when_read m.phase S aw);
-  plays = λ text move opened is p read room timely v. on _ refl;
+  plays = λ text move opened is p read room timely v d. on _ refl;
+  draws = λ text move opened claim is p read room timely v d. stopped r.patience S (Claimed claim) (λ c h. cc);
   decides = λ text move opened v is p read room timely e. stopped r.patience S (Decided v) (λ c h. cc);
   passes = λ p none. on _ refl;
 })

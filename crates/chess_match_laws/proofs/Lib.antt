@@ -18,3 +18,4 @@ mod GameLaw
 mod LastLine
 mod TimeForfeits
 mod VerdictLaw
+mod DrawLaw

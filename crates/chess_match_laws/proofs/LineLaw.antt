@@ -56,13 +56,15 @@ lines r k S kind moment m aw w = line_cases r S kind moment m (λ e. Few r (k + 
   handshake_last = λ p s d. grind (arith, p, s, w);
   setup_counts = λ p pong few. grind (arith, p, w, few);
   setup_next = λ p s pong. grind (arith, p, s, w);
-  setup_last = λ p s pong v. grind (arith, p, s, w);
+  setup_last = λ p s pong v d. grind (arith, p, s, w);
+  setup_draws = λ p claim v d. stopped;
   setup_decides = λ p v e. stopped;
   stops = λ g reason n. stopped;
   counts = λ on none few. grind (arith, on, w, few);
   offers = λ on none own. grind (arith, on, aw, w, own);
-  plays = λ text move opened is p read room timely verdict.
+  plays = λ text move opened is p read room timely verdict d.
       grind (arith, p, w, room, length-append m.played (move ∷ []));
+  draws = λ text move opened claim is p read room timely verdict d. stopped;
   decides = λ text move opened v is p read room timely verdict. stopped;
   passes = λ p none. grind (arith, p, w, at_most_one (m.seat S).offers);
 })

@@ -235,12 +235,14 @@ line_written r O S t x m aw =
       handshake_last = λ p s d. refl;
       setup_counts = λ p pong few. rw p refl;
       setup_next = λ p s pong. refl;
-      setup_last = λ p s pong v. refl;
+      setup_last = λ p s pong v d. refl;
+      setup_draws = λ p claim v d. refl;
       setup_decides = λ p v e. refl;
       stops = λ g reason w. w.0 O;
       counts = λ on none few. on_written O m.phase (on_when_read m.phase S aw);
       offers = λ on none own. on_written O m.phase (on_when_read m.phase S aw);
-      plays = λ text move opened is p read room timely verdict. refl;
+      plays = λ text move opened is p read room timely verdict d. refl;
+      draws = λ text move opened claim is p read room timely verdict d. refl;
       decides = λ text move opened v is p read room timely verdict. refl;
       passes = λ p none. refl;
     })

@@ -91,14 +91,19 @@ kept_line r S kind moment m aw k = line_cases r S kind moment m (λ e. Kept r e.
   handshake_last = λ p s d. (turn_in r m (Handshake S) p k, said);
   setup_counts = λ p pong few. k;
   setup_next = λ p s pong. (turn_in r m (Setup S) p k, k.1);
-  setup_last = λ p s pong v. (ap (λ (ms : List Move). mover r.start.side ms) (turn_in r m (Setup S) p k), k.1);
+  setup_last = λ p s pong v d. (ap (λ (ms : List Move). mover r.start.side ms) (turn_in r m (Setup S) p k), k.1);
+  setup_draws = λ p claim v d. (tt, k.1);
   setup_decides = λ p v e. (tt, k.1);
   stops = λ g reason w. (tt, k.1);
   counts = λ on none few. k;
   offers = λ on none own. (k.0, λ C. ap length (offered_used S C m) ∙ k.1 C);
-  plays = λ text move opened is p read room timely verdict. let e = turn_in r m (BeforeMove S opened) p k in (
+  plays = λ text move opened is p read room timely verdict d. let e = turn_in r m (BeforeMove S opened) p k in (
     (mover-snoc r.start.side m.played move ∙ ap other e, some_move m.played move),
     λ C. moved_turns S C r.start.side move (moment - opened) m e (k.1 C),
+  );
+  draws = λ text move opened claim is p read room timely verdict d. (
+    tt,
+    λ C. moved_turns S C r.start.side move (moment - opened) m (turn_in r m (BeforeMove S opened) p k) (k.1 C),
   );
   decides = λ text move opened v is p read room timely verdict. (
     tt,

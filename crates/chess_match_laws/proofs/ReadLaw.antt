@@ -15,7 +15,7 @@ use Rattle.chess_match.specs.shared.Parts.{enter}
 use Rattle.chess_text.specs.declared.reading.Reading.TheVariants as reads
 use Rattle.chess_match.specs.Rules.{Rules}
 use Rattle.chess_match.specs.declared.reason.MatchFault.TheVariants.{Ended, Read, Write}
-use Rattle.chess_match.specs.declared.reason.Reason.TheVariants.{Decided, Faulted}
+use Rattle.chess_match.specs.declared.reason.Reason.TheVariants.{Claimed, Decided, Faulted}
 use Rattle.chess_match_laws.specs.Streams.{AreRead, lines_after_handshake, lines_after_pong, moves_said}
 use Rattle.chess_match.specs.laws.Laws.{is_pong, move_said, lines_read, items_in_line, line_kind}
 use Rattle.chess_match_laws.specs.OfActs.{AtEachMoment, MovesAreRead, only_sends}
@@ -196,8 +196,10 @@ line_steps r d t n m aw k = line_cases r d (line_kind t) n m (λ e. Steps r d t 
       lines refl (λ S. rw p (setup_same d t lines S h));
   setup_next = λ p s h final lines o. reads_on r m (enter (Setup Black) m) final (with_line d t lines) lines refl
       (λ S. rw p (setup_next d t lines S s h));
-  setup_last = λ p s h v final lines o. reads_on r m (enter (Opening r.start.side) m) final (with_line d t lines) lines refl
+  setup_last = λ p s h v drawn final lines o. reads_on r m (enter (Opening r.start.side) m) final (with_line d t lines) lines refl
       (λ S. rw p (setup_last d r.start.side t lines S s h));
+  setup_draws = λ p claim v drawn final lines o next. stopped final lines
+      (record m { phase = Over (Claimed claim); since = since }) refl o;
   setup_decides = λ p v e final lines o next. stopped final lines
       (record m { phase = Over (Decided v); since = since }) refl o;
   stops = λ g reason w final lines o next. stopped final lines (record m { phase = Over reason; since = since }) refl o;
@@ -206,9 +208,12 @@ line_steps r d t n m aw k = line_cases r d (line_kind t) n m (λ e. Steps r d t 
       (λ S. turn_same m.phase d t lines S on none);
   offers = λ on none own final lines o. reads_on r m (offering d m).after final (with_line d t lines) lines refl
       (λ S. turn_same m.phase d t lines S on none);
-  plays = λ text move opened is p read room timely verdict final lines o next.
+  plays = λ text move opened is p read room timely verdict drawn final lines o next.
       reads_move r m (moved d move (n - opened) m) final d opened t text move lines p refl
       (turn_in r m (BeforeMove d opened) p k) refl is read next;
+  draws = λ text move opened claim is p read room timely verdict drawn final lines o next.
+      reads_decided r m final d opened t text move lines p (turn_in r m (BeforeMove d opened) p k)
+      (ap (λ (x : Match). x.played) (o refl).0) is read (o refl).1;
   decides = λ text move opened v is p read room timely verdict final lines o next.
       reads_decided r m final d opened t text move lines p (turn_in r m (BeforeMove d opened) p k)
       (ap (λ (x : Match). x.played) (o refl).0) is read (o refl).1;

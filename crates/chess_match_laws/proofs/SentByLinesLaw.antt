@@ -11,7 +11,7 @@ use Rattle.chess_match.specs.Effects.{Match, Phase, Handshake, Setup, Opening, O
 use Rattle.chess_match.specs.shared.Parts.{enter}
 use Rattle.chess_match.specs.Rules.{Rules}
 use Rattle.chess_match.specs.declared.reason.MatchFault.TheVariants.{Ended, Read, Write}
-use Rattle.chess_match.specs.declared.reason.Reason.TheVariants.{Decided, Faulted}
+use Rattle.chess_match.specs.declared.reason.Reason.TheVariants.{Claimed, Decided, Faulted}
 use Rattle.chess_match.specs.laws.Laws.{items_in_line, lines_read, line_kind, lines_given, match_after}
 use Rattle.chess_match_laws.specs.Streams.{items_said, moves_sent}
 use Rattle.chess_match_laws.specs.OfActs.{AtEachMoment, EachIsSentOthersMoves, InEachMatch, ItemsAreSaid, MovesAreRead, MovesAreSent, ended_by_write_to, only_sends, others_moves}
@@ -111,7 +111,9 @@ lines_say r d t n m aw = line_cases r d (line_kind t) n m (λ e. Says d t m e.af
   setup_counts = λ p h few. done_says d t m (record m { count = m.count + 1 }) (ap handshakes_done p)
       (ap handshakes_done p) (λ S. refl);
   setup_next = λ p s h. done_says d t m (enter (Setup Black) m) (ap handshakes_done p) refl (λ S. refl);
-  setup_last = λ p s h v. done_says d t m (enter (Opening r.start.side) m) (ap handshakes_done p) refl (λ S. refl);
+  setup_last = λ p s h v drawn. done_says d t m (enter (Opening r.start.side) m) (ap handshakes_done p) refl (λ S. refl);
+  setup_draws = λ p claim v drawn. done_says d t m (record m { phase = Over (Claimed claim) }) (ap handshakes_done p)
+      refl (λ S. refl);
   setup_decides = λ p v e. done_says d t m (record m { phase = Over (Decided v) }) (ap handshakes_done p) refl
       (λ S. refl);
   stops = λ g reason w. done_says d t m (record m { phase = Over reason }) g refl (λ S. refl);
@@ -119,8 +121,11 @@ lines_say r d t n m aw = line_cases r d (line_kind t) n m (λ e. Says d t m e.af
       (turn_done m.phase on) (λ S. refl);
   offers = λ on none own. done_says d t m (offering d m).after (turn_done m.phase on) (turn_done m.phase on)
       (λ S. offered_items d S m);
-  plays = λ text move opened is p read room timely verdict. done_says d t m (moved d move (n - opened) m)
+  plays = λ text move opened is p read room timely verdict drawn. done_says d t m (moved d move (n - opened) m)
       (ap handshakes_done p) refl
+      (λ S. moved_items d S move (n - opened) m);
+  draws = λ text move opened claim is p read room timely verdict drawn. done_says d t m
+      (record (moved d move (n - opened) m) { phase = Over (Claimed claim) }) (ap handshakes_done p) refl
       (λ S. moved_items d S move (n - opened) m);
   decides = λ text move opened v is p read room timely verdict. done_says d t m
       (record (moved d move (n - opened) m) { phase = Over (Decided v) }) (ap handshakes_done p) refl

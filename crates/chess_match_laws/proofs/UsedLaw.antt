@@ -10,7 +10,7 @@ use Rattle.chess_match.specs.Effects.{Match, Phase, Handshake, Setup, Opening, B
 use Rattle.chess_match.specs.shared.Parts.{enter}
 use Rattle.chess_match.specs.Events.{Line, Opened}
 use Rattle.chess_match.specs.Rules.{Rules}
-use Rattle.chess_match.specs.declared.reason.Reason.TheVariants.{Decided}
+use Rattle.chess_match.specs.declared.reason.Reason.TheVariants.{Claimed, Decided}
 use Rattle.chess_match_laws.specs.Streams.{is_move}
 use Rattle.chess_match.specs.laws.Laws.{move_said, line_kind}
 use Rattle.chess_match_laws.specs.OfActs.{AtEachMoment, UsedTimesAreDifferences, move_times, only_sends}
@@ -116,13 +116,17 @@ lines_grow r S c kind n m aw = line_cases r c kind n m (λ e. Grows S kind n m e
   setup_counts = λ p pong few. apart_grow S kind n m (record m { count = m.count + 1 }) (ap (awaited S) p)
       (ap (awaited S) p) refl;
   setup_next = λ p s pong. apart_grow S kind n m (enter (Setup Black) m) (ap (awaited S) p) refl refl;
-  setup_last = λ p s pong v. apart_grow S kind n m (enter (Opening r.start.side) m) (ap (awaited S) p) refl refl;
+  setup_last = λ p s pong v d. apart_grow S kind n m (enter (Opening r.start.side) m) (ap (awaited S) p) refl refl;
+  setup_draws = λ p claim v d. ends_grow S kind n m (record m { phase = Over (Claimed claim) }) refl refl;
   setup_decides = λ p v e. ends_grow S kind n m (record m { phase = Over (Decided v) }) refl refl;
   stops = λ g reason w. ends_grow S kind n m (record m { phase = Over reason }) refl refl;
   counts = λ on none few. stays_grow S kind n m (record m { count = m.count + 1 }) refl refl (not_move kind none);
   offers = λ on none own. stays_grow S kind n m (offering c m).after (offered_used c S m) refl (not_move kind none);
-  plays = λ text move opened is p read room timely verdict. moved_grow S c kind n opened m
+  plays = λ text move opened is p read room timely verdict d. moved_grow S c kind n opened m
       (moved c move (n - opened) m) p (ap is_move is)
+      (moved_used c S move (n - opened) m) refl;
+  draws = λ text move opened claim is p read room timely verdict d. moved_grow S c kind n opened m
+      (record (moved c move (n - opened) m) { phase = Over (Claimed claim) }) p (ap is_move is)
       (moved_used c S move (n - opened) m) refl;
   decides = λ text move opened v is p read room timely verdict. moved_grow S c kind n opened m
       (record (moved c move (n - opened) m) { phase = Over (Decided v) }) p (ap is_move is)

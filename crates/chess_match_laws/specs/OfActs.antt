@@ -9,6 +9,7 @@ use Rattle.chess_base.specs.declared.man.Move.{Move}
 use Rattle.chess_base.specs.Men.{other, same_colour}
 use Rattle.chess_base.specs.declared.setup.Setup.{Setup as Position}
 use Rattle.chess_game.specs.Line.{IsLine, position_after}
+use Rattle.chess_game.specs.declared.verdicts.DrawClaim.{DrawClaim}
 use Rattle.chess_game.specs.declared.verdicts.Verdict.{Verdict}
 use Rattle.cecp_engine.specs.Items.{Item, takes}
 use Rattle.cecp_engine.specs.Levels.{LevelSeen, allotted}
@@ -23,14 +24,17 @@ use Rattle.chess_match.specs.Notes.{Happened}
 use Rattle.chess_match.specs.Played.{World, Passed, PlayedBy}
 use Rattle.chess_match.specs.Reasons.{is_write_fault_of}
 use Rattle.chess_match.specs.Rules.{Rules, rules_of, has_bare_king}
+use Rattle.chess_match.specs.declared.draws.Draws.{Draws}
+use Rattle.chess_match.specs.declared.draws.Draws.TheVariants.{Automatic}
 use Rattle.chess_match.specs.declared.patience.Patience.{Patience}
 use Rattle.chess_match.specs.Table.{Step, ReadsLine, FindsNoLine, ReadsClock, Notes, watched}
+use Rattle.chess_match.specs.declared.reason.MatchFault.{MatchFault}
 use Rattle.chess_match.specs.declared.reason.Reason.{Reason}
-use Rattle.chess_match.specs.declared.reason.Reason.TheVariants.{Decided, Forfeits, ForfeitsToBareKing}
+use Rattle.chess_match.specs.declared.reason.Reason.TheVariants.{Claimed, Decided, Faulted, Forfeits, ForfeitsToBareKing}
 use Rattle.chess_match.specs.declared.run.MatchEnd.{MatchEnd}
 use Rattle.chess_match.specs.declared.run.Setup.{Setup}
 use Rattle.chess_game.specs.Game.{outcome_now}
-use Rattle.chess_game.specs.Ends.{verdict}
+use Rattle.chess_game.specs.Ends.{claims, draw_claim, verdict}
 
 -- ---- each match, and each moment of one
 
@@ -197,6 +201,14 @@ OnlyOneMatchOfARun = (r : Rules) (H K : List Act) (final final' : Match) (w w' :
 
 -- ---- ends
 
+-- in every match in which draws are automatic: if a draw may be claimed after the moves played and the board has no
+-- verdict, the match ended for this draw; or no move was played, and the match ended by a fault
+abbrev pub AutomaticDrawsEndMatches : Type 0
+AutomaticDrawsEndMatches = (r : Rules) (claim : DrawClaim) (H : List Act) (final : Match) → IsMatch r H final
+    → r.draws ≡ Automatic → verdict r.start final.played ≡ None → draw_claim (claims r.start final.played) ≡ Some claim
+    → (final.phase ≡ Over (Claimed claim))
+    ⊎ ((final.played ≡ []) × (c : Colour) × (fault : MatchFault) × (final.phase ≡ Over (Faulted c fault)))
+
 -- in every match that ended for the verdict `v` of the board: `v` is the verdict after the moves played
 abbrev pub DecidedByTheBoard : Type 0
 DecidedByTheBoard = (r : Rules) (v : Verdict) (H : List Act) (final : Match) → IsMatch r H final
@@ -284,8 +296,8 @@ MovesSentAreKnown r S H m =
 
 -- in every match of chess: each move played is legal in the position in which it is made, from the start on
 abbrev pub GamesAreLines : Type 0
-GamesAreLines = (start : Position) (level : LevelSeen) (patience : Patience) (limit : ℕ) (H : List Act) (final : Match)
-    → IsMatch (rules_of start level patience limit) H final → IsLine start final.played
+GamesAreLines = (start : Position) (level : LevelSeen) (patience : Patience) (draws : Draws) (limit : ℕ) (H : List Act)
+    (final : Match) → IsMatch (rules_of start level patience draws limit) H final → IsLine start final.played
 
 -- ---- clocks
 

@@ -1,7 +1,7 @@
 //! Laws of matches.
 
 ghost use Rattle.std.specs.Prelude.{true, false};
-ghost use Rattle.chess_match_laws.specs.OfActs.{AtEachLine, AtEachMoment, AtEachOpening, InEachMatch, EndsAfterItsActs, LinesAreReadInOrder, SilencesAreReadInOrder, NothingIsDueAtEvents, FailedBlocksAreLast, OneBlockFails, WriteFaultsAreOfBlocks, OnlyOneMatch, OneMatchButForEndLines, OnlyOneMatchOfARun, DecidedByTheBoard, OutcomesAreOfTheGame, LastLineIsTheirs, MovesAreRead, ItemsAreSaid, MovesAreSent, EachIsSentOthersMoves, AllMovesAreGiven, AllMovesAreSent, IsSentAllMoves, MovesSentAreKnown, GamesAreLines, TimesAreClocks, OtherTimesAreClocks, UsedTimesAreDifferences, ClocksDoNotUnderflow, LinesAreFew, SilencesAreAskedFor, SilencesChangeNothing, SilencesEndMatches, TimeForfeitsAreShown, NotesAreInOrder, NotesHaveTheEvents, NotesHaveAllLines, NotesHaveLinesRead, NotesHaveMoments};
+ghost use Rattle.chess_match_laws.specs.OfActs.{AtEachLine, AtEachMoment, AtEachOpening, InEachMatch, EndsAfterItsActs, AutomaticDrawsEndMatches, LinesAreReadInOrder, SilencesAreReadInOrder, NothingIsDueAtEvents, FailedBlocksAreLast, OneBlockFails, WriteFaultsAreOfBlocks, OnlyOneMatch, OneMatchButForEndLines, OnlyOneMatchOfARun, DecidedByTheBoard, OutcomesAreOfTheGame, LastLineIsTheirs, MovesAreRead, ItemsAreSaid, MovesAreSent, EachIsSentOthersMoves, AllMovesAreGiven, AllMovesAreSent, IsSentAllMoves, MovesSentAreKnown, GamesAreLines, TimesAreClocks, OtherTimesAreClocks, UsedTimesAreDifferences, ClocksDoNotUnderflow, LinesAreFew, SilencesAreAskedFor, SilencesChangeNothing, SilencesEndMatches, TimeForfeitsAreShown, NotesAreInOrder, NotesHaveTheEvents, NotesHaveAllLines, NotesHaveLinesRead, NotesHaveMoments};
 ghost use Rattle.chess_match.specs.laws.Laws.{VerdictsEndMatches};
 
 use chess_text::read_moves_are_legal;
@@ -34,6 +34,12 @@ pub fn verdicts_end_matches()
     ensures decided { DecidedByTheBoard }
     ensures verdicts { VerdictsEndMatches }
     ensures outcomes { OutcomesAreOfTheGame }
+{}
+
+/// States a law and does nothing: where draws are automatic, a match after whose moves a draw may be claimed, and the
+/// board has no verdict, ended for this draw, or by a fault before its first move.
+pub fn automatic_draws_end_matches()
+    ensures { AutomaticDrawsEndMatches }
 {}
 
 /// States a law and does nothing: in a match that ended for what a side's line did (it resigned, made an illegal move,

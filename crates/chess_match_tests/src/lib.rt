@@ -4,6 +4,8 @@
 #[cfg(test)]
 mod decided;
 #[cfg(test)]
+mod draws;
+#[cfg(test)]
 mod engines;
 #[cfg(test)]
 mod features;

@@ -6,7 +6,7 @@ use chess_base::{Colour, Position, Variant};
 use chess_bits::{AttackTables, Bits};
 use chess_fen::read_fen_as;
 use chess_game::{Game, Outcome};
-use chess_match::{Ends, MatchEnd, MatchFault, Moments, Patience, Setup, run_match};
+use chess_match::{Draws, Ends, MatchEnd, MatchFault, Moments, Patience, Setup, run_match};
 use chess_moves::{Board, Plain};
 use pgn_writer::{Tags, write_pgn};
 use std::alloc::Global;
@@ -43,6 +43,7 @@ pub fn setup_within(rt: &impl Abort, level: &[u8], start: Position, patience: Pa
             start,
             level,
             patience,
+            draws: Draws::Claimed,
         },
         None => panic!(rt; "level"),
     }

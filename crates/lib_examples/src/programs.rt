@@ -8,7 +8,7 @@ use chess_arbiter::{ProcessHost, run_program};
 use chess_base::{Colour, Position};
 use chess_cecp::{End, Session, run_session, serve_lines};
 use chess_game::Game;
-use chess_match::{Ends, Moments, Patience, Setup, run_match};
+use chess_match::{Draws, Ends, Moments, Patience, Setup, run_match};
 use chess_moves::Plain;
 use chess_pgn::Tags;
 use match_runner::{GamesPlan, Log, SinceStart, play_games};
@@ -48,6 +48,7 @@ fn match_between<R: Input + Drop, W: Output + Drop, M: Moments + Drop>(
         start: Position::initial(),
         level: "40 5 0".parse()?,
         patience: Patience::ENDLESS,
+        draws: Draws::Claimed,
     };
     let mut white = Ends {
         reader: white_output,
@@ -69,6 +70,7 @@ fn match_of_processes(rt: &HostRuntime, alloc: Global) -> Result<()> {
         black: "phalanx",
         level: "40 5 0".parse()?,
         patience: Patience::ENDLESS,
+        draws: Draws::Claimed,
         start: Position::initial(),
         games: 2,
         date: "????.??.??",

@@ -96,15 +96,16 @@ pub record GameRecord : Type 0 where
 abbrev pub none_killed : ByColour Bool
 none_killed = record { white = false; black = false }
 
--- `played` is the record of one game, which was played from the start of `plan`, with its time control and patience and
--- with at most 20,000 half-moves (`MOST_MOVES`): there are acts `H` and a reason why the game ended, by which `before`
--- became `after`; `end` is what is reported of them, and `notes` are their notes. No engine was killed if replies have
+-- `played` is the record of one game, which was played from the start of `plan`, with its time control, patience and
+-- draws, and with at most 20,000 half-moves (`MOST_MOVES`): there are acts `H` and a reason why the game ended, by which
+-- `before` became `after`; `end` is what is reported of them, and `notes` are their notes. No engine was killed if replies have
 -- no limit. Which engines played it is said by the steps of a match (`steps_by` in GamesTable)
 abbrev pub IsOfPlan : GamesPlan → GameRecord → Type 0
 IsOfPlan plan played = (played.before.game.limit ≡ MOST_MOVES)
     × (plan.patience.reply ≡ None → played.killed ≡ none_killed)
     × ((H : List Act) × (reason : Reason) × (flat_map (notes_of reason) H ≡ played.notes)
-    × PlayedBy H reason (record { start = plan.start; level = plan.level; patience = plan.patience })
+    × PlayedBy H reason
+    (record { start = plan.start; level = plan.level; patience = plan.patience; draws = plan.draws })
     played.end played.before played.after)
 
 -- the PGN of the game `played`, which has this number: its tags, and its moves and result. `[]`: no line has a prefix

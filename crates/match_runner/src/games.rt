@@ -130,6 +130,7 @@ fn play_game<'a, T: GamesTable, W: Output, E: Output>(
         start: plan.start,
         level: plan.level,
         patience: plan.patience,
+        draws: plan.draws,
     };
     let limit = plan.patience.reply;
     let mut engines = table.start(

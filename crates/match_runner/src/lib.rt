@@ -7,6 +7,7 @@
 //!     black: "phalanx",
 //!     level: "40 5 0".parse()?,
 //!     patience: Patience::ENDLESS,
+//!     draws: Draws::Claimed,
 //!     start: Position::initial(),
 //!     games: 2,
 //!     date: "????.??.??",

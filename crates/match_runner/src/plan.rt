@@ -2,7 +2,7 @@
 
 use cecp_engine::Level;
 use chess_base::Position;
-use chess_match::Patience;
+use chess_match::{Draws, Patience};
 
 /// How the games of a match are played.
 #[derive(Clone, Copy)]
@@ -16,6 +16,8 @@ pub struct GamesPlan<'a> {
     /// How long the engines are waited for. Its limit for replies also holds for a write that can't go on, and for the
     /// end of an engine whose input is closed.
     pub patience: Patience,
+    /// Whether draws by threefold repetition and by 50 moves must be claimed.
+    pub draws: Draws,
     /// The position from which each game starts; its variant is the match's.
     pub start: Position,
     /// How many games.

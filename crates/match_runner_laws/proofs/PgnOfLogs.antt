@@ -45,7 +45,7 @@ unfolding line_of
 score_line_is games = refl
 
 abbrev pub rules : GamesPlan → Rules
-rules plan = rules_of plan.start plan.level plan.patience MOST_MOVES
+rules plan = rules_of plan.start plan.level plan.patience plan.draws MOST_MOVES
 
 -- the game that a match of these moves leaves, if it ended for this reason
 abbrev pub left : GamesPlan → Reason → List Move → State
@@ -82,7 +82,8 @@ is_played plan played (limit, spared, (H, reason, notes, (final, passed, reporte
   reason,
   final,
   record {
-    passed = subst (λ (n : ℕ). Passed (rules_of plan.start plan.level plan.patience n) H final played.before played.after)
+    passed = subst
+        (λ (n : ℕ). Passed (rules_of plan.start plan.level plan.patience plan.draws n) H final played.before played.after)
         limit passed;
     over = reported.ended;
     notes = notes;

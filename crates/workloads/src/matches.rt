@@ -10,7 +10,7 @@ use chess_base::{Colour, Position};
 use chess_bits::{AttackTables, Bits};
 use chess_game::{Game, MOST_MOVES};
 use chess_match::{
-    ENGINE_LINE_LEN, Ends, MatchEnd, Moments, Patience, Setup, Witness, run_match_watched,
+    Draws, ENGINE_LINE_LEN, Ends, MatchEnd, Moments, Patience, Setup, Witness, run_match_watched,
 };
 use chess_text::coordinate;
 use std::alloc::{AllocError, Global};
@@ -215,6 +215,7 @@ fn play(
         start: Position::initial(),
         level,
         patience: Patience::ENDLESS,
+        draws: Draws::Claimed,
     };
     let mut log = Log {
         digest: Digest::new(),

@@ -7,7 +7,7 @@ use cecp_engine::{Level, LevelFault};
 use chess_base::Position;
 use chess_bits::Bits;
 use chess_game::Game;
-use chess_match::{Patience, Setup, run_match};
+use chess_match::{Draws, Patience, Setup, run_match};
 use std::alloc::{AllocError, Global};
 
 /// What two engines send in a match of at most `half_moves` half-moves with few captures, which is walked through in
@@ -35,6 +35,7 @@ fn play(alloc: Global, script: &Script, level: Level, game: &mut Game<Bits<'_>>)
         start: Position::initial(),
         level,
         patience: Patience::ENDLESS,
+        draws: Draws::Claimed,
     };
     let mut clock = Ticking { moment: 0 };
     run_match(&mut white, &mut black, &mut clock, &setup, game);

@@ -17,7 +17,7 @@ use Rattle.chess_base.specs.declared.man.Variant.{Variant}
 use Rattle.chess_base.specs.declared.setup.Setup.{Setup}
 use Rattle.chess_fen.specs.Reading.{fen_reading_as}
 use Rattle.cecp_engine.specs.Levels.{LevelSeen, level_reading}
-use Rattle.arbiter_cli.specs.Plans.{Said, Values, is_date, is_set, number_of, variant_in, verify_plan_of}
+use Rattle.arbiter_cli.specs.Plans.{Said, Values, draws_in, is_date, is_set, number_of, variant_in, verify_plan_of}
 use Rattle.clap.specs.declared.error.Error.{Error}
 use Rattle.clap.specs.declared.error.kind.ErrorKind.TheVariants.{OutOfMemory}
 
@@ -51,6 +51,7 @@ pub record IsMatchOf (value : Values) (m : MatchRequest) : Type 0 where
   pub log : m.log ≡ is_set (codes "log") value
   pub flag : m.flag ≡ is_set (codes "flag") value
   pub reply : m.reply ≡ option_map number_of (value (codes "reply-timeout"))
+  pub draws : m.draws ≡ draws_in value
 
 -- the request is what the arguments ask for, with level, FEN and date of a match still as texts
 abbrev pub IsRequestOf : Said → Request → Type 0
@@ -71,6 +72,7 @@ pub record IsJudged (m : MatchRequest) (plan : GamesPlan) : Type 0 where
   pub date : plan.date ≡ m.date
   pub log : plan.log ≡ m.log
   pub patience : plan.patience ≡ patience_by m.flag m.reply
+  pub draws : plan.draws ≡ m.draws
   pub good_date : is_date m.date.now ≡ true
 
 -- the fault is that of the first of level, FEN and date that is invalid in this request of a match

@@ -2,8 +2,8 @@
 use native.Mathlib.Omega.{arith}
 use Rattle.std.specs.List.{list_any}
 use Rattle.std.proofs.Common.{◌≡◌, ℕ, ◌+◌, ◌-◌, ◌≤◌, ◌<◌, Bool, true, false, not, ◌&&◌, List, [], ◌∷◌, ◌++◌, length, refl, sym, ap, ◌∙◌, subst, Option, None, Some}
-use Rattle.std.specs.Option.{option_map_or}
-use Rattle.std.specs.Prelude.{if◌then◌else◌, nat_lt, nat_le, ◌==◌, codes, is_some}
+use Rattle.std.specs.Option.{option_map_or, option_or}
+use Rattle.std.specs.Prelude.{if◌then◌else◌, nat_lt, nat_le, ◌==◌, codes, is_some, option_map}
 use Rattle.std.proofs.lemmas.Bool.{leb-false, ltb-false}
 use Rattle.chess_base.specs.declared.man.Colour.{Colour}
 use Rattle.chess_base.specs.declared.man.Colour.TheVariants.{White, Black}
@@ -15,7 +15,7 @@ use Rattle.chess_game.specs.declared.verdicts.Verdict.{Verdict}
 use Rattle.cecp_engine.specs.EngineLines.{LineKind, Features, Moves, Resigns, OffersDraw, ClaimsDraw, ClaimsWin, Rejects, Answers, SaysElse}
 use Rattle.cecp_engine.specs.Items.{Item, ends_handshake, plays_fischerandom, takes}
 use Rattle.chess_match.specs.Acts.{awaits_line, is_limited}
-use Rattle.chess_match.specs.Effects.{Match, Phase, Handshake, Setup, Opening, BeforeMove, AfterMove, Over, Effect, awaited_since, before_move, begins_turn, clock, ends, flag_row, handshake_done, handshake_lines, handshake_row, ignores, judged, line_row, missing, move_row, moved, offer_row, ping_number, reply_row, sends_nothing, sends_to, setup_done, silence_row, turn_row, with_seat}
+use Rattle.chess_match.specs.Effects.{Match, Phase, Handshake, Setup, Opening, BeforeMove, AfterMove, Over, Effect, awaited_since, before_move, begins_turn, clock, ends, flag_row, handshake_done, handshake_lines, handshake_row, if_automatic, ignores, judged, line_row, missing, move_row, moved, offer_row, ping_number, reply_row, sends_nothing, sends_to, setup_done, silence_row, turn_row, with_seat}
 use Rattle.chess_match.specs.shared.Parts.{enter, with_answers, counted}
 use Rattle.chess_match.specs.Lines.{Says, ping, setup_lines}
 use Rattle.chess_match.specs.Reasons.{is_write_fault_of}
@@ -82,6 +82,14 @@ abbrev pub offering : Colour → Match → Effect
 offering S m = sends_to (other S) (list_if (takes (codes "draw") (m.seat (other S)).items) (Says (codes "draw") ∷ []))
     (with_seat S (λ s. record s { offers = true }) m)
 
+-- the draw that ends a match after these moves without a claim
+abbrev pub draw_by_itself : Rules → List Move → Option DrawClaim
+draw_by_itself r ms = if_automatic r.draws (draw_claim (claims r.start ms))
+
+-- why a match is over, by the board's verdict and by a draw that needs no claim
+abbrev pub over_for : Option Verdict → Option DrawClaim → Option Reason
+over_for v d = option_or (option_map (λ v. Decided v) v) (option_map (λ claim. Claimed claim) d)
+
 -- S's move is played, and decides nothing
 abbrev pub playing : Colour → Move → ℕ → Match → Effect
 playing S move used m = let n = moved S move used m in sends_to S (ping (ping_number n S) ∷ []) n
@@ -111,7 +119,9 @@ pub record LineCases (r : Rules) (S : Colour) (kind : LineKind) (moment : ℕ) (
     pub setup_next : m.phase ≡ Setup S → S ≡ White → is_pong 1 kind ≡ true
         → Q (sends_to Black (setup_lines r) (enter (Setup Black) m))
     pub setup_last : m.phase ≡ Setup S → S ≡ Black → is_pong 1 kind ≡ true → verdict r.start m.played ≡ None
-        → Q (begins_turn r r.start.side m)
+        → draw_by_itself r m.played ≡ None → Q (begins_turn r r.start.side m)
+    pub setup_draws : m.phase ≡ Setup S → (claim : DrawClaim) → verdict r.start m.played ≡ None
+        → draw_by_itself r m.played ≡ Some claim → Q (ends r (Claimed claim) m)
     pub setup_decides : m.phase ≡ Setup S → (v : Verdict) → verdict r.start m.played ≡ Some v → Q (ends r (Decided v) m)
     -- in its setup or in its turn
     pub stops : handshakes_done m.phase ≡ true → (reason : Reason) → MayStop r.patience m.phase S reason
@@ -121,7 +131,13 @@ pub record LineCases (r : Rules) (S : Colour) (kind : LineKind) (moment : ℕ) (
     pub offers : in_turn m.phase ≡ true → move_said kind ≡ [] → (m.seat S).offers ≡ false → Q (offering S m)
     pub plays : (text : List ℕ) (move : Move) (opened : ℕ) → kind ≡ Moves text → m.phase ≡ BeforeMove S opened
         → reading (position_after r.start m.played) text ≡ reads.Move move → length m.played < r.limit → moment - opened ≤ clock r m S
-        → verdict r.start (m.played ++ move ∷ []) ≡ None → Q (playing S move (moment - opened) m)
+        → verdict r.start (m.played ++ move ∷ []) ≡ None → draw_by_itself r (m.played ++ move ∷ []) ≡ None
+        → Q (playing S move (moment - opened) m)
+    pub draws : (text : List ℕ) (move : Move) (opened : ℕ) (claim : DrawClaim) → kind ≡ Moves text
+        → m.phase ≡ BeforeMove S opened → reading (position_after r.start m.played) text ≡ reads.Move move
+        → length m.played < r.limit → moment - opened ≤ clock r m S → verdict r.start (m.played ++ move ∷ []) ≡ None
+        → draw_by_itself r (m.played ++ move ∷ []) ≡ Some claim
+        → Q (ends r (Claimed claim) (moved S move (moment - opened) m))
     pub decides : (text : List ℕ) (move : Move) (opened : ℕ) (v : Verdict) → kind ≡ Moves text
         → m.phase ≡ BeforeMove S opened → reading (position_after r.start m.played) text ≡ reads.Move move → length m.played < r.limit
         → moment - opened ≤ clock r m S → verdict r.start (m.played ++ move ∷ []) ≡ Some v
@@ -208,13 +224,16 @@ module _ (r : Rules) (S : Colour) (kind : LineKind) (moment : ℕ) (m : Match) (
         ((λ O. refl), (λ c e. cc), refl, never (ap in_turn p))
     a_move text reads.NotAMove is e room = l.stops (ap handshakes_done p) (MovesIllegally S)
         ((λ O. refl), (λ c e. cc), refl, never (ap in_turn p))
-    a_move text (reads.Move move) is e room = at (verdict r.start (m.played ++ move ∷ [])) refl
+    a_move text (reads.Move move) is e room =
+        at (verdict r.start (m.played ++ move ∷ [])) (draw_by_itself r (m.played ++ move ∷ [])) refl refl
       where
-        at : (v : Option Verdict) → verdict r.start (m.played ++ move ∷ []) ≡ v
-            → Q (option_map_or (λ v. ends r (Decided v) (moved S move (moment - opened) m)) v
+        at : (v : Option Verdict) (d : Option DrawClaim) → verdict r.start (m.played ++ move ∷ []) ≡ v
+            → draw_by_itself r (m.played ++ move ∷ []) ≡ d
+            → Q (option_map_or (λ reason. ends r reason (moved S move (moment - opened) m)) (over_for v d)
             (playing S move (moment - opened) m))
-        at None h = l.plays text move opened is p e room timely h
-        at (Some v) h = l.decides text move opened v is p e room timely h
+        at None None h k = l.plays text move opened is p e room timely h k
+        at None (Some claim) h k = l.draws text move opened claim is p e room timely h k
+        at (Some v) d h k = l.decides text move opened v is p e room timely h
 
     before : (k : LineKind) → kind ≡ k → Q (before_move r S (moment - opened) k m)
     before (Moves text) e = by_test Q (nat_le r.limit (length m.played))
@@ -252,12 +271,13 @@ module _ (r : Rules) (S : Colour) (kind : LineKind) (moment : ℕ) (m : Match) (
   -- in its setup
   set_up : (c : Colour) → S ≡ c → m.phase ≡ Setup S → is_pong 1 kind ≡ true → Q (setup_done r c m)
   set_up White e p pong = l.setup_next p e pong
-  set_up Black e p pong = at (verdict r.start m.played) refl
+  set_up Black e p pong = at (verdict r.start m.played) (draw_by_itself r m.played) refl refl
     where
-      at : (v : Option Verdict) → verdict r.start m.played ≡ v
-          → Q (option_map_or (λ v. ends r (Decided v) m) v (begins_turn r r.start.side m))
-      at (Some v) h = l.setup_decides p v h
-      at None h = l.setup_last p e pong h
+      at : (v : Option Verdict) (d : Option DrawClaim) → verdict r.start m.played ≡ v → draw_by_itself r m.played ≡ d
+          → Q (option_map_or (λ reason. ends r reason m) (over_for v d) (begins_turn r r.start.side m))
+      at (Some v) d h k = l.setup_decides p v h
+      at None (Some claim) h k = l.setup_draws p claim h k
+      at None None h k = l.setup_last p e pong h k
 
   not_set_up : m.phase ≡ Setup S → is_pong 1 kind ≡ false → Q (ignores r S m)
   not_set_up p h = ignored (ap handshakes_done p) (l.setup_counts p h)

@@ -75,12 +75,14 @@ line_judged r S kind moment m aw j = line_cases r S kind moment m (λ e. Judged 
   handshake_last = λ p s d. by p;
   setup_counts = λ p pong few. j;
   setup_next = λ p s pong. by p;
-  setup_last = λ p s pong v. v;
+  setup_last = λ p s pong v d. v;
+  setup_draws = λ p claim v d. v;
   setup_decides = λ p v e. e;
   stops = λ g reason w. ended_judged r m reason (on_when_read m.phase S aw) j w.2 w.3;
   counts = λ on none few. j;
   offers = λ on none own. j;
-  plays = λ text move opened is p read room timely v. v;
+  plays = λ text move opened is p read room timely v d. v;
+  draws = λ text move opened claim is p read room timely v d. v;
   decides = λ text move opened v is p read room timely e. e;
   passes = λ p said. by p;
 })

@@ -81,6 +81,7 @@ pub record Represents (r : Rules) (core : MatchState) (played : List Move) (m : 
   pub count : core.count ≡ m.count
   pub since : core.since ≡ m.since
   pub patience : core.patience ≡ r.patience
+  pub draws : core.draws ≡ r.draws
 
 -- what the code's state keeps of the engine of this side
 abbrev pub player : MatchState → Colour → Player

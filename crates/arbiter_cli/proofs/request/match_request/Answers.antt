@@ -46,4 +46,5 @@ returns-clause-given c =
       log = search rules;
       flag = search rules;
       reply = search rules;
+      draws = search rules;
     }

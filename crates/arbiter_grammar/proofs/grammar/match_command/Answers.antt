@@ -3,7 +3,7 @@
 use Rattle.std.proofs.Common.{rules, ◌≡◌, ◌∙◌, ap₂, codes, Bool, true, ◌||◌}
 use Rattle.std.proofs.lemmas.Result.{IfOk-weaker}
 use Rattle.clap.specs.Words.{rule_of, with_rule}
-use Rattle.arbiter_grammar.specs.Grammar.{option_rule, flag_rule}
+use Rattle.arbiter_grammar.specs.Grammar.{OptionNames, option_rule, flag_rule}
 use Rattle.arbiter_grammar.proofs.grammar.match_command.Goals as goal
 
 pub returns-clause-app : goal.returns-clause-app
@@ -16,6 +16,7 @@ returns-clause-app c =
     let black : rule_of c.needed_option-2.result ≡ record (option_rule (codes "black")) { required = true } =
     search rules in
     let variant = c.variant_option.ensures.rule in
+    let draws = c.draws_option.ensures.rule in
     let e1 = c.in_ok-arg.ensures.shape c.needed_option.ensures.local ∙ ap₂ with_rule c.command.ensures.app white in
     let e2 = c.in_ok-arg-2.ensures.shape c.needed_option-2.ensures.local ∙ ap₂ with_rule e1 black in
     let e3 = c.in_ok-arg-3.ensures.shape c.option.ensures.local ∙ ap₂ with_rule e2 level in
@@ -26,11 +27,13 @@ returns-clause-app c =
     let log : rule_of c.flag.result ≡ flag_rule (codes "log") = search rules in
     let falls : rule_of c.flag-2.result ≡ flag_rule (codes "flag") = search rules in
     let reply = c.reply_timeout_option.ensures in
-    let e8 = c.in_ok-arg-8.ensures.shape c.flag.ensures.local ∙ ap₂ with_rule e7 log in
-    let e9 = c.in_ok-arg-9.ensures.shape c.flag-2.ensures.local ∙ ap₂ with_rule e8 falls in
-    IfOk-weaker c.arg-10.result _ _
-    (λ r h. (variant.0, variant.1, h.shape reply.local ∙ ap₂ with_rule e9 reply.rule))
-    c.arg-10.ensures
+    let e8 = c.in_ok-arg-8.ensures.shape c.draws_option.ensures.local ∙ ap₂ with_rule e7 draws.2 in
+    let e9 = c.in_ok-arg-9.ensures.shape c.flag.ensures.local ∙ ap₂ with_rule e8 log in
+    let e10 = c.in_ok-arg-10.ensures.shape c.flag-2.ensures.local ∙ ap₂ with_rule e9 falls in
+    let names : OptionNames = record { variants = variant.0; draws = draws.0 } in
+    IfOk-weaker c.arg-11.result _ _
+    (λ r h. (names, (variant.1, draws.1), h.shape reply.local ∙ ap₂ with_rule e10 reply.rule))
+    c.arg-11.ensures
 
 pub returns-clause-local : goal.returns-clause-local
 returns-clause-local c =
@@ -42,6 +45,7 @@ returns-clause-local c =
     let e5 = c.in_ok-arg-5.ensures.globals ∙ ap₂ or e4 c.games_option.ensures.local in
     let e6 = c.in_ok-arg-6.ensures.globals ∙ ap₂ or e5 c.option-3.ensures.local in
     let e7 = c.in_ok-arg-7.ensures.globals ∙ ap₂ or e6 c.variant_option.ensures.local in
-    let e8 = c.in_ok-arg-8.ensures.globals ∙ ap₂ or e7 c.flag.ensures.local in
-    let e9 = c.in_ok-arg-9.ensures.globals ∙ ap₂ or e8 c.flag-2.ensures.local in
-    IfOk-weaker c.arg-10.result _ _ (λ r h. h.globals ∙ ap₂ or e9 c.reply_timeout_option.ensures.local) c.arg-10.ensures
+    let e8 = c.in_ok-arg-8.ensures.globals ∙ ap₂ or e7 c.draws_option.ensures.local in
+    let e9 = c.in_ok-arg-9.ensures.globals ∙ ap₂ or e8 c.flag.ensures.local in
+    let e10 = c.in_ok-arg-10.ensures.globals ∙ ap₂ or e9 c.flag-2.ensures.local in
+    IfOk-weaker c.arg-11.result _ _ (λ r h. h.globals ∙ ap₂ or e10 c.reply_timeout_option.ensures.local) c.arg-11.ensures

@@ -5,24 +5,24 @@ use Rattle.clap.specs.Words.{App, FailsBy, HasKind, HasMatchesOf, Row, Text, fau
 use Rattle.clap.specs.declared.error.Error.{Error}
 use Rattle.clap.specs.declared.error.kind.ErrorKind.TheVariants.{OutOfMemory}
 use Rattle.clap.specs.declared.parser.matches.ArgMatches.{ArgMatches}
-use Rattle.arbiter_grammar.specs.Grammar.{IsComplete, IsParsed, IsParsedBy, VariantNames, arbiter_app}
+use Rattle.arbiter_grammar.specs.Grammar.{IsComplete, IsParsed, IsParsedBy, OptionNames, arbiter_app}
 use Rattle.arbiter_grammar.proofs.Required.{required_there}
 use Rattle.arbiter_grammar.proofs.parsing.parse.Goals as goal
 
-simple : (names : VariantNames) → is_simple (arbiter_app names) ≡ true
+simple : (names : OptionNames) → is_simple (arbiter_app names) ≡ true
 simple names = refl
 
-free : (names : VariantNames) → is_simple_and_free (arbiter_app names) ≡ true
+free : (names : OptionNames) → is_simple_and_free (arbiter_app names) ≡ true
 free names = refl
 
 abbrev lent : Text → Bor Text
 lent t = record { ref_ptr = (0, 0); now = t }
 
 -- names, for where there was no memory for a grammar
-abbrev some_names : VariantNames
+abbrev some_names : OptionNames
 some_names = record { ref_ptr = (0, 0); now = lent (codes "normal") ∷ lent (codes "fischerandom") ∷ [] }
 
-parsed_by : (names : VariantNames) (a : App) (words : List Text) → a ≡ arbiter_app names → (r : Result ArgMatches Error)
+parsed_by : (names : OptionNames) (a : App) (words : List Text) → a ≡ arbiter_app names → (r : Result ArgMatches Error)
     → IfOk r (HasMatchesOf a words) → (is_simple_and_free a ≡ true → FailsBy (fault_of a words) r)
     → IsParsedBy names words r
 parsed_by names a words e (Ok m) h k = (
@@ -39,7 +39,7 @@ without_grammar words (Ok m) is none = cc
 without_grammar words (Err e) is none = (some_names, refl, inl none)
 
 -- what was parsed is complete
-complete_by : (names : VariantNames) (words : List Text) (r : Result ArgMatches Error) → IsParsedBy names words r
+complete_by : (names : OptionNames) (words : List Text) (r : Result ArgMatches Error) → IsParsedBy names words r
     → IfOk r (λ m. IfSome (subcommand_rows_of m) IsComplete)
 complete_by names words (Ok m) p = subst (λ (o : Option (Text × List Row)). IfSome o IsComplete) (sym p.1)
     (required_there names words p.0)

@@ -22,10 +22,9 @@ events-init g c =
     let r : Rules = rules_in c.args.setup.now c.args.game.now in
     let stands = subst (λ (ms : List Move). Represents r c.new-core.result ms beginning.after)
     (sym (ap (λ (x : game.Seen). x.state.moves) c.restart.ensures))
-    (c.new-core.ensures.stands r refl refl) in (
+    (c.new-core.ensures.stands r refl refl refl) in (
       begun r _ _ _ _ _ (c.deliver-failed.ensures.delivered r nothing_said beginning
-          (plays_anew c.args.game.now c.restart.new.self c.args.setup.now.start c.args.setup.now.level
-          c.args.setup.now.patience c.restart.ensures)
+          (plays_anew c.args.game.now c.restart.new.self c.args.setup.now c.restart.ensures)
           (begins r _ _ c.new-core.ensures.phase stands) (no_answers _ c.new-blocks.ensures.own) refl
           (λ reason e S. absurd cc)),
       ap (λ (x : game.Seen). x.state.start) c.restart.ensures,
@@ -114,7 +113,7 @@ events-preserved g c =
           (h.8 r m plays awaits w.stands) h.6 h.7 (fine_after r m S h.0 h.2 awaits w.sane).1),
       ap (λ (x : Setup × ℕ). x.0) c.take_next-given.ensures.origin ∙ i.1,
       ap (λ (x : Setup × ℕ). x.1) c.take_next-given.ensures.origin ∙ i.2,
-      (c.take_next-given.ensures.rules r plays).3,
+      (c.take_next-given.ensures.rules r plays).4,
       c.deliver-failed-in-Line.ensures.own_empty,
       c.deliver-failed-in-Line.ensures.others_empty,
     )

@@ -12,7 +12,7 @@ pub returns-in-Some-clause-text : goal.returns-in-Some-clause-text
 unfolding bytes_of
 returns-in-Some-clause-text g c r p =
     let sent : Some c.in-Some.text.items ≡ start_fen r.start =
-    c.in-Some.ensures.text ∙ ap start_fen c.start.ensures ∙ ap (λ (x : Rules). start_fen x.start) (sym p.2) in
+    c.in-Some.ensures.text ∙ ap start_fen c.start.ensures ∙ ap (λ (x : Rules). start_fen x.start) (sym p.3) in
     rw (
       ← sent,
       c.append-in-Some-2.ensures.text,

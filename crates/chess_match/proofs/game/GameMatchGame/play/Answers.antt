@@ -36,4 +36,4 @@ returns-clause-texts g c r p as_san =
     c.add_check_mark.ensures.text
     (c.move_text-squares.ensures.text ∙ ap (λ (q : Setup). shown_move q c.args.chosen) c.position.ensures.value) as_san
     ∙ ap (λ (ms : List Move). text_of_last as_san start ms) (sym moves)
-    ∙ ap (λ (x : Rules). text_of_last as_san x.start c.play_legal.new.self.state.moves) (sym p.2)
+    ∙ ap (λ (x : Rules). text_of_last as_san x.start c.play_legal.new.self.state.moves) (sym p.3)

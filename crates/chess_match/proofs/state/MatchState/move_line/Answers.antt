@@ -1,12 +1,12 @@
--- The moves of the game are those of the match, so both find the game full, the text illegal or the verdict. A move
+-- The moves of the game are those of the match, so both find the game full, the text illegal or the match over by its position. A move
 -- that is played leaves a core that stands for the match with that move (CoreSteps.moved_stands).
-use Rattle.std.proofs.Common.{◌≡◌, [], ◌∷◌, ◌++◌, true, false, refl, sym, Some, None, length}
+use Rattle.std.proofs.Common.{◌≡◌, ◌∙◌, ap, [], ◌∷◌, ◌++◌, true, false, refl, sym, Some, None, length}
 use Rattle.std.specs.Prelude.{nat_le}
-use Rattle.chess_match.specs.Effects.{moved}
-use Rattle.chess_match.proofs.CoreSteps.{decided_goes, moved_stands, pinged_goes}
+use Rattle.chess_match.specs.Effects.{moved, over_by_position}
+use Rattle.chess_match.specs.declared.state.MatchState.{MatchState}
+use Rattle.chess_match.proofs.CoreSteps.{moved_stands, over_by_goes, pinged_goes}
 use Rattle.chess_match.proofs.OtherLines.{illegal_move}
 use Rattle.chess_match.proofs.state.MatchState.move_line.Goals as goal
-use Rattle.chess_game.specs.Ends.{verdict}
 use Rattle.chess_game.specs.Line.{position_after}
 use Rattle.chess_text.specs.Moves.{reading}
 use Rattle.chess_text.specs.declared.reading.Reading.TheVariants as reads
@@ -31,12 +31,13 @@ returns-in-Some-clause-goes g c r m p on s =
     rw (← s.moves) (sym (c.in-Move.ensures r p)) in
     let now : g.G.MatchGame.played c.play-texts.new.self ≡ m.played ++ c.in-Move.chosen ∷ [] =
     rw (← s.moves) c.play-texts.ensures.moves in
-    let decided : verdict r.start (m.played ++ c.in-Move.chosen ∷ []) ≡ Some c.in-Some.verdict =
-    rw (← now) (sym (c.in-Some.ensures r (c.play-texts.ensures.rules r p))) in
+    let over : over_by_position r (m.played ++ c.in-Move.chosen ∷ []) ≡ Some c.in-Some.reason =
+    ap (over_by_position r) (sym now) ∙ sym (c.in-Some.ensures r (c.play-texts.ensures.rules r p)
+    (ap (λ (x : MatchState). x.draws) c.note_move.ensures ∙ s.draws)) in
     let stands = moved_stands r c.args.self.now (g.G.MatchGame.played c.args.game.now) c.args.side c.in-Move.chosen
     c.args.used m c.play-texts.result s (rw c.play-texts.ensures.moves at (c.play-texts.ensures.texts r p)) in
     rw (full, says, c.play-texts.ensures.moves)
-    (decided_goes r _ _ _ _ (moved c.args.side c.in-Move.chosen c.args.used m) _ _ decided
+    (over_by_goes r _ _ _ _ (moved c.args.side c.in-Move.chosen c.args.used m) _ _ over
     (c.finish-in-Some.ensures r _ (moved c.args.side c.in-Move.chosen c.args.used m) refl
     (rw c.note_move.ensures stands)))
 
@@ -47,9 +48,11 @@ returns-in-None-clause-goes g c r m p on s =
     rw (← s.moves) (sym (c.in-Move.ensures r p)) in
     let now : g.G.MatchGame.played c.play-texts.new.self ≡ m.played ++ c.in-Move.chosen ∷ [] =
     rw (← s.moves) c.play-texts.ensures.moves in
-    let open_still : verdict r.start (m.played ++ c.in-Move.chosen ∷ []) ≡ None =
-    rw (← now) (sym (c.in-None.ensures r (c.play-texts.ensures.rules r p))) in
+    let over : over_by_position r (m.played ++ c.in-Move.chosen ∷ []) ≡ None =
+    ap (over_by_position r) (sym now) ∙ sym (c.in-None.ensures r (c.play-texts.ensures.rules r p)
+    (ap (λ (x : MatchState). x.draws) c.note_move.ensures ∙ s.draws)) in
     let stands = moved_stands r c.args.self.now (g.G.MatchGame.played c.args.game.now) c.args.side c.in-Move.chosen
     c.args.used m c.play-texts.result s (rw c.play-texts.ensures.moves at (c.play-texts.ensures.texts r p)) in
-    rw (full, says, open_still, c.play-texts.ensures.moves, c.note_move.ensures)
-    (pinged_goes r _ _ c.args.side (moved c.args.side c.in-Move.chosen c.args.used m) refl stands)
+    rw (full, says, c.play-texts.ensures.moves, c.note_move.ensures)
+    (over_by_goes r _ _ _ _ (moved c.args.side c.in-Move.chosen c.args.used m) _ _ over
+    (pinged_goes r _ _ c.args.side (moved c.args.side c.in-Move.chosen c.args.used m) refl stands))

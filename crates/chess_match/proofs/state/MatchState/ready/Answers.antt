@@ -1,11 +1,10 @@
--- The game and its verdict are those of the match: after White's setup comes Black's, and after that the end by the
--- verdict of the start or the turn of the side on move there.
+-- The game and its position are those of the match: after White's setup comes Black's, and after that the end by the
+-- start or the turn of the side on move there.
 use Rattle.std.proofs.Common.{◌≡◌, ap, sym, ◌∙◌, Some, None}
 use Rattle.chess_match.specs.Acts.{is_over}
-use Rattle.chess_match.specs.Effects.{is_owed_move}
-use Rattle.chess_match.proofs.CoreSteps.{decided_goes, first_opens}
+use Rattle.chess_match.specs.Effects.{is_owed_move, over_by_position}
+use Rattle.chess_match.proofs.CoreSteps.{first_opens, over_by_goes}
 use Rattle.chess_match.proofs.state.MatchState.ready.Goals as goal
-use Rattle.chess_game.specs.Ends.{verdict}
 
 pub returns-in-White : goal.returns-in-White
 returns-in-White g c r m p at s =
@@ -13,10 +12,13 @@ returns-in-White g c r m p at s =
 
 pub returns-in-Some : goal.returns-in-Some
 returns-in-Some g c r m p at s =
-    let says : verdict r.start m.played ≡ Some c.in-Some.verdict = rw (← s.moves) (sym (c.in-Some.ensures r p)) in
-    rw c.in-Black.is (decided_goes r _ _ _ _ m _ _ says (c.finish.ensures r _ m (ap is_over at) s))
+    let over : over_by_position r m.played ≡ Some c.in-Some.reason =
+    ap (over_by_position r) (sym s.moves) ∙ sym (c.in-Some.ensures r p s.draws) in
+    rw c.in-Black.is (over_by_goes r _ _ _ _ m _ _ over (c.finish.ensures r _ m (ap is_over at) s))
 
 pub returns-in-None : goal.returns-in-None
 returns-in-None g c r m p at s =
-    let says : verdict r.start m.played ≡ None = rw (← s.moves) (sym (c.in-None.ensures r p)) in
-    rw (c.in-Black.is, says) (first_opens r _ _ _ m _ _ (c.first.ensures r p) (c.open_turn.ensures r _ m s))
+    let over : over_by_position r m.played ≡ None =
+    ap (over_by_position r) (sym s.moves) ∙ sym (c.in-None.ensures r p s.draws) in
+    rw c.in-Black.is (over_by_goes r _ _ _ _ m _ _ over
+    (first_opens r _ _ _ m _ _ (c.first.ensures r p) (c.open_turn.ensures r _ m s)))
