@@ -49,7 +49,7 @@ pub struct EngineOutput<'t, T, S> {
 impl<'t, T: Clock, S: Read> EngineOutput<'t, T, S> {
     /// The output that this end of a pipe gives, waited for by this clock; `command` is the engine's.
     pub fn new(command: String, end: S, clock: SinceStart<'t, T>) -> Self
-        ensures command { result.command ≡ command.entry }
+        ensures command { result.command ≡ command }
         ensures seen { ⟦<Counted<S> as Input>⟧.seen result.pipe
             ≡ record {
               known_bytes = S.remaining end;
@@ -119,7 +119,7 @@ impl<S: Write> EngineInput<S> {
     /// The input that this end of a pipe takes; a write waits for at most `limit` milliseconds, without it as long as
     /// it takes. `command` is the engine's.
     pub fn new(command: String, end: S, limit: Option<u64>) -> Self
-        ensures command { result.command ≡ command.entry }
+        ensures command { result.command ≡ command }
         ensures seen { ⟦<Counted<S> as Output>⟧.seen result.pipe
             ≡ record { known_bytes = S.contents end; failure_count = 0; unflushed = 0 } }
     {
