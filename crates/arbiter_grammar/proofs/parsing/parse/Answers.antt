@@ -20,7 +20,10 @@ lent t = record { ref_ptr = (0, 0); now = t }
 
 -- names, for where there was no memory for a grammar
 abbrev some_names : OptionNames
-some_names = record { ref_ptr = (0, 0); now = lent (codes "normal") ∷ lent (codes "fischerandom") ∷ [] }
+some_names = record {
+  variants = record { ref_ptr = (0, 0); now = lent (codes "normal") ∷ lent (codes "fischerandom") ∷ [] };
+  draws = record { ref_ptr = (0, 0); now = lent (codes "claimed") ∷ lent (codes "automatic") ∷ [] };
+}
 
 parsed_by : (names : OptionNames) (a : App) (words : List Text) → a ≡ arbiter_app names → (r : Result ArgMatches Error)
     → IfOk r (HasMatchesOf a words) → (is_simple_and_free a ≡ true → FailsBy (fault_of a words) r)
@@ -36,7 +39,7 @@ parsed_by names a words e (Err x) h k =
 without_grammar : (words : List Text) (r : Result ArgMatches Error) → IsErr r → IfErr r (λ e. kind_of e ≡ OutOfMemory)
     → IsParsed words r
 without_grammar words (Ok m) is none = cc
-without_grammar words (Err e) is none = (some_names, refl, inl none)
+without_grammar words (Err e) is none = (some_names, (refl, refl), inl none)
 
 -- what was parsed is complete
 complete_by : (names : OptionNames) (words : List Text) (r : Result ArgMatches Error) → IsParsedBy names words r
