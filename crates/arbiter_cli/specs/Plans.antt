@@ -67,6 +67,7 @@ verify_plan_of value = record {
   quiet = is_set (codes "quiet") value;
   strict = is_set (codes "strict") value;
   explain = is_set (codes "explain") value;
+  spans = is_set (codes "spans") value;
 }
 
 -- ---- what they mean

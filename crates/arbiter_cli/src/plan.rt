@@ -24,6 +24,8 @@ pub struct VerifyPlan {
     pub strict: bool,
     /// Whether each fault is followed by a line that says where it is and why.
     pub explain: bool,
+    /// Whether each line says where its game begins and ends.
+    pub spans: bool,
 }
 
 /// What the arguments ask for.

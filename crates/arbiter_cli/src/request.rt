@@ -63,6 +63,7 @@ fn verify_plan(found: &ArgMatches<'_>) -> VerifyPlan
         quiet: is_set(found, "quiet"),
         strict: is_set(found, "strict"),
         explain: is_set(found, "explain"),
+        spans: is_set(found, "spans"),
     }
 }
 

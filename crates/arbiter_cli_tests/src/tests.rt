@@ -28,79 +28,96 @@ fn plans_without_arguments(rt: HostRuntime) -> Result<(), Fail> {
     Ok(())
 }
 
-// Arguments of `verify`, and the flags that they set: keep-going, quiet, strict, explain.
-const VERIFY: [(&[&str], bool, bool, bool, bool); 16] = [
-    (&["verify"], false, false, false, false),
-    (&["verify", "--keep-going"], true, false, false, false),
-    (&["verify", "--quiet"], false, true, false, false),
-    (&["verify", "--strict"], false, false, true, false),
-    (&["verify", "--explain"], false, false, false, true),
+// Arguments of `verify`, and the flags that they set: keep-going, quiet, strict, explain, spans.
+const VERIFY: [(&[&str], bool, bool, bool, bool, bool); 19] = [
+    (&["verify"], false, false, false, false, false),
+    (&["verify", "--keep-going"], true, false, false, false, false),
+    (&["verify", "--quiet"], false, true, false, false, false),
+    (&["verify", "--strict"], false, false, true, false, false),
+    (&["verify", "--explain"], false, false, false, true, false),
     (
         &["verify", "--keep-going", "--quiet"],
         true,
         true,
         false,
-        false,
+        false, false,
     ),
     (
         &["verify", "--quiet", "--keep-going"],
         true,
         true,
         false,
-        false,
+        false, false,
     ),
-    (&["verify", "--strict", "--quiet"], false, true, true, false),
+    (&["verify", "--strict", "--quiet"], false, true, true, false, false),
     (
         &["verify", "--keep-going", "--strict"],
         true,
         false,
         true,
-        false,
+        false, false,
     ),
     (
         &["verify", "--explain", "--keep-going"],
         true,
         false,
         false,
-        true,
+        true, false,
     ),
     (
         &["verify", "--quiet", "--explain"],
         false,
         true,
         false,
-        true,
+        true, false,
     ),
     (
         &["verify", "--strict", "--keep-going", "--quiet"],
         true,
         true,
         true,
-        false,
+        false, false,
     ),
     (
         &["verify", "--quiet", "--strict", "--keep-going"],
         true,
         true,
         true,
-        false,
+        false, false,
     ),
     (
         &["verify", "--explain", "--strict", "--quiet"],
         false,
         true,
         true,
-        true,
+        true, false,
     ),
     (
         &["verify", "--keep-going", "--quiet", "--strict", "--explain"],
         true,
         true,
         true,
-        true,
+        true, false,
     ),
     (
         &["verify", "--explain", "--strict", "--quiet", "--keep-going"],
+        true,
+        true,
+        true,
+        true, false,
+    ),
+    (&["verify", "--spans"], false, false, false, false, true),
+    (
+        &["verify", "--spans", "--keep-going"],
+        true,
+        false,
+        false,
+        false,
+        true,
+    ),
+    (
+        &["verify", "--explain", "--strict", "--quiet", "--spans", "--keep-going"],
+        true,
         true,
         true,
         true,
@@ -111,7 +128,7 @@ const VERIFY: [(&[&str], bool, bool, bool, bool); 16] = [
 // The arguments of `verify` go together in any order.
 #[test]
 fn verify_by_its_options(rt: HostRuntime) -> Result<(), Fail> {
-    for (arguments, keep_going, quiet, strict, explain) in &VERIFY {
+    for (arguments, keep_going, quiet, strict, explain, spans) in &VERIFY {
         let Plan::Verify(plan) = read_words(rt.alloc(), arguments)? else {
             return Err(Fail::new("another plan"));
         };
@@ -123,6 +140,7 @@ fn verify_by_its_options(rt: HostRuntime) -> Result<(), Fail> {
                 quiet: *quiet,
                 strict: *strict,
                 explain: *explain,
+                spans: *spans,
             },
         );
     }

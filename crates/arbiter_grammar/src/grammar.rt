@@ -62,6 +62,10 @@ half-moves, and faults.
 With --explain a second line shows the line and column of each fault, the text there, the position, and for some faults
 a reason: `# line 2 column 4 Ke3 | rnbqkbnr/pppp1ppp/8/4p3/4P3/8/PPPP1PPP/RNBQKBNR w KQkq e6 0 2`.
 
+With --spans each line ends with the part of the input that the game has: `game 1: 40 half-moves, 1-0, bytes 0 to 412`
+begins at byte 0 and ends before byte 412. A game with a fault goes on to the end of its piece, since it is not read
+further.
+
 Examples:
   arbiter verify < games.pgn
   arbiter verify --explain < games.pgn
@@ -278,7 +282,7 @@ fn bare_verify_command<'a>(alloc: Global) -> Command<'a>
     .override_usage("arbiter verify [OPTIONS] < FILE")
 }
 
-// The subcommand `verify` with its flags `--keep-going`, `--quiet`, `--strict` and `--explain`.
+// The subcommand `verify` with its flags `--keep-going`, `--quiet`, `--strict`, `--explain` and `--spans`.
 fn verify_command<'a>(alloc: Global) -> Result<Command<'a>, AllocError>
     ensures app { IfOk result (λ c. app_of c ≡ verify_app) }
     ensures local { IfOk result (λ c. (fields_of c).has_globals ≡ false) }
@@ -299,6 +303,11 @@ fn verify_command<'a>(alloc: Global) -> Result<Command<'a>, AllocError>
             alloc,
             "explain",
             "After each fault print a line that shows where it is (line, column, text, position) and why",
+        ))?
+        .arg(flag(
+            alloc,
+            "spans",
+            "End each line with `, bytes A to B`: the game begins at byte A and ends before byte B",
         ))
 }
 

@@ -203,18 +203,21 @@ module _ (s : Shape) (options : List Given) (name : Text) where
   value_alike default = value_found name options s.rules ∙ ap (option_or (values_in options name)) default
       ∙ or_none (values_in options name)
 
-abbrev plan_with : Bool → Bool → Bool → Bool → VerifyPlan
-plan_with a b c d = record { keep_going = a; quiet = b; strict = c; explain = d }
+abbrev plan_with : Bool → Bool → Bool → Bool → Bool → VerifyPlan
+plan_with a b c d e = record { keep_going = a; quiet = b; strict = c; explain = d; spans = e }
 
 verify_alike : (options : List Given)
     → verify_plan_of (matched (rows_of_given verify_shape options)) ≡ verify_plan_of (values_in options)
 verify_alike options =
     let alike = flag_alike verify_shape options in
-    ap₂ (λ (a b : Bool). plan_with a b (is_set (codes "strict") (matched (rows_of_given verify_shape options)))
-    (is_set (codes "explain") (matched (rows_of_given verify_shape options))))
+    let own : Text → Bool = λ name. is_set name (values_in options) in
+    let found : Text → Bool = λ name. is_set name (matched (rows_of_given verify_shape options)) in
+    ap₂ (λ (a b : Bool). plan_with a b (found (codes "strict")) (found (codes "explain")) (found (codes "spans")))
     (alike (codes "keep-going") refl) (alike (codes "quiet") refl)
-    ∙ ap₂ (plan_with (is_set (codes "keep-going") (values_in options)) (is_set (codes "quiet") (values_in options)))
+    ∙ ap₂ (λ (c d : Bool). plan_with (own (codes "keep-going")) (own (codes "quiet")) c d (found (codes "spans")))
     (alike (codes "strict") refl) (alike (codes "explain") refl)
+    ∙ ap (λ (e : Bool). plan_with (own (codes "keep-going")) (own (codes "quiet")) (own (codes "strict"))
+    (own (codes "explain")) e) (alike (codes "spans") refl)
 
 match_alike : (names : OptionNames) (options : List Given)
     → Agrees (matched (rows_of_given (match_shape names) options)) (values_in options)

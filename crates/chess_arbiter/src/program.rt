@@ -101,6 +101,7 @@ fn options_of(plan: VerifyPlan) -> VerifyOptions
     VerifyOptions {
         quiet: plan.quiet,
         strict: plan.strict,
+        spans: plan.spans,
         explain: plan.explain,
     }
 }
@@ -226,8 +227,8 @@ fn matched<H: Host, W: Output, E: Output>(
 /// - `verify`: the games of the input, one line for each up to the first fault. With `--keep-going` an input of any
 ///   length, cut into pieces: one begins at the first byte, at a tag line after a line of moves, and at a second Event
 ///   tag line. A fault ends only its piece, and totals follow at the end. `--quiet` leaves out games without a fault;
-///   with `--strict` a result that contradicts the tag Result or the final position is a fault too; with `--explain` a
-///   second line explains each fault.
+///   with `--strict` a result that contradicts the tag Result or the final position is a fault too; with `--spans` each
+///   line says where its game is; with `--explain` a second line explains each fault.
 /// - `match` with `--white`, `--black` and perhaps `--games`, `--level`, `--fen`, `--variant`, `--draws`, `--date`,
 ///   `--log`, `--flag` and `--reply-timeout`: games between two engines that the host starts, the text of each game, and
 ///   then the score. The input is left untouched.

@@ -155,6 +155,9 @@ const TWO_LINES: &[u8] = b"game 1: 2 half-moves, *\ngame 2: illegal move at byte
 const ALL_LINES: &[u8] =
     b"game 1: 2 half-moves, *\ngame 2: illegal move at byte 44\ngame 3: 1 half-moves, 1-0\ngames 2 half-moves 3 faults 1\n";
 
+const ALL_SPANS: &[u8] =
+    b"game 1: 2 half-moves, *, bytes 0 to 23\ngame 2: illegal move at byte 44, bytes 25 to 50\ngame 3: 1 half-moves, 1-0, bytes 50 to 72\ngames 2 half-moves 3 faults 1\n";
+
 // Five pieces, two of which end in the middle of a comment or a variation.
 const MIXED: &[u8] =
     b"\xef\xbb\xbf1. e4 {x\n[Event \"b\"]\r\n1. d4 *\r\n\r\n[Event \"c\"] {[Event \"d\"]} *\n[Event \"e\"]\n1. e4 (\n[Event \"f\"]\n*";
@@ -170,6 +173,13 @@ fn collections_cut_at_each_byte(rt: HostRuntime) -> Result<(), Fail> {
         KEEP_GOING,
         COLLECTION,
         Wanted::without_errors(ALL_LINES, 1),
+    )?;
+    check_each_cut(
+        &rt,
+        &rt,
+        &["verify", "--keep-going", "--spans"],
+        COLLECTION,
+        Wanted::without_errors(ALL_SPANS, 1),
     )?;
     check_each_cut(
         &rt,

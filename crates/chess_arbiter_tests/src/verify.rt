@@ -210,7 +210,7 @@ fn games_verified_by_arguments(rt: HostRuntime) {
 
 // Texts with a long comment: arguments, the text before it, its bytes, the text after it, what is written, and the
 // status.
-const LONG: [(&[&str], &[u8], usize, &[u8], &[u8], u8); 6] = [
+const LONG: [(&[&str], &[u8], usize, &[u8], &[u8], u8); 7] = [
     // The text has 16,777,216 bytes.
     (
         &["verify"],
@@ -247,6 +247,15 @@ const LONG: [(&[&str], &[u8], usize, &[u8], &[u8], u8); 6] = [
         16_777_216,
         b"",
         b"game 2: too long at byte 8\ngames 1 half-moves 1 faults 1\n",
+        1,
+    ),
+    // Its span is the piece.
+    (
+        &["verify", "--keep-going", "--quiet", "--spans"],
+        b"1. e4 *\n[Event \"x\"]\n{",
+        16_777_216,
+        b"",
+        b"game 2: too long at byte 8, bytes 8 to 16777237\ngames 1 half-moves 1 faults 1\n",
         1,
     ),
     // An offset of more than 16,777,216.

@@ -108,6 +108,7 @@ fn verified(rt: &HostRuntime, alloc: Global) -> Result<()> {
     let options = VerifyOptions {
         quiet: false,
         strict: false,
+        spans: false,
         explain: false,
     };
     match verify(alloc, options, &mut input, &mut output)? {

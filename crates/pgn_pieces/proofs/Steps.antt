@@ -55,9 +55,16 @@ told_right : (offset : ℕ) (p q : List ℕ) → IsLike p q → piece_at offset 
 told_right offset p q (counts, is) = by_test (nat_le (length p) 16777216) refl
   where
     too_long : (xs : List ℕ) → nat_le (length xs) 16777216 ≡ false → piece_at offset xs
-        ≡ record { offset = offset; beginning = take 40 xs; line_ends = line_ends xs; bytes = None }
+        ≡ record {
+          offset = offset;
+          end = offset + length xs;
+          beginning = take 40 xs;
+          line_ends = line_ends xs;
+          bytes = None;
+        }
     too_long xs e = ap (λ b. record {
       offset = offset;
+      end = offset + length xs;
       beginning = take 40 xs;
       line_ends = line_ends xs;
       bytes = if b then Some xs else None;
@@ -67,8 +74,21 @@ told_right offset p q (counts, is) = by_test (nat_le (length p) 16777216) refl
     by_test true e = ap (piece_at offset) (sym (is (grind (arith, nat_tests, e))))
     by_test false e =
         too_long p e
-        ∙ ap₂ (λ xs n. record { offset = offset; beginning = xs; line_ends = n; bytes = None }) (sym counts.beginning)
-        (sym counts.line_ends) ∙ sym (too_long q (ap (λ n. nat_le n 16777216) counts.len ∙ e))
+        ∙ ap (λ n. record {
+          offset = offset;
+          end = offset + n;
+          beginning = take 40 p;
+          line_ends = line_ends p;
+          bytes = None;
+        }) (sym counts.len)
+        ∙ ap₂ (λ xs n. record {
+          offset = offset;
+          end = offset + length q;
+          beginning = xs;
+          line_ends = n;
+          bytes = None;
+        }) (sym counts.beginning) (sym counts.line_ends)
+        ∙ sym (too_long q (ap (λ n. nat_le n 16777216) counts.len ∙ e))
 
 -- ---- the pieces of what comes
 

@@ -39,10 +39,11 @@ with_offsets offset (bytes ∷ rest) =
 unfoldable pub pieces : Bool → ℕ → List ℕ → List Piece
 pieces ended offset text = with_offsets offset (known_pieces ended text)
 
--- what a caller sees of a piece: the offset of its first byte in the input, its first 40 bytes, how many lines end in
--- it, and its bytes, or `None` if it has more than 16,777,216
+-- what a caller sees of a piece: the offset of its first byte in the input, the one after its last, its first 40 bytes,
+-- how many lines end in it, and its bytes, or `None` if it has more than 16,777,216
 pub record PieceSeen : Type 0 where
   pub offset : ℕ
+  pub end : ℕ
   pub beginning : List ℕ
   pub line_ends : ℕ
   pub bytes : Option (List ℕ)
@@ -51,6 +52,7 @@ pub record PieceSeen : Type 0 where
 abbrev pub piece_at : ℕ → List ℕ → PieceSeen
 piece_at offset bytes = record {
   offset = offset;
+  end = offset + length bytes;
   beginning = take 40 bytes;
   line_ends = line_ends bytes;
   bytes = if nat_le (length bytes) PIECE_LEN then Some bytes else None;

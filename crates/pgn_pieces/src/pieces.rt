@@ -59,7 +59,7 @@ impl From<AllocError> for PieceFault {
     }
 }
 
-/// The pieces of an input, one after another. Each call of `next` moves to the next piece; `text`, `offset`,
+/// The pieces of an input, one after another. Each call of `next` moves to the next piece; `text`, `offset`, `end`,
 /// `beginning` and `line_ends` are then of this piece, the current one. What is held of the input is the current piece,
 /// unless it is too long (over `PIECE_LEN` bytes, 16,777,216), and what was read after it.
 #[derive(Drop)]
@@ -133,6 +133,14 @@ impl PgnPieces {
         ensures small { result + length self.now.part < 2 ^ 63 }
     {
         self.offset
+    }
+
+    /// The offset in the input of the byte after the current piece's last, where the next piece begins. A piece that is
+    /// too long has it too.
+    pub fn end(&self) -> usize
+        ensures { result ≡ (current self.now).end }
+    {
+        self.offset + self.gone.len() + self.len
     }
 
     /// The current piece's bytes; `None` if the piece is too long, which means over `PIECE_LEN` bytes (16,777,216).

@@ -192,7 +192,7 @@ fn long_pieces_have_no_text(rt: HostRuntime) -> Result<(), Fail> {
     check_long(&rt, &rt, 16_777_217, false)
 }
 
-// The pieces go on to one that has this beginning, and in which so many lines end.
+// The pieces go on to one that begins where the one before ends, has this beginning, and in which so many lines end.
 fn begins<R: Input>(
     rt: &impl Abort,
     pieces: &mut PgnPieces,
@@ -200,7 +200,9 @@ fn begins<R: Input>(
     beginning: &[u8],
     line_ends: usize,
 ) {
+    let before = pieces.end();
     is_equal(rt, &pieces.next(input), &Ok(true));
+    is_equal(rt, &pieces.offset(), &before);
     is_equal(rt, &pieces.beginning(), &beginning);
     is_equal(rt, &pieces.line_ends(), &line_ends);
 }

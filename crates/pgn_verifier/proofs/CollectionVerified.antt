@@ -24,9 +24,9 @@ use Rattle.pgn_pieces.proofs.shared.Inputs.{nothing_read}
 use Rattle.pgn_verifier.specs.declared.options.VerifyOptions.{VerifyOptions}
 use Rattle.pgn_verifier.specs.declared.tally.Tally.{Tally}
 use Rattle.pgn_verifier.specs.declared.fault.VerifyFault.TheVariants.{WriteFailed}
-use Rattle.pgn_verifier.specs.Reports.{Faulty, report_lines, counts_line, counts_of}
+use Rattle.pgn_verifier.specs.Reports.{Faulty, Placed, report_lines, without_spans, counts_line, counts_of}
 use Rattle.pgn_verifier.specs.Collection.{VerifiesCollection}
-use Rattle.pgn_verifier.specs.laws.Reported.{reports_on, reports_in, collection_reports, too_long_report}
+use Rattle.pgn_verifier.specs.laws.Reported.{placed_on, placed_in, collection_placed, too_long_placed}
 use Rattle.pgn_verifier.specs.ties.OnTheWay.{WritesCollection, Writes, PieceStandsIf, GrowsBy, reports_seen, reports_of, counted, collection_lines}
 use Rattle.pgn_verifier.specs.Faults.{of_piece}
 use Rattle.pgn_verifier.proofs.Placed.{piece_there}
@@ -43,25 +43,31 @@ shown_beginning : (bytes : List ℕ) → shown (take 40 bytes) ≡ shown bytes
 shown_beginning bytes = ap (λ xs. shown_word (take_while (λ c. not (is_white_space c)) xs)) (take-take 40 40 bytes (omega arith))
 
 seen_alike : (strict : Bool) (piece : Piece)
-    → reports_in strict piece ≡ reports_seen strict (piece_at piece.offset piece.bytes)
+    → placed_in strict piece ≡ reports_seen strict (piece_at piece.offset piece.bytes)
 seen_alike strict piece = by_test (nat_le (length piece.bytes) PIECE_LEN)
   where
-    by_test : (b : Bool) → (if b then reports_on strict piece.offset piece.bytes else too_long_report piece ∷ [])
-        ≡ option_map_or (reports_on strict piece.offset) (if b then Some piece.bytes else None)
-        (Faulty (record { kind = Pgn TooLong; offset = piece.offset }) piece.offset (shown (take 40 piece.bytes)) ∷ [])
+    too_long_with : List ℕ → Placed
+    too_long_with text = record {
+      begin = piece.offset;
+      end = piece.offset + length piece.bytes;
+      report = Faulty (record { kind = Pgn TooLong; offset = piece.offset }) piece.offset text;
+    }
+
+    by_test : (b : Bool) → (if b then placed_on strict piece.offset piece.bytes else too_long_placed piece ∷ [])
+        ≡ option_map_or (placed_on strict piece.offset) (if b then Some piece.bytes else None)
+        (too_long_with (shown (take 40 piece.bytes)) ∷ [])
     by_test true = refl
-    by_test false = ap (λ t. Faulty (record { kind = Pgn TooLong; offset = piece.offset }) piece.offset t ∷ [])
-        (sym (shown_beginning piece.bytes))
+    by_test false = ap (λ t. too_long_with t ∷ []) (sym (shown_beginning piece.bytes))
 
 all_seen_alike : (strict : Bool) (all : List Piece)
-    → flat_map (reports_in strict) all
+    → flat_map (placed_in strict) all
     ≡ reports_of strict (map (λ (piece : Piece). piece_at piece.offset piece.bytes) all)
 all_seen_alike strict [] = refl
 all_seen_alike strict (piece ∷ more) =
     ap₂ (λ xs ys. xs ++ ys) (seen_alike strict piece) (all_seen_alike strict more)
 
 as_seen : (strict ended : Bool) (text : List ℕ)
-    → collection_reports strict ended text ≡ reports_of strict (pieces_seen ended 0 text)
+    → collection_placed strict ended text ≡ reports_of strict (pieces_seen ended 0 text)
 as_seen strict ended text = all_seen_alike strict (pieces ended 0 text)
 
 -- ---- the pieces up to here were reported
@@ -196,7 +202,7 @@ module _ (options : VerifyOptions) (r r' r'' : InputState) (w w' : OutputState) 
   write_failed law w'' fault next wrote =
       let later = pieces_held s'.ended (past_piece s') [] in
       let text = so.text ++ next.0 in
-      let all : collection_reports options.strict s'.ended text ≡
+      let all : collection_placed options.strict s'.ended text ≡
       (reports_of options.strict so.done ++ reports_seen options.strict (current s')) ++ reports_of options.strict
       later =
       as_seen options.strict s'.ended text ∙ ap (reports_of options.strict) (all_known law.0 next)
@@ -214,7 +220,7 @@ module _ (options : VerifyOptions) (r r' r'' : InputState) (w w' : OutputState) 
       (reports_of options.strict later)) first in
       collection_broke_off options r r'' w w'' s'.ended text next.1.read
       (breaks_longer w w'' (collection_lines options s'.ended text)
-      (if s'.ended then counts_line (counts_of (collection_reports options.strict s'.ended text)) else [])
+      (if s'.ended then counts_line (counts_of (without_spans (collection_placed options.strict s'.ended text))) else [])
       (subst (CutShort w w'') (sym (lines_after options text 1
       (reports_of options.strict so.done ++ reports_seen options.strict (current s')) (reports_of options.strict later))
       ∙ ap (report_lines options text 1) (sym all)) lines))
@@ -226,13 +232,13 @@ module _ (options : VerifyOptions) (r r' r'' : InputState) (w w' : OutputState) 
       let text = so.text ++ more in
       let follows = subst (MayFollow s.ended true) (append-nil more)
       (follows_on s.ended true true more [] (λ h. (refl, next.2 h)) (refl, refl)) in
-      let all : collection_reports options.strict true text ≡ reports_of options.strict so.done =
+      let all : collection_placed options.strict true text ≡ reports_of options.strict so.done =
       as_seen options.strict true text ∙ ap (reports_of options.strict) (law true text ∙ so.due true more follows ∙ ap (λ ps. so.done ++ ps) next.3 ∙
       append-nil so.done) in (
         text,
         next.1,
         subst (λ xs. Took w w' (report_lines options text 1 xs)) (sym all) (so.took more),
-        so.is ∙ ap (counted none) (sym all) ∙ all_counted (collection_reports options.strict true text),
+        so.is ∙ ap (counted none) (sym all) ∙ all_counted (collection_placed options.strict true text),
       )
 
   pub stopped : (law : PiecesAreCut) (fault : PieceFault) → Next s s' r r'' so.text (Err fault)
@@ -241,7 +247,7 @@ module _ (options : VerifyOptions) (r r' r'' : InputState) (w w' : OutputState) 
   stopped law fault next =
       let more = next.0 in
       let text = so.text ++ more in
-      let all : collection_reports options.strict false text ≡ reports_of options.strict so.done =
+      let all : collection_placed options.strict false text ≡ reports_of options.strict so.done =
       as_seen options.strict false text ∙ ap (reports_of options.strict) (law false text ∙ so.due false more
       (subst (λ b. MayFollow b false more) (sym next.2) tt)
       ∙ ap (λ ps. so.done ++ ps) next.3 ∙ append-nil so.done) in

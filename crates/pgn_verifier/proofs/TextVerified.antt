@@ -8,28 +8,28 @@ use Rattle.pgn_verifier.specs.declared.game_fault.GameFault.{GameFault}
 use Rattle.pgn_verifier.specs.declared.options.VerifyOptions.{VerifyOptions}
 use Rattle.pgn_verifier.specs.declared.tally.Tally.{Tally}
 use Rattle.pgn_verifier.specs.Explanations.{wrong_part}
-use Rattle.pgn_verifier.specs.Reports.{Report, Game, Faulty, written_line, report_lines}
+use Rattle.pgn_verifier.specs.Reports.{Game, Faulty, Placed, game_begin, span_text, report_lines}
 use Rattle.pgn_verifier.specs.laws.Reasons.{explanation_of}
-use Rattle.pgn_verifier.specs.laws.Reported.{read_at, judged_at, report_then, reports_from, reports_on}
+use Rattle.pgn_verifier.specs.laws.Reported.{read_at, judged_at, placed_then, placed_from, placed_on}
 use Rattle.pgn_verifier.specs.ties.OnTheWay.{game_line, with_report, next_number, Writes, GrowsBy, moved, counted}
-use Rattle.pgn_verifier.proofs.LinesWritten.{wrote_none, took_after, broke_after, writes_after, one_line, first_broke, counted_after}
+use Rattle.pgn_verifier.proofs.LinesWritten.{placed_line, wrote_none, took_after, broke_after, writes_after, one_line, first_broke, counted_after}
 
 -- ---- the reports that are left
 
 -- what is left of a text has no more games than bytes
 left : (strict : Bool) (start n : ℕ) (text : List ℕ) (at : ℕ) (answer : Result (Option PgnEnd) GameFault) (s : State)
     → judged_at strict text at ≡ answer → s ≡ (read_at text at).state
-    → reports_from strict start (suc n) text at
-    ≡ report_then start text answer s (λ next. reports_from strict start n text next)
-unfolding reports_from
+    → placed_from strict start (suc n) text at
+    ≡ placed_then start text at answer s (λ next. placed_from strict start n text next)
+unfolding placed_from
 left strict start n text at answer s h k =
-    ap (λ r. report_then start text r (read_at text at).state (λ next. reports_from strict start n text next)) h
-    ∙ ap (λ g. report_then start text answer g (λ next. reports_from strict start n text next)) (sym k)
+    ap (λ r. placed_then start text at r (read_at text at).state (λ next. placed_from strict start n text next)) h
+    ∙ ap (λ g. placed_then start text at answer g (λ next. placed_from strict start n text next)) (sym k)
 
 -- ---- the games before an offset were reported
 
 pub record SoFar (options : VerifyOptions) (start : ℕ) (text : List ℕ) (before : Tally) (w w' : OutputState) (at : ℕ)
-    (tally : Tally) (done : List Report) : Type 0 where
+    (tally : Tally) (done : List Placed) : Type 0 where
   pub within : at ≤ length text
   pub few : tally.games + tally.faults ≤ before.games + before.faults + at
   pub few_moves : tally.half_moves ≤ before.half_moves + at
@@ -37,7 +37,7 @@ pub record SoFar (options : VerifyOptions) (start : ℕ) (text : List ℕ) (befo
   pub is : tally ≡ counted before done
   pub n : ℕ
   pub enough : length text < at + suc n
-  pub all : reports_on options.strict start text ≡ done ++ reports_from options.strict start (suc n) text at
+  pub all : placed_on options.strict start text ≡ done ++ placed_from options.strict start (suc n) text at
 
 pub begun : (options : VerifyOptions) (start : ℕ) (text : List ℕ) (before : Tally) (w : OutputState)
     → SoFar options start text before w w 0 before []
@@ -49,23 +49,44 @@ begun options start text before w = record {
   is = refl;
   n = length text;
   enough = omega arith;
-  all = ap (λ k. reports_from options.strict start k text 0) (omega arith);
+  all = ap (λ k. placed_from options.strict start k text 0) (omega arith);
 }
+
+-- the report on the game `g`, which ends at `end`
+abbrev pub game_report : ℕ → List ℕ → ℕ → PgnEnd → State → Placed
+game_report start text at end g = record {
+  begin = start + game_begin text at;
+  end = start + end.offset;
+  report = Game (length g.moves) end.outcome end.termination;
+}
+
+-- the report on a fault of the game `g`
+abbrev pub fault_report : ℕ → List ℕ → ℕ → GameFault → State → Placed
+fault_report start text at fault g = record {
+  begin = start + game_begin text at;
+  end = start + length text;
+  report = Faulty (moved start fault) (start + fault.offset + (wrong_part fault.kind (drop fault.offset text)).0)
+      (explanation_of g (drop fault.offset text) fault.kind);
+}
+
+-- the end of a line on the game from `at` to `end`
+abbrev pub span_at : VerifyOptions → ℕ → List ℕ → ℕ → ℕ → List ℕ
+span_at options start text at end = span_text options (start + game_begin text at) (start + end)
 
 module _ (options : VerifyOptions) (start : ℕ) (text : List ℕ) (before : Tally) (w w' w'' : OutputState) (at : ℕ)
     (tally : Tally)
-    (done : List Report) (s : SoFar options start text before w w' at tally done) where
+    (done : List Placed) (s : SoFar options start text before w w' at tally done) where
   -- the report that comes, with those after it
   due : (answer : Result (Option PgnEnd) GameFault) (g : State) → judged_at options.strict text at ≡ answer
       → g ≡ (read_at text at).state
-      → reports_on options.strict start text
-      ≡ done ++ report_then start text answer g (λ next. reports_from options.strict start s.n text next)
+      → placed_on options.strict start text
+      ≡ done ++ placed_then start text at answer g (λ next. placed_from options.strict start s.n text next)
   due answer g h k = s.all ∙ ap (λ xs. done ++ xs) (left options.strict start s.n text at answer g h k)
 
   pub all_written : (E : Type 0) (input : List ℕ) → judged_at options.strict text at ≡ Ok None
-      → Writes {E = E} options input before w w' (Ok tally) (reports_on options.strict start text)
+      → Writes {E = E} options input before w w' (Ok tally) (placed_on options.strict start text)
   all_written E input h =
-      let whole : reports_on options.strict start text ≡ done =
+      let whole : placed_on options.strict start text ≡ done =
       due (Ok None) (read_at text at).state h refl ∙ append-nil done in
       subst (Writes {E = E} options input before w w' (Ok tally)) (sym whole) (s.took input, s.is)
 
@@ -79,67 +100,61 @@ module _ (options : VerifyOptions) (start : ℕ) (text : List ℕ) (before : Tal
   pub game_written : (end : PgnEnd) (g : State) → judged_at options.strict text at ≡ Ok (Some end)
       → g ≡ (read_at text at).state → length g.moves + at ≤ end.offset → at < end.offset → end.offset ≤ length text
       → Took w' w'' (if options.quiet then [] else game_line (next_number tally) (length g.moves) end.outcome
-      end.termination) → SoFar options start text before w w'' end.offset
+      end.termination (span_at options start text at end.offset)) → SoFar options start text before w w'' end.offset
       (record { games = tally.games + 1; half_moves = tally.half_moves + length g.moves; faults = tally.faults })
-      (done ++ Game (length g.moves) end.outcome end.termination ∷ [])
+      (done ++ game_report start text at end g ∷ [])
   game_written end g h k moves further within took =
       let enough = s.enough in more s.n enough (due (Ok (Some end)) g h k)
     where
       more : (n : ℕ) → length text < at + suc n
-          → reports_on options.strict start text ≡ done ++ report_then start text (Ok (Some end)) g
-          (λ next. reports_from options.strict start n text next)
+          → placed_on options.strict start text ≡ done ++ placed_then start text at (Ok (Some end)) g
+          (λ next. placed_from options.strict start n text next)
           → SoFar options start text before w w'' end.offset
           (record { games = tally.games + 1; half_moves = tally.half_moves + length g.moves; faults = tally.faults })
-          (done ++ Game (length g.moves) end.outcome end.termination ∷ [])
+          (done ++ game_report start text at end g ∷ [])
       more zero enough longer = absurd (omega (arith, enough, further, within))
       more (suc m) enough longer =
           let few = s.few in
           let few_moves = s.few_moves in
-          let r = Game (length g.moves) end.outcome end.termination in record {
+          let r = game_report start text at end g in record {
             within = within;
             few = omega (arith, few, further);
             few_moves = omega (arith, few_moves, moves);
             took = λ input. took_after options input before tally w w' w'' done (s.took input) s.is (r ∷ [])
                 (subst (Took w' w'') (one_line options input (next_number tally) r) took);
-            is = ap (λ (t : Tally). with_report t r) s.is ∙ counted_after before done (r ∷ []);
+            is = ap (λ (t : Tally). with_report t r.report) s.is ∙ counted_after before done (r ∷ []);
             n = m;
             enough = omega (arith, enough, further);
             all = longer
-                ∙ sym (append_assoc done (r ∷ []) (reports_from options.strict start (suc m) text end.offset));
+                ∙ sym (append_assoc done (r ∷ []) (placed_from options.strict start (suc m) text end.offset));
           }
 
   pub game_broke : {E : Type 0} (e : E) (input : List ℕ) (end : PgnEnd) (g : State)
       → judged_at options.strict text at ≡ Ok (Some end) → g ≡ (read_at text at).state
       → CutShort w' w'' (if options.quiet then [] else game_line (next_number tally) (length g.moves) end.outcome
-      end.termination) → Writes options input before w w'' (Err e) (reports_on options.strict start text)
+      end.termination (span_at options start text at end.offset)) → Writes options input before w w'' (Err e) (placed_on options.strict start text)
   game_broke e input end g h k broke =
-      let r = Game (length g.moves) end.outcome end.termination in
-      let rest = reports_from options.strict start s.n text end.offset in
+      let r = game_report start text at end g in
+      let rest = placed_from options.strict start s.n text end.offset in
       subst (λ xs. CutShort w w'' (report_lines options input (next_number before) xs))
       (sym (due (Ok (Some end)) g h k))
       (broke_after options input before tally w w' w'' done (s.took input) s.is (r ∷ rest)
       (first_broke options input (next_number tally) w' w'' r rest broke))
 
-  -- the report on a fault of the game `g`
-  abbrev report : GameFault → State → Report
-  report fault g = Faulty (moved start fault)
-      (start + fault.offset + (wrong_part fault.kind (drop fault.offset text)).0)
-      (explanation_of g (drop fault.offset text) fault.kind)
-
   pub fault_written : (E : Type 0) (input : List ℕ) (fault : GameFault) (g : State)
       → judged_at options.strict text at ≡ Err fault → g ≡ (read_at text at).state
-      → Took w' w'' (written_line options input (next_number tally) (report fault g))
+      → Took w' w'' (placed_line options input (next_number tally) (fault_report start text at fault g))
       → Writes {E = E} options input before w w''
       (Ok (record { games = tally.games; half_moves = tally.half_moves; faults = tally.faults + 1 }))
-      (reports_on options.strict start text)
+      (placed_on options.strict start text)
   fault_written E input fault g h k took =
       subst (Writes {E = E} options input before w w''
       (Ok (record { games = tally.games; half_moves = tally.half_moves; faults = tally.faults + 1 })))
       (sym (due (Err fault) g h k))
       (writes_after options input before tally w w' w'' done (s.took input) s.is {E = E}
       (Ok (record { games = tally.games; half_moves = tally.half_moves; faults = tally.faults + 1 }))
-      (report fault g ∷ [])
-      (subst (Took w' w'') (one_line options input (next_number tally) (report fault g)) took, refl))
+      (fault_report start text at fault g ∷ [])
+      (subst (Took w' w'') (one_line options input (next_number tally) (fault_report start text at fault g)) took, refl))
 
   pub fault_grown : GrowsBy (length text) before
       (record { games = tally.games; half_moves = tally.half_moves; faults = tally.faults + 1 })
@@ -151,9 +166,9 @@ module _ (options : VerifyOptions) (start : ℕ) (text : List ℕ) (before : Tal
 
   pub fault_broke : {E : Type 0} (e : E) (input : List ℕ) (fault : GameFault) (g : State)
       → judged_at options.strict text at ≡ Err fault → g ≡ (read_at text at).state
-      → CutShort w' w'' (written_line options input (next_number tally) (report fault g))
-      → Writes options input before w w'' (Err e) (reports_on options.strict start text)
+      → CutShort w' w'' (placed_line options input (next_number tally) (fault_report start text at fault g))
+      → Writes options input before w w'' (Err e) (placed_on options.strict start text)
   fault_broke e input fault g h k broke =
       subst (λ xs. CutShort w w'' (report_lines options input (next_number before) xs)) (sym (due (Err fault) g h k))
-      (broke_after options input before tally w w' w'' done (s.took input) s.is (report fault g ∷ [])
-      (first_broke options input (next_number tally) w' w'' (report fault g) [] broke))
+      (broke_after options input before tally w w' w'' done (s.took input) s.is (fault_report start text at fault g ∷ [])
+      (first_broke options input (next_number tally) w' w'' (fault_report start text at fault g) [] broke))

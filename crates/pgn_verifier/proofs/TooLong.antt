@@ -7,18 +7,18 @@ use Rattle.chess_pgn.specs.declared.read.PgnFaultKind.TheVariants.{TooLong}
 use Rattle.pgn_pieces.specs.Places.{line_of, column_of}
 use Rattle.pgn_pieces.specs.Stream.{PieceSeen}
 use Rattle.pgn_verifier.specs.Explanations.{shown, explanation_line}
-use Rattle.pgn_verifier.specs.Reports.{report_lines}
+use Rattle.pgn_verifier.specs.Reports.{report_lines, span_text}
 use Rattle.pgn_verifier.specs.declared.game_fault.FaultKind.TheVariants.{Pgn}
 use Rattle.pgn_verifier.specs.declared.options.VerifyOptions.{VerifyOptions}
 use Rattle.pgn_verifier.specs.declared.start.TextStart.{TextStart}
 use Rattle.pgn_verifier.specs.declared.tally.Tally.{Tally}
-use Rattle.pgn_verifier.specs.laws.Reported.{reports_on}
+use Rattle.pgn_verifier.specs.laws.Reported.{placed_on}
 use Rattle.pgn_verifier.specs.ties.OnTheWay.{StandsIf, PieceStandsIf, Writes, counted, fault_line, next_number, reports_seen, too_long_seen}
 
--- the lines on a piece that is too long, which begins at the offset `at` with these bytes
-abbrev pub long_lines : Bool → List ℕ → ℕ → ℕ → List ℕ → List ℕ
-long_lines explain input number at beginning =
-    fault_line number (record { kind = Pgn TooLong; offset = at })
+-- the lines on a piece that is too long, which begins at the offset `at` with these bytes; `span`: the end of the first
+abbrev pub long_lines : Bool → List ℕ → ℕ → ℕ → List ℕ → List ℕ → List ℕ
+long_lines explain input number at span beginning =
+    fault_line number (record { kind = Pgn TooLong; offset = at }) span
     ++ (if explain then explanation_line input at (shown beginning) else [])
 
 pub stands_there : (explain : Bool) (start : TextStart) (line : ℕ) (input : List ℕ) (piece : PieceSeen)
@@ -32,30 +32,34 @@ stands_there explain start line input piece offset is stands e =
     }
 
 module _ (options : VerifyOptions) (input : List ℕ) (before : Tally) (w w' : OutputState) (piece : PieceSeen)
-    (none : piece.bytes ≡ None) (number at : ℕ) (beginning : List ℕ) (number_is : number ≡ next_number before)
-    (at_is : at ≡ piece.offset) (beginning_is : beginning ≡ piece.beginning)
+    (none : piece.bytes ≡ None) (number at : ℕ) (span beginning : List ℕ) (number_is : number ≡ next_number before)
+    (at_is : at ≡ piece.offset) (span_is : span ≡ span_text options piece.offset piece.end) (beginning_is : beginning ≡ piece.beginning)
   where
-    lines_are : long_lines options.explain input number at beginning
+    abbrev own : List ℕ
+    own = span_text options piece.offset piece.end
+
+    lines_are : long_lines options.explain input number at span beginning
         ≡ report_lines options input (next_number before) (reports_seen options.strict piece)
     lines_are =
-        ap (λ n. long_lines options.explain input n at beginning) number_is
-        ∙ ap (λ o. long_lines options.explain input (next_number before) o beginning) at_is
-        ∙ ap (λ xs. long_lines options.explain input (next_number before) piece.offset xs) beginning_is
-        ∙ sym (append-nil (long_lines options.explain input (next_number before) piece.offset piece.beginning))
+        ap (λ n. long_lines options.explain input n at span beginning) number_is
+        ∙ ap (λ o. long_lines options.explain input (next_number before) o span beginning) at_is
+        ∙ ap (λ xs. long_lines options.explain input (next_number before) piece.offset xs beginning) span_is
+        ∙ ap (λ xs. long_lines options.explain input (next_number before) piece.offset own xs) beginning_is
+        ∙ sym (append-nil (long_lines options.explain input (next_number before) piece.offset own piece.beginning))
         ∙ sym (ap (λ bytes. report_lines options input (next_number before)
-        (option_map_or (reports_on options.strict piece.offset) bytes (too_long_seen piece ∷ []))) none)
+        (option_map_or (placed_on options.strict piece.offset) bytes (too_long_seen piece ∷ []))) none)
 
     pub too_long_written : (E : Type 0) (after : Tally)
         → after ≡ record { games = before.games; half_moves = before.half_moves; faults = before.faults + 1 }
-        → Took w w' (long_lines options.explain input number at beginning)
+        → Took w w' (long_lines options.explain input number at span beginning)
         → Writes {E = E} options input before w w' (Ok after) (reports_seen options.strict piece)
     too_long_written E after is took = (
       subst (Took w w') lines_are took,
       is ∙ sym (ap (λ bytes. counted before
-          (option_map_or (reports_on options.strict piece.offset) bytes (too_long_seen piece ∷ []))) none),
+          (option_map_or (placed_on options.strict piece.offset) bytes (too_long_seen piece ∷ []))) none),
     )
 
     pub too_long_broke : {E : Type 0} (e : E)
-        → CutShort w w' (long_lines options.explain input number at beginning)
+        → CutShort w w' (long_lines options.explain input number at span beginning)
         → Writes options input before w w' (Err e) (reports_seen options.strict piece)
     too_long_broke e broke = subst (CutShort w w') lines_are broke

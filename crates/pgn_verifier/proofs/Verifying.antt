@@ -11,10 +11,10 @@ use Rattle.pgn_verifier.specs.declared.fault.VerifyFault.{VerifyFault}
 use Rattle.pgn_verifier.specs.declared.fault.VerifyFault.TheVariants.{ReadFailed, WriteFailed, NoMemory, InputTooLong}
 use Rattle.pgn_verifier.specs.declared.options.VerifyOptions.{VerifyOptions}
 use Rattle.pgn_verifier.specs.declared.tally.Verified.{Verified}
-use Rattle.pgn_verifier.specs.Reports.{Report, counts_of, verified}
+use Rattle.pgn_verifier.specs.Reports.{Placed, without_spans, counts_of, verified}
 use Rattle.pgn_verifier.specs.Verify.{Verifies}
 use Rattle.pgn_verifier.specs.Collection.{AreCollectionReports, VerifiesCollection}
-use Rattle.pgn_verifier.specs.laws.Reported.{reports_on, collection_reports}
+use Rattle.pgn_verifier.specs.laws.Reported.{placed_on, collection_placed}
 use Rattle.pgn_verifier.specs.Faults.{of_piece}
 use Rattle.pgn_verifier.proofs.shared.ReportsAre.{are_reports, are_collection_reports}
 use Rattle.pgn_verifier.specs.ties.OnTheWay.{IsAll, IsNotAll, WritesText, text_lines, collection_lines, collection_written}
@@ -66,7 +66,7 @@ text_verified E options r r' w w' text verdict (read, few) (is, sent) = (
   all_of (text_lines options text),
   gave r r' text true read,
   took_all w w' (text_lines options text) sent,
-  ((refl, refl), few, (reports_on options.strict 0 text, are_reports options.strict 0 text, refl, is)),
+  ((refl, refl), few, (placed_on options.strict 0 text, are_reports options.strict 0 text, refl, is)),
 )
 
 pub text_broke_off : (options : VerifyOptions) (r r' : InputState) (w w' : OutputState) (text : List ℕ)
@@ -77,14 +77,14 @@ text_broke_off options r r' w w' text (read, few) (start, begins, failed) = (
   broke nothing start,
   gave r r' text true read,
   took_some w w' start failed,
-  ((refl, refl), few, (reports_on options.strict 0 text, are_reports options.strict 0 text, (start, begins, refl))),
+  ((refl, refl), few, (placed_on options.strict 0 text, are_reports options.strict 0 text, (start, begins, refl))),
 )
 
 -- ---- a collection
 
 pub collection_verified : (options : VerifyOptions) (r r' : InputState) (w w' : OutputState) (text : List ℕ)
     (verdict : Verified) → HasRead true r r' text → Sent w w' (collection_written options true text)
-    → verdict ≡ verified (counts_of (collection_reports options.strict true text))
+    → verdict ≡ verified (counts_of (without_spans (collection_placed options.strict true text)))
     → Ran (VerifiesCollection options (Ok verdict)) (record { input = r; output = w })
     (record { input = r'; output = w' })
 collection_verified options r r' w w' text verdict read sent is = (
@@ -92,7 +92,7 @@ collection_verified options r r' w w' text verdict read sent is = (
   all_of (collection_written options true text),
   gave r r' text true read,
   took_all w w' (collection_written options true text) sent,
-  (collection_reports options.strict true text, are_collection_reports options.strict true text, ((refl, refl), refl, is)),
+  (collection_placed options.strict true text, are_collection_reports options.strict true text, ((refl, refl), refl, is)),
 )
 
 pub collection_broke_off : (options : VerifyOptions) (r r' : InputState) (w w' : OutputState) (ended : Bool)
@@ -105,7 +105,7 @@ collection_broke_off options r r' w w' ended text read (start, begins, failed) =
   gave r r' text ended read,
   took_some w w' start failed,
   (
-    collection_reports options.strict ended text,
+    collection_placed options.strict ended text,
     are_collection_reports options.strict ended text,
     (refl, (start, begins, refl)),
   ),
@@ -124,8 +124,8 @@ reading_stopped options r r' w w' text fault cause took = by_fault fault cause
     part : Took w w' written
     part = subst (Took w w') (sym (append-nil (collection_lines options false text))) took
 
-    reports : List Report
-    reports = collection_reports options.strict false text
+    reports : List Placed
+    reports = collection_placed options.strict false text
 
     are : AreCollectionReports options.strict 0 (known_pieces false text) reports
     are = are_collection_reports options.strict false text

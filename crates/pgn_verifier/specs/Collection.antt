@@ -7,14 +7,14 @@ use Rattle.pgn_verifier.specs.declared.fault.VerifyFault.{VerifyFault}
 use Rattle.pgn_verifier.specs.declared.fault.VerifyFault.TheVariants.{ReadFailed, WriteFailed, NoMemory, InputTooLong}
 use Rattle.pgn_verifier.specs.declared.options.VerifyOptions.{VerifyOptions}
 use Rattle.pgn_verifier.specs.declared.tally.Verified.{Verified}
-use Rattle.pgn_verifier.specs.Reports.{Report, AreReportsIn, report_lines, counts_line, counts_of, verified}
+use Rattle.pgn_verifier.specs.Reports.{Placed, AreReportsIn, report_lines, without_spans, counts_line, counts_of, verified}
 
 -- these are the reports on the games of these pieces, piece after piece (`AreReportsIn`). Each piece is given by its
 -- bytes; the first begins at the given offset of the input, and each other one where the one before it ends. `strict`:
 -- a termination marker, such as `1-0`, that contradicts the tag Result or the board's verdict is a fault
-pub data AreCollectionReports (strict : Bool) : ℕ → List (List ℕ) → List Report → Type 0 where
+pub data AreCollectionReports (strict : Bool) : ℕ → List (List ℕ) → List Placed → Type 0 where
   no_piece : {offset : ℕ} → AreCollectionReports strict offset [] []
-  next_piece : {offset : ℕ} {piece : List ℕ} {pieces : List (List ℕ)} (reports : List Report) {more : List Report}
+  next_piece : {offset : ℕ} {piece : List ℕ} {pieces : List (List ℕ)} (reports : List Placed) {more : List Placed}
       → AreReportsIn strict offset piece reports → AreCollectionReports strict (offset + length piece) pieces more
       → AreCollectionReports strict offset (piece ∷ pieces) (reports ++ more)
 
@@ -37,15 +37,15 @@ CollectionEnds text expected (Err InputTooLong) i o =
 
 -- what is to be written for these reports: their lines, numbered from 1; then, if the input's end was reported, the
 -- line of counts
-abbrev pub collection_text : VerifyOptions → List Report → FromInput → List ℕ
+abbrev pub collection_text : VerifyOptions → List Placed → FromInput → List ℕ
 collection_text options reports i =
-    report_lines options i.text 1 reports ++ (if i.ended then counts_line (counts_of reports) else [])
+    report_lines options i.text 1 reports ++ (if i.ended then counts_line (counts_of (without_spans reports)) else [])
 
 -- what verifying a collection reads (`i`) and writes (`o`), by its result (`CollectionEnds`): the reports on its
 -- pieces, where a fault ends only its own piece. Before the input's end the last piece read is left out, since it may
 -- go on (`known_pieces`). The summary is `FaultReported` if a fault was reported, otherwise `EachGame`. `options`: see
 -- `Verifies` (Verify.antt); with `explain` each fault has a second line
 abbrev pub VerifiesCollection : VerifyOptions → Result Verified VerifyFault → FromInput → ToOutput → Type 0
-VerifiesCollection options result i o = (reports : List Report)
+VerifiesCollection options result i o = (reports : List Placed)
     × AreCollectionReports options.strict 0 (known_pieces i.ended i.text) reports
-    × CollectionEnds (collection_text options reports i) (verified (counts_of reports)) result i o
+    × CollectionEnds (collection_text options reports i) (verified (counts_of (without_spans reports))) result i o

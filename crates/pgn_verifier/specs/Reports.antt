@@ -1,12 +1,13 @@
 -- The reports on the games of a text and of pieces, their lines and their counts.
-use Rattle.std.specs.Prelude.{◌≡◌, ℕ, ◌+◌, ◌==◌, nat_le, Bool, not, if◌then◌else◌, List, [], ◌∷◌, ◌++◌, length, drop, codes, decimal, is_some, Option, Some, None, Ok, Err}
-use Rattle.std.specs.List.{count_by, sum_by}
+use Rattle.std.specs.Prelude.{◌≡◌, ℕ, ◌+◌, ◌==◌, nat_le, Bool, not, if◌then◌else◌, List, [], ◌∷◌, ◌++◌, length, map, drop, codes, decimal, is_some, Option, Some, None, Ok, Err}
+use Rattle.std.specs.List.{count_by, prefix_len, sum_by}
 use Rattle.std.specs.Bool.{MatchBool}
 use Rattle.std.specs.Option.{unwrap_or, option_map_or}
 use Rattle.chess_base.specs.Letters.{new_line}
 use Rattle.chess_game.specs.Game.{State, verdict_now}
 use Rattle.chess_game.specs.Results.{outcome_text}
 use Rattle.chess_game.specs.declared.results.Outcome.{Outcome}
+use Rattle.chess_pgn.specs.Tokens.{after_byte_order_mark, is_white_space}
 use Rattle.chess_pgn.specs.declared.read.PgnEnd.{PgnEnd}
 use Rattle.chess_pgn.specs.declared.read.PgnFaultKind.TheVariants.{TooLong}
 use Rattle.pgn_writer.specs.declared.termination.Termination.{Termination}
@@ -32,25 +33,46 @@ pub data Report : Type 0 where
   -- explains the fault
   Faulty : (fault : GameFault) (wrong_at : ℕ) (explanation : List ℕ) → Report
 
+-- a report with its span, the part of the input that it is on: from the byte at the offset `begin` to the last one
+-- before the offset `end`
+pub record Placed : Type 0 where
+  pub begin : ℕ
+  pub end : ℕ
+  pub report : Report
+
+-- the offset in a text at which the game from the offset `at` on begins: its first byte that is no white space, after a
+-- byte order mark at offset 0
+abbrev pub game_begin : List ℕ → ℕ → ℕ
+game_begin text at =
+    let first = after_byte_order_mark text at in first + prefix_len is_white_space (drop first text)
+
 -- ---- the reports on the games of a text
 
 -- these are the reports on the games of `text` from its offset `at` on, up to and including the first game with a
 -- fault; the last two arguments are `at` and the reports. The text begins at the offset `start` of the input. `strict`:
 -- a termination marker that contradicts the tag Result or the board's verdict is a fault
-pub data AreReports (strict : Bool) (start : ℕ) (text : List ℕ) : ℕ → List Report → Type 0 where
+pub data AreReports (strict : Bool) (start : ℕ) (text : List ℕ) : ℕ → List Placed → Type 0 where
   -- no game comes from `at` on
   none_left : {at : ℕ} {s : State} → IsJudged strict text at s (Ok None) → AreReports strict start text at []
-  -- the next game has no fault, and the other reports are on the games after its termination marker
-  next_game : {at : ℕ} {s : State} {end : PgnEnd} {reports : List Report} → IsJudged strict text at s (Ok (Some end))
+  -- the next game has no fault and ends with its termination marker; the other reports are on the games after that.
+  -- Offsets in the text become offsets in the input
+  next_game : {at : ℕ} {s : State} {end : PgnEnd} {reports : List Placed} → IsJudged strict text at s (Ok (Some end))
       → AreReports strict start text end.offset reports
-      → AreReports strict start text at (Game (length s.moves) end.outcome end.termination ∷ reports)
-  -- the next game has a fault, and the games after it are not reported. The fault's offset in the text becomes its
-  -- offset in the input
+      → AreReports strict start text at (record {
+        begin = start + game_begin text at;
+        end = start + end.offset;
+        report = Game (length s.moves) end.outcome end.termination;
+      } ∷ reports)
+  -- the next game has a fault. What comes after the fault is not read, so its span goes to the text's end
   last_fault : {at : ℕ} {s : State} {fault : GameFault} (reason : Option (List ℕ))
       → IsJudged strict text at s (Err fault) → IsReason fault.kind (drop fault.offset text) (verdict_now s) reason
-      → AreReports strict start text at (Faulty (record fault { offset = start + fault.offset })
-      (start + fault.offset + (wrong_part fault.kind (drop fault.offset text)).0)
-      (explanation s (drop fault.offset text) fault.kind reason) ∷ [])
+      → AreReports strict start text at (record {
+        begin = start + game_begin text at;
+        end = start + length text;
+        report = Faulty (record fault { offset = start + fault.offset })
+            (start + fault.offset + (wrong_part fault.kind (drop fault.offset text)).0)
+            (explanation s (drop fault.offset text) fault.kind reason);
+      } ∷ [])
 
 -- ---- the reports on the games of pieces
 
@@ -59,10 +81,14 @@ pub data AreReports (strict : Bool) (start : ℕ) (text : List ℕ) : ℕ → Li
 -- bytes), one report on the piece: the fault TooLong at its first byte, explained by the first word there (`shown`). A
 -- game of more than 20,000 half-moves has the same kind of fault, but at its 20,001st half-move. `strict`: an outcome
 -- mark that contradicts the tag Result or the board's verdict is a fault
-abbrev pub AreReportsIn : Bool → ℕ → List ℕ → List Report → Type 0
+abbrev pub AreReportsIn : Bool → ℕ → List ℕ → List Placed → Type 0
 AreReportsIn strict offset piece reports =
     MatchBool (nat_le (length piece) PIECE_LEN) (AreReports strict offset piece 0 reports)
-    (reports ≡ Faulty (record { kind = Pgn TooLong; offset = offset }) offset (shown piece) ∷ [])
+    (reports ≡ record {
+      begin = offset;
+      end = offset + length piece;
+      report = Faulty (record { kind = Pgn TooLong; offset = offset }) offset (shown piece);
+    } ∷ [])
 
 -- ---- their lines
 
@@ -70,24 +96,31 @@ AreReportsIn strict offset piece reports =
 unfoldable pub report_line : ℕ → List ℕ → List ℕ
 report_line number text = codes "game " ++ (decimal number ++ (codes ": " ++ (text ++ new_line ∷ [])))
 
--- what is written of a report; `input` is what was read of the input, `number` the report's number
-abbrev pub written_line : VerifyOptions → List ℕ → ℕ → Report → List ℕ
--- a game's line, such as `game 3: 4 half-moves, 0-1, time forfeit`, unless `options.quiet` leaves it out. The last part
--- is what the game's last tag Termination names, if anything
-written_line options input number (Game plies outcome termination) =
-    if options.quiet then [] else report_line number (decimal plies ++ (codes " half-moves, "
-    ++ (outcome_text outcome ++ option_map_or (λ t. codes ", " ++ termination_text t) termination [])))
+-- the end of a report's line: with `options.spans` its span, such as `, bytes 61 to 120`
+abbrev pub span_text : VerifyOptions → ℕ → ℕ → List ℕ
+span_text options begin end =
+    if options.spans then codes ", bytes " ++ (decimal begin ++ (codes " to " ++ decimal end)) else []
+
+-- what is written of a report; `input` is what was read of the input, `number` the report's number, and `span` the end
+-- of its line
+abbrev pub written_line : VerifyOptions → List ℕ → ℕ → List ℕ → Report → List ℕ
+-- a game's line, such as `game 3: 4 half-moves, 0-1, time forfeit`, unless `options.quiet` leaves it out. Before `span`
+-- comes what the game's last tag Termination names, if anything
+written_line options input number span (Game plies outcome termination) =
+    if options.quiet then [] else report_line number (decimal plies ++ (codes " half-moves, " ++ (outcome_text outcome
+    ++ (option_map_or (λ t. codes ", " ++ termination_text t) termination [] ++ span))))
 -- a fault's line, such as `game 2: illegal move at byte 39`, and with `options.explain` the line that explains it
-written_line options input number (Faulty fault wrong_at explanation) =
-    report_line number (fault_name fault.kind ++ (codes " at byte " ++ decimal fault.offset))
+written_line options input number span (Faulty fault wrong_at explanation) =
+    report_line number (fault_name fault.kind ++ (codes " at byte " ++ (decimal fault.offset ++ span)))
     ++ (if options.explain then explanation_line input wrong_at explanation else [])
 
 -- the lines of these reports, which are numbered from `number` on; a report whose line `quiet` leaves out has a number
 -- too. `input` is what was read of the input
-abbrev pub report_lines : VerifyOptions → List ℕ → ℕ → List Report → List ℕ
+abbrev pub report_lines : VerifyOptions → List ℕ → ℕ → List Placed → List ℕ
 report_lines options input number [] = []
-report_lines options input number (report ∷ rest) =
-    written_line options input number report ++ report_lines options input (number + 1) rest
+report_lines options input number (placed ∷ rest) =
+    written_line options input number (span_text options placed.begin placed.end) placed.report
+    ++ report_lines options input (number + 1) rest
 
 -- ---- the counts
 
@@ -95,6 +128,10 @@ report_lines options input number (report ∷ rest) =
 abbrev pub half_moves_of : Report → Option ℕ
 half_moves_of (Game plies outcome termination) = Some plies
 half_moves_of (Faulty fault wrong_at explanation) = None
+
+-- the reports without their spans
+abbrev pub without_spans : List Placed → List Report
+without_spans reports = map (λ placed. placed.report) reports
 
 -- the counts of these reports: how many games without a fault there are, how many half-moves these have, and how many
 -- faults there are

@@ -14,11 +14,12 @@ ghost use Rattle.pgn_verifier.specs.Explanations.{wrong_part, has_position, expl
 ghost use Rattle.chess_game.specs.Results.{outcome_text};
 ghost use Rattle.pgn_verifier.specs.declared.game_fault.FaultKind.TheVariants.{Pgn};
 ghost use Rattle.pgn_verifier.specs.laws.Reasons.{reason, explanation_of};
-ghost use Rattle.pgn_verifier.specs.ties.OnTheWay.{StandsIf, moved, fault_line};
+ghost use Rattle.pgn_verifier.specs.ties.OnTheWay.{StandsIf, moved, fault_line, span_written};
 ghost use Rattle.pgn_verifier.specs.declared.explanation.TheConstants.{FAULT_LINES_LEN};
 
 use crate::fen_field::{fen_text, field_offset, wrong_field};
 use crate::game_fault::{FaultKind, GameFault, fault_name};
+use crate::label::{Label, append_span};
 use crate::shown::{Shown, shown, shown_field};
 use crate::start::TextStart;
 use crate::token_reason::{bad_tag_reason, token_reason};
@@ -30,25 +31,26 @@ use chess_moves::Board;
 use chess_pgn::PgnFaultKind;
 use pgn_pieces::line_ends;
 
-// The most bytes of the lines on a fault: of its own 100, and of the one that explains it 320.
-const FAULT_LINES_LEN: usize = 420;
+// The most bytes of the lines on a fault: of its own 130, and of the one that explains it 320.
+const FAULT_LINES_LEN: usize = 450;
 
 /// The lines on a fault.
 pub(crate) type FaultLines = ArrayVec<u8, FAULT_LINES_LEN>;
 
-// The line of a fault, such as `game 2: illegal move at byte 39`; `number` is the game's number.
+// The line of a fault, such as `game 2: illegal move at byte 39`.
 #[tactic(auto, unfolding(crate::specs::Reports::report_line))]
-fn fault_line(number: usize, fault: GameFault) -> FaultLines
-    ensures text { result.items ≡ fault_line number fault }
-    ensures len { array_vec_len result ≤ 100 }
+fn fault_line(label: Label, fault: GameFault) -> FaultLines
+    ensures text { result.items ≡ fault_line label.number fault (span_written label.span) }
+    ensures len { array_vec_len result ≤ 130 }
 {
     let mut lines = FaultLines::new();
     append(&mut lines, b"game ");
-    append_number(&mut lines, number as u64);
+    append_number(&mut lines, label.number as u64);
     append(&mut lines, b": ");
     append(&mut lines, fault_name(fault.kind));
     append(&mut lines, b" at byte ");
     append_number(&mut lines, fault.offset as u64);
+    append_span(&mut lines, label.span);
     lines.push(b'\n');
     lines
 }
@@ -227,7 +229,7 @@ fn append_explanation<B: Board>(
     kind: FaultKind,
     game: &Game<B>,
 )
-    requires { array_vec_len lines.old ≤ 100 }
+    requires { array_vec_len lines.old ≤ 130 }
     ensures { (input : List ℕ) (begin : ℕ) → line ≡ line_of input begin → column ≡ column_of input begin
         → lines.new.items ≡ lines.old.items
         ++ explanation_line input begin (explanation_of game.now.state text.now kind) }
@@ -240,10 +242,10 @@ fn append_explanation<B: Board>(
 }
 
 /// The lines on a fault of the game: its own, and with `explain` the one that explains it. The fault is in a text that
-/// begins at `start`; `number` is the game's number.
+/// begins at `start`.
 pub(crate) fn fault_lines<B: Board>(
     explain: bool,
-    number: usize,
+    label: Label,
     start: TextStart,
     text: &[u8],
     fault: GameFault,
@@ -253,12 +255,12 @@ pub(crate) fn fault_lines<B: Board>(
     requires few { start.offset + length text.now ≤ 2 ^ 63 }
     requires few_lines { start.line + length text.now < 2 ^ 64 }
     ensures { (input : List ℕ) → StandsIf explain start input text.now
-        → result.items ≡ fault_line number (moved start.offset fault)
+        → result.items ≡ fault_line label.number (moved start.offset fault) (span_written label.span)
         ++ (if explain then explanation_line input
         (start.offset + fault.offset + (wrong_part fault.kind (drop fault.offset text.now)).0)
         (explanation_of game.now.state (drop fault.offset text.now) fault.kind) else []) }
 {
-    let mut lines = fault_line(number, fault.moved(start.offset));
+    let mut lines = fault_line(label, fault.moved(start.offset));
     if explain {
         let rest = &text[fault.offset..];
         let before = &text[..fault.offset + part_offset(fault.kind, rest)];
@@ -270,19 +272,20 @@ pub(crate) fn fault_lines<B: Board>(
 }
 
 /// The lines on a piece that is too long: the fault at its first byte, and with `explain` the line that explains it.
-/// `beginning` has the piece's first 40 bytes; `number` is the game's number.
+/// `beginning` has the piece's first 40 bytes.
 pub(crate) fn too_long_lines(
     explain: bool,
-    number: usize,
+    label: Label,
     start: TextStart,
     beginning: &[u8],
 ) -> FaultLines
     ensures { (input : List ℕ) → StandsIf explain start input []
-        → result.items ≡ fault_line number (record { kind = Pgn TooLong; offset = start.offset })
+        → result.items
+        ≡ fault_line label.number (record { kind = Pgn TooLong; offset = start.offset }) (span_written label.span)
         ++ (if explain then explanation_line input start.offset (shown beginning.now) else []) }
 {
     let mut lines = fault_line(
-        number,
+        label,
         GameFault {
             kind: FaultKind::Pgn(PgnFaultKind::TooLong),
             offset: start.offset,

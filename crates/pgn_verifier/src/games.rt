@@ -3,12 +3,13 @@
 ghost use Rattle.std.specs.Prelude.{◌≡◌, ◌≤◌, ◌<◌, ◌+◌, ◌^◌, List, ℕ, length, IfOk, IfErr};
 ghost use Rattle.std.specs.Option.{IfSome};
 ghost use Rattle.chess_game.specs.declared.game.TheConstants.{MOST_MOVES};
-ghost use Rattle.pgn_verifier.specs.laws.Reported.{read_at, judged_at, reports_on};
+ghost use Rattle.pgn_verifier.specs.laws.Reported.{read_at, judged_at, placed_on};
 ghost use Rattle.pgn_verifier.specs.ties.OnTheWay.{StandsIf, Writes, GrowsBy};
 
 use crate::contradiction::contradiction;
 use crate::explanation::fault_lines;
 use crate::game_fault::GameFault;
+use crate::label::Label;
 use crate::options::VerifyOptions;
 use crate::report::write_game;
 use crate::start::TextStart;
@@ -76,7 +77,7 @@ pub(crate) fn verify_text<W: Output>(
     requires limit { game.old.limit ≡ MOST_MOVES }
     ensures written { (input : List ℕ) → StandsIf options.explain start input text.now
         → Writes options input before (W.seen output.old) (W.seen output.new) result
-        (reports_on options.strict start.offset text.now) }
+        (placed_on options.strict start.offset text.now) }
     ensures grown { IfOk result (λ after. GrowsBy (length text.now) before after) }
     ensures limit { game.new.limit ≡ MOST_MOVES }
 {
@@ -88,12 +89,14 @@ pub(crate) fn verify_text<W: Output>(
             Ok(None) => return Ok(tally),
             Ok(Some(end)) => {
                 let plies = game.ply();
-                write_game(options.quiet, output, number, plies, end)?;
+                let label = Label::of_game(options, number, start.offset, text, at, end.offset);
+                write_game(options.quiet, output, label, plies, end)?;
                 tally = tally.with_game(plies);
                 at = end.offset;
             }
             Err(fault) => {
-                let lines = fault_lines(options.explain, number, start, text, fault, game);
+                let unread = Label::of_game(options, number, start.offset, text, at, text.len());
+                let lines = fault_lines(options.explain, unread, start, text, fault, game);
                 put(output, lines.as_slice())?;
                 return Ok(tally.with_fault());
             }

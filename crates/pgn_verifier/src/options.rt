@@ -8,6 +8,9 @@ pub struct VerifyOptions {
     /// Treats a contradiction about the result as a fault: a tag `Result` with another text than the termination
     /// marker, or a verdict of the board with another outcome.
     pub strict: bool,
+    /// Ends each line with the span of its game: the offset of its first byte, and that of the byte after its last. A
+    /// game with a fault goes to the end of its text.
+    pub spans: bool,
     /// Adds after each fault a line that explains it: the fault's line and column, the text there, and for some kinds
     /// of fault the position and the reason.
     pub explain: bool,

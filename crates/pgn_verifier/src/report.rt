@@ -7,15 +7,16 @@ ghost use Rattle.pgn_writer.specs.Terminations.{termination_text};
 ghost use Rattle.arrayvec.specs.ArrayVec.{array_vec_len};
 ghost use Rattle.byte_devices.specs.Devices.{Puts};
 ghost use Rattle.pgn_verifier.specs.Reports.{counts_line};
-ghost use Rattle.pgn_verifier.specs.ties.OnTheWay.{game_line};
+ghost use Rattle.pgn_verifier.specs.ties.OnTheWay.{game_line, span_written};
 
+use crate::label::{Label, append_span};
 use crate::tally::Tally;
 use arrayvec::ArrayVec;
 use byte_devices::{Output, WriteFault, append, append_number, put};
 use chess_pgn::{PgnEnd, Termination};
 
-// The most bytes of a line: three numbers' and 60 more.
-const LINE_LEN: usize = 120;
+// The most bytes of a line: four numbers' and 60 more.
+const LINE_LEN: usize = 140;
 
 // A line on a game.
 type ReportLine = ArrayVec<u8, LINE_LEN>;
@@ -33,20 +34,20 @@ fn append_termination(line: &mut ReportLine, termination: Option<Termination>)
     }
 }
 
-// The line of a game without a fault, such as `game 3: 4 half-moves, 0-1`; `number` is its number, `plies` how many
-// half-moves it has.
+// The line of a game without a fault, such as `game 3: 4 half-moves, 0-1`; `plies` is how many half-moves it has.
 #[tactic(auto, unfolding(crate::specs::Reports::report_line))]
-fn game_line(number: usize, plies: usize, end: PgnEnd) -> ReportLine
-    ensures { result.items ≡ game_line number plies end.outcome end.termination }
+fn game_line(label: Label, plies: usize, end: PgnEnd) -> ReportLine
+    ensures { result.items ≡ game_line label.number plies end.outcome end.termination (span_written label.span) }
 {
     let mut line = ReportLine::new();
     append(&mut line, b"game ");
-    append_number(&mut line, number as u64);
+    append_number(&mut line, label.number as u64);
     append(&mut line, b": ");
     append_number(&mut line, plies as u64);
     append(&mut line, b" half-moves, ");
     append(&mut line, end.outcome.text());
     append_termination(&mut line, end.termination);
+    append_span(&mut line, label.span);
     line.push(b'\n');
     line
 }
@@ -55,17 +56,17 @@ fn game_line(number: usize, plies: usize, end: PgnEnd) -> ReportLine
 pub(crate) fn write_game<W: Output>(
     quiet: bool,
     output: &mut W,
-    number: usize,
+    label: Label,
     plies: usize,
     end: PgnEnd,
 ) -> Result<(), WriteFault>
     ensures { Puts (W.seen output.old) (W.seen output.new) result
-        (if quiet then [] else game_line number plies end.outcome end.termination) }
+        (if quiet then [] else game_line label.number plies end.outcome end.termination (span_written label.span)) }
 {
     if quiet {
         return Ok(());
     }
-    put(output, game_line(number, plies, end).as_slice())
+    put(output, game_line(label, plies, end).as_slice())
 }
 
 // The last line of a collection, such as `games 2 half-moves 6 faults 1`.

@@ -1,7 +1,8 @@
 -- No other reports are those of the definitions than those that are made one after another.
-use Rattle.std.proofs.Common.{◌≡◌, ℕ, ◌+◌, Bool, List, [], ◌∷◌, ◌++◌, length, drop, Option, Some, None, true, false, Result, Ok, Err, refl, sym, ap, subst, ◌∙◌}
+use Rattle.std.proofs.Common.{◌≡◌, ℕ, zero, suc, ◌+◌, Bool, List, [], ◌∷◌, ◌++◌, length, drop, Option, Some, None, true, false, Result, Ok, Err, refl, sym, ap, subst, ◌∙◌}
 use Rattle.std.proofs.Math.Path.{ap₂}
 use Rattle.std.specs.List.{flat_map}
+use Rattle.std.proofs.lemmas.List.{map-append}
 use Rattle.std.specs.Prelude.{nat_le, if◌then◌else◌}
 use Rattle.std.specs.Bool.{MatchBool}
 use Rattle.chess_game.specs.Game.{State, verdict_now}
@@ -17,11 +18,11 @@ use Rattle.pgn_pieces.specs.declared.pieces.TheConstants.{PIECE_LEN}
 use Rattle.pgn_verifier.specs.Collection.{AreCollectionReports, no_piece, next_piece}
 use Rattle.pgn_verifier.specs.Explanations.{IsReason, wrong_part, explanation}
 use Rattle.pgn_verifier.specs.GameFaults.{judged, IsJudged}
-use Rattle.pgn_verifier.specs.Reports.{Report, Game, Faulty, AreReports, none_left, next_game, last_fault, AreReportsIn}
+use Rattle.pgn_verifier.specs.Reports.{Report, Game, Faulty, Placed, game_begin, AreReports, none_left, next_game, last_fault, AreReportsIn, without_spans}
 use Rattle.pgn_verifier.specs.declared.game_fault.GameFault.{GameFault}
 use Rattle.pgn_verifier.specs.laws.Reasons.{reason, explanation_of}
 use Rattle.pgn_verifier_laws.proofs.OnlyReasons.{only_reason}
-use Rattle.pgn_verifier.specs.laws.Reported.{read_at, judged_at, reports_on, reports_in, collection_reports, too_long_report}
+use Rattle.pgn_verifier.specs.laws.Reported.{read_at, judged_at, report_then, reports_from, reports_on, reports_in, collection_reports, placed_then, placed_from, placed_on, placed_in, collection_placed, too_long_report, too_long_placed}
 use Rattle.pgn_verifier.proofs.shared.ReportsAre.{are_reports}
 
 -- ---- one game
@@ -41,102 +42,149 @@ only_judged strict text at s answer j =
 
 -- ---- a text
 
+-- the report on a game, with its span
+abbrev game_report : ℕ → List ℕ → ℕ → PgnEnd → State → Placed
+game_report start text at end g = record {
+  begin = start + game_begin text at;
+  end = start + end.offset;
+  report = Game (length g.moves) end.outcome end.termination;
+}
+
+-- the report on a fault with this explanation, with its span
+abbrev fault_report : ℕ → List ℕ → ℕ → GameFault → List ℕ → Placed
+fault_report start text at fault why = record {
+  begin = start + game_begin text at;
+  end = start + length text;
+  report = Faulty (record fault { offset = start + fault.offset })
+      (start + fault.offset + (wrong_part fault.kind (drop fault.offset text)).0) why;
+}
+
 -- what reports are, by how their first game was judged
-abbrev ReportsBy : Bool → ℕ → List ℕ → State → Result (Option PgnEnd) GameFault → List Report → Type 0
-ReportsBy strict start text s (Ok None) reports = reports ≡ []
-ReportsBy strict start text s (Ok (Some end)) reports =
-    (more : List Report) × AreReports strict start text end.offset more
-    × (reports ≡ Game (length s.moves) end.outcome end.termination ∷ more)
-ReportsBy strict start text s (Err fault) reports =
-    reports ≡ Faulty (record fault { offset = start + fault.offset })
-    (start + fault.offset + (wrong_part fault.kind (drop fault.offset text)).0)
-    (explanation_of s (drop fault.offset text) fault.kind) ∷ []
+abbrev ReportsBy : Bool → ℕ → List ℕ → ℕ → State → Result (Option PgnEnd) GameFault → List Placed → Type 0
+ReportsBy strict start text at s (Ok None) reports = reports ≡ []
+ReportsBy strict start text at s (Ok (Some end)) reports =
+    (more : List Placed) × AreReports strict start text end.offset more
+    × (reports ≡ game_report start text at end s ∷ more)
+ReportsBy strict start text at s (Err fault) reports =
+    reports ≡ fault_report start text at fault (explanation_of s (drop fault.offset text) fault.kind) ∷ []
 
 -- the report on a fault whose reason is given
-fault_report : (start : ℕ) (text : List ℕ) (fault : GameFault) (s : State) (reason : Option (List ℕ))
+fault_explained : (start : ℕ) (text : List ℕ) (at : ℕ) (fault : GameFault) (s : State) (reason : Option (List ℕ))
     → IsReason fault.kind (drop fault.offset text) (verdict_now s) reason
-    → Faulty (record fault { offset = start + fault.offset })
-    (start + fault.offset + (wrong_part fault.kind (drop fault.offset text)).0)
-    (explanation s (drop fault.offset text) fault.kind reason) ∷ []
-    ≡ Faulty (record fault { offset = start + fault.offset })
-    (start + fault.offset + (wrong_part fault.kind (drop fault.offset text)).0)
-    (explanation_of s (drop fault.offset text) fault.kind) ∷ []
-fault_report start text fault s reason h =
-    ap (λ r. Faulty (record fault { offset = start + fault.offset })
-    (start + fault.offset + (wrong_part fault.kind (drop fault.offset text)).0)
-    (explanation s (drop fault.offset text) fault.kind r) ∷ [])
+    → fault_report start text at fault (explanation s (drop fault.offset text) fault.kind reason) ∷ []
+    ≡ fault_report start text at fault (explanation_of s (drop fault.offset text) fault.kind) ∷ []
+fault_explained start text at fault s reason h =
+    ap (λ r. fault_report start text at fault (explanation s (drop fault.offset text) fault.kind r) ∷ [])
     (only_reason fault.kind (drop fault.offset text) (verdict_now s) reason h)
 
-abbrev ReportsAt : Bool → ℕ → List ℕ → ℕ → List Report → Type 0
+abbrev ReportsAt : Bool → ℕ → List ℕ → ℕ → List Placed → Type 0
 ReportsAt strict start text at reports =
-    ReportsBy strict start text (read_at text at).state (judged_at strict text at) reports
+    ReportsBy strict start text at (read_at text at).state (judged_at strict text at) reports
 
-reports_at : {strict : Bool} {start : ℕ} {text : List ℕ} {at : ℕ} {reports : List Report}
+reports_at : {strict : Bool} {start : ℕ} {text : List ℕ} {at : ℕ} {reports : List Placed}
     → AreReports strict start text at reports → ReportsAt strict start text at reports
 reports_at {strict} {start} {text} (none_left {at} {s} j) =
     let is = only_judged strict text at s (Ok None) j in
-    subst (λ r. ReportsBy strict start text (read_at text at).state r []) is.1 refl
+    subst (λ r. ReportsBy strict start text at (read_at text at).state r []) is.1 refl
 reports_at {strict} {start} {text} (next_game {at} {s} {end} {reports} j h) =
     let is = only_judged strict text at s (Ok (Some end)) j in
-    subst (λ r. ReportsBy strict start text (read_at text at).state r
-    (Game (length s.moves) end.outcome end.termination ∷ reports)) is.1
-    (reports, h, ap (λ (g : State). Game (length g.moves) end.outcome end.termination ∷ reports) is.0)
+    subst (λ r. ReportsBy strict start text at (read_at text at).state r (game_report start text at end s ∷ reports))
+    is.1 (reports, h, ap (λ (g : State). game_report start text at end g ∷ reports) is.0)
 reports_at {strict} {start} {text} (last_fault {at} {s} {fault} reason j h) =
     let is = only_judged strict text at s (Err fault) j in
-    subst (λ r. ReportsBy strict start text (read_at text at).state r
-    (Faulty (record fault { offset = start + fault.offset })
-    (start + fault.offset + (wrong_part fault.kind (drop fault.offset text)).0)
-    (explanation s (drop fault.offset text) fault.kind reason) ∷ [])) is.1
-    (fault_report start text fault s reason h
-    ∙ ap (λ (g : State). Faulty (record fault { offset = start + fault.offset })
-    (start + fault.offset + (wrong_part fault.kind (drop fault.offset text)).0)
-    (explanation_of g (drop fault.offset text) fault.kind) ∷ []) is.0)
+    subst (λ r. ReportsBy strict start text at (read_at text at).state r
+    (fault_report start text at fault (explanation s (drop fault.offset text) fault.kind reason) ∷ [])) is.1
+    (fault_explained start text at fault s reason h
+    ∙ ap (λ (g : State). fault_report start text at fault (explanation_of g (drop fault.offset text) fault.kind) ∷ [])
+    is.0)
 
-one_list : {strict : Bool} {start : ℕ} {text : List ℕ} {at : ℕ} {reports : List Report}
-    → AreReports strict start text at reports → (others : List Report) → AreReports strict start text at others
+one_list : {strict : Bool} {start : ℕ} {text : List ℕ} {at : ℕ} {reports : List Placed}
+    → AreReports strict start text at reports → (others : List Placed) → AreReports strict start text at others
     → others ≡ reports
 one_list {strict} {start} {text} (none_left {at} {s} j) others k =
     let is = only_judged strict text at s (Ok None) j in
-    subst (λ r. ReportsBy strict start text (read_at text at).state r others) (sym is.1) (reports_at k)
+    subst (λ r. ReportsBy strict start text at (read_at text at).state r others) (sym is.1) (reports_at k)
 one_list {strict} {start} {text} (next_game {at} {s} {end} {reports} j h) others k =
     let is = only_judged strict text at s (Ok (Some end)) j in
-    let more = subst (λ r. ReportsBy strict start text (read_at text at).state r others) (sym is.1) (reports_at k) in
-    more.2 ∙ ap (λ rs. Game (length (read_at text at).state.moves) end.outcome end.termination ∷ rs)
-    (one_list h more.0 more.1)
-    ∙ ap (λ (g : State). Game (length g.moves) end.outcome end.termination ∷ reports) (sym is.0)
+    let more = subst (λ r. ReportsBy strict start text at (read_at text at).state r others) (sym is.1)
+    (reports_at k) in
+    more.2 ∙ ap (λ rs. game_report start text at end (read_at text at).state ∷ rs) (one_list h more.0 more.1)
+    ∙ ap (λ (g : State). game_report start text at end g ∷ reports) (sym is.0)
 one_list {strict} {start} {text} (last_fault {at} {s} {fault} reason j h) others k =
     let is = only_judged strict text at s (Err fault) j in
-    subst (λ r. ReportsBy strict start text (read_at text at).state r others) (sym is.1) (reports_at k)
-    ∙ ap (λ (g : State). Faulty (record fault { offset = start + fault.offset })
-    (start + fault.offset + (wrong_part fault.kind (drop fault.offset text)).0)
-    (explanation_of g (drop fault.offset text) fault.kind) ∷ []) (sym is.0)
-    ∙ sym (fault_report start text fault s reason h)
+    subst (λ r. ReportsBy strict start text at (read_at text at).state r others) (sym is.1) (reports_at k)
+    ∙ ap (λ (g : State). fault_report start text at fault (explanation_of g (drop fault.offset text) fault.kind) ∷ [])
+    (sym is.0)
+    ∙ sym (fault_explained start text at fault s reason h)
 
-pub only_reports : (strict : Bool) (start : ℕ) (text : List ℕ) (reports : List Report)
-    → AreReports strict start text 0 reports → reports ≡ reports_on strict start text
+pub only_reports : (strict : Bool) (start : ℕ) (text : List ℕ) (reports : List Placed)
+    → AreReports strict start text 0 reports → reports ≡ placed_on strict start text
 only_reports strict start text reports h = one_list (are_reports strict start text) reports h
 
 -- ---- pieces
 
-only_reports_in : (strict : Bool) (piece : Piece) (reports : List Report)
+only_reports_in : (strict : Bool) (piece : Piece) (reports : List Placed)
     → AreReportsIn strict piece.offset piece.bytes reports
-    → reports ≡ reports_in strict piece
+    → reports ≡ placed_in strict piece
 only_reports_in strict piece reports h = by_test (nat_le (length piece.bytes) PIECE_LEN) h
   where
     by_test : (b : Bool) → MatchBool b (AreReports strict piece.offset piece.bytes 0 reports)
-        (reports ≡ too_long_report piece ∷ [])
-        → reports ≡ (if b then reports_on strict piece.offset piece.bytes else too_long_report piece ∷ [])
+        (reports ≡ too_long_placed piece ∷ [])
+        → reports ≡ (if b then placed_on strict piece.offset piece.bytes else too_long_placed piece ∷ [])
     by_test true h = only_reports strict piece.offset piece.bytes reports h
     by_test false h = h
 
-only_all : {strict : Bool} {offset : ℕ} {all : List (List ℕ)} {reports : List Report}
+only_all : {strict : Bool} {offset : ℕ} {all : List (List ℕ)} {reports : List Placed}
     → AreCollectionReports strict offset all reports
-    → reports ≡ flat_map (reports_in strict) (with_offsets offset all)
+    → reports ≡ flat_map (placed_in strict) (with_offsets offset all)
 only_all {strict} no_piece = refl
 only_all {strict} (next_piece {offset} {piece} {pieces} reports {more} h rest) =
     ap₂ (λ xs ys. xs ++ ys) (only_reports_in strict (record { offset = offset; bytes = piece }) reports h) (only_all rest)
 
-pub only_collection_reports : (strict ended : Bool) (text : List ℕ) (reports : List Report)
-    → AreCollectionReports strict 0 (known_pieces ended text) reports → reports ≡ collection_reports strict ended text
+pub only_collection_reports : (strict ended : Bool) (text : List ℕ) (reports : List Placed)
+    → AreCollectionReports strict 0 (known_pieces ended text) reports → reports ≡ collection_placed strict ended text
 unfolding pieces
 only_collection_reports strict ended text reports h = only_all h
+
+-- ---- without their spans
+
+same_from : (strict : Bool) (start n : ℕ) (text : List ℕ) (at : ℕ)
+    → without_spans (placed_from strict start n text at) ≡ reports_from strict start n text at
+unfolding placed_from reports_from
+same_from strict start zero text at = refl
+same_from strict start (suc n) text at =
+    by_answer (judged_at strict text at) (λ next. same_from strict start n text next)
+  where
+    by_answer : (r : Result (Option PgnEnd) GameFault)
+        → ((next : ℕ) → without_spans (placed_from strict start n text next) ≡ reports_from strict start n text next)
+        → without_spans (placed_then start text at r (read_at text at).state
+        (λ next. placed_from strict start n text next))
+        ≡ report_then start text r (read_at text at).state (λ next. reports_from strict start n text next)
+    by_answer (Ok None) later = refl
+    by_answer (Ok (Some end)) later =
+        ap (λ rs. Game (length (read_at text at).state.moves) end.outcome end.termination ∷ rs) (later end.offset)
+    by_answer (Err fault) later = refl
+
+pub same_on : (strict : Bool) (start : ℕ) (text : List ℕ)
+    → without_spans (placed_on strict start text) ≡ reports_on strict start text
+same_on strict start text = same_from strict start (length text + 1) text 0
+
+same_in : (strict : Bool) (piece : Piece) → without_spans (placed_in strict piece) ≡ reports_in strict piece
+same_in strict piece = by_test (nat_le (length piece.bytes) PIECE_LEN)
+  where
+    by_test : (b : Bool)
+        → without_spans (if b then placed_on strict piece.offset piece.bytes else too_long_placed piece ∷ [])
+        ≡ (if b then reports_on strict piece.offset piece.bytes else too_long_report piece ∷ [])
+    by_test true = same_on strict piece.offset piece.bytes
+    by_test false = refl
+
+same_all : (strict : Bool) (all : List Piece)
+    → without_spans (flat_map (placed_in strict) all) ≡ flat_map (reports_in strict) all
+same_all strict [] = refl
+same_all strict (piece ∷ more) =
+    map-append (λ (p : Placed). p.report) (placed_in strict piece) (flat_map (placed_in strict) more)
+    ∙ ap₂ (λ xs ys. xs ++ ys) (same_in strict piece) (same_all strict more)
+
+pub same_of_collection : (strict ended : Bool) (text : List ℕ)
+    → without_spans (collection_placed strict ended text) ≡ collection_reports strict ended text
+same_of_collection strict ended text = same_all strict (pieces ended 0 text)

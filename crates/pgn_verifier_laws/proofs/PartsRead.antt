@@ -340,7 +340,7 @@ judged_none strict tag v (Ok (Some end)) h = by_fault (contradiction strict tag 
     by_fault (Some f) k = absurd (cc)
 
 -- reading begins within the part
-mark_within : (part : List ℕ) (at : ℕ) → at ≤ length part → after_byte_order_mark part at ≤ length part
+pub mark_within : (part : List ℕ) (at : ℕ) → at ≤ length part → after_byte_order_mark part at ≤ length part
 mark_within part at within = by_mark ((at == 0) && bytes_eq (take 3 part) (239 ∷ 187 ∷ 191 ∷ [])) refl
   where
     by_mark : (b : Bool) → ((at == 0) && bytes_eq (take 3 part) (239 ∷ 187 ∷ 191 ∷ [])) ≡ b

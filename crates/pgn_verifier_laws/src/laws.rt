@@ -7,16 +7,18 @@ ghost use Rattle.pgn_verifier.specs.declared.game_fault.GameFault.{GameFault};
 ghost use Rattle.pgn_pieces.specs.Pieces.{known_pieces};
 ghost use Rattle.pgn_verifier.specs.Collection.{AreCollectionReports};
 ghost use Rattle.pgn_verifier.specs.GameFaults.{IsJudged};
-ghost use Rattle.pgn_verifier.specs.Reports.{AreReports, Report};
-ghost use Rattle.pgn_verifier.specs.laws.Reported.{collection_reports, judged_at, read_at, reports_on};
+ghost use Rattle.pgn_verifier.specs.Reports.{AreReports, Placed, without_spans};
+ghost use Rattle.pgn_verifier.specs.laws.Reported.{collection_placed, collection_reports, judged_at, placed_on, read_at, reports_on};
 ghost use Rattle.pgn_verifier_laws.specs.NoFaults.{FaultlessTextsAreReportedAlike};
 ghost use Rattle.pgn_verifier_laws.specs.Parts.{GamesAreInParts, WholeGamesAreReportedAlike, PiecesAreReportedAlike, TextsAreReportedInParts};
+ghost use Rattle.pgn_verifier_laws.specs.Spans.{SpansMakeUpTheText, SpansMakeUpTheCollection};
 ghost use Rattle.pgn_verifier_laws.specs.WrittenGames.{WrittenGamesHaveNoFault, WrittenTextsHaveNoFault};
 
 use chess_pgn_laws::{a_game_is_tags_and_moves, pgn_is_read_back};
 
 /// States a law and does nothing: a game is judged in one way, and a text and a collection have one list of reports. It
-/// is the one that is made by reading games one after another.
+/// is the one that is made by reading games one after another. Without their spans the reports are those of which the
+/// other laws speak.
 pub fn reports_are_the_only_ones()
     ensures game { (strict : Bool) (text : List ℕ) (at : ℕ)
         → IsJudged strict text at (read_at text at).state (judged_at strict text at) }
@@ -24,14 +26,18 @@ pub fn reports_are_the_only_ones()
         (answer : Result (Option PgnEnd) GameFault) → IsJudged strict text at s answer
         → (s ≡ (read_at text at).state) × (answer ≡ judged_at strict text at) }
     ensures text { (strict : Bool) (start : ℕ) (text : List ℕ)
-        → AreReports strict start text 0 (reports_on strict start text) }
-    ensures no_other_of_text { (strict : Bool) (start : ℕ) (text : List ℕ) (reports : List Report)
-        → AreReports strict start text 0 reports → reports ≡ reports_on strict start text }
+        → AreReports strict start text 0 (placed_on strict start text) }
+    ensures no_other_of_text { (strict : Bool) (start : ℕ) (text : List ℕ) (reports : List Placed)
+        → AreReports strict start text 0 reports → reports ≡ placed_on strict start text }
     ensures collection { (strict ended : Bool) (text : List ℕ)
-        → AreCollectionReports strict 0 (known_pieces ended text) (collection_reports strict ended text) }
-    ensures no_other_of_collection { (strict ended : Bool) (text : List ℕ) (reports : List Report)
+        → AreCollectionReports strict 0 (known_pieces ended text) (collection_placed strict ended text) }
+    ensures no_other_of_collection { (strict ended : Bool) (text : List ℕ) (reports : List Placed)
         → AreCollectionReports strict 0 (known_pieces ended text) reports
-        → reports ≡ collection_reports strict ended text }
+        → reports ≡ collection_placed strict ended text }
+    ensures plain { (strict : Bool) (start : ℕ) (text : List ℕ)
+        → without_spans (placed_on strict start text) ≡ reports_on strict start text }
+    ensures plain_of_collection { (strict ended : Bool) (text : List ℕ)
+        → without_spans (collection_placed strict ended text) ≡ collection_reports strict ended text }
 {}
 
 /// States a law and does nothing: the text that `write_pgn` of chess_pgn writes of a game has no fault when it is
@@ -72,6 +78,16 @@ pub fn games_are_in_parts()
 /// writes these reports if the text has at most 16,777,216 bytes; it takes no longer one.
 pub fn a_text_without_faults_is_reported_alike()
     ensures { FaultlessTextsAreReportedAlike }
+{
+    // The prover wants this law: a game is read token by token.
+    a_game_is_tags_and_moves();
+}
+
+/// States a law and does nothing: the spans that `verify --spans` writes of a text or of a collection are in order,
+/// don't overlap, and have a byte or more; with what lies between them they are the text.
+pub fn spans_make_up_the_text()
+    ensures text { SpansMakeUpTheText }
+    ensures collection { SpansMakeUpTheCollection }
 {
     // The prover wants this law: a game is read token by token.
     a_game_is_tags_and_moves();

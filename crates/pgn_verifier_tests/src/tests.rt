@@ -7,18 +7,28 @@ use std::process::Abort;
 const ALL: VerifyOptions = VerifyOptions {
     quiet: false,
     strict: false,
+    spans: false,
     explain: false,
 };
 
 const STRICT: VerifyOptions = VerifyOptions {
     quiet: true,
     strict: true,
+    spans: false,
+    explain: false,
+};
+
+const SPANS: VerifyOptions = VerifyOptions {
+    quiet: false,
+    strict: false,
+    spans: true,
     explain: false,
 };
 
 const EXPLAINED: VerifyOptions = VerifyOptions {
     quiet: true,
     strict: true,
+    spans: false,
     explain: true,
 };
 
@@ -105,6 +115,42 @@ fn collections_go_on_after_a_fault(rt: HostRuntime) {
         b"[Event \"a\"]\n1. e4\n[Event \"b\"]\n1. d4 *",
         Verified::FaultReported,
         b"game 1: no result at byte 18\ngame 2: 1 half-moves, *\ngames 1 half-moves 1 faults 1\n",
+    );
+}
+
+// A game begins at its first byte that is no white space, and ends with its outcome; with a fault it ends with its text.
+#[test]
+fn lines_end_with_spans(rt: HostRuntime) {
+    check_cuts(
+        &rt,
+        &rt,
+        false,
+        SPANS,
+        b"\xEF\xBB\xBF [Event \"a\"]\n1. e4 1-0 {x}\n\n1. d4 *\n1. Ke5 *\n",
+        Verified::FaultReported,
+        b"game 1: 1 half-moves, 1-0, bytes 4 to 25\ngame 2: 1 half-moves, *, bytes 26 to 38\ngame 3: illegal move at byte 42, bytes 39 to 48\n",
+    );
+    check_cuts(
+        &rt,
+        &rt,
+        true,
+        SPANS,
+        b"\n[Event \"a\"]\n1. e4\n\n[Event \"b\"]\n[Termination \"normal\"]\n1. d4 *\n{x}\n",
+        Verified::FaultReported,
+        b"game 1: no result at byte 20, bytes 1 to 20\ngame 2: 1 half-moves, *, normal, bytes 20 to 62\ngames 1 half-moves 1 faults 1\n",
+    );
+    let options = VerifyOptions {
+        spans: true,
+        ..EXPLAINED
+    };
+    check_cuts(
+        &rt,
+        &rt,
+        false,
+        options,
+        b"* 1. xx *",
+        Verified::FaultReported,
+        b"game 2: bad token at byte 5, bytes 2 to 9\n# line 1 column 6 xx | rnbqkbnr/pppppppp/8/8/8/8/PPPPPPPP/RNBQKBNR w KQkq - 0 1 | not a move\n",
     );
 }
 

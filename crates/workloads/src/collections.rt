@@ -67,12 +67,14 @@ pub fn verify_text(
 pub const QUIET: VerifyOptions = VerifyOptions {
     quiet: true,
     strict: false,
+    spans: false,
     explain: false,
 };
 /// Options of verifying in a quality check.
 pub const CAREFUL: VerifyOptions = VerifyOptions {
     quiet: false,
     strict: true,
+    spans: false,
     explain: true,
 };
 

@@ -25,7 +25,7 @@ use Rattle.pgn_verifier.specs.Reports.{AreReports, none_left, next_game, last_fa
 use Rattle.pgn_verifier.specs.declared.game_fault.GameFault.{GameFault}
 use Rattle.pgn_verifier.specs.laws.Reasons.{reason}
 use Rattle.pgn_verifier.proofs.shared.TagReasons.{reason_is}
-use Rattle.pgn_verifier.specs.laws.Reported.{read_at, judged_at, report_then, reports_from, reports_on, reports_in, collection_reports, too_long_report}
+use Rattle.pgn_verifier.specs.laws.Reported.{read_at, judged_at, placed_then, placed_from, placed_on, placed_in, collection_placed, too_long_placed}
 
 -- ---- one game
 
@@ -63,8 +63,8 @@ ends strict text at h =
     (verdict_now (read_at text at).state) (length text) at (read_at text at).answer (ends_in_text MOST_MOVES text at h)
 
 from_here : (strict : Bool) (start n : ℕ) (text : List ℕ) (at : ℕ) → at ≤ length text → length text < n + at
-    → AreReports strict start text at (reports_from strict start n text at)
-unfolding reports_from
+    → AreReports strict start text at (placed_from strict start n text at)
+unfolding placed_from
 from_here strict start zero text at h k = absurd (omega (arith, h, k))
 from_here strict start (suc n) text at h k =
     by_answer (judged_at strict text at) (judged_is strict text at) (ends strict text at h)
@@ -73,9 +73,9 @@ from_here strict start (suc n) text at h k =
     by_answer : (r : Result (Option PgnEnd) GameFault) → IsJudged strict text at (read_at text at).state r
         → EndsIn (length text) at r
         → ((m : ℕ) → m ≤ length text → length text < n + m
-        → AreReports strict start text m (reports_from strict start n text m))
+        → AreReports strict start text m (placed_from strict start n text m))
         → AreReports strict start text at
-        (report_then start text r (read_at text at).state (λ next. reports_from strict start n text next))
+        (placed_then start text at r (read_at text at).state (λ next. placed_from strict start n text next))
     by_answer (Ok None) j i later = none_left j
     by_answer (Ok (Some end)) j i later =
         let low = i.0 in next_game j (later end.offset i.1 (omega (arith, k, low)))
@@ -85,30 +85,30 @@ from_here strict start (suc n) text at h k =
         last_fault (reason fault.kind rest verdict) j (reason_is fault.kind rest verdict)
 
 pub are_reports : (strict : Bool) (start : ℕ) (text : List ℕ)
-    → AreReports strict start text 0 (reports_on strict start text)
+    → AreReports strict start text 0 (placed_on strict start text)
 are_reports strict start text = from_here strict start (length text + 1) text 0 (omega arith) (omega arith)
 
 -- ---- pieces
 
 reports_are_in : (strict : Bool) (piece : Piece)
-    → AreReportsIn strict piece.offset piece.bytes (reports_in strict piece)
+    → AreReportsIn strict piece.offset piece.bytes (placed_in strict piece)
 reports_are_in strict piece = by_test (nat_le (length piece.bytes) PIECE_LEN)
   where
     by_test : (b : Bool) → MatchBool b (AreReports strict piece.offset piece.bytes 0
-        (if b then reports_on strict piece.offset piece.bytes else too_long_report piece ∷ []))
-        ((if b then reports_on strict piece.offset piece.bytes else too_long_report piece ∷ [])
-        ≡ too_long_report piece ∷ [])
+        (if b then placed_on strict piece.offset piece.bytes else too_long_placed piece ∷ []))
+        ((if b then placed_on strict piece.offset piece.bytes else too_long_placed piece ∷ [])
+        ≡ too_long_placed piece ∷ [])
     by_test true = are_reports strict piece.offset piece.bytes
     by_test false = refl
 
 are_all : (strict : Bool) (offset : ℕ) (all : List (List ℕ))
-    → AreCollectionReports strict offset all (flat_map (reports_in strict) (with_offsets offset all))
+    → AreCollectionReports strict offset all (flat_map (placed_in strict) (with_offsets offset all))
 are_all strict offset [] = no_piece
 are_all strict offset (piece ∷ more) =
-    next_piece (reports_in strict (record { offset = offset; bytes = piece }))
+    next_piece (placed_in strict (record { offset = offset; bytes = piece }))
     (reports_are_in strict (record { offset = offset; bytes = piece })) (are_all strict (offset + length piece) more)
 
 pub are_collection_reports : (strict ended : Bool) (text : List ℕ)
-    → AreCollectionReports strict 0 (known_pieces ended text) (collection_reports strict ended text)
+    → AreCollectionReports strict 0 (known_pieces ended text) (collection_placed strict ended text)
 unfolding pieces
 are_collection_reports strict ended text = are_all strict 0 (known_pieces ended text)

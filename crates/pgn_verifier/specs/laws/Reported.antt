@@ -1,5 +1,6 @@
 -- What is reported of the games of texts, as functions: a text is cut into tokens one after another, and its games are
--- read one after another. The law `reports_are_the_only_ones` says that just these are the reports.
+-- read one after another. The law `reports_are_the_only_ones` says that just these are the reports. They come first
+-- without their spans, and then with them.
 use Rattle.std.specs.Prelude.{ℕ, zero, suc, ◌+◌, Bool, nat_le, if◌then◌else◌, List, [], ◌∷◌, length, drop, Option, Some, None, Result, Ok, Err}
 use Rattle.std.specs.List.{flat_map}
 use Rattle.chess_game.specs.Game.{State, verdict_now}
@@ -14,7 +15,7 @@ use Rattle.pgn_pieces.specs.Stream.{Piece, pieces}
 use Rattle.pgn_pieces.specs.declared.pieces.TheConstants.{PIECE_LEN}
 use Rattle.pgn_verifier.specs.Explanations.{wrong_part, shown}
 use Rattle.pgn_verifier.specs.GameFaults.{judged}
-use Rattle.pgn_verifier.specs.Reports.{Report, Game, Faulty}
+use Rattle.pgn_verifier.specs.Reports.{Report, Game, Faulty, Placed, game_begin}
 use Rattle.pgn_verifier.specs.declared.game_fault.GameFault.{GameFault}
 use Rattle.pgn_verifier.specs.laws.Reasons.{explanation_of}
 
@@ -69,3 +70,46 @@ reports_in strict piece = if nat_le (length piece.bytes) PIECE_LEN then reports_
 -- (`ended`), otherwise on all but the last. `strict`: results are compared
 abbrev pub collection_reports : Bool → Bool → List ℕ → List Report
 collection_reports strict ended text = flat_map (reports_in strict) (pieces ended 0 text)
+
+-- ---- with their spans
+
+-- the report on the game of a text from its offset `at` on, with its span, as `report_then` gives it without
+abbrev pub placed_then : ℕ → List ℕ → ℕ → Result (Option PgnEnd) GameFault → State → (ℕ → List Placed) → List Placed
+placed_then start text at (Ok None) s later = []
+placed_then start text at (Ok (Some end)) s later = record {
+  begin = start + game_begin text at;
+  end = start + end.offset;
+  report = Game (length s.moves) end.outcome end.termination;
+} ∷ later end.offset
+placed_then start text at (Err fault) s later = record {
+  begin = start + game_begin text at;
+  end = start + length text;
+  report = Faulty (record fault { offset = start + fault.offset })
+      (start + fault.offset + (wrong_part fault.kind (drop fault.offset text)).0)
+      (explanation_of s (drop fault.offset text) fault.kind);
+} ∷ []
+
+-- the reports of `reports_from`, with their spans
+unfoldable pub placed_from : Bool → ℕ → ℕ → List ℕ → ℕ → List Placed
+placed_from strict start zero text at = []
+placed_from strict start (suc n) text at =
+    placed_then start text at (judged_at strict text at) (read_at text at).state
+    (λ next. placed_from strict start n text next)
+
+-- the reports of `reports_on`, with their spans
+abbrev pub placed_on : Bool → ℕ → List ℕ → List Placed
+placed_on strict start text = placed_from strict start (length text + 1) text 0
+
+-- the report on a piece that is too long, with its span, which is the piece
+abbrev pub too_long_placed : Piece → Placed
+too_long_placed piece =
+    record { begin = piece.offset; end = piece.offset + length piece.bytes; report = too_long_report piece }
+
+-- the reports of `reports_in`, with their spans
+abbrev pub placed_in : Bool → Piece → List Placed
+placed_in strict piece = if nat_le (length piece.bytes) PIECE_LEN then placed_on strict piece.offset piece.bytes
+    else too_long_placed piece ∷ []
+
+-- the reports of `collection_reports`, with their spans
+abbrev pub collection_placed : Bool → Bool → List ℕ → List Placed
+collection_placed strict ended text = flat_map (placed_in strict) (pieces ended 0 text)

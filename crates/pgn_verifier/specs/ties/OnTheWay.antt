@@ -1,6 +1,6 @@
 -- What becomes of verifying on the way: of a text that is read as a whole, and of pieces before their counts are
 -- written.
-use Rattle.std.specs.Prelude.{◌≡◌, ◌<◌, ℕ, true, false, List, [], ◌∷◌, length, take, drop, codes, decimal, Option, Some, Result, Ok, Err, ◌≤◌, ◌+◌, ◌++◌, if◌then◌else◌, Bool}
+use Rattle.std.specs.Prelude.{◌≡◌, ◌<◌, ℕ, true, false, List, [], ◌∷◌, length, take, drop, codes, decimal, Option, Some, None, Result, Ok, Err, ◌≤◌, ◌+◌, ◌++◌, if◌then◌else◌, Bool}
 use Rattle.std.specs.List.{flat_map, fold}
 use Rattle.std.specs.Option.{option_map_or}
 use Rattle.chess_pgn.specs.declared.read.PgnFaultKind.TheVariants.{TooLong}
@@ -23,9 +23,10 @@ use Rattle.pgn_verifier.specs.declared.game_fault.GameFault.{GameFault}
 use Rattle.pgn_verifier.specs.declared.options.VerifyOptions.{VerifyOptions}
 use Rattle.pgn_verifier.specs.declared.tally.Tally.{Tally}
 use Rattle.pgn_verifier.specs.declared.tally.Verified.{Verified}
-use Rattle.pgn_verifier.specs.Reports.{Report, Game, Faulty, counts_of, verified, report_line, report_lines, counts_line}
+use Rattle.pgn_verifier.specs.Reports.{Report, Game, Faulty, Placed, counts_of, verified, report_line, report_lines, without_spans, counts_line}
 use Rattle.pgn_verifier.specs.Collection.{VerifiesCollection}
-use Rattle.pgn_verifier.specs.laws.Reported.{reports_on, collection_reports}
+use Rattle.pgn_verifier.specs.laws.Reported.{placed_on, collection_placed}
+use Rattle.pgn_verifier.specs.declared.label.Span.{Span}
 use Rattle.pgn_verifier.specs.declared.start.TextStart.{TextStart}
 
 -- between the input's states `r` and `r'` all that was left of the input was read: this text, which has at most
@@ -43,24 +44,24 @@ IsNotAll r r' InputTooLong = (text : List ℕ) × HasRead false r r' text × (PI
 
 -- all that is written of a text: the lines of its games up to the first fault, numbered from 1
 abbrev pub text_lines : VerifyOptions → List ℕ → List ℕ
-text_lines options text = report_lines options text 1 (reports_on options.strict 0 text)
+text_lines options text = report_lines options text 1 (placed_on options.strict 0 text)
 
 -- between the output's states `w` and `w'` the lines of a text were written and flushed; or a write failed, and a
 -- beginning of them was written
 abbrev pub WritesText : {E : Type 0} → VerifyOptions → List ℕ → OutputState → OutputState → Result Verified E → Type 0
 WritesText options text w w' (Ok verdict) =
-    (verdict ≡ verified (counts_of (reports_on options.strict 0 text))) × Sent w w' (text_lines options text)
+    (verdict ≡ verified (counts_of (without_spans (placed_on options.strict 0 text)))) × Sent w w' (text_lines options text)
 WritesText options text w w' (Err e) = CutShort w w' (text_lines options text)
 
 -- the lines that report the games of a collection of which this text was read, numbered from 1. `ended`: the text is
 -- all of it; if not, its last piece isn't reported
 abbrev pub collection_lines : VerifyOptions → Bool → List ℕ → List ℕ
-collection_lines options ended text = report_lines options text 1 (collection_reports options.strict ended text)
+collection_lines options ended text = report_lines options text 1 (collection_placed options.strict ended text)
 
 -- all that is written of it: these lines, and if the text is all of it the line of counts
 abbrev pub collection_written : VerifyOptions → Bool → List ℕ → List ℕ
 collection_written options ended text = collection_lines options ended text
-    ++ (if ended then counts_line (counts_of (collection_reports options.strict ended text)) else [])
+    ++ (if ended then counts_line (counts_of (without_spans (collection_placed options.strict ended text))) else [])
 
 -- from the input's state `r` to `r'` and the output's `w` to `w'`, the lines of all pieces were written, and their
 -- reports counted; the line of counts is still to be written
@@ -68,7 +69,7 @@ abbrev pub WritesCollection : VerifyOptions → InputState → InputState → Ou
     → Result Tally VerifyFault → Type 0
 WritesCollection options r r' w w' (Ok tally) =
     (text : List ℕ) × HasRead true r r' text × Took w w' (collection_lines options true text)
-    × (tally ≡ counts_of (collection_reports options.strict true text))
+    × (tally ≡ counts_of (without_spans (collection_placed options.strict true text)))
 WritesCollection options r r' w w' (Err fault) = Ran (VerifiesCollection options (Err fault))
     (record { input = r; output = w }) (record { input = r'; output = w' })
 
@@ -77,25 +78,35 @@ abbrev pub moved : ℕ → GameFault → GameFault
 moved start fault = record fault { offset = start + fault.offset }
 
 -- the report on a piece that is too long, from what is seen of it
-abbrev pub too_long_seen : PieceSeen → Report
-too_long_seen piece =
-    Faulty (record { kind = Pgn TooLong; offset = piece.offset }) piece.offset (shown piece.beginning)
+abbrev pub too_long_seen : PieceSeen → Placed
+too_long_seen piece = record {
+  begin = piece.offset;
+  end = piece.end;
+  report = Faulty (record { kind = Pgn TooLong; offset = piece.offset }) piece.offset (shown piece.beginning);
+}
 
--- the reports on the games of a piece (`reports_in`), from what is seen of it; `strict`: results are compared
-abbrev pub reports_seen : Bool → PieceSeen → List Report
-reports_seen strict piece = option_map_or (reports_on strict piece.offset) piece.bytes (too_long_seen piece ∷ [])
+-- the reports on the games of a piece (`placed_in`), from what is seen of it; `strict`: results are compared
+abbrev pub reports_seen : Bool → PieceSeen → List Placed
+reports_seen strict piece = option_map_or (placed_on strict piece.offset) piece.bytes (too_long_seen piece ∷ [])
 
--- the line of a game without a fault; `number` is the game's number, `plies` how many half-moves it has
-abbrev pub game_line : ℕ → ℕ → Outcome → Option Termination → List ℕ
-game_line number plies outcome termination = report_line number (decimal plies ++ (codes " half-moves, "
-    ++ (outcome_text outcome ++ option_map_or (λ t. codes ", " ++ termination_text t) termination [])))
+-- the end of a line, from the span that it is to show, if any
+abbrev pub span_written : Option Span → List ℕ
+span_written None = []
+span_written (Some span) = codes ", bytes " ++ (decimal span.begin ++ (codes " to " ++ decimal span.end))
 
--- the line of a fault; `number` is the game's number
-abbrev pub fault_line : ℕ → GameFault → List ℕ
-fault_line number fault = report_line number (fault_name fault.kind ++ (codes " at byte " ++ decimal fault.offset))
+-- the line of a game without a fault; `number` is the game's number, `plies` how many half-moves it has, and `span` the
+-- end of the line
+abbrev pub game_line : ℕ → ℕ → Outcome → Option Termination → List ℕ → List ℕ
+game_line number plies outcome termination span = report_line number (decimal plies ++ (codes " half-moves, "
+    ++ (outcome_text outcome ++ (option_map_or (λ t. codes ", " ++ termination_text t) termination [] ++ span))))
+
+-- the line of a fault; `number` is the game's number, and `span` the end of the line
+abbrev pub fault_line : ℕ → GameFault → List ℕ → List ℕ
+fault_line number fault span =
+    report_line number (fault_name fault.kind ++ (codes " at byte " ++ (decimal fault.offset ++ span)))
 
 -- the reports on the games of these pieces, in order; `strict`: results are compared
-abbrev pub reports_of : Bool → List PieceSeen → List Report
+abbrev pub reports_of : Bool → List PieceSeen → List Placed
 reports_of strict pieces = flat_map (reports_seen strict) pieces
 
 -- the counts `t` with one more report: it adds a game and its half-moves, or a fault
@@ -105,8 +116,8 @@ with_report t (Game plies outcome termination) =
 with_report t (Faulty fault wrong_at explanation) = record t { faults = t.faults + 1 }
 
 -- the counts `t` with these reports added: games, their half-moves, and faults
-abbrev pub counted : Tally → List Report → Tally
-counted t reports = fold with_report t reports
+abbrev pub counted : Tally → List Placed → Tally
+counted t reports = fold with_report t (without_spans reports)
 
 -- the number of the next game, where `before` counts the reports so far, with and without faults
 abbrev pub next_number : Tally → ℕ
@@ -115,7 +126,7 @@ next_number before = before.games + before.faults + 1
 -- between the output's states `w` and `w'` the lines of these reports on games of the input were written, and `after`
 -- counts them on top of `before`, the counts so far; or a write failed, and a beginning of the lines was written
 abbrev pub Writes : {E : Type 0} → VerifyOptions → List ℕ → Tally → OutputState → OutputState → Result Tally E
-    → List Report → Type 0
+    → List Placed → Type 0
 Writes options input before w w' (Ok after) reports =
     Took w w' (report_lines options input (next_number before) reports) × (after ≡ counted before reports)
 Writes options input before w w' (Err e) reports =

@@ -15,7 +15,9 @@ returns-clause-app c =
     let explain : rule_of c.flag-4.result ≡ flag_rule (codes "explain") = search rules in
     let e2 = c.in_ok-arg-2.ensures.shape c.flag-2.ensures.local ∙ ap₂ with_rule e1 quiet in
     let e3 = c.in_ok-arg-3.ensures.shape c.flag-3.ensures.local ∙ ap₂ with_rule e2 strict in
-    IfOk-weaker c.arg-4.result _ _ (λ r h. h.shape c.flag-4.ensures.local ∙ ap₂ with_rule e3 explain) c.arg-4.ensures
+    let e4 = c.in_ok-arg-4.ensures.shape c.flag-4.ensures.local ∙ ap₂ with_rule e3 explain in
+    let spans : rule_of c.flag-5.result ≡ flag_rule (codes "spans") = search rules in
+    IfOk-weaker c.arg-5.result _ _ (λ r h. h.shape c.flag-5.ensures.local ∙ ap₂ with_rule e4 spans) c.arg-5.ensures
 
 pub returns-clause-local : goal.returns-clause-local
 returns-clause-local c =
@@ -23,4 +25,5 @@ returns-clause-local c =
     let e1 = c.in_ok-arg.ensures.globals ∙ ap₂ or c.bare_verify_command.ensures.local c.flag.ensures.local in
     let e2 = c.in_ok-arg-2.ensures.globals ∙ ap₂ or e1 c.flag-2.ensures.local in
     let e3 = c.in_ok-arg-3.ensures.globals ∙ ap₂ or e2 c.flag-3.ensures.local in
-    IfOk-weaker c.arg-4.result _ _ (λ r h. h.globals ∙ ap₂ or e3 c.flag-4.ensures.local) c.arg-4.ensures
+    let e4 = c.in_ok-arg-4.ensures.globals ∙ ap₂ or e3 c.flag-4.ensures.local in
+    IfOk-weaker c.arg-5.result _ _ (λ r h. h.globals ∙ ap₂ or e4 c.flag-5.ensures.local) c.arg-5.ensures

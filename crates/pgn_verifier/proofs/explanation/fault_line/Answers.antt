@@ -8,6 +8,7 @@ unfolding report_line
 returns-clause-text c =
     rw (
       c.push.ensures.items,
+      c.append_span.ensures.text,
       c.append_number-2.ensures.text,
       c.append-4.ensures.text,
       c.append-3.ensures.text,

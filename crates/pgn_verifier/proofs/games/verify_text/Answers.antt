@@ -6,11 +6,10 @@ use Rattle.byte_devices.specs.Devices.{Took, CutShort}
 use Rattle.byte_devices.specs.declared.traits.WriteFault.{WriteFault}
 use Rattle.pgn_verifier.specs.declared.tally.Tally.{Tally}
 use Rattle.pgn_verifier.specs.Explanations.{wrong_part, explanation_line}
-use Rattle.pgn_verifier.specs.Reports.{Game}
 use Rattle.pgn_verifier.specs.laws.Reasons.{explanation_of}
-use Rattle.pgn_verifier.specs.laws.Reported.{reports_on}
-use Rattle.pgn_verifier.specs.ties.OnTheWay.{Writes, moved, game_line, fault_line}
-use Rattle.pgn_verifier.proofs.TextVerified.{SoFar, begun, all_written, game_written, game_broke, fault_written, fault_broke}
+use Rattle.pgn_verifier.specs.laws.Reported.{placed_on}
+use Rattle.pgn_verifier.specs.ties.OnTheWay.{Writes, moved, game_line, fault_line, next_number, span_written}
+use Rattle.pgn_verifier.proofs.TextVerified.{SoFar, begun, span_at, game_report, all_written, game_written, game_broke, fault_written, fault_broke}
 use Rattle.std.proofs.lemmas.Result.{err_from_is_err_and}
 use Rattle.pgn_verifier.proofs.games.verify_text.Goals as goal
 
@@ -33,6 +32,7 @@ returns-in_err-write_game-in-Ok-Some-clause-written g c input stands =
     let s = c.judge_game.new.game.state in
     let w' = g.W.Output.seen c.loop-end.output in
     let w'' = g.W.Output.seen c.write_game.new.output in
+    let span = span_at c.args.options c.args.start.offset c.args.text.now c.loop-end.at end.offset in
     let judged = sym (rw c.in-Ok-Some.field-0-is at c.in-Ok-Some.ensures.judged) in
     let p = err_from_is_err_and c.from_residual.result c.from_residual.ensures.1 in
     rw p.1 (game_broke c.args.options c.args.start.offset c.args.text.now c.args.before (g.W.Output.seen c.args.output.now) w'
@@ -41,11 +41,13 @@ returns-in_err-write_game-in-Ok-Some-clause-written g c input stands =
     c.in_err-write_game-in-Ok-Some.field-0.0 input end s
     judged c.in-Ok-Some.ensures.game
     (subst (λ n. CutShort w' w'' (if c.args.options.quiet then [] else game_line n (length s.moves) end.outcome
-    end.termination))
-    c.next_number-number.ensures
+    end.termination span))
+    (c.of_game-label.ensures.number ∙ c.next_number-number.ensures)
     (subst (λ k. CutShort w' w'' (if c.args.options.quiet then [] else
-    game_line c.next_number-number.result k end.outcome end.termination)) c.ply-plies.ensures
-    c.in_err-write_game-in-Ok-Some.ensures)))
+    game_line c.of_game-label.result.number k end.outcome end.termination span)) c.ply-plies.ensures
+    (subst (λ t. CutShort w' w'' (if c.args.options.quiet then [] else
+    game_line c.of_game-label.result.number c.ply-plies.result end.outcome end.termination t))
+    c.of_game-label.ensures.span c.in_err-write_game-in-Ok-Some.ensures))))
 
 pub loop-end-preserved : goal.loop-end-preserved
 loop-end-preserved g c =
@@ -55,11 +57,13 @@ loop-end-preserved g c =
     let w' = g.W.Output.seen c.loop-end.output in
     let w'' = g.W.Output.seen c.write_game.new.output in
     let plies = c.ply-plies.ensures in
+    let span = span_at c.args.options c.args.start.offset c.args.text.now c.loop-end.at end.offset in
     let judged = sym (rw c.in-Ok-Some.field-0-is at c.in-Ok-Some.ensures.judged) in
     let further = rw c.in-Ok-Some.field-0-is at c.in-Ok-Some.ensures.further in
     let within = rw c.in-Ok-Some.field-0-is at c.in-Ok-Some.ensures.within in
     let few = rw c.in-Ok-Some.field-0-is at c.in-Ok-Some.ensures.few in
-    let done = c.loop-end.invariant.1.0 ++ Game (length s.moves) end.outcome end.termination ∷ [] in
+    let done = c.loop-end.invariant.1.0
+    ++ game_report c.args.start.offset c.args.text.now c.loop-end.at end s ∷ [] in
     let counts : c.with_game-tally.result ≡ record {
       games = c.loop-end.tally.games + 1;
       half_moves = c.loop-end.tally.half_moves + length s.moves;
@@ -80,10 +84,13 @@ loop-end-preserved g c =
             c.in-Ok-Some.ensures.game few
             further within
             (subst (λ n. Took w' w''
-            (if c.args.options.quiet then [] else game_line n (length s.moves) end.outcome end.termination))
-            c.next_number-number.ensures
+            (if c.args.options.quiet then [] else game_line n (length s.moves) end.outcome end.termination span))
+            (c.of_game-label.ensures.number ∙ c.next_number-number.ensures)
             (subst (λ k. Took w' w'' (if c.args.options.quiet then [] else
-            game_line c.next_number-number.result k end.outcome end.termination)) plies c.in_ok-write_game-in-Ok-Some.ensures))),
+            game_line c.of_game-label.result.number k end.outcome end.termination span)) plies
+            (subst (λ t. Took w' w'' (if c.args.options.quiet then [] else
+            game_line c.of_game-label.result.number c.ply-plies.result end.outcome end.termination t))
+            c.of_game-label.ensures.span c.in_ok-write_game-in-Ok-Some.ensures)))),
       ),
     )
 
@@ -98,10 +105,13 @@ returns-in-Err-clause-written g c input stands =
     let s = c.judge_game.new.game.state in
     let more = if c.args.options.explain then explanation_line input
     (start + fault.offset + (wrong_part fault.kind (drop fault.offset text)).0) (explanation_of s (drop fault.offset text) fault.kind) else [] in
+    let span = span_at c.args.options start text c.loop-end.at (length text) in
     let lines = c.as_slice.ensures.value ∙ c.fault_lines-lines.ensures input stands
-    ∙ ap (λ n. fault_line n (moved start fault) ++ more) c.next_number-number.ensures in
+    ∙ ap (λ n. fault_line n (moved start fault) (span_written c.of_game-unread.result.span) ++ more)
+    (c.of_game-unread.ensures.number ∙ c.next_number-number.ensures)
+    ∙ ap (λ t. fault_line (next_number c.loop-end.tally) (moved start fault) t ++ more) c.of_game-unread.ensures.span in
     subst (λ (t : Tally). Writes {E = WriteFault} c.args.options input c.args.before w w'' (Ok t)
-    (reports_on c.args.options.strict start text)) (sym c.with_fault.ensures)
+    (placed_on c.args.options.strict start text)) (sym c.with_fault.ensures)
     (fault_written c.args.options start text c.args.before w w' w'' c.loop-end.at c.loop-end.tally
     c.loop-end.invariant.1.0 c.loop-end.invariant.1.1 WriteFault input fault s (sym c.in-Err.ensures.judged)
     c.in-Err.ensures.game (subst (Took w' w'') lines c.in_ok-put-in-Err.ensures))
@@ -117,8 +127,11 @@ returns-in_err-put-in-Err-clause-written g c input stands =
     let s = c.judge_game.new.game.state in
     let more = if c.args.options.explain then explanation_line input
     (start + fault.offset + (wrong_part fault.kind (drop fault.offset text)).0) (explanation_of s (drop fault.offset text) fault.kind) else [] in
+    let span = span_at c.args.options start text c.loop-end.at (length text) in
     let lines = c.as_slice.ensures.value ∙ c.fault_lines-lines.ensures input stands
-    ∙ ap (λ n. fault_line n (moved start fault) ++ more) c.next_number-number.ensures in
+    ∙ ap (λ n. fault_line n (moved start fault) (span_written c.of_game-unread.result.span) ++ more)
+    (c.of_game-unread.ensures.number ∙ c.next_number-number.ensures)
+    ∙ ap (λ t. fault_line (next_number c.loop-end.tally) (moved start fault) t ++ more) c.of_game-unread.ensures.span in
     let p = err_from_is_err_and c.from_residual-in_err-put-in-Err.result c.from_residual-in_err-put-in-Err.ensures.1 in
     rw p.1 (fault_broke c.args.options start text c.args.before w w' w'' c.loop-end.at c.loop-end.tally
     c.loop-end.invariant.1.0 c.loop-end.invariant.1.1 c.in_err-put-in-Err.field-0.0 input fault s (sym c.in-Err.ensures.judged)

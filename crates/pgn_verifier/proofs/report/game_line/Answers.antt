@@ -8,6 +8,7 @@ unfolding report_line
 returns c =
     rw (
       c.push.ensures.items,
+      c.append_span.ensures.text,
       c.append_termination.ensures.text,
       c.append-4.ensures.text,
       c.text.ensures.value,

@@ -1,5 +1,5 @@
 use Rattle.pgn_verifier.proofs.shared.ReportsAre.{judged_is, are_reports, are_collection_reports}
-use Rattle.pgn_verifier_laws.proofs.OnlyReports.{only_judged, only_reports, only_collection_reports}
+use Rattle.pgn_verifier_laws.proofs.OnlyReports.{only_judged, only_reports, only_collection_reports, same_on, same_of_collection}
 use Rattle.pgn_verifier_laws.proofs.laws.reports_are_the_only_ones.Goals as goal
 
 pub returns-clause-game : goal.returns-clause-game
@@ -19,3 +19,9 @@ returns-clause-collection c = are_collection_reports
 
 pub returns-clause-no_other_of_collection : goal.returns-clause-no_other_of_collection
 returns-clause-no_other_of_collection c = only_collection_reports
+
+pub returns-clause-plain : goal.returns-clause-plain
+returns-clause-plain c = same_on
+
+pub returns-clause-plain_of_collection : goal.returns-clause-plain_of_collection
+returns-clause-plain_of_collection c = same_of_collection

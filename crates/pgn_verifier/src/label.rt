@@ -1,0 +1,127 @@
+//! What the line of each report says of its game: the number, and with `--spans` where the game is.
+
+ghost use Rattle.std.specs.Prelude.{◌≡◌, ◌≤◌, ◌<◌, ◌+◌, ◌++◌, ◌^◌, length};
+ghost use Rattle.std.specs.List.{prefix_len};
+ghost use Rattle.arrayvec.specs.ArrayVec.{array_vec_len};
+ghost use Rattle.chess_pgn.specs.Tokens.{after_byte_order_mark, is_white_space};
+ghost use Rattle.pgn_pieces.specs.Stream.{current};
+ghost use Rattle.pgn_verifier.specs.Reports.{game_begin, span_text};
+ghost use Rattle.pgn_verifier.specs.ties.OnTheWay.{span_written};
+
+use crate::options::VerifyOptions;
+use arrayvec::ArrayVec;
+use byte_devices::{append, append_number};
+use chess_pgn::token_parts::is_white_space;
+use pgn_pieces::PgnPieces;
+
+/// A part of the input.
+#[derive(Clone, Copy)]
+pub(crate) struct Span {
+    /// The offset of its first byte, counted from the input's first byte.
+    pub begin: usize,
+    /// The offset of the byte after its last.
+    pub end: usize,
+}
+
+/// What a report's line says of its game.
+#[derive(Clone, Copy)]
+pub(crate) struct Label {
+    /// The game's number.
+    pub number: usize,
+    /// The game's span; `None` if the line is not to show it.
+    pub span: Option<Span>,
+}
+
+// The offset where reading begins: 3 if `at` is 0 and the text begins with a byte order mark (EF BB BF), otherwise `at`.
+fn reading_begin(text: &[u8], at: usize) -> usize
+    requires { at ≤ length text.now }
+    ensures value { result ≡ after_byte_order_mark text.now at }
+    ensures within { result ≤ length text.now }
+{
+    if at == 0 && text.starts_with(&[0xEF, 0xBB, 0xBF]) {
+        3
+    } else {
+        at
+    }
+}
+
+// How many bytes of white space are at a text's front.
+fn blanks_len(text: &[u8]) -> usize
+    ensures value { result ≡ prefix_len is_white_space text.now }
+    ensures within { result ≤ length text.now }
+{
+    text.iter()
+        .take_while(|byte| is_white_space(**byte))
+        .count()
+}
+
+// The offset at which the game of a text begins that is read from the offset `at` on: that of its first byte that is no
+// white space.
+fn game_begin(text: &[u8], at: usize) -> usize
+    requires { at ≤ length text.now }
+    ensures value { result ≡ game_begin text.now at }
+    ensures within { result ≤ length text.now }
+{
+    let first = reading_begin(text, at);
+    first + blanks_len(&text[first..])
+}
+
+impl Label {
+    /// The label of the game of a text that is read from the offset `at` on, and ends before the offset `end`. The text
+    /// begins at `start` in the input.
+    pub(crate) fn of_game(
+        options: VerifyOptions,
+        number: usize,
+        start: usize,
+        text: &[u8],
+        at: usize,
+        end: usize,
+    ) -> Self
+        requires at { at ≤ length text.now }
+        requires end { end ≤ length text.now }
+        requires few { start + length text.now ≤ 2 ^ 63 }
+        ensures number { result.number ≡ number }
+        ensures span { span_written result.span ≡ span_text options (start + game_begin text.now at) (start + end) }
+    {
+        let span = if options.spans {
+            Some(Span {
+                begin: start + game_begin(text, at),
+                end: start + end,
+            })
+        } else {
+            None
+        };
+        Label { number, span }
+    }
+
+    /// The label of the current piece, which is too long.
+    pub(crate) fn of_piece(options: VerifyOptions, number: usize, pieces: &PgnPieces) -> Self
+        ensures number { result.number ≡ number }
+        ensures span { span_written result.span
+            ≡ span_text options (current pieces.now).offset (current pieces.now).end }
+    {
+        let span = if options.spans {
+            Some(Span {
+                begin: pieces.offset(),
+                end: pieces.end(),
+            })
+        } else {
+            None
+        };
+        Label { number, span }
+    }
+}
+
+/// Appends the end of a report's line: its span, such as `, bytes 61 to 120`; nothing if there is none to show.
+pub(crate) fn append_span<const N: usize>(line: &mut ArrayVec<u8, N>, span: Option<Span>)
+    requires { array_vec_len line.old + 52 ≤ N }
+    ensures text { line.new.items ≡ line.old.items ++ span_written span }
+    ensures len { array_vec_len line.new ≤ array_vec_len line.old + 52 }
+{
+    if let Some(span) = span {
+        append(line, b", bytes ");
+        append_number(line, span.begin as u64);
+        append(line, b" to ");
+        append_number(line, span.end as u64);
+    }
+}

@@ -1,0 +1,86 @@
+-- White space before a game is skipped: from the game's first byte on the same is read.
+use Rattle.std.proofs.Common.{◌≡◌, ℕ, ◌+◌, ◌-◌, ◌<◌, ◌≤◌, ◌||◌, ◌==◌, eqb, Bool, true, false, cond, List, [], ◌∷◌, length, drop, None, refl, sym, ap, ◌∙◌, arith}
+use Rattle.std.specs.List.{prefix_len}
+use Rattle.std.specs.Option.{option_map_or}
+use Rattle.std.specs.Prelude.{codes}
+use Rattle.std.proofs.lemmas.Bool.Decides.{nat_tests}
+use Rattle.std.proofs.lemmas.List.{drop-drop}
+use Rattle.chess_base.specs.declared.man.Variant.TheVariants.{Normal}
+use Rattle.chess_pgn.specs.GameRead.{pgn_read, variant_named}
+use Rattle.chess_pgn.specs.Tokens.{Token, Skip, after_byte_order_mark, begins_line, is_white_space, tokens_from}
+use Rattle.chess_pgn.specs.laws.TokenByToken.{game_of, nothing_read, tokens_read}
+use Rattle.chess_pgn.specs.shared.Kinds.{IsOf, IsLongest, Blank, token}
+use Rattle.chess_pgn.proofs.shared.Tags.{last_step}
+use Rattle.chess_pgn.proofs.shared.Tokens.{read_kinds, kinds_read}
+use Rattle.pgn_verifier.specs.Reports.{game_begin}
+use Rattle.pgn_verifier_laws.proofs.PartsAlike.{TokenByToken, not_before, no_mark}
+
+blank_is_longest : (b : Bool) (c : ℕ) (rest : List ℕ) → is_white_space c ≡ true → IsLongest (IsOf b Blank) (c ∷ []) rest
+blank_is_longest b c rest white = record {
+  is = (c, refl, ap (λ t. t || (c == 46)) white);
+  longest = λ more others same h. no_more_bytes more h;
+}
+  where
+    no_more_bytes : (more : List ℕ) → IsOf b Blank (c ∷ more) → more ≡ []
+    no_more_bytes more (d, is, h) = cc
+
+blank_first : (text : List ℕ) (at c : ℕ) (rest : List ℕ) → drop at text ≡ c ∷ rest → is_white_space c ≡ true
+    → tokens_from text at ≡ (length text - at, Skip) ∷ tokens_from text (at + 1)
+blank_first text at c rest is white =
+    sym (kinds_read text (token Blank (c ∷ []) rest is (blank_is_longest (begins_line text at) c rest white) (read_kinds text (at + 1))))
+
+one_skipped : (limit total left : ℕ) (ts : List (ℕ × Token))
+    → tokens_read limit total ((left, Skip) ∷ ts) ≡ tokens_read limit total ts
+one_skipped limit total left ts =
+    ap (λ o. game_of limit total (nothing_read (option_map_or (λ tag. variant_named tag.0) o Normal)) ts)
+    (last_step (codes "Variant") None (left, Skip) ts)
+
+run_skipped : (limit : ℕ) (text rest : List ℕ) (at : ℕ) → drop at text ≡ rest
+    → tokens_read limit (length text) (tokens_from text at)
+    ≡ tokens_read limit (length text) (tokens_from text (at + prefix_len is_white_space rest))
+run_skipped limit text [] at is = ap (λ n. tokens_read limit (length text) (tokens_from text n)) (omega arith)
+run_skipped limit text (c ∷ rest) at is =
+    by_test (is_white_space c) refl
+    (run_skipped limit text rest (at + 1) (sym (drop-drop 1 at text) ∙ ap (drop 1) is))
+  where
+    by_test : (b : Bool) → is_white_space c ≡ b
+        → tokens_read limit (length text) (tokens_from text (at + 1))
+        ≡ tokens_read limit (length text) (tokens_from text (at + 1 + prefix_len is_white_space rest))
+        → tokens_read limit (length text) (tokens_from text at)
+        ≡ tokens_read limit (length text) (tokens_from text (at + cond b (1 + prefix_len is_white_space rest) 0))
+    by_test true e later =
+        ap (tokens_read limit (length text)) (blank_first text at c rest is e)
+        ∙ one_skipped limit (length text) (length text - at) (tokens_from text (at + 1)) ∙ later
+        ∙ ap (λ n. tokens_read limit (length text) (tokens_from text n)) (omega arith)
+    by_test false e later = ap (λ n. tokens_read limit (length text) (tokens_from text n)) (omega arith)
+
+-- the byte order mark at the text's front is not before a game's first byte
+mark_passed : (text : List ℕ) (at : ℕ) → after_byte_order_mark text (game_begin text at) ≡ game_begin text at
+mark_passed text at = by_place (eqb (game_begin text at) 0) refl
+  where
+    first : ℕ
+    first = after_byte_order_mark text at
+
+    by_place : (b : Bool) → eqb (game_begin text at) 0 ≡ b
+        → after_byte_order_mark text (game_begin text at) ≡ game_begin text at
+    by_place true e =
+        let begin : first + prefix_len is_white_space (drop first text) ≡ 0 = grind (arith, nat_tests, e) in
+        let early : at ≤ first = not_before text at in
+        let here : first + prefix_len is_white_space (drop first text) ≡ at = omega (arith, begin, early) in
+        let still : first ≡ first + prefix_len is_white_space (drop first text) = omega (arith, begin) in
+        ap (after_byte_order_mark text) here ∙ still
+    by_place false e =
+        let some : 0 < first + prefix_len is_white_space (drop first text) = grind (arith, nat_tests, e) in
+        no_mark text (game_begin text at) some
+
+pub begins_alike : TokenByToken → (limit : ℕ) (text : List ℕ) (at : ℕ)
+    → pgn_read limit text at ≡ pgn_read limit text (game_begin text at)
+begins_alike law limit text at =
+    let first : ℕ = after_byte_order_mark text at in
+    law limit text at ∙ run_skipped limit text (drop first text) first refl
+    ∙ ap (λ n. tokens_read limit (length text) (tokens_from text n)) (sym (mark_passed text at))
+    ∙ sym (law limit text (game_begin text at))
+
+-- a game that is read begins in the text, not before the offset from which it is read
+pub begins_later : (text : List ℕ) (at : ℕ) → at ≤ game_begin text at
+begins_later text at = let early = not_before text at in omega (arith, early)

@@ -1,0 +1,211 @@
+-- The spans of reports are found one after another in the text.
+use Rattle.std.proofs.Common.{◌≡◌, ℕ, zero, suc, ◌+◌, ◌-◌, ◌<◌, ◌≤◌, eqb, Bool, true, false, cond, List, [], ◌∷◌, ◌++◌, length, take, drop, Option, Some, None, IfSome, Result, Ok, Err, IfOk, refl, sym, ap, subst, ◌∙◌, append_assoc, append-nil, length-append, arith}
+use Rattle.std.specs.List.{concat, flat_map, prefix_len}
+use Rattle.std.specs.Prelude.{nat_le, if◌then◌else◌}
+use Rattle.std.proofs.Math.Seq.{drop-length}
+use Rattle.std.proofs.lemmas.Bool.Decides.{nat_tests}
+use Rattle.std.proofs.lemmas.List.{drop-drop, length-drop, length-take-le, take-append-drop}
+use Rattle.std.proofs.lemmas.List.Folds.{concat-append}
+use Rattle.std.proofs.lemmas.List.Sums.{prefix_len-le-length}
+use Rattle.chess_game.specs.Game.{State, verdict_now}
+use Rattle.chess_game.specs.declared.game.TheConstants.{MOST_MOVES}
+use Rattle.chess_pgn.specs.GameRead.{GameRead, pgn_read, tagged_variant}
+use Rattle.chess_pgn.specs.LastTags.{result_tag_of, tag_section}
+use Rattle.chess_pgn.specs.Tokens.{after_byte_order_mark, is_white_space, tokens_from}
+use Rattle.chess_pgn.specs.declared.read.PgnEnd.{PgnEnd}
+use Rattle.chess_pgn.specs.declared.read.PgnFault.{PgnFault}
+use Rattle.chess_pgn.specs.laws.TokenByToken.{tokens_read}
+use Rattle.chess_pgn.specs.shared.Kinds as kinds
+use Rattle.chess_pgn.proofs.shared.Ends.{ends_in_text}
+use Rattle.chess_pgn.proofs.shared.Tokens.{kinds_read}
+use Rattle.pgn_pieces.specs.Pieces.{cut, known_pieces}
+use Rattle.pgn_pieces.specs.Stream.{Piece, with_offsets, pieces}
+use Rattle.pgn_pieces.specs.declared.pieces.TheConstants.{PIECE_LEN}
+use Rattle.pgn_pieces.proofs.shared.Cuts.{cut_is_all}
+use Rattle.pgn_verifier.specs.GameFaults.{judged}
+use Rattle.pgn_verifier.specs.Reports.{Placed, game_begin}
+use Rattle.pgn_verifier.specs.declared.game_fault.GameFault.{GameFault}
+use Rattle.pgn_verifier.specs.laws.Reported.{read_at, judged_at, placed_then, placed_from, placed_on, placed_in, collection_placed, too_long_placed}
+use Rattle.pgn_verifier_laws.specs.Spans.{MakeUp, no_more, next, SpansMakeUpTheText, SpansMakeUpTheCollection}
+use Rattle.pgn_verifier_laws.proofs.BlanksSkipped.{begins_alike, begins_later}
+use Rattle.pgn_verifier_laws.proofs.OnlyReports.{only_reports, only_collection_reports}
+use Rattle.pgn_verifier_laws.proofs.PartsAlike.{TokenByToken, judged_so, no_mark}
+use Rattle.pgn_verifier_laws.proofs.PartsRead.{mark_within}
+
+-- ---- where a game is
+
+begins_within : (text : List ℕ) (at : ℕ) → at ≤ length text → game_begin text at ≤ length text
+begins_within text at h =
+    let first : ℕ = after_byte_order_mark text at in
+    let marked = mark_within text at h in
+    let blanks = prefix_len-le-length is_white_space (drop first text) in
+    let left = length-drop first text in
+    omega (arith, marked, blanks, left)
+
+abbrev EndsAfter : ℕ → ℕ → Result (Option PgnEnd) PgnFault → Type 0
+EndsAfter begin total r = IfOk r (λ o. IfSome o (λ e. (begin < e.offset) × (e.offset ≤ total)))
+
+module _ (law : TokenByToken) (strict : Bool) (text : List ℕ) (at : ℕ) (within : at ≤ length text) where
+  alike : pgn_read MOST_MOVES text (game_begin text at) ≡ pgn_read MOST_MOVES text at
+  alike = sym (begins_alike law MOST_MOVES text at)
+
+  game_there : (end : PgnEnd) → judged_at strict text at ≡ Ok (Some end)
+      → (game_begin text at < end.offset) × (end.offset ≤ length text)
+  game_there end is =
+      let read = (judged_so strict (result_tag_of (length text) (tokens_from text (after_byte_order_mark text at)))
+      (verdict_now (read_at text at).state) end (read_at text at).answer is).0 in
+      subst (EndsAfter (game_begin text at) (length text)) (ap (λ (r : GameRead). r.answer) alike ∙ read)
+      (ends_in_text MOST_MOVES text (game_begin text at) (begins_within text at within))
+
+  -- at the text's end no game is left
+  none_there : game_begin text at ≡ length text → (read_at text at).answer ≡ Ok None
+  none_there e =
+      let none : [] ≡ tokens_from text (length text) = kinds_read text (kinds.ended (drop-length text)) in
+      let passed : after_byte_order_mark text (length text) ≡ length text = mark_at_end text in
+      ap (λ (r : GameRead). r.answer) (sym alike ∙ ap (pgn_read MOST_MOVES text) e ∙ law MOST_MOVES text (length text)
+      ∙ ap (λ n. tokens_read MOST_MOVES (length text) (tokens_from text n)) passed
+      ∙ ap (tokens_read MOST_MOVES (length text)) (sym none))
+    where
+      mark_at_end : (text : List ℕ) → after_byte_order_mark text (length text) ≡ length text
+      mark_at_end [] = refl
+      mark_at_end (c ∷ cs) = no_mark (c ∷ cs) (suc (length cs)) (omega arith)
+
+  fault_there : (fault : GameFault) → judged_at strict text at ≡ Err fault → game_begin text at < length text
+  fault_there fault is = by_place (eqb (game_begin text at) (length text)) refl
+    where
+      by_place : (b : Bool) → eqb (game_begin text at) (length text) ≡ b → game_begin text at < length text
+      by_place true e =
+          let last : game_begin text at ≡ length text = grind (arith, nat_tests, e) in
+          let none : judged_at strict text at ≡ Ok None =
+          ap (judged strict (result_tag_of (length text) (tokens_from text (after_byte_order_mark text at)))
+          (verdict_now (read_at text at).state)) (none_there last) in
+          let both : Ok None ≡ Err fault = sym none ∙ is in
+          absurd (cc)
+      by_place false e =
+          let some = begins_within text at within in grind (arith, nat_tests, e, some)
+
+-- ---- a text
+
+split_at : (text : List ℕ) (i j : ℕ) → i ≤ j → drop i text ≡ take (j - i) (drop i text) ++ drop j text
+split_at text i j h =
+    sym (take-append-drop (j - i) (drop i text))
+    ∙ ap (λ xs. take (j - i) (drop i text) ++ xs)
+    (drop-drop (j - i) i text ∙ ap (λ k. drop k text) (omega (arith, h)))
+
+placed_next : (start : ℕ) (text : List ℕ) (at begin end : ℕ) (placed : Placed) (reports : List Placed) → at ≤ begin
+    → begin < end → end ≤ length text → placed.begin ≡ start + begin → placed.end ≡ start + end
+    → MakeUp placed.end (drop end text) reports → MakeUp (start + at) (drop at text) (placed ∷ reports)
+placed_next start text at begin end placed reports low some high begins ends more =
+    let a = length-drop at text in
+    let b = length-drop begin text in
+    let between = length-take-le (begin - at) (drop at text) (omega (arith, a, low, some, high)) in
+    let game = length-take-le (end - begin) (drop begin text) (omega (arith, b, some, high)) in
+    subst (λ xs. MakeUp (start + at) xs (placed ∷ reports))
+    (sym (split_at text at begin low
+    ∙ ap (λ xs. take (begin - at) (drop at text) ++ xs) (split_at text begin end (omega (arith, some)))))
+    (next (take (begin - at) (drop at text)) (take (end - begin) (drop begin text))
+    (omega (arith, begins, between, low)) (omega (arith, begins, ends, game, some)) (omega (arith, game, some)) more)
+
+text_made : TokenByToken → (strict : Bool) (start n : ℕ) (text : List ℕ) (at : ℕ) → at ≤ length text
+    → MakeUp (start + at) (drop at text) (placed_from strict start n text at)
+unfolding placed_from
+text_made law strict start zero text at within = no_more
+text_made law strict start (suc n) text at within =
+    by_answer (judged_at strict text at) refl (λ m h. text_made law strict start n text m h)
+  where
+    by_answer : (r : Result (Option PgnEnd) GameFault) → judged_at strict text at ≡ r
+        → ((m : ℕ) → m ≤ length text → MakeUp (start + m) (drop m text) (placed_from strict start n text m))
+        → MakeUp (start + at) (drop at text)
+        (placed_then start text at r (read_at text at).state (λ m. placed_from strict start n text m))
+    by_answer (Ok None) e later = no_more
+    by_answer (Ok (Some end)) e later =
+        let there = game_there law strict text at within end e in
+        placed_next start text at (game_begin text at) end.offset _ _ (begins_later text at) there.0 there.1 refl refl
+        (later end.offset there.1)
+    by_answer (Err fault) e later =
+        placed_next start text at (game_begin text at) (length text) _ _ (begins_later text at)
+        (fault_there law strict text at within fault e) (omega arith) refl refl no_more
+
+text_begun : TokenByToken → (strict : Bool) (start : ℕ) (text : List ℕ) → MakeUp start text (placed_on strict start text)
+text_begun law strict start text =
+    let first : start + 0 ≡ start = omega arith in
+    subst (λ n. MakeUp n text (placed_on strict start text)) first
+    (text_made law strict start (length text + 1) text 0 (omega arith))
+
+-- ---- pieces
+
+-- more text before the first span
+made_after : {from : ℕ} {text : List ℕ} {reports : List Placed} → MakeUp from text reports → (offset : ℕ)
+    (front : List ℕ) → from ≡ offset + length front → MakeUp offset (front ++ text) reports
+made_after no_more offset front is = no_more
+made_after (next {offset = from} between game {rest} {placed} {reports} begins ends some more) offset front is =
+    let both = length-append front between in
+    subst (λ xs. MakeUp offset xs (placed ∷ reports)) (append_assoc front between (game ++ rest))
+    (next (front ++ between) game (omega (arith, begins, is, both)) ends some more)
+
+-- one text after the other
+made_both : {from : ℕ} {text : List ℕ} {reports : List Placed} → MakeUp from text reports
+    → (to : ℕ) (more : List ℕ) (others : List Placed) → MakeUp to more others → to ≡ from + length text
+    → MakeUp from (text ++ more) (reports ++ others)
+made_both (no_more {offset} {text}) to more others h is = made_after h offset text is
+made_both (next {offset} between game {rest} {placed} {reports} begins ends some later) to more others h is =
+    let one = length-append between (game ++ rest) in
+    let two = length-append game rest in
+    let last = made_both later to more others h (omega (arith, is, begins, ends, one, two)) in
+    subst (λ xs. MakeUp offset xs (placed ∷ (reports ++ others)))
+    (sym (append_assoc between (game ++ rest) more
+    ∙ ap (λ xs. between ++ xs) (append_assoc game rest more)))
+    (next between game begins ends some last)
+
+piece_made : TokenByToken → (strict : Bool) (piece : Piece)
+    → MakeUp piece.offset piece.bytes (placed_in strict piece)
+piece_made law strict piece = by_test (nat_le (length piece.bytes) PIECE_LEN) refl
+  where
+    by_test : (b : Bool) → nat_le (length piece.bytes) PIECE_LEN ≡ b → MakeUp piece.offset piece.bytes
+        (if b then placed_on strict piece.offset piece.bytes else too_long_placed piece ∷ [])
+    by_test true e = text_begun law strict piece.offset piece.bytes
+    by_test false e =
+        let long : PIECE_LEN < length piece.bytes = grind (arith, nat_tests, e) in
+        subst (λ xs. MakeUp piece.offset xs (too_long_placed piece ∷ [])) (append-nil piece.bytes)
+        (next [] piece.bytes (omega arith) refl (omega (arith, long)) no_more)
+
+all_made : TokenByToken → (strict : Bool) (offset : ℕ) (all : List (List ℕ)) (rest : List ℕ)
+    → MakeUp offset (concat all ++ rest) (flat_map (placed_in strict) (with_offsets offset all))
+all_made law strict offset [] rest = no_more
+all_made law strict offset (piece ∷ more) rest =
+    subst (λ xs. MakeUp offset xs (flat_map (placed_in strict) (with_offsets offset (piece ∷ more))))
+    (sym (append_assoc piece (concat more) rest))
+    (made_both (piece_made law strict (record { offset = offset; bytes = piece })) (offset + length piece)
+    (concat more ++ rest) (flat_map (placed_in strict) (with_offsets (offset + length piece) more))
+    (all_made law strict (offset + length piece) more rest) refl)
+
+collection_made : TokenByToken → (strict ended : Bool) (text : List ℕ)
+    → MakeUp 0 text (collection_placed strict ended text)
+unfolding pieces
+collection_made law strict ended text = by_end ended
+  where
+    all : List (List ℕ)
+    all = cut text
+
+    by_end : (b : Bool) → MakeUp 0 text
+        (flat_map (placed_in strict) (with_offsets 0 (if b then cut text else take (length (cut text) - 1) (cut text))))
+    by_end true =
+        subst (λ xs. MakeUp 0 xs (flat_map (placed_in strict) (with_offsets 0 (cut text))))
+        (append-nil (concat (cut text)) ∙ cut_is_all text) (all_made law strict 0 (cut text) [])
+    by_end false =
+        let k : ℕ = length (cut text) - 1 in
+        subst (λ xs. MakeUp 0 xs (flat_map (placed_in strict) (with_offsets 0 (take k (cut text)))))
+        (sym (concat-append (take k (cut text)) (drop k (cut text))) ∙ ap concat (take-append-drop k (cut text))
+        ∙ cut_is_all text)
+        (all_made law strict 0 (take k (cut text)) (concat (drop k (cut text))))
+
+-- ---- the law
+
+pub make_up_text : TokenByToken → SpansMakeUpTheText
+make_up_text law strict start text reports h =
+    subst (MakeUp start text) (sym (only_reports strict start text reports h)) (text_begun law strict start text)
+
+pub make_up_collection : TokenByToken → SpansMakeUpTheCollection
+make_up_collection law strict ended text reports h =
+    subst (MakeUp 0 text) (sym (only_collection_reports strict ended text reports h))
+    (collection_made law strict ended text)
