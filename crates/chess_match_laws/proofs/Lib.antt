@@ -15,6 +15,11 @@ mod LineLaw
 mod ActsInOrder
 mod OneRunLaw
 mod GameLaw
+mod EndLaw
 mod LastLine
 mod TimeForfeits
 mod VerdictLaw
+mod Tellings
+mod PingLaw
+mod GoLaw
+mod SetupLaw

@@ -7,3 +7,5 @@ mod PartsAlike
 mod PartsRead
 mod WrittenGames
 mod WrittenTexts
+mod SoundStarts
+mod CountedGames

@@ -1,3 +1,4 @@
 pub mod NoFaults
 pub mod Parts
 pub mod WrittenGames
+pub mod Counted
