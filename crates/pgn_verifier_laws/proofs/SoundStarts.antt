@@ -1,21 +1,24 @@
 -- The start of a game that was read is sound.
-use Rattle.std.proofs.Common.{◌≡◌, ◌∙◌, ℕ, ◌+◌, ◌*◌, Bool, true, false, cond, eqb, List, [], ◌∷◌, ◌++◌, length, length-append, map, take, drop, Option, Some, None, Result, Ok, Err, refl, sym, ap, subst, arith}
-use Rattle.std.specs.Prelude.{codes, max, option_and_then}
+use Rattle.std.proofs.Common.{◌≡◌, ◌∙◌, ℕ, zero, suc, ◌+◌, ◌*◌, Bool, true, false, cond, eqb, List, [], ◌∷◌, ◌++◌, length, length-append, map, take, drop, Option, Some, None, Result, Ok, Err, refl, sym, ap, subst, arith}
+use Rattle.std.specs.Prelude.{codes, if◌then◌else◌, max, option_and_then, ◌==◌}
 use Rattle.std.specs.List.{slice_split, flat_map}
-use Rattle.std.specs.Option.{option_map, option_map_or}
-use Rattle.std.specs.Result.{ok_or}
+use Rattle.std.specs.Option.{ok_or, option_map, option_map_or}
 use Rattle.std.proofs.lemmas.Bool.Decides.{nat_tests}
 use Rattle.chess_base.specs.Faults.{conditions, first_failing, setup_fault}
 use Rattle.chess_base.specs.Initial.{initial_setup_of}
 use Rattle.chess_base.specs.Sound.{IsSound}
 use Rattle.chess_base.specs.declared.fen_fault.FenFault.{FenFault}
 use Rattle.chess_base.specs.declared.fen_fault.FenFault.TheVariants as faults
+use Rattle.chess_base.specs.declared.man.Colour.{Colour}
 use Rattle.chess_base.specs.declared.man.Man.{Man}
+use Rattle.chess_base.specs.declared.man.Rights.{Rights}
 use Rattle.chess_base.specs.declared.man.Variant.{Variant}
 use Rattle.chess_base.specs.declared.setup.Setup.{Setup}
 use Rattle.chess_base.proofs.shared.Sound.{IsSound-from_no_fault}
-use Rattle.chess_fen.specs.Reading.{◌>>=◌, conditions_of, fen_reading_as, reading_in}
-use Rattle.chess_fen.specs.Texts.{all_there, fields_of, from_top, placement_of, rank_of}
+use Rattle.chess_fen.specs.Reading.{◌>>=◌, conditions_of, fen_reading_as, reading_in, side_of}
+use Rattle.chess_fen.specs.RightNames.{names_rights_well, rights_in}
+use Rattle.chess_fen.specs.Texts.{all_there, fields_of, from_top, is_castling_field, placement_of, rank_of, squares_of, target_of}
+use Rattle.text_lines.specs.Words.{short_number}
 use Rattle.chess_pgn.specs.Tokens.{Token, Tag}
 use Rattle.chess_pgn_laws.specs.GameOfTokens.{if_read, is_fen, start_by, tagged_start}
 
@@ -25,7 +28,8 @@ abbrev Row : Type 0
 Row = List (Option Man)
 
 eight : (text : List ℕ) (row : Row) → rank_of text ≡ Some row → length row ≡ 8
-eight text row is = at _ is
+eight text row is =
+    at (option_map (λ parts. flat_map (λ squares. squares) parts) (all_there (map squares_of text))) is
   where
     by_length : (r : Row) (b : Bool) → (length r == 8) ≡ b → (if b then Some r else None) ≡ Some row → length row ≡ 8
     by_length r true e h =
@@ -40,18 +44,20 @@ eight text row is = at _ is
 rows_long : (texts : List (List ℕ)) (rows : List Row) → all_there (map rank_of texts) ≡ Some rows
     → length (from_top rows) ≡ 8 * length texts
 rows_long [] rows is = let none : rows ≡ [] = cc in ap (λ r. length (from_top r)) none
-rows_long (text ∷ texts) rows is = at (rank_of text) refl (all_there (map rank_of texts)) refl is
+rows_long (text ∷ texts) rows is =
+    at (rank_of text) refl (all_there (map rank_of texts)) refl (rows_long texts) is
   where
     at : (o : Option Row) → rank_of text ≡ o → (more : Option (List Row)) → all_there (map rank_of texts) ≡ more
+        → ((found : List Row) → all_there (map rank_of texts) ≡ Some found → length (from_top found) ≡ 8 * length texts)
         → option_and_then (λ x. option_map (λ xs. x ∷ xs) more) o ≡ Some rows
         → length (from_top rows) ≡ 8 * length (text ∷ texts)
-    at None e more f h = absurd (cc)
-    at (Some row) e None f h = absurd (cc)
-    at (Some row) e (Some found) f h =
+    at None e more f others h = absurd (cc)
+    at (Some row) e None f others h = absurd (cc)
+    at (Some row) e (Some found) f others h =
         let same : row ∷ found ≡ rows = cc in
         let long = length-append (from_top found) row in
         let short = eight text row e in
-        let rest = rows_long texts found f in
+        let rest = others found f in
         ap (λ r. length (from_top r)) (sym same) ∙ omega (arith, long, short, rest)
 
 board_long : (text : List ℕ) (men : Row) → placement_of text ≡ Some men → length men ≡ 64
@@ -76,26 +82,22 @@ board_long text men is = at (length (slice_split (λ c. eqb c 47) text) == 8) re
 
 -- ---- a FEN
 
--- the value of a step that did not stop
-bound : {A B E : Type 0} (r : Result A E) (f : A → Result B E) (y : B) → (r >>= f) ≡ Ok y
-    → (x : A) × (r ≡ Ok x) × (f x ≡ Ok y)
-bound (Ok x) f y h = (x, refl, h)
-bound (Err e) f y h = absurd (cc)
-
-found : {A E : Type 0} (o : Option A) (e : E) (x : A) → ok_or o e ≡ Ok x → o ≡ Some x
-found None e x h = absurd (cc)
-found (Some a) e x h = let same : a ≡ x = cc in ap Some same
-
--- conditions that all hold, without the fifth
-without_fifth : (a b c d n e f g : Bool) (ka kb kc kd kn ke kf kg : FenFault)
-    → first_failing ((ka, a) ∷ (kb, b) ∷ (kc, c) ∷ (kd, d) ∷ (kn, n) ∷ (ke, e) ∷ (kf, f) ∷ (kg, g) ∷ []) ≡ None
-    → first_failing ((ka, a) ∷ (kb, b) ∷ (kc, c) ∷ (kd, d) ∷ (ke, e) ∷ (kf, f) ∷ (kg, g) ∷ []) ≡ None
-without_fifth true true true true true e f g ka kb kc kd kn ke kf kg h = h
-without_fifth true true true true false e f g ka kb kc kd kn ke kf kg h = absurd (cc)
-without_fifth true true true false n e f g ka kb kc kd kn ke kf kg h = absurd (cc)
-without_fifth true true false d n e f g ka kb kc kd kn ke kf kg h = absurd (cc)
-without_fifth true false c d n e f g ka kb kc kd kn ke kf kg h = absurd (cc)
-without_fifth false b c d n e f g ka kb kc kd kn ke kf kg h = absurd (cc)
+-- conditions that all hold, without one of them
+without : {A : Type 0} (n : ℕ) (x : A × Bool) (xs : List (A × Bool))
+    → first_failing (take n xs ++ x ∷ drop n xs) ≡ None → first_failing xs ≡ None
+without zero x xs h = at x.1 h
+  where
+    at : (b : Bool) → (if b then first_failing xs else Some x.0) ≡ None → first_failing xs ≡ None
+    at true k = k
+    at false k = absurd (cc)
+without (suc n) x [] h = refl
+without (suc n) x (y ∷ xs) h = at y.1 h (without n x xs)
+  where
+    at : (b : Bool) → (if b then first_failing (take n xs ++ x ∷ drop n xs) else Some y.0) ≡ None
+        → (first_failing (take n xs ++ x ∷ drop n xs) ≡ None → first_failing xs ≡ None)
+        → (if b then first_failing xs else Some y.0) ≡ None
+    at true k more = more k
+    at false k more = absurd (cc)
 
 unfaulted : (o : Option FenFault) (p q : Setup) → option_map_or Err o (Ok p) ≡ Ok q → (o ≡ None) × (p ≡ q)
 unfaulted None p q h = (refl, (let same : p ≡ q = cc in same))
@@ -106,18 +108,57 @@ sound_if : (letters : List ℕ) (p q : Setup) → length p.men ≡ 64
 unfolding setup_fault
 sound_if letters p q long h =
     let is = unfaulted (first_failing (conditions_of letters p)) p q h in
-    subst IsSound is.1 (IsSound-from_no_fault p long (without_fifth _ _ _ _ _ _ _ _ _ _ _ _ _ _ _ _ is.0))
+    subst IsSound is.1 (IsSound-from_no_fault p long (without 4 (faults.Castling, names_rights_well p.variant p.men letters)
+    (conditions p) is.0))
+
+-- the position of these parts
+abbrev made : Variant → Row → Colour → Rights → Option ℕ → ℕ → ℕ → Setup
+made v men colour rights passed clock number = record {
+  variant = v;
+  men = men;
+  side = colour;
+  rights = rights;
+  target = passed;
+  halfmove = clock;
+  fullmove = max number 1;
+}
+
+-- what is read, once the pieces are
+abbrev read_on : Variant → List ℕ → Row → Option Colour → Result Rights FenFault → Option (Option ℕ) → Option ℕ
+    → Option ℕ → Result Setup FenFault
+read_on v letters men side castling target halfmove fullmove = do
+  colour ← ok_or side faults.Side
+  rights ← castling
+  passed ← ok_or target faults.EnPassant
+  clock ← ok_or halfmove faults.Counters
+  number ← ok_or fullmove faults.Counters
+  p ← Ok (made v men colour rights passed clock number)
+  option_map_or Err (first_failing (conditions_of letters p)) (Ok p)
+
+on_sound : (v : Variant) (letters : List ℕ) (men : Row) (side : Option Colour) (castling : Result Rights FenFault)
+    (target : Option (Option ℕ)) (halfmove fullmove : Option ℕ) (q : Setup) → length men ≡ 64
+    → read_on v letters men side castling target halfmove fullmove ≡ Ok q → IsSound q
+on_sound v letters men None castling target halfmove fullmove q long h = absurd (cc)
+on_sound v letters men (Some side) (Err e) target halfmove fullmove q long h = absurd (cc)
+on_sound v letters men (Some side) (Ok rights) None halfmove fullmove q long h = absurd (cc)
+on_sound v letters men (Some side) (Ok rights) (Some target) None fullmove q long h = absurd (cc)
+on_sound v letters men (Some side) (Ok rights) (Some target) (Some clock) None q long h = absurd (cc)
+on_sound v letters men (Some side) (Ok rights) (Some target) (Some clock) (Some number) q long h =
+    sound_if letters (made v men side rights target clock number) q long h
 
 six_sound : (v : Variant) (placement side castling target halfmove fullmove : List ℕ) (q : Setup)
     → reading_in v (placement ∷ side ∷ castling ∷ target ∷ halfmove ∷ fullmove ∷ []) ≡ Ok q → IsSound q
-six_sound v placement side castling target halfmove fullmove q h =
-    let (men, placed, h1) = bound _ _ q h in
-    let (colour, sided, h2) = bound _ _ q h1 in
-    let (rights, named, h3) = bound _ _ q h2 in
-    let (passed, targeted, h4) = bound _ _ q h3 in
-    let (clock, clocked, h5) = bound _ _ q h4 in
-    let (number, numbered, h6) = bound _ _ q h5 in
-    sound_if castling _ q (board_long placement men (found (placement_of placement) faults.Placement men placed)) h6
+six_sound v placement side castling target halfmove fullmove q h = at (placement_of placement) refl h
+  where
+    at : (o : Option Row) → placement_of placement ≡ o → (do
+      men ← ok_or o faults.Placement
+      read_on v castling men (side_of side)
+          (if is_castling_field v castling then Ok (rights_in v men castling) else Err faults.Castling)
+          (target_of target) (short_number 6 halfmove) (short_number 6 fullmove)) ≡ Ok q → IsSound q
+    at None e k = absurd (cc)
+    at (Some men) e k = on_sound v castling men (side_of side)
+        (if is_castling_field v castling then Ok (rights_in v men castling) else Err faults.Castling)
+        (target_of target) (short_number 6 halfmove) (short_number 6 fullmove) q (board_long placement men e) k
 
 fields_sound : (v : Variant) (fields : List (List ℕ)) (q : Setup) → reading_in v fields ≡ Ok q → IsSound q
 fields_sound v (a ∷ b ∷ c ∷ d ∷ e ∷ f ∷ []) q h = six_sound v a b c d e f q h
