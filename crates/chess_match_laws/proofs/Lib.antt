@@ -19,7 +19,3 @@ mod EndLaw
 mod LastLine
 mod TimeForfeits
 mod VerdictLaw
-mod Tellings
-mod PingLaw
-mod GoLaw
-mod SetupLaw

@@ -1,3 +1,2 @@
 pub mod OfActs
 pub mod Streams
-pub mod Rows

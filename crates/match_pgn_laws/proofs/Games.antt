@@ -1,5 +1,5 @@
 -- What is known of a game of a match: its text is that of a legal game with the outcome that was reported.
-use Rattle.std.proofs.Common.{◌≡◌, ◌∙◌, ℕ, ◌≤◌, ◌+◌, true, false, List, [], ◌∷◌, ◌++◌, length, map, take, None, Some, Option, Ok, Err, Result, refl, sym, ap, subst, arith}
+use Rattle.std.proofs.Common.{◌≡◌, ◌∙◌, ℕ, ◌≤◌, ◌+◌, true, false, List, [], ◌∷◌, ◌++◌, length, map, take, None, Some, Option, Ok, Err, Result, refl, sym, ap, subst, inl, inr, arith}
 use Rattle.std.specs.Prelude.{codes, decimal}
 use Rattle.std.specs.List.{AllByRecursion}
 use Rattle.std.specs.Result.{is_ok}
@@ -20,7 +20,7 @@ use Rattle.chess_match.specs.declared.reason.MatchFault.{MatchFault}
 use Rattle.chess_match_laws.specs.OfActs.{GamesAreLines, OutcomesAreOfTheGame}
 use Rattle.chess_pgn_laws.specs.PgnLaw.{AreTagTexts}
 use Rattle.match_runner.specs.Games.{AreAllGames, FaultlessGames, GameRecord, IsOfPlan, WritesGames, game_texts, score_line, tags_of}
-use Rattle.match_runner.specs.GamesTable.{GamesStep, Outputs, PlaysBy}
+use Rattle.match_runner.specs.GamesTable.{GamesStep, HostStep, OpensClock, Outputs, PlaysBy, PlaysGamesWith, at_host}
 use Rattle.match_runner.specs.declared.fault.GamesFault.{GamesFault}
 use Rattle.match_runner.specs.declared.fault.GamesFault.TheVariants.{WriteFailed, NoMemory, CanNotStart, Game}
 use Rattle.match_runner.specs.declared.plan.GamesPlan.{GamesPlan}
@@ -111,10 +111,10 @@ of_all plan games None (h, many) = of_faultless plan games h
 of_all plan games (Some (number, side, fault)) (before, last, is, h, of, found, counted, few) =
     subst (AllByRecursion (IsOfPlan plan)) (sym is) (with_last plan before last (of_faultless plan before h) of)
 
-pub wrote : (plan : GamesPlan) (result : Result (Unit {0}) GamesFault) (coming : ℕ → Option ℕ)
+scored_by : (plan : GamesPlan) (result : Result (Unit {0}) GamesFault) (coming : ℕ → Option ℕ)
     (passes : List GamesStep → Type 0) (d d' : Outputs) → HasScore result
     → PlaysBy plan result coming passes d d' → Wrote plan result d d'
-wrote plan (Ok v) coming passes d d' s (games, unwritten, (o, writes, took, logs), turns, passed) =
+scored_by plan (Ok v) coming passes d d' s (games, unwritten, (o, writes, took, logs), turns, passed) =
     at unwritten writes
   where
     at : (u : Option GameRecord) → WritesGames plan (Ok v) games u o → Wrote plan (Ok v) d d'
@@ -125,7 +125,7 @@ wrote plan (Ok v) coming passes d d' s (games, unwritten, (o, writes, took, logs
       written = subst (λ (t : ToOutput). OutputTook d.output d'.output t) is took;
     }
     at (Some u) w = absurd w
-wrote plan (Err (Game number text)) coming passes d d' s (games, unwritten, (o, writes, took, logs), turns, passed) =
+scored_by plan (Err (Game number text)) coming passes d d' s (games, unwritten, (o, writes, took, logs), turns, passed) =
     at unwritten writes
   where
     at : (u : Option GameRecord) → WritesGames plan (Err (Game number text)) games u o
@@ -137,6 +137,12 @@ wrote plan (Err (Game number text)) coming passes d d' s (games, unwritten, (o, 
       written = subst (λ (t : ToOutput). OutputTook d.output d'.output t) is took;
     }
     at (Some u) w = absurd w
-wrote plan (Err WriteFailed) coming passes d d' s played = absurd s
-wrote plan (Err NoMemory) coming passes d d' s played = absurd s
-wrote plan (Err (CanNotStart command)) coming passes d d' s played = absurd s
+scored_by plan (Err WriteFailed) coming passes d d' s played = absurd s
+scored_by plan (Err NoMemory) coming passes d d' s played = absurd s
+scored_by plan (Err (CanNotStart command)) coming passes d d' s played = absurd s
+
+pub wrote : (plan : GamesPlan) (result : Result (Unit {0}) GamesFault) (steps : List HostStep) (d d' : Outputs)
+    → HasScore result → PlaysGamesWith plan result steps d d' → Wrote plan result d d'
+wrote plan result steps d d' s (inl (c, by)) =
+    scored_by plan result c (λ at_table. steps ≡ OpensClock c ∷ at_host at_table) d d' s by
+wrote plan result steps d d' s (inr (is, none, kept)) = absurd (subst HasScore is s)

@@ -244,16 +244,15 @@ termination_in_line ending.TimeForfeit = refl
 termination_in_line ending.Unterminated = refl
 
 tags_in_line : (t : Tags) (s : State) → AreTagTexts t → IsSound s.start → AreLines (tag_lines t s)
-tags_in_line t s h sound = (
-  tag_in_line (codes "Event") t.event refl (printable_in_line t.event h.event.printable),
-  tag_in_line (codes "Site") t.site refl (printable_in_line t.site h.site.printable),
-  tag_in_line (codes "Date") t.date refl (printable_in_line t.date h.date.printable),
-  tag_in_line (codes "Round") t.round refl (printable_in_line t.round h.round.printable),
-  tag_in_line (codes "White") t.white refl (printable_in_line t.white h.white.printable),
-  tag_in_line (codes "Black") t.black refl (printable_in_line t.black h.black.printable),
-  tag_in_line (codes "Result") (outcome_text (outcome_now s)) refl (outcome_in_line (outcome_now s)),
-  start_then (is_fischerandom s.start.variant || not (is_initial s.start)),
-)
+tags_in_line t s h sound =
+    (tag_in_line (codes "Event") t.event refl (printable_in_line t.event h.event.printable),
+    (tag_in_line (codes "Site") t.site refl (printable_in_line t.site h.site.printable),
+    (tag_in_line (codes "Date") t.date refl (printable_in_line t.date h.date.printable),
+    (tag_in_line (codes "Round") t.round refl (printable_in_line t.round h.round.printable),
+    (tag_in_line (codes "White") t.white refl (printable_in_line t.white h.white.printable),
+    (tag_in_line (codes "Black") t.black refl (printable_in_line t.black h.black.printable),
+    (tag_in_line (codes "Result") (outcome_text (outcome_now s)) refl (outcome_in_line (outcome_now s)),
+    start_then (is_fischerandom s.start.variant || not (is_initial s.start)))))))))
   where
     how : Termination
     how = termination_of t.ended (outcome_now s)
@@ -266,12 +265,10 @@ tags_in_line t s h sound = (
         → AreLines (list_if b (tag_line (codes "FEN") (fen s.start) ∷ tag_line (codes "SetUp") (codes "1") ∷ [])
         ++ tag_line (codes "Termination") (termination_text how)
         ∷ list_if (is_fischerandom s.start.variant) (tag_line (codes "Variant") (codes "fischerandom") ∷ []))
-    start_then true = (
-      tag_in_line (codes "FEN") (fen s.start) refl (plain_in_line (fen s.start) (fen_plain s.start sound)),
-      refl,
-      tag_in_line (codes "Termination") (termination_text how) refl (termination_in_line how),
-      last (is_fischerandom s.start.variant),
-    )
+    start_then true =
+        (tag_in_line (codes "FEN") (fen s.start) refl (plain_in_line (fen s.start) (fen_plain s.start sound)),
+        (refl, (tag_in_line (codes "Termination") (termination_text how) refl (termination_in_line how),
+        last (is_fischerandom s.start.variant))))
     start_then false = (
       tag_in_line (codes "Termination") (termination_text how) refl (termination_in_line how),
       last (is_fischerandom s.start.variant),

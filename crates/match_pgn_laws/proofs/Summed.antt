@@ -4,6 +4,7 @@ use Rattle.std.specs.Prelude.{codes, decimal, flat_map, ◌==◌}
 use Rattle.std.specs.List.{AllByRecursion, count_by, enumerate_from}
 use Rattle.std.specs.Str.{bytes_eq}
 use Rattle.std.proofs.lemmas.List.{length-map}
+use Rattle.std.proofs.lemmas.List.Sums.{sum_by-cons}
 use Rattle.byte_devices.specs.Transfers.{OutputTook, all_of}
 use Rattle.chess_base.specs.Letters.{new_line}
 use Rattle.chess_base.specs.Men.{other}
@@ -67,7 +68,9 @@ counted : (wanted : ℕ → Outcome) → ((k : ℕ) → wanted (k + 1 + 1) ≡ w
     ≡ games_with (result_tag (wanted n)) (result_tag (wanted (n + 1))) (map tag_of games)
 counted wanted turns n [] = refl
 counted wanted turns n (g ∷ games) =
-    ap (λ k. cond (same_outcome g.end.outcome (wanted n)) 1 0 + k) (counted wanted turns (n + 1) games)
+    sum_by-cons (λ (h : ℕ × GameRecord). cond (same_outcome h.1.end.outcome (wanted h.0)) 1 0) (n, g)
+    (enumerate_from (n + 1) games)
+    ∙ ap (λ k. cond (same_outcome g.end.outcome (wanted n)) 1 0 + k) (counted wanted turns (n + 1) games)
     ∙ ap (λ o. cond (same_outcome g.end.outcome (wanted n)) 1 0
     + games_with (result_tag (wanted (n + 1))) (result_tag o) (map tag_of games)) (turns n)
     ∙ ap (λ (b : Bool). cond b 1 0
@@ -78,24 +81,28 @@ first_turns : (k : ℕ) → first_side (k + 1 + 1) ≡ first_side k
 first_turns k = let same : (k + 1 + 1) % 2 ≡ k % 2 = omega arith in
     ap (λ r. cond (r == 1) White Black) same
 
+-- the line of a score, by its numbers
+abbrev line_of : ℕ → ℕ → ℕ → ℕ → List ℕ
+line_of first second drawn unfinished =
+    codes "score first " ++ decimal first ++ codes " second " ++ decimal second
+    ++ codes " drawn " ++ decimal drawn ++ codes " unfinished " ++ decimal unfinished ++ new_line ∷ []
+
+same_line : (a b c d a' b' c' d' : ℕ) → a ≡ a' → b ≡ b' → c ≡ c' → d ≡ d' → line_of a b c d ≡ line_of a' b' c' d'
+same_line a b c d a' b' c' d' first second drawn unfinished =
+    ap (λ n. line_of n b c d) first ∙ ap (λ n. line_of a' n c d) second ∙ ap (λ n. line_of a' b' n d) drawn
+    ∙ ap (λ n. line_of a' b' c' n) unfinished
+
 pub score_is : (games : List GameRecord) → score_line games ≡ sum_of (map tag_of games)
-score_is games =
-    ap (λ a. line_of a _ _ _) (counted (λ n. win_of (first_side n)) (λ k. ap win_of (first_turns k)) 1 games)
-    ∙ ap (λ b. line_of _ b _ _)
+score_is games = same_line _ _ _ _ _ _ _ _
+    (counted (λ n. win_of (first_side n)) (λ k. ap win_of (first_turns k)) 1 games)
     (counted (λ n. win_of (other (first_side n))) (λ k. ap (λ c. win_of (other c)) (first_turns k)) 1 games)
-    ∙ ap (λ c. line_of _ _ c _) (counted (λ n. Draw) (λ k. refl) 1 games)
-    ∙ ap (λ e. line_of _ _ _ e) (counted (λ n. Unfinished) (λ k. refl) 1 games)
-  where
-    line_of : ℕ → ℕ → ℕ → ℕ → List ℕ
-    line_of first second drawn unfinished =
-        codes "score first " ++ decimal first ++ codes " second " ++ decimal second
-        ++ codes " drawn " ++ decimal drawn ++ codes " unfinished " ++ decimal unfinished ++ new_line ∷ []
+    (counted (λ n. Draw) (λ k. refl) 1 games) (counted (λ n. Unfinished) (λ k. refl) 1 games)
 
 -- ---- the law
 
 pub scores_are_sums : GamesAreLines → OutcomesAreOfTheGame → ScoresAreSums
-scores_are_sums lines outcomes plan result coming passes d d' sound scored played =
-    let w = wrote plan result coming passes d d' scored played in
+scores_are_sums lines outcomes plan result steps d d' sound scored played =
+    let w = wrote plan result steps d d' scored played in
     let found : result_lines (game_texts plan w.games) ≡ map tag_of w.games =
     tags_found outcomes lines plan 1 w.games sound w.of_plan in (
       game_texts plan w.games,

@@ -79,8 +79,8 @@ ReportsAreMade = (strict : Bool) (start : ℕ) (text : List ℕ)
 
 pub matches_pass_verify : GamesAreLines → InEachMatch EndsAtVerdicts → OutcomesAreOfTheGame → ReportsAreMade
     → WrittenTextsHaveNoFault → MatchesPassVerify
-matches_pass_verify lines ends outcomes made faultless strict plan result coming passes d d' sound scored played =
-    let w = wrote plan result coming passes d d' scored played in
+matches_pass_verify lines ends outcomes made faultless strict plan result steps d d' sound scored played =
+    let w = wrote plan result steps d d' scored played in
     let text : List ℕ = game_texts plan w.games in
     let found : result_lines text ≡ map tag_of w.games = tags_found outcomes lines plan 1 w.games sound w.of_plan in
     let reports : List Report = map report_of (tagged plan 1 w.games) in

@@ -1,12 +1,12 @@
 -- The score of a match, as a reader of its output adds it up.
-use Rattle.std.specs.Prelude.{◌≡◌, ⊤, ℕ, ◌+◌, ◌==◌, true, if◌then◌else◌, List, [], ◌∷◌, ◌++◌, length, take, codes, decimal, Option, Result, Ok, Err}
+use Rattle.std.specs.Prelude.{◌≡◌, ⊤, ℕ, ◌+◌, ◌==◌, true, if◌then◌else◌, List, [], ◌∷◌, ◌++◌, length, take, codes, decimal, Result, Ok, Err}
 use Rattle.std.specs.List.{filter, slice_split}
 use Rattle.std.specs.Result.{is_ok}
 use Rattle.std.specs.Str.{bytes_eq}
 use Rattle.byte_devices.specs.Transfers.{OutputTook, all_of}
 use Rattle.chess_base.specs.Letters.{new_line}
 use Rattle.chess_base.specs.Sound.{IsSound}
-use Rattle.match_runner.specs.GamesTable.{GamesStep, Outputs, PlaysBy}
+use Rattle.match_runner.specs.GamesTable.{HostStep, Outputs, PlaysGamesWith}
 use Rattle.match_runner.specs.declared.fault.GamesFault.{GamesFault}
 use Rattle.match_runner.specs.declared.fault.GamesFault.TheVariants.{Game}
 use Rattle.match_runner.specs.declared.plan.GamesPlan.{GamesPlan}
@@ -53,8 +53,7 @@ HasScore _ = ⊥
 -- and then the score, which is the sum of the lines `[Result ..]` above it. If no engine had a fault, there are as many
 -- of these lines as planned games
 abbrev pub ScoresAreSums : Type 0
-ScoresAreSums = (plan : GamesPlan) (result : Result (Unit {0}) GamesFault) (coming : ℕ → Option ℕ)
-    (passes : List GamesStep → Type 0) (d d' : Outputs) → IsSound plan.start → HasScore result
-    → PlaysBy plan result coming passes d d'
+ScoresAreSums = (plan : GamesPlan) (result : Result (Unit {0}) GamesFault) (steps : List HostStep) (d d' : Outputs)
+    → IsSound plan.start → HasScore result → PlaysGamesWith plan result steps d d'
     → (games : List ℕ) × OutputTook d.output d'.output (all_of (games ++ sum_of (result_lines games)))
     × (is_ok result ≡ true → length (result_lines games) ≡ plan.games)

@@ -1,9 +1,9 @@
 -- What `verify` says of the games that a match writes.
-use Rattle.std.specs.Prelude.{◌≡◌, ℕ, Bool, List, [], ◌++◌, map, codes, Option, Result}
+use Rattle.std.specs.Prelude.{◌≡◌, ℕ, Bool, List, [], ◌++◌, map, codes, Result}
 use Rattle.byte_devices.specs.Transfers.{OutputTook, all_of}
 use Rattle.chess_base.specs.Sound.{IsSound}
 use Rattle.chess_game.specs.Results.{outcome_text}
-use Rattle.match_runner.specs.GamesTable.{GamesStep, Outputs, PlaysBy}
+use Rattle.match_runner.specs.GamesTable.{HostStep, Outputs, PlaysGamesWith}
 use Rattle.match_runner.specs.declared.fault.GamesFault.{GamesFault}
 use Rattle.match_runner.specs.declared.plan.GamesPlan.{GamesPlan}
 use Rattle.pgn_verifier.specs.Reports.{AreReports, Report, Game}
@@ -24,8 +24,7 @@ pub record IsVerified (strict : Bool) (text : List ℕ) : Type 0 where
 -- in every match by a plan that starts from a sound position, whose score was written: the games' text above the score
 -- is verified
 abbrev pub MatchesPassVerify : Type 0
-MatchesPassVerify = (strict : Bool) (plan : GamesPlan) (result : Result (Unit {0}) GamesFault)
-    (coming : ℕ → Option ℕ) (passes : List GamesStep → Type 0) (d d' : Outputs) → IsSound plan.start → HasScore result
-    → PlaysBy plan result coming passes d d'
+MatchesPassVerify = (strict : Bool) (plan : GamesPlan) (result : Result (Unit {0}) GamesFault) (steps : List HostStep)
+    (d d' : Outputs) → IsSound plan.start → HasScore result → PlaysGamesWith plan result steps d d'
     → (games : List ℕ) × OutputTook d.output d'.output (all_of (games ++ sum_of (result_lines games)))
     × IsVerified strict games
