@@ -1,6 +1,6 @@
 -- The games that a match writes are verified without a fault.
 use Rattle.std.proofs.Common.{◌≡◌, ◌∙◌, ℕ, ◌+◌, ◌≤◌, ◌<◌, Bool, true, false, List, [], ◌∷◌, ◌++◌, length, map, take, None, refl, sym, ap, subst, append_assoc, append-nil, arith}
-use Rattle.std.specs.Prelude.{flat_map}
+use Rattle.std.specs.Prelude.{codes, flat_map}
 use Rattle.std.specs.List.{AllByRecursion, enumerate_from}
 use Rattle.byte_devices.specs.Transfers.{OutputTook, all_of}
 use Rattle.chess_base.specs.Sound.{IsSound}
@@ -8,7 +8,10 @@ use Rattle.chess_base.specs.declared.man.Move.{Move}
 use Rattle.chess_base.specs.declared.setup.Setup.{Setup}
 use Rattle.chess_game.specs.Ends.{verdict}
 use Rattle.chess_game.specs.Game.{IsPlayable, State, outcome_now}
+use Rattle.chess_game.specs.Results.{outcome_text}
 use Rattle.chess_game.specs.declared.game.TheConstants.{MOST_MOVES}
+use Rattle.chess_game.specs.declared.results.Outcome.{Outcome}
+use Rattle.chess_game.specs.declared.results.Outcome.TheVariants.{WhiteWins, BlackWins, Draw, Unfinished}
 use Rattle.chess_match_laws.specs.OfActs.{EndsAtVerdicts, GamesAreLines, InEachMatch, OutcomesAreOfTheGame}
 use Rattle.match_runner.specs.Games.{GameRecord, IsOfPlan, game_text, game_texts, tags_of}
 use Rattle.match_runner.specs.declared.plan.GamesPlan.{GamesPlan}
@@ -61,13 +64,20 @@ same_text : (plan : GamesPlan) (n : ℕ) (games : List GameRecord)
 same_text plan n [] = refl
 same_text plan n (g ∷ games) = ap (λ t. game_text plan n g ++ t) (same_text plan (n + 1) games)
 
+-- the line that a report's outcome has
+tag_is : (o : Outcome) → codes "[Result \"" ++ outcome_text o ++ codes "\"]" ≡ result_tag o
+tag_is WhiteWins = refl
+tag_is BlackWins = refl
+tag_is Draw = refl
+tag_is Unfinished = refl
+
 same_results : OutcomesAreOfTheGame → (plan : GamesPlan) (n : ℕ) (games : List GameRecord)
     → AllByRecursion (IsOfPlan plan) games
     → map result_reported (map report_of (tagged plan n games)) ≡ map tag_of games
 same_results outcomes plan n [] h = refl
 same_results outcomes plan n (g ∷ games) h =
-    ap (λ o. result_tag o ∷ map result_reported (map report_of (tagged plan (n + 1) games)))
-    (sym (is_game outcomes plan g h.0).outcome)
+    ap (λ l. l ∷ map result_reported (map report_of (tagged plan (n + 1) games)))
+    (tag_is (outcome_now g.after.game.state) ∙ ap result_tag (sym (is_game outcomes plan g h.0).outcome))
     ∙ ap (λ ls. tag_of g ∷ ls) (same_results outcomes plan (n + 1) games h.1)
 
 -- ---- the law
