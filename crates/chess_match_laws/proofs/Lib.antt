@@ -19,3 +19,8 @@ mod EndLaw
 mod LastLine
 mod TimeForfeits
 mod VerdictLaw
+mod Tellings
+mod PingLaw
+mod GoLaw
+mod SetupLaw
+mod OfferLaw
