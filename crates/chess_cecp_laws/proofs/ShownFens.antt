@@ -1,7 +1,6 @@
 -- A position that was shown is set.
-use Rattle.std.proofs.Common.{◌≡◌, ◌∙◌, ◌+◌, ◌≤◌, ℕ, suc, Bool, true, false, ◌||◌, cond, eqb, List, [], ◌∷◌, ◌++◌, length, length-append, drop, take, map, Option, None, Some, Ok, refl, sym, ap, subst, arith}
+use Rattle.std.proofs.Common.{◌≡◌, ◌∙◌, ◌≤◌, ℕ, false, eqb, List, [], ◌∷◌, ◌++◌, length, length-append, drop, take, Option, None, Some, Ok, refl, sym, ap, subst, arith}
 use Rattle.std.specs.Prelude.{codes}
-use Rattle.std.specs.List.{join_with_byte}
 use Rattle.std.proofs.Math.Seq.{take-append_seam}
 use Rattle.std.proofs.lemmas.Bool.Decides.{nat_tests}
 use Rattle.chess_base.specs.Letters.{letter, letter_by}
@@ -13,15 +12,14 @@ use Rattle.chess_base.specs.declared.man.Kind.{Kind}
 use Rattle.chess_base.specs.declared.man.Kind.TheVariants.{King, Queen, Rook, Bishop, Knight, Pawn}
 use Rattle.chess_base.specs.declared.man.Man.{Man}
 use Rattle.chess_base.specs.declared.man.Move.{Move}
-use Rattle.chess_base.specs.declared.man.Variant.{Variant}
 use Rattle.chess_base.specs.declared.setup.Setup.{Setup}
 use Rattle.chess_base.proofs.shared.LegalMoves.{IsSound-after}
 use Rattle.chess_fen.specs.Reading.{fen_reading_as}
 use Rattle.chess_fen.specs.Writing.{fen, fen_rank, placement_text, raised}
 use Rattle.chess_fen.specs.laws.Laws.{WrittenIsReadBack}
-use Rattle.chess_game.specs.Game.{State, current, from_start}
+use Rattle.chess_game.specs.Game.{current}
 use Rattle.chess_game.specs.Line.{IsLine, position_after}
-use Rattle.text_lines.specs.Lines.{LineSeen, is_blank, without_front_blanks}
+use Rattle.text_lines.specs.Lines.{LineSeen, without_front_blanks}
 use Rattle.text_lines.specs.Words.{argument_of}
 use Rattle.chess_cecp.specs.Commands.{command_of, is_ignored, named_command}
 use Rattle.chess_cecp.specs.Held.{SessionSeen}

@@ -1,5 +1,5 @@
 -- No move is made after a verdict, and none beyond the limit.
-use Rattle.std.proofs.Common.{◌≡◌, ◌∙◌, ℕ, ◌+◌, ◌≤◌, ◌<◌, Bool, true, false, List, [], ◌∷◌, ◌++◌, length, length-append, take, refl, sym, ap, subst, None, arith}
+use Rattle.std.proofs.Common.{◌≡◌, ◌∙◌, ℕ, ◌+◌, ◌≤◌, ◌<◌, Bool, true, false, List, [], ◌∷◌, ◌++◌, length, length-append, take, refl, ap, None, arith}
 use Rattle.std.specs.Prelude.{nat_lt}
 use Rattle.std.proofs.Math.Seq.{take-append_seam}
 use Rattle.std.proofs.lemmas.Bool.Decides.{nat_tests}
@@ -10,7 +10,7 @@ use Rattle.chess_base.specs.declared.man.Move.{Move}
 use Rattle.chess_base.specs.declared.setup.Setup.{Setup as Position}
 use Rattle.cecp_engine.specs.EngineLines.{LineKind}
 use Rattle.chess_game.specs.Ends.{verdict}
-use Rattle.chess_match.specs.Acts.{Act, IsMatch, awaits_line, blocks_from}
+use Rattle.chess_match.specs.Acts.{awaits_line, blocks_from}
 use Rattle.chess_match.specs.Effects.{Match, Phase, Opening, BeforeMove, AfterMove, beginning, effect, line_row}
 use Rattle.chess_match.specs.Events.{Silent}
 use Rattle.chess_match.specs.Rules.{Rules}

@@ -1,5 +1,5 @@
 -- Each side is sent `go` once, with the opening of its first turn.
-use Rattle.std.proofs.Common.{◌≡◌, ◌∙◌, ℕ, zero, suc, ◌+◌, ◌-◌, ◌≤◌, Bool, true, false, ◌||◌, List, [], ◌∷◌, ◌++◌, length, length-append, refl, sym, ap, subst, append-nil, append_assoc, Option, arith}
+use Rattle.std.proofs.Common.{◌≡◌, ◌∙◌, ℕ, zero, suc, ◌-◌, ◌≤◌, Bool, true, false, ◌||◌, List, [], ◌∷◌, ◌++◌, length, length-append, refl, sym, ap, subst, append-nil, arith}
 use Rattle.std.specs.Prelude.{codes, if◌then◌else◌, nat_lt}
 use Rattle.std.specs.List.{flat_map}
 use Rattle.std.proofs.lemmas.Grind.{flat_map-append}
@@ -12,16 +12,15 @@ use Rattle.chess_base.specs.Options.{list_if}
 use Rattle.chess_base.proofs.shared.Men.{same_colour-self, same_colour-true}
 use Rattle.cecp_engine.specs.EngineLines.{LineKind}
 use Rattle.cecp_engine.specs.Items.{Item}
-use Rattle.chess_match.specs.Acts.{Act, Block, Happens, IsMatch, IsMatchFrom, awaits_line, is_over}
-use Rattle.chess_match.specs.Effects.{Match, Phase, Handshake, Setup, Opening, BeforeMove, AfterMove, Over, beginning, begins_turn, ends, handshake_lines, line_row, moved, opening, ping_number}
+use Rattle.chess_match.specs.Acts.{Block, Happens, IsMatchFrom, awaits_line}
+use Rattle.chess_match.specs.Effects.{Match, Phase, Handshake, Setup, Opening, BeforeMove, AfterMove, Over, beginning, begins_turn, ends, handshake_lines, line_row, moved, opening}
 use Rattle.chess_match.specs.Events.{Opened}
 use Rattle.chess_match.specs.shared.Parts.{answers_to}
-use Rattle.chess_match.specs.Lines.{SentLine, ping, setup_lines}
+use Rattle.chess_match.specs.Lines.{SentLine, setup_lines}
 use Rattle.chess_match.specs.Rules.{Rules}
 use Rattle.chess_match.specs.declared.reason.Reason.{Reason}
 use Rattle.chess_match.specs.declared.reason.Reason.TheVariants.{Decided}
-use Rattle.chess_match.specs.laws.Laws.{lines_given, match_after}
-use Rattle.chess_match.proofs.shared.LineCases.{LineCases, line_cases, offered_used, offering, said_by, said_used}
+use Rattle.chess_match.proofs.shared.LineCases.{line_cases, offered_used, offering, said_by}
 use Rattle.chess_match_laws.specs.OfActs.{AtEachMoment, AtEachOpening}
 use Rattle.chess_match_laws.specs.Rows.{GoIsSentOnce, WasSentGo, go_text}
 use Rattle.chess_match_laws.proofs.Givings.{lines_due}

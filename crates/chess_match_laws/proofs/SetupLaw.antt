@@ -1,5 +1,5 @@
 -- What an engine is sent in its setup.
-use Rattle.std.proofs.Common.{◌≡◌, ◌∙◌, ℕ, ◌-◌, eqb, arith, Bool, true, false, not, ◌&&◌, None, Some, List, [], ◌∷◌, ◌++◌, refl, sym, ap, subst, append-nil, append_assoc, Option}
+use Rattle.std.proofs.Common.{◌≡◌, ◌∙◌, ℕ, eqb, arith, Bool, true, false, not, ◌&&◌, None, Some, List, [], ◌∷◌, ◌++◌, refl, sym, ap, subst, append-nil, append_assoc, Option}
 use Rattle.std.specs.Prelude.{codes, if◌then◌else◌}
 use Rattle.std.proofs.lemmas.Bool.Decides.{nat_tests}
 use Rattle.std.specs.Option.{option_map_or}
@@ -11,22 +11,21 @@ use Rattle.chess_base.specs.declared.man.Colour.TheVariants.{White, Black}
 use Rattle.chess_base.specs.declared.man.Variant.TheVariants.{Fischerandom, Normal}
 use Rattle.chess_base.specs.declared.setup.Setup.{Setup as Position}
 use Rattle.chess_base.specs.Initial.{initial_setup, initial_setup_of}
-use Rattle.chess_base.specs.Men.{other, same_colour}
+use Rattle.chess_base.specs.Men.{same_colour}
 use Rattle.chess_base.specs.Options.{list_if}
 use Rattle.chess_base.proofs.shared.Men.{same_colour-self}
 use Rattle.chess_fen.specs.Writing.{fen, is_initial}
 use Rattle.chess_text.specs.San.{is_fischerandom}
 use Rattle.cecp_engine.specs.EngineLines.{LineKind}
 use Rattle.cecp_engine.specs.Levels.{LevelSeen, base_text, decimals_text, increment_text, level_text}
-use Rattle.chess_match.specs.Acts.{Act, Block, Happens, IsMatch, IsMatchFrom, awaits_line}
+use Rattle.chess_match.specs.Acts.{Block, Happens, IsMatchFrom, awaits_line}
 use Rattle.chess_match.specs.Effects.{Match, Phase, Handshake, Setup, Opening, BeforeMove, AfterMove, Over, beginning, line_row}
 use Rattle.chess_match.specs.Events.{Line}
-use Rattle.chess_match.specs.shared.Parts.{answers_to}
 use Rattle.chess_match.specs.Lines.{SentLine, Says, bytes_of, ping, setup_lines}
 use Rattle.chess_match.specs.Rules.{Rules, rules_of, start_fen}
 use Rattle.chess_match.specs.declared.patience.Patience.{Patience}
-use Rattle.chess_match.specs.laws.Laws.{lines_given, match_after}
-use Rattle.chess_match.proofs.shared.LineCases.{LineCases, in_turn, line_cases}
+use Rattle.chess_match.specs.laws.Laws.{lines_given}
+use Rattle.chess_match.proofs.shared.LineCases.{in_turn, line_cases}
 use Rattle.chess_match.proofs.shared.Lines.{bytes_of-append}
 use Rattle.chess_match_laws.specs.OfActs.{AtEachLine}
 use Rattle.chess_match_laws.specs.Rows.{IsSetUp, SetUpBy, chess960_setup, normal_setup}

@@ -3,7 +3,6 @@ use Rattle.std.specs.Prelude.{◌≡◌, ◌≤◌, ℕ, zero, suc, ◌+◌, ◌
 use Rattle.std.specs.List.{flat_map, list_any}
 use Rattle.std.specs.Str.{bytes_eq}
 use Rattle.cecp_engine.specs.EngineLines.{LineKind, OffersDraw, ClaimsDraw}
-use Rattle.cecp_engine.specs.Levels.{LevelSeen}
 use Rattle.chess_base.specs.Initial.{initial_setup}
 use Rattle.chess_base.specs.Men.{other, same_colour}
 use Rattle.chess_base.specs.Options.{list_if}

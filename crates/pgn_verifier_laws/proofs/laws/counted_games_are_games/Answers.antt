@@ -1,4 +1,4 @@
-use Rattle.std.proofs.Common.{◌≡◌, ◌∙◌, subst}
+use Rattle.std.proofs.Common.{◌∙◌, subst}
 use Rattle.chess_base.specs.Initial.{initial_setup_of}
 use Rattle.chess_base.specs.Sound.{IsSound}
 use Rattle.chess_base.specs.declared.man.Variant.{Variant}
