@@ -38,6 +38,7 @@ SHORT = {
     "arbiter": "chess_arbiter",
     "laws": "arbiter_laws",
     "runner_laws": "match_runner_laws",
+    "written_laws": "match_pgn_laws",
     "rules": "rules_laws",
     "devices_tests": "byte_devices_tests",
     "base_tests": "chess_base_tests",

@@ -1,3 +1,4 @@
 mod Accepted
 mod PlayedWords
 mod Undone
+mod ShownFens

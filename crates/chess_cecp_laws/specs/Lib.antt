@@ -1,2 +1,3 @@
 pub mod Accepted
 pub mod Undo
+pub mod SetBoard

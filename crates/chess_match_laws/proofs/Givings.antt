@@ -70,7 +70,7 @@ due-append O (b ∷ due) more = ap (λ (l : List SentLine). list_if (same_colour
     (due-append O due more)
     ∙ sym (append_assoc (list_if (same_colour b.to O) b.lines) (lines_due O due) (lines_due O more))
 
-both_due : (first O : Colour) (to : Colour → List SentLine) → lines_due O (blocks_from first to) ≡ to O
+pub both_due : (first O : Colour) (to : Colour → List SentLine) → lines_due O (blocks_from first to) ≡ to O
 both_due first O to =
     due-append O (block_of first (to first)) (block_of (other first) (to (other first)))
     ∙ ap (λ (l : List SentLine). l ++ lines_due O (block_of (other first) (to (other first))))

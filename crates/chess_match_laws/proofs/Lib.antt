@@ -15,7 +15,13 @@ mod LineLaw
 mod ActsInOrder
 mod OneRunLaw
 mod GameLaw
+mod EndLaw
 mod LastLine
 mod TimeForfeits
 mod VerdictLaw
 mod DrawLaw
+mod Tellings
+mod PingLaw
+mod GoLaw
+mod SetupLaw
+mod OfferLaw

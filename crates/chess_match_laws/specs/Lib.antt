@@ -1,2 +1,3 @@
 pub mod OfActs
 pub mod Streams
+pub mod Rows

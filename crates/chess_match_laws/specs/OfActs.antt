@@ -1,5 +1,5 @@
 -- Laws of the acts of a match.
-use Rattle.std.specs.Prelude.{◌≡◌, ◌<◌, ◌≤◌, ◌+◌, ◌-◌, ◌*◌, ◌^◌, ◌&&◌, ◌⊎◌, ℕ, Bool, true, false, if◌then◌else◌, List, [], ◌∷◌, ◌++◌, length, drop, nat_lt, sum, codes, slice_get, Option, None, Some, is_some, unwrap_or}
+use Rattle.std.specs.Prelude.{◌≡◌, ◌<◌, ◌≤◌, ◌+◌, ◌-◌, ◌*◌, ◌^◌, ◌&&◌, ◌⊎◌, ℕ, Bool, true, false, if◌then◌else◌, List, [], ◌∷◌, ◌++◌, length, drop, take, nat_lt, sum, codes, slice_get, Option, None, Some, is_some, unwrap_or}
 use Rattle.std.specs.List.{flat_map, fold, list_any}
 use Rattle.std.specs.Option.{IfSome, option_map_or}
 use Rattle.byte_devices.specs.Devices.{OutputState}
@@ -298,6 +298,12 @@ MovesSentAreKnown r S H m =
 abbrev pub GamesAreLines : Type 0
 GamesAreLines = (start : Position) (level : LevelSeen) (patience : Patience) (draws : Draws) (limit : ℕ) (H : List Act)
     (final : Match) → IsMatch (rules_of start level patience draws limit) H final → IsLine start final.played
+
+-- the match has no move after a verdict of the board, and no more than the limit: after fewer than all of its moves the
+-- board has no verdict
+abbrev pub EndsAtVerdicts : Rules → List Act → Match → Type 0
+EndsAtVerdicts r H m = (length m.played ≤ r.limit)
+    × ((k : ℕ) → k < length m.played → verdict r.start (take k m.played) ≡ None)
 
 -- ---- clocks
 

@@ -1,7 +1,8 @@
 //! Laws of matches.
 
 ghost use Rattle.std.specs.Prelude.{true, false};
-ghost use Rattle.chess_match_laws.specs.OfActs.{AtEachLine, AtEachMoment, AtEachOpening, InEachMatch, EndsAfterItsActs, AutomaticDrawsEndMatches, LinesAreReadInOrder, SilencesAreReadInOrder, NothingIsDueAtEvents, FailedBlocksAreLast, OneBlockFails, WriteFaultsAreOfBlocks, OnlyOneMatch, OneMatchButForEndLines, OnlyOneMatchOfARun, DecidedByTheBoard, OutcomesAreOfTheGame, LastLineIsTheirs, MovesAreRead, ItemsAreSaid, MovesAreSent, EachIsSentOthersMoves, AllMovesAreGiven, AllMovesAreSent, IsSentAllMoves, MovesSentAreKnown, GamesAreLines, TimesAreClocks, OtherTimesAreClocks, UsedTimesAreDifferences, ClocksDoNotUnderflow, LinesAreFew, SilencesAreAskedFor, SilencesChangeNothing, SilencesEndMatches, TimeForfeitsAreShown, NotesAreInOrder, NotesHaveTheEvents, NotesHaveAllLines, NotesHaveLinesRead, NotesHaveMoments};
+ghost use Rattle.chess_match_laws.specs.OfActs.{AtEachLine, AtEachMoment, AtEachOpening, InEachMatch, EndsAfterItsActs, AutomaticDrawsEndMatches, LinesAreReadInOrder, SilencesAreReadInOrder, NothingIsDueAtEvents, FailedBlocksAreLast, OneBlockFails, WriteFaultsAreOfBlocks, OnlyOneMatch, OneMatchButForEndLines, OnlyOneMatchOfARun, DecidedByTheBoard, OutcomesAreOfTheGame, LastLineIsTheirs, MovesAreRead, ItemsAreSaid, MovesAreSent, EachIsSentOthersMoves, AllMovesAreGiven, AllMovesAreSent, IsSentAllMoves, MovesSentAreKnown, GamesAreLines, TimesAreClocks, OtherTimesAreClocks, UsedTimesAreDifferences, ClocksDoNotUnderflow, LinesAreFew, SilencesAreAskedFor, SilencesChangeNothing, SilencesEndMatches, TimeForfeitsAreShown, NotesAreInOrder, NotesHaveTheEvents, NotesHaveAllLines, NotesHaveLinesRead, NotesHaveMoments, EndsAtVerdicts};
+ghost use Rattle.chess_match_laws.specs.Rows.{AgreedDrawsAreOffered, GoIsSentOnce, IsSetUp, PingsAreNumbered, WasSentGo};
 ghost use Rattle.chess_match.specs.laws.Laws.{VerdictsEndMatches};
 
 use chess_text::read_moves_are_legal;
@@ -64,6 +65,12 @@ pub fn games_are_lines()
 {
     read_moves_are_legal();
 }
+
+/// States a law and does nothing: a match has no move after a verdict of the board, such as mate, and no more half-moves
+/// than its limit.
+pub fn games_end_at_verdicts()
+    ensures { InEachMatch EndsAtVerdicts }
+{}
 
 /// States a law and does nothing: the two engines' lines say which moves each is sent, but for the last. Their `move`
 /// lines denote moves in turn, and each engine is sent the other's, each once and in order, in SAN or by squares, as
@@ -159,4 +166,32 @@ pub fn acts_are_in_order()
     ensures lines { LinesAreReadInOrder }
     ensures silences { SilencesAreReadInOrder }
     ensures events { NothingIsDueAtEvents }
+{}
+
+/// States a law and does nothing: an engine is set up by these lines, which it is sent last before its `pong 1`. Two
+/// examples are worked out: normal chess from the initial position, with 40 moves in 5 minutes, and Chess960 from that
+/// position, with 2 minutes and 12 seconds for each move.
+pub fn setups_are_these_lines()
+    ensures { AtEachLine IsSetUp }
+{}
+
+/// States a law and does nothing: the n-th `ping` that an engine is sent has the number n; so far too, while the match
+/// is on.
+pub fn pings_are_numbered()
+    ensures whole { InEachMatch PingsAreNumbered }
+    ensures so_far { AtEachMoment PingsAreNumbered }
+{}
+
+/// States a law and does nothing: each engine is sent `go` at most once, and it was sent when the clock is read for the
+/// opening of one of its turns.
+pub fn go_is_sent_once()
+    ensures whole { InEachMatch GoIsSentOnce }
+    ensures so_far { AtEachMoment GoIsSentOnce }
+    ensures opened { AtEachOpening WasSentGo }
+{}
+
+/// States a law and does nothing: in a match that ended by agreement one side offered a draw, and then the other, by the
+/// last line that was read; and in between the latter made no move, since by its move the offer would have lapsed.
+pub fn agreed_draws_are_offered()
+    ensures { InEachMatch AgreedDrawsAreOffered }
 {}

@@ -9,3 +9,5 @@ mod WrittenGames
 mod WrittenTexts
 mod BlanksSkipped
 mod SpansFound
+mod SoundStarts
+mod CountedGames

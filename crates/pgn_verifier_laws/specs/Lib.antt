@@ -2,3 +2,4 @@ pub mod NoFaults
 pub mod Parts
 pub mod Spans
 pub mod WrittenGames
+pub mod Counted

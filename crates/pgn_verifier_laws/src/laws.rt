@@ -7,14 +7,17 @@ ghost use Rattle.pgn_verifier.specs.declared.game_fault.GameFault.{GameFault};
 ghost use Rattle.pgn_pieces.specs.Pieces.{known_pieces};
 ghost use Rattle.pgn_verifier.specs.Collection.{AreCollectionReports};
 ghost use Rattle.pgn_verifier.specs.GameFaults.{IsJudged};
-ghost use Rattle.pgn_verifier.specs.Reports.{AreReports, Placed, without_spans};
+ghost use Rattle.pgn_verifier.specs.Reports.{AreReports, Placed, Report, without_spans};
 ghost use Rattle.pgn_verifier.specs.laws.Reported.{collection_placed, collection_reports, judged_at, placed_on, read_at, reports_on};
+ghost use Rattle.pgn_verifier_laws.specs.Counted.{CountedGamesAreGames, CountedGamesOfPiecesAreGames};
 ghost use Rattle.pgn_verifier_laws.specs.NoFaults.{FaultlessTextsAreReportedAlike};
 ghost use Rattle.pgn_verifier_laws.specs.Parts.{GamesAreInParts, WholeGamesAreReportedAlike, PiecesAreReportedAlike, TextsAreReportedInParts};
 ghost use Rattle.pgn_verifier_laws.specs.Spans.{SpansMakeUpTheText, SpansMakeUpTheCollection};
 ghost use Rattle.pgn_verifier_laws.specs.WrittenGames.{WrittenGamesHaveNoFault, WrittenTextsHaveNoFault};
 
-use chess_pgn_laws::{a_game_is_tags_and_moves, pgn_is_read_back};
+use chess_base::{Position, Variant};
+use chess_pgn_laws::{a_game_is_tags_and_moves, games_are_of_tokens, pgn_is_read_back};
+use chess_text::read_moves_are_legal;
 
 /// States a law and does nothing: a game is judged in one way, and a text and a collection have one list of reports. It
 /// is the one that is made by reading games one after another. Without their spans the reports are those of which the
@@ -91,4 +94,24 @@ pub fn spans_make_up_the_text()
 {
     // The prover wants this law: a game is read token by token.
     a_game_is_tags_and_moves();
+}
+
+/// States a law: a game that `verify` counts is a game. It has a sound start, and as many moves as the report says, one
+/// for each word between the tags and the termination marker that is no number and no marks. Each move is legal where it
+/// is made, and the one legal move that its word denotes. Before the last one there was no verdict. The next game begins
+/// where this one ends.
+///
+/// It refuses a move after mate, a word that is passed over, and a report of another number of half-moves.
+pub fn counted_games_are_games()
+    ensures text { CountedGamesAreGames }
+    ensures piece { CountedGamesOfPiecesAreGames }
+{
+    // The prover wants these laws: a game that is read is made of its tokens, and moves that are read are legal.
+    games_are_of_tokens();
+    read_moves_are_legal();
+    // The prover wants these facts: the initial position of either variant is sound.
+    let normal = Position::initial_of(Variant::Normal);
+    let _normal_sound = normal.setup();
+    let fischerandom = Position::initial_of(Variant::Fischerandom);
+    let _fischerandom_sound = fischerandom.setup();
 }

@@ -1,0 +1,161 @@
+-- A position that was shown is set.
+use Rattle.std.proofs.Common.{◌≡◌, ◌∙◌, ◌≤◌, ℕ, false, eqb, List, [], ◌∷◌, ◌++◌, length, length-append, drop, take, Option, None, Some, Ok, refl, sym, ap, subst, arith}
+use Rattle.std.specs.Prelude.{codes}
+use Rattle.std.proofs.Math.Seq.{take-append_seam}
+use Rattle.std.proofs.lemmas.Bool.Decides.{nat_tests}
+use Rattle.chess_base.specs.Letters.{letter, letter_by}
+use Rattle.chess_base.specs.Moves.{after}
+use Rattle.chess_base.specs.Sound.{IsSound}
+use Rattle.chess_base.specs.declared.man.Colour.{Colour}
+use Rattle.chess_base.specs.declared.man.Colour.TheVariants.{White, Black}
+use Rattle.chess_base.specs.declared.man.Kind.{Kind}
+use Rattle.chess_base.specs.declared.man.Kind.TheVariants.{King, Queen, Rook, Bishop, Knight, Pawn}
+use Rattle.chess_base.specs.declared.man.Man.{Man}
+use Rattle.chess_base.specs.declared.man.Move.{Move}
+use Rattle.chess_base.specs.declared.setup.Setup.{Setup}
+use Rattle.chess_base.proofs.shared.LegalMoves.{IsSound-after}
+use Rattle.chess_fen.specs.Reading.{fen_reading_as}
+use Rattle.chess_fen.specs.Writing.{fen, fen_rank, placement_text, raised}
+use Rattle.chess_fen.specs.laws.Laws.{WrittenIsReadBack}
+use Rattle.chess_game.specs.Game.{current}
+use Rattle.chess_game.specs.Line.{IsLine, position_after}
+use Rattle.text_lines.specs.Lines.{LineSeen, without_front_blanks}
+use Rattle.text_lines.specs.Words.{argument_of}
+use Rattle.chess_cecp.specs.Commands.{command_of, is_ignored, named_command}
+use Rattle.chess_cecp.specs.Held.{SessionSeen}
+use Rattle.chess_cecp.specs.Serving.{Response}
+use Rattle.chess_cecp.specs.Session.{row, session_response, setboard_row}
+use Rattle.chess_cecp.specs.declared.command.Command.{Command}
+use Rattle.chess_cecp.specs.declared.command.Command.TheVariants.{SetBoard, ShowFen}
+use Rattle.chess_cecp_laws.specs.SetBoard.{SetboardTakesShownFens}
+
+-- ---- the position that is shown
+
+last_sound : (p : Setup) (ms : List Move) → IsSound p → IsLine p ms → IsSound (position_after p ms)
+last_sound p [] sound line = sound
+last_sound p (m ∷ ms) sound line = last_sound (after p m) ms (IsSound-after p m sound line.0) line.1
+
+same_variant : (p : Setup) (m : Move) → (after p m).variant ≡ p.variant
+unfolding after
+same_variant p m = refl
+
+last_variant : (p : Setup) (ms : List Move) → (position_after p ms).variant ≡ p.variant
+last_variant p [] = refl
+last_variant p (m ∷ ms) = last_variant (after p m) ms ∙ same_variant p m
+
+-- ---- a FEN begins with no space or tab
+
+-- the first byte, if there is one, comes after the space
+abbrev Begins : List ℕ → Type 0
+Begins [] = Unit {0}
+Begins (c ∷ cs) = 33 ≤ c
+
+by_letter : (c : Colour) (k : Kind) → 33 ≤ letter_by c k
+by_letter White King = omega arith
+by_letter White Queen = omega arith
+by_letter White Rook = omega arith
+by_letter White Bishop = omega arith
+by_letter White Knight = omega arith
+by_letter White Pawn = omega arith
+by_letter Black King = omega arith
+by_letter Black Queen = omega arith
+by_letter Black Rook = omega arith
+by_letter Black Bishop = omega arith
+by_letter Black Knight = omega arith
+by_letter Black Pawn = omega arith
+
+letter_high : (man : Man) → 33 ≤ letter man
+letter_high man = by_letter man.colour man.kind
+
+raised_begins : (text : List ℕ) → Begins text → Begins (raised text)
+raised_begins [] h = tt
+raised_begins (c ∷ cs) h = omega (arith, h)
+
+rank_begins : (row : List (Option Man)) → Begins (fen_rank row)
+rank_begins [] = tt
+rank_begins (Some man ∷ row) = letter_high man
+rank_begins (None ∷ None ∷ row) = raised_begins (fen_rank (None ∷ row)) (rank_begins (None ∷ row))
+rank_begins (None ∷ Some man ∷ row) = omega arith
+rank_begins (None ∷ []) = omega arith
+
+-- it has a first byte, which comes after the space
+abbrev Starts : List ℕ → Type 0
+Starts text = (c : ℕ) × (cs : List ℕ) × (text ≡ c ∷ cs) × (33 ≤ c)
+
+starts_by : (x rest : List ℕ) (c : ℕ) → Begins x → 33 ≤ c → Starts (x ++ c ∷ rest)
+starts_by [] rest c h k = (c, rest, refl, k)
+starts_by (b ∷ bs) rest c h k = (b, bs ++ c ∷ rest, refl, h)
+
+starts_more : (x rest : List ℕ) → Starts x → Starts (x ++ rest)
+starts_more x rest (c, cs, is, high) = (c, cs ++ rest, ap (λ t. t ++ rest) is, high)
+
+placement_starts : (men : List (Option Man)) → Starts (placement_text men)
+unfolding placement_text
+placement_starts men =
+    starts_by (fen_rank (take 8 (drop 56 men))) _ 47 (rank_begins (take 8 (drop 56 men))) (omega arith)
+
+fen_starts : (p : Setup) → Starts (fen p)
+fen_starts p = starts_more (placement_text p.men) _ (placement_starts p.men)
+
+kept : (text : List ℕ) → Starts text → without_front_blanks text ≡ text
+kept text (c, cs, is, high) =
+    let space : eqb c 32 ≡ false = grind (arith, nat_tests, high) in
+    let tab : eqb c 9 ≡ false = grind (arith, nat_tests, high) in
+    subst (λ t. without_front_blanks t ≡ t) (sym is) (rw (space, tab) refl)
+
+-- ---- the two lines
+
+asks : command_of (codes "showfen") ≡ ShowFen
+unfolding command_of named_command is_ignored
+asks = refl
+
+sets : (text : List ℕ) → command_of (codes "setboard " ++ text) ≡ SetBoard
+unfolding command_of named_command is_ignored
+sets text = refl
+
+takes : (text : List ℕ) → Starts text → argument_of (codes "setboard " ++ text) ≡ text
+unfolding argument_of
+takes text h = kept text h
+
+-- how a session responds to a line that is not too long, by its text and its command
+abbrev by_command : SessionSeen → List ℕ → Command → Response SessionSeen
+by_command seen text command =
+    let r = row seen.tags seen.limit seen.state text (argument_of text) command in
+    record { text = r.text; state = record seen { state = r.state }; ends = r.ends }
+
+responds_by : (seen : SessionSeen) (line : LineSeen) (text : List ℕ) (command : Command) → line.too_long ≡ false
+    → line.text ≡ text → command_of text ≡ command → session_response seen line ≡ by_command seen text command
+unfolding session_response
+responds_by seen line text command fits same is = rw (fits, same, is) refl
+
+-- ---- the law
+
+-- texts that are the same with a line end after them
+same_text : (a b : List ℕ) → a ++ 10 ∷ [] ≡ b ++ 10 ∷ [] → a ≡ b
+same_text a b e =
+    let m = length-append a (10 ∷ []) in
+    let n = length-append b (10 ∷ []) in
+    let long : length a ≡ length b = omega (arith, ap length e, m, n) in
+    sym (take-append_seam a (10 ∷ [])) ∙ ap (take (length a)) e
+    ∙ ap (λ k. take k (b ++ 10 ∷ [])) long ∙ take-append_seam b (10 ∷ [])
+
+-- what was written is the FEN of the position
+fen_shown : (p : Setup) (text : List ℕ) → codes "# fen " ++ (fen p ++ 10 ∷ []) ≡ codes "# fen " ++ text ++ 10 ∷ []
+    → fen p ≡ text
+fen_shown p text e = same_text (fen p) text (ap (drop 6) e)
+
+pub shown_fens_are_set : WrittenIsReadBack → SetboardTakesShownFens
+shown_fens_are_set law shown set asking setting text playable same asks_it wrote sets_it =
+    let p : Setup = current shown.state in
+    let first = responds_by shown asking (codes "showfen") ShowFen asks_it.fits asks_it.is asks in
+    let is : fen p ≡ text = fen_shown p text (sym (ap (λ (r : Response SessionSeen). r.text) first) ∙ wrote) in
+    let sound : IsSound p = last_sound shown.state.start shown.state.moves playable.start playable.line in
+    let variant : p.variant ≡ set.state.start.variant =
+    last_variant shown.state.start shown.state.moves ∙ sym same in
+    let read : fen_reading_as set.state.start.variant text ≡ Ok p =
+    sym (ap (λ v. fen_reading_as v text) variant) ∙ sym (ap (fen_reading_as p.variant) is) ∙ law p sound in
+    let argument : argument_of (codes "setboard " ++ text) ≡ text = takes text (subst Starts is (fen_starts p)) in
+    let second = responds_by set setting (codes "setboard " ++ text) SetBoard sets_it.fits sets_it.is (sets text) in
+    ap (λ (r : Response SessionSeen). r.state.state) second
+    ∙ ap (λ t. (setboard_row set.state (fen_reading_as set.state.start.variant t)).state) argument
+    ∙ ap (λ r. (setboard_row set.state r).state) read

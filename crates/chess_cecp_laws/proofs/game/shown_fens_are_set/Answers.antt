@@ -1,0 +1,5 @@
+use Rattle.chess_cecp_laws.proofs.ShownFens.{shown_fens_are_set}
+use Rattle.chess_cecp_laws.proofs.game.shown_fens_are_set.Goals as goal
+
+pub returns : goal.returns
+returns c = shown_fens_are_set c.written_is_denoted.ensures.read_back

@@ -1,0 +1,5 @@
+use Rattle.chess_match_laws.proofs.OfferLaw.{agreed_draws_are_offered}
+use Rattle.chess_match_laws.proofs.laws.agreed_draws_are_offered.Goals as goal
+
+pub returns : goal.returns
+returns c = agreed_draws_are_offered

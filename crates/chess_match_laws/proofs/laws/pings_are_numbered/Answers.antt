@@ -1,0 +1,10 @@
+use Rattle.chess_match_laws.proofs.PingLaw.{pings_are_numbered}
+use Rattle.chess_match_laws.proofs.Points.{in_each}
+use Rattle.chess_match_laws.specs.Rows.{PingsAreNumbered}
+use Rattle.chess_match_laws.proofs.laws.pings_are_numbered.Goals as goal
+
+pub returns-clause-whole : goal.returns-clause-whole
+returns-clause-whole c = in_each PingsAreNumbered pings_are_numbered
+
+pub returns-clause-so_far : goal.returns-clause-so_far
+returns-clause-so_far c = pings_are_numbered

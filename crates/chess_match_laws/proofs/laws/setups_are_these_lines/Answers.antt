@@ -1,0 +1,5 @@
+use Rattle.chess_match_laws.proofs.SetupLaw.{is_set_up}
+use Rattle.chess_match_laws.proofs.laws.setups_are_these_lines.Goals as goal
+
+pub returns : goal.returns
+returns c = is_set_up

@@ -1,0 +1,105 @@
+-- Second accounts of the lines that engines are sent and send: without the state of a match.
+use Rattle.std.specs.Prelude.{◌≡◌, ◌≤◌, ℕ, zero, suc, ◌+◌, ◌&&◌, Bool, true, false, List, [], ◌∷◌, ◌++◌, length, take, codes, decimal, Option}
+use Rattle.std.specs.List.{flat_map, list_any}
+use Rattle.std.specs.Str.{bytes_eq}
+use Rattle.cecp_engine.specs.EngineLines.{LineKind, OffersDraw, ClaimsDraw}
+use Rattle.chess_base.specs.Initial.{initial_setup}
+use Rattle.chess_base.specs.Men.{other, same_colour}
+use Rattle.chess_base.specs.Options.{list_if}
+use Rattle.chess_base.specs.declared.man.Colour.{Colour}
+use Rattle.chess_base.specs.declared.man.Variant.TheVariants.{Fischerandom}
+use Rattle.chess_base.specs.declared.setup.Setup.{Setup as Position}
+use Rattle.chess_fen.specs.Writing.{fen}
+use Rattle.chess_match.specs.Acts.{Act, Happens}
+use Rattle.chess_match.specs.Effects.{Match, Over, Setup}
+use Rattle.chess_match.specs.Events.{Line}
+use Rattle.chess_match.specs.Lines.{SentLine, Says, bytes_of}
+use Rattle.chess_match.specs.Rules.{Rules}
+use Rattle.chess_match.specs.declared.reason.Reason.TheVariants.{Agreed}
+use Rattle.chess_match.specs.laws.Laws.{line_kind, lines_given}
+use Rattle.chess_match_laws.specs.OfActs.{only_sends}
+use Rattle.chess_match_laws.specs.Streams.{is_move}
+
+-- ---- setup
+
+-- what sets an engine up for a game of normal chess from the initial position, of 40 moves in 5 minutes
+abbrev pub normal_setup : List ℕ
+normal_setup = codes "new\nlevel 40 5 0\nnopost\neasy\nforce\nping 1\n"
+
+-- what sets it up for a game of Chess960 from this position, of 2 minutes and 12 seconds for each move
+abbrev pub chess960_setup : Position → List ℕ
+chess960_setup start =
+    codes "new\nvariant fischerandom\nlevel 0 2 12\nnopost\neasy\nforce\nsetboard " ++ fen start ++ codes "\nping 1\n"
+
+-- while the `pong 1` of the side `S` is awaited, the last that `S` was sent is this, by these rules
+pub record SetUpBy (r : Rules) (sent : List ℕ) : Type 0 where
+  pub normal : r.start ≡ initial_setup → r.level ≡ record { moves = 40; base = 300000; increment = 0 }
+      → (before : List ℕ) × (sent ≡ before ++ normal_setup)
+  pub chess960 : r.start.variant ≡ Fischerandom → r.level ≡ record { moves = 0; base = 120000; increment = 12000 }
+      → (before : List ℕ) × (sent ≡ before ++ chess960_setup r.start)
+
+abbrev pub IsSetUp : Rules → Colour → List Act → Match → Type 0
+IsSetUp r S H m = m.phase ≡ Setup S → SetUpBy r (bytes_of (lines_given S H))
+
+-- ---- `ping` and `go`
+
+-- the text of a line that begins with `ping `, as a list of one; empty for any other line
+abbrev pub ping_text : SentLine → List (List ℕ)
+ping_text (Says text) = list_if (bytes_eq (take 5 text) (codes "ping ")) (text ∷ [])
+ping_text _ = []
+
+-- so many lines `ping N`, of which the first has this number, and each other one the next
+abbrev pub pings : ℕ → ℕ → List (List ℕ)
+pings number zero = []
+pings number (suc more) = (codes "ping " ++ decimal number) ∷ pings (number + 1) more
+
+-- the n-th `ping` that each side is sent has the number n (one that could not be sent counts)
+abbrev pub PingsAreNumbered : Rules → List Act → Match → Type 0
+PingsAreNumbered r H m = (S : Colour) → let sent = flat_map ping_text (lines_given S H) in sent ≡ pings 1 (length sent)
+
+-- the text of a line `go`, as a list of one; empty for any other line
+abbrev pub go_text : SentLine → List (List ℕ)
+go_text (Says text) = list_if (bytes_eq text (codes "go")) (text ∷ [])
+go_text _ = []
+
+-- each side is sent `go` at most once
+abbrev pub GoIsSentOnce : Rules → List Act → Match → Type 0
+GoIsSentOnce r H m = (S : Colour) → length (flat_map go_text (lines_given S H)) ≤ 1
+
+-- the side `S` was sent `go` once
+abbrev pub WasSentGo : Rules → Colour → List Act → Match → Type 0
+WasSentGo r S H m = length (flat_map go_text (lines_given S H)) ≡ 1
+
+-- ---- offers of a draw
+
+-- whether a line offers a draw: `offer draw`, or `1/2-1/2`, which is an offer if no draw can be claimed
+abbrev pub is_offer : LineKind → Bool
+is_offer OffersDraw = true
+is_offer ClaimsDraw = true
+is_offer _ = false
+
+-- whether this act is a `move` line of the side `S`
+abbrev pub is_move_of : Colour → Act → Bool
+is_move_of S (Happens (Line side text moment)) = same_colour side S && is_move (line_kind text)
+is_move_of S _ = false
+
+-- a draw was agreed by these acts: one side offered it, and then the other, by the last line of all; and in between the
+-- latter made no move, since by that the offer would have lapsed
+pub record IsAgreed (H : List Act) : Type 0 where
+  pub side : Colour
+  pub before : List Act
+  pub offer : Option (List ℕ)
+  pub offered_at : ℕ
+  pub between : List Act
+  pub answer : Option (List ℕ)
+  pub answered_at : ℕ
+  pub after : List Act
+  pub acts : H ≡ before ++ Happens (Line (other side) offer offered_at) ∷ between ++ Happens (Line side answer answered_at) ∷ after
+  pub offered : is_offer (line_kind offer) ≡ true
+  pub answered : is_offer (line_kind answer) ≡ true
+  pub no_move : list_any (is_move_of side) between ≡ false
+  pub last : only_sends after ≡ true
+
+-- so it is in every match that ended by agreement
+abbrev pub AgreedDrawsAreOffered : Rules → List Act → Match → Type 0
+AgreedDrawsAreOffered r H m = m.phase ≡ Over Agreed → IsAgreed H

@@ -1,0 +1,148 @@
+-- What is known of a game of a match: its text is that of a legal game with the outcome that was reported.
+use Rattle.std.proofs.Common.{◌≡◌, ◌∙◌, ℕ, ◌≤◌, ◌+◌, true, false, List, [], ◌∷◌, ◌++◌, length, map, take, None, Some, Option, Ok, Err, Result, refl, sym, ap, subst, inl, inr, arith}
+use Rattle.std.specs.Prelude.{codes, decimal}
+use Rattle.std.specs.List.{AllByRecursion}
+use Rattle.std.specs.Result.{is_ok}
+use Rattle.std.proofs.lemmas.Bool.Decides.{nat_tests}
+use Rattle.std.proofs.lemmas.List.{length-map, length-take}
+use Rattle.byte_devices.specs.Transfers.{OutputTook, ToOutput, all_of}
+use Rattle.chess_base.specs.Sound.{IsSound}
+use Rattle.chess_base.specs.declared.man.Colour.{Colour}
+use Rattle.chess_base.specs.declared.man.Colour.TheVariants.{White, Black}
+use Rattle.chess_game.specs.Game.{Seen, State, outcome_now}
+use Rattle.chess_game.specs.Line.{IsLine}
+use Rattle.chess_game.specs.Results.{IsTagText, cut_tag, shown_byte}
+use Rattle.chess_game.specs.declared.game.TheConstants.{MOST_MOVES}
+use Rattle.chess_match.specs.Acts.{Act, IsMatch}
+use Rattle.chess_match.specs.Effects.{Match}
+use Rattle.chess_match.specs.Rules.{rules_of}
+use Rattle.chess_match.specs.declared.reason.MatchFault.{MatchFault}
+use Rattle.chess_match_laws.specs.OfActs.{GamesAreLines, OutcomesAreOfTheGame}
+use Rattle.chess_pgn_laws.specs.PgnLaw.{AreTagTexts}
+use Rattle.match_runner.specs.Games.{AreAllGames, FaultlessGames, GameRecord, IsOfPlan, WritesGames, game_texts, score_line, tags_of}
+use Rattle.match_runner.specs.GamesTable.{GamesStep, HostStep, OpensClock, Outputs, PlaysBy, PlaysGamesWith, at_host}
+use Rattle.match_runner.specs.declared.fault.GamesFault.{GamesFault}
+use Rattle.match_runner.specs.declared.fault.GamesFault.TheVariants.{WriteFailed, NoMemory, CanNotStart, Game}
+use Rattle.match_runner.specs.declared.plan.GamesPlan.{GamesPlan}
+use Rattle.chess_match.specs.declared.run.MatchEnd.{MatchEnd}
+use Rattle.match_pgn_laws.specs.Scores.{HasScore}
+
+-- ---- tags
+
+each_shown : (text : List ℕ) → AllByRecursion (λ c. (32 ≤ c) × (c ≤ 126)) (map shown_byte text)
+each_shown [] = tt
+each_shown (c ∷ cs) = ((grind (arith, nat_tests), grind (arith, nat_tests)), each_shown cs)
+
+cut_is_tag : (text : List ℕ) → IsTagText (cut_tag text)
+cut_is_tag text = record {
+  few = omega (arith, length-map (take 60 text) shown_byte, length-take 60 text);
+  printable = each_shown (take 60 text);
+}
+
+pub tag_texts : (plan : GamesPlan) (number : ℕ) (end : MatchEnd) → AreTagTexts (tags_of plan number end)
+tag_texts plan number end = record {
+  event = cut_is_tag (codes "CECP match");
+  site = cut_is_tag (codes "?");
+  date = cut_is_tag plan.date.now;
+  round = cut_is_tag (decimal number);
+  white = cut_is_tag _;
+  black = cut_is_tag _;
+}
+
+-- ---- a game
+
+-- the game of this record, as far as its text says it: a match by these rules of which this is the game, the start of
+-- the plan and a line of legal moves; and its outcome is the one that was reported
+pub record IsGame (plan : GamesPlan) (played : GameRecord) : Type 0 where
+  pub acts : List Act
+  pub final : Match
+  pub is_match : IsMatch (rules_of plan.start plan.level plan.patience MOST_MOVES) acts final
+  pub start : played.after.game.state.start ≡ plan.start
+  pub moves : played.after.game.state.moves ≡ final.played
+  pub outcome : played.end.outcome ≡ outcome_now played.after.game.state
+
+pub is_game : OutcomesAreOfTheGame → (plan : GamesPlan) (played : GameRecord) → IsOfPlan plan played
+    → IsGame plan played
+is_game outcomes plan played (limit, spared, (H, reason, notes, by)) =
+    let (final, passed, reported, game) = by in record {
+      acts = H;
+      final = final;
+      is_match = subst (λ (n : ℕ). IsMatch (rules_of plan.start plan.level plan.patience n) H final) limit
+          passed.is_match;
+      start = ap (λ (g : Seen). g.state.start) game;
+      moves = ap (λ (g : Seen). g.state.moves) game;
+      outcome = outcomes H reason _ played.end played.before played.after by;
+    }
+
+pub is_line : GamesAreLines → (plan : GamesPlan) (played : GameRecord) → (g : IsGame plan played)
+    → IsLine played.after.game.state.start played.after.game.state.moves
+is_line lines plan played g =
+    subst (λ p. IsLine p played.after.game.state.moves) (sym g.start)
+    (subst (IsLine plan.start) (sym g.moves)
+    (lines plan.start plan.level plan.patience MOST_MOVES g.acts g.final g.is_match))
+
+pub is_sound : (plan : GamesPlan) (played : GameRecord) → IsGame plan played → IsSound plan.start
+    → IsSound played.after.game.state.start
+is_sound plan played g sound = subst IsSound (sym g.start) sound
+
+-- ---- the games of a match that was played to its score
+
+-- what it wrote: the text of these games, each played by the plan, and the score
+pub record Wrote (plan : GamesPlan) (result : Result (Unit {0}) GamesFault) (d d' : Outputs) : Type 0 where
+  pub games : List GameRecord
+  pub of_plan : AllByRecursion (IsOfPlan plan) games
+  pub all : is_ok result ≡ true → length games ≡ plan.games
+  pub written : OutputTook d.output d'.output (all_of (game_texts plan games ++ score_line games))
+
+of_faultless : (plan : GamesPlan) (games : List GameRecord) → FaultlessGames plan games
+    → AllByRecursion (IsOfPlan plan) games
+of_faultless plan [] h = tt
+of_faultless plan (g ∷ games) ((of, none), h) = (of, of_faultless plan games h)
+
+with_last : (plan : GamesPlan) (before : List GameRecord) (last : GameRecord)
+    → AllByRecursion (IsOfPlan plan) before → IsOfPlan plan last
+    → AllByRecursion (IsOfPlan plan) (before ++ last ∷ [])
+with_last plan [] last h of = (of, tt)
+with_last plan (g ∷ before) last h of = (h.0, with_last plan before last h.1 of)
+
+of_all : (plan : GamesPlan) (games : List GameRecord) (fault : Option (ℕ × Colour × MatchFault))
+    → AreAllGames plan games fault → AllByRecursion (IsOfPlan plan) games
+of_all plan games None (h, many) = of_faultless plan games h
+of_all plan games (Some (number, side, fault)) (before, last, is, h, of, found, counted, few) =
+    subst (AllByRecursion (IsOfPlan plan)) (sym is) (with_last plan before last (of_faultless plan before h) of)
+
+scored_by : (plan : GamesPlan) (result : Result (Unit {0}) GamesFault) (coming : ℕ → Option ℕ)
+    (passes : List GamesStep → Type 0) (d d' : Outputs) → HasScore result
+    → PlaysBy plan result coming passes d d' → Wrote plan result d d'
+scored_by plan (Ok v) coming passes d d' s (games, unwritten, (o, writes, took, logs), turns, passed) =
+    at unwritten writes
+  where
+    at : (u : Option GameRecord) → WritesGames plan (Ok v) games u o → Wrote plan (Ok v) d d'
+    at None (all, is) = record {
+      games = games;
+      of_plan = of_all plan games None all;
+      all = λ e. all.1;
+      written = subst (λ (t : ToOutput). OutputTook d.output d'.output t) is took;
+    }
+    at (Some u) w = absurd w
+scored_by plan (Err (Game number text)) coming passes d d' s (games, unwritten, (o, writes, took, logs), turns, passed) =
+    at unwritten writes
+  where
+    at : (u : Option GameRecord) → WritesGames plan (Err (Game number text)) games u o
+        → Wrote plan (Err (Game number text)) d d'
+    at None (side, fault, all, named, is) = record {
+      games = games;
+      of_plan = of_all plan games (Some (number, side, fault)) all;
+      all = λ e. absurd (cc);
+      written = subst (λ (t : ToOutput). OutputTook d.output d'.output t) is took;
+    }
+    at (Some u) w = absurd w
+scored_by plan (Err WriteFailed) coming passes d d' s played = absurd s
+scored_by plan (Err NoMemory) coming passes d d' s played = absurd s
+scored_by plan (Err (CanNotStart command)) coming passes d d' s played = absurd s
+
+pub wrote : (plan : GamesPlan) (result : Result (Unit {0}) GamesFault) (steps : List HostStep) (d d' : Outputs)
+    → HasScore result → PlaysGamesWith plan result steps d d' → Wrote plan result d d'
+wrote plan result steps d d' s (inl (c, by)) =
+    scored_by plan result c (λ at_table. steps ≡ OpensClock c ∷ at_host at_table) d d' s by
+wrote plan result steps d d' s (inr (is, none, kept)) = absurd (subst HasScore is s)

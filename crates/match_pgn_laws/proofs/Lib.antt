@@ -1,0 +1,4 @@
+mod ResultLines
+mod Games
+mod Summed
+mod Verified

@@ -1,0 +1,35 @@
+//! Laws of what a match writes.
+
+ghost use Rattle.match_pgn_laws.specs.Verified.{MatchesPassVerify};
+ghost use Rattle.match_pgn_laws.specs.Scores.{ScoresAreSums};
+
+use chess_match_laws::{games_are_lines, games_end_at_verdicts, verdicts_end_matches};
+use pgn_verifier_laws::{reports_are_the_only_ones, written_texts_have_no_fault};
+
+/// States a law: the score is the sum of the tags `Result` above it. The last line of a match has for its first engine
+/// how many games it won, lost and drew by the lines `[Result ..]` above, where it has White in the first game, Black in
+/// the second, and so on. Each game has such a line, and no other line of the output begins with `[Result `.
+///
+/// It refuses colours that never change, a draw that counts as a win, and a score of another outcome than the tag's.
+pub fn scores_are_sums()
+    ensures { ScoresAreSums }
+{
+    // The prover wants these laws: a game's moves are legal, and its outcome is the one reported.
+    games_are_lines();
+    verdicts_end_matches();
+}
+
+/// States a law: what a match writes above its score, `verify` accepts, with `--strict` or without: it reports each
+/// game, without a fault and with the outcome of its tag `Result`. (Without `--keep-going`, `verify` takes at most
+/// 16,777,216 bytes.)
+pub fn matches_pass_verify()
+    ensures { MatchesPassVerify }
+{
+    // The prover wants these laws: a game's moves are legal, it ends at a verdict, and games as they are written have
+    // no fault.
+    games_are_lines();
+    games_end_at_verdicts();
+    reports_are_the_only_ones();
+    verdicts_end_matches();
+    written_texts_have_no_fault();
+}

@@ -1,0 +1,180 @@
+-- The games that are counted are games: from what is said of their tokens.
+use Rattle.std.proofs.Common.{◌≡◌, ◌∙◌, ℕ, zero, suc, ◌+◌, ◌-◌, ◌<◌, Bool, true, false, List, [], ◌∷◌, ◌++◌, length, take, Option, Some, None, Ok, refl, sym, ap, subst, append_assoc, append-nil, arith}
+use Rattle.std.specs.Prelude.{if◌then◌else◌, nat_le}
+use Rattle.std.specs.Bool.{MatchBool}
+use Rattle.std.specs.List.{filter, list_all}
+use Rattle.std.specs.Option.{option_map_or}
+use Rattle.chess_base.specs.Initial.{initial_setup_of}
+use Rattle.chess_base.specs.Letters.{is_digit}
+use Rattle.chess_base.specs.MoveList.{moves}
+use Rattle.chess_base.specs.Moves.{after}
+use Rattle.chess_base.specs.Sound.{IsSound}
+use Rattle.chess_base.specs.declared.man.Move.{Move}
+use Rattle.chess_base.specs.declared.man.Variant.{Variant}
+use Rattle.chess_base.specs.declared.setup.Setup.{Setup}
+use Rattle.chess_game.specs.Ends.{verdict}
+use Rattle.chess_game.specs.Game.{State, verdict_now}
+use Rattle.chess_game.specs.Line.{position_after}
+use Rattle.chess_game.specs.declared.game.TheConstants.{MOST_MOVES}
+use Rattle.chess_game.specs.declared.results.Outcome.{Outcome}
+use Rattle.chess_pgn.specs.GameRead.{GameRead, IsRead, tagged_variant}
+use Rattle.chess_pgn.specs.LastTags.{result_tag_of, tag_section}
+use Rattle.chess_pgn.specs.Tokens.{Token, Word}
+use Rattle.chess_pgn.specs.Words.{is_marks}
+use Rattle.chess_pgn.specs.declared.read.PgnEnd.{PgnEnd}
+use Rattle.chess_pgn.specs.declared.word_kind.WordKind.{WordKind}
+use Rattle.chess_pgn.specs.declared.word_kind.WordKind.TheVariants.{End, Number, Marks, Move as MoveWord}
+use Rattle.chess_pgn.specs.laws.WordKinds.{word_kind}
+use Rattle.chess_pgn_laws.specs.GameOfTokens.{AreReadAs, GamesAreOfTokens, IsOfTokens, StopsAt, move_words}
+use Rattle.chess_text.specs.Moves.{denotes, one_of, reading, shape}
+use Rattle.chess_text.specs.declared.reading.Reading.TheVariants as reads
+use Rattle.chess_text.specs.laws.Laws.{ReadMovesAreLegal}
+use Rattle.pgn_pieces.specs.declared.pieces.TheConstants.{PIECE_LEN}
+use Rattle.chess_pgn.specs.declared.read.PgnFaultKind.TheVariants.{TooLong}
+use Rattle.pgn_verifier.specs.Explanations.{shown}
+use Rattle.pgn_verifier.specs.declared.game_fault.FaultKind.TheVariants.{Pgn}
+use Rattle.pgn_verifier.specs.GameFaults.{IsJudged}
+use Rattle.pgn_verifier.specs.Reports.{AreReports, Report, Faulty, none_left, next_game, last_fault}
+use Rattle.pgn_writer.specs.Outcomes.{outcome_of}
+use Rattle.pgn_verifier_laws.specs.Counted.{AreTold, CountedGamesAreGames, CountedGamesOfPiecesAreGames, HasGame, HasGames}
+use Rattle.pgn_verifier_laws.proofs.PartsAlike.{judged_so}
+use Rattle.pgn_verifier_laws.proofs.SoundStarts.{start_sound}
+
+-- ---- moves and their words
+
+one_alone : (ms : List Move) (m : Move) → one_of ms ≡ reads.Move m → ms ≡ m ∷ []
+one_alone [] m h = absurd (cc)
+one_alone (n ∷ []) m h = let same : n ≡ m = cc in ap (λ x. x ∷ []) same
+one_alone (n ∷ k ∷ ms) m h = absurd (cc)
+
+alone : (p : Setup) (word : List ℕ) (m : Move) → reading p word ≡ reads.Move m
+    → filter (λ n. denotes p word n) (moves p) ≡ m ∷ []
+unfolding reading
+alone p word m h = at (shape word) h
+  where
+    at : (b : Bool) → (if b then one_of (filter (λ n. denotes p word n) (moves p)) else reads.NotAMove) ≡ reads.Move m
+        → filter (λ n. denotes p word n) (moves p) ≡ m ∷ []
+    at true e = one_alone (filter (λ n. denotes p word n) (moves p)) m e
+    at false e = absurd (cc)
+
+one_after : (start : Setup) (before : List Move) (m : Move)
+    → position_after start (before ++ m ∷ []) ≡ after (position_after start before) m
+one_after start [] m = refl
+one_after start (n ∷ before) m = one_after (after start n) before m
+
+told : ReadMovesAreLegal → (limit : ℕ) (start : Setup) (done : List Move) (words : List (List ℕ)) (ms : List Move)
+    → AreReadAs limit start done words ms → AreTold (position_after start done) words ms
+told legal limit start done [] [] h = tt
+told legal limit start done [] (m ∷ ms) h = absurd h
+told legal limit start done (w ∷ words) [] h = absurd h
+told legal limit start done (w ∷ words) (m ∷ ms) (unended, room, denoted, more) = (
+  legal (position_after start done) w m denoted,
+  alone (position_after start done) w m denoted,
+  subst (λ (p : Setup). AreTold p words ms) (one_after start done m)
+      (told legal limit start (done ++ m ∷ []) words ms more),
+)
+
+unended : (limit : ℕ) (start : Setup) (done : List Move) (words : List (List ℕ)) (ms : List Move)
+    → AreReadAs limit start done words ms → (k : ℕ) → k < length ms → verdict start (done ++ take k ms) ≡ None
+unended limit start done [] [] h k few = absurd (omega (arith, few))
+unended limit start done [] (m ∷ ms) h k few = absurd h
+unended limit start done (w ∷ words) [] h k few = absurd h
+unended limit start done (w ∷ words) (m ∷ ms) (none, room, denoted, more) zero few =
+    ap (verdict start) (append-nil done) ∙ none
+unended limit start done (w ∷ words) (m ∷ ms) (none, room, denoted, more) (suc k) few =
+    ap (verdict start) (sym (append_assoc done (m ∷ []) (take k ms)))
+    ∙ unended limit start (done ++ m ∷ []) words ms more k (omega (arith, few))
+
+-- ---- the marker
+
+marker_is : (word : List ℕ) (o : Outcome) → word_kind word ≡ End o → outcome_of word ≡ Some o
+marker_is word o h = at (outcome_of word) refl h
+  where
+    none : (a b : Bool) → (let k : WordKind = (if a then Number else if b then Marks else MoveWord) in k) ≡ End o → ⊥
+    none true b e = absurd (cc)
+    none false true e = absurd (cc)
+    none false false e = absurd (cc)
+
+    at : (found : Option Outcome) → outcome_of word ≡ found
+        → option_map_or End found (if list_all is_digit word then Number else if is_marks word then Marks else MoveWord)
+        ≡ End o → outcome_of word ≡ Some o
+    at None e k = absurd (none (list_all is_digit word) (is_marks word) k)
+    at (Some x) e k = let same : x ≡ o = cc in e ∙ ap Some same
+
+-- ---- a game
+
+-- the tokens of a game that ended
+record Ended (text : List ℕ) (tokens : List (ℕ × Token)) (taken : List (ℕ × Token)) (end : PgnEnd) : Type 0 where
+  pub left : ℕ
+  pub marker : List ℕ
+  pub others : List (ℕ × Token)
+  pub all : taken ++ (left, Word marker) ∷ others ≡ tokens
+  pub marks : outcome_of marker ≡ Some end.outcome
+  pub ends : end.offset ≡ length text - left + length marker
+
+ended_at : (text : List ℕ) (v : Variant) (tokens taken others : List (ℕ × Token)) (s : State) (end : PgnEnd)
+    → taken ++ others ≡ tokens → StopsAt MOST_MOVES (length text) v taken others s (Ok (Some end))
+    → Ended text tokens taken end
+ended_at text v tokens taken [] s end all stop = absurd stop
+ended_at text v tokens taken ((left, t) ∷ ts) s end all (word, is, kind, declared, termination, offset) = record {
+  left = left;
+  marker = word;
+  others = ts;
+  all = ap (λ x. taken ++ (left, x) ∷ ts) (sym is) ∙ all;
+  marks = marker_is word end.outcome kind;
+  ends = offset;
+}
+
+module _ (legal : ReadMovesAreLegal) (law : GamesAreOfTokens)
+    (initial : (v : Variant) → IsSound (initial_setup_of v)) where
+  has_game : (strict : Bool) (text : List ℕ) (at : ℕ) (s : State) (end : PgnEnd)
+      → IsJudged strict text at s (Ok (Some end)) → HasGame text at end.offset (length s.moves) end.outcome
+  has_game strict text at s end j =
+      let so = judged_so strict (result_tag_of (length text) j.tokens) (verdict_now s) end j.ended (sym j.is) in
+      let r : GameRead = record { state = s; answer = Ok (Some end) } in
+      let read : IsRead MOST_MOVES text at r = record {
+        tokens = j.tokens;
+        split = j.split;
+        is = ap (λ a. (let g : GameRead = record { state = s; answer = a } in g)) (sym so.0) ∙ sym j.read;
+      } in
+      let v : Variant = tagged_variant (tag_section j.tokens) in
+      let of : IsOfTokens MOST_MOVES (length text) v j.tokens r = law MOST_MOVES text at r read in
+      let over = ended_at text v j.tokens of.taken of.others s end of.all of.stop in
+      record {
+        start = s.start;
+        sound = subst IsSound (sym of.start) (start_sound v (initial_setup_of v) of.taken (initial v));
+        tokens = j.tokens;
+        split = j.split;
+        own = of.taken;
+        left = over.left;
+        marker = over.marker;
+        others = over.others;
+        all = over.all;
+        marks = over.marks;
+        ends = over.ends;
+        moves = s.moves;
+        told = told legal MOST_MOVES s.start [] (move_words of.taken) s.moves of.moves;
+        many = refl;
+        unended = unended MOST_MOVES s.start [] (move_words of.taken) s.moves of.moves;
+      }
+
+  has_games : {strict : Bool} {start : ℕ} {text : List ℕ} {at : ℕ} {reports : List Report}
+      → AreReports strict start text at reports → HasGames text at reports
+  has_games (none_left j) = tt
+  has_games {strict} {start} {text} (next_game {at} {s} {end} {reports} j h) =
+      (end.offset, has_game strict text at s end j, has_games h)
+  has_games (last_fault reason j h) = tt
+
+pub counted_games : ReadMovesAreLegal → GamesAreOfTokens → ((v : Variant) → IsSound (initial_setup_of v))
+    → CountedGamesAreGames
+counted_games legal law initial strict start text reports h = has_games legal law initial h
+
+pub counted_games_of_pieces : ReadMovesAreLegal → GamesAreOfTokens → ((v : Variant) → IsSound (initial_setup_of v))
+    → CountedGamesOfPiecesAreGames
+counted_games_of_pieces legal law initial strict offset piece reports h = at (nat_le (length piece) PIECE_LEN) h
+  where
+    at : (b : Bool) → MatchBool b (AreReports strict offset piece 0 reports)
+        (reports ≡ Faulty (record { kind = Pgn TooLong; offset = offset }) offset (shown piece) ∷ [])
+        → HasGames piece 0 reports
+    at true are = has_games legal law initial are
+    at false is = subst (HasGames piece 0) (sym is) tt
