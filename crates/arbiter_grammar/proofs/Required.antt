@@ -560,11 +560,11 @@ subs_need names =
                     (
                       (refl, (λ t e. refl), refl, refl),
                       (
-                        (refl, (λ t e. e), refl, refl),
+                        (refl, (λ t e. refl), refl, refl),
                         (
                           (refl, (λ t e. refl), refl, refl),
                           (
-                            (refl, (λ t e. refl), refl, refl),
+                            (refl, (λ t e. e), refl, refl),
                             (
                               (refl, (λ t e. refl), refl, refl),
                               (
@@ -572,8 +572,14 @@ subs_need names =
                                 (
                                   (refl, (λ t e. refl), refl, refl),
                                   (
-                                    (refl, (λ t e. e), refl, refl),
-                                    ((refl, (λ t e. refl), refl, refl), tt),
+                                    (refl, (λ t e. refl), refl, refl),
+                                    (
+                                      (refl, (λ t e. refl), refl, refl),
+                                      (
+                                        (refl, (λ t e. e), refl, refl),
+                                        ((refl, (λ t e. refl), refl, refl), tt),
+                                      ),
+                                    ),
                                   ),
                                 ),
                               ),

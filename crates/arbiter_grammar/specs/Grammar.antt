@@ -34,6 +34,8 @@ match_app names = fold with_rule (new_app (codes "match")) (
     record (option_rule (codes "white")) { required = true }
     ∷ record (option_rule (codes "black")) { required = true }
     ∷ option_rule (codes "level")
+    ∷ option_rule (codes "white-level")
+    ∷ option_rule (codes "black-level")
     ∷ option_rule (codes "fen")
     ∷ record (option_rule (codes "games")) { parser = Some (Unsigned 1 1000) }
     ∷ option_rule (codes "date")
