@@ -46,10 +46,11 @@ variant_in value =
     if bytes_eq (unwrap_or (value (codes "variant")) (codes "normal")) (codes "fischerandom") then Fischerandom
     else Normal
 
--- how `--draws` asks for draws to end games: without a claim for `automatic`, by a claim for any other name or none
+-- whether draws must be claimed, by `--draws`: they need no claim for `automatic`, and one for any other name or none
 abbrev pub draws_in : Values → Draws
 draws_in value =
-    if bytes_eq (unwrap_or (value (codes "draws")) (codes "claimed")) (codes "automatic") then Automatic else draws.Claimed
+    if bytes_eq (unwrap_or (value (codes "draws")) (codes "claimed")) (codes "automatic") then Automatic
+    else draws.Claimed
 
 -- whether the flag with this name, such as `quiet` for `--quiet`, was given
 abbrev pub is_set : Text → Values → Bool
@@ -143,8 +144,8 @@ IsReadAs kinds said (Ok plan) = (kinds ≡ []) × IsPlanOf said plan
 IsReadAs kinds said (Err (Words e)) = IsAmong (kind_of e) kinds
 -- out of memory may be reported for any arguments
 IsReadAs kinds said (Err NoMemory) = ⊤
--- `BadLevel`, `BadFen` or `BadDate`: `clap` accepts them, but a level, the FEN or the date of a match is invalid, and this is
--- the fault of the first that is
+-- `BadLevel`, `BadFen` or `BadDate`: `clap` accepts them, but a level, the FEN or the date of a match is invalid, and
+-- this is the fault of the first that is
 IsReadAs kinds said (Err f) = (kinds ≡ []) × (said.command ≡ codes "match") × (levels_start_and_date said.value ≡ Err f)
 
 -- ---- by the grammar
