@@ -1,6 +1,6 @@
 -- The bytes of the setup are those of its lines in their order (Sends.setup_bytes), each put by a call of its own; the
 -- level is that of the side's clock.
-use Rattle.std.proofs.Common.{◌≡◌, ◌∙◌, ap, append_assoc}
+use Rattle.std.proofs.Common.{◌≡◌, ◌∙◌, ap, append_assoc, refl}
 use Rattle.chess_base.specs.declared.man.Colour.{Colour}
 use Rattle.chess_base.specs.declared.man.Colour.TheVariants.{White, Black}
 use Rattle.cecp_engine.specs.Clocks.{ClocksSeen, side_clock}
