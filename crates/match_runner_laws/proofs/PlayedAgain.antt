@@ -14,7 +14,7 @@ use Rattle.chess_base.specs.Options.{list_if}
 use Rattle.chess_game.specs.declared.verdicts.Verdict.{Verdict}
 use Rattle.cecp_engine.specs.EngineLines.{LineKind, Features, Moves, Resigns, OffersDraw, ClaimsDraw, ClaimsWin, Rejects, Answers}
 use Rattle.cecp_engine.specs.Items.{Item, ends_handshake, items_of}
-use Rattle.chess_match.specs.Effects.{Match, Phase, Handshake, Setup, Opening, BeforeMove, AfterMove, Over, Effect, flag_row, before_move, clock, ends, handshake_done, handshake_row, ignores, is_owed_move, judged, awaited_since, line_row, reply_row, silence_row, missing, move_line, move_row, moved, offer_row, ping_number, sends_nothing, sends_to, setup_done, turn_row, with_seat}
+use Rattle.chess_match.specs.Effects.{Match, Phase, Handshake, Setup, Opening, BeforeMove, AfterMove, Over, Effect, flag_row, before_move, clock, ends, handshake_done, handshake_row, ignores, is_owed_move, judged, awaited_since, line_row, reply_row, silence_row, missing, move_line, move_row, moved, offer_row, over_by_position, ping_number, sends_nothing, sends_to, setup_done, turn_row, with_seat}
 use Rattle.chess_match.specs.shared.Parts.{with_answers, farewell}
 use Rattle.chess_text.specs.declared.reading.Reading.{Reading}
 use Rattle.chess_text.specs.declared.reading.Reading.TheVariants as reads
@@ -29,6 +29,7 @@ use Rattle.chess_match.specs.Lines.{SentLine, Says, ping}
 use Rattle.chess_match.specs.shared.Parts.{answers_to}
 use Rattle.chess_match.specs.Reasons.{is_write_fault_of, reported_reason}
 use Rattle.chess_match.specs.declared.reason.Reason.TheVariants as over_by
+use Rattle.chess_match.proofs.shared.LineCases.{draw_by_itself, over_for}
 use Rattle.match_runner_laws.specs.ReadBack.{text_of_result}
 use Rattle.chess_game.specs.Ends.{verdict, claims, draw_claim}
 use Rattle.chess_game.specs.Line.{position_after}
@@ -194,11 +195,13 @@ module _ (r : Rules) (S : Colour) (k : ℕ) (m : Match) (on : is_over m.phase �
       (λ side. zero ((moved S move used m).seat side)) (moved S move 0 (anew k m)).seat
       (λ side. grind (arith, map-append {B = ℕ} (λ u. 0) (m.seat side).used (used ∷ [])))
 
-  decided_again : (v : Option Verdict) (n : Match) (done redone : Effect) → Again r done redone
-      → Again r (option_map_or (λ verdict. ends r (over_by.Decided verdict) n) v done)
-      (option_map_or (λ verdict. ends r (over_by.Decided verdict) (anew k n)) v redone)
-  decided_again (Some v) n done redone h = over_again r (over_by.Decided v) k n (refl, λ c. refl)
-  decided_again None n done redone h = h
+  -- the match is over by its position, or not
+  unless_over_again : (v : Option Verdict) (d : Option DrawClaim) (n : Match) (done redone : Effect) → Again r done redone
+      → Again r (option_map_or (λ reason. ends r reason n) (over_for v d) done)
+      (option_map_or (λ reason. ends r reason (anew k n)) (over_for v d) redone)
+  unless_over_again (Some v) d n done redone h = over_again r (over_by.Decided v) k n (refl, λ c. refl)
+  unless_over_again None (Some claim) n done redone h = over_again r (over_by.Claimed claim) k n (refl, λ c. refl)
+  unless_over_again None None n done redone h = h
 
   before : (used : ℕ) (kind : LineKind) → Again r (before_move r S used kind m) (before_move r S 0 kind (anew k m))
   before used (Moves t) = test_again (nat_le r.limit (length m.played)) _ _ _ _
@@ -214,10 +217,11 @@ module _ (r : Rules) (S : Colour) (k : ℕ) (m : Match) (on : is_over m.phase �
       at reads.NotAMove = illegal
       at (reads.Move move) =
           subst (λ (n : Match). Again r (move_row r S used (reads.Move move) m)
-          (option_map_or (λ verdict. ends r (over_by.Decided verdict) n) (verdict r.start (m.played ++ move ∷ []))
+          (option_map_or (λ reason. ends r reason n) (over_by_position r (m.played ++ move ∷ []))
           (sends_to S (ping (ping_number n S) ∷ []) n)))
           (moved_again move used)
-          (decided_again (verdict r.start (m.played ++ move ∷ [])) (moved S move used m) _ _ (on_again _ _ refl refl))
+          (unless_over_again (verdict r.start (m.played ++ move ∷ [])) (draw_by_itself r (m.played ++ move ∷ []))
+          (moved S move used m) _ _ (on_again _ _ refl refl))
   before used kind = in_turn kind
 
   after : (kind : LineKind)
@@ -230,7 +234,7 @@ module _ (r : Rules) (S : Colour) (k : ℕ) (m : Match) (on : is_over m.phase �
 
   set_up : (side : Colour) → Again r (setup_done r side m) (setup_done r side (anew k m))
   set_up White = on_again _ _ refl refl
-  set_up Black = decided_again (verdict r.start m.played) m _ _ (on_again _ _ refl refl)
+  set_up Black = unless_over_again (verdict r.start m.played) (draw_by_itself r m.played) m _ _ (on_again _ _ refl refl)
 
   handshake : (items : List Item) → Again r (handshake_row r S items m) (handshake_row r S items (anew k m))
   handshake items =
