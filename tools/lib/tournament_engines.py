@@ -12,9 +12,9 @@ from list_files import entries
 
 LIB = Path(__file__).resolve().parent
 MOST_NAME = 60  # characters
-SETTING = re.compile(r"(uci)|(name|dir|memory|cores)=(.*)|option\.([^=]+)(=.*)?")
-SETTINGS = "name=, dir=, memory=, cores=, option.NAME= and uci"
-FIELDS = {"name": "given", "dir": "folder", "memory": "memory", "cores": "cores"}
+SETTING = re.compile(r"(uci)|(name|dir|level|memory|cores)=(.*)|option\.([^=]+)(=.*)?")
+SETTINGS = "name=, dir=, level=, memory=, cores=, option.NAME= and uci"
+FIELDS = {"name": "given", "dir": "folder", "level": "level", "memory": "memory", "cores": "cores"}
 NUMBERS = ("memory", "cores")
 LIKE_A_SETTING = re.compile(r"[\w.]+=.*")
 SPECIAL = re.compile(r"[;#\[\]=\\]")  # what has a backslash before it in polyglot's files
@@ -25,7 +25,7 @@ SET_BY_POLYGLOT = ("Hash", "Threads", "Ponder", "SyzygyPath", "NalimovPath", "UC
 @dataclass
 class Engine:
     """An engine of the list: where its line is, the line, the words of its command, and its settings: the name given
-    there, the folder in which it is started, megabytes of memory, cores, options (their values begin with `=`, or are
+    there, the folder in which it is started, its level of time, megabytes of memory, cores, options (their values begin with `=`, or are
     empty), and whether it speaks UCI. It gets a name later."""
 
     source: str
@@ -33,6 +33,7 @@ class Engine:
     words: list
     given: str = ""
     folder: str = ""
+    level: str = ""
     memory: str = ""
     cores: str = ""
     options: dict = field(default_factory=dict)
@@ -88,6 +89,15 @@ class Engine:
 def escaped(text):
     """Returns a text as polyglot's files have it."""
     return SPECIAL.sub(r"\\\g<0>", text)
+
+
+def kept_level(line):
+    """Returns the level of the engine of a line that was read before, maybe by an earlier version; empty if it has none
+    of its own."""
+    try:
+        return read_engine("", line).level
+    except Wrong:
+        return ""
 
 
 class Wrong(Exception):
@@ -164,7 +174,7 @@ def read_engines(path, with_hosts):
         except Wrong as fault:
             refusals.append(f"{path}:{number}: {fault}")
             continue
-        first = seen.setdefault((engine.given, engine.script), number)
+        first = seen.setdefault((engine.given, engine.script, engine.level), number)
         if first != number:
             refusals.append(f"{engine.source}: the engine of line {first} again")
         elif not with_hosts and (lack := missing(engine)):

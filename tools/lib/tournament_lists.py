@@ -15,9 +15,9 @@ from pathlib import Path
 import needed
 import tournament_openings
 from elo import Sprt
-from tournament_engines import MOST_NAME, read_engines
+from tournament_engines import MOST_NAME, kept_level, read_engines
 
-GIVEN = ("--white", "--black", "--games", "--fen", "--log", "--flag", "--reply-timeout")
+GIVEN = ("--white", "--black", "--white-level", "--black-level", "--games", "--fen", "--log", "--flag", "--reply-timeout")
 DEFAULT_LEVEL = "40 5 0"
 LONG_GAME = 100  # The moves of a game that --timeout should allow.
 MORE_SECONDS = 300  # for answers that are no moves
@@ -56,6 +56,11 @@ class Lists:
 
     def programs(self):
         return sorted({program for engine in self.engines for program in engine.programs()})
+
+    def levels(self):
+        """Returns the levels of time at which the engines play."""
+        common = option_value(self.options, "level", DEFAULT_LEVEL)
+        return [engine.level or common for engine in self.engines]
 
     def games_of_round(self):
         """Returns how many games an opening is played in."""
@@ -116,13 +121,25 @@ def judge_options(options, patience):
         return [f"{given[0]}: the tournament itself sets {', '.join(GIVEN)}"]
     if "--" in options:
         return ["--: a second one"]
+    reason = match_refusal([*patience.options(), *options])
+    return [f"match options {shlex.join(options or patience.options())}: {reason}"] if reason else []
+
+
+def match_refusal(options):
+    """Returns why `arbiter match` refuses these options, or None."""
     nobody = "/dev/null/nobody"
-    words = ["arbiter", "match", "--white", nobody, "--black", nobody, *patience.options(), *options]
+    words = ["arbiter", "match", "--white", nobody, "--black", nobody, *options]
     run = subprocess.run(words, stdout=subprocess.DEVNULL, stderr=subprocess.PIPE, encoding="utf-8", errors="replace")
     if run.returncode == 1 and run.stderr.startswith("arbiter: can not start"):
-        return []
-    reason = run.stderr.split("\n\n")[0].replace("\n", " ").strip() or "they print help or the version"
-    return [f"match options {shlex.join(options or patience.options())}: {reason}"]
+        return None
+    return run.stderr.split("\n\n")[0].replace("\n", " ").strip() or "they print help or the version"
+
+
+def judge_levels(engines):
+    """Returns why levels of engines are refused."""
+    given = [engine for engine in engines if engine.level]
+    reasons = [(engine, match_refusal([f"--white-level={engine.level}"])) for engine in given]
+    return [f"{engine.source}: level='{engine.level}': {reason}" for engine, reason in reasons if reason]
 
 
 def option_value(options, name, default):
@@ -142,21 +159,27 @@ def without_date(options):
     return kept
 
 
-def long_game_seconds(level):
-    """Returns the seconds that a game of LONG_GAME moves can take at a level, by both sides."""
+def long_game_seconds(levels):
+    """Returns the seconds that a game of LONG_GAME moves can take between two engines that play at these levels."""
+    longest = sorted(map(side_seconds, levels))[-2:]
+    return sum(longest) if len(longest) == 2 else 2 * longest[0]
+
+
+def side_seconds(level):
+    """Returns the seconds that a side can take for LONG_GAME moves at a level."""
     moves, base, increment = level.split()
     minutes, _, seconds = base.partition(":")
     controls = -(-LONG_GAME // int(moves)) if int(moves) else 1
-    return 2 * (controls * (Decimal(minutes) * 60 + Decimal(seconds or 0)) + LONG_GAME * Decimal(increment))
+    return controls * (Decimal(minutes) * 60 + Decimal(seconds or 0)) + LONG_GAME * Decimal(increment)
 
 
-def judged_timeout(timeout, options):
+def judged_timeout(timeout, levels):
     """Returns the seconds after which a game is ended: the given ones, with a warning if they end games that are within
     their time, or twice as many as a long game takes and some."""
-    level = option_value(options, "level", DEFAULT_LEVEL)
-    needs = long_game_seconds(level)
+    needs = long_game_seconds(levels)
     if timeout and timeout < needs:
-        takes = f"the {needs:.0f} seconds that a game of {LONG_GAME} moves can take at level '{level}'"
+        label = " or ".join(f"'{level}'" for level in dict.fromkeys(levels))
+        takes = f"the {needs:.0f} seconds that a game of {LONG_GAME} moves can take at level {label}"
         report(f"warning: --timeout {timeout} is less than {takes}; a game that it ends counts for nobody")
     return timeout or math.ceil(2 * needs) + MORE_SECONDS
 
@@ -171,6 +194,7 @@ def read_lists(folder, arguments, options, patience):
     """Reads and judges all lists. Openings are drawn for at least as many rounds as the folder has."""
     engines, refusals, warnings = read_engines(arguments.engines, bool(arguments.hosts))
     wrong_options = judge_options(options, patience)
+    refusals += judge_levels(engines)
     variant = "normal" if wrong_options else option_value(options, "variant", "normal")
     openings, moves, wrong_openings = tournament_openings.read(arguments.openings, variant, arguments.plies)
     refuse(refusals + wrong_options + wrong_openings)
@@ -216,9 +240,11 @@ def kept_value(folder, name):
     return found[0] if found else None
 
 
-def kept_level(folder):
-    """Returns the level of a folder's games."""
-    return option_value(kept_options(folder), "level", DEFAULT_LEVEL)
+def kept_levels(folder):
+    """Returns the level of each engine of a folder, by name."""
+    common = option_value(kept_options(folder), "level", DEFAULT_LEVEL)
+    engines = zip(lines(folder / "names.txt"), lines(folder / "engines.txt"))
+    return {name: kept_level(line) or common for name, line in engines}
 
 
 def kept_faults(folder):

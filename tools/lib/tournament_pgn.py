@@ -42,11 +42,12 @@ def is_board_verdict(reason):
 
 
 class RatedPgn:
-    """How the games of a folder are in rated.pgn: how faults count there, the time control, and the openings as games
-    of PGN (none in a folder of 0.2.0)."""
+    """How the games of a folder are in rated.pgn: how faults count there, the time control of each engine by its name,
+    and the openings as games of PGN (none in a folder of 0.2.0)."""
 
-    def __init__(self, faults, level, openings):
-        self.faults, self.control, self.openings = faults, time_control(level), openings
+    def __init__(self, faults, levels, openings):
+        self.faults, self.openings = faults, openings
+        self.controls = {name: time_control(level) for name, level in levels.items()}
 
     def game(self, outcome, text):
         """Returns a game with the result that counts; nothing if it counts for nobody. Its moves are left out if they
@@ -61,9 +62,16 @@ class RatedPgn:
             words = [] if is_board_verdict(outcome.reason) else words
         if outcome.game.opening < len(self.openings):
             tags, words = from_opening(tags, words, self.openings[outcome.game.opening])
-        tags = [*tags[:ROSTER], *sorted([*tags[ROSTER:], f'[TimeControl "{self.control}"]'])]
+        tags = [*tags[:ROSTER], *sorted([*tags[ROSTER:], *self.control_tags(outcome.game)])]
         lines = textwrap.wrap(" ".join([*words, counts]), COLUMNS, break_long_words=False, break_on_hyphens=False)
         return "\n".join([*tags, "", *lines, "", ""])
+
+    def control_tags(self, game):
+        """Returns the tag TimeControl; one for each side, as cutechess writes them, if their time controls differ."""
+        white, black = self.controls[game.white], self.controls[game.black]
+        if white == black:
+            return [f'[TimeControl "{white}"]']
+        return [f'[WhiteTimeControl "{white}"]', f'[BlackTimeControl "{black}"]']
 
 
 def time_control(level):

@@ -106,11 +106,19 @@ def no_answer(engine, asked, seconds):
 def try_engine(host, engine, opening, options, seconds):
     """Plays an engine's trial on a host. The stub is to move first, and resigns."""
     pair = [STUB, engine.script] if opening.split()[1] == "w" else [engine.script, STUB]
-    seat = match_records.SEATS[pair.index(engine.script)]
-    options = [*Patience(flag=False, reply=seconds).options(), *options]
+    number = pair.index(engine.script)
+    seat = match_records.SEATS[number]
+    levels = level_options(*["", engine.level] if number else [engine.level, ""])
+    options = [*Patience(flag=False, reply=seconds).options(), *options, *levels]
     words = game_words(host, TRIAL_WAITS * seconds, pair, opening, options)
     errors = "" if STOP.at else captured(words, TRIAL_WAITS * seconds + READY_SECONDS)[1]
     return Trial(engine, seat, errors, seconds)
+
+
+def level_options(white, black):
+    """Returns the options of the match for the levels of White's and Black's engine; the texts may be empty."""
+    given = {"--white-level": white, "--black-level": black}
+    return [f"{name}={level}" for name, level in given.items() if level]
 
 
 def game_words(host, seconds, pair, opening, options):
@@ -218,9 +226,11 @@ class Player(Jobs):
 
     def started(self, host, game):
         engines = {engine.name: engine for engine in self.lists.engines}
-        pair = [engines[name].script for name in (game.white, game.black)]
-        opening, options = self.lists.openings[game.opening], [*without_date(self.lists.options), "--date", self.date]
-        words = game_words(host, self.timeout, pair, opening, [*self.lists.patience.options(), *options])
+        pair = [engines[name] for name in (game.white, game.black)]
+        options = [*self.lists.patience.options(), *without_date(self.lists.options), "--date", self.date]
+        options += level_options(*(engine.level for engine in pair))
+        scripts = [engine.script for engine in pair]
+        words = game_words(host, self.timeout, scripts, self.lists.openings[game.opening], options)
         path = self.folder / "running" / str(game.number)
         with open(path, "wb") as output, open(path.with_name(f"{path.name}.err"), "wb") as errors:
             run = Run(words, output, errors)

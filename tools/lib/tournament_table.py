@@ -11,7 +11,7 @@ from dataclasses import dataclass
 import match_records
 import sessions
 import tournament_pairs
-from tournament_lists import Game, kept_faults, kept_games, kept_level, kept_names, kept_sprt, lines, write_lines
+from tournament_lists import Game, kept_faults, kept_games, kept_levels, kept_names, kept_sprt, lines, write_lines
 from tournament_openings import session
 from tournament_pgn import RatedPgn, own_pgn, tag_value, with_tags
 
@@ -407,7 +407,7 @@ class Book:
         self.folder, self.total = folder, total
         self.faults, self.sprt = kept_faults(folder), kept_sprt(folder)
         openings = match_records.written_games(read_text(folder / "openings.pgn"))
-        self.rated = RatedPgn(self.faults, kept_level(folder), openings)
+        self.rated = RatedPgn(self.faults, kept_levels(folder), openings)
         self.found = outcomes(folder)
         self.count()
 

@@ -5,9 +5,8 @@ use Rattle.clap.specs.Words.{HasKind, IsAmong, Kinds, Row, Text, found_of, kind_
 use Rattle.clap.specs.declared.error.Error.{Error}
 use Rattle.clap.specs.declared.parser.matches.ArgMatches.{ArgMatches}
 use Rattle.arbiter_grammar.specs.Grammar.{AreOptionNames, IsComplete, IsParsed, OptionNames, arbiter_app, asked, faults_in}
-use Rattle.arbiter_cli.specs.Plans.{IsMatchPlan, IsPlanOf, IsReadAs, IsReading, Said, Values, is_date, is_set, level_asked, level_start_and_date, number_of, said_by, start_asked}
-use Rattle.arbiter_cli.specs.ties.Requests.{IsJudged, IsJudgedFault, IsMatchOf, IsPlanFault, IsPlanned, IsRequestOf, Refuses, patience_by, start_of}
-use Rattle.cecp_engine.specs.Levels.{level_reading}
+use Rattle.arbiter_cli.specs.Plans.{IsMatchPlan, IsPlanOf, IsReadAs, IsReading, Said, Values, is_date, is_set, levels_asked, levels_by, levels_start_and_date, number_of, said_by, start_asked}
+use Rattle.arbiter_cli.specs.ties.Requests.{IsJudged, IsJudgedFault, IsMatchOf, IsPlanFault, IsPlanned, IsRequestOf, Refuses, levels_in, patience_by, start_of}
 use Rattle.match_runner.specs.declared.plan.GamesPlan.{GamesPlan}
 use Rattle.chess_match.specs.declared.patience.Patience.{Patience}
 use Rattle.arbiter_cli.specs.declared.fault.WordsFault.{WordsFault}
@@ -56,8 +55,9 @@ with_flag value reply = record { flag = is_set (codes "flag") value; reply = rep
 
 -- a match that was taken as written and then judged is played by what its options denote
 module _ (value : Values) (m : MatchRequest) (is : IsMatchOf value m) where
-  level_is : level_asked value ≡ level_reading m.level.now
-  level_is = ap level_reading (sym is.level)
+  level_is : levels_asked value ≡ levels_in m
+  level_is = ap (λ (t : Text). levels_by t (value (codes "white-level")) (value (codes "black-level"))) (sym is.level)
+      ∙ ap₂ (levels_by m.level.now) (sym is.white_level) (sym is.black_level)
 
   start_is : start_asked value ≡ start_of m.variant (option_map (λ t. t.now) m.fen)
   start_is = ap₂ start_of (sym is.variant) (sym is.fen)
@@ -66,7 +66,8 @@ module _ (value : Values) (m : MatchRequest) (is : IsMatchOf value m) where
   match_judged plan validate = record {
     white = is.white ∙ ap (λ (t : Bor Text). Some t.now) (sym validate.white);
     black = is.black ∙ ap (λ (t : Bor Text). Some t.now) (sym validate.black);
-    read = read_as value (Ok plan.level) (Ok plan.start) plan.date.now true (level_is ∙ validate.level)
+    read = read_as value (Ok (plan.white_level, plan.black_level)) (Ok plan.start) plan.date.now true
+        (level_is ∙ validate.levels)
         (start_is ∙ validate.start) (sym is.date ∙ ap (λ (t : Bor Text). t.now) (sym validate.date))
         (ap (λ (t : Bor Text). is_date t.now) validate.date ∙ validate.good_date);
     games = validate.games ∙ is.games;
@@ -77,7 +78,7 @@ module _ (value : Values) (m : MatchRequest) (is : IsMatchOf value m) where
     draws = validate.draws ∙ is.draws;
   }
 
-  judged_fault : (f : WordsFault) → IsJudgedFault m f → level_start_and_date value ≡ Err f
+  judged_fault : (f : WordsFault) → IsJudgedFault m f → levels_start_and_date value ≡ Err f
   judged_fault (Words x) h = absurd h
   judged_fault NoMemory h = absurd h
   judged_fault (BadLevel x) h =

@@ -46,10 +46,11 @@ variant_in value =
     if bytes_eq (unwrap_or (value (codes "variant")) (codes "normal")) (codes "fischerandom") then Fischerandom
     else Normal
 
--- how `--draws` asks for draws to end games: without a claim for `automatic`, by a claim for any other name or none
+-- whether draws must be claimed, by `--draws`: they need no claim for `automatic`, and one for any other name or none
 abbrev pub draws_in : Values → Draws
 draws_in value =
-    if bytes_eq (unwrap_or (value (codes "draws")) (codes "claimed")) (codes "automatic") then Automatic else draws.Claimed
+    if bytes_eq (unwrap_or (value (codes "draws")) (codes "claimed")) (codes "automatic") then Automatic
+    else draws.Claimed
 
 -- whether the flag with this name, such as `quiet` for `--quiet`, was given
 abbrev pub is_set : Text → Values → Bool
@@ -78,22 +79,33 @@ abbrev pub start_asked : Values → Result Setup FenFault
 start_asked value = let v = variant_in value in
     option_map_or (fen_reading_as v) (value (codes "fen")) (Ok (initial_setup_of v))
 
--- the time control of a match, by `--level`; without it `40 5 0`, 40 moves in 5 minutes without an increment
-abbrev pub level_asked : Values → Result LevelSeen LevelFault
-level_asked value = level_reading (unwrap_or (value (codes "level")) (codes "40 5 0"))
+-- the time controls of a match's first engine and of its second one: each has its own, if there is one (`white`,
+-- `black`), otherwise the common one (`text`). All three must be valid; otherwise the fault of the first that is not
+abbrev pub levels_by : Text → Option Text → Option Text → Result (LevelSeen × LevelSeen) LevelFault
+levels_by text white black = do
+  level ← level_reading text
+  first ← option_map_or level_reading white (Ok level)
+  second ← option_map_or level_reading black (Ok level)
+  Ok (first, second)
+
+-- the time controls of the engines of `--white` and `--black`, by `--white-level` and `--black-level`; without these by
+-- `--level`, and without that `40 5 0`, 40 moves in 5 minutes without an increment
+abbrev pub levels_asked : Values → Result (LevelSeen × LevelSeen) LevelFault
+levels_asked value = levels_by (unwrap_or (value (codes "level")) (codes "40 5 0")) (value (codes "white-level"))
+    (value (codes "black-level"))
 
 -- whether a text may be the value of the tag Date: at most 60 bytes of printable ASCII (32 to 126). It need not be a
 -- date
 abbrev pub is_date : Text → Bool
 is_date text = nat_le (length text) 60 && list_all (λ b. nat_le 32 b && nat_le b 126) text
 
--- the time control of a match, the position in which its games start, and their date as a text; or if level, FEN or
--- date is invalid, the fault of the first that is. Without `--date` the date is `????.??.??`
-abbrev pub level_start_and_date : Values → Result (LevelSeen × Setup × Text) WordsFault
-level_start_and_date value = let date = unwrap_or (value (codes "date")) (codes "????.??.??") in do
-  level ← result_map_both (λ level. level) BadLevel (level_asked value)
+-- the time controls of a match's engines, the position in which its games start, and their date as a text; or if a
+-- level, FEN or date is invalid, the fault of the first that is. Without `--date` the date is `????.??.??`
+abbrev pub levels_start_and_date : Values → Result ((LevelSeen × LevelSeen) × Setup × Text) WordsFault
+levels_start_and_date value = let date = unwrap_or (value (codes "date")) (codes "????.??.??") in do
+  levels ← result_map_both (λ levels. levels) BadLevel (levels_asked value)
   start ← result_map_both (λ setup. setup) BadFen (start_asked value)
-  if is_date date then Ok (level, start, date) else Err BadDate
+  if is_date date then Ok (levels, start, date) else Err BadDate
 
 -- how long a match waits for its engines: whether `--flag` was given, and as milliseconds the seconds of
 -- `--reply-timeout`
@@ -104,11 +116,11 @@ patience_of value = record {
 }
 
 -- `plan` is the plan of a match with these options, each as given or by default: `--white` and `--black`, which have no
--- default, are the commands of its engines; level, FEN and date are valid (`read`); and it has 1 to 1,000 games
+-- default, are the commands of its engines; levels, FEN and date are valid (`read`); and it has 1 to 1,000 games
 pub record IsMatchPlan (value : Values) (plan : GamesPlan) : Type 0 where
   pub white : value (codes "white") ≡ Some plan.white.now
   pub black : value (codes "black") ≡ Some plan.black.now
-  pub read : level_start_and_date value ≡ Ok (plan.level, plan.start, plan.date.now)
+  pub read : levels_start_and_date value ≡ Ok ((plan.white_level, plan.black_level), plan.start, plan.date.now)
   -- as many games as `--games` asks for; 1 without `--games`
   pub games : plan.games ≡ option_map_or number_of (value (codes "games")) 1
   pub games_range : (1 ≤ plan.games) × (plan.games ≤ 1000)
@@ -133,9 +145,9 @@ IsReadAs kinds said (Ok plan) = (kinds ≡ []) × IsPlanOf said plan
 IsReadAs kinds said (Err (Words e)) = IsAmong (kind_of e) kinds
 -- out of memory may be reported for any arguments
 IsReadAs kinds said (Err NoMemory) = ⊤
--- `BadLevel`, `BadFen` or `BadDate`: `clap` accepts them, but the level, FEN or date of a match is invalid, and this is
--- the fault of the first that is
-IsReadAs kinds said (Err f) = (kinds ≡ []) × (said.command ≡ codes "match") × (level_start_and_date said.value ≡ Err f)
+-- `BadLevel`, `BadFen` or `BadDate`: `clap` accepts them, but a level, the FEN or the date of a match is invalid, and
+-- this is the fault of the first that is
+IsReadAs kinds said (Err f) = (kinds ≡ []) × (said.command ≡ codes "match") × (levels_start_and_date said.value ≡ Err f)
 
 -- ---- by the grammar
 

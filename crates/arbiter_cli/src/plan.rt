@@ -1,13 +1,15 @@
 //! What arguments ask for.
 
-ghost use Rattle.std.specs.Prelude.{◌≡◌, ◌&&◌, IfErr, IfOk, nat_le, option_map};
+ghost use Rattle.std.specs.Prelude.{◌≡◌, ◌&&◌, IfErr, IfOk, Ok, nat_le, option_map};
 ghost use Rattle.std.specs.List.{list_all};
-ghost use Rattle.arbiter_cli.specs.Plans.{is_date as date_test};
+ghost use Rattle.std.specs.Option.{option_map_or};
+ghost use Rattle.cecp_engine.specs.Levels.{level_reading};
+ghost use Rattle.arbiter_cli.specs.Plans.{is_date as date_test, levels_by};
 ghost use Rattle.arbiter_cli.specs.ties.Requests.{IsJudged, IsJudgedFault, IsPlanFault, IsPlanned, patience_by, start_of};
 
 use crate::fault::WordsFault;
 use crate::request::{MatchRequest, Request};
-use cecp_engine::Level;
+use cecp_engine::{Level, LevelFault};
 use chess_base::{FenFault, Position, Variant};
 use chess_fen::read_fen_as;
 use chess_match::Patience;
@@ -76,13 +78,40 @@ fn patience_of(flag: bool, seconds: Option<u16>) -> Patience
     Patience { flag, reply }
 }
 
-// The plan of the match that `request` asks for, if its level, FEN and date are valid; otherwise the fault of the first
+// The time control of an engine: its own, if it was given one, otherwise the common one.
+fn own_level(text: Option<&str>, common: Level) -> Result<Level, LevelFault>
+    ensures { result ≡ option_map_or level_reading (option_map (λ t. t.now) text.entry) (Ok common) }
+{
+    match text {
+        None => Ok(common),
+        Some(text) => Level::try_from(text.as_bytes()),
+    }
+}
+
+// The time controls of both engines, by the text of the common one and those of their own, which may be missing; or the
+// fault of the first that is not valid.
+fn levels_of(
+    common: &str,
+    white: Option<&str>,
+    black: Option<&str>,
+) -> Result<(Level, Level), LevelFault>
+    ensures { result
+        ≡ levels_by common.now (option_map (λ t. t.now) white.entry) (option_map (λ t. t.now) black.entry) }
+{
+    let common = Level::try_from(common.as_bytes())?;
+    let white_level = own_level(white, common)?;
+    let black_level = own_level(black, common)?;
+    Ok((white_level, black_level))
+}
+
+// The plan of the match that `request` asks for, if its levels, FEN and date are valid; otherwise the fault of the first
 // of them that is not.
 fn validate<'a>(request: &MatchRequest<'a>) -> Result<GamesPlan<'a>, WordsFault>
     ensures plan { IfOk result (IsJudged request.now) }
     ensures fault { IfErr result (IsJudgedFault request.now) }
 {
-    let level = Level::try_from(request.level.as_bytes())?;
+    let (white_level, black_level) =
+        levels_of(request.level, request.white_level, request.black_level)?;
     let start = start_of(request.variant, request.fen)?;
     if !is_date(request.date) {
         return Err(WordsFault::BadDate);
@@ -90,7 +119,8 @@ fn validate<'a>(request: &MatchRequest<'a>) -> Result<GamesPlan<'a>, WordsFault>
     Ok(GamesPlan {
         white: request.white,
         black: request.black,
-        level,
+        white_level,
+        black_level,
         patience: patience_of(request.flag, request.reply),
         draws: request.draws,
         start,
@@ -100,7 +130,7 @@ fn validate<'a>(request: &MatchRequest<'a>) -> Result<GamesPlan<'a>, WordsFault>
     })
 }
 
-// The plan of what the request asks for; of a match only if level, FEN and date are valid, otherwise the fault of the
+// The plan of what the request asks for; of a match only if levels, FEN and date are valid, otherwise the fault of the
 // first of them that is not.
 pub(crate) fn planned<'a>(request: Request<'a>) -> Result<Plan<'a>, WordsFault>
     ensures plan { IfOk result (IsPlanned request.entry) }

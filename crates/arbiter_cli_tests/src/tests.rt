@@ -1,6 +1,7 @@
 //! What the arguments of the command line ask for, and which are refused.
 
 use arbiter_cli::{Plan, VerifyPlan, WordsFault, read_words};
+use cecp_engine::{Level, LevelFault};
 use chess_base::Variant;
 use chess_fen::write_fen;
 use chess_match::Draws;
@@ -258,13 +259,18 @@ const MATCHES: [MatchRow; 4] = [
     },
 ];
 
+// The moves per session, the base and the increment of a level, both in milliseconds.
+fn level_in(level: Level) -> [u32; 3] {
+    [
+        level.moves(),
+        level.base_milliseconds(),
+        level.increment_milliseconds(),
+    ]
+}
+
 fn check_setup(rt: &impl Abort, plan: &GamesPlan<'_>, row: &MatchRow) {
-    let level = [
-        plan.level.moves(),
-        plan.level.base_milliseconds(),
-        plan.level.increment_milliseconds(),
-    ];
-    is_equal(rt, &level, &row.level);
+    is_equal(rt, &level_in(plan.white_level), &row.level);
+    is_equal(rt, &level_in(plan.black_level), &row.level);
     is_equal(rt, &plan.start.variant(), &row.variant);
     is_equal(rt, &write_fen(&plan.start).as_slice(), &row.fen);
 }
@@ -335,6 +341,98 @@ fn a_match_has_its_patience(rt: HostRuntime) -> Result<(), Fail> {
         };
         is_equal(&rt, &plan.patience.flag, flag);
         is_equal(&rt, &plan.patience.reply, reply);
+    }
+    Ok(())
+}
+
+// Options of a match after its engines, and the levels of the first engine and of the second one.
+const LEVELS: [(&[&str], [u32; 3], [u32; 3]); 6] = [
+    (
+        &["--white-level", "0 1 2"],
+        [0, 60_000, 2_000],
+        [40, 300_000, 0],
+    ),
+    (
+        &["--black-level", "0 0:10 0.1"],
+        [40, 300_000, 0],
+        [0, 10_000, 100],
+    ),
+    (
+        &["--level", "9 1 0", "--white-level", "0 1 2"],
+        [0, 60_000, 2_000],
+        [9, 60_000, 0],
+    ),
+    (
+        &["--black-level=0 1 2", "--level=9 1 0"],
+        [9, 60_000, 0],
+        [0, 60_000, 2_000],
+    ),
+    (
+        &["--white-level", "0 1 2", "--black-level", "0 0:10 0.1"],
+        [0, 60_000, 2_000],
+        [0, 10_000, 100],
+    ),
+    (
+        &[
+            "--black-level",
+            "3 3 3",
+            "--white-level",
+            "2 2 2",
+            "--level",
+            "1 1 1",
+        ],
+        [2, 120_000, 2_000],
+        [3, 180_000, 3_000],
+    ),
+];
+
+#[test]
+fn engines_have_levels_of_their_own(rt: HostRuntime) -> Result<(), Fail> {
+    for (options, white, black) in &LEVELS {
+        let arguments = match_with(rt.alloc(), options)?;
+        let Plan::Match(plan) = read_words(rt.alloc(), arguments.as_slice())? else {
+            return Err(Fail::new("another plan"));
+        };
+        is_equal(&rt, &level_in(plan.white_level), white);
+        is_equal(&rt, &level_in(plan.black_level), black);
+    }
+    Ok(())
+}
+
+// Options of a match after its engines, and the part of a level that is wrong: a common level is judged first, even if
+// no engine has it, then White's and then Black's.
+const NO_LEVELS: [(&[&str], LevelFault); 5] = [
+    (&["--white-level", "x 1 2"], LevelFault::Moves),
+    (&["--black-level", "0 1"], LevelFault::Words),
+    (
+        &["--white-level", "0 x 2", "--black-level", "0 1"],
+        LevelFault::Base,
+    ),
+    (
+        &[
+            "--white-level",
+            "0 1 2",
+            "--black-level",
+            "0 1 2",
+            "--level",
+            "0 1 x",
+        ],
+        LevelFault::Increment,
+    ),
+    (
+        &["--white-level", "0 1 x", "--fen", "x"],
+        LevelFault::Increment,
+    ),
+];
+
+#[test]
+fn levels_of_their_own_may_be_bad(rt: HostRuntime) -> Result<(), Fail> {
+    for (options, fault) in &NO_LEVELS {
+        let arguments = match_with(rt.alloc(), options)?;
+        match read_words(rt.alloc(), arguments.as_slice()) {
+            Err(WordsFault::BadLevel(found)) => is_equal(&rt, &found, fault),
+            _ => return Err(Fail::new("not a bad level")),
+        }
     }
     Ok(())
 }
@@ -639,7 +737,7 @@ fn other_arguments_are_refused(rt: HostRuntime) -> Result<(), Fail> {
 }
 
 // Arguments that ask for help, the beginning of a line in that text, and the arguments of the example on that line.
-const EXAMPLES: [(&[&str], &str, &[&str]); 18] = [
+const EXAMPLES: [(&[&str], &str, &[&str]); 19] = [
     (&["--help"], "\n  arbiter     ", &[]),
     (&["--help"], "\n  arbiter verify < games.pgn ", &["verify"]),
     (
@@ -754,6 +852,21 @@ const EXAMPLES: [(&[&str], &str, &[&str]); 18] = [
             "./b",
             "--draws",
             "automatic",
+        ],
+    ),
+    (
+        &["match", "--help"],
+        "\n  arbiter match --white ./a --black ./b --white-level \"0 1 0\" --black-level \"0 0:30 0\"\n",
+        &[
+            "match",
+            "--white",
+            "./a",
+            "--black",
+            "./b",
+            "--white-level",
+            "0 1 0",
+            "--black-level",
+            "0 0:30 0",
         ],
     ),
     (

@@ -563,11 +563,11 @@ subs_need names =
                     (
                       (refl, (λ t e. refl), refl, refl),
                       (
-                        (refl, (λ t e. e), refl, refl),
+                        (refl, (λ t e. refl), refl, refl),
                         (
                           (refl, (λ t e. refl), refl, refl),
                           (
-                            (refl, (λ t e. refl), refl, refl),
+                            (refl, (λ t e. e), refl, refl),
                             (
                               (refl, (λ t e. refl), refl, refl),
                               (
@@ -575,8 +575,14 @@ subs_need names =
                                 (
                                   (refl, (λ t e. refl), refl, refl),
                                   (
-                                    (refl, (λ t e. e), refl, refl),
-                                    ((refl, (λ t e. refl), refl, refl), tt),
+                                    (refl, (λ t e. refl), refl, refl),
+                                    (
+                                      (refl, (λ t e. refl), refl, refl),
+                                      (
+                                        (refl, (λ t e. e), refl, refl),
+                                        ((refl, (λ t e. refl), refl, refl), tt),
+                                      ),
+                                    ),
                                   ),
                                 ),
                               ),

@@ -34,6 +34,8 @@ match_app names = fold with_rule (new_app (codes "match")) (
     record (option_rule (codes "white")) { required = true }
     ∷ record (option_rule (codes "black")) { required = true }
     ∷ option_rule (codes "level")
+    ∷ option_rule (codes "white-level")
+    ∷ option_rule (codes "black-level")
     ∷ option_rule (codes "fen")
     ∷ record (option_rule (codes "games")) { parser = Some (Unsigned 1 1000) }
     ∷ option_rule (codes "date")
@@ -84,7 +86,8 @@ IsParsedBy names words (Ok m) = (faults_in names words ≡ [])
     × (subcommand_rows_of m ≡ subcommand_of (arbiter_app names) words)
 IsParsedBy names words (Err e) = HasKind (faults_in names words) e
 
--- the result of parsing the arguments `words` is right by the grammar, wherever in memory its names of variants and of draws are
+-- the result of parsing the arguments `words` is right by the grammar, wherever in memory its names of variants and of
+-- draws are
 abbrev pub IsParsed : List Text → Result ArgMatches Error → Type 0
 IsParsed words result = (names : OptionNames) × AreOptionNames names × IsParsedBy names words result
 

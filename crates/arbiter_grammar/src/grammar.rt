@@ -102,6 +102,7 @@ Examples:
   arbiter match --white ./a --black \"./b -x\" --level \"0 0:30 1\" --fen \"4k3/8/8/8/8/8/4P3/4K3 w - - 0 1\"
   arbiter match --white ./a --black ./b --variant fischerandom
   arbiter match --white ./a --black ./b --draws automatic
+  arbiter match --white ./a --black ./b --white-level \"0 1 0\" --black-level \"0 0:30 0\"
   arbiter match --white ./a --black ./b --log 2> match.debug
   arbiter match --white ./a --black ./b --flag --reply-timeout 10";
 
@@ -239,6 +240,18 @@ fn match_command<'a>(alloc: Global) -> Result<Command<'a>, AllocError>
         "level",
         "LEVEL",
         "Moves per time control (0: the whole game), minutes or M:SS, seconds added per move, as 0.1 [default: 40 5 0]",
+    ))?
+    .arg(option(
+        alloc,
+        "white-level",
+        "LEVEL",
+        "The level of the first engine, whichever side it has [default: that of --level]",
+    ))?
+    .arg(option(
+        alloc,
+        "black-level",
+        "LEVEL",
+        "The level of the second engine [default: that of --level]",
     ))?
     .arg(option(
         alloc,

@@ -114,6 +114,28 @@ module _ (names : OptionNames) (text : Text) (plain : has_hyphen text ≡ false)
     passes = λ rows. refl;
   }
 
+  white_level : TakesValue (match_shape names) (codes "white-level") text
+  unfolding walked
+  white_level = record {
+    first = λ rows p. refl;
+    first_fault = λ rows p. refl;
+    plain = plain;
+    taken = λ rows. refl;
+    uses = λ rows. refl;
+    passes = λ rows. refl;
+  }
+
+  black_level : TakesValue (match_shape names) (codes "black-level") text
+  unfolding walked
+  black_level = record {
+    first = λ rows p. refl;
+    first_fault = λ rows p. refl;
+    plain = plain;
+    taken = λ rows. refl;
+    uses = λ rows. refl;
+    passes = λ rows. refl;
+  }
+
   fen : TakesValue (match_shape names) (codes "fen") text
   unfolding walked
   fen = record {
@@ -204,14 +226,18 @@ of_match names are (valued name text) (plain, inr (inl e)) =
 of_match names are (valued name text) (plain, inr (inr (inl e))) =
     subst (λ n. TakesValue (match_shape names) n text) (sym e) (level names text plain)
 of_match names are (valued name text) (plain, inr (inr (inr (inl e)))) =
-    subst (λ n. TakesValue (match_shape names) n text) (sym e) (fen names text plain)
+    subst (λ n. TakesValue (match_shape names) n text) (sym e) (white_level names text plain)
 of_match names are (valued name text) (plain, inr (inr (inr (inr (inl e))))) =
+    subst (λ n. TakesValue (match_shape names) n text) (sym e) (black_level names text plain)
+of_match names are (valued name text) (plain, inr (inr (inr (inr (inr (inl e)))))) =
+    subst (λ n. TakesValue (match_shape names) n text) (sym e) (fen names text plain)
+of_match names are (valued name text) (plain, inr (inr (inr (inr (inr (inr (inl e))))))) =
     subst (λ n. TakesValue (match_shape names) n text) (sym e) (date names text plain)
-of_match names are (valued name text) (plain, inr (inr (inr (inr (inr (inl (e, number))))))) =
+of_match names are (valued name text) (plain, inr (inr (inr (inr (inr (inr (inr (inl (e, number))))))))) =
     subst (λ n. TakesValue (match_shape names) n text) (sym e) (games names text plain number)
-of_match names are (valued name text) (plain, inr (inr (inr (inr (inr (inr (inl (e, number)))))))) =
+of_match names are (valued name text) (plain, inr (inr (inr (inr (inr (inr (inr (inr (inl (e, number)))))))))) =
     subst (λ n. TakesValue (match_shape names) n text) (sym e) (reply_timeout names text plain number)
-of_match names are (valued name text) (plain, inr (inr (inr (inr (inr (inr (inr (inl (e, is))))))))) =
+of_match names are (valued name text) (plain, inr (inr (inr (inr (inr (inr (inr (inr (inr (inl (e, is))))))))))) =
     subst (λ n. TakesValue (match_shape names) n text) (sym e) (variant names text plain are is)
-of_match names are (valued name text) (plain, inr (inr (inr (inr (inr (inr (inr (inr (e, is))))))))) =
+of_match names are (valued name text) (plain, inr (inr (inr (inr (inr (inr (inr (inr (inr (inr ((e, is)))))))))))) =
     subst (λ n. TakesValue (match_shape names) n text) (sym e) (draws names text plain are is)

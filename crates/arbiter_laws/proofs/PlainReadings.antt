@@ -17,7 +17,7 @@ use Rattle.chess_base.specs.declared.setup.Setup.{Setup}
 use Rattle.chess_base.specs.Initial.{initial_setup_of}
 use Rattle.chess_fen.specs.Reading.{fen_reading_as}
 use Rattle.chess_base.specs.declared.man.Variant.TheVariants.{Normal, Fischerandom}
-use Rattle.arbiter_cli.specs.Plans.{IsMatchPlan, IsReadAs, Said, Values, is_date, is_set, level_asked, level_start_and_date, number_of, said_by, start_asked, variant_in, verify_plan_of}
+use Rattle.arbiter_cli.specs.Plans.{IsMatchPlan, IsReadAs, Said, Values, is_date, is_set, levels_asked, levels_by, levels_start_and_date, number_of, said_by, start_asked, variant_in, verify_plan_of}
 use Rattle.arbiter_cli.specs.declared.plan.Plan.{Plan}
 use Rattle.arbiter_cli.specs.declared.plan.Plan.TheVariants.{Session, Verify, Stub, Match}
 use Rattle.match_runner.specs.declared.plan.GamesPlan.{GamesPlan}
@@ -29,7 +29,6 @@ use Rattle.arbiter_cli.specs.declared.plan.VerifyPlan.{VerifyPlan}
 use Rattle.arbiter_cli.specs.declared.fault.WordsFault.{WordsFault}
 use Rattle.arbiter_cli.specs.declared.fault.WordsFault.TheVariants.{Words, NoMemory, BadLevel, BadFen, BadDate}
 use Rattle.arbiter_laws.specs.PlainArguments.{CommandLine, Given, IsOfMatch, IsOfVerify, IsPlain, PlainArgumentsAreRead, arguments_of, empty, match, said_in, session, stub, values_in, verify, written}
-use Rattle.cecp_engine.specs.Levels.{level_reading}
 use Rattle.arbiter_laws.proofs.Literals as literals
 use Rattle.arbiter_laws.proofs.PlainOptions.{match_shape, of_match, of_verify, stub_shape, verify_shape}
 use Rattle.arbiter_laws.proofs.PlainRows.{default_in, value_found, value_given}
@@ -100,6 +99,8 @@ record Agrees (v w : Values) : Type 0 where
   white : v (codes "white") ≡ w (codes "white")
   black : v (codes "black") ≡ w (codes "black")
   level : v (codes "level") ≡ w (codes "level")
+  white_level : v (codes "white-level") ≡ w (codes "white-level")
+  black_level : v (codes "black-level") ≡ w (codes "black-level")
   fen : v (codes "fen") ≡ w (codes "fen")
   games : v (codes "games") ≡ w (codes "games")
   date : v (codes "date") ≡ w (codes "date")
@@ -113,12 +114,14 @@ record Agrees (v w : Values) : Type 0 where
 abbrev start_by : Variant → Option Text → Result Setup FenFault
 start_by v fen = option_map_or (fen_reading_as v) fen (Ok (initial_setup_of v))
 
-same_start : (v w : Values) → Agrees v w → level_start_and_date v ≡ level_start_and_date w
+same_start : (v w : Values) → Agrees v w → levels_start_and_date v ≡ levels_start_and_date w
 same_start v w a =
     let variant : variant_in v ≡ variant_in w = ap (λ (o : Option Text).
     if bytes_eq (unwrap_or o (codes "normal")) (codes "fischerandom") then Fischerandom else Normal) a.variant in
-    read_as v (level_asked w) (start_asked w) (date_asked w) (is_date (date_asked w))
-    (ap (λ (o : Option Text). level_reading (unwrap_or o (codes "40 5 0"))) a.level)
+    read_as v (levels_asked w) (start_asked w) (date_asked w) (is_date (date_asked w))
+    (ap (λ (o : Option Text). levels_by (unwrap_or o (codes "40 5 0")) (v (codes "white-level"))
+    (v (codes "black-level"))) a.level
+    ∙ ap₂ (levels_by (unwrap_or (w (codes "level")) (codes "40 5 0"))) a.white_level a.black_level)
     (ap₂ start_by variant a.fen)
     (ap (λ (o : Option Text). unwrap_or o (codes "????.??.??")) a.date) refl
 
@@ -227,6 +230,8 @@ match_alike names options =
       white = alike (codes "white") refl;
       black = alike (codes "black") refl;
       level = alike (codes "level") refl;
+      white_level = alike (codes "white-level") refl;
+      black_level = alike (codes "black-level") refl;
       fen = alike (codes "fen") refl;
       games = alike (codes "games") refl;
       date = alike (codes "date") refl;

@@ -71,7 +71,7 @@ IsNumberTo most text = let digits = without_leading_plus text in
 abbrev pub IsVariant : Text → Type 0
 IsVariant text = (text ≡ codes "normal") ⊎ (text ≡ codes "fischerandom")
 
--- the text says how draws end games
+-- the text says whether draws must be claimed
 abbrev pub IsDraws : Text → Type 0
 IsDraws text = (text ≡ codes "claimed") ⊎ (text ≡ codes "automatic")
 
@@ -84,8 +84,9 @@ IsOfVerify (flag name) = (name ≡ codes "keep-going") ⊎ (name ≡ codes "quie
 -- `match` has this option, which may have this value
 abbrev pub IsOfMatch : Given → Type 0
 IsOfMatch (valued name value) = (has_hyphen value ≡ false)
-    × ((name ≡ codes "white") ⊎ (name ≡ codes "black") ⊎ (name ≡ codes "level") ⊎ (name ≡ codes "fen")
-    ⊎ (name ≡ codes "date") ⊎ ((name ≡ codes "games") × IsNumberTo 1000 value)
+    × ((name ≡ codes "white") ⊎ (name ≡ codes "black") ⊎ (name ≡ codes "level") ⊎ (name ≡ codes "white-level")
+    ⊎ (name ≡ codes "black-level") ⊎ (name ≡ codes "fen") ⊎ (name ≡ codes "date")
+    ⊎ ((name ≡ codes "games") × IsNumberTo 1000 value)
     ⊎ ((name ≡ codes "reply-timeout") × IsNumberTo 999 value) ⊎ ((name ≡ codes "variant") × IsVariant value)
     ⊎ ((name ≡ codes "draws") × IsDraws value))
 IsOfMatch (flag name) = (name ≡ codes "log") ⊎ (name ≡ codes "flag")

@@ -1,16 +1,15 @@
 -- The time that a level gives grows with the moves.
 use Rattle.std.proofs.Common.{ℕ, ◌+◌, ◌-◌, ◌≤◌, ◌<◌, arith}
 use Rattle.cecp_engine.specs.Levels.{LevelSeen, allotted}
-use Rattle.cecp_engine.specs.Clocks.{Spent, spent_more}
+use Rattle.cecp_engine.specs.Clocks.{SideSeen, side_charged}
 use Rattle.cecp_engine.specs.ties.Bounds.{IsWithin}
 use Rattle.chess_base.specs.declared.setup.TheConstants.{MOST_MOVES}
 use Rattle.cecp_engine.proofs.shared.Levels.{allotted_grows}
 
-pub within_more : (l : LevelSeen) (s : Spent) (used : ℕ) → IsWithin l s → used ≤ allotted l s.moves - s.used
-    → s.moves < MOST_MOVES
-    → IsWithin l (spent_more s used)
-within_more l s used w in_time few =
-    let g = allotted_grows l s.moves in
+pub within_more : (s : SideSeen) (used : ℕ) → IsWithin s → used ≤ allotted s.level s.moves - s.used
+    → s.moves < MOST_MOVES → IsWithin (side_charged s used)
+within_more s used w in_time few =
+    let g = allotted_grows s.level s.moves in
     let u = w.used in
     record { moves = omega (arith, few); used = omega (arith, g, u, in_time) }
 

@@ -1,24 +1,25 @@
 //! The clocks of a game.
 
 ghost use Rattle.std.specs.Prelude.{◌≡◌, ◌≤◌, ◌<◌};
-ghost use Rattle.cecp_engine.specs.Clocks.{new_clocks, spent_by, remaining, charged};
+ghost use Rattle.chess_base.specs.ByColour.{of_colour};
+ghost use Rattle.cecp_engine.specs.Clocks.{new_clocks, side_clock, remaining, charged};
 ghost use Rattle.chess_base.specs.declared.setup.TheConstants.{MOST_MOVES};
 
 use crate::level::Level;
-use chess_base::Colour;
+use chess_base::{ByColour, Colour};
 use std::marker::Model;
 
-// What a side used so far: how many moves it made, and the milliseconds that they took.
+// A side's clock: its time control, how many moves the side made, and the milliseconds that they took.
 #[derive(Clone, Copy, Debug, PartialEq, Eq, Hash)]
 struct SideClock {
+    level: Level,
     moves: u32,
     used: u64,
 }
 
-/// The clocks of a game at a time control: the number of each side's moves, and the milliseconds that they took.
+/// The clocks of a game: of each side its time control, the number of its moves, and the milliseconds that they took.
 #[derive(Clone, Copy, Debug, PartialEq, Eq, Hash)]
 pub struct Clocks {
-    level: Level,
     white: SideClock,
     black: SideClock,
 }
@@ -30,43 +31,51 @@ impl Model for Clocks {
     ghost Value = { ClocksSeen };
 
     ghost view = { λ c. record {
-      level = c.level;
-      white = record { moves = c.white.moves; used = c.white.used };
-      black = record { moves = c.black.moves; used = c.black.used };
+      white = record { level = c.white.level; moves = c.white.moves; used = c.white.used };
+      black = record { level = c.black.level; moves = c.black.moves; used = c.black.used };
     } };
 
-    ghost invariant = { λ c. IsWithin c.level (record { moves = c.white.moves; used = c.white.used })
-        × IsWithin c.level (record { moves = c.black.moves; used = c.black.used }) };
+    ghost invariant = { λ c. IsWithin (record { level = c.white.level; moves = c.white.moves; used = c.white.used })
+        × IsWithin (record { level = c.black.level; moves = c.black.moves; used = c.black.used }) };
 
     ghost inverse = { λ v. record {
-      level = v.level;
-      white = record { moves = v.white.moves; used = v.white.used };
-      black = record { moves = v.black.moves; used = v.black.used };
+      white = record { level = v.white.level; moves = v.white.moves; used = v.white.used };
+      black = record { level = v.black.level; moves = v.black.moves; used = v.black.used };
     } };
 }
 
 impl Clocks {
-    /// The clocks of a game with this time control, before the first move.
-    pub fn new(level: Level) -> Self
-        ensures { result ≡ new_clocks level }
+    /// The clocks of a game in which each side has its time control, before the first move.
+    pub fn new(levels: ByColour<Level>) -> Self
+        ensures { result ≡ new_clocks (of_colour levels) }
     {
         Clocks {
-            level,
-            white: SideClock { moves: 0, used: 0 },
-            black: SideClock { moves: 0, used: 0 },
+            white: SideClock {
+                level: levels.white,
+                moves: 0,
+                used: 0,
+            },
+            black: SideClock {
+                level: levels.black,
+                moves: 0,
+                used: 0,
+            },
         }
     }
 
-    /// The time control of the game.
-    pub fn level(&self) -> Level
-        ensures { result ≡ self.now.level }
+    /// The time control of this side.
+    pub fn level(&self, side: Colour) -> Level
+        ensures { result ≡ (side_clock self.now side).level }
     {
-        self.level
+        match side {
+            Colour::White => self.white.level,
+            Colour::Black => self.black.level,
+        }
     }
 
     /// How many moves this side has made.
     pub fn moves(&self, side: Colour) -> u32
-        ensures value { result ≡ (spent_by self.now side).moves }
+        ensures value { result ≡ (side_clock self.now side).moves }
         ensures few { result ≤ MOST_MOVES }
     {
         match side {
@@ -80,27 +89,27 @@ impl Clocks {
         ensures { result ≡ remaining self.now side }
     {
         match side {
-            Colour::White => self.level.allotted(self.white.moves) - self.white.used,
-            Colour::Black => self.level.allotted(self.black.moves) - self.black.used,
+            Colour::White => self.white.level.allotted(self.white.moves) - self.white.used,
+            Colour::Black => self.black.level.allotted(self.black.moves) - self.black.used,
         }
     }
 
     /// Counts one more move of this side, which took `used` milliseconds.
     pub fn charge(&mut self, side: Colour, used: u64)
         requires in_time { used ≤ remaining self.old side }
-        requires few { (spent_by self.old side).moves < MOST_MOVES }
+        requires few { (side_clock self.old side).moves < MOST_MOVES }
         ensures { self.new ≡ charged self.old side used }
     {
         match side {
             Colour::White => {
                 // The prover wants this fact: the level gives 2 ^ 62 milliseconds at most.
-                let _bound = self.level.allotted(self.white.moves);
+                let _bound = self.white.level.allotted(self.white.moves);
                 self.white.moves += 1;
                 self.white.used += used;
             }
             Colour::Black => {
                 // The prover wants this fact: the level gives 2 ^ 62 milliseconds at most.
-                let _bound = self.level.allotted(self.black.moves);
+                let _bound = self.black.level.allotted(self.black.moves);
                 self.black.moves += 1;
                 self.black.used += used;
             }

@@ -17,7 +17,11 @@
 //!     }
 //! }
 //! let level: Level = "40 5 0".parse()?;
-//! let left = Clocks::new(level).remaining(Colour::White);
+//! let levels = ByColour {
+//!     white: level,
+//!     black: level,
+//! };
+//! let left = Clocks::new(levels).remaining(Colour::White);
 //! ```
 //!
 //! Then `features.ping` is true, and `left` is 300,000. A handshake ends with the item of which `ends_handshake()` is

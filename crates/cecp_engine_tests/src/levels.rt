@@ -1,7 +1,7 @@
 //! Levels of time, parsed and shown.
 
 use cecp_engine::{Clocks, Level, LevelFault};
-use chess_base::Colour;
+use chess_base::{ByColour, Colour};
 use std::alloc::Global;
 use std::process::Abort;
 use std::test::Fail;
@@ -125,9 +125,35 @@ fn spend(rt: &impl Abort, clocks: &mut Clocks, used: u64, left: u64) {
 // 258.
 #[test]
 fn increments_of_less_than_a_second_are_counted(rt: HostRuntime) -> Result<(), Fail> {
-    let mut clocks = Clocks::new("0 0:08 0.08".parse()?);
+    let level = "0 0:08 0.08".parse()?;
+    let mut clocks = Clocks::new(ByColour {
+        white: level,
+        black: level,
+    });
     spend(&rt, &mut clocks, 250, 7830);
     spend(&rt, &mut clocks, 8, 7902);
     assert_eq!(rt; clocks.remaining(Colour::Black), 8000);
+    Ok(())
+}
+
+// Each side's clock runs by its own time control: White has a minute for two moves, and then another one; Black has ten
+// seconds for the game, and a tenth of a second more after each move.
+#[test]
+fn each_side_has_its_time_control(rt: HostRuntime) -> Result<(), Fail> {
+    let mut clocks = Clocks::new(ByColour {
+        white: "2 1 0".parse()?,
+        black: "0 0:10 0.1".parse()?,
+    });
+    assert_eq!(rt; clocks.level(Colour::White).moves(), 2);
+    assert_eq!(rt; clocks.level(Colour::Black).moves(), 0);
+    assert_eq!(rt; clocks.remaining(Colour::Black), 10_000);
+    spend(&rt, &mut clocks, 40_000, 20_000);
+    spend(&rt, &mut clocks, 15_000, 65_000);
+    assert_eq!(rt; clocks.remaining(Colour::Black), 10_000);
+    if clocks.moves(Colour::Black) < 20_000 && clocks.remaining(Colour::Black) >= 600 {
+        clocks.charge(Colour::Black, 600);
+    }
+    assert_eq!(rt; clocks.remaining(Colour::Black), 9_500);
+    assert_eq!(rt; clocks.remaining(Colour::White), 65_000);
     Ok(())
 }

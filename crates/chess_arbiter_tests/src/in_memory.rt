@@ -420,3 +420,47 @@ const AUTOMATIC_DRAW_SENT: [Sent; 1] = [Sent {
 fn an_automatic_draw(rt: HostRuntime) -> Result<(), Fail> {
     play_out(&rt, rt.alloc(), &AUTOMATIC_DRAW, &AUTOMATIC_DRAW_SENT)
 }
+
+// Two games in which White moves illegally. Each engine has its own level in both games, whichever side it has.
+const OWN_LEVELS: MatchRun = MatchRun {
+    a_says: &[ILLEGAL, READY],
+    b_says: &[READY, ILLEGAL],
+    b_falls_silent: false,
+    moments: &[],
+    others: &[
+        "--white-level",
+        "0 0:10 0",
+        "--level",
+        "9 1 0.5",
+        "--games",
+        "2",
+    ],
+    output: "[Event \"CECP match\"]\n[Site \"?\"]\n[Date \"????.??.??\"]\n[Round \"1\"]\n[White \"A\"]\n[Black \"B\"]\n[Result \"0-1\"]\n[Termination \"rules infraction\"]\n\n0-1\n\n[Event \"CECP match\"]\n[Site \"?\"]\n[Date \"????.??.??\"]\n[Round \"2\"]\n[White \"B\"]\n[Black \"A\"]\n[Result \"0-1\"]\n[Termination \"rules infraction\"]\n\n0-1\n\nscore first 1 second 1 drawn 0 unfinished 0\n",
+    log: &[
+        "0 >first : xboard\n0 >first : protover 2\n0 <first : feature ping=1 done=1\n0 >first : accepted ping\n0 >first : accepted done\n0 >second: xboard\n0 >second: protover 2\n0 <second: feature ping=1 done=1\n0 >second: accepted ping\n0 >second: accepted done\n0 >first : new\n0 >first : level 0 0:10 0\n0 >first : nopost\n0 >first : easy\n0 >first : force\n0 >first : ping 1\n0 <first : pong 1\n0 >second: new\n0 >second: level 9 1 0.5\n0 >second: nopost\n0 >second: easy\n0 >second: force\n0 >second: ping 1\n0 <second: pong 1\n0 >first : time 1000\n0 >first : otim 6000\n0 >first : go\n",
+        "0 <first : move e2e5\n",
+        "0 >first : result 0-1 {White makes an illegal move}\n0 >first : quit\n",
+        "0 >second: result 0-1 {White makes an illegal move}\n0 >second: quit\n",
+        "0 >second: xboard\n0 >second: protover 2\n0 <second: feature ping=1 done=1\n0 >second: accepted ping\n0 >second: accepted done\n0 >first : xboard\n0 >first : protover 2\n0 <first : feature ping=1 done=1\n0 >first : accepted ping\n0 >first : accepted done\n0 >second: new\n0 >second: level 9 1 0.5\n0 >second: nopost\n0 >second: easy\n0 >second: force\n0 >second: ping 1\n0 <second: pong 1\n0 >first : new\n0 >first : level 0 0:10 0\n0 >first : nopost\n0 >first : easy\n0 >first : force\n0 >first : ping 1\n0 <first : pong 1\n0 >second: time 6000\n0 >second: otim 1000\n0 >second: go\n",
+        "0 <second: move e2e5\n",
+        "0 >second: result 0-1 {White makes an illegal move}\n0 >second: quit\n",
+        "0 >first : result 0-1 {White makes an illegal move}\n0 >first : quit\n",
+    ],
+    status: 0,
+};
+
+const OWN_LEVELS_SENT: [Sent; 2] = [
+    Sent {
+        white: "xboard\nprotover 2\naccepted ping\naccepted done\nnew\nlevel 0 0:10 0\nnopost\neasy\nforce\nping 1\ntime 1000\notim 6000\ngo\nresult 0-1 {White makes an illegal move}\nquit\n",
+        black: "xboard\nprotover 2\naccepted ping\naccepted done\nnew\nlevel 9 1 0.5\nnopost\neasy\nforce\nping 1\nresult 0-1 {White makes an illegal move}\nquit\n",
+    },
+    Sent {
+        white: "xboard\nprotover 2\naccepted ping\naccepted done\nnew\nlevel 9 1 0.5\nnopost\neasy\nforce\nping 1\ntime 6000\notim 1000\ngo\nresult 0-1 {White makes an illegal move}\nquit\n",
+        black: "xboard\nprotover 2\naccepted ping\naccepted done\nnew\nlevel 0 0:10 0\nnopost\neasy\nforce\nping 1\nresult 0-1 {White makes an illegal move}\nquit\n",
+    },
+];
+
+#[test]
+fn engines_keep_their_levels(rt: HostRuntime) -> Result<(), Fail> {
+    play_out(&rt, rt.alloc(), &OWN_LEVELS, &OWN_LEVELS_SENT)
+}

@@ -81,7 +81,10 @@ fn play(rt: &impl Abort, alloc: Global, input: &MatchInput<'_>) -> Result<Logged
     };
     let setup = Setup {
         start: Position::initial(),
-        level,
+        levels: ByColour {
+            white: level,
+            black: level,
+        },
         patience: Patience {
             flag: input.silences > 0,
             reply: (input.silences > 0).then_some(2000),

@@ -10,8 +10,9 @@ use Rattle.chess_base.specs.declared.man.Move.{Move}
 use Rattle.chess_base.specs.ByColour.{with_colour}
 use Rattle.chess_base.specs.Men.{other, same_colour}
 use Rattle.chess_base.specs.Options.{list_if}
-use Rattle.cecp_engine.specs.Clocks.{ClocksSeen, charged, spent_by, remaining}
+use Rattle.cecp_engine.specs.Clocks.{ClocksSeen, charged, side_clock, remaining}
 use Rattle.cecp_engine.specs.EngineLines.{LineKind}
+use Rattle.cecp_engine.specs.Levels.{LevelSeen}
 use Rattle.cecp_engine.specs.Items.{Item, takes}
 use Rattle.cecp_engine.specs.Seen.{features_of}
 use Rattle.chess_match.specs.Acts.{awaits_line, is_over}
@@ -30,7 +31,7 @@ use Rattle.chess_match.specs.declared.state.MatchState.{MatchState}
 use Rattle.chess_match.specs.declared.state.Player.{Player}
 use Rattle.chess_match.specs.declared.texts.LastMove.{LastMove}
 use Rattle.chess_match.specs.declared.texts.MoveTexts.{MoveTexts}
-use Rattle.chess_match.specs.ties.Represents.{Goes, Keeps, Represents, after_answers, clocks_of, given_lines, is_unsent, items_to, last_lines, lines_if_to, name_by, nothing_said, offered_core, phase_lines, phase_of, played_core, player, time_used_by}
+use Rattle.chess_match.specs.ties.Represents.{Goes, Keeps, Represents, after_answers, clocks_of, given_lines, is_unsent, items_to, last_lines, lines_if_to, name_by, nothing_said, offered_core, phase_lines, phase_of, played_core, player, side_of}
 use Rattle.chess_match.specs.laws.Laws.{items_in_line}
 use Rattle.chess_match.proofs.shared.LineCases.{handshake_by_items}
 use Rattle.chess_match.specs.ties.Texts.{all_sent, AreOfLast, AreTexts}
@@ -48,7 +49,7 @@ kept r core played m s White = s.white
 kept r core played m s Black = s.black
 
 pub clocks_moves : (r : Rules) (core : MatchState) (played : List Move) (m : Match) → Represents r core played m
-    → (S : Colour) → (spent_by core.clocks S).moves ≡ length (m.seat S).used
+    → (S : Colour) → (side_clock core.clocks S).moves ≡ length (m.seat S).used
 clocks_moves r core played m s White = ap (λ (c : ClocksSeen). c.white.moves) s.clocks
 clocks_moves r core played m s Black = ap (λ (c : ClocksSeen). c.black.moves) s.clocks
 
@@ -174,10 +175,10 @@ features-draw items = refl
 pub sum-snoc : (xs : List ℕ) (x : ℕ) → sum (xs ++ x ∷ []) ≡ sum xs + x
 sum-snoc xs x = sum_by-append (λ (n : ℕ). n) xs (x ∷ []) ∙ ap (λ n. sum xs + n) (zero-add x)
 
-spent-snoc : (s : Seat) (used : ℕ) (offers : Bool)
-    → record { moves = length s.used + 1; used = sum s.used + used }
-    ≡ time_used_by (record { items = s.items; used = s.used ++ used ∷ []; offers = offers })
-spent-snoc s used offers =
+side-snoc : (level : LevelSeen) (s : Seat) (used : ℕ) (offers : Bool)
+    → record { level = level; moves = length s.used + 1; used = sum s.used + used }
+    ≡ side_of level (record { items = s.items; used = s.used ++ used ∷ []; offers = offers })
+side-snoc level s used offers =
     let l : length (s.used ++ used ∷ []) ≡ length s.used + 1 = length-append s.used (used ∷ []) in
     rw (l, sum-snoc s.used used) refl
 
@@ -187,8 +188,8 @@ charged_clocks : (r : Rules) (core : MatchState) (S : Colour) (move : Move) (use
 charged_clocks r core S move used m e =
     grind (
       arith,
-      spent-snoc (m.seat White) used (m.seat White).offers,
-      spent-snoc (m.seat Black) used (m.seat Black).offers,
+      side-snoc (r.level White) (m.seat White) used (m.seat White).offers,
+      side-snoc (r.level Black) (m.seat Black) used (m.seat Black).offers,
     )
 
 -- the texts of a move that was played are those of the last move

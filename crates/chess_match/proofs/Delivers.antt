@@ -3,7 +3,7 @@ use Rattle.std.proofs.Common.{◌≡◌, ◌<◌, ◌≤◌, true, List, length,
 use Rattle.chess_base.specs.declared.man.Colour.{Colour}
 use Rattle.chess_base.specs.declared.man.Colour.TheVariants.{White, Black}
 use Rattle.chess_base.specs.declared.man.Move.{Move}
-use Rattle.cecp_engine.specs.Clocks.{spent_by}
+use Rattle.cecp_engine.specs.Clocks.{side_clock}
 use Rattle.chess_match.specs.Effects.{Match}
 use Rattle.chess_match.specs.Rules.{Rules}
 use Rattle.chess_match.specs.ties.Represents.{Represents, phase_of}
@@ -23,7 +23,7 @@ pub counted : (r : Rules) (core : MatchState) (played : List Move) (m : Match) �
 counted r core played m s sane = omega (arith, s.count, sane.count)
 
 pub few : (r : Rules) (core : MatchState) (played : List Move) (m : Match) → Represents r core played m → IsSane r m
-    → (S : Colour) → (spent_by core.clocks S).moves ≤ length played
+    → (S : Colour) → (side_clock core.clocks S).moves ≤ length played
 few r core played m s sane S =
     omega (arith, clocks_moves r core played m s S, ap (λ (ms : List Move). length ms) s.moves, sane.few S)
 

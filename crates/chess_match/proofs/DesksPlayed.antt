@@ -6,6 +6,7 @@ use Rattle.byte_devices.specs.Devices.{OutputState, CutShort}
 use Rattle.byte_devices.specs.Transfers.{ToOutput, Devices, OutputTook, all_of, all_for}
 use Rattle.byte_devices.proofs.shared.Transfers.{broke, some_for, took_each, took_nothing, took_some_more}
 use Rattle.chess_base.specs.declared.man.Colour.{Colour}
+use Rattle.chess_base.specs.ByColour.{of_colour}
 use Rattle.chess_base.specs.Men.{same_colour}
 use Rattle.chess_game.specs.Game as game
 use Rattle.text_lines.specs.Lines.{Held, nothing_held}
@@ -179,7 +180,7 @@ pub desk_ran : (setup : Setup) (end : MatchEnd) (engines engines' : Colour → D
     (record { engines = engines'; coming = coming''; game = g' })
 desk_ran setup end engines engines' held held' coming coming' coming'' witness witness' witness'' names names' g g'
     (H, reason, final, is_match, passes, reported, left) none clock watcher =
-    let r : Rules = rules_of setup.start setup.level setup.patience setup.draws g.limit in
+    let r : Rules = rules_of setup.start (of_colour setup.levels) setup.patience setup.draws g.limit in
     let K : List Step = watched reason H in
     let named : names' ≡ names =
     names_kept engines engines' held held' coming coming' witness witness' names names' K passes none in

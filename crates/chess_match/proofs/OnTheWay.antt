@@ -71,21 +71,21 @@ steps_left (Over reason) n = 0
 
 -- the rules of a match that begins so, in this game
 abbrev pub rules_in : run_setup.Setup → game.Seen → Rules
-rules_in setup g = rules_of setup.start setup.level setup.patience setup.draws g.limit
+rules_in setup g = rules_of setup.start (of_colour setup.levels) setup.patience setup.draws g.limit
 
 pub plays_anew : (g h : game.Seen) (setup : run_setup.Setup)
     → h ≡ game.with_state g (from_start setup.start) → Plays h (rules_in setup g)
 plays_anew g h setup e = subst (λ (x : game.Seen). Plays x (rules_in setup g)) (sym e)
-    (setup.level, setup.patience, setup.draws, refl, refl)
+    (of_colour setup.levels, setup.patience, setup.draws, refl, refl)
 
 pub plays_on : (g h : game.Seen) (setup : run_setup.Setup) → h.state.start ≡ setup.start → h.limit ≡ g.limit
     → h.state.declared ≡ None → Plays h (rules_in setup g)
 plays_on g h setup s l d = (
-  setup.level,
+  of_colour setup.levels,
   setup.patience,
   setup.draws,
-  ap (λ (x : Setup). rules_of x setup.level setup.patience setup.draws g.limit) (sym s)
-      ∙ ap (λ (n : ℕ). rules_of h.state.start setup.level setup.patience setup.draws n) (sym l),
+  ap (λ (x : Setup). rules_of x (of_colour setup.levels) setup.patience setup.draws g.limit) (sym s)
+      ∙ ap (λ (n : ℕ). rules_of h.state.start (of_colour setup.levels) setup.patience setup.draws n) (sym l),
   d,
 )
 

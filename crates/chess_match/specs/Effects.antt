@@ -72,7 +72,7 @@ pub record Effect : Type 0 where
 -- the milliseconds that the side `S` has left after the moves that it has made, at least 0; the time of a turn in
 -- progress is not deducted
 abbrev pub clock : Rules → Match → Colour → ℕ
-clock r m S = allotted r.level (length (m.seat S).used) - sum (m.seat S).used
+clock r m S = allotted (r.level S) (length (m.seat S).used) - sum (m.seat S).used
 
 -- the number of the `ping` that the side `S` is sent after the latest of its moves: n + 1 after the n-th; 1, the `ping`
 -- of its setup, if it has not moved yet. Its moves are counted by their times in `used`
@@ -272,7 +272,7 @@ judged r (Some fault) _ m = ends r (Faulted White fault) (record m { count = 0 }
 -- only Black's engine does: the match ends
 judged r None (Some fault) m = ends r (Faulted Black fault) (record m { count = 0 })
 -- neither does: White's setup begins
-judged r None None m = sends_to White (setup_lines r) (record m { phase = Setup White; count = 0 })
+judged r None None m = sends_to White (setup_lines r White) (record m { phase = Setup White; count = 0 })
 
 -- what follows when the handshake of this side is done: after White's comes Black's, and after that it is judged what
 -- each engine lacks
@@ -297,7 +297,7 @@ handshake_row r S items m =
 -- what follows when this side is set up: after White's setup comes Black's. Then the first turn begins, unless the
 -- match is over by the position at the start
 abbrev pub setup_done : Rules → Colour → Match → Effect
-setup_done r White m = sends_to Black (setup_lines r) (record m { phase = Setup Black; count = 0 })
+setup_done r White m = sends_to Black (setup_lines r Black) (record m { phase = Setup Black; count = 0 })
 setup_done r Black m = unless_over r m (begins_turn r r.start.side m)
 
 -- ---- one event

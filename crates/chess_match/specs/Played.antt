@@ -12,7 +12,7 @@ use Rattle.chess_match.specs.ByDevice.{line_read, is_end_of, is_failed_read_of, 
 use Rattle.chess_match.specs.Effects.{Match, Over}
 use Rattle.chess_match.specs.Notes.{Note}
 use Rattle.chess_match.specs.Reasons.{reported, reported_fault, reported_reason, declared_at}
-use Rattle.chess_base.specs.ByColour.{by_colour}
+use Rattle.chess_base.specs.ByColour.{by_colour, of_colour}
 use Rattle.chess_match.specs.Rules.{Rules, rules_of}
 use Rattle.chess_match.specs.Run.{engine_lines, ClockReadings}
 use Rattle.chess_match.specs.Lines.{SentLine, bytes_of}
@@ -85,13 +85,13 @@ pub record ReportedAs (r : Rules) (H : List Act) (final : Match) (reason : Reaso
   -- if writing to both sides failed); `None` if there was none
   pub fault : end.fault ≡ reported_fault reason (λ S. nat_lt 0 (length (flat_map (broken_block S) H)))
 
--- a match of the acts `H` was played from the world `w` to `w'`, from the start position and with the time control of
+-- a match of the acts `H` was played from the world `w` to `w'`, from the start position and with the time controls of
 -- `setup`, for at most as many half-moves as the game's limit. It ended for this reason, and was reported as `end`. In
 -- `w'` the game has the start of `setup`, the moves of the match and the same limit; the reason's result is declared in
 -- it, but none if the board has a verdict, such as mate. What was in the game before is gone
 abbrev pub PlayedBy : List Act → Reason → Setup → MatchEnd → World → World → Type 0
 PlayedBy H reason setup end w w' =
-    let r = rules_of setup.start setup.level setup.patience setup.draws w.game.limit in
+    let r = rules_of setup.start (of_colour setup.levels) setup.patience setup.draws w.game.limit in
     (final : Match) × Passed r H final w w' × ReportedAs r H final reason end
     × (w'.game ≡ game.with_state w.game (record {
       start = setup.start;
@@ -116,7 +116,7 @@ PlayedNoting noted setup end w w' =
 -- after: it has this start, the moves of the match, and the result as in `PlayedBy`
 abbrev pub PlayedAt : Setup → MatchEnd → Passing → Passing → game.Seen → game.Seen → Type 0
 PlayedAt setup end old new g g' =
-    let r = rules_of setup.start setup.level setup.patience setup.draws g.limit in
+    let r = rules_of setup.start (of_colour setup.levels) setup.patience setup.draws g.limit in
     (H : List Act) × (reason : Reason) × (final : Match)
     × IsMatch r H final × Passes old new (watched reason H) × ReportedAs r H final reason end
     × (g' ≡ game.with_state g (record {

@@ -18,8 +18,8 @@ use Rattle.chess_match.specs.declared.patience.Patience.{Patience}
 pub record Rules : Type 0 where
   -- the position in which its game starts, and with it the variant: normal chess or Chess960
   pub start : Setup
-  -- the time control, the same for both sides
-  pub level : LevelSeen
+  -- the time control of each side
+  pub level : Colour → LevelSeen
   -- how long its engines are waited for
   pub patience : Patience
   -- whether draws by threefold repetition and by 50 moves must be claimed
@@ -27,9 +27,9 @@ pub record Rules : Type 0 where
   -- how many half-moves can be played at most
   pub limit : ℕ
 
--- the rules of a match from this start, with this time control, this patience and these draws, of at most `limit`
+-- the rules of a match from this start, with these time controls, this patience and these draws, of at most `limit`
 -- half-moves
-abbrev pub rules_of : Setup → LevelSeen → Patience → Draws → ℕ → Rules
+abbrev pub rules_of : Setup → (Colour → LevelSeen) → Patience → Draws → ℕ → Rules
 rules_of start level patience draws limit =
     record { start = start; level = level; patience = patience; draws = draws; limit = limit }
 

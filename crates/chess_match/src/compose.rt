@@ -102,17 +102,17 @@ fn add_variant(block: &mut Block, variant: Variant)
     }
 }
 
-// Appends the lines that set an engine up for the game: `new`, the variant, `level`, `nopost`, `easy`, `force`, the
-// start, `ping 1`.
-fn add_setup<G: MatchGame>(block: &mut Block, core: &MatchState, game: &G)
+// Appends the lines that set the engine of this side up for the game: `new`, the variant, `level`, `nopost`, `easy`,
+// `force`, the start, `ping 1`.
+fn add_setup<G: MatchGame>(block: &mut Block, core: &MatchState, game: &G, side: Colour)
     requires { array_vec_len block.old + 300 ≤ BLOCK_LEN }
     ensures text { (r : Rules) (m : Match) → G.plays game.now r → Represents r core.now (G.played game.now) m
-        → block.new.items ≡ block.old.items ++ bytes_of (setup_lines r) }
+        → block.new.items ≡ block.old.items ++ bytes_of (setup_lines r side) }
     ensures len { array_vec_len block.new ≤ array_vec_len block.old + 300 }
 {
     append(block, b"new\n");
     add_variant(block, game.variant());
-    add_level(block, core.clocks.level());
+    add_level(block, core.clocks.level(side));
     append(block, b"nopost\neasy\nforce\n");
     game.add_start(block);
     add_ping(block, 1);
@@ -175,7 +175,7 @@ fn add_entry<G: MatchGame>(block: &mut Block, core: &MatchState, game: &G, side:
         }
         Phase::Setup(on) => {
             if same_colour(on, side) {
-                add_setup(block, core, game);
+                add_setup(block, core, game, on);
             }
         }
         Phase::SendTurn(on) => {

@@ -6,7 +6,10 @@
 //! ```
 //! let setup = Setup {
 //!     start: Position::initial(),
-//!     level: "40 5 0".parse()?,
+//!     levels: ByColour {
+//!         white: "40 5 0".parse()?,
+//!         black: "0 1 1".parse()?,
+//!     },
 //!     patience: Patience::ENDLESS,
 //!     draws: Draws::Claimed,
 //! };

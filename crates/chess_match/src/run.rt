@@ -67,8 +67,8 @@ pub struct Ends<R, W> {
 pub struct Setup {
     /// Where the game starts; the variant is that of this position.
     pub start: Position,
-    /// The level of time of both sides.
-    pub level: Level,
+    /// The level of time of each side.
+    pub levels: ByColour<Level>,
     /// How long the engines are waited for.
     pub patience: Patience,
     /// Whether draws must be claimed.
@@ -196,7 +196,7 @@ pub fn run_match_at<T: MatchTable, B: Board>(
     ensures outcome { outcome_now game.new.state ≡ result.outcome }
 {
     game.restart(&setup.start);
-    let mut core = MatchState::new(setup.level, setup.patience, setup.draws);
+    let mut core = MatchState::new(setup.levels, setup.patience, setup.draws);
     let mut line = Line::new();
     let mut blocks = Blocks::new();
     let mut failed = deliver(table, &mut core, game, ENTRY, &mut blocks, Colour::White);

@@ -3,6 +3,7 @@
 ghost use Rattle.std.specs.Prelude.{◌≡◌, ◌++◌, ◌∷◌, [], List, false, ◌+◌, ◌*◌, ◌≤◌, length};
 ghost use Rattle.std.specs.List.{list_any};
 ghost use Rattle.arrayvec.specs.ArrayVec.{array_vec_len};
+ghost use Rattle.chess_base.specs.ByColour.{of_colour};
 ghost use Rattle.chess_match.specs.declared.block.TheConstants.{ANSWERS_LEN};
 ghost use Rattle.cecp_engine.specs.Seen.{item_seen, features_of};
 ghost use Rattle.cecp_engine.specs.Items as feature_items;
@@ -122,9 +123,9 @@ impl Player {
 
 impl MatchState {
     /// A match before its first line: White's handshake is awaited.
-    pub(crate) fn new(level: Level, patience: Patience, draws: Draws) -> Self
+    pub(crate) fn new(levels: ByColour<Level>, patience: Patience, draws: Draws) -> Self
         ensures phase { result.phase ≡ Phase.Handshake Colour.White }
-        ensures stands { (r : Rules) → r.level ≡ level → r.patience ≡ patience → r.draws ≡ draws
+        ensures stands { (r : Rules) → r.level ≡ of_colour levels → r.patience ≡ patience → r.draws ≡ draws
             → Represents r result [] beginning.after }
     {
         MatchState {
@@ -133,7 +134,7 @@ impl MatchState {
                 white: Player::new(),
                 black: Player::new(),
             },
-            clocks: Clocks::new(level),
+            clocks: Clocks::new(levels),
             last: None,
             count: 0,
             opened: 0,

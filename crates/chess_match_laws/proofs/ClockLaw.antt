@@ -26,7 +26,7 @@ InTime level used = sum used ≤ allotted level (length used)
 
 -- neither side used more than it was given
 abbrev AreInTime : Rules → Match → Type 0
-AreInTime r m = (C : Colour) → InTime r.level (m.seat C).used
+AreInTime r m = (C : Colour) → InTime (r.level C) (m.seat C).used
 
 used_more : (level : LevelSeen) (xs : List ℕ) (x : ℕ) → InTime level xs
     → x ≤ allotted level (length xs) - sum xs → InTime level (xs ++ x ∷ [])
@@ -35,13 +35,13 @@ used_more level xs x w timely =
     rw (sum-snoc xs x, length-append xs (x ∷ [])) (omega (arith, grows, w, timely))
 
 played : (r : Rules) (S C : Colour) (move : Move) (used : ℕ) (m : Match) → used ≤ clock r m S → AreInTime r m
-    → InTime r.level ((moved S move used m).seat C).used
+    → InTime (r.level C) ((moved S move used m).seat C).used
 played r S C move used m timely w = rw (moved_used S C move used m) (at (same_colour S C) (same_colour-true S C))
   where
     at : (b : Bool) → (b ≡ true → S ≡ C)
-        → InTime r.level (if b then (m.seat C).used ++ used ∷ [] else (m.seat C).used)
+        → InTime (r.level C) (if b then (m.seat C).used ++ used ∷ [] else (m.seat C).used)
     at true e = let same : S ≡ C = e refl in
-        used_more r.level (m.seat C).used used (w C) (subst (λ (x : Colour). used ≤ clock r m x) same timely)
+        used_more (r.level C) (m.seat C).used used (w C) (subst (λ (x : Colour). used ≤ clock r m x) same timely)
     at false e = w C
 
 line_in_time : (r : Rules) (S : Colour) (kind : LineKind) (moment : ℕ) (m : Match) → awaits_line m.phase S ≡ true
@@ -65,7 +65,7 @@ line_in_time r S kind moment m aw w = line_cases r S kind moment m (λ e. AreInT
   passes = λ p none. w;
 })
   where
-    said : (C : Colour) → InTime r.level ((said_by S kind m).seat C).used
+    said : (C : Colour) → InTime (r.level C) ((said_by S kind m).seat C).used
     said C = rw (said_used S C kind m) (w C)
 
 silent_in_time : (r : Rules) (S : Colour) (moment : ℕ) (m : Match) → AreInTime r m
@@ -88,7 +88,7 @@ clocks_do_not_underflow r H K final g S =
       output_ends = λ m n S H aw q s u p. p;
       read_fails = λ m n S H aw q s u p. p;
     }) H K final (λ m due q f w. w) g (λ C. omega arith) in
-    sums (allotted r.level (length (m.seat S).used)) (sum (m.seat S).used) (w S)
+    sums (allotted (r.level S) (length (m.seat S).used)) (sum (m.seat S).used) (w S)
   where
     sums : (given used : ℕ) → used ≤ given → given - used + used ≡ given
     sums given used h = omega (arith, h)

@@ -1,6 +1,7 @@
 -- The moves of a match are legal, each in the position to which those before it lead.
 use Rattle.std.proofs.Common.{◌≡◌, ℕ, List, [], ◌∷◌, ◌++◌, refl, subst}
 use Rattle.chess_base.specs.Men.{other}
+use Rattle.chess_base.specs.declared.man.Colour.{Colour}
 use Rattle.chess_base.specs.Moves.{after}
 use Rattle.chess_base.specs.declared.man.Move.{Move}
 use Rattle.chess_base.specs.declared.setup.Setup.{Setup}
@@ -21,7 +22,7 @@ one_after : (start : Setup) (before : List Move) (m : Move)
 one_after start [] m = refl
 one_after start (n ∷ before) m = one_after (after start n) before m
 
-line_from : ReadMovesAreLegal → (start : Setup) (level : LevelSeen) (patience : Patience) (draws : Draws) (limit : ℕ)
+line_from : ReadMovesAreLegal → (start : Setup) (level : Colour → LevelSeen) (patience : Patience) (draws : Draws) (limit : ℕ)
     (before ms : List Move) (mine theirs : List (List ℕ))
     → AreRead (rules_of start level patience draws limit) before ms mine theirs
     → IsLine (position_after start before) ms

@@ -34,9 +34,9 @@ all_say (MoveSent prefixed text ∷ ls) = false
 all_say (Time n ∷ ls) = false
 all_say (Otim n ∷ ls) = false
 
-setup_says : (r : Rules) → all_say (setup_lines r) ≡ true
+setup_says : (r : Rules) (S : Colour) → all_say (setup_lines r S) ≡ true
 unfolding setup_lines
-setup_says r = grind arith
+setup_says r S = grind arith
 
 answers_say : (items : List Item) → all_say (answers_to items) ≡ true
 answers_say [] = refl
@@ -207,12 +207,12 @@ module _ {A : Type 0} (f : SentLine → List A) (says : (text : List ℕ) → f 
         (let e = k.enters n S Black rest' p h' in (e.0, e.1))));
     handshake_last = λ p s d. instead m _ rest [] _
         (after_answers (same_colour S O) _ (list_if (same_colour White O)
-        (setup_lines r)) (if_says (same_colour White O) (setup_lines r) (setup_says r)))
+        (setup_lines r White)) (if_says (same_colour White O) (setup_lines r White) (setup_says r White)))
         (then_on m n _ rest [] (said p) (λ rest' l' h'. keeps all Rest n (enter (Setup White) n) rest' l'
         (let e = k.enters n S White rest' p h' in (e.2, e.3))));
     setup_counts = λ p pong few. counted;
-    setup_next = λ p s pong. instead m _ rest [] _ (quiet (list_if (same_colour Black O) (setup_lines r))
-        (if_says (same_colour Black O) (setup_lines r) (setup_says r)))
+    setup_next = λ p s pong. instead m _ rest [] _ (quiet (list_if (same_colour Black O) (setup_lines r Black))
+        (if_says (same_colour Black O) (setup_lines r Black) (setup_says r Black)))
         (keeps all Rest m (enter (Setup Black) m) rest l (k.sets_up m S Black rest p h));
     setup_last = λ p s pong v d. k.begins m S rest p l kept h;
     setup_draws = λ p claim v d. k.stops m (Claimed claim) rest (on_when_read m.phase S aw) l h;
@@ -284,10 +284,10 @@ module _ {A : Type 0} (f : SentLine → List A) (says : (text : List ℕ) → f 
     handshake_next = λ p s d on some. after_answers (same_colour S (other S)) _ (list_if (same_colour Black (other S))
         handshake_lines) (if_says (same_colour Black (other S)) handshake_lines refl);
     handshake_last = λ p s d on some. after_answers (same_colour S (other S)) _ (list_if (same_colour White (other S))
-        (setup_lines r)) (if_says (same_colour White (other S)) (setup_lines r) (setup_says r));
+        (setup_lines r White)) (if_says (same_colour White (other S)) (setup_lines r White) (setup_says r White));
     setup_counts = λ p pong few on some. refl;
-    setup_next = λ p s pong on some. quiet (list_if (same_colour Black (other S)) (setup_lines r))
-        (if_says (same_colour Black (other S)) (setup_lines r) (setup_says r));
+    setup_next = λ p s pong on some. quiet (list_if (same_colour Black (other S)) (setup_lines r Black))
+        (if_says (same_colour Black (other S)) (setup_lines r Black) (setup_says r Black));
     setup_last = λ p s pong v d. apart_turn S r.start.side m;
     setup_draws = λ p claim v d on some. absurd cc;
     setup_decides = λ p v e on some. absurd cc;

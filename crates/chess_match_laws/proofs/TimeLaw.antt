@@ -43,11 +43,11 @@ no_text true text = refl
 no_text false text = refl
 
 -- the clock that is sent in an opening, where the engine takes `time`
-abbrev last_shown : Rules → Bool → List ℕ → List ℕ
-last_shown r takes used = if takes then (allotted r.level (length used) - sum used) / 10 ∷ [] else []
+abbrev last_shown : LevelSeen → Bool → List ℕ → List ℕ
+last_shown level takes used = if takes then (allotted level (length used) - sum used) / 10 ∷ [] else []
 
 opening_times : (own : Bool) (r : Rules) (m : Match) (S : Colour) → flat_map (numbers own) (opening r m S)
-    ≡ last_shown r (takes (codes "time") (m.seat S).items) (m.seat (whose own S)).used
+    ≡ last_shown (r.level (whose own S)) (takes (codes "time") (m.seat S).items) (m.seat (whose own S)).used
 opening_times true r m S = grind (arith, flat_map-append, append-nil)
 opening_times false r m S = grind (arith, flat_map-append, append-nil)
 
@@ -74,8 +74,8 @@ abbrev from : Bool → List ℕ → List ℕ
 from true xs = xs
 from false xs = drop 1 xs
 
-abbrev all_shown : Bool → Rules → Bool → List ℕ → List ℕ
-all_shown whole r takes used = if takes then from whole (centiseconds r.level 0 0 used) else []
+abbrev all_shown : Bool → LevelSeen → Bool → List ℕ → List ℕ
+all_shown whole level takes used = if takes then from whole (centiseconds level 0 0 used) else []
 
 -- what is still to be sent in this phase: the last, where S's turn wasn't opened since the clock changed
 abbrev pending : Bool → Phase → Colour → List ℕ → List ℕ
@@ -92,13 +92,13 @@ is_whole own r S = own || same_colour S r.start.side
 abbrev AllIn : Bool → Rules → Colour → Phase → Bool → List ℕ → List ℕ
 AllIn own r S (Handshake c) takes used = []
 AllIn own r S (Setup c) takes used = []
-AllIn own r S p takes used = all_shown (is_whole own r S) r takes used
+AllIn own r S p takes used = all_shown (is_whole own r S) (r.level (whose own S)) takes used
 
 abbrev RestIn : Bool → Rules → Colour → Phase → Bool → List ℕ → List ℕ → Type 0
 RestIn own r S (Handshake c) takes used rest = (rest ≡ []) × (used ≡ [])
 RestIn own r S (Setup c) takes used rest = (rest ≡ []) × (used ≡ [])
 RestIn own r S (Over reason) takes used rest = Unit {0}
-RestIn own r S p takes used rest = rest ≡ pending own p S (last_shown r takes used)
+RestIn own r S p takes used rest = rest ≡ pending own p S (last_shown (r.level (whose own S)) takes used)
 
 abbrev takes_time : Match → Colour → Bool
 takes_time m S = takes (codes "time") (m.seat S).items
@@ -116,12 +116,12 @@ rest_in own r S m p rest e h =
 
 -- ---- lists
 
-all_short : (whole : Bool) (r : Rules) (takes : Bool) → length (all_shown whole r takes []) ≤ 1
-all_short whole r takes = grind arith
+all_short : (whole : Bool) (level : LevelSeen) (takes : Bool) → length (all_shown whole level takes []) ≤ 1
+all_short whole level takes = grind arith
 
-last_short : (r : Rules) (takes : Bool) (used : List ℕ) → length (last_shown r takes used) ≤ 1
-last_short r true used = omega arith
-last_short r false used = omega arith
+last_short : (level : LevelSeen) (takes : Bool) (used : List ℕ) → length (last_shown level takes used) ≤ 1
+last_short level true used = omega arith
+last_short level false used = omega arith
 
 -- the turn passes
 passes_times : (own : Bool) (c S : Colour) (t : List ℕ) → pending own (AfterMove c) S t
@@ -129,10 +129,11 @@ passes_times : (own : Bool) (c S : Colour) (t : List ℕ) → pending own (After
 passes_times own c S t = grind (arith, append-nil)
 
 -- the first turn is opened
-opens_times : (own : Bool) (r : Rules) (S c : Colour) (takes : Bool)
-    → all_shown (own || same_colour S c) r takes []
-    ≡ (if same_colour c S then last_shown r takes [] else []) ++ pending own (Opening c) S (last_shown r takes [])
-opens_times own r S c takes = grind arith
+opens_times : (own : Bool) (level : LevelSeen) (S c : Colour) (takes : Bool)
+    → all_shown (own || same_colour S c) level takes []
+    ≡ (if same_colour c S then last_shown level takes [] else [])
+    ++ pending own (Opening c) S (last_shown level takes [])
+opens_times own level S c takes = grind arith
 
 from-append : (whole : Bool) (level : LevelSeen) (us : List ℕ) (t : List ℕ)
     → from whole (centiseconds level 0 0 us ++ t) ≡ from whole (centiseconds level 0 0 us) ++ t
@@ -140,15 +141,16 @@ from-append true level us t = refl
 from-append false level [] t = refl
 from-append false level (u ∷ us) t = refl
 
-all_more : (whole : Bool) (r : Rules) (takes : Bool) (used : List ℕ) (u : ℕ) → all_shown whole r takes (used ++ u ∷ [])
-    ≡ all_shown whole r takes used ++ last_shown r takes (used ++ u ∷ [])
-all_more whole r false used u = refl
-all_more whole r true used u =
+all_more : (whole : Bool) (level : LevelSeen) (takes : Bool) (used : List ℕ) (u : ℕ)
+    → all_shown whole level takes (used ++ u ∷ [])
+    ≡ all_shown whole level takes used ++ last_shown level takes (used ++ u ∷ [])
+all_more whole level false used u = refl
+all_more whole level true used u =
     let l : length (used ++ u ∷ []) ≡ length used + 1 = length-append used (u ∷ []) in
     let s : sum (used ++ u ∷ []) ≡ sum used + u = sum-snoc used u in
-    ap (λ (xs : List ℕ). from whole xs) (centiseconds-snoc r.level 0 0 used u (length (used ++ u ∷ []))
+    ap (λ (xs : List ℕ). from whole xs) (centiseconds-snoc level 0 0 used u (length (used ++ u ∷ []))
     (sum (used ++ u ∷ [])) (omega (arith, l)) (omega (arith, s)))
-    ∙ from-append whole r.level used ((allotted r.level (length (used ++ u ∷ [])) - sum (used ++ u ∷ [])) / 10 ∷ [])
+    ∙ from-append whole level used ((allotted level (length (used ++ u ∷ [])) - sum (used ++ u ∷ [])) / 10 ∷ [])
 
 -- where S's clock that is shown to O changes, all was sent before, and the last is to be sent after; else it is as it
 -- was
@@ -186,7 +188,7 @@ stops own r O m reason rest on l h = rw (end_times own r m reason O) (at m.phase
     begun : (p : Phase) → m.phase ≡ p → AllIn own r O p (takes_time m O) used ≡ [] → rest ≡ [] → used ≡ []
         → Goes (AllOf own r O) (RestIs own r O) m rest [] n
     begun p e none q u = grows (AllOf own r O) (RestIs own r O) m n rest (AllOf own r O n) [] (AllOf own r O n) q
-        (rw u (all_short (is_whole own r O) r (takes_time m O))) (rw (e, none) refl) refl tt
+        (rw u (all_short (is_whole own r O) (r.level (whose own O)) (takes_time m O))) (rw (e, none) refl) refl tt
 
     in_game : (p : Phase) → m.phase ≡ p → AllIn own r O p (takes_time m O) used ≡ AllOf own r O n
         → Goes (AllOf own r O) (RestIs own r O) m rest [] n
@@ -203,13 +205,13 @@ stops own r O m reason rest on l h = rw (end_times own r m reason O) (at m.phase
 
 -- what the opening of a turn has of these
 opened_times : (own : Bool) (r : Rules) (O c : Colour) (m : Match) → flat_map (numbers own) ((begins_turn r c m).to O)
-    ≡ (if same_colour c O then last_shown r (takes_time m O) (m.seat (whose own O)).used else [])
+    ≡ (if same_colour c O then last_shown (r.level (whose own O)) (takes_time m O) (m.seat (whose own O)).used else [])
 opened_times own r O c m = at (same_colour c O) (same_colour-true c O)
   where
     at : (b : Bool) → (b ≡ true → c ≡ O) → flat_map (numbers own) (list_if b (opening r (enter (Opening c) m) c))
-        ≡ (if b then last_shown r (takes_time m O) (m.seat (whose own O)).used else [])
+        ≡ (if b then last_shown (r.level (whose own O)) (takes_time m O) (m.seat (whose own O)).used else [])
     at true h = opening_times own r (enter (Opening c) m) c
-        ∙ ap (λ (x : Colour). last_shown r (takes_time m x) (m.seat (whose own x)).used) (h refl)
+        ∙ ap (λ (x : Colour). last_shown (r.level (whose own x)) (takes_time m x) (m.seat (whose own x)).used) (h refl)
     at false h = refl
 
 gives : (own : Bool) (r : Rules) (O : Colour) → Gives (numbers own) r O (AllOf own r O) (RestIs own r O)
@@ -226,22 +228,22 @@ gives own r O = record {
       let e = rest_in own r O m (Setup S) rest p h in
       let us : List ℕ = (m.seat (whose own O)).used in
       let tk : Bool = takes_time m O in
-      let last : List ℕ = last_shown r tk us in
-      let all : List ℕ = all_shown (is_whole own r O) r tk us in
+      let last : List ℕ = last_shown (r.level (whose own O)) tk us in
+      let all : List ℕ = all_shown (is_whole own r O) (r.level (whose own O)) tk us in
       rw (opened_times own r O r.start.side m)
       (grows (AllOf own r O) (RestIs own r O) m (begins_turn r r.start.side m).after rest all
       (if same_colour r.start.side O then last else []) (pending own (Opening r.start.side) O last) e.0
-      (subst (λ us. length (all_shown (is_whole own r O) r tk us) ≤ 1) (sym e.1)
-      (all_short (is_whole own r O) r tk))
+      (subst (λ us. length (all_shown (is_whole own r O) (r.level (whose own O)) tk us) ≤ 1) (sym e.1)
+      (all_short (is_whole own r O) (r.level (whose own O)) tk))
       (ap (λ (q : Phase). AllIn own r O q tk us ++ all) (sym p))
-      (subst (λ us. all_shown (is_whole own r O) r tk us
-      ≡ (if same_colour r.start.side O then last_shown r tk us else [])
-      ++ pending own (Opening r.start.side) O (last_shown r tk us)) (sym e.1) (opens_times own r O r.start.side tk))
+      (subst (λ us. all_shown (is_whole own r O) (r.level (whose own O)) tk us
+      ≡ (if same_colour r.start.side O then last_shown (r.level (whose own O)) tk us else [])
+      ++ pending own (Opening r.start.side) O (last_shown (r.level (whose own O)) tk us)) (sym e.1) (opens_times own (r.level (whose own O)) O r.start.side tk))
       refl);
   passes = λ m S rest p l q h.
       let e = rest_in own r O m (AfterMove S) rest p h in
       let us : List ℕ = (m.seat (whose own O)).used in
-      let last : List ℕ = last_shown r (takes_time m O) us in
+      let last : List ℕ = last_shown (r.level (whose own O)) (takes_time m O) us in
       rw (opened_times own r O (other S) m)
       (sends (AllOf own r O) (RestIs own r O) m (begins_turn r (other S) m).after rest
       (if same_colour (other S) O then last else []) (pending own (Opening (other S)) O last) l
@@ -256,7 +258,7 @@ gives own r O = record {
   where
     played : (m : Match) (S : Colour) (move : Move) (opened used : ℕ) (rest : List ℕ) → m.phase ≡ BeforeMove S opened
         → length rest ≤ 1
-        → rest ≡ pending own (BeforeMove S opened) O (last_shown r (takes_time m O) (m.seat (whose own O)).used)
+        → rest ≡ pending own (BeforeMove S opened) O (last_shown (r.level (whose own O)) (takes_time m O) (m.seat (whose own O)).used)
         → Goes (AllOf own r O) (RestIs own r O) m rest [] (moved S move used m)
     played m S move opened used rest p l e = at (same_colour S (whose own O)) refl
       where
@@ -267,22 +269,22 @@ gives own r O = record {
         xs = (m.seat (whose own O)).used
 
         shown : List ℕ → List ℕ
-        shown us = last_shown r (takes_time m O) us
+        shown us = last_shown (r.level (whose own O)) (takes_time m O) us
 
         all_used : List ℕ → List ℕ
-        all_used us = all_shown (is_whole own r O) r (takes_time m O) us
+        all_used us = all_shown (is_whole own r O) (r.level (whose own O)) (takes_time m O) us
 
         all_then : (us : List ℕ) → (n.seat (whose own O)).used ≡ us → AllOf own r O n ≡ all_used us
         all_then us u =
-            ap (λ is. all_shown (is_whole own r O) r (takes (codes "time") is) (n.seat (whose own O)).used)
+            ap (λ is. all_shown (is_whole own r O) (r.level (whose own O)) (takes (codes "time") is) (n.seat (whose own O)).used)
             (moved_items S O move used m) ∙ ap all_used u
 
         rest_then : (us : List ℕ) → (n.seat (whose own O)).used ≡ us → pending own (AfterMove S) O (shown us)
-            ≡ pending own (AfterMove S) O (last_shown r (takes_time n O) (n.seat (whose own O)).used)
+            ≡ pending own (AfterMove S) O (last_shown (r.level (whose own O)) (takes_time n O) (n.seat (whose own O)).used)
         rest_then us u =
             ap (λ us. pending own (AfterMove S) O (shown us)) (sym u)
             ∙ ap (λ is. pending own (AfterMove S) O
-            (last_shown r (takes (codes "time") is) (n.seat (whose own O)).used))
+            (last_shown (r.level (whose own O)) (takes (codes "time") is) (n.seat (whose own O)).used))
             (sym (moved_items S O move used m))
 
         all_now : all_used xs ≡ AllOf own r O m
@@ -295,8 +297,8 @@ gives own r O = record {
             moved_used S (whose own O) move used m ∙ ap (λ (b : Bool). if b then us else xs) s in
             grows (AllOf own r O) (RestIs own r O) m n rest (shown us) [] (shown us)
             (e ∙ none_before own S O opened _ s)
-            (last_short r (takes_time m O) us)
-            (all_then us u ∙ all_more (is_whole own r O) r (takes_time m O) xs used
+            (last_short (r.level (whose own O)) (takes_time m O) us)
+            (all_then us u ∙ all_more (is_whole own r O) (r.level (whose own O)) (takes_time m O) xs used
             ∙ ap (λ (l : List ℕ). l ++ shown us) all_now)
             refl (sym (all_after own S O _ s) ∙ rest_then us u)
         at false s =
@@ -310,17 +312,17 @@ gives own r O = record {
 shown_at : (own : Bool) (r : Rules) (O : Colour) (H K : List Act) (final : Match) → IsMatch r (H ++ K) final
     → (let m = match_after r beginning.after H in (rest : List ℕ) × (length rest ≤ 1)
     × (flat_map (numbers own) (lines_given O H) ++ rest
-    ≡ all_shown (is_whole own r O) r (takes_time m O) (m.seat (whose own O)).used))
+    ≡ all_shown (is_whole own r O) (r.level (whose own O)) (takes_time m O) (m.seat (whose own O)).used))
 shown_at own r O H K final g =
     given_at (numbers own) (no_text own) r O (AllOf own r O) (RestIs own r O) (gives own r O)
     (λ m X. (rest : List ℕ) × (length rest ≤ 1)
-    × (X ++ rest ≡ all_shown (is_whole own r O) r (takes_time m O) (m.seat (whose own O)).used)) H K final
+    × (X ++ rest ≡ all_shown (is_whole own r O) (r.level (whose own O)) (takes_time m O) (m.seat (whose own O)).used)) H K final
     (λ m due q X s. done m X _ s.0 s.1 s.2 s.3) g (begun own O)
   where
     done : (m : Match) (X Y rest : List ℕ) → length (Y ++ rest) ≤ 1 → X ++ (Y ++ rest) ≡ AllOf own r O m
         → RestIs own r O m rest
         → (left : List ℕ) × (length left ≤ 1)
-        × (X ++ left ≡ all_shown (is_whole own r O) r (takes_time m O) (m.seat (whose own O)).used)
+        × (X ++ left ≡ all_shown (is_whole own r O) (r.level (whose own O)) (takes_time m O) (m.seat (whose own O)).used)
     done m X Y rest l a h = at m.phase a h
       where
         used : List ℕ
@@ -332,18 +334,18 @@ shown_at own r O H K final g =
 
         begun : used ≡ [] → X ++ (Y ++ rest) ≡ []
             → (left : List ℕ) × (length left ≤ 1)
-            × (X ++ left ≡ all_shown (is_whole own r O) r (takes_time m O) used)
+            × (X ++ left ≡ all_shown (is_whole own r O) (r.level (whose own O)) (takes_time m O) used)
         begun u a = (
-          all_shown (is_whole own r O) r (takes_time m O) used,
-          subst (λ us. length (all_shown (is_whole own r O) r (takes_time m O) us) ≤ 1) (sym u)
-              (all_short (is_whole own r O) r (takes_time m O)),
-          ap (λ (xs : List ℕ). xs ++ all_shown (is_whole own r O) r (takes_time m O) used) (none X (Y ++ rest) a),
+          all_shown (is_whole own r O) (r.level (whose own O)) (takes_time m O) used,
+          subst (λ us. length (all_shown (is_whole own r O) (r.level (whose own O)) (takes_time m O) us) ≤ 1) (sym u)
+              (all_short (is_whole own r O) (r.level (whose own O)) (takes_time m O)),
+          ap (λ (xs : List ℕ). xs ++ all_shown (is_whole own r O) (r.level (whose own O)) (takes_time m O) used) (none X (Y ++ rest) a),
         )
 
         at : (p : Phase) → X ++ (Y ++ rest) ≡ AllIn own r O p (takes_time m O) used
             → RestIn own r O p (takes_time m O) used rest
             → (left : List ℕ) × (length left ≤ 1)
-            × (X ++ left ≡ all_shown (is_whole own r O) r (takes_time m O) used)
+            × (X ++ left ≡ all_shown (is_whole own r O) (r.level (whose own O)) (takes_time m O) used)
         at (Handshake c) a h = begun h.1 a
         at (Setup c) a h = begun h.1 a
         at (Opening c) a h = (Y ++ rest, l, a)
@@ -368,8 +370,8 @@ other_times_are_clocks r H K final g S =
     let m = match_after r beginning.after H in
     let h = shown_at false r S H K final g in (h.0, h.1, h.2 ∙ at (same_colour S r.start.side) m)
   where
-    at : (b : Bool) (m : Match) → all_shown b r (takes_time m S) (m.seat (other S)).used
-        ≡ (if takes_time m S then (if b then centiseconds r.level 0 0 (m.seat (other S)).used
-        else drop 1 (centiseconds r.level 0 0 (m.seat (other S)).used)) else [])
+    at : (b : Bool) (m : Match) → all_shown b (r.level (other S)) (takes_time m S) (m.seat (other S)).used
+        ≡ (if takes_time m S then (if b then centiseconds (r.level (other S)) 0 0 (m.seat (other S)).used
+        else drop 1 (centiseconds (r.level (other S)) 0 0 (m.seat (other S)).used)) else [])
     at true m = refl
     at false m = refl

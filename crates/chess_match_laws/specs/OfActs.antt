@@ -296,7 +296,7 @@ MovesSentAreKnown r S H m =
 
 -- in every match of chess: each move played is legal in the position in which it is made, from the start on
 abbrev pub GamesAreLines : Type 0
-GamesAreLines = (start : Position) (level : LevelSeen) (patience : Patience) (draws : Draws) (limit : ℕ) (H : List Act)
+GamesAreLines = (start : Position) (level : Colour → LevelSeen) (patience : Patience) (draws : Draws) (limit : ℕ) (H : List Act)
     (final : Match) → IsMatch (rules_of start level patience draws limit) H final → IsLine start final.played
 
 -- the match has no move after a verdict of the board, and no more than the limit: after fewer than all of its moves the
@@ -313,7 +313,7 @@ EndsAtVerdicts r H m = (length m.played ≤ r.limit)
 abbrev pub TimesAreClocks : Rules → List Act → Match → Type 0
 TimesAreClocks r H m = (S : Colour) → (rest : List ℕ) × (length rest ≤ 1)
     × (flat_map time_sent (lines_given S H) ++ rest
-    ≡ (if takes (codes "time") (m.seat S).items then centiseconds r.level 0 0 (m.seat S).used else []))
+    ≡ (if takes (codes "time") (m.seat S).items then centiseconds (r.level S) 0 0 (m.seat S).used else []))
 
 -- the `otim` lines that each side `S` is sent show the other's clock after each of the other's moves, in order, and
 -- before the first of them if `S` moves first (none, if its engine has `time=0`). `rest` is what is missing: at most
@@ -323,8 +323,8 @@ OtherTimesAreClocks r H m = (S : Colour) → (rest : List ℕ) × (length rest �
     × (flat_map otim_sent (lines_given S H) ++ rest
     ≡ (if takes (codes "time") (m.seat S).items
     then (if same_colour S r.start.side
-    then centiseconds r.level 0 0 (m.seat (other S)).used
-    else drop 1 (centiseconds r.level 0 0 (m.seat (other S)).used))
+    then centiseconds (r.level (other S)) 0 0 (m.seat (other S)).used
+    else drop 1 (centiseconds (r.level (other S)) 0 0 (m.seat (other S)).used))
     else []))
 
 -- the milliseconds from when each turn of the side `S` was opened to its first `move` line after that (0 if the clock
@@ -349,7 +349,7 @@ UsedTimesAreDifferences r H m = (S : Colour) → (rest : List ℕ) × (length re
 -- that its clock never goes below 0
 abbrev pub ClocksDoNotUnderflow : Rules → List Act → Match → Type 0
 ClocksDoNotUnderflow r H m =
-    (S : Colour) → clock r m S + sum (m.seat S).used ≡ allotted r.level (length (m.seat S).used)
+    (S : Colour) → clock r m S + sum (m.seat S).used ≡ allotted (r.level S) (length (m.seat S).used)
 
 -- ---- silences
 

@@ -12,6 +12,8 @@ mod features;
 #[cfg(test)]
 mod laws;
 #[cfg(test)]
+mod levels;
+#[cfg(test)]
 mod matches;
 #[cfg(test)]
 mod pgn;

@@ -2,7 +2,7 @@
 
 use byte_devices::{Counted, Input, Output, PieceReader, PieceWriter};
 use cecp_engine::Level;
-use chess_base::{Colour, Position, Variant};
+use chess_base::{ByColour, Colour, Position, Variant};
 use chess_bits::{AttackTables, Bits};
 use chess_fen::read_fen_as;
 use chess_game::{Game, Outcome};
@@ -36,12 +36,15 @@ impl Moments for Listed<'_> {
     }
 }
 
-/// A start with a level that is in its form, and this patience.
+/// A start with a level of both sides that is in its form, and this patience.
 pub fn setup_within(rt: &impl Abort, level: &[u8], start: Position, patience: Patience) -> Setup {
     match Level::read(level) {
         Some(level) => Setup {
             start,
-            level,
+            levels: ByColour {
+                white: level,
+                black: level,
+            },
             patience,
             draws: Draws::Claimed,
         },

@@ -5,7 +5,7 @@ use arbiter_cli::{Plan, read_words};
 use byte_devices::{Counted, Input, Output};
 use cecp_engine::{Clocks, EngineLine, Features, Level, next_item, read_engine_line};
 use chess_arbiter::{ProcessHost, run_program};
-use chess_base::{Colour, Position};
+use chess_base::{ByColour, Colour, Position};
 use chess_cecp::{End, Session, run_session, serve_lines};
 use chess_game::Game;
 use chess_match::{Draws, Ends, Moments, Patience, Setup, run_match};
@@ -30,7 +30,11 @@ fn features_and_clock() -> Result<(bool, u64)> {
         }
     }
     let level: Level = "40 5 0".parse()?;
-    let left = Clocks::new(level).remaining(Colour::White);
+    let levels = ByColour {
+        white: level,
+        black: level,
+    };
+    let left = Clocks::new(levels).remaining(Colour::White);
     Ok((features.ping, left))
 }
 
@@ -46,7 +50,10 @@ fn match_between<R: Input + Drop, W: Output + Drop, M: Moments + Drop>(
     let mut game = Game::open(rt.alloc(), Plain::new(), 300)?;
     let setup = Setup {
         start: Position::initial(),
-        level: "40 5 0".parse()?,
+        levels: ByColour {
+            white: "40 5 0".parse()?,
+            black: "0 1 1".parse()?,
+        },
         patience: Patience::ENDLESS,
         draws: Draws::Claimed,
     };
@@ -68,7 +75,8 @@ fn match_of_processes(rt: &HostRuntime, alloc: Global) -> Result<()> {
     let plan = GamesPlan {
         white: "sjeng",
         black: "phalanx",
-        level: "40 5 0".parse()?,
+        white_level: "40 5 0".parse()?,
+        black_level: "40 5 0".parse()?,
         patience: Patience::ENDLESS,
         draws: Draws::Claimed,
         start: Position::initial(),

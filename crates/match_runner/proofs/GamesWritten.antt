@@ -1,7 +1,7 @@
 -- The games of a match, one after another.
 use Rattle.std.proofs.Common.{◌≡◌, ◌∙◌, ◌<◌, ◌≤◌, ◌+◌, ◌⊎◌, ℕ, Bool, true, false, List, [], ◌∷◌, ◌++◌, length, Bor, Option, Some, None, Ok, Err, Result, refl, sym, ap, subst, append-nil, append_assoc, length-append, arith, inl, inr}
 use Rattle.std.specs.Prelude.{IfErr, cond, count_by, flat_map, if◌then◌else◌}
-use Rattle.std.specs.List.{enumerate_from}
+use Rattle.std.specs.List.{AllByRecursion, enumerate_from}
 use Rattle.std.proofs.lemmas.List.Concat.{flat_map-append}
 use Rattle.std.proofs.lemmas.List.FromFn.{length-enumerate_from}
 use Rattle.std.proofs.lemmas.List.Sums.{count_by-le-length, sum_by_push}
@@ -134,7 +134,7 @@ module _ (plan : GamesPlan) (number : ℕ) (c c1 c3 c4 : ℕ → Option ℕ) (p 
       (steps_more p1 p2 p4 (play ∷ []) (text ∷ finish ∷ []) plays
       (steps_more p2 p3 p4 (text ∷ []) (finish ∷ []) writes finishes)))
 
-  pub was_written : IsOfPlan plan played → Sent w w' (pgn [] tags played.after.game.state)
+  pub was_written : IsOfPlan plan number played → Sent w w' (pgn [] tags played.after.game.state)
       → StepsPass p2 p3 (Writes (pgn [] tags played.after.game.state) ∷ [])
       → PlayedGame plan number c c4 p p4 w w' l l'' (Ok played.end)
   was_written of sent writes = (
@@ -148,7 +148,7 @@ module _ (plan : GamesPlan) (number : ℕ) (c c1 c3 c4 : ℕ → Option ℕ) (p 
     left ∙ rested,
   )
 
-  pub was_not_written : IsOfPlan plan played → CutShort w w' (pgn [] tags played.after.game.state)
+  pub was_not_written : IsOfPlan plan number played → CutShort w w' (pgn [] tags played.after.game.state)
       → StepsPass p2 p3 (WriteFails (pgn [] tags played.after.game.state) ∷ [])
       → PlayedGame plan number c c4 p p4 w w' l l'' (Err WriteFailed)
   was_not_written of breaks fails = (
@@ -278,10 +278,19 @@ score_text_is games = refl
 
 -- ---- one game more
 
-sound_more : (plan : GamesPlan) (games : List GameRecord) (g : GameRecord) → FaultlessGames plan games → IsOfPlan plan g
-    → g.end.fault ≡ None → FaultlessGames plan (games ++ g ∷ [])
-sound_more plan [] g h of none = ((of, none), tt)
-sound_more plan (x ∷ games) g h of none = (h.0, sound_more plan games g h.1 of none)
+-- games that are numbered from `k` on
+sound_from : (plan : GamesPlan) (k number : ℕ) (games : List GameRecord) (g : GameRecord) → number ≡ k + length games
+    → AllByRecursion (λ x. IsOfPlan plan x.0 x.1 × (x.1.end.fault ≡ None)) (enumerate_from k games)
+    → IsOfPlan plan number g → g.end.fault ≡ None
+    → AllByRecursion (λ x. IsOfPlan plan x.0 x.1 × (x.1.end.fault ≡ None)) (enumerate_from k (games ++ g ∷ []))
+sound_from plan k number [] g e h of none =
+    let first : number ≡ k = omega (arith, e) in ((subst (λ n. IsOfPlan plan n g) first of, none), tt)
+sound_from plan k number (x ∷ games) g e h of none =
+    (h.0, sound_from plan (k + 1) number games g (omega (arith, e)) h.1 of none)
+
+sound_more : (plan : GamesPlan) (number : ℕ) (games : List GameRecord) (g : GameRecord) → number ≡ 1 + length games
+    → FaultlessGames plan games → IsOfPlan plan number g → g.end.fault ≡ None → FaultlessGames plan (games ++ g ∷ [])
+sound_more plan number games g e h of none = sound_from plan 1 number games g e h of none
 
 -- ---- so far
 
@@ -346,7 +355,7 @@ module _ (plan : GamesPlan) (c c' c'' : ℕ → Option ℕ) (p p' p'' : GamesFut
       ∙ ap (λ v. score_after (first_side (1 + length games)) g.end.outcome v) s.counted
       ∙ score_more games g (omega (arith, n, few))
 
-  pub one_more : (g : GameRecord) → number ≤ plan.games → number ≤ 65535 → IsOfPlan plan g → g.end.fault ≡ None
+  pub one_more : (g : GameRecord) → number ≤ plan.games → number ≤ 65535 → IsOfPlan plan number g → g.end.fault ≡ None
       → Sent w' w'' (game_text plan number g) → Logged l' l'' (game_log plan number g)
       → StepsPass p' p'' (steps_by Writes plan number g) → BeginsAt c' g → c'' ≡ g.after.coming
       → SoFar plan c c'' p p'' w w'' l l'' (number + 1) (score_after (first_side number) g.end.outcome score)
@@ -355,7 +364,7 @@ module _ (plan : GamesPlan) (c c' c'' : ℕ → Option ℕ) (p p' p'' : GamesFut
       let n = s.numbered in
       let longer = length-append games (g ∷ []) in
       record {
-        games_sound = sound_more plan games g s.games_sound of none;
+        games_sound = sound_more plan number games g s.numbered s.games_sound of none;
         numbered = omega (arith, n, longer);
         few = omega (arith, n, longer, le);
         counted = counted_more g small;
@@ -367,7 +376,7 @@ module _ (plan : GamesPlan) (c c' c'' : ℕ → Option ℕ) (p p' p'' : GamesFut
       }
 
   pub with_fault : (g : GameRecord) (side : Colour) (fault : MatchFault) → number ≤ plan.games → number ≤ 65535
-      → IsOfPlan plan g
+      → IsOfPlan plan number g
       → g.end.fault ≡ Some (side, fault) → Sent w' w'' (game_text plan number g)
       → Logged l' l'' (game_log plan number g) → StepsPass p' p'' (steps_by Writes plan number g) → BeginsAt c' g
       → HasPlayed plan c p p'' w w'' l l''
@@ -394,7 +403,7 @@ module _ (plan : GamesPlan) (c c' c'' : ℕ → Option ℕ) (p p' p'' : GamesFut
       (subst (λ n. StepsPass p' p'' (last n)) m steps)
 
   -- a game that was not written
-  not_written : (next : GameRecord) → number ≤ plan.games → IsOfPlan plan next
+  not_written : (next : GameRecord) → number ≤ plan.games → IsOfPlan plan number next
       → CutShort w' w'' (game_text plan number next) → Logged l' l'' (game_log plan number next)
       → StepsPass p' p'' (steps_by WriteFails plan number next) → BeginsAt c' next
       → HasPlayed plan c p p'' w w'' l l'' (Err WriteFailed)
@@ -408,7 +417,7 @@ module _ (plan : GamesPlan) (c c' c'' : ℕ → Option ℕ) (p p' p'' : GamesFut
           (
             s.games_sound,
             omega (arith, n, le),
-            of,
+            subst (λ k. IsOfPlan plan k next) m of,
             (begun, subst (λ k. Begins begun (game_text plan k next)) m begins, refl),
           ),
           took_some_more w w' w'' games (game_texts plan games) begun s.written failing,

@@ -23,7 +23,9 @@ use Rattle.chess_match.specs.Played.{World, PlayedBy}
 use Rattle.chess_match.specs.declared.reason.MatchFault.{MatchFault}
 use Rattle.chess_match.specs.declared.reason.Reason.{Reason}
 use Rattle.chess_match.specs.declared.reason.Reason.TheVariants.{Faulted}
+use Rattle.cecp_engine.specs.Levels.{LevelSeen}
 use Rattle.chess_match.specs.declared.run.MatchEnd.{MatchEnd}
+use Rattle.chess_match.specs.declared.run.Setup.{Setup}
 use Rattle.pgn_writer.specs.GameText.{pgn}
 use Rattle.pgn_writer.specs.Tags.{default_tags}
 use Rattle.match_runner.specs.Log.{LogSeen, Logged, log_from}
@@ -41,6 +43,22 @@ first_side number = if number % 2 == 1 then White else Black
 -- engine (that of `--white`: White in odd games, Black in even ones), `plan.black` that of the second
 abbrev pub engine_command : GamesPlan → ℕ → Colour → List ℕ
 engine_command plan number side = if same_colour side (first_side number) then plan.white.now else plan.black.now
+
+-- the time control of the engine that has this side in the game of this number: that of `--white` has
+-- `plan.white_level` in all games, that of `--black` `plan.black_level`
+abbrev pub engine_level : GamesPlan → ℕ → Colour → LevelSeen
+engine_level plan number side =
+    if same_colour side (first_side number) then plan.white_level else plan.black_level
+
+-- what the game of this number begins from: start, patience and draws are the plan's, and each side has the time
+-- control of its engine
+abbrev pub setup_of : GamesPlan → ℕ → Setup
+setup_of plan number = record {
+  start = plan.start;
+  levels = record { white = engine_level plan number White; black = engine_level plan number Black };
+  patience = plan.patience;
+  draws = plan.draws;
+}
 
 -- an engine's name in the tags: `name`, which the engine gave itself by `myname`, or its command if `name` is empty;
 -- cut to its first 60 bytes, with `?` for each that is no printable ASCII (`cut_tag`)
@@ -96,17 +114,15 @@ pub record GameRecord : Type 0 where
 abbrev pub none_killed : ByColour Bool
 none_killed = record { white = false; black = false }
 
--- `played` is the record of one game, which was played from the start of `plan`, with its time control, patience and
--- draws, and with at most 20,000 half-moves (`MOST_MOVES`): there are acts `H` and a reason why the game ended, by which
--- `before` became `after`; `end` is what is reported of them, and `notes` are their notes. No engine was killed if replies have
+-- `played` is the record of the game of this number, which was played as `setup_of` says, with at most 20,000 half-moves
+-- (`MOST_MOVES`): there are acts `H` and a reason why the game ended, by which `before` became `after`; `end` is what is
+-- reported of them, and `notes` are their notes. No engine was killed if replies have
 -- no limit. Which engines played it is said by the steps of a match (`steps_by` in GamesTable)
-abbrev pub IsOfPlan : GamesPlan → GameRecord → Type 0
-IsOfPlan plan played = (played.before.game.limit ≡ MOST_MOVES)
+abbrev pub IsOfPlan : GamesPlan → ℕ → GameRecord → Type 0
+IsOfPlan plan number played = (played.before.game.limit ≡ MOST_MOVES)
     × (plan.patience.reply ≡ None → played.killed ≡ none_killed)
     × ((H : List Act) × (reason : Reason) × (flat_map (notes_of reason) H ≡ played.notes)
-    × PlayedBy H reason
-    (record { start = plan.start; level = plan.level; patience = plan.patience; draws = plan.draws })
-    played.end played.before played.after)
+    × PlayedBy H reason (setup_of plan number) played.end played.before played.after)
 
 -- the PGN of the game `played`, which has this number: its tags, and its moves and result. `[]`: no line has a prefix
 abbrev pub game_text : GamesPlan → ℕ → GameRecord → List ℕ
@@ -126,9 +142,11 @@ LogsGame (Some first) l l' notes = Logged l l' (log_from first 0 notes)
 
 -- ---- the games
 
--- each of these games was played as the plan says (`IsOfPlan`), and no engine had a fault in it
+-- each of these games, which are numbered from 1, was played as the plan says (`IsOfPlan`), and no engine had a fault in
+-- it
 abbrev pub FaultlessGames : GamesPlan → List GameRecord → Type 0
-FaultlessGames plan games = AllByRecursion (λ played. IsOfPlan plan played × (played.end.fault ≡ None)) games
+FaultlessGames plan games =
+    AllByRecursion (λ g. IsOfPlan plan g.0 g.1 × (g.1.end.fault ≡ None)) (enumerate_from 1 games)
 
 -- the PGN of these games one after another; they are numbered from 1
 abbrev pub game_texts : GamesPlan → List GameRecord → List ℕ
@@ -180,7 +198,7 @@ AreAllGames plan games None = FaultlessGames plan games × (length games ≡ pla
 -- one. Each was played as the plan says, and there are at most as many games as planned
 AreAllGames plan games (Some (number, side, fault)) =
     (before : List GameRecord) × (last : GameRecord) × (games ≡ before ++ last ∷ []) × FaultlessGames plan before
-    × IsOfPlan plan last × (last.end.fault ≡ Some (side, fault)) × (number ≡ length games) × (number ≤ plan.games)
+    × IsOfPlan plan number last × (last.end.fault ≡ Some (side, fault)) × (number ≡ length games) × (number ≤ plan.games)
 
 -- ---- what a match writes
 
@@ -201,7 +219,7 @@ WritesGames plan (Err (Game number text)) games None o = (side : Colour) × (fau
 -- games were played as the plan says, those of `games` without a fault; in `unwritten` an engine may have had one. No
 -- score was written
 WritesGames plan (Err WriteFailed) games (Some unwritten) o =
-    FaultlessGames plan games × (length games < plan.games) × IsOfPlan plan unwritten
+    FaultlessGames plan games × (length games < plan.games) × IsOfPlan plan (length games + 1) unwritten
     × BreaksOffIn (all_for games (game_texts plan games)) (game_text plan (length games + 1) unwritten) o
 -- all games of the match were played as the plan says, and their PGN was written and flushed; then a write or flush
 -- failed in the score. In the last game an engine may have had a fault (`fault`; `None` if it had none)

@@ -4,7 +4,7 @@ ghost use Rattle.std.specs.Prelude.{◌≡◌, ◌≤◌, List};
 ghost use Rattle.byte_devices.specs.Devices.{Sends};
 ghost use Rattle.chess_match.specs.Reasons.{comment_of};
 ghost use Rattle.chess_match.specs.declared.reason.Reason.TheVariants.{Faulted};
-ghost use Rattle.match_runner.specs.Games.{PlaysGames, engine_command, first_side, player_name, tags_of};
+ghost use Rattle.match_runner.specs.Games.{PlaysGames, engine_command, engine_level, first_side, player_name, setup_of, tags_of};
 ghost use Rattle.match_runner.specs.GamesTable.{HostStep, PlaysBy, PlaysGamesAt, PlaysGamesWith, StepsPass, at_host};
 ghost use Rattle.match_runner.specs.ties.Playing.{HasPlayed, PlayedGame, logged_side, score_text};
 ghost use Rattle.match_runner.specs.Log.{log_seen};
@@ -19,7 +19,8 @@ use crate::process_host::ProcessHost;
 use crate::score::Score;
 use crate::table::GamesTable;
 use byte_devices::{Output, WriteFault, send};
-use chess_base::{Colour, same_colour};
+use cecp_engine::Level;
+use chess_base::{ByColour, Colour, same_colour};
 use chess_bits::{AttackTables, Bits};
 use chess_game::{Game, MOST_MOVES, TagText};
 use chess_match::{MatchEnd, MatchFault, Reason, Setup};
@@ -59,6 +60,32 @@ fn command_of<'a>(plan: &GamesPlan<'a>, number: u32, side: Colour) -> &'a str
         plan.white
     } else {
         plan.black
+    }
+}
+
+// The time control of the engine that has this side in the game of this number.
+fn level_of(plan: &GamesPlan<'_>, number: u32, side: Colour) -> Level
+    ensures { result ≡ engine_level plan.now number side }
+{
+    if same_colour(side, first_side(number)) {
+        plan.white_level
+    } else {
+        plan.black_level
+    }
+}
+
+// What the game of this number begins from.
+fn setup_of(plan: &GamesPlan<'_>, number: u32) -> Setup
+    ensures { result ≡ setup_of plan.now number }
+{
+    Setup {
+        start: plan.start,
+        levels: ByColour {
+            white: level_of(plan, number, Colour::White),
+            black: level_of(plan, number, Colour::Black),
+        },
+        patience: plan.patience,
+        draws: plan.draws,
     }
 }
 
@@ -126,12 +153,7 @@ fn play_game<'a, T: GamesTable, W: Output, E: Output>(
         (log_seen (E.seen log.old.output) log.old.broken) (log_seen (E.seen log.new.output) log.new.broken)
         result }
 {
-    let setup = Setup {
-        start: plan.start,
-        level: plan.level,
-        patience: plan.patience,
-        draws: plan.draws,
-    };
+    let setup = setup_of(plan, number);
     let limit = plan.patience.reply;
     let mut engines = table.start(
         command_of(plan, number, Colour::White),

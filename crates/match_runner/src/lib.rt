@@ -5,7 +5,8 @@
 //! let plan = GamesPlan {
 //!     white: "sjeng",
 //!     black: "phalanx",
-//!     level: "40 5 0".parse()?,
+//!     white_level: "40 5 0".parse()?,
+//!     black_level: "40 5 0".parse()?,
 //!     patience: Patience::ENDLESS,
 //!     draws: Draws::Claimed,
 //!     start: Position::initial(),

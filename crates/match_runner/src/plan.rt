@@ -11,8 +11,10 @@ pub struct GamesPlan<'a> {
     pub white: &'a str,
     /// The command of the second engine.
     pub black: &'a str,
-    /// The level of time, for both engines.
-    pub level: Level,
+    /// The level of time of the first engine, in all games.
+    pub white_level: Level,
+    /// The level of time of the second engine.
+    pub black_level: Level,
     /// How long the engines are waited for. Its limit for replies also holds for a write that can't go on, and for the
     /// end of an engine whose input is closed.
     pub patience: Patience,

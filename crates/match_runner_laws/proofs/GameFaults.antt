@@ -1,5 +1,6 @@
 -- Which games of a match have a fault.
-use Rattle.std.proofs.Common.{◌≡◌, ◌∙◌, ◌<◌, ℕ, Bool, true, false, List, [], ◌∷◌, length, Some, None, refl, ap, sym, arith, cond}
+use Rattle.std.specs.List.{AllByRecursion, enumerate_from}
+use Rattle.std.proofs.Common.{◌≡◌, ◌∙◌, ◌<◌, ◌+◌, ℕ, Bool, true, false, List, [], ◌∷◌, length, Some, None, refl, ap, sym, arith, cond}
 use Rattle.std.specs.Prelude.{nat_lt, option_map}
 use Rattle.std.proofs.lemmas.Bool.Decides.{nat_tests}
 use Rattle.byte_devices.specs.Devices.{OutputState}
@@ -18,7 +19,9 @@ use Rattle.chess_match.specs.declared.reason.Reason.{Reason}
 use Rattle.chess_match.specs.declared.reason.Reason.TheVariants.{Faulted}
 use Rattle.chess_match.specs.declared.run.MatchEnd.{MatchEnd}
 use Rattle.chess_match.specs.declared.run.Setup.{Setup}
-use Rattle.match_runner_laws.specs.Faults.{OnlyLastGamesHaveFailedWrites}
+use Rattle.match_runner.specs.Games.{GameRecord, IsOfPlan}
+use Rattle.match_runner.specs.declared.plan.GamesPlan.{GamesPlan}
+use Rattle.match_runner_laws.specs.Faults.{KeepsFailureCounts, OnlyLastGamesHaveFailedWrites}
 
 -- ---- a match without a fault
 
@@ -60,9 +63,14 @@ no_failures notes setup end w w' (H, reason, given, (final, run, reported, left)
 
 -- ---- games without a fault
 
-pub only_last_games_have_failed_writes : OnlyLastGamesHaveFailedWrites
-only_last_games_have_failed_writes plan [] h = tt
-only_last_games_have_failed_writes plan (g ∷ games) ((of, none), rest) = (
+from_there : (plan : GamesPlan) (number : ℕ) (games : List GameRecord)
+    → AllByRecursion (λ g. IsOfPlan plan g.0 g.1 × (g.1.end.fault ≡ None)) (enumerate_from number games)
+    → AllByRecursion KeepsFailureCounts games
+from_there plan number [] h = tt
+from_there plan number (g ∷ games) ((of, none), rest) = (
   no_failures g.notes _ g.end g.before g.after of.2 none,
-  only_last_games_have_failed_writes plan games rest,
+  from_there plan (number + 1) games rest,
 )
+
+pub only_last_games_have_failed_writes : OnlyLastGamesHaveFailedWrites
+only_last_games_have_failed_writes plan games h = from_there plan 1 games h

@@ -51,17 +51,17 @@ same_reason m m' reason reason' e h k =
     let same : Over reason ≡ Over reason' = sym h ∙ ap (λ (x : Match). x.phase) e ∙ k in cc
 
 module _ (only : OnlyOneMatch) (asked : SilencesAreAskedFor) (plan : GamesPlan) (patient : plan.patience ≡ endless) where
-  one_game : (texts : Colour → List ℕ) (coming : ℕ → Option ℕ) (g h : GameRecord)
-      → IsOfPlan plan g → IsOfPlan plan h → Fresh texts coming g.before → Fresh texts coming h.before
+  one_game : (here : ℕ) (texts : Colour → List ℕ) (coming : ℕ → Option ℕ) (g h : GameRecord)
+      → IsOfPlan plan here g → IsOfPlan plan here h → Fresh texts coming g.before → Fresh texts coming h.before
       → Whole g.after → Whole h.after → SameGame plan g h
-  one_game texts coming g h of of' fresh fresh' whole whole' =
-      let (H, reason, final, p) = is_played plan g of in
-      let (K, reason', final', q) = is_played plan h of' in
-      let quiet = (asked (rules plan) H final p.passed.is_match patient).1 in
-      let quiet' = (asked (rules plan) K final' q.passed.is_match patient).1 in
-      let a = are_of texts coming (rules plan) H final g.before g.after fresh whole p.passed quiet in
-      let b = are_of texts coming (rules plan) K final' h.before h.after fresh' whole' q.passed quiet' in
-      let (acts, ends) = only (rules plan) (streams texts coming) H K final final' p.passed.is_match q.passed.is_match a b in
+  one_game here texts coming g h of of' fresh fresh' whole whole' =
+      let (H, reason, final, p) = is_played plan here g of in
+      let (K, reason', final', q) = is_played plan here h of' in
+      let quiet = (asked (rules plan here) H final p.passed.is_match patient).1 in
+      let quiet' = (asked (rules plan here) K final' q.passed.is_match patient).1 in
+      let a = are_of texts coming (rules plan here) H final g.before g.after fresh whole p.passed quiet in
+      let b = are_of texts coming (rules plan here) K final' h.before h.after fresh' whole' q.passed quiet' in
+      let (acts, ends) = only (rules plan here) (streams texts coming) H K final final' p.passed.is_match q.passed.is_match a b in
       let reasons : reason ≡ reason' = same_reason final final' reason reason' ends p.over q.over in
       let shown : reason_shown plan reason final.played ≡ reason_shown plan reason' final'.played =
       ap (λ (x : Reason). reason_shown plan x final.played) reasons
@@ -81,13 +81,13 @@ module _ (only : OnlyOneMatch) (asked : SilencesAreAskedFor) (plan : GamesPlan) 
         notes = sym p.notes ∙ ap (λ (x : Reason). notes_given x H) reasons
             ∙ ap (λ (A : List Act). notes_given reason' A) acts ∙ q.notes;
         killed = of.1 none ∙ sym (of'.1 none);
-        sent = λ S. sent_all texts coming (rules plan) H final g.before g.after fresh whole p.passed S
+        sent = λ S. sent_all texts coming (rules plan here) H final g.before g.after fresh whole p.passed S
             ∙ ap (λ (A : List Act). Some (bytes_of (lines_sent S A))) acts
-            ∙ sym (sent_all texts coming (rules plan) K final' h.before h.after fresh' whole' q.passed S);
-        clock = λ n. clock_left texts coming (rules plan) H final g.before g.after fresh whole p.passed n
+            ∙ sym (sent_all texts coming (rules plan here) K final' h.before h.after fresh' whole' q.passed S);
+        clock = λ n. clock_left texts coming (rules plan here) H final g.before g.after fresh whole p.passed n
             ∙ ap (λ (A : List Act). coming (length (moments_shown A) + n)) acts
-            ∙ sym (clock_left texts coming (rules plan) K final' h.before h.after fresh' whole' q.passed n);
-        known = λ n. ap is_some (clock_left texts coming (rules plan) H final g.before g.after fresh whole p.passed n)
+            ∙ sym (clock_left texts coming (rules plan here) K final' h.before h.after fresh' whole' q.passed n);
+        known = λ n. ap is_some (clock_left texts coming (rules plan here) H final g.before g.after fresh whole p.passed n)
             ∙ fresh.known (length (moments_shown H) + n);
       }
 
@@ -154,6 +154,10 @@ is_fresh white black coming g w b clock known = record {
 abbrev steps_from : GamesPlan → ℕ → List GameRecord → List HostStep
 steps_from plan number games = at_host (flat_map (λ g. steps_by Writes plan g.0 g.1) (enumerate_from number games))
 
+-- these games, of which the first has this number, were played as the plan says
+abbrev AreOfPlan : GamesPlan → ℕ → List GameRecord → Type 0
+AreOfPlan plan number games = AllByRecursion (λ g. IsOfPlan plan g.0 g.1) (enumerate_from number games)
+
 -- as long as both lists have games, these are the same
 abbrev BeginAlike : GamesPlan → List GameRecord → List GameRecord → Type 0
 BeginAlike plan (g ∷ gs) (h ∷ hs) = SameGame plan g h × BeginAlike plan gs hs
@@ -168,7 +172,7 @@ AllSame plan _ _ = ⊥
 module _ (only : OnlyOneMatch) (asked : SilencesAreAskedFor) (plan : GamesPlan) (patient : plan.patience ≡ endless)
     (engines : List MemoryEngine) (moments : List ℕ) where
   begin_alike : (number : ℕ) (earlier : List (List ℕ)) (c c' : ℕ → Option ℕ) (games games' : List GameRecord)
-      → AllByRecursion (IsOfPlan plan) games → AllByRecursion (IsOfPlan plan) games'
+      → AreOfPlan plan number games → AreOfPlan plan number games'
       → ComeInTurn c games → ComeInTurn c' games'
       → ((n : ℕ) → c n ≡ c' n) → ((n : ℕ) → is_some (c n) ≡ true)
       → EachNext engines moments earlier (steps_from plan number games)
@@ -182,7 +186,7 @@ module _ (only : OnlyOneMatch) (asked : SilencesAreAskedFor) (plan : GamesPlan) 
       (next, (last, nexts)) (next', (last', nexts')) (start, (well, wells)) (start', (well', wells')) =
       let (white, w, w') = one_text _ (g.before.engines White) (h.before.engines White) next.0 next'.0 in
       let (black, b, b') = one_text _ (g.before.engines Black) (h.before.engines Black) next.1 next'.1 in
-      let one = one_game only asked plan patient (by_colour white black) c g h of of'
+      let one = one_game only asked plan patient number (by_colour white black) c g h of of'
       (is_fresh white black c g w b (λ n. ap (λ (f : ℕ → Option ℕ). f n) turn.1) known)
       (is_fresh white black c h w' b' (λ n. ap (λ (f : ℕ → Option ℕ). f n) turn'.1 ∙ sym (same n)) known)
       (record { reads = λ S. (well S).0; writes = λ S. (well S).1 })
@@ -200,31 +204,37 @@ Closed left [] = left ≡ 0
 Closed left (g ∷ gs) = (0 < left) × (((g.end.fault ≡ None) × Closed (left - 1) gs)
     ⊎ ((fault : Colour × MatchFault) × (g.end.fault ≡ Some fault) × (gs ≡ [])))
 
-closed_all : (plan : GamesPlan) (games : List GameRecord) → FaultlessGames plan games
-    → AllByRecursion (IsOfPlan plan) games × Closed (length games) games
-closed_all plan [] h = (tt, refl)
-closed_all plan (g ∷ gs) ((of, none), h) =
-    let (ofs, closed) = closed_all plan gs h in
+closed_all : (plan : GamesPlan) (number : ℕ) (games : List GameRecord)
+    → AllByRecursion (λ g. IsOfPlan plan g.0 g.1 × (g.1.end.fault ≡ None)) (enumerate_from number games)
+    → AreOfPlan plan number games × Closed (length games) games
+closed_all plan number [] h = (tt, refl)
+closed_all plan number (g ∷ gs) ((of, none), h) =
+    let (ofs, closed) = closed_all plan (number + 1) gs h in
     let fewer : length gs ≡ length (g ∷ gs) - 1 = omega arith in
     ((of, ofs), (omega arith, inl (none, subst (λ (n : ℕ). Closed n gs) fewer closed)))
 
-closed_by_fault : (plan : GamesPlan) (left : ℕ) (before : List GameRecord) (last : GameRecord)
-    (fault : Colour × MatchFault) → FaultlessGames plan before → IsOfPlan plan last → last.end.fault ≡ Some fault
-    → length before < left
-    → AllByRecursion (IsOfPlan plan) (before ++ last ∷ []) × Closed left (before ++ last ∷ [])
-closed_by_fault plan left [] last fault h of is few = ((of, tt), (omega (arith, few), inr (fault, is, refl)))
-closed_by_fault plan left (g ∷ gs) last fault ((of', none), h) of is few =
-    let (ofs, closed) = closed_by_fault plan (left - 1) gs last fault h of is (omega (arith, few)) in
+closed_by_fault : (plan : GamesPlan) (number at left : ℕ) (before : List GameRecord) (last : GameRecord)
+    (fault : Colour × MatchFault)
+    → AllByRecursion (λ g. IsOfPlan plan g.0 g.1 × (g.1.end.fault ≡ None)) (enumerate_from number before)
+    → IsOfPlan plan at last → at ≡ number + length before → last.end.fault ≡ Some fault → length before < left
+    → AreOfPlan plan number (before ++ last ∷ []) × Closed left (before ++ last ∷ [])
+closed_by_fault plan number at left [] last fault h of counted is few =
+    let here : at ≡ number = omega (arith, counted) in
+    ((subst (λ n. IsOfPlan plan n last) here of, tt), (omega (arith, few), inr (fault, is, refl)))
+closed_by_fault plan number at left (g ∷ gs) last fault ((of', none), h) of counted is few =
+    let (ofs, closed) = closed_by_fault plan (number + 1) at (left - 1) gs last fault h of (omega (arith, counted)) is
+    (omega (arith, few)) in
     ((of', ofs), (omega (arith, few), inl (none, closed)))
 
 closed_games : (plan : GamesPlan) (games : List GameRecord) (fault : Option (ℕ × Colour × MatchFault))
-    → AreAllGames plan games fault → AllByRecursion (IsOfPlan plan) games × Closed plan.games games
+    → AreAllGames plan games fault → AreOfPlan plan 1 games × Closed plan.games games
 closed_games plan games None (h, many) =
-    let (ofs, closed) = closed_all plan games h in (ofs, subst (λ (n : ℕ). Closed n games) many closed)
+    let (ofs, closed) = closed_all plan 1 games h in (ofs, subst (λ (n : ℕ). Closed n games) many closed)
 closed_games plan games (Some (number, side, fault)) (before, last, is, h, of, found, counted, few) =
     let longer = length-append before (last ∷ []) in
     let long = ap length is in
-    rw is (closed_by_fault plan plan.games before last (side, fault) h of found (omega (arith, longer, long, counted, few)))
+    rw is (closed_by_fault plan 1 number plan.games before last (side, fault) h of
+    (omega (arith, longer, long, counted)) found (omega (arith, longer, long, counted, few)))
 
 -- games that begin alike and are all games are the same
 all_same : (plan : GamesPlan) (left : ℕ) (games games' : List GameRecord) → Closed left games → Closed left games'
@@ -279,10 +289,12 @@ last_fault [] = None
 last_fault (g ∷ []) = g.end.fault
 last_fault (g ∷ h ∷ gs) = last_fault (h ∷ gs)
 
-no_fault : (plan : GamesPlan) (games : List GameRecord) → FaultlessGames plan games → last_fault games ≡ None
-no_fault plan [] h = refl
-no_fault plan (g ∷ []) ((of, none), h) = none
-no_fault plan (g ∷ k ∷ gs) (of, h) = no_fault plan (k ∷ gs) h
+no_fault : (plan : GamesPlan) (number : ℕ) (games : List GameRecord)
+    → AllByRecursion (λ g. IsOfPlan plan g.0 g.1 × (g.1.end.fault ≡ None)) (enumerate_from number games)
+    → last_fault games ≡ None
+no_fault plan number [] h = refl
+no_fault plan number (g ∷ []) ((of, none), h) = none
+no_fault plan number (g ∷ k ∷ gs) (of, h) = no_fault plan (number + 1) (k ∷ gs) h
 
 fault_at_end : (before : List GameRecord) (last : GameRecord) → last_fault (before ++ last ∷ []) ≡ last.end.fault
 fault_at_end [] last = refl
@@ -314,7 +326,7 @@ in_game number (Some (side, fault)) = Some (number, side, fault)
 fault_of_last : (plan : GamesPlan) (games : List GameRecord) (fault : Option (ℕ × Colour × MatchFault))
     → AreAllGames plan games fault → fault ≡ in_game (length games) (last_fault games)
 fault_of_last plan games None (h, many) =
-    sym (ap (λ (f : Option (Colour × MatchFault)). in_game (length games) f) (no_fault plan games h))
+    sym (ap (λ (f : Option (Colour × MatchFault)). in_game (length games) f) (no_fault plan 1 games h))
 fault_of_last plan games (Some (number, side, fault)) (before, last, is, h, of, found, counted, few) =
     ap (λ n. Some (n, side, fault)) counted
     ∙ sym (ap (λ (f : Option (Colour × MatchFault)). in_game (length games) f)
@@ -344,7 +356,7 @@ record Scored (plan : GamesPlan) (result : Result (Unit {0}) GamesFault) (steps 
   pub fault : Option (ℕ × Colour × MatchFault)
   pub all_games : AreAllGames plan games fault
   pub report : report_of result ≡ reported fault
-  pub of_plan : AllByRecursion (IsOfPlan plan) games
+  pub of_plan : AreOfPlan plan 1 games
   pub closed : Closed plan.games games
   pub turns : ComeInTurn clock games
   pub steps_are : steps ≡ OpensClock clock ∷ steps_from plan 1 games

@@ -3,6 +3,7 @@ use Rattle.std.proofs.Common.{◌≡◌, ◌∙◌, ◌+◌, ℕ, List, [], ◌�
 use Rattle.std.specs.Prelude.{⊤, codes, cond, decimal, flat_map, fold}
 use Rattle.std.specs.List.{AllByRecursion, enumerate_from}
 use Rattle.chess_base.specs.Letters.{new_line}
+use Rattle.chess_base.specs.ByColour.{of_colour}
 use Rattle.chess_base.specs.declared.man.Colour.{Colour}
 use Rattle.chess_base.specs.declared.man.Colour.TheVariants.{White, Black}
 use Rattle.chess_base.specs.declared.man.Move.{Move}
@@ -24,7 +25,7 @@ use Rattle.chess_match.specs.Rules.{Rules, rules_of}
 use Rattle.chess_match.specs.declared.reason.Reason.{Reason}
 use Rattle.pgn_writer.specs.GameText.{pgn}
 use Rattle.match_runner.specs.declared.plan.GamesPlan.{GamesPlan}
-use Rattle.match_runner.specs.Games.{GameRecord, IsOfPlan, count_of, engine_command, first_side, game_text, game_texts, player_name, score_line}
+use Rattle.match_runner.specs.Games.{GameRecord, IsOfPlan, count_of, engine_command, first_side, game_text, game_texts, player_name, score_line, setup_of}
 use Rattle.match_runner.specs.Log.{log_from}
 use Rattle.match_runner_laws.specs.Entries.{IsShown, entries_from}
 use Rattle.match_runner_laws.specs.ReadBack.{AreAlike, LogsGiveTheOutput, LogsGiveThePgn}
@@ -44,8 +45,8 @@ score_line_is : (games : List GameRecord) → line_of (count_of (λ number. win_
 unfolding line_of
 score_line_is games = refl
 
-abbrev pub rules : GamesPlan → Rules
-rules plan = rules_of plan.start plan.level plan.patience plan.draws MOST_MOVES
+abbrev pub rules : GamesPlan → ℕ → Rules
+rules plan number = rules_of plan.start (of_colour (setup_of plan number).levels) plan.patience plan.draws MOST_MOVES
 
 -- the game that a match of these moves leaves, if it ended for this reason
 abbrev pub left : GamesPlan → Reason → List Move → State
@@ -64,8 +65,8 @@ abbrev pub named : List Item → List ℕ
 named items = cut_tag (last_said (λ v. v.text) [] (codes "myname") items)
 
 -- a match of these acts was played, ended for this reason and was reported
-pub record IsPlayed (plan : GamesPlan) (played : GameRecord) (H : List Act) (reason : Reason) (final : Match) : Type 0 where
-  pub passed : Passed (rules plan) H final played.before played.after
+pub record IsPlayed (plan : GamesPlan) (number : ℕ) (played : GameRecord) (H : List Act) (reason : Reason) (final : Match) : Type 0 where
+  pub passed : Passed (rules plan number) H final played.before played.after
   pub over : final.phase ≡ Over reason
   pub notes : notes_given reason H ≡ played.notes
   pub outcome : played.end.outcome ≡ outcome_by_reason (reason_shown plan reason final.played)
@@ -75,15 +76,16 @@ pub record IsPlayed (plan : GamesPlan) (played : GameRecord) (H : List Act) (rea
   pub fault : played.end.fault ≡ reported_fault reason (is_broken H)
   pub game : played.after.game.state ≡ left plan reason final.played
 
-pub is_played : (plan : GamesPlan) (played : GameRecord) → IsOfPlan plan played
-    → (H : List Act) × (reason : Reason) × (final : Match) × IsPlayed plan played H reason final
-is_played plan played (limit, spared, (H, reason, notes, (final, passed, reported, game))) = (
+pub is_played : (plan : GamesPlan) (number : ℕ) (played : GameRecord) → IsOfPlan plan number played
+    → (H : List Act) × (reason : Reason) × (final : Match) × IsPlayed plan number played H reason final
+is_played plan number played (limit, spared, (H, reason, notes, (final, passed, reported, game))) = (
   H,
   reason,
   final,
   record {
     passed = subst
-        (λ (n : ℕ). Passed (rules_of plan.start plan.level plan.patience plan.draws n) H final played.before played.after)
+        (λ (n : ℕ). Passed (rules_of plan.start (of_colour (setup_of plan number).levels) plan.patience plan.draws n) H
+        final played.before played.after)
         limit passed;
     over = reported.ended;
     notes = notes;
@@ -121,14 +123,14 @@ text_is plan number w w' b b' e e' s s' p q r t =
 pub logs_give_the_pgn : LogsGiveThePgn
 logs_give_the_pgn plan number one two h k plain plain' same =
     let first : Colour = first_side number in
-    let (H, reason, final, p) = is_played plan one h in
-    let (K, reason', final', q) = is_played plan two k in
+    let (H, reason, final, p) = is_played plan number one h in
+    let (K, reason', final', q) = is_played plan number two k in
     let shown : AllByRecursion IsShown (entries_from 0 (notes_given reason H)) =
     subst (λ (l : List Note). AllByRecursion IsShown (entries_from 0 l)) (sym p.notes) plain in
     let shown' : AllByRecursion IsShown (entries_from 0 (notes_given reason' K)) =
     subst (λ (l : List Note). AllByRecursion IsShown (entries_from 0 l)) (sym q.notes) plain' in
     let a : AreAlike reason reason' H K final final' =
-    logs_give_the_game (rules plan) first reason reason' H K final final' p.passed.is_match q.passed.is_match
+    logs_give_the_game (rules plan number) first reason reason' H K final final' p.passed.is_match q.passed.is_match
     p.over q.over shown shown'
     (ap (λ (l : List Note). log_from first 0 l) p.notes ∙ same
     ∙ sym (ap (λ (l : List Note). log_from first 0 l) q.notes)) in
@@ -157,7 +159,7 @@ Alike plan (g ∷ gs) (h ∷ hs) = AreAsOne plan g h × Alike plan gs hs
 Alike plan _ _ = ⊥
 
 abbrev IsOfLog : GamesPlan → ℕ × GameRecord → Type 0
-IsOfLog plan g = IsOfPlan plan g.1 × AllByRecursion IsShown (entries_from 0 g.1.notes)
+IsOfLog plan g = IsOfPlan plan g.0 g.1 × AllByRecursion IsShown (entries_from 0 g.1.notes)
 
 abbrev log_of : ℕ × GameRecord → List ℕ
 log_of g = log_from (first_side g.0) 0 g.1.notes

@@ -96,7 +96,8 @@ LogsGiveTheGame = (r : Rules) (first : Colour) (reason reason' : Reason) (H K : 
 -- the PGN of a game follows from its log: two games of this number of the plan that have the same log, which shows
 -- their lines as they are, have the same PGN and the same outcome
 abbrev pub LogsGiveThePgn : Type 0
-LogsGiveThePgn = (plan : GamesPlan) (number : ℕ) (one two : GameRecord) → IsOfPlan plan one → IsOfPlan plan two
+LogsGiveThePgn = (plan : GamesPlan) (number : ℕ) (one two : GameRecord) → IsOfPlan plan number one
+    → IsOfPlan plan number two
     → AllByRecursion IsShown (entries_from 0 one.notes)
     → AllByRecursion IsShown (entries_from 0 two.notes)
     → log_from (first_side number) 0 one.notes ≡ log_from (first_side number) 0 two.notes
@@ -109,7 +110,7 @@ logs_of games = map (λ g. log_from (first_side g.0) 0 g.1.notes) (enumerate_fro
 -- these games, numbered from 1, were played by the plan, and their logs show their lines as they are
 abbrev pub AreOfLogs : GamesPlan → List GameRecord → Type 0
 AreOfLogs plan games = AllByRecursion
-    (λ g. IsOfPlan plan g.1 × AllByRecursion IsShown (entries_from 0 g.1.notes))
+    (λ g. IsOfPlan plan g.0 g.1 × AllByRecursion IsShown (entries_from 0 g.1.notes))
     (enumerate_from 1 games)
 
 -- what a match writes to the output, the PGN of its games and the score, follows from the logs of its games and the

@@ -6,7 +6,7 @@ use crate::texts::{add, add_number};
 use crate::walk::{Style, Texts, walk_on};
 use byte_devices::{Counted, PieceReader, PieceWriter};
 use cecp_engine::Level;
-use chess_base::{Colour, Position};
+use chess_base::{ByColour, Colour, Position};
 use chess_bits::{AttackTables, Bits};
 use chess_game::{Game, MOST_MOVES};
 use chess_match::{
@@ -213,7 +213,10 @@ fn play(
     let mut black = ends(alloc, script.black.as_slice());
     let setup = Setup {
         start: Position::initial(),
-        level,
+        levels: ByColour {
+            white: level,
+            black: level,
+        },
         patience: Patience::ENDLESS,
         draws: Draws::Claimed,
     };

@@ -4,7 +4,7 @@ use crate::matches::{Script, Talk, Ticking, ends, write_script};
 use crate::random::Random;
 use crate::walk::{Style, walk_on};
 use cecp_engine::{Level, LevelFault};
-use chess_base::Position;
+use chess_base::{ByColour, Position};
 use chess_bits::Bits;
 use chess_game::Game;
 use chess_match::{Draws, Patience, Setup, run_match};
@@ -33,7 +33,10 @@ fn play(alloc: Global, script: &Script, level: Level, game: &mut Game<Bits<'_>>)
     let mut black = ends(alloc, script.black.as_slice());
     let setup = Setup {
         start: Position::initial(),
-        level,
+        levels: ByColour {
+            white: level,
+            black: level,
+        },
         patience: Patience::ENDLESS,
         draws: Draws::Claimed,
     };

@@ -1,4 +1,4 @@
--- A match's level, start and date are read in turn.
+-- A match's levels, start and date are read in turn.
 use Rattle.std.proofs.Common.{◌≡◌, ◌∙◌, Bool, ap, codes, Result, Ok, Err}
 use Rattle.std.specs.Prelude.{if◌then◌else◌, unwrap_or}
 use Rattle.std.specs.Result.{result_map_both}
@@ -8,13 +8,13 @@ use Rattle.chess_fen.specs.Reading.{◌>>=◌}
 use Rattle.clap.specs.Words.{Text}
 use Rattle.cecp_engine.specs.Levels.{LevelSeen}
 use Rattle.cecp_engine.specs.declared.level_fault.LevelFault.{LevelFault}
-use Rattle.arbiter_cli.specs.Plans.{Values, is_date, level_asked, level_start_and_date, start_asked}
+use Rattle.arbiter_cli.specs.Plans.{Values, is_date, levels_asked, levels_start_and_date, start_asked}
 use Rattle.arbiter_cli.specs.declared.fault.WordsFault.{WordsFault}
 use Rattle.arbiter_cli.specs.declared.fault.WordsFault.TheVariants.{BadLevel, BadFen, BadDate}
 
--- level, start and date, read in turn
-abbrev in_turn : Result LevelSeen LevelFault → Result Setup FenFault → Text → Bool
-    → Result (LevelSeen × Setup × Text) WordsFault
+-- levels, start and date, read in turn
+abbrev in_turn : Result (LevelSeen × LevelSeen) LevelFault → Result Setup FenFault → Text → Bool
+    → Result ((LevelSeen × LevelSeen) × Setup × Text) WordsFault
 in_turn level start date is_good =
     result_map_both (λ level. level) BadLevel level >>= λ l. result_map_both (λ setup. setup) BadFen start >>= λ s.
     if is_good then Ok (l, s, date) else Err BadDate
@@ -23,10 +23,10 @@ in_turn level start date is_good =
 abbrev pub date_asked : Values → Text
 date_asked value = unwrap_or (value (codes "date")) (codes "????.??.??")
 
-pub read_as : (value : Values) (level : Result LevelSeen LevelFault) (start : Result Setup FenFault) (date : Text)
-    (is_good : Bool) → level_asked value ≡ level → start_asked value ≡ start → date_asked value ≡ date
+pub read_as : (value : Values) (level : Result (LevelSeen × LevelSeen) LevelFault) (start : Result Setup FenFault) (date : Text)
+    (is_good : Bool) → levels_asked value ≡ level → start_asked value ≡ start → date_asked value ≡ date
     → is_date date ≡ is_good
-    → level_start_and_date value ≡ in_turn level start date is_good
+    → levels_start_and_date value ≡ in_turn level start date is_good
 read_as value level start date is_good l s e d =
     ap (λ v. in_turn v (start_asked value) (date_asked value) (is_date (date_asked value))) l
     ∙ ap (λ v. in_turn level v (date_asked value) (is_date (date_asked value))) s

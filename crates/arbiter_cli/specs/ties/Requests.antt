@@ -16,8 +16,9 @@ use Rattle.chess_base.specs.declared.fen_fault.FenFault.{FenFault}
 use Rattle.chess_base.specs.declared.man.Variant.{Variant}
 use Rattle.chess_base.specs.declared.setup.Setup.{Setup}
 use Rattle.chess_fen.specs.Reading.{fen_reading_as}
-use Rattle.cecp_engine.specs.Levels.{LevelSeen, level_reading}
-use Rattle.arbiter_cli.specs.Plans.{Said, Values, draws_in, is_date, is_set, number_of, variant_in, verify_plan_of}
+use Rattle.cecp_engine.specs.Levels.{LevelSeen}
+use Rattle.cecp_engine.specs.declared.level_fault.LevelFault.{LevelFault}
+use Rattle.arbiter_cli.specs.Plans.{Said, Values, draws_in, is_date, is_set, levels_by, number_of, variant_in, verify_plan_of}
 use Rattle.clap.specs.declared.error.Error.{Error}
 use Rattle.clap.specs.declared.error.kind.ErrorKind.TheVariants.{OutOfMemory}
 
@@ -38,11 +39,13 @@ patience_by flag seconds = record { flag = flag; reply = option_map (λ n. n * 1
 abbrev pub start_of : Variant → Option Text → Result Setup FenFault
 start_of v fen = option_map_or (fen_reading_as v) fen (Ok (initial_setup_of v))
 
--- the request `m` has what the options of `match` were given, or their defaults; level, FEN and date are still texts
+-- the request `m` has what the options of `match` were given, or their defaults; levels, FEN and date are still texts
 pub record IsMatchOf (value : Values) (m : MatchRequest) : Type 0 where
   pub white : value (codes "white") ≡ Some m.white.now
   pub black : value (codes "black") ≡ Some m.black.now
   pub level : m.level.now ≡ unwrap_or (value (codes "level")) (codes "40 5 0")
+  pub white_level : option_map (λ t. t.now) m.white_level ≡ value (codes "white-level")
+  pub black_level : option_map (λ t. t.now) m.black_level ≡ value (codes "black-level")
   pub fen : option_map (λ t. t.now) m.fen ≡ value (codes "fen")
   pub games : m.games ≡ games_in value
   pub games_range : (1 ≤ m.games) × (m.games ≤ 1000)
@@ -53,7 +56,7 @@ pub record IsMatchOf (value : Values) (m : MatchRequest) : Type 0 where
   pub reply : m.reply ≡ option_map number_of (value (codes "reply-timeout"))
   pub draws : m.draws ≡ draws_in value
 
--- the request is what the arguments ask for, with level, FEN and date of a match still as texts
+-- the request is what the arguments ask for, with levels, FEN and date of a match still as texts
 abbrev pub IsRequestOf : Said → Request → Type 0
 IsRequestOf said request.Session = said.command ≡ codes "session"
 IsRequestOf said (request.Verify v) = (said.command ≡ codes "verify") × (v ≡ verify_plan_of said.value)
@@ -61,12 +64,16 @@ IsRequestOf said (request.Stub arguments) = (said.command ≡ codes "stub")
     × (map (λ w. w.now) arguments.items ≡ said.replies)
 IsRequestOf said (request.Match m) = (said.command ≡ codes "match") × IsMatchOf said.value m
 
--- the plan of a match is what the request `m` asks for: level and FEN as what they denote, a date that can be a tag,
+-- the time controls of both engines by the texts of the request
+abbrev pub levels_in : MatchRequest → Result (LevelSeen × LevelSeen) LevelFault
+levels_in m = levels_by m.level.now (option_map (λ t. t.now) m.white_level) (option_map (λ t. t.now) m.black_level)
+
+-- the plan of a match is what the request `m` asks for: levels and FEN as what they denote, a date that can be a tag,
 -- all else as it is
 pub record IsJudged (m : MatchRequest) (plan : GamesPlan) : Type 0 where
   pub white : plan.white ≡ m.white
   pub black : plan.black ≡ m.black
-  pub level : level_reading m.level.now ≡ Ok plan.level
+  pub levels : levels_in m ≡ Ok (plan.white_level, plan.black_level)
   pub start : start_of m.variant (option_map (λ t. t.now) m.fen) ≡ Ok plan.start
   pub games : plan.games ≡ m.games
   pub date : plan.date ≡ m.date
@@ -75,24 +82,24 @@ pub record IsJudged (m : MatchRequest) (plan : GamesPlan) : Type 0 where
   pub draws : plan.draws ≡ m.draws
   pub good_date : is_date m.date.now ≡ true
 
--- the fault is that of the first of level, FEN and date that is invalid in this request of a match
+-- the fault is that of the first of levels, FEN and date that is invalid in this request of a match
 abbrev pub IsJudgedFault : MatchRequest → WordsFault → Type 0
 IsJudgedFault m (Words e) = ⊥
 IsJudgedFault m NoMemory = ⊥
-IsJudgedFault m (BadLevel f) = level_reading m.level.now ≡ Err f
-IsJudgedFault m (BadFen f) = (l : LevelSeen) × (level_reading m.level.now ≡ Ok l)
+IsJudgedFault m (BadLevel f) = levels_in m ≡ Err f
+IsJudgedFault m (BadFen f) = (l : LevelSeen × LevelSeen) × (levels_in m ≡ Ok l)
     × (start_of m.variant (option_map (λ t. t.now) m.fen) ≡ Err f)
-IsJudgedFault m BadDate = (l : LevelSeen) × (p : Setup) × (level_reading m.level.now ≡ Ok l)
+IsJudgedFault m BadDate = (l : LevelSeen × LevelSeen) × (p : Setup) × (levels_in m ≡ Ok l)
     × (start_of m.variant (option_map (λ t. t.now) m.fen) ≡ Ok p) × (is_date m.date.now ≡ false)
 
--- the plan is what the request asks for; of a match, level and FEN are read, and the date is checked
+-- the plan is what the request asks for; of a match, levels and FEN are read, and the date is checked
 abbrev pub IsPlanned : Request → Plan → Type 0
 IsPlanned request.Session plan = plan ≡ Session
 IsPlanned (request.Verify v) plan = plan ≡ Verify v
 IsPlanned (request.Stub arguments) plan = plan ≡ Stub arguments
 IsPlanned (request.Match m) plan = (p : GamesPlan) × (plan ≡ Match p) × IsJudged m p
 
--- the fault is right for this request: that of the first of level, FEN and date that is invalid in a match; no other
+-- the fault is right for this request: that of the first of levels, FEN and date that is invalid in a match; no other
 -- request has one
 abbrev pub IsPlanFault : Request → WordsFault → Type 0
 IsPlanFault (request.Match m) f = IsJudgedFault m f

@@ -2,7 +2,7 @@
 use Rattle.std.specs.Prelude.{◌≤◌}
 use Rattle.cecp_engine.specs.Levels.{LevelSeen, allotted}
 use Rattle.chess_base.specs.declared.setup.TheConstants.{MOST_MOVES}
-use Rattle.cecp_engine.specs.Clocks.{Spent}
+use Rattle.cecp_engine.specs.Clocks.{SideSeen}
 
 -- the numbers of a time control are within what a text can denote: 999 moves, 999 minutes and 59.999 seconds, 999.999
 -- seconds
@@ -11,7 +11,7 @@ pub record IsLevel (level : LevelSeen) : Type 0 where
   pub base : level.base ≤ 59999999
   pub increment : level.increment ≤ 999999
 
--- what a side used (`s`) is no more time than the time control gave it, and at most 20,000 moves
-pub record IsWithin (level : LevelSeen) (s : Spent) : Type 0 where
+-- a side used no more time than its time control gave it, and made at most 20,000 moves
+pub record IsWithin (s : SideSeen) : Type 0 where
   pub moves : s.moves ≤ MOST_MOVES
-  pub used : s.used ≤ allotted level s.moves
+  pub used : s.used ≤ allotted s.level s.moves

@@ -113,11 +113,11 @@ pub record LineCases (r : Rules) (S : Colour) (kind : LineKind) (moment : ℕ) (
         → Q (with_answers S (items_in_line kind)
         (sends_to Black handshake_lines (enter (Handshake Black) (said_by S kind m))))
     pub handshake_last : m.phase ≡ Handshake S → S ≡ Black → list_any ends_handshake (items_in_line kind) ≡ true
-        → Q (with_answers S (items_in_line kind) (sends_to White (setup_lines r) (enter (Setup White) (said_by S kind m))))
+        → Q (with_answers S (items_in_line kind) (sends_to White (setup_lines r White) (enter (Setup White) (said_by S kind m))))
     -- in its setup
     pub setup_counts : m.phase ≡ Setup S → is_pong 1 kind ≡ false → m.count + 1 < 10000 → Q (counting m)
     pub setup_next : m.phase ≡ Setup S → S ≡ White → is_pong 1 kind ≡ true
-        → Q (sends_to Black (setup_lines r) (enter (Setup Black) m))
+        → Q (sends_to Black (setup_lines r Black) (enter (Setup Black) m))
     pub setup_last : m.phase ≡ Setup S → S ≡ Black → is_pong 1 kind ≡ true → verdict r.start m.played ≡ None
         → draw_by_itself r m.played ≡ None → Q (begins_turn r r.start.side m)
     pub setup_draws : m.phase ≡ Setup S → (claim : DrawClaim) → verdict r.start m.played ≡ None

@@ -9,7 +9,7 @@ use Rattle.chess_base.specs.Men.{other, same_colour}
 use Rattle.chess_base.specs.Options.{list_if}
 use Rattle.chess_game.specs.Ends.{result_text, verdict}
 use Rattle.chess_game.specs.Results.{cut_tag}
-use Rattle.cecp_engine.specs.Clocks.{ClocksSeen, Spent, charged}
+use Rattle.cecp_engine.specs.Clocks.{ClocksSeen, SideSeen, charged}
 use Rattle.cecp_engine.specs.EngineLines.{LineKind}
 use Rattle.cecp_engine.specs.Items.{Item, last_said}
 use Rattle.cecp_engine.specs.Seen.{features_of}
@@ -46,14 +46,14 @@ pub record Keeps (kept : Player) (known : Seat) : Type 0 where
   pub name : kept.name ≡ name_by known.items
   pub offers : kept.offers ≡ known.offers
 
--- what a side has used of its clock so far: how many moves it made, and the sum of the milliseconds that they took
-abbrev pub time_used_by : Seat → Spent
-time_used_by s = record { moves = length s.used; used = sum s.used }
+-- a side's clock: its time control, how many moves it made, and the sum of the milliseconds that they took
+abbrev pub side_of : LevelSeen → Seat → SideSeen
+side_of level s = record { level = level; moves = length s.used; used = sum s.used }
 
--- the clocks of the match `m`, with the time control `level`
-abbrev pub clocks_of : LevelSeen → Match → ClocksSeen
+-- the clocks of the match `m`, in which each side has the time control that `level` gives it
+abbrev pub clocks_of : (Colour → LevelSeen) → Match → ClocksSeen
 clocks_of level m =
-    record { level = level; white = time_used_by (m.seat White); black = time_used_by (m.seat Black) }
+    record { white = side_of (level White) (m.seat White); black = side_of (level Black) (m.seat Black) }
 
 -- a phase of the code, as a phase of a match; `opened` is the moment at which the turn began
 abbrev pub phase_of : ℕ → CorePhase → Phase
@@ -118,7 +118,7 @@ last_lines r m reason owed S = list_if owed (move_line r m S ∷ [])
 -- the last move
 abbrev pub phase_lines : Rules → Option LastMove → Match → Colour → CorePhase → List SentLine
 phase_lines r last m S (core_in.Handshake c) = list_if (same_colour c S) handshake_lines
-phase_lines r last m S (core_in.Setup c) = list_if (same_colour c S) (setup_lines r)
+phase_lines r last m S (core_in.Setup c) = list_if (same_colour c S) (setup_lines r c)
 phase_lines r last m S (core_in.SendTurn c) = list_if (same_colour c S) (opening r m c)
 phase_lines r last m S (core_in.AwaitMove c) = []
 phase_lines r last m S (core_in.AwaitPong c) = list_if (same_colour c S) (ping (ping_number m c) ∷ [])

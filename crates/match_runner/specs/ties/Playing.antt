@@ -80,11 +80,11 @@ clock_after coming (played ∷ games) = clock_after played.after.coming games
 abbrev pub PlayedGame : GamesPlan → ℕ → (ℕ → Option ℕ) → (ℕ → Option ℕ) → GamesFuture → GamesFuture → OutputState
     → OutputState → LogSeen → LogSeen → Result MatchEnd GamesFault → Type 0
 PlayedGame plan number c c' p p' w w' l l' (Ok end) =
-    (played : GameRecord) × (played.end ≡ end) × IsOfPlan plan played × Sent w w' (game_text plan number played)
+    (played : GameRecord) × (played.end ≡ end) × IsOfPlan plan number played × Sent w w' (game_text plan number played)
     × Logged l l' (game_log plan number played) × StepsPass p p' (steps_by Writes plan number played)
     × BeginsAt c played × (c' ≡ played.after.coming)
 PlayedGame plan number c c' p p' w w' l l' (Err WriteFailed) =
-    (played : GameRecord) × IsOfPlan plan played × CutShort w w' (game_text plan number played)
+    (played : GameRecord) × IsOfPlan plan number played × CutShort w w' (game_text plan number played)
     × Logged l l' (game_log plan number played) × StepsPass p p' (steps_by WriteFails plan number played)
     × BeginsAt c played
 PlayedGame plan number c c' p p' w w' l l' (Err fault) =

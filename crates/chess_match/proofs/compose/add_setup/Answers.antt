@@ -1,15 +1,25 @@
 -- The bytes of the setup are those of its lines in their order (Sends.setup_bytes), each put by a call of its own; the
--- level is that of the clocks.
-use Rattle.std.proofs.Common.{◌≡◌, ◌∙◌, ap, append_assoc}
-use Rattle.cecp_engine.specs.Clocks.{ClocksSeen}
+-- level is that of the side's clock.
+use Rattle.std.proofs.Common.{◌≡◌, ◌∙◌, ap, append_assoc, refl}
+use Rattle.chess_base.specs.declared.man.Colour.{Colour}
+use Rattle.chess_base.specs.declared.man.Colour.TheVariants.{White, Black}
+use Rattle.cecp_engine.specs.Clocks.{ClocksSeen, side_clock}
+use Rattle.chess_match.specs.Effects.{Match}
+use Rattle.chess_match.specs.Rules.{Rules}
+use Rattle.chess_match.specs.ties.Represents.{clocks_of}
 use Rattle.chess_match.proofs.Sends.{setup_bytes}
 use Rattle.chess_match.proofs.compose.add_setup.Goals as goal
 
+level_kept : (r : Rules) (m : Match) (S : Colour) → (side_clock (clocks_of r.level m) S).level ≡ r.level S
+level_kept r m White = refl
+level_kept r m Black = refl
+
 pub returns-clause-text : goal.returns-clause-text
 returns-clause-text g c r m p s =
-    let level : c.level.result ≡ r.level = c.level.ensures ∙ ap (λ (x : ClocksSeen). x.level) s.clocks in
+    let level : c.level.result ≡ r.level c.args.side = c.level.ensures
+    ∙ ap (λ (x : ClocksSeen). (side_clock x c.args.side).level) s.clocks ∙ level_kept r m c.args.side in
     rw (
-      setup_bytes r,
+      setup_bytes r c.args.side,
       c.add_ping.ensures.text,
       c.add_start.ensures.text r p,
       c.append-2.ensures.text,

@@ -1,8 +1,9 @@
 -- The steps of a game, one after another (GamesWritten.was_written, was_not_written); or its engines could not be
 -- started (GamesWritten.was_not_started). The match leaves the game its limit (GamesWritten.limit_kept).
-use Rattle.std.proofs.Common.{◌∙◌, ap, refl}
+use Rattle.std.proofs.Common.{◌≡◌, ◌∙◌, ap, refl, subst}
 use Rattle.chess_game.specs.Game.{Seen}
-use Rattle.chess_match.specs.Played.{World}
+use Rattle.chess_match.specs.Played.{PlayedNoting, World}
+use Rattle.chess_match.specs.declared.run.Setup.{Setup}
 use Rattle.match_runner.proofs.GamesWritten.{limit_kept, was_not_started, was_not_written, was_written}
 use Rattle.std.proofs.lemmas.Result.{err_from_is_err_and}
 use Rattle.match_runner.proofs.games.play_game.Goals as goal
@@ -37,13 +38,15 @@ returns-in-Ok-clause-played g c =
       coming = g.T.GamesTable.coming c.play-end.new.self;
       game = g.T.GamesTable.game c.play-end.new.self;
     } in
+    let of = subst (λ (s : Setup). PlayedNoting (λ given. given ≡ r.0) s c.play-end.result before after)
+    c.setup_of-setup.ensures r.2 in
     was_written c.args.plan.now c.args.number _ _ _ _ _ _ _ _ _ _ _ _ _ _ _ _ _ _
     (record { before = before; after = after; end = c.play-end.result; notes = r.0; killed = c.finish-killed.result })
     c.tags_of-tags.result c.command_of.ensures c.command_of-2.ensures c.logged_side.ensures c.tags_of-tags.ensures
     refl c.in_ok-engines.ensures.passes c.in_ok-engines.ensures.fresh c.in_ok-engines.ensures.clock refl r.1 r.3
     c.finish-killed.ensures.passes c.write_game-written.ensures.clock c.finish-killed.ensures.clock
     c.note_killed.ensures
-    (ap (λ (v : Seen). v.limit) c.start.ensures.game ∙ c.requires.limit, c.finish-killed.ensures.spared, r.2)
+    (ap (λ (v : Seen). v.limit) c.start.ensures.game ∙ c.requires.limit, c.finish-killed.ensures.spared, of)
     c.in-Ok.ensures.sends c.in-Ok.ensures.passes
 
 pub returns-in-Err-clause-limit : goal.returns-in-Err-clause-limit
@@ -66,11 +69,13 @@ returns-in-Err-clause-played g c =
       coming = g.T.GamesTable.coming c.play-end.new.self;
       game = g.T.GamesTable.game c.play-end.new.self;
     } in
+    let of = subst (λ (s : Setup). PlayedNoting (λ given. given ≡ r.0) s c.play-end.result before after)
+    c.setup_of-setup.ensures r.2 in
     was_not_written c.args.plan.now c.args.number _ _ _ _ _ _ _ _ _ _ _ _ _ _ _ _ _ _
     (record { before = before; after = after; end = c.play-end.result; notes = r.0; killed = c.finish-killed.result })
     c.tags_of-tags.result c.command_of.ensures c.command_of-2.ensures c.logged_side.ensures c.tags_of-tags.ensures
     refl c.in_ok-engines.ensures.passes c.in_ok-engines.ensures.fresh c.in_ok-engines.ensures.clock refl r.1 r.3
     c.finish-killed.ensures.passes c.write_game-written.ensures.clock c.finish-killed.ensures.clock
     c.note_killed.ensures
-    (ap (λ (v : Seen). v.limit) c.start.ensures.game ∙ c.requires.limit, c.finish-killed.ensures.spared, r.2)
+    (ap (λ (v : Seen). v.limit) c.start.ensures.game ∙ c.requires.limit, c.finish-killed.ensures.spared, of)
     c.in-Err.ensures.sends c.in-Err.ensures.passes
