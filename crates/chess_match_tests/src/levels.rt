@@ -20,7 +20,7 @@ fn setup(rt: &impl Abort) -> Setup {
 }
 
 const WHITE: &[u8] =
-    b"feature ping=1 done=1\npong 1\nmove e2e4\npong 2\nmove g1f3\npong 3\nmove b1c3\n";
+    b"feature ping=1 done=1\npong 1\nmove e2e4\npong 2\nmove g1f3\npong 3\nmove b1c3\npong 4\n";
 
 const BLACK: &[u8] =
     b"feature ping=1 done=1\npong 1\nmove e7e5\npong 2\nmove b8c6\npong 3\nresign\n";
