@@ -34,7 +34,7 @@ use Rattle.chess_pgn.specs.declared.read.PgnFaultKind.TheVariants.{TooLong}
 use Rattle.pgn_verifier.specs.Explanations.{shown}
 use Rattle.pgn_verifier.specs.declared.game_fault.FaultKind.TheVariants.{Pgn}
 use Rattle.pgn_verifier.specs.GameFaults.{IsJudged}
-use Rattle.pgn_verifier.specs.Reports.{AreReports, Report, Faulty, none_left, next_game, last_fault}
+use Rattle.pgn_verifier.specs.Reports.{AreReports, Placed, Faulty, without_spans, none_left, next_game, last_fault}
 use Rattle.pgn_writer.specs.Outcomes.{outcome_of}
 use Rattle.pgn_verifier_laws.specs.Counted.{AreTold, CountedGamesAreGames, CountedGamesOfPiecesAreGames, HasGame, HasGames}
 use Rattle.pgn_verifier_laws.proofs.PartsAlike.{judged_so}
@@ -158,8 +158,8 @@ module _ (legal : ReadMovesAreLegal) (law : GamesAreOfTokens)
         unended = unended MOST_MOVES s.start [] (move_words of.taken) s.moves of.moves;
       }
 
-  has_games : {strict : Bool} {start : ℕ} {text : List ℕ} {at : ℕ} {reports : List Report}
-      → AreReports strict start text at reports → HasGames text at reports
+  has_games : {strict : Bool} {start : ℕ} {text : List ℕ} {at : ℕ} {reports : List Placed}
+      → AreReports strict start text at reports → HasGames text at (without_spans reports)
   has_games (none_left j) = tt
   has_games {strict} {start} {text} (next_game {at} {s} {end} {reports} j h) =
       (end.offset, has_game strict text at s end j, has_games h)
@@ -174,7 +174,11 @@ pub counted_games_of_pieces : ReadMovesAreLegal → GamesAreOfTokens → ((v : V
 counted_games_of_pieces legal law initial strict offset piece reports h = at (nat_le (length piece) PIECE_LEN) h
   where
     at : (b : Bool) → MatchBool b (AreReports strict offset piece 0 reports)
-        (reports ≡ Faulty (record { kind = Pgn TooLong; offset = offset }) offset (shown piece) ∷ [])
-        → HasGames piece 0 reports
+        (reports ≡ record {
+          begin = offset;
+          end = offset + length piece;
+          report = Faulty (record { kind = Pgn TooLong; offset = offset }) offset (shown piece);
+        } ∷ [])
+        → HasGames piece 0 (without_spans reports)
     at true are = has_games legal law initial are
-    at false is = subst (HasGames piece 0) (sym is) tt
+    at false is = subst (λ (all : List Placed). HasGames piece 0 (without_spans all)) (sym is) tt

@@ -18,7 +18,7 @@ use Rattle.pgn_pieces.specs.declared.pieces.TheConstants.{PIECE_LEN}
 use Rattle.pgn_verifier.specs.Collection.{AreCollectionReports, no_piece, next_piece}
 use Rattle.pgn_verifier.specs.Explanations.{IsReason, wrong_part, explanation}
 use Rattle.pgn_verifier.specs.GameFaults.{judged, IsJudged}
-use Rattle.pgn_verifier.specs.Reports.{Report, Game, Faulty, Placed, game_begin, AreReports, none_left, next_game, last_fault, AreReportsIn, without_spans}
+use Rattle.pgn_verifier.specs.Reports.{Game, Faulty, Placed, game_begin, AreReports, none_left, next_game, last_fault, AreReportsIn, without_spans}
 use Rattle.pgn_verifier.specs.declared.game_fault.GameFault.{GameFault}
 use Rattle.pgn_verifier.specs.laws.Reasons.{reason, explanation_of}
 use Rattle.pgn_verifier_laws.proofs.OnlyReasons.{only_reason}
