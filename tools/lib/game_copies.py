@@ -1,9 +1,9 @@
 """Copies the games of PGN texts to two files: the good ones, and those with a fault.
 
 The file of the good games has all of a text but the spans of games with a fault; what lies between games stays. The
-other file has these spans: each from its game's first byte to the end of its piece. Bytes are copied as they are. A line
-end is added where two copied parts would share a line, and a line with an empty comment where the second part would else
-not begin a piece: so the good games have the pieces that they had, and no fault."""
+other file has these spans: each from its game's first byte to the end of its piece. Bytes are copied as they are. A
+line end is added where two copied parts would share a line, and a line with an empty comment where the second part
+would else not begin a piece: so the good games have the pieces that they had, and no fault."""
 
 from pgn_files import EMPTY_LINE, MARK, TAG_LINE, front
 
