@@ -110,8 +110,11 @@ fn validate<'a>(request: &MatchRequest<'a>) -> Result<GamesPlan<'a>, WordsFault>
     ensures plan { IfOk result (IsJudged request.now) }
     ensures fault { IfErr result (IsJudgedFault request.now) }
 {
-    let (white_level, black_level) =
-        levels_of(request.level, request.white_level, request.black_level)?;
+    let (white_level, black_level) = levels_of(
+        request.level,
+        request.white_level,
+        request.black_level,
+    )?;
     let start = start_of(request.variant, request.fen)?;
     if !is_date(request.date) {
         return Err(WordsFault::BadDate);

@@ -386,6 +386,7 @@ fn no_second_game(rt: HostRuntime) -> Result<(), Fail> {
 // What each engine says in the match below: its knight goes out and back, twice.
 const A_KNIGHT: &[u8] =
     b"feature ping=1 done=1\npong 1\nmove g1f3\npong 2\nmove f3g1\npong 3\nmove g1f3\npong 4\nmove f3g1\npong 5\n";
+
 const B_KNIGHT: &[u8] =
     b"feature ping=1 done=1\npong 1\nmove g8f6\npong 2\nmove f6g8\npong 3\nmove g8f6\npong 4\nmove f6g8\n";
 

@@ -1,5 +1,5 @@
 -- Why a match ended: by a draw that needs no claim.
-use Rattle.std.proofs.Common.{◌≡◌, ◌⊎◌, Bool, true, false, List, [], refl, ap, sym, ◌∙◌, subst, inl, inr, None, Some}
+use Rattle.std.proofs.Common.{◌≡◌, ◌⊎◌, true, false, List, [], refl, ap, sym, ◌∙◌, subst, inl, inr, None, Some}
 use Rattle.chess_base.specs.declared.man.Colour.{Colour}
 use Rattle.chess_base.specs.declared.man.Colour.TheVariants.{White}
 use Rattle.chess_base.specs.declared.man.Move.{Move}

@@ -1,5 +1,5 @@
--- No move is made after a verdict, and none beyond the limit.
-use Rattle.std.proofs.Common.{◌≡◌, ◌∙◌, ℕ, ◌+◌, ◌≤◌, ◌<◌, Bool, true, false, List, [], ◌∷◌, ◌++◌, length, length-append, take, refl, ap, None, arith}
+-- No move is made after a verdict or a draw that needs no claim, and none beyond the limit.
+use Rattle.std.proofs.Common.{◌≡◌, ◌∙◌, ℕ, ◌+◌, ◌≤◌, ◌<◌, Bool, true, false, List, [], ◌∷◌, ◌++◌, length, length-append, take, refl, sym, ap, subst, None, arith}
 use Rattle.std.specs.Prelude.{nat_lt}
 use Rattle.std.proofs.Math.Seq.{take-append_seam}
 use Rattle.std.proofs.lemmas.Bool.Decides.{nat_tests}
@@ -7,15 +7,16 @@ use Rattle.std.proofs.lemmas.List.{take-append-le}
 use Rattle.chess_base.specs.declared.man.Colour.{Colour}
 use Rattle.chess_base.specs.declared.man.Colour.TheVariants.{White}
 use Rattle.chess_base.specs.declared.man.Move.{Move}
-use Rattle.chess_base.specs.declared.setup.Setup.{Setup as Position}
 use Rattle.cecp_engine.specs.EngineLines.{LineKind}
-use Rattle.chess_game.specs.Ends.{verdict}
+use Rattle.chess_game.specs.Ends.{claims, draw_claim, verdict}
 use Rattle.chess_match.specs.Acts.{awaits_line, blocks_from}
-use Rattle.chess_match.specs.Effects.{Match, Phase, Opening, BeforeMove, AfterMove, beginning, effect, line_row}
+use Rattle.chess_match.specs.Effects.{Match, Phase, Opening, BeforeMove, AfterMove, beginning, effect, if_automatic, line_row}
 use Rattle.chess_match.specs.Events.{Silent}
 use Rattle.chess_match.specs.Rules.{Rules}
+use Rattle.chess_match.specs.declared.draws.Draws.{Draws}
+use Rattle.chess_match.specs.declared.draws.Draws.TheVariants.{Automatic}
 use Rattle.chess_match.specs.laws.Laws.{line_kind}
-use Rattle.chess_match.proofs.shared.LineCases.{line_cases, silence_cases}
+use Rattle.chess_match.proofs.shared.LineCases.{draw_by_itself, line_cases, silence_cases}
 use Rattle.chess_match.proofs.shared.MatchCases.{by_cases}
 use Rattle.chess_match_laws.specs.OfActs.{EndsAtVerdicts, InEachMatch}
 
@@ -26,30 +27,32 @@ in_game (BeforeMove S opened) = true
 in_game (AfterMove S) = true
 in_game _ = false
 
--- before the last of these moves there was no verdict
-abbrev Undecided : Position → List Move → Type 0
-Undecided start ms = (k : ℕ) → k < length ms → verdict start (take k ms) ≡ None
+-- after these moves there is no verdict, and no draw that needs no claim
+abbrev Undecided : Rules → List Move → Type 0
+Undecided r ms = (verdict r.start ms ≡ None) × (draw_by_itself r ms ≡ None)
+
+-- so it was before the last of these moves
+abbrev WasUndecided : Rules → List Move → Type 0
+WasUndecided r ms = (k : ℕ) → k < length ms → Undecided r (take k ms)
 
 abbrev Goes : Rules → Match → Type 0
-Goes r m = (length m.played ≤ r.limit) × Undecided r.start m.played
-    × (in_game m.phase ≡ true → verdict r.start m.played ≡ None)
+Goes r m = (length m.played ≤ r.limit) × WasUndecided r m.played × (in_game m.phase ≡ true → Undecided r m.played)
 
-one_more : (start : Position) (ms : List Move) (move : Move) → Undecided start ms → verdict start ms ≡ None
-    → Undecided start (ms ++ move ∷ [])
-one_more start ms move before now k few = at (nat_lt k (length ms)) refl
+one_more : (r : Rules) (ms : List Move) (move : Move) → WasUndecided r ms → Undecided r ms
+    → WasUndecided r (ms ++ move ∷ [])
+one_more r ms move before now k few = at (nat_lt k (length ms)) refl
   where
     longer : length (ms ++ move ∷ []) ≡ length ms + 1
     longer = length-append ms (move ∷ [])
 
-    at : (b : Bool) → nat_lt k (length ms) ≡ b → verdict start (take k (ms ++ move ∷ [])) ≡ None
+    at : (b : Bool) → nat_lt k (length ms) ≡ b → Undecided r (take k (ms ++ move ∷ []))
     at true e =
         let short : k < length ms = grind (arith, nat_tests, e) in
-        ap (verdict start) (take-append-le k ms (move ∷ []) (omega (arith, short))) ∙ before k short
+        subst (Undecided r) (sym (take-append-le k ms (move ∷ []) (omega (arith, short)))) (before k short)
     at false e =
         let long : length ms ≤ k = grind (arith, nat_tests, e) in
         let last : k ≡ length ms = omega (arith, long, few, longer) in
-        ap (λ n. verdict start (take n (ms ++ move ∷ []))) last
-        ∙ ap (verdict start) (take-append_seam ms (move ∷ [])) ∙ now
+        subst (Undecided r) (sym (ap (λ n. take n (ms ++ move ∷ [])) last ∙ take-append_seam ms (move ∷ []))) now
 
 room_for : (limit : ℕ) (ms : List Move) (move : Move) → length ms < limit → length (ms ++ move ∷ []) ≤ limit
 room_for limit ms move room = let longer = length-append ms (move ∷ []) in omega (arith, room, longer)
@@ -63,19 +66,25 @@ line_goes r S kind moment m aw g = line_cases r S kind moment m (λ e. Goes r e.
   handshake_last = λ p s d. (g.0, g.1, λ on. absurd (cc));
   setup_counts = λ p pong few. g;
   setup_next = λ p s pong. (g.0, g.1, λ on. absurd (cc));
-  setup_last = λ p s pong v. (g.0, g.1, λ on. v);
+  setup_last = λ p s pong v d. (g.0, g.1, λ on. (v, d));
+  setup_draws = λ p claim v d. (g.0, g.1, λ on. absurd (cc));
   setup_decides = λ p v e. (g.0, g.1, λ on. absurd (cc));
   stops = λ done reason w. (g.0, g.1, λ on. absurd (cc));
   counts = λ on none few. g;
   offers = λ on none own. g;
-  plays = λ text move opened is p read room timely v. (
+  plays = λ text move opened is p read room timely v d. (
     room_for r.limit m.played move room,
-    one_more r.start m.played move g.1 (g.2 (ap in_game p)),
-    λ on. v,
+    one_more r m.played move g.1 (g.2 (ap in_game p)),
+    λ on. (v, d),
+  );
+  draws = λ text move opened claim is p read room timely v d. (
+    room_for r.limit m.played move room,
+    one_more r m.played move g.1 (g.2 (ap in_game p)),
+    λ on. absurd (cc),
   );
   decides = λ text move opened v is p read room timely e. (
     room_for r.limit m.played move room,
-    one_more r.start m.played move g.1 (g.2 (ap in_game p)),
+    one_more r m.played move g.1 (g.2 (ap in_game p)),
     λ on. absurd (cc),
   );
   passes = λ p said. (g.0, g.1, λ on. g.2 (ap in_game p));
@@ -101,4 +110,9 @@ ends_at_verdicts r H final is =
       read_fails = λ m end S K aw p g. p (g.0, g.1, λ now. absurd (cc));
     }) (λ o g. g) beginning.after (blocks_from White beginning.to) H is
     (omega arith, (λ k few. absurd (omega (arith, few))), λ on. absurd (cc)) in
-    (goes.0, goes.1)
+    (goes.0, (λ k few. (goes.1 k few).0), λ automatic k few. sym (by_itself automatic k) ∙ (goes.1 k few).1)
+  where
+    by_itself : r.draws ≡ Automatic → (k : ℕ)
+        → draw_by_itself r (take k final.played) ≡ draw_claim (claims r.start (take k final.played))
+    by_itself automatic k =
+        ap (λ (d : Draws). if_automatic d (draw_claim (claims r.start (take k final.played)))) automatic

@@ -19,7 +19,7 @@ use Rattle.chess_match.specs.shared.Parts.{answers_to}
 use Rattle.chess_match.specs.Lines.{SentLine, setup_lines}
 use Rattle.chess_match.specs.Rules.{Rules}
 use Rattle.chess_match.specs.declared.reason.Reason.{Reason}
-use Rattle.chess_match.specs.declared.reason.Reason.TheVariants.{Decided}
+use Rattle.chess_match.specs.declared.reason.Reason.TheVariants.{Claimed, Decided}
 use Rattle.chess_match.proofs.shared.LineCases.{line_cases, offered_used, offering, said_by}
 use Rattle.chess_match_laws.specs.OfActs.{AtEachMoment, AtEachOpening}
 use Rattle.chess_match_laws.specs.Rows.{GoIsSentOnce, WasSentGo, go_text}
@@ -29,9 +29,9 @@ use Rattle.chess_match_laws.proofs.Tellings.{Tells, told_at}
 
 -- ---- lines
 
-setup_goes : (r : Rules) → flat_map go_text (setup_lines r) ≡ []
+setup_goes : (r : Rules) (C : Colour) → flat_map go_text (setup_lines r C) ≡ []
 unfolding setup_lines
-setup_goes r = grind (arith, flat_map-append, append-nil)
+setup_goes r C = grind (arith, flat_map-append, append-nil)
 
 answer_goes : (items : List Item) → flat_map go_text (answers_to items) ≡ []
 answer_goes [] = refl
@@ -171,21 +171,24 @@ module _ (r : Rules) (S : Colour) where
             (answered (same_colour C S) _ _ (if_none (same_colour Black S) handshake_lines refl))
             (told_as (Handshake C) p) (λ c. c);
         handshake_last = λ p s d. no_more S (Handshake C) (Setup White) (m.seat S).used _ X _
-            (answered (same_colour C S) _ _ (if_none (same_colour White S) (setup_lines r) (setup_goes r)))
+            (answered (same_colour C S) _ _ (if_none (same_colour White S) (setup_lines r White) (setup_goes r White)))
             (told_as (Handshake C) p) (λ c. c);
         setup_counts = λ p pong few. no_more S m.phase m.phase (m.seat S).used _ X [] refl told (λ c. c);
         setup_next = λ p s pong. no_more S (Setup C) (Setup Black) (m.seat S).used _ X _
-            (if_none (same_colour Black S) (setup_lines r) (setup_goes r)) (told_as (Setup C) p) (λ c. c);
-        setup_last = λ p s pong v. turn_opened r S r.start.side n X
+            (if_none (same_colour Black S) (setup_lines r Black) (setup_goes r Black)) (told_as (Setup C) p) (λ c. c);
+        setup_last = λ p s pong v d. turn_opened r S r.start.side n X
             (at_first (length (m.seat S).used) (length X) (unused p) (told_as (Setup C) p).count);
+        setup_draws = λ p claim v d. ends_told S m.phase (m.seat S).used _ _ X _ (end_goes r n (Claimed claim) S) told;
         setup_decides = λ p v e. ends_told S m.phase (m.seat S).used _ _ X _ (end_goes r n (Decided v) S) told;
         stops = λ done reason w. ends_told S m.phase (m.seat S).used _ reason X _ (end_goes r n reason S) told;
         counts = λ on none few. no_more S m.phase m.phase (m.seat S).used _ X [] refl told (λ c. c);
         offers = λ on none own. no_more S m.phase m.phase (m.seat S).used _ X _ (draw_goes C S n) told
             (λ c. subst (λ us. Counts S m.phase us (length X)) (sym (offered_used C S n)) c);
-        plays = λ text move opened is p read room timely v. no_more S (BeforeMove C opened) (AfterMove C) (m.seat S).used _
+        plays = λ text move opened is p read room timely v d. no_more S (BeforeMove C opened) (AfterMove C) (m.seat S).used _
             X _ (if_none (same_colour C S) _ refl) (told_as (BeforeMove C opened) p)
             (λ c. played C S opened move (moment - opened) n (length X) c);
+        draws = λ text move opened claim is p read room timely v d. ends_told S m.phase (m.seat S).used _ _ X _
+            (end_goes r (moved C move (moment - opened) n) (Claimed claim) S) told;
         decides = λ text move opened v is p read room timely e. ends_told S m.phase (m.seat S).used _ _ X _
             (end_goes r (moved C move (moment - opened) n) (Decided v) S) told;
         passes = λ p none. turn_opened r S (other C) n X (told_as (AfterMove C) p).count;

@@ -9,6 +9,7 @@ use Rattle.chess_base.specs.Men.{other, same_colour}
 use Rattle.chess_base.proofs.shared.Men.{other-other, same_colour-true}
 use Rattle.chess_game.specs.Ends.{verdict}
 use Rattle.chess_game.specs.Line.{position_after}
+use Rattle.chess_game.specs.declared.verdicts.DrawClaim.{DrawClaim}
 use Rattle.chess_game.specs.declared.verdicts.Verdict.{Verdict}
 use Rattle.cecp_engine.specs.EngineLines.{LineKind, Features, Moves, Resigns, OffersDraw, ClaimsDraw, ClaimsWin, Rejects, Answers, SaysElse}
 use Rattle.chess_text.specs.Moves.{reading}
@@ -19,11 +20,11 @@ use Rattle.chess_match.specs.Effects.{Effect, Match, Phase, Handshake, Setup, Op
 use Rattle.chess_match.specs.Events.{Line, Opened, Silent}
 use Rattle.chess_match.specs.Rules.{Rules, has_bare_king}
 use Rattle.chess_match.specs.declared.reason.Reason.{Reason}
-use Rattle.chess_match.specs.declared.reason.Reason.TheVariants.{Agreed, Decided, Faulted, Forfeits, ForfeitsToBareKing, GameTooLong}
+use Rattle.chess_match.specs.declared.reason.Reason.TheVariants.{Agreed, Faulted, Forfeits, ForfeitsToBareKing, GameTooLong}
 use Rattle.chess_match.specs.declared.reason.MatchFault.{MatchFault}
 use Rattle.chess_match.specs.declared.reason.MatchFault.TheVariants.{Ended, NoAnswer, NoHandshake, Read, Write}
 use Rattle.chess_match.specs.laws.Laws.{line_kind}
-use Rattle.chess_match.proofs.shared.LineCases.{in_turn, is_fault, line_cases, playing, said_by}
+use Rattle.chess_match.proofs.shared.LineCases.{draw_by_itself, in_turn, is_fault, line_cases, over_for, playing, said_by}
 use Rattle.chess_match.proofs.shared.MatchCases.{both_not, on_when_read}
 use Rattle.chess_match_laws.specs.OfActs.{InEachMatch, only_sends}
 use Rattle.chess_match_laws.specs.Rows.{AgreedDrawsAreOffered, IsAgreed, is_move_of, is_offer}
@@ -105,15 +106,18 @@ module _ (r : Rules) (O C : Colour) (m : Match) where
   no_move_agreed used reads.Ambiguous h = absurd (cc)
   no_move_agreed used reads.NoSuch h = absurd (cc)
   no_move_agreed used reads.NotAMove h = absurd (cc)
-  no_move_agreed {A} used (reads.Move move) h = at (verdict r.start (m.played ++ move ∷ [])) h
+  no_move_agreed {A} used (reads.Move move) h =
+      at (verdict r.start (m.played ++ move ∷ [])) (draw_by_itself r (m.played ++ move ∷ [])) h
     where
       n : Match
       n = moved C move used m
 
-      at : (v : Option Verdict) → (option_map_or (λ v. ends r (Decided v) n) v (playing C move used m)).after.phase
-          ≡ Over Agreed → A
-      at None k = absurd (cc)
-      at (Some v) k = absurd (cc)
+      at : (v : Option Verdict) (d : Option DrawClaim)
+          → (option_map_or (λ reason. ends r reason n) (over_for v d) (playing C move used m)).after.phase ≡ Over Agreed
+          → A
+      at None None k = absurd (cc)
+      at None (Some claim) k = absurd (cc)
+      at (Some v) d k = absurd (cc)
 
   before_agreed : (used : ℕ) (kind : LineKind) → (before_move r C used kind m).after.phase ≡ Over Agreed
       → is_over m.phase ≡ false → ((m.seat (other C)).offers && is_offer kind) ≡ true
@@ -195,12 +199,14 @@ early_line r C O kind moment m aw early none =
       handshake_last = λ p s d. (said_offers C O kind m ∙ none, λ e. absurd (cc));
       setup_counts = λ p pong few. (none, λ e. never p e);
       setup_next = λ p s pong. (none, λ e. absurd (cc));
-      setup_last = λ p s pong v. (none, λ e. absurd (cc));
+      setup_last = λ p s pong v d. (none, λ e. absurd (cc));
+      setup_draws = λ p claim v d. (none, λ e. absurd (cc));
       setup_decides = λ p v e. (none, λ f. absurd (cc));
       stops = λ done reason w. (none, λ e. no_fault_agreed reason (w.3 (early_in_turn m.phase early)) e);
       counts = λ on said few. not_both m.phase early on;
       offers = λ on said own. not_both m.phase early on;
-      plays = λ text move opened is p read room timely v. not_both m.phase early (ap in_turn p);
+      plays = λ text move opened is p read room timely v d. not_both m.phase early (ap in_turn p);
+      draws = λ text move opened claim is p read room timely v d. not_both m.phase early (ap in_turn p);
       decides = λ text move opened v is p read room timely e. not_both m.phase early (ap in_turn p);
       passes = λ p said. not_both m.phase early (ap in_turn p);
     })
@@ -399,12 +405,14 @@ module _ (r : Rules) where
             handshake_last = λ p s d. absurd (let no : false ≡ true = sym (ap in_turn p) ∙ on in cc);
             setup_counts = λ p pong few. absurd (let no : false ≡ true = sym (ap in_turn p) ∙ on in cc);
             setup_next = λ p s pong. absurd (let no : false ≡ true = sym (ap in_turn p) ∙ on in cc);
-            setup_last = λ p s pong v. refl;
+            setup_last = λ p s pong v d. refl;
+            setup_draws = λ p claim v d. refl;
             setup_decides = λ p v e. refl;
             stops = λ done reason w. refl;
             counts = λ on' said few. in_turn_late m.phase on;
             offers = λ on' said own. in_turn_late m.phase on;
-            plays = λ text move opened is p read room timely v. refl;
+            plays = λ text move opened is p read room timely v d. refl;
+            draws = λ text move opened claim is p read room timely v d. refl;
             decides = λ text move opened v is p read room timely e. refl;
             passes = λ p said. refl;
           }))

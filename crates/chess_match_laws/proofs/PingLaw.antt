@@ -16,7 +16,7 @@ use Rattle.chess_match.specs.shared.Parts.{answers_to}
 use Rattle.chess_match.specs.Lines.{SentLine, ping, setup_lines}
 use Rattle.chess_match.specs.Rules.{Rules}
 use Rattle.chess_match.specs.declared.reason.Reason.{Reason}
-use Rattle.chess_match.specs.declared.reason.Reason.TheVariants.{Decided}
+use Rattle.chess_match.specs.declared.reason.Reason.TheVariants.{Claimed, Decided}
 use Rattle.chess_match.proofs.shared.LineCases.{line_cases, offered_used, offering, said_by}
 use Rattle.chess_match_laws.specs.OfActs.{AtEachMoment}
 use Rattle.chess_match_laws.specs.Rows.{PingsAreNumbered, ping_text, pings}
@@ -48,9 +48,9 @@ first_of n (suc k) (x ∷ X) Y e =
 
 -- ---- lines
 
-setup_pings : (r : Rules) → flat_map ping_text (setup_lines r) ≡ (codes "ping " ++ decimal 1) ∷ []
+setup_pings : (r : Rules) (C : Colour) → flat_map ping_text (setup_lines r C) ≡ (codes "ping " ++ decimal 1) ∷ []
 unfolding setup_lines
-setup_pings r = grind (arith, flat_map-append, append-nil)
+setup_pings r C = grind (arith, flat_map-append, append-nil)
 
 answer_pings : (items : List Item) → flat_map ping_text (answers_to items) ≡ []
 answer_pings [] = refl
@@ -125,19 +125,19 @@ ends_told S p u v reason X Z none told =
 
 -- setups
 set_up_first : (S C : Colour) (u v : ℕ) (X Z : List (List ℕ)) (r : Rules)
-    → Z ≡ flat_map ping_text (list_if (same_colour White S) (setup_lines r)) → ToldIn S (Handshake C) u X
+    → Z ≡ flat_map ping_text (list_if (same_colour White S) (setup_lines r White)) → ToldIn S (Handshake C) u X
     → ToldIn S (Setup White) v (X ++ Z)
 set_up_first White C u v X Z r is told =
-    one_more White (Handshake C) (Setup White) u v 0 X Z (told.are ∙ ap (pings 1) told.count) (is ∙ setup_pings r) refl
+    one_more White (Handshake C) (Setup White) u v 0 X Z (told.are ∙ ap (pings 1) told.count) (is ∙ setup_pings r White) refl
 set_up_first Black C u v X Z r is told =
     no_more Black (Handshake C) (Setup White) u v X Z is told (λ k c. c)
 
 set_up_second : (S C : Colour) (u v : ℕ) (X : List (List ℕ)) (r : Rules) → C ≡ White → ToldIn S (Setup C) u X
-    → ToldIn S (Setup Black) v (X ++ flat_map ping_text (list_if (same_colour Black S) (setup_lines r)))
+    → ToldIn S (Setup Black) v (X ++ flat_map ping_text (list_if (same_colour Black S) (setup_lines r Black)))
 set_up_second White C u v X r s told =
     no_more White (Setup C) (Setup Black) u v X [] refl told (λ k c. c)
 set_up_second Black White u v X r s told =
-    one_more Black (Setup White) (Setup Black) u v 0 X _ (told.are ∙ ap (pings 1) told.count) (setup_pings r) refl
+    one_more Black (Setup White) (Setup Black) u v 0 X _ (told.are ∙ ap (pings 1) told.count) (setup_pings r Black) refl
 set_up_second Black Black u v X r s told = absurd (cc)
 
 first_turn : (S C : Colour) (used k : ℕ) → C ≡ Black → Counts S (Setup C) used k → used ≡ 0 → k ≡ used + 1
@@ -191,16 +191,19 @@ module _ (r : Rules) (S : Colour) where
             (told_as (Handshake C) p);
         setup_counts = λ p pong few. no_more S m.phase m.phase _ _ X [] refl told (λ k c. c);
         setup_next = λ p s pong. set_up_second S C _ _ X r s (told_as (Setup C) p);
-        setup_last = λ p s pong v. no_more S (Setup C) (Opening r.start.side) _ _ X _
+        setup_last = λ p s pong v d. no_more S (Setup C) (Opening r.start.side) _ _ X _
             (if_none (same_colour r.start.side S) (opening r n r.start.side) (opening_pings r n r.start.side))
             (told_as (Setup C) p) (λ k c. first_turn S C (length (m.seat S).used) k s c (unused p));
+        setup_draws = λ p claim v d. ends_told S m.phase _ _ _ X _ (end_pings r n (Claimed claim) S) told;
         setup_decides = λ p v e. ends_told S m.phase _ _ _ X _ (end_pings r n (Decided v) S) told;
         stops = λ done reason w. ends_told S m.phase _ _ reason X _ (end_pings r n reason S) told;
         counts = λ on none few. no_more S m.phase m.phase _ _ X [] refl told (λ k c. c);
         offers = λ on none own. no_more S m.phase m.phase (length (m.seat S).used) _ X _ (draw_pings C S n) told
             (λ k c. subst (λ us. Counts S m.phase (length us) k) (sym (offered_used C S n)) c);
-        plays = λ text move opened is p read room timely v.
+        plays = λ text move opened is p read room timely v d.
             played C S opened move (moment - opened) n X (told_as (BeforeMove C opened) p);
+        draws = λ text move opened claim is p read room timely v d.
+            ends_told S m.phase _ _ _ X _ (end_pings r (moved C move (moment - opened) n) (Claimed claim) S) told;
         decides = λ text move opened v is p read room timely e.
             ends_told S m.phase _ _ _ X _ (end_pings r (moved C move (moment - opened) n) (Decided v) S) told;
         passes = λ p none. no_more S (AfterMove C) (Opening (other C)) _ _ X _

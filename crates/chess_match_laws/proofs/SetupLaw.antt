@@ -22,8 +22,7 @@ use Rattle.chess_match.specs.Acts.{Block, Happens, IsMatchFrom, awaits_line}
 use Rattle.chess_match.specs.Effects.{Match, Phase, Handshake, Setup, Opening, BeforeMove, AfterMove, Over, beginning, line_row}
 use Rattle.chess_match.specs.Events.{Line}
 use Rattle.chess_match.specs.Lines.{SentLine, Says, bytes_of, ping, setup_lines}
-use Rattle.chess_match.specs.Rules.{Rules, rules_of, start_fen}
-use Rattle.chess_match.specs.declared.patience.Patience.{Patience}
+use Rattle.chess_match.specs.Rules.{Rules, start_fen}
 use Rattle.chess_match.specs.laws.Laws.{lines_given}
 use Rattle.chess_match.proofs.shared.LineCases.{in_turn, line_cases}
 use Rattle.chess_match.proofs.shared.Lines.{bytes_of-append}
@@ -43,11 +42,11 @@ each_is [] = refl
 each_is (l ∷ ls) = ap (λ xs. l ∷ xs) (each_is ls)
 
 -- the lines of its setup were sent last
-abbrev Last : Rules → List SentLine → Type 0
-Last r X = (front : List SentLine) × (X ≡ front ++ setup_lines r)
+abbrev Last : Rules → Colour → List SentLine → Type 0
+Last r S X = (front : List SentLine) × (X ≡ front ++ setup_lines r S)
 
 record ToldIn (r : Rules) (S : Colour) (p : Phase) (X : List SentLine) : Type 0 where
-  last : (c : Colour) → p ≡ Setup c → same_colour c S ≡ true → Last r X
+  last : (c : Colour) → p ≡ Setup c → same_colour c S ≡ true → Last r S X
 
 abbrev Told : Rules → Colour → Match → List SentLine → Type 0
 Told r S m X = ToldIn r S m.phase X
@@ -73,8 +72,8 @@ no_setup (Over reason) on = refl
 -- White is set up
 set_up : (r : Rules) (S C : Colour) (X answers : List SentLine) → C ≡ Black
     → ToldIn r S (Setup White) (X ++ flat_map each (list_if (same_colour C S) answers ++ list_if (same_colour White S)
-    (setup_lines r)))
-set_up r White Black X answers s = record { last = λ c e own. (X, ap (λ z. X ++ z) (each_is (setup_lines r))) }
+    (setup_lines r White)))
+set_up r White Black X answers s = record { last = λ c e own. (X, ap (λ z. X ++ z) (each_is (setup_lines r White))) }
 set_up r White White X answers s = absurd (cc)
 set_up r Black C X answers s = record {
   last = λ c e own. absurd (not_his c e own);
@@ -86,8 +85,8 @@ set_up r Black C X answers s = record {
 
 -- Black is set up
 set_up_next : (r : Rules) (S : Colour) (X : List SentLine)
-    → ToldIn r S (Setup Black) (X ++ flat_map each (list_if (same_colour Black S) (setup_lines r)))
-set_up_next r Black X = record { last = λ c e own. (X, ap (λ z. X ++ z) (each_is (setup_lines r))) }
+    → ToldIn r S (Setup Black) (X ++ flat_map each (list_if (same_colour Black S) (setup_lines r Black)))
+set_up_next r Black X = record { last = λ c e own. (X, ap (λ z. X ++ z) (each_is (setup_lines r Black))) }
 set_up_next r White X = record { last = λ c e own. absurd (not_his c e own) }
   where
     not_his : (c : Colour) → Setup Black ≡ Setup c → same_colour c White ≡ true → ⊥
@@ -107,12 +106,14 @@ module _ (r : Rules) (S : Colour) where
         handshake_last = λ p s d. set_up r S C X _ s;
         setup_counts = λ p pong few. subst (ToldIn r S m.phase) (sym (append-nil X)) told;
         setup_next = λ p s pong. set_up_next r S X;
-        setup_last = λ p s pong v. elsewhere r S _ _ refl;
+        setup_last = λ p s pong v d. elsewhere r S _ _ refl;
+        setup_draws = λ p claim v d. elsewhere r S _ _ refl;
         setup_decides = λ p v e. elsewhere r S _ _ refl;
         stops = λ done reason w. elsewhere r S _ _ refl;
         counts = λ on none few. subst (ToldIn r S m.phase) (sym (append-nil X)) told;
         offers = λ on none own. elsewhere r S m.phase _ (no_setup m.phase on);
-        plays = λ text move opened is p read room timely v. elsewhere r S _ _ refl;
+        plays = λ text move opened is p read room timely v d. elsewhere r S _ _ refl;
+        draws = λ text move opened claim is p read room timely v d. elsewhere r S _ _ refl;
         decides = λ text move opened v is p read room timely e. elsewhere r S _ _ refl;
         passes = λ p none. elsewhere r S _ _ refl;
       })
@@ -159,10 +160,13 @@ lines_by is_960 level start =
     ++ (Says (codes "level " ++ level_text level) ∷ Says (codes "nopost") ∷ Says (codes "easy") ∷ Says (codes "force")
     ∷ (option_map_or (λ fen. Says (codes "setboard " ++ fen) ∷ []) start [] ++ ping 1 ∷ [])))
 
-normal_is : (patience : Patience) (limit : ℕ)
-    → bytes_of (setup_lines (rules_of initial_setup forty_in_five patience limit)) ≡ normal_setup
-unfolding setup_lines bytes_of digits
-normal_is patience limit =
+-- those of a setup from this start with this level
+abbrev lines_for : Position → LevelSeen → List SentLine
+lines_for start level = lines_by (is_fischerandom start.variant) level (start_fen start)
+
+normal_is : bytes_of (lines_for initial_setup forty_in_five) ≡ normal_setup
+unfolding bytes_of digits
+normal_is =
     ap (λ (b : Bool). bytes_of (lines_by b forty_in_five (start_fen initial_setup))) (ap is_fischerandom own_fen)
     ∙ ap (λ (o : Option (List ℕ)). bytes_of (lines_by false forty_in_five o)) no_fen
     ∙ rw own_level refl
@@ -180,39 +184,43 @@ other_level : level_text two_and_twelve ≡ codes "0 2 12"
 unfolding level_text base_text increment_text decimals_text digits
 other_level = refl
 
-chess960_is : (start : Position) (patience : Patience) (limit : ℕ) → start.variant ≡ Fischerandom
-    → bytes_of (setup_lines (rules_of start two_and_twelve patience limit)) ≡ chess960_setup start
-unfolding setup_lines bytes_of digits
-chess960_is start patience limit is =
+chess960_is : (start : Position) → start.variant ≡ Fischerandom
+    → bytes_of (lines_for start two_and_twelve) ≡ chess960_setup start
+unfolding bytes_of digits
+chess960_is start is =
     ap (λ (b : Bool). bytes_of (lines_by b two_and_twelve (start_fen start))) (ap is_fischerandom is)
     ∙ ap (λ (o : Option (List ℕ)). bytes_of (lines_by true two_and_twelve o)) (some_fen start is)
     ∙ rw other_level (simp append_assoc)
 
-by_rules : (r : Rules) (start : Position) (level : LevelSeen) → r.start ≡ start → r.level ≡ level
-    → bytes_of (setup_lines r) ≡ bytes_of (setup_lines (rules_of start level r.patience r.limit))
-by_rules r start level e k =
-    ap (λ s. bytes_of (setup_lines (rules_of s r.level r.patience r.limit))) e
-    ∙ ap (λ l. bytes_of (setup_lines (rules_of start l r.patience r.limit))) k
+by_rules : (r : Rules) (S : Colour) → setup_lines r S ≡ lines_for r.start (r.level S)
+unfolding setup_lines
+by_rules r S = refl
 
-last_bytes : (r : Rules) (X : List SentLine) → Last r X → SetUpBy r (bytes_of X)
-last_bytes r X (front, is) =
-    let all : bytes_of X ≡ bytes_of front ++ bytes_of (setup_lines r) =
-    ap bytes_of is ∙ bytes_of-append front (setup_lines r) in record {
+by_both : (r : Rules) (S : Colour) (start : Position) (level : LevelSeen) → r.start ≡ start → r.level S ≡ level
+    → bytes_of (setup_lines r S) ≡ bytes_of (lines_for start level)
+by_both r S start level e k =
+    ap bytes_of (by_rules r S) ∙ ap (λ s. bytes_of (lines_for s (r.level S))) e
+    ∙ ap (λ l. bytes_of (lines_for start l)) k
+
+last_bytes : (r : Rules) (S : Colour) (X : List SentLine) → Last r S X → SetUpBy r S (bytes_of X)
+last_bytes r S X (front, is) =
+    let all : bytes_of X ≡ bytes_of front ++ bytes_of (setup_lines r S) =
+    ap bytes_of is ∙ bytes_of-append front (setup_lines r S) in record {
       normal = λ e k. (
         bytes_of front,
-        all ∙ ap (λ z. bytes_of front ++ z) (by_rules r initial_setup forty_in_five e k ∙ normal_is r.patience r.limit),
+        all ∙ ap (λ z. bytes_of front ++ z) (by_both r S initial_setup forty_in_five e k ∙ normal_is),
       );
       chess960 = λ e k. (
         bytes_of front,
         all ∙ ap (λ z. bytes_of front ++ z)
-            (by_rules r r.start two_and_twelve refl k ∙ chess960_is r.start r.patience r.limit e),
+            (by_both r S r.start two_and_twelve refl k ∙ chess960_is r.start e),
       );
     }
 
 pub is_set_up : AtEachLine IsSetUp
 is_set_up r before after S text moment final g phase =
-    subst (λ ls. SetUpBy r (bytes_of ls)) (each_is (lines_given S before))
-    (told_at each r S (Told r S) (tells r S) (λ m X. m.phase ≡ Setup S → SetUpBy r (bytes_of X)) before
+    subst (λ ls. SetUpBy r S (bytes_of ls)) (each_is (lines_given S before))
+    (told_at each r S (Told r S) (tells r S) (λ m X. m.phase ≡ Setup S → SetUpBy r S (bytes_of X)) before
     (Happens (Line S text moment) ∷ after) final at g (begun S) phase)
   where
     begun : (S : Colour) → Told r S beginning.after (flat_map each (beginning.to S))
@@ -220,8 +228,8 @@ is_set_up r before after S text moment final g phase =
 
     at : (m : Match) (due : List Block) → IsMatchFrom r m due (Happens (Line S text moment) ∷ after) final
         → (X : List SentLine) → Told r S m (X ++ flat_map each (lines_due S due)) → m.phase ≡ Setup S
-        → SetUpBy r (bytes_of X)
+        → SetUpBy r S (bytes_of X)
     at m (b ∷ due) q X told p = absurd q
     at m [] q X told p =
-        subst (λ ls. SetUpBy r (bytes_of ls)) (append-nil X)
-        (last_bytes r (X ++ []) (told.last S p (same_colour-self S)))
+        subst (λ ls. SetUpBy r S (bytes_of ls)) (append-nil X)
+        (last_bytes r S (X ++ []) (told.last S p (same_colour-self S)))

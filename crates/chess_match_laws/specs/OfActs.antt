@@ -299,11 +299,12 @@ abbrev pub GamesAreLines : Type 0
 GamesAreLines = (start : Position) (level : Colour → LevelSeen) (patience : Patience) (draws : Draws) (limit : ℕ) (H : List Act)
     (final : Match) → IsMatch (rules_of start level patience draws limit) H final → IsLine start final.played
 
--- the match has no move after a verdict of the board, and no more than the limit: after fewer than all of its moves the
--- board has no verdict
+-- the match has no more moves than the limit, none after a verdict of the board, and where draws are automatic none
+-- after one that may be claimed: after fewer than all of its moves there is neither
 abbrev pub EndsAtVerdicts : Rules → List Act → Match → Type 0
 EndsAtVerdicts r H m = (length m.played ≤ r.limit)
     × ((k : ℕ) → k < length m.played → verdict r.start (take k m.played) ≡ None)
+    × (r.draws ≡ Automatic → (k : ℕ) → k < length m.played → draw_claim (claims r.start (take k m.played)) ≡ None)
 
 -- ---- clocks
 

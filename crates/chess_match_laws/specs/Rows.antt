@@ -31,15 +31,15 @@ abbrev pub chess960_setup : Position → List ℕ
 chess960_setup start =
     codes "new\nvariant fischerandom\nlevel 0 2 12\nnopost\neasy\nforce\nsetboard " ++ fen start ++ codes "\nping 1\n"
 
--- while the `pong 1` of the side `S` is awaited, the last that `S` was sent is this, by these rules
-pub record SetUpBy (r : Rules) (sent : List ℕ) : Type 0 where
-  pub normal : r.start ≡ initial_setup → r.level ≡ record { moves = 40; base = 300000; increment = 0 }
+-- while the `pong 1` of the side `S` is awaited, the last that `S` was sent is this, by the start and the level of `S`
+pub record SetUpBy (r : Rules) (S : Colour) (sent : List ℕ) : Type 0 where
+  pub normal : r.start ≡ initial_setup → r.level S ≡ record { moves = 40; base = 300000; increment = 0 }
       → (before : List ℕ) × (sent ≡ before ++ normal_setup)
-  pub chess960 : r.start.variant ≡ Fischerandom → r.level ≡ record { moves = 0; base = 120000; increment = 12000 }
+  pub chess960 : r.start.variant ≡ Fischerandom → r.level S ≡ record { moves = 0; base = 120000; increment = 12000 }
       → (before : List ℕ) × (sent ≡ before ++ chess960_setup r.start)
 
 abbrev pub IsSetUp : Rules → Colour → List Act → Match → Type 0
-IsSetUp r S H m = m.phase ≡ Setup S → SetUpBy r (bytes_of (lines_given S H))
+IsSetUp r S H m = m.phase ≡ Setup S → SetUpBy r S (bytes_of (lines_given S H))
 
 -- ---- `ping` and `go`
 

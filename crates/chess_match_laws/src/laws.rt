@@ -67,7 +67,7 @@ pub fn games_are_lines()
 }
 
 /// States a law and does nothing: a match has no move after a verdict of the board, such as mate, and no more half-moves
-/// than its limit.
+/// than its limit. Where draws are automatic, it has no move after one that may be claimed, either.
 pub fn games_end_at_verdicts()
     ensures { InEachMatch EndsAtVerdicts }
 {}
@@ -169,8 +169,8 @@ pub fn acts_are_in_order()
 {}
 
 /// States a law and does nothing: an engine is set up by these lines, which it is sent last before its `pong 1`. Two
-/// examples are worked out: normal chess from the initial position, with 40 moves in 5 minutes, and Chess960 from that
-/// position, with 2 minutes and 12 seconds for each move.
+/// examples are worked out: normal chess from the initial position, if the engine's own level is 40 moves in 5 minutes,
+/// and Chess960 from any position, if it is 2 minutes and 12 seconds for each move.
 pub fn setups_are_these_lines()
     ensures { AtEachLine IsSetUp }
 {}

@@ -34,6 +34,7 @@ const BLACK_KNIGHT: &[u8] =
 // A rook and a king that move to and fro, without a position for the third time.
 const WHITE_ROOK: &[u8] =
     b"feature ping=1 setboard=1 done=1\npong 1\nmove a2a3\npong 2\nmove a3a4\npong 3\nresign\n";
+
 const BLACK_KING: &[u8] =
     b"feature ping=1 setboard=1 done=1\npong 1\nmove h8g8\npong 2\nmove g8h8\npong 3\n";
 
@@ -150,6 +151,7 @@ fn draws_that_need_a_claim_or_none(rt: HostRuntime) -> Result<(), Fail> {
 // What both are sent of the first row: White still gets the last move, and Black no ping for it.
 const TO_WHITE: &[u8] =
     b"xboard\nprotover 2\naccepted ping\naccepted setboard\naccepted done\nnew\nlevel 0 0:10 0\nnopost\neasy\nforce\nping 1\ntime 1000\notim 1000\ngo\nping 2\ntime 1000\notim 1000\ng8f6\nping 3\ntime 1000\notim 1000\nf6g8\nping 4\ntime 1000\notim 1000\ng8f6\nping 5\nf6g8\nresult 1/2-1/2 {Threefold repetition}\nquit\n";
+
 const TO_BLACK: &[u8] =
     b"xboard\nprotover 2\naccepted ping\naccepted setboard\naccepted done\nnew\nlevel 0 0:10 0\nnopost\neasy\nforce\nping 1\ng1f3\ntime 1000\notim 1000\ngo\nping 2\ntime 1000\notim 1000\nf3g1\nping 3\ntime 1000\notim 1000\ng1f3\nping 4\ntime 1000\notim 1000\nf3g1\nresult 1/2-1/2 {Threefold repetition}\nquit\n";
 

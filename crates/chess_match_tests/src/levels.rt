@@ -20,7 +20,8 @@ fn setup(rt: &impl Abort) -> Setup {
 }
 
 const WHITE: &[u8] =
-    b"feature ping=1 done=1\npong 1\nmove e2e4\npong 2\nmove g1f3\npong 3\nmove b1c3\n";
+    b"feature ping=1 done=1\npong 1\nmove e2e4\npong 2\nmove g1f3\npong 3\nmove b1c3\npong 4\n";
+
 const BLACK: &[u8] =
     b"feature ping=1 done=1\npong 1\nmove e7e5\npong 2\nmove b8c6\npong 3\nresign\n";
 
@@ -37,6 +38,7 @@ const MOMENTS: &[u64] = &[
 
 const TO_WHITE: &[u8] =
     b"xboard\nprotover 2\naccepted ping\naccepted done\nnew\nlevel 40 5 0\nnopost\neasy\nforce\nping 1\ntime 30000\notim 3000\ngo\nping 2\ntime 26000\notim 2050\ne7e5\nping 3\ntime 26000\notim 50\nb8c6\nresult * {White ended its output}\nquit\n";
+
 const TO_BLACK: &[u8] =
     b"xboard\nprotover 2\naccepted ping\naccepted done\nnew\nlevel 0 0:30 0.5\nnopost\neasy\nforce\nping 1\ne2e4\ntime 3000\notim 26000\ngo\nping 2\ntime 2050\notim 26000\ng1f3\nping 3\nresult * {White ended its output}\nquit\n";
 

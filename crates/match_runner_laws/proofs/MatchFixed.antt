@@ -24,7 +24,7 @@ use Rattle.match_runner.specs.declared.fault.GamesFault.TheVariants.{CanNotStart
 use Rattle.match_runner.specs.declared.memory_host.MemoryEngine.{MemoryEngine}
 use Rattle.match_runner.specs.declared.memory_host.MemoryHost.{MemoryHost}
 use Rattle.match_runner.specs.declared.plan.GamesPlan.{GamesPlan}
-use Rattle.match_runner.specs.Games.{AreAllGames, FaultlessGames, GameRecord, IsOfPlan, LogsGames, WritesGames, game_log, game_text, game_texts, none_killed, report_of, score_line}
+use Rattle.match_runner.specs.Games.{AreAllGames, GameRecord, IsOfPlan, LogsGames, WritesGames, game_log, game_text, game_texts, none_killed, report_of, score_line}
 use Rattle.match_runner.specs.GamesTable.{BeginsAt, ComeInTurn, Finishes, GamesStep, HostStep, OpensClock, Outputs, PlaysGamesWith, Starts, Writes, at_host, games_steps, last_steps, steps_by}
 use Rattle.match_runner.specs.Log.{LogSeen, Logged}
 use Rattle.match_runner.specs.MemoryHost.{IsNext, MayCome, fresh_pipes, moment_at, next_text, started_by, started_for, started_in}

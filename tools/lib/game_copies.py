@@ -1,0 +1,82 @@
+"""Copies the games of PGN texts to two files: the good ones, and those with a fault.
+
+The file of the good games has all of a text but the spans of games with a fault; what lies between games stays. The
+other file has these spans: each from its game's first byte to the end of its piece. Bytes are copied as they are. A line
+end is added where two copied parts would share a line, and a line with an empty comment where the second part would else
+not begin a piece: so the good games have the pieces that they had, and no fault."""
+
+from pgn_files import EMPTY_LINE, MARK, TAG_LINE, front
+
+WHITE = b" \t\r\n"
+CUT = b"{}\n"  # a line of moves, after which a tag line begins a piece
+
+
+class Copy:
+    """A file to which parts of texts are copied, one after another; each part begins a line of its text."""
+
+    def __init__(self, name):
+        self.file = open(name, "wb")
+        self.last, self.is_after_moves = b"", False  # the last byte, and whether a tag line would begin a piece
+
+    def add(self, part, follows):
+        """Adds a part of a text. `follows`: it comes right after what was added last."""
+        if not part:
+            return
+        if self.last and not follows:
+            if self.last != b"\n":
+                self.write(b"\n")
+            if TAG_LINE.match(front(part, 0)) and not self.is_after_moves:
+                self.write(CUT)
+        self.write(part)
+
+    def write(self, part):
+        self.file.write(part)
+        self.last = part[-1:]
+        self.is_after_moves = self.ends_after_moves(part)
+
+    def ends_after_moves(self, part):
+        """Returns whether the last line so far that is not empty is a line of moves, after a part."""
+        end = len(part)
+        while end > 0:
+            start = part.rfind(b"\n", 0, end - 1) + 1
+            line = front(part, start)
+            if not EMPTY_LINE.match(line):
+                return not TAG_LINE.match(line)
+            end = start
+        return self.is_after_moves
+
+
+class Copies:
+    """The files of the good games and of those with a fault; either may be None, and is then not written."""
+
+    def __init__(self, good, bad):
+        self.good, self.bad = (Copy(name) if name else None for name in (good, bad))
+        self.follows = False  # whether what comes next is right after what the file of good games has
+
+    def begin_text(self):
+        """Begins with the games of another text."""
+        self.follows = False
+
+    def add(self, text, spans):
+        """Copies the games of the next part of a text; `spans` are those of its games with a fault."""
+        at = 0
+        for begin, end in spans:
+            self.add_good(bytes(text[at:begin]).removesuffix(MARK))
+            if self.bad:
+                self.bad.add(bytes(text[begin:end]), False)
+            at, self.follows = end, False
+        self.add_good(bytes(text[at:]))
+
+    def add_good(self, part):
+        """Copies what has no fault; white space alone, as before a game with a fault, is left out after one."""
+        if not self.follows and not part.removeprefix(MARK).strip(WHITE):
+            return
+        if self.good:
+            begins_piece = self.follows or not self.good.last or TAG_LINE.match(front(part, 0))
+            self.good.add(part if begins_piece else part.removeprefix(MARK), self.follows)
+        self.follows = True
+
+    def close(self):
+        for copy in (self.good, self.bad):
+            if copy:
+                copy.file.close()
