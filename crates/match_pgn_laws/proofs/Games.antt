@@ -1,5 +1,5 @@
 -- What is known of a game of a match: its text is that of a legal game with the outcome that was reported.
-use Rattle.std.proofs.Common.{◌≡◌, ◌∙◌, ℕ, ◌≤◌, ◌+◌, true, false, List, [], ◌∷◌, ◌++◌, length, length-append, map, take, None, Some, Option, Ok, Err, Result, refl, sym, ap, subst, inl, inr, arith}
+use Rattle.std.proofs.Common.{◌≡◌, ℕ, ◌≤◌, ◌+◌, true, List, [], ◌∷◌, ◌++◌, length, length-append, map, take, None, Some, Option, Ok, Err, Result, sym, ap, subst, inl, inr, arith}
 use Rattle.std.specs.Prelude.{codes, decimal}
 use Rattle.std.specs.List.{AllByRecursion, enumerate_from}
 use Rattle.std.specs.Result.{is_ok}
@@ -9,8 +9,7 @@ use Rattle.byte_devices.specs.Transfers.{OutputTook, ToOutput, all_of}
 use Rattle.chess_base.specs.ByColour.{of_colour}
 use Rattle.chess_base.specs.Sound.{IsSound}
 use Rattle.chess_base.specs.declared.man.Colour.{Colour}
-use Rattle.chess_base.specs.declared.man.Colour.TheVariants.{White, Black}
-use Rattle.chess_game.specs.Game.{Seen, State, outcome_now}
+use Rattle.chess_game.specs.Game.{Seen, outcome_now}
 use Rattle.chess_game.specs.Line.{IsLine}
 use Rattle.chess_game.specs.Results.{IsTagText, cut_tag, shown_byte}
 use Rattle.chess_game.specs.declared.game.TheConstants.{MOST_MOVES}
@@ -20,7 +19,7 @@ use Rattle.chess_match.specs.Rules.{Rules, rules_of}
 use Rattle.chess_match.specs.declared.reason.MatchFault.{MatchFault}
 use Rattle.chess_match_laws.specs.OfActs.{GamesAreLines, OutcomesAreOfTheGame}
 use Rattle.chess_pgn_laws.specs.PgnLaw.{AreTagTexts}
-use Rattle.match_runner.specs.Games.{AreAllGames, FaultlessGames, GameRecord, IsOfPlan, WritesGames, game_texts, score_line, setup_of, tags_of}
+use Rattle.match_runner.specs.Games.{AreAllGames, GameRecord, IsOfPlan, WritesGames, game_texts, score_line, setup_of, tags_of}
 use Rattle.match_runner.specs.GamesTable.{GamesStep, HostStep, OpensClock, Outputs, PlaysBy, PlaysGamesWith, at_host}
 use Rattle.match_runner.specs.declared.fault.GamesFault.{GamesFault}
 use Rattle.match_runner.specs.declared.fault.GamesFault.TheVariants.{WriteFailed, NoMemory, CanNotStart, Game}

@@ -1,5 +1,5 @@
 -- The score is the sum of the lines `[Result ..]` above it.
-use Rattle.std.proofs.Common.{◌≡◌, ◌∙◌, ℕ, ◌+◌, ◌%◌, Bool, true, false, List, [], ◌∷◌, ◌++◌, length, map, cond, Some, None, refl, sym, ap, subst, append_assoc, append-nil, arith}
+use Rattle.std.proofs.Common.{◌≡◌, ◌∙◌, ℕ, ◌+◌, ◌%◌, Bool, List, [], ◌∷◌, ◌++◌, length, map, cond, refl, sym, ap, subst, arith}
 use Rattle.std.specs.Prelude.{codes, decimal, flat_map, ◌==◌}
 use Rattle.std.specs.List.{count_by, enumerate_from}
 use Rattle.std.specs.Str.{bytes_eq}
@@ -9,15 +9,13 @@ use Rattle.byte_devices.specs.Transfers.{OutputTook, all_of}
 use Rattle.chess_base.specs.Letters.{new_line}
 use Rattle.chess_base.specs.Men.{other}
 use Rattle.chess_base.specs.Sound.{IsSound}
-use Rattle.chess_base.specs.declared.man.Colour.{Colour}
 use Rattle.chess_base.specs.declared.man.Colour.TheVariants.{White, Black}
-use Rattle.chess_game.specs.Game.{outcome_now}
 use Rattle.chess_game.specs.Results.{same_outcome}
 use Rattle.chess_game.specs.declared.results.Outcome.{Outcome}
 use Rattle.chess_game.specs.declared.results.Outcome.TheVariants.{WhiteWins, BlackWins, Draw, Unfinished}
 use Rattle.chess_match.specs.Reasons.{win_of}
 use Rattle.chess_match_laws.specs.OfActs.{GamesAreLines, OutcomesAreOfTheGame}
-use Rattle.match_runner.specs.Games.{GameRecord, count_of, first_side, game_text, game_texts, score_line, tags_of}
+use Rattle.match_runner.specs.Games.{GameRecord, first_side, game_text, game_texts, score_line, tags_of}
 use Rattle.match_runner.specs.declared.plan.GamesPlan.{GamesPlan}
 use Rattle.match_pgn_laws.specs.Scores.{ScoresAreSums, games_with, result_lines, sum_of}
 use Rattle.match_pgn_laws.proofs.Games.{AreOfPlan, is_game, is_line, is_sound, tag_texts, wrote}
