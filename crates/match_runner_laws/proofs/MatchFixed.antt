@@ -1,5 +1,5 @@
 -- A match at a host over memory is fixed by the host and the plan.
-use Rattle.std.proofs.Common.{◌≡◌, ◌∙◌, ◌+◌, ◌<◌, ◌≤◌, ◌-◌, ◌⊎◌, ℕ, true, List, [], ◌∷◌, ◌++◌, length, Option, None, Some, Result, Ok, Err, refl, sym, ap, subst, append_assoc, append-nil, length-append, arith, inl, inr}
+use Rattle.std.proofs.Common.{◌≡◌, ◌∙◌, ◌+◌, ◌<◌, ◌≤◌, ◌-◌, ◌⊎◌, ℕ, suc, true, List, [], ◌∷◌, ◌++◌, length, Option, None, Some, Result, Ok, Err, refl, sym, ap, subst, append_assoc, append-nil, length-append, arith, inl, inr}
 use Rattle.std.specs.Prelude.{⊤, codes, decimal, is_some}
 use Rattle.std.specs.List.{AllByRecursion, enumerate_from, flat_map, last_or, slice_get}
 use Rattle.std.specs.Option.{option_map, option_or, option_to_list}
@@ -284,7 +284,7 @@ sent_alike plan number gs ks h = absurd h
 -- ---- the fault that is reported
 
 -- the fault in the last of these games, if there is one
-last_fault : List GameRecord → Option (Colour × MatchFault)
+abbrev last_fault : List GameRecord → Option (Colour × MatchFault)
 last_fault [] = None
 last_fault (g ∷ []) = g.end.fault
 last_fault (g ∷ h ∷ gs) = last_fault (h ∷ gs)
@@ -319,7 +319,7 @@ as_many plan [] (k ∷ ks) h = absurd h
 as_many plan (g ∷ gs) [] h = absurd h
 
 -- a fault in the game of this number
-in_game : ℕ → Option (Colour × MatchFault) → Option (ℕ × Colour × MatchFault)
+abbrev in_game : ℕ → Option (Colour × MatchFault) → Option (ℕ × Colour × MatchFault)
 in_game number None = None
 in_game number (Some (side, fault)) = Some (number, side, fault)
 
@@ -333,7 +333,7 @@ fault_of_last plan games (Some (number, side, fault)) (before, last, is, h, of, 
     (ap last_fault is ∙ fault_at_end before last ∙ found))
 
 -- what is reported if this is the fault, or none is
-reported : Option (ℕ × Colour × MatchFault) → List ℕ
+abbrev reported : Option (ℕ × Colour × MatchFault) → List ℕ
 reported None = []
 reported (Some (number, side, fault)) =
     codes "arbiter: " ++ (codes "game " ++ decimal number ++ codes ": " ++ comment_of (Faulted side fault))
@@ -413,7 +413,7 @@ scored plan steps d d' (Err (Game number text)) (inl (c, (games, unwritten, (o, 
         told : text.now ≡ comment_of (Faulted side fault)
             → report_of (Err (Game number text)) ≡ reported (Some (number, side, fault))
         told words = ap (λ (t : List ℕ). codes "arbiter: " ++ (codes "game " ++ decimal number ++ codes ": " ++ t)
-        ++ new_line ∷ []) words
+            ++ new_line ∷ []) words
     at (Some u) w l t e = absurd w
 scored plan steps d d' (Err WriteFailed) played s = absurd s
 scored plan steps d d' (Err NoMemory) played s = absurd s
