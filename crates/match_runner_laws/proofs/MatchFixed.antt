@@ -1,15 +1,13 @@
 -- A match at a host over memory is fixed by the host and the plan.
-use Rattle.std.proofs.Common.{◌≡◌, ◌∙◌, ◌+◌, ◌<◌, ◌≤◌, ◌-◌, ◌⊎◌, ℕ, suc, true, List, [], ◌∷◌, ◌++◌, length, Option, None, Some, Result, Ok, Err, refl, sym, ap, subst, append_assoc, append-nil, length-append, arith, inl, inr}
+use Rattle.std.proofs.Common.{◌≡◌, ◌∙◌, ◌+◌, ◌<◌, ◌-◌, ◌⊎◌, ℕ, suc, true, List, [], ◌∷◌, ◌++◌, length, Option, None, Some, Result, Ok, Err, refl, sym, ap, subst, append_assoc, append-nil, length-append, arith, inl, inr}
 use Rattle.std.specs.Prelude.{⊤, codes, decimal, is_some}
 use Rattle.std.specs.List.{AllByRecursion, enumerate_from, flat_map, last_or, slice_get}
 use Rattle.std.specs.Option.{option_map, option_or, option_to_list}
 use Rattle.byte_devices.specs.Transfers.{Devices, ToOutput, OutputTook, all_of}
 use Rattle.chess_base.specs.ByColour.{by_colour}
 use Rattle.chess_base.specs.Letters.{new_line}
-use Rattle.chess_base.specs.declared.by_colour.ByColour.{ByColour}
 use Rattle.chess_base.specs.declared.man.Colour.{Colour}
 use Rattle.chess_base.specs.declared.man.Colour.TheVariants.{White, Black}
-use Rattle.chess_game.specs.declared.results.Outcome.{Outcome}
 use Rattle.chess_match.specs.Acts.{Act}
 use Rattle.chess_match.specs.Effects.{Match, Over}
 use Rattle.chess_match.specs.Lines.{bytes_of}
@@ -22,13 +20,12 @@ use Rattle.chess_match_laws.specs.OfActs.{OnlyOneMatch, SilencesAreAskedFor, end
 use Rattle.match_runner.specs.declared.fault.GamesFault.{GamesFault}
 use Rattle.match_runner.specs.declared.fault.GamesFault.TheVariants.{CanNotStart, Game, NoMemory, WriteFailed}
 use Rattle.match_runner.specs.declared.memory_host.MemoryEngine.{MemoryEngine}
-use Rattle.match_runner.specs.declared.memory_host.MemoryHost.{MemoryHost}
 use Rattle.match_runner.specs.declared.plan.GamesPlan.{GamesPlan}
-use Rattle.match_runner.specs.Games.{AreAllGames, GameRecord, IsOfPlan, LogsGames, WritesGames, game_log, game_text, game_texts, none_killed, report_of, score_line}
-use Rattle.match_runner.specs.GamesTable.{BeginsAt, ComeInTurn, Finishes, GamesStep, HostStep, OpensClock, Outputs, PlaysGamesWith, Starts, Writes, at_host, games_steps, last_steps, steps_by}
-use Rattle.match_runner.specs.Log.{LogSeen, Logged}
-use Rattle.match_runner.specs.MemoryHost.{IsNext, MayCome, fresh_pipes, moment_at, next_text, started_by, started_for, started_in}
-use Rattle.match_runner_laws.specs.OneMatch.{FinishesWell, HasScore, OneMatchOfAHost, WentWell, sent_by_then, sent_in}
+use Rattle.match_runner.specs.Games.{AreAllGames, GameRecord, IsOfPlan, LogsGames, WritesGames, game_log, game_text, game_texts, report_of, score_line}
+use Rattle.match_runner.specs.GamesTable.{ComeInTurn, GamesStep, HostStep, OpensClock, Outputs, PlaysGamesWith, Writes, at_host, games_steps, last_steps, steps_by}
+use Rattle.match_runner.specs.Log.{Logged}
+use Rattle.match_runner.specs.MemoryHost.{IsNext, fresh_pipes, started_by, started_for, started_in}
+use Rattle.match_runner_laws.specs.OneMatch.{FinishesWell, HasScore, OneMatchOfAHost, sent_in}
 use Rattle.match_runner_laws.proofs.GameFixed.{Fresh, Whole, are_of, clock_left, sent_all, streams}
 use Rattle.match_runner_laws.proofs.PgnOfLogs.{Alike, is_played, left, named, reason_shown, rules, text_is, written_alike}
 
