@@ -1,25 +1,25 @@
 -- What is known of a game of a match: its text is that of a legal game with the outcome that was reported.
-use Rattle.std.proofs.Common.{◌≡◌, ◌∙◌, ℕ, ◌≤◌, ◌+◌, true, false, List, [], ◌∷◌, ◌++◌, length, map, take, None, Some, Option, Ok, Err, Result, refl, sym, ap, subst, inl, inr, arith}
+use Rattle.std.proofs.Common.{◌≡◌, ℕ, ◌≤◌, ◌+◌, true, List, [], ◌∷◌, ◌++◌, length, length-append, map, take, None, Some, Option, Ok, Err, Result, sym, ap, subst, inl, inr, arith}
 use Rattle.std.specs.Prelude.{codes, decimal}
-use Rattle.std.specs.List.{AllByRecursion}
+use Rattle.std.specs.List.{AllByRecursion, enumerate_from}
 use Rattle.std.specs.Result.{is_ok}
 use Rattle.std.proofs.lemmas.Bool.Decides.{nat_tests}
 use Rattle.std.proofs.lemmas.List.{length-map, length-take}
 use Rattle.byte_devices.specs.Transfers.{OutputTook, ToOutput, all_of}
+use Rattle.chess_base.specs.ByColour.{of_colour}
 use Rattle.chess_base.specs.Sound.{IsSound}
 use Rattle.chess_base.specs.declared.man.Colour.{Colour}
-use Rattle.chess_base.specs.declared.man.Colour.TheVariants.{White, Black}
-use Rattle.chess_game.specs.Game.{Seen, State, outcome_now}
+use Rattle.chess_game.specs.Game.{Seen, outcome_now}
 use Rattle.chess_game.specs.Line.{IsLine}
 use Rattle.chess_game.specs.Results.{IsTagText, cut_tag, shown_byte}
 use Rattle.chess_game.specs.declared.game.TheConstants.{MOST_MOVES}
 use Rattle.chess_match.specs.Acts.{Act, IsMatch}
 use Rattle.chess_match.specs.Effects.{Match}
-use Rattle.chess_match.specs.Rules.{rules_of}
+use Rattle.chess_match.specs.Rules.{Rules, rules_of}
 use Rattle.chess_match.specs.declared.reason.MatchFault.{MatchFault}
 use Rattle.chess_match_laws.specs.OfActs.{GamesAreLines, OutcomesAreOfTheGame}
 use Rattle.chess_pgn_laws.specs.PgnLaw.{AreTagTexts}
-use Rattle.match_runner.specs.Games.{AreAllGames, FaultlessGames, GameRecord, IsOfPlan, WritesGames, game_texts, score_line, tags_of}
+use Rattle.match_runner.specs.Games.{AreAllGames, GameRecord, IsOfPlan, WritesGames, game_texts, score_line, setup_of, tags_of}
 use Rattle.match_runner.specs.GamesTable.{GamesStep, HostStep, OpensClock, Outputs, PlaysBy, PlaysGamesWith, at_host}
 use Rattle.match_runner.specs.declared.fault.GamesFault.{GamesFault}
 use Rattle.match_runner.specs.declared.fault.GamesFault.TheVariants.{WriteFailed, NoMemory, CanNotStart, Game}
@@ -51,65 +51,80 @@ tag_texts plan number end = record {
 
 -- ---- a game
 
--- the game of this record, as far as its text says it: a match by these rules of which this is the game, the start of
--- the plan and a line of legal moves; and its outcome is the one that was reported
-pub record IsGame (plan : GamesPlan) (played : GameRecord) : Type 0 where
+-- the rules of the game of this number, with this limit of half-moves
+abbrev pub rules : GamesPlan → ℕ → ℕ → Rules
+rules plan number limit =
+    rules_of plan.start (of_colour (setup_of plan number).levels) plan.patience plan.draws limit
+
+-- the game of this record, which has this number, as far as its text says it: a match by these rules of which this is
+-- the game, the start of the plan and a line of legal moves; and its outcome is the one that was reported
+pub record IsGame (plan : GamesPlan) (number : ℕ) (played : GameRecord) : Type 0 where
   pub acts : List Act
   pub final : Match
-  pub is_match : IsMatch (rules_of plan.start plan.level plan.patience MOST_MOVES) acts final
+  pub is_match : IsMatch (rules plan number MOST_MOVES) acts final
   pub start : played.after.game.state.start ≡ plan.start
   pub moves : played.after.game.state.moves ≡ final.played
   pub outcome : played.end.outcome ≡ outcome_now played.after.game.state
 
-pub is_game : OutcomesAreOfTheGame → (plan : GamesPlan) (played : GameRecord) → IsOfPlan plan played
-    → IsGame plan played
-is_game outcomes plan played (limit, spared, (H, reason, notes, by)) =
+pub is_game : OutcomesAreOfTheGame → (plan : GamesPlan) (number : ℕ) (played : GameRecord)
+    → IsOfPlan plan number played → IsGame plan number played
+is_game outcomes plan number played (limit, spared, (H, reason, notes, by)) =
     let (final, passed, reported, game) = by in record {
       acts = H;
       final = final;
-      is_match = subst (λ (n : ℕ). IsMatch (rules_of plan.start plan.level plan.patience n) H final) limit
-          passed.is_match;
+      is_match = subst (λ (n : ℕ). IsMatch (rules plan number n) H final) limit passed.is_match;
       start = ap (λ (g : Seen). g.state.start) game;
       moves = ap (λ (g : Seen). g.state.moves) game;
       outcome = outcomes H reason _ played.end played.before played.after by;
     }
 
-pub is_line : GamesAreLines → (plan : GamesPlan) (played : GameRecord) → (g : IsGame plan played)
-    → IsLine played.after.game.state.start played.after.game.state.moves
-is_line lines plan played g =
+pub is_line : GamesAreLines → (plan : GamesPlan) (number : ℕ) (played : GameRecord)
+    → (g : IsGame plan number played) → IsLine played.after.game.state.start played.after.game.state.moves
+is_line lines plan number played g =
     subst (λ p. IsLine p played.after.game.state.moves) (sym g.start)
     (subst (IsLine plan.start) (sym g.moves)
-    (lines plan.start plan.level plan.patience MOST_MOVES g.acts g.final g.is_match))
+    (lines plan.start (of_colour (setup_of plan number).levels) plan.patience plan.draws MOST_MOVES g.acts g.final
+    g.is_match))
 
-pub is_sound : (plan : GamesPlan) (played : GameRecord) → IsGame plan played → IsSound plan.start
-    → IsSound played.after.game.state.start
-is_sound plan played g sound = subst IsSound (sym g.start) sound
+pub is_sound : (plan : GamesPlan) (number : ℕ) (played : GameRecord) → IsGame plan number played
+    → IsSound plan.start → IsSound played.after.game.state.start
+is_sound plan number played g sound = subst IsSound (sym g.start) sound
 
 -- ---- the games of a match that was played to its score
+
+-- these games, of which the first has this number, were played as the plan says
+abbrev pub AreOfPlan : GamesPlan → ℕ → List GameRecord → Type 0
+AreOfPlan plan number games = AllByRecursion (λ g. IsOfPlan plan g.0 g.1) (enumerate_from number games)
 
 -- what it wrote: the text of these games, each played by the plan, and the score
 pub record Wrote (plan : GamesPlan) (result : Result (Unit {0}) GamesFault) (d d' : Outputs) : Type 0 where
   pub games : List GameRecord
-  pub of_plan : AllByRecursion (IsOfPlan plan) games
+  pub of_plan : AreOfPlan plan 1 games
   pub all : is_ok result ≡ true → length games ≡ plan.games
   pub written : OutputTook d.output d'.output (all_of (game_texts plan games ++ score_line games))
 
-of_faultless : (plan : GamesPlan) (games : List GameRecord) → FaultlessGames plan games
-    → AllByRecursion (IsOfPlan plan) games
-of_faultless plan [] h = tt
-of_faultless plan (g ∷ games) ((of, none), h) = (of, of_faultless plan games h)
+of_faultless : (plan : GamesPlan) (n : ℕ) (games : List GameRecord)
+    → AllByRecursion (λ g. IsOfPlan plan g.0 g.1 × (g.1.end.fault ≡ None)) (enumerate_from n games)
+    → AreOfPlan plan n games
+of_faultless plan n [] h = tt
+of_faultless plan n (g ∷ games) ((of, none), h) = (of, of_faultless plan (n + 1) games h)
 
-with_last : (plan : GamesPlan) (before : List GameRecord) (last : GameRecord)
-    → AllByRecursion (IsOfPlan plan) before → IsOfPlan plan last
-    → AllByRecursion (IsOfPlan plan) (before ++ last ∷ [])
-with_last plan [] last h of = (of, tt)
-with_last plan (g ∷ before) last h of = (h.0, with_last plan before last h.1 of)
+with_last : (plan : GamesPlan) (n number : ℕ) (before : List GameRecord) (last : GameRecord)
+    → AreOfPlan plan n before → IsOfPlan plan number last → number ≡ n + length before
+    → AreOfPlan plan n (before ++ last ∷ [])
+with_last plan n number [] last h of is =
+    let here : number ≡ n = omega (arith, is) in (subst (λ k. IsOfPlan plan k last) here of, tt)
+with_last plan n number (g ∷ before) last h of is =
+    (h.0, with_last plan (n + 1) number before last h.1 of (omega (arith, is)))
 
 of_all : (plan : GamesPlan) (games : List GameRecord) (fault : Option (ℕ × Colour × MatchFault))
-    → AreAllGames plan games fault → AllByRecursion (IsOfPlan plan) games
-of_all plan games None (h, many) = of_faultless plan games h
+    → AreAllGames plan games fault → AreOfPlan plan 1 games
+of_all plan games None (h, many) = of_faultless plan 1 games h
 of_all plan games (Some (number, side, fault)) (before, last, is, h, of, found, counted, few) =
-    subst (AllByRecursion (IsOfPlan plan)) (sym is) (with_last plan before last (of_faultless plan before h) of)
+    let longer = length-append before (last ∷ []) in
+    let long = ap length is in
+    subst (AreOfPlan plan 1) (sym is)
+    (with_last plan 1 number before last (of_faultless plan 1 before h) of (omega (arith, longer, long, counted)))
 
 scored_by : (plan : GamesPlan) (result : Result (Unit {0}) GamesFault) (coming : ℕ → Option ℕ)
     (passes : List GamesStep → Type 0) (d d' : Outputs) → HasScore result

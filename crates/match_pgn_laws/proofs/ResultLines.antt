@@ -1,7 +1,7 @@
 -- Which lines of a game's text begin with `[Result `: the line of its tag, and no other.
-use Rattle.std.proofs.Common.{◌≡◌, ◌∙◌, ℕ, ◌+◌, ◌≤◌, ◌<◌, ◌≢◌, Bool, true, false, ◌&&◌, ◌||◌, cond, eqb, List, [], ◌∷◌, ◌++◌, length, map, take, refl, sym, ap, subst, append_assoc, append-nil, arith}
+use Rattle.std.proofs.Common.{◌≡◌, ◌∙◌, ℕ, ◌≤◌, Bool, true, false, ◌&&◌, ◌||◌, cond, eqb, List, [], ◌∷◌, ◌++◌, length, take, refl, sym, ap, subst, append_assoc, append-nil, arith}
 use Rattle.std.specs.Prelude.{codes, decimal, not, nat_le}
-use Rattle.std.specs.List.{AllByRecursion, filter, flat_map, list_all, onto_first, slice_split}
+use Rattle.std.specs.List.{AllByRecursion, filter, list_all, onto_first, slice_split}
 use Rattle.std.specs.Str.{bytes_eq}
 use Rattle.std.specs.Str.Parse.{AllDigits}
 use Rattle.std.proofs.lemmas.Bool.{and_from, and_parts}
@@ -11,7 +11,6 @@ use Rattle.std.proofs.lemmas.List.Elements.{filter-append}
 use Rattle.std.proofs.lemmas.List.Folds.{list_all-append}
 use Rattle.std.proofs.lemmas.Str.Parse.{digit_from_value}
 use Rattle.std.proofs.lemmas.Bool.{leb-true}
-use Rattle.chess_base.specs.Letters.{is_digit, is_letter}
 use Rattle.chess_base.specs.Moves.{after}
 use Rattle.chess_base.specs.Options.{list_if}
 use Rattle.chess_base.specs.Sound.{IsSound}
@@ -21,10 +20,10 @@ use Rattle.chess_base.specs.declared.man.Move.{Move}
 use Rattle.chess_base.specs.declared.setup.Setup.{Setup}
 use Rattle.chess_base.proofs.shared.LegalMoves.{IsSound-after}
 use Rattle.chess_fen.specs.Writing.{fen, is_initial}
-use Rattle.chess_fen.proofs.shared.Plain.{IsPlain, Plain, fen_plain}
+use Rattle.chess_fen.proofs.shared.Plain.{Plain, fen_plain}
 use Rattle.chess_game.specs.Game.{State, outcome_now}
 use Rattle.chess_game.specs.Line.{IsLine}
-use Rattle.chess_game.specs.Results.{IsTagText, outcome_text}
+use Rattle.chess_game.specs.Results.{outcome_text}
 use Rattle.chess_game.specs.declared.results.Outcome.{Outcome}
 use Rattle.chess_game.specs.declared.results.Outcome.TheVariants.{WhiteWins, BlackWins, Draw, Unfinished}
 use Rattle.chess_text.specs.San.{is_fischerandom, san}
@@ -244,15 +243,28 @@ termination_in_line ending.TimeForfeit = refl
 termination_in_line ending.Unterminated = refl
 
 tags_in_line : (t : Tags) (s : State) → AreTagTexts t → IsSound s.start → AreLines (tag_lines t s)
-tags_in_line t s h sound =
-    (tag_in_line (codes "Event") t.event refl (printable_in_line t.event h.event.printable),
-    (tag_in_line (codes "Site") t.site refl (printable_in_line t.site h.site.printable),
-    (tag_in_line (codes "Date") t.date refl (printable_in_line t.date h.date.printable),
-    (tag_in_line (codes "Round") t.round refl (printable_in_line t.round h.round.printable),
-    (tag_in_line (codes "White") t.white refl (printable_in_line t.white h.white.printable),
-    (tag_in_line (codes "Black") t.black refl (printable_in_line t.black h.black.printable),
-    (tag_in_line (codes "Result") (outcome_text (outcome_now s)) refl (outcome_in_line (outcome_now s)),
-    start_then (is_fischerandom s.start.variant || not (is_initial s.start)))))))))
+tags_in_line t s h sound = (
+  tag_in_line (codes "Event") t.event refl (printable_in_line t.event h.event.printable),
+  (
+    tag_in_line (codes "Site") t.site refl (printable_in_line t.site h.site.printable),
+    (
+      tag_in_line (codes "Date") t.date refl (printable_in_line t.date h.date.printable),
+      (
+        tag_in_line (codes "Round") t.round refl (printable_in_line t.round h.round.printable),
+        (
+          tag_in_line (codes "White") t.white refl (printable_in_line t.white h.white.printable),
+          (
+            tag_in_line (codes "Black") t.black refl (printable_in_line t.black h.black.printable),
+            (
+              tag_in_line (codes "Result") (outcome_text (outcome_now s)) refl (outcome_in_line (outcome_now s)),
+              start_then (is_fischerandom s.start.variant || not (is_initial s.start)),
+            ),
+          ),
+        ),
+      ),
+    ),
+  ),
+)
   where
     how : Termination
     how = termination_of t.ended (outcome_now s)
@@ -265,10 +277,16 @@ tags_in_line t s h sound =
         → AreLines (list_if b (tag_line (codes "FEN") (fen s.start) ∷ tag_line (codes "SetUp") (codes "1") ∷ [])
         ++ tag_line (codes "Termination") (termination_text how)
         ∷ list_if (is_fischerandom s.start.variant) (tag_line (codes "Variant") (codes "fischerandom") ∷ []))
-    start_then true =
-        (tag_in_line (codes "FEN") (fen s.start) refl (plain_in_line (fen s.start) (fen_plain s.start sound)),
-        (refl, (tag_in_line (codes "Termination") (termination_text how) refl (termination_in_line how),
-        last (is_fischerandom s.start.variant))))
+    start_then true = (
+      tag_in_line (codes "FEN") (fen s.start) refl (plain_in_line (fen s.start) (fen_plain s.start sound)),
+      (
+        refl,
+        (
+          tag_in_line (codes "Termination") (termination_text how) refl (termination_in_line how),
+          last (is_fischerandom s.start.variant),
+        ),
+      ),
+    )
     start_then false = (
       tag_in_line (codes "Termination") (termination_text how) refl (termination_in_line how),
       last (is_fischerandom s.start.variant),

@@ -1,7 +1,7 @@
 -- The score is the sum of the lines `[Result ..]` above it.
-use Rattle.std.proofs.Common.{◌≡◌, ◌∙◌, ℕ, ◌+◌, ◌%◌, Bool, true, false, List, [], ◌∷◌, ◌++◌, length, map, cond, Some, None, refl, sym, ap, subst, append_assoc, append-nil, arith}
+use Rattle.std.proofs.Common.{◌≡◌, ◌∙◌, ℕ, ◌+◌, ◌%◌, Bool, List, [], ◌∷◌, ◌++◌, length, map, cond, refl, sym, ap, subst, arith}
 use Rattle.std.specs.Prelude.{codes, decimal, flat_map, ◌==◌}
-use Rattle.std.specs.List.{AllByRecursion, count_by, enumerate_from}
+use Rattle.std.specs.List.{count_by, enumerate_from}
 use Rattle.std.specs.Str.{bytes_eq}
 use Rattle.std.proofs.lemmas.List.{length-map}
 use Rattle.std.proofs.lemmas.List.Sums.{sum_by-cons}
@@ -9,18 +9,16 @@ use Rattle.byte_devices.specs.Transfers.{OutputTook, all_of}
 use Rattle.chess_base.specs.Letters.{new_line}
 use Rattle.chess_base.specs.Men.{other}
 use Rattle.chess_base.specs.Sound.{IsSound}
-use Rattle.chess_base.specs.declared.man.Colour.{Colour}
 use Rattle.chess_base.specs.declared.man.Colour.TheVariants.{White, Black}
-use Rattle.chess_game.specs.Game.{outcome_now}
 use Rattle.chess_game.specs.Results.{same_outcome}
 use Rattle.chess_game.specs.declared.results.Outcome.{Outcome}
 use Rattle.chess_game.specs.declared.results.Outcome.TheVariants.{WhiteWins, BlackWins, Draw, Unfinished}
 use Rattle.chess_match.specs.Reasons.{win_of}
 use Rattle.chess_match_laws.specs.OfActs.{GamesAreLines, OutcomesAreOfTheGame}
-use Rattle.match_runner.specs.Games.{GameRecord, IsOfPlan, count_of, first_side, game_text, game_texts, score_line, tags_of}
+use Rattle.match_runner.specs.Games.{GameRecord, first_side, game_text, game_texts, score_line, tags_of}
 use Rattle.match_runner.specs.declared.plan.GamesPlan.{GamesPlan}
 use Rattle.match_pgn_laws.specs.Scores.{ScoresAreSums, games_with, result_lines, sum_of}
-use Rattle.match_pgn_laws.proofs.Games.{is_game, is_line, is_sound, tag_texts, wrote}
+use Rattle.match_pgn_laws.proofs.Games.{AreOfPlan, is_game, is_line, is_sound, tag_texts, wrote}
 use Rattle.match_pgn_laws.proofs.ResultLines.{game_found, result_tag}
 
 -- ---- the lines `[Result ..]` of all games
@@ -30,14 +28,14 @@ abbrev pub tag_of : GameRecord → List ℕ
 tag_of played = result_tag played.end.outcome
 
 pub tags_found : OutcomesAreOfTheGame → GamesAreLines → (plan : GamesPlan) (n : ℕ) (games : List GameRecord)
-    → IsSound plan.start → AllByRecursion (IsOfPlan plan) games
+    → IsSound plan.start → AreOfPlan plan n games
     → result_lines (flat_map (λ g. game_text plan g.0 g.1) (enumerate_from n games)) ≡ map tag_of games
 tags_found outcomes lines plan n [] sound h = refl
 tags_found outcomes lines plan n (g ∷ games) sound h =
-    let is = is_game outcomes plan g h.0 in
+    let is = is_game outcomes plan n g h.0 in
     game_found (tags_of plan n g.end) g.after.game.state
     (flat_map (λ g. game_text plan g.0 g.1) (enumerate_from (n + 1) games)) (tag_texts plan n g.end)
-    (is_sound plan g is sound) (is_line lines plan g is)
+    (is_sound plan n g is sound) (is_line lines plan n g is)
     ∙ ap (λ o. result_tag o ∷ result_lines (flat_map (λ g. game_text plan g.0 g.1) (enumerate_from (n + 1) games)))
     (sym is.outcome)
     ∙ ap (λ ls. tag_of g ∷ ls) (tags_found outcomes lines plan (n + 1) games sound h.1)

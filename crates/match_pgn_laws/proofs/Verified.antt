@@ -1,39 +1,39 @@
 -- The games that a match writes are verified without a fault.
-use Rattle.std.proofs.Common.{◌≡◌, ◌∙◌, ℕ, ◌+◌, ◌≤◌, ◌<◌, Bool, true, false, List, [], ◌∷◌, ◌++◌, length, map, take, None, refl, sym, ap, subst, append_assoc, append-nil, arith}
+use Rattle.std.proofs.Common.{◌≡◌, ◌∙◌, ℕ, ◌+◌, ◌≤◌, ◌<◌, Bool, List, [], ◌∷◌, ◌++◌, length, map, take, None, refl, sym, ap, subst}
 use Rattle.std.specs.Prelude.{codes, flat_map}
-use Rattle.std.specs.List.{AllByRecursion, enumerate_from}
+use Rattle.std.specs.List.{enumerate_from}
 use Rattle.byte_devices.specs.Transfers.{OutputTook, all_of}
 use Rattle.chess_base.specs.Sound.{IsSound}
 use Rattle.chess_base.specs.declared.man.Move.{Move}
 use Rattle.chess_base.specs.declared.setup.Setup.{Setup}
 use Rattle.chess_game.specs.Ends.{verdict}
-use Rattle.chess_game.specs.Game.{IsPlayable, State, outcome_now}
+use Rattle.chess_game.specs.Game.{IsPlayable, outcome_now}
 use Rattle.chess_game.specs.Results.{outcome_text}
 use Rattle.chess_game.specs.declared.game.TheConstants.{MOST_MOVES}
 use Rattle.chess_game.specs.declared.results.Outcome.{Outcome}
 use Rattle.chess_game.specs.declared.results.Outcome.TheVariants.{WhiteWins, BlackWins, Draw, Unfinished}
 use Rattle.chess_match_laws.specs.OfActs.{EndsAtVerdicts, GamesAreLines, InEachMatch, OutcomesAreOfTheGame}
-use Rattle.match_runner.specs.Games.{GameRecord, IsOfPlan, game_text, game_texts, tags_of}
+use Rattle.match_runner.specs.Games.{GameRecord, game_text, game_texts, tags_of}
 use Rattle.match_runner.specs.declared.plan.GamesPlan.{GamesPlan}
-use Rattle.pgn_verifier.specs.Reports.{AreReports, Report}
-use Rattle.pgn_verifier.specs.laws.Reported.{reports_on}
+use Rattle.pgn_verifier.specs.Reports.{AreReports, Report, without_spans}
+use Rattle.pgn_verifier.specs.laws.Reported.{placed_on, reports_on}
 use Rattle.pgn_verifier_laws.specs.WrittenGames.{AreWritable, TaggedGame, WrittenTextsHaveNoFault, report_of, written_text}
 use Rattle.match_pgn_laws.specs.Scores.{result_lines, sum_of}
 use Rattle.match_pgn_laws.specs.Verified.{MatchesPassVerify, result_reported}
-use Rattle.match_pgn_laws.proofs.Games.{IsGame, is_game, is_line, is_sound, tag_texts, wrote}
+use Rattle.match_pgn_laws.proofs.Games.{AreOfPlan, IsGame, is_game, is_line, is_sound, tag_texts, wrote}
 use Rattle.match_pgn_laws.proofs.ResultLines.{result_tag}
 use Rattle.match_pgn_laws.proofs.Summed.{score_is, tag_of, tags_found}
 
 -- ---- a game
 
 -- the game of a match is one that can be played
-playable : GamesAreLines → InEachMatch EndsAtVerdicts → (plan : GamesPlan) (played : GameRecord)
-    → IsGame plan played → IsSound plan.start
+playable : GamesAreLines → InEachMatch EndsAtVerdicts → (plan : GamesPlan) (number : ℕ)
+    (played : GameRecord) → IsGame plan number played → IsSound plan.start
     → IsPlayable (record { limit = MOST_MOVES; state = played.after.game.state })
-playable lines ends plan played g sound =
+playable lines ends plan number played g sound =
     let end = ends _ g.acts g.final g.is_match in record {
-      start = is_sound plan played g sound;
-      line = is_line lines plan played g;
+      start = is_sound plan number played g sound;
+      line = is_line lines plan number played g;
       limit = subst (λ (ms : List Move). length ms ≤ MOST_MOVES) (sym g.moves) end.0;
       unended = subst (λ (p : Setup). (k : ℕ) → k < length played.after.game.state.moves
           → verdict p (take k played.after.game.state.moves) ≡ None) (sym g.start)
@@ -50,12 +50,12 @@ tagged plan n games =
     (enumerate_from n games)
 
 writable : GamesAreLines → InEachMatch EndsAtVerdicts → OutcomesAreOfTheGame → (plan : GamesPlan) (n : ℕ)
-    (games : List GameRecord) → IsSound plan.start → AllByRecursion (IsOfPlan plan) games
+    (games : List GameRecord) → IsSound plan.start → AreOfPlan plan n games
     → AreWritable (tagged plan n games)
 writable lines ends outcomes plan n [] sound h = tt
 writable lines ends outcomes plan n (g ∷ games) sound h = (
   tag_texts plan n g.end,
-  playable lines ends plan g (is_game outcomes plan g h.0) sound,
+  playable lines ends plan n g (is_game outcomes plan n g h.0) sound,
   writable lines ends outcomes plan (n + 1) games sound h.1,
 )
 
@@ -72,12 +72,12 @@ tag_is Draw = refl
 tag_is Unfinished = refl
 
 same_results : OutcomesAreOfTheGame → (plan : GamesPlan) (n : ℕ) (games : List GameRecord)
-    → AllByRecursion (IsOfPlan plan) games
+    → AreOfPlan plan n games
     → map result_reported (map report_of (tagged plan n games)) ≡ map tag_of games
 same_results outcomes plan n [] h = refl
 same_results outcomes plan n (g ∷ games) h =
     ap (λ l. l ∷ map result_reported (map report_of (tagged plan (n + 1) games)))
-    (tag_is (outcome_now g.after.game.state) ∙ ap result_tag (sym (is_game outcomes plan g h.0).outcome))
+    (tag_is (outcome_now g.after.game.state) ∙ ap result_tag (sym (is_game outcomes plan n g h.0).outcome))
     ∙ ap (λ ls. tag_of g ∷ ls) (same_results outcomes plan (n + 1) games h.1)
 
 -- ---- the law
@@ -85,24 +85,30 @@ same_results outcomes plan n (g ∷ games) h =
 -- the reports on a text are those that are made one after another
 abbrev pub ReportsAreMade : Type 0
 ReportsAreMade = (strict : Bool) (start : ℕ) (text : List ℕ)
-    → AreReports strict start text 0 (reports_on strict start text)
+    → AreReports strict start text 0 (placed_on strict start text)
+
+-- and so they are without their spans
+abbrev pub PlainReportsAreMade : Type 0
+PlainReportsAreMade = (strict : Bool) (start : ℕ) (text : List ℕ)
+    → without_spans (placed_on strict start text) ≡ reports_on strict start text
 
 pub matches_pass_verify : GamesAreLines → InEachMatch EndsAtVerdicts → OutcomesAreOfTheGame → ReportsAreMade
-    → WrittenTextsHaveNoFault → MatchesPassVerify
-matches_pass_verify lines ends outcomes made faultless strict plan result steps d d' sound scored played =
+    → PlainReportsAreMade → WrittenTextsHaveNoFault → MatchesPassVerify
+matches_pass_verify lines ends outcomes made plain faultless strict plan result steps d d' sound scored played =
     let w = wrote plan result steps d d' scored played in
     let text : List ℕ = game_texts plan w.games in
     let found : result_lines text ≡ map tag_of w.games = tags_found outcomes lines plan 1 w.games sound w.of_plan in
     let reports : List Report = map report_of (tagged plan 1 w.games) in
-    let are : reports_on strict 0 text ≡ reports =
-    ap (reports_on strict 0) (sym (same_text plan 1 w.games))
+    let are : without_spans (placed_on strict 0 text) ≡ reports =
+    plain strict 0 text ∙ ap (reports_on strict 0) (sym (same_text plan 1 w.games))
     ∙ faultless strict 0 (tagged plan 1 w.games) (writable lines ends outcomes plan 1 w.games sound w.of_plan) in (
       text,
       subst (λ score. OutputTook d.output d'.output (all_of (text ++ score)))
           (score_is w.games ∙ ap sum_of (sym found)) w.written,
       record {
-        reports = reports;
-        are = subst (AreReports strict 0 text 0) are (made strict 0 text);
-        results = same_results outcomes plan 1 w.games w.of_plan ∙ sym found;
+        reports = placed_on strict 0 text;
+        are = made strict 0 text;
+        results = ap (λ (all : List Report). map result_reported all) are
+            ∙ same_results outcomes plan 1 w.games w.of_plan ∙ sym found;
       },
     )

@@ -6,7 +6,7 @@ use Rattle.chess_game.specs.Results.{outcome_text}
 use Rattle.match_runner.specs.GamesTable.{HostStep, Outputs, PlaysGamesWith}
 use Rattle.match_runner.specs.declared.fault.GamesFault.{GamesFault}
 use Rattle.match_runner.specs.declared.plan.GamesPlan.{GamesPlan}
-use Rattle.pgn_verifier.specs.Reports.{AreReports, Report, Game}
+use Rattle.pgn_verifier.specs.Reports.{AreReports, Placed, Report, Game, without_spans}
 use Rattle.match_pgn_laws.specs.Scores.{HasScore, result_lines, sum_of}
 
 -- the line `[Result ..]` with the outcome that this report is of; empty for a fault
@@ -17,9 +17,9 @@ result_reported _ = []
 -- the reports on this text, with `--strict` or without, are on games without a fault: one for each of its lines
 -- `[Result ..]`, in order, with the outcome that the line names
 pub record IsVerified (strict : Bool) (text : List ℕ) : Type 0 where
-  pub reports : List Report
+  pub reports : List Placed
   pub are : AreReports strict 0 text 0 reports
-  pub results : map result_reported reports ≡ result_lines text
+  pub results : map result_reported (without_spans reports) ≡ result_lines text
 
 -- in every match by a plan that starts from a sound position, whose score was written: the games' text above the score
 -- is verified

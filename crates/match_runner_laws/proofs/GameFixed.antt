@@ -1,27 +1,24 @@
 -- A game is fixed by what its engines say and its clock shows, if nothing fails at its engines' pipes.
-use Rattle.std.proofs.Common.{◌≡◌, ◌≢◌, ◌∙◌, ◌+◌, ◌<◌, ◌^◌, ◌-◌, ℕ, Bool, true, false, List, [], ◌∷◌, ◌++◌, length, Option, None, Some, refl, sym, ap, subst, append_assoc, append-nil, arith}
+use Rattle.std.proofs.Common.{◌≡◌, ◌≢◌, ◌∙◌, ◌+◌, ℕ, Bool, true, false, List, [], ◌∷◌, ◌++◌, length, Option, None, Some, refl, sym, ap, subst, append_assoc, append-nil, arith}
 use Rattle.std.specs.Prelude.{if◌then◌else◌, is_some, map, nat_eq, nat_lt, slice_get}
-use Rattle.std.specs.List.{flat_map}
 use Rattle.std.specs.Option.{IfSome}
 use Rattle.std.specs.Io.KnownBytes.{Appends, Consumes, IsAtEnd}
 use Rattle.std.proofs.lemmas.List.{map-append}
 use Rattle.chess_base.specs.declared.man.Colour.{Colour}
-use Rattle.chess_base.specs.declared.man.Colour.TheVariants.{White, Black}
-use Rattle.byte_devices.specs.Devices.{InputState, OutputState, saturating_increment}
-use Rattle.byte_devices.specs.Transfers.{Devices, FromInput, ToOutput, InputGave, OutputTook, all_for}
-use Rattle.text_lines.specs.Lines.{LineSeen, line_of, lines_from, stream_lines}
+use Rattle.byte_devices.specs.Devices.{saturating_increment}
+use Rattle.byte_devices.specs.Transfers.{FromInput, ToOutput, all_for}
+use Rattle.text_lines.specs.Lines.{LineSeen, line_of, lines_from}
 use Rattle.text_lines.proofs.shared.LineSteps.{byte_step, none_from, ten_step}
-use Rattle.chess_match.specs.Acts.{Act, IsMatch}
-use Rattle.chess_match.specs.ByDevice.{broken_block, lines_to, moment_shown}
+use Rattle.chess_match.specs.Acts.{Act}
 use Rattle.chess_match.specs.Effects.{Match}
 use Rattle.chess_match.specs.Lines.{SentLine, bytes_of}
-use Rattle.chess_match.specs.Played.{Passed, SaidBy, WasSent, World}
+use Rattle.chess_match.specs.Played.{Passed, WasSent, World}
 use Rattle.chess_match.specs.Rules.{Rules}
-use Rattle.chess_match.specs.Run.{ClockReadings, engine_lines, text_read}
+use Rattle.chess_match.specs.Run.{engine_lines, text_read}
 use Rattle.chess_match.specs.declared.run.TheConstants.{ENGINE_LINE_LEN}
 use Rattle.chess_match_laws.specs.Streams.{Streams}
-use Rattle.chess_match.specs.laws.Laws.{has_ended, has_failed_read, is_broken, lines_read, moments_shown, broken_blocks, lines_sent}
-use Rattle.chess_match_laws.specs.OfActs.{AreOf, AreSilent, ReadFrom}
+use Rattle.chess_match.specs.laws.Laws.{has_ended, is_broken, lines_read, moments_shown, broken_blocks, lines_sent}
+use Rattle.chess_match_laws.specs.OfActs.{AreOf, AreSilent}
 
 -- ---- lines of the beginning of a text
 

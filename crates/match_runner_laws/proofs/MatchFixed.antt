@@ -1,15 +1,13 @@
 -- A match at a host over memory is fixed by the host and the plan.
-use Rattle.std.proofs.Common.{◌≡◌, ◌∙◌, ◌+◌, ◌<◌, ◌≤◌, ◌-◌, ◌⊎◌, ℕ, true, List, [], ◌∷◌, ◌++◌, length, Option, None, Some, Result, Ok, Err, refl, sym, ap, subst, append_assoc, append-nil, length-append, arith, inl, inr}
+use Rattle.std.proofs.Common.{◌≡◌, ◌∙◌, ◌+◌, ◌<◌, ◌-◌, ◌⊎◌, ℕ, suc, true, List, [], ◌∷◌, ◌++◌, length, Option, None, Some, Result, Ok, Err, refl, sym, ap, subst, append_assoc, append-nil, length-append, arith, inl, inr}
 use Rattle.std.specs.Prelude.{⊤, codes, decimal, is_some}
 use Rattle.std.specs.List.{AllByRecursion, enumerate_from, flat_map, last_or, slice_get}
 use Rattle.std.specs.Option.{option_map, option_or, option_to_list}
 use Rattle.byte_devices.specs.Transfers.{Devices, ToOutput, OutputTook, all_of}
 use Rattle.chess_base.specs.ByColour.{by_colour}
 use Rattle.chess_base.specs.Letters.{new_line}
-use Rattle.chess_base.specs.declared.by_colour.ByColour.{ByColour}
 use Rattle.chess_base.specs.declared.man.Colour.{Colour}
 use Rattle.chess_base.specs.declared.man.Colour.TheVariants.{White, Black}
-use Rattle.chess_game.specs.declared.results.Outcome.{Outcome}
 use Rattle.chess_match.specs.Acts.{Act}
 use Rattle.chess_match.specs.Effects.{Match, Over}
 use Rattle.chess_match.specs.Lines.{bytes_of}
@@ -22,13 +20,12 @@ use Rattle.chess_match_laws.specs.OfActs.{OnlyOneMatch, SilencesAreAskedFor, end
 use Rattle.match_runner.specs.declared.fault.GamesFault.{GamesFault}
 use Rattle.match_runner.specs.declared.fault.GamesFault.TheVariants.{CanNotStart, Game, NoMemory, WriteFailed}
 use Rattle.match_runner.specs.declared.memory_host.MemoryEngine.{MemoryEngine}
-use Rattle.match_runner.specs.declared.memory_host.MemoryHost.{MemoryHost}
 use Rattle.match_runner.specs.declared.plan.GamesPlan.{GamesPlan}
-use Rattle.match_runner.specs.Games.{AreAllGames, GameRecord, IsOfPlan, LogsGames, WritesGames, game_log, game_text, game_texts, none_killed, report_of, score_line}
-use Rattle.match_runner.specs.GamesTable.{BeginsAt, ComeInTurn, Finishes, GamesStep, HostStep, OpensClock, Outputs, PlaysGamesWith, Starts, Writes, at_host, games_steps, last_steps, steps_by}
-use Rattle.match_runner.specs.Log.{LogSeen, Logged}
-use Rattle.match_runner.specs.MemoryHost.{IsNext, MayCome, fresh_pipes, moment_at, next_text, started_by, started_for, started_in}
-use Rattle.match_runner_laws.specs.OneMatch.{FinishesWell, HasScore, OneMatchOfAHost, WentWell, sent_by_then, sent_in}
+use Rattle.match_runner.specs.Games.{AreAllGames, GameRecord, IsOfPlan, LogsGames, WritesGames, game_log, game_text, game_texts, report_of, score_line}
+use Rattle.match_runner.specs.GamesTable.{ComeInTurn, GamesStep, HostStep, OpensClock, Outputs, PlaysGamesWith, Writes, at_host, games_steps, last_steps, steps_by}
+use Rattle.match_runner.specs.Log.{Logged}
+use Rattle.match_runner.specs.MemoryHost.{IsNext, fresh_pipes, started_by, started_for, started_in}
+use Rattle.match_runner_laws.specs.OneMatch.{FinishesWell, HasScore, OneMatchOfAHost, sent_in}
 use Rattle.match_runner_laws.proofs.GameFixed.{Fresh, Whole, are_of, clock_left, sent_all, streams}
 use Rattle.match_runner_laws.proofs.PgnOfLogs.{Alike, is_played, left, named, reason_shown, rules, text_is, written_alike}
 
@@ -284,7 +281,7 @@ sent_alike plan number gs ks h = absurd h
 -- ---- the fault that is reported
 
 -- the fault in the last of these games, if there is one
-last_fault : List GameRecord → Option (Colour × MatchFault)
+abbrev last_fault : List GameRecord → Option (Colour × MatchFault)
 last_fault [] = None
 last_fault (g ∷ []) = g.end.fault
 last_fault (g ∷ h ∷ gs) = last_fault (h ∷ gs)
@@ -319,7 +316,7 @@ as_many plan [] (k ∷ ks) h = absurd h
 as_many plan (g ∷ gs) [] h = absurd h
 
 -- a fault in the game of this number
-in_game : ℕ → Option (Colour × MatchFault) → Option (ℕ × Colour × MatchFault)
+abbrev in_game : ℕ → Option (Colour × MatchFault) → Option (ℕ × Colour × MatchFault)
 in_game number None = None
 in_game number (Some (side, fault)) = Some (number, side, fault)
 
@@ -333,7 +330,7 @@ fault_of_last plan games (Some (number, side, fault)) (before, last, is, h, of, 
     (ap last_fault is ∙ fault_at_end before last ∙ found))
 
 -- what is reported if this is the fault, or none is
-reported : Option (ℕ × Colour × MatchFault) → List ℕ
+abbrev reported : Option (ℕ × Colour × MatchFault) → List ℕ
 reported None = []
 reported (Some (number, side, fault)) =
     codes "arbiter: " ++ (codes "game " ++ decimal number ++ codes ": " ++ comment_of (Faulted side fault))
@@ -413,7 +410,7 @@ scored plan steps d d' (Err (Game number text)) (inl (c, (games, unwritten, (o, 
         told : text.now ≡ comment_of (Faulted side fault)
             → report_of (Err (Game number text)) ≡ reported (Some (number, side, fault))
         told words = ap (λ (t : List ℕ). codes "arbiter: " ++ (codes "game " ++ decimal number ++ codes ": " ++ t)
-        ++ new_line ∷ []) words
+            ++ new_line ∷ []) words
     at (Some u) w l t e = absurd w
 scored plan steps d d' (Err WriteFailed) played s = absurd s
 scored plan steps d d' (Err NoMemory) played s = absurd s

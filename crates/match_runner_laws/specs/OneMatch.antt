@@ -2,7 +2,7 @@
 -- long.
 use Rattle.std.specs.Prelude.{◌≡◌, ⊤, ℕ, List, [], ◌∷◌, Option, Result, Ok, Err}
 use Rattle.std.specs.List.{AllByRecursion, flat_map}
-use Rattle.byte_devices.specs.Transfers.{Devices, OutputTook, all_of}
+use Rattle.byte_devices.specs.Transfers.{OutputTook, all_of}
 use Rattle.chess_base.specs.declared.man.Colour.{Colour}
 use Rattle.chess_base.specs.declared.man.Colour.TheVariants.{White, Black}
 use Rattle.chess_match_laws.specs.OfActs.{endless}
