@@ -401,7 +401,7 @@ const AUTOMATIC_DRAW: MatchRun = MatchRun {
     b_falls_silent: false,
     moments: &[],
     others: &["--level", "0 0:10 0", "--draws", "automatic"],
-    output: "[Event \"CECP match\"]\n[Site \"?\"]\n[Date \"????.??.??\"]\n[Round \"1\"]\n[White \"A\"]\n[Black \"B\"]\n[Result \"1/2-1/2\"]\n[Termination \"normal\"]\n\n1. Nf3 Nf6 2. Ng1 Ng8 3. Nf3 Nf6 4. Ng1 Ng8 {Threefold repetition} 1/2-1/2\n\nscore first 0 second 0 drawn 1 unfinished 0\n",
+    output: "[Event \"CECP match\"]\n[Site \"?\"]\n[Date \"????.??.??\"]\n[Round \"1\"]\n[White \"A\"]\n[Black \"B\"]\n[Result \"1/2-1/2\"]\n[Termination \"normal\"]\n\n1. Nf3 Nf6 2. Ng1 Ng8 3. Nf3 Nf6 4. Ng1 Ng8 1/2-1/2\n\nscore first 0 second 0 drawn 1 unfinished 0\n",
     log: &[
         SETUP_LOG,
         KNIGHTS_LOG,
