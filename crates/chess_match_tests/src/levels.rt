@@ -1,7 +1,6 @@
 //! Sides with different levels of time.
 
 use crate::plays::{BOARDS, Listed, On, check_end, ends, is_text, play_over, setup_of};
-use cecp_engine::Level;
 use chess_base::{ByColour, Position};
 use chess_game::{HowEnded, Outcome};
 use chess_match::Setup;
@@ -11,12 +10,16 @@ use std::test::Fail;
 
 // White has five minutes for 40 moves; Black has half a minute, and half a second more after each move.
 fn setup(rt: &impl Abort) -> Setup {
-    let mut setup = setup_of(rt, b"40 5 0", Position::initial());
-    setup.levels = ByColour {
-        white: setup.levels.white,
-        black: Level::read(b"0 0:30 0.5").unwrap_or(setup.levels.black),
-    };
-    setup
+    let setup = setup_of(rt, b"40 5 0", Position::initial());
+    let other = setup_of(rt, b"0 0:30 0.5", Position::initial());
+    let ByColour { white, black: _ } = setup.levels;
+    let ByColour { white: _, black } = other.levels;
+    Setup {
+        start: setup.start,
+        levels: ByColour { white, black },
+        patience: setup.patience,
+        draws: setup.draws,
+    }
 }
 
 const WHITE: &[u8] =
