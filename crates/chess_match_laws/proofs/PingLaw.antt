@@ -32,7 +32,7 @@ pings-snoc n (suc k) =
     ap (λ ls. (codes "ping " ++ decimal n) ∷ ls) (pings-snoc (n + 1) k
     ∙ ap (λ j. pings (n + 1) k ++ (codes "ping " ++ decimal j) ∷ []) same)
 
-long : (n k : ℕ) → length (pings n k) ≡ k
+pub long : (n k : ℕ) → length (pings n k) ≡ k
 long n zero = refl
 long n (suc k) = ap suc (long (n + 1) k)
 
@@ -78,19 +78,19 @@ answered b items ls = flat_map-append ping_text (list_if b (answers_to items)) l
 -- ---- how many
 
 -- how many pings S was sent in this phase
-abbrev Counts : Colour → Phase → ℕ → ℕ → Type 0
+abbrev pub Counts : Colour → Phase → ℕ → ℕ → Type 0
 Counts S (Handshake c) used k = k ≡ 0
 Counts S (Setup c) used k = k ≡ (if same_colour S White then 1 else if same_colour c Black then 1 else 0)
 Counts S (Over reason) used k = Unit {0}
 Counts S p used k = k ≡ used + 1
 
 -- that many were sent to S, numbered from 1
-record ToldIn (S : Colour) (p : Phase) (used : ℕ) (X : List (List ℕ)) : Type 0 where
-  many : ℕ
-  are : X ≡ pings 1 many
-  count : Counts S p used many
+pub record ToldIn (S : Colour) (p : Phase) (used : ℕ) (X : List (List ℕ)) : Type 0 where
+  pub many : ℕ
+  pub are : X ≡ pings 1 many
+  pub count : Counts S p used many
 
-abbrev Told : Colour → Match → List (List ℕ) → Type 0
+abbrev pub Told : Colour → Match → List (List ℕ) → Type 0
 Told S m X = ToldIn S m.phase (length (m.seat S).used) X
 
 -- no more were sent
@@ -218,7 +218,7 @@ module _ (r : Rules) (S : Colour) where
       unused : m.phase ≡ Setup C → length (m.seat S).used ≡ 0
       unused p = kept.1 S ∙ ap (λ (ms : List Move). turns_of S r.start.side ms) (turn_in r m (Setup C) p kept)
 
-  tells : Tells ping_text r S (Told S)
+  pub tells : Tells ping_text r S (Told S)
   tells = record {
     line = line;
     stops = λ m reason X Y on told. over_told S m.phase _ _ reason X Y _ (end_pings r m reason S) told;
@@ -230,7 +230,7 @@ module _ (r : Rules) (S : Colour) where
     };
   }
 
-begun : (S : Colour) → Told S beginning.after (flat_map ping_text (beginning.to S))
+pub begun : (S : Colour) → Told S beginning.after (flat_map ping_text (beginning.to S))
 begun White = record { many = 0; are = refl; count = refl }
 begun Black = record { many = 0; are = refl; count = refl }
 

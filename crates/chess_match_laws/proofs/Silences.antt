@@ -89,7 +89,7 @@ over_by : (b : Bool) (x y : Effect) → is_over x.after.phase ≡ true → is_ov
 over_by true x y over on = over
 over_by false x y over on = on
 
-beyond : (r : Rules) (m : Match) (S : Colour) (moment : ℕ) (p : Phase) → m.phase ≡ p → awaits_line p S ≡ true
+pub beyond : (r : Rules) (m : Match) (S : Colour) (moment : ℕ) (p : Phase) → m.phase ≡ p → awaits_line p S ≡ true
     → is_over (silence_row r p S moment m).after.phase ≡ is_beyond r m p S moment
 beyond r m S moment p e aw = at p aw (ap is_over e ∙ on_when_read p S aw)
   where

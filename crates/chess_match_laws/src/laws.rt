@@ -1,6 +1,7 @@
 //! Laws of matches.
 
 ghost use Rattle.std.specs.Prelude.{true, false};
+ghost use Rattle.chess_match_laws.specs.Answering.{AnsweringEnginesAreBlameless};
 ghost use Rattle.chess_match_laws.specs.OfActs.{AtEachLine, AtEachMoment, AtEachOpening, InEachMatch, EndsAfterItsActs, AutomaticDrawsEndMatches, LinesAreReadInOrder, SilencesAreReadInOrder, NothingIsDueAtEvents, FailedBlocksAreLast, OneBlockFails, WriteFaultsAreOfBlocks, OnlyOneMatch, OneMatchButForEndLines, OnlyOneMatchOfARun, DecidedByTheBoard, OutcomesAreOfTheGame, LastLineIsTheirs, MovesAreRead, ItemsAreSaid, MovesAreSent, EachIsSentOthersMoves, AllMovesAreGiven, AllMovesAreSent, IsSentAllMoves, MovesSentAreKnown, GamesAreLines, TimesAreClocks, OtherTimesAreClocks, UsedTimesAreDifferences, ClocksDoNotUnderflow, LinesAreFew, SilencesAreAskedFor, SilencesChangeNothing, SilencesEndMatches, TimeForfeitsAreShown, NotesAreInOrder, NotesHaveTheEvents, NotesHaveAllLines, NotesHaveLinesRead, NotesHaveMoments, EndsAtVerdicts};
 ghost use Rattle.chess_match_laws.specs.Rows.{AgreedDrawsAreOffered, GoIsSentOnce, IsSetUp, PingsAreNumbered, WasSentGo};
 ghost use Rattle.chess_match.specs.laws.Laws.{VerdictsEndMatches};
@@ -194,4 +195,15 @@ pub fn go_is_sent_once()
 /// last line that was read; and in between the latter made no move, since by its move the offer would have lapsed.
 pub fn agreed_draws_are_offered()
     ensures { InEachMatch AgreedDrawsAreOffered }
+{}
+
+/// States a law: an engine that answers its handshake and each `ping`, makes one legal move in each of its turns, within
+/// its time, and says nothing else that counts, is never reported with a fault, and loses only by mate.
+///
+/// This holds whatever the other engine does. The engine may also send lines that mean nothing, such as its thinking,
+/// but fewer than 1,000 in its handshake (with all others), its setup or a turn. Its `feature` lines say `done=1`, and
+/// that it lacks nothing which the match needs: `ping=1`, `setboard=1` if a FEN is sent, and for Chess960 the variant,
+/// if they name any. Its output doesn't end, and no read from it and no write to it fails.
+pub fn answering_engines_lose_only_by_mate()
+    ensures { AnsweringEnginesAreBlameless }
 {}

@@ -20,7 +20,7 @@ use Rattle.pgn_verifier_laws.specs.NoFaults.{begins_with_mark, FaultlessTextsAre
 use Rattle.pgn_verifier_laws.specs.Parts.{BeginsAlike, HoldsWhole, no_more, game, AllHoldWhole, no_parts, next_part}
 use Rattle.pgn_verifier_laws.proofs.Parts.{next_begins, reported_alike, reported_alone, all_reported_alike}
 use Rattle.pgn_verifier_laws.proofs.PartsAlike.{TokenByToken, no_mark}
-use Rattle.pgn_verifier_laws.proofs.PartsRead.{IsClosed, in_text, skips_to_end}
+use Rattle.pgn_verifier_laws.proofs.PartsRead.{IsClosed, in_text}
 use Rattle.pgn_verifier.specs.laws.Reported.{collection_reports, judged_at, read_at, report_then, reports_from, reports_in, reports_on, too_long_report}
 
 -- ---- reports without a fault
@@ -64,8 +64,7 @@ module _ (law : TokenByToken) (strict : Bool) (start : ℕ) (before part after :
             → Holds strict before part after at
         by_judged (Ok None) e again all = record {
           games = [];
-          holds = no_more e
-              (λ from most. skips_to_end law strict before part after at begins closed within e from most);
+          holds = no_more e closed;
         }
         by_judged (Ok (Some end)) e again all =
             let found = in_text law strict before part after at end begins closed e in

@@ -11,3 +11,4 @@ mod BlanksSkipped
 mod SpansFound
 mod SoundStarts
 mod CountedGames
+mod FilesAlike

@@ -134,7 +134,7 @@ only_reports_in strict piece reports h = by_test (nat_le (length piece.bytes) PI
     by_test true h = only_reports strict piece.offset piece.bytes reports h
     by_test false h = h
 
-only_all : {strict : Bool} {offset : ℕ} {all : List (List ℕ)} {reports : List Placed}
+pub only_all : {strict : Bool} {offset : ℕ} {all : List (List ℕ)} {reports : List Placed}
     → AreCollectionReports strict offset all reports
     → reports ≡ flat_map (placed_in strict) (with_offsets offset all)
 only_all {strict} no_piece = refl

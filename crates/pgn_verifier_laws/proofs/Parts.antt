@@ -25,6 +25,7 @@ use Rattle.pgn_pieces.proofs.shared.Cuts.{cut_is_all}
 use Rattle.pgn_verifier.specs.Reports.{Report, Game}
 use Rattle.pgn_verifier_laws.proofs.GamesAlike.{Fits, found}
 use Rattle.pgn_verifier_laws.proofs.PartsAlike.{TokenByToken, there, lines, over, same_variant, outcome_in, same_result, judged_so, agrees, not_before, no_mark}
+use Rattle.pgn_verifier_laws.proofs.PartsRead.{skips_to_end}
 use Rattle.pgn_verifier.specs.laws.Reported.{read_at, report_then, reports_from, reports_in, reports_on, too_long_report}
 
 -- ---- the part
@@ -117,7 +118,7 @@ module _ (law : TokenByToken)
       → reports_from strict start k part at ≡ games
   unfolding reports_from
   alone holds begins within zero many = absurd (omega (arith, within, many))
-  alone (no_more {at} none skipped) begins within (suc k) many =
+  alone (no_more {at} none closed) begins within (suc k) many =
       ap (λ j. report_then start part j (read_at part at).state (λ next. reports_from strict start k part next)) none
   alone (game {at} {games} end is inside more) begins within (suc k) many =
       let found = in_parts law strict before part after at end begins is inside in
@@ -132,15 +133,15 @@ module _ (law : TokenByToken)
       (omega (arith, inside)) k (omega (arith, found.some_bytes, many)))
 
   in_text : {at : ℕ} {games : List Report} → HoldsWhole strict before part after at games
-      → BeginsAlike before part after at → (most : ℕ)
+      → BeginsAlike before part after at → at ≤ length part → (most : ℕ)
       → reports_from strict start (length games + most) (before ++ (part ++ after)) (length before + at)
       ≡ games ++ reports_from strict start most (before ++ (part ++ after)) (length before + length part)
   unfolding reports_from
-  in_text (no_more {at} none skipped) begins most =
+  in_text (no_more {at} none closed) begins within most =
       let count : 0 + most ≡ most = omega arith in
       ap (λ k. reports_from strict start k (before ++ (part ++ after)) (length before + at)) count
-      ∙ skipped start most
-  in_text (game {at} {games} end is inside more) begins most =
+      ∙ skips_to_end law strict before part after at begins closed within none start most
+  in_text (game {at} {games} end is inside more) begins within most =
       let text : List ℕ = before ++ (part ++ after) in
       let found = in_parts law strict before part after at end begins is inside in
       let next : ℕ = end.offset - length before in
@@ -152,13 +153,14 @@ module _ (law : TokenByToken)
       (λ n. reports_from strict start (length games + most) text n)) is
       ∙ ap (λ n. report ∷ reports_from strict start (length games + most) text n) (sym here)
       ∙ ap (λ l. report ∷ l)
-      (in_text more (next_begins before part after at next begins (omega (arith, found.some_bytes))) most)
+      (in_text more (next_begins before part after at next begins (omega (arith, found.some_bytes)))
+      (omega (arith, inside)) most)
 
 pub reported_alike : TokenByToken
     → WholeGamesAreReportedAlike
 reported_alike law strict start before part after games begins holds = record {
   alone = alone law strict start before part after holds begins (omega arith) (length part + 1) (omega arith);
-  in_text = in_text law strict start before part after holds begins;
+  in_text = in_text law strict start before part after holds begins (omega arith);
 }
 
 -- ---- all parts
@@ -187,7 +189,7 @@ nothing_left strict start (suc k) text = by_first text (mark text)
 module _ (law : TokenByToken) (strict : Bool) where
   few : (before part after : List ℕ) {at : ℕ} {games : List Report} → HoldsWhole strict before part after at games
       → BeginsAlike before part after at → at ≤ length part → length games + at ≤ length part
-  few before part after (no_more none skipped) begins within = omega (arith, within)
+  few before part after (no_more none closed) begins within = omega (arith, within)
   few before part after (game {at} {games} end is inside more) begins within =
       let found = in_parts law strict before part after at end begins is inside in
       omega (

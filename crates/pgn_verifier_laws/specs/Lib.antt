@@ -3,3 +3,4 @@ pub mod Parts
 pub mod Spans
 pub mod WrittenGames
 pub mod Counted
+pub mod Files

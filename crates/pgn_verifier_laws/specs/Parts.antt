@@ -1,7 +1,8 @@
 -- The games of a text are also those of its parts that hold them whole, such as its pieces: `verify` and
 -- `verify_collection` report the same of them.
-use Rattle.std.specs.Prelude.{◌≡◌, ◌≤◌, ◌<◌, ℕ, ◌+◌, ◌-◌, Bool, true, List, [], ◌∷◌, ◌++◌, length, Some, None, Ok}
+use Rattle.std.specs.Prelude.{◌≡◌, ◌≤◌, ◌<◌, ◌⊎◌, ℕ, ◌+◌, ◌-◌, Bool, true, List, [], ◌∷◌, ◌++◌, length, Some, None, Ok}
 use Rattle.std.specs.List.{concat, flat_map}
+use Rattle.chess_base.specs.Letters.{new_line}
 use Rattle.chess_pgn.specs.Tokens.{after_byte_order_mark, begins_line}
 use Rattle.chess_pgn.specs.declared.read.PgnEnd.{PgnEnd}
 use Rattle.pgn_pieces.specs.Pieces.{cut}
@@ -36,13 +37,15 @@ GamesAreInParts = (strict : Bool) (before part after : List ℕ) (at : ℕ) (end
 
 -- ---- the games of a part
 
+-- a part ends where a line ends, or where the text ends; `after` is what comes after it
+abbrev pub EndsAlike : List ℕ → List ℕ → Type 0
+EndsAlike part after = ((front : List ℕ) × (part ≡ front ++ new_line ∷ [])) ⊎ (after ≡ [])
+
 -- from its offset `at` on, a part that stands in a text after `before` holds whole games, of which these are the
 -- reports: one after another is read in the text without a fault and ends in the part. After the last, the part alone
--- has no more games, and what is reported of the text is what is reported of it from the part's end on
+-- has no more games, and it ends where a line ends, or where the text ends
 pub data HoldsWhole (strict : Bool) (before part after : List ℕ) : ℕ → List Report → Type 0 where
-  no_more : {at : ℕ} → judged_at strict part at ≡ Ok None
-      → ((start most : ℕ) → reports_from strict start most (before ++ (part ++ after)) (length before + at)
-      ≡ reports_from strict start most (before ++ (part ++ after)) (length before + length part))
+  no_more : {at : ℕ} → judged_at strict part at ≡ Ok None → EndsAlike part after
       → HoldsWhole strict before part after at []
   game : {at : ℕ} {games : List Report} (end : PgnEnd)
       → judged_at strict (before ++ (part ++ after)) (length before + at) ≡ Ok (Some end)

@@ -10,6 +10,7 @@ ghost use Rattle.pgn_verifier.specs.GameFaults.{IsJudged};
 ghost use Rattle.pgn_verifier.specs.Reports.{AreReports, Placed, Report, without_spans};
 ghost use Rattle.pgn_verifier.specs.laws.Reported.{collection_placed, collection_reports, judged_at, placed_on, read_at, reports_on};
 ghost use Rattle.pgn_verifier_laws.specs.Counted.{CountedGamesAreGames, CountedGamesOfPiecesAreGames};
+ghost use Rattle.pgn_verifier_laws.specs.Files.{FilesAreVerifiedAlike};
 ghost use Rattle.pgn_verifier_laws.specs.NoFaults.{FaultlessTextsAreReportedAlike};
 ghost use Rattle.pgn_verifier_laws.specs.Parts.{GamesAreInParts, WholeGamesAreReportedAlike, PiecesAreReportedAlike, TextsAreReportedInParts};
 ghost use Rattle.pgn_verifier_laws.specs.Spans.{SpansMakeUpTheText, SpansMakeUpTheCollection};
@@ -18,6 +19,7 @@ ghost use Rattle.pgn_verifier_laws.specs.WrittenGames.{WrittenGamesHaveNoFault, 
 use chess_base::{Position, Variant};
 use chess_pgn_laws::{a_game_is_tags_and_moves, games_are_of_tokens, pgn_is_read_back};
 use chess_text::read_moves_are_legal;
+use pgn_pieces::shards_are_cut;
 
 /// States a law and does nothing: a game is judged in one way, and a text and a collection have one list of reports. It
 /// is the one that is made by reading games one after another. Without their spans the reports are those of which the
@@ -114,4 +116,17 @@ pub fn counted_games_are_games()
     let _normal_sound = normal.setup();
     let fischerandom = Position::initial_of(Variant::Fischerandom);
     let _fischerandom_sound = fischerandom.setup();
+}
+
+/// States a law: a collection may be cut into files where pieces begin, and these verified by themselves, in any order.
+/// `verify --keep-going` reports the same of each game, but that numbers and offsets count from the beginning of its
+/// file. The counts of the collection are the sums of those of its files.
+///
+/// Each file but the last is to end in a line of moves, perhaps with empty lines after it, and with a `\n`; each but the
+/// first is to begin with a tag line, such as `[Event "..."]`, perhaps with a byte order mark before it.
+pub fn files_are_verified_alike()
+    ensures { FilesAreVerifiedAlike }
+{
+    // The prover wants this law: a text that is cut there has the pieces of its parts.
+    shards_are_cut();
 }

@@ -1,0 +1,252 @@
+-- The reports on a collection's files, one after another, are those on the collection.
+use Rattle.std.proofs.Common.{◌≡◌, ℕ, zero, suc, ◌+◌, eqb, Bool, true, false, List, [], ◌∷◌, ◌++◌, length, map, drop, Option, Some, None, Result, Ok, Err, refl, sym, ap, ◌∙◌, append-nil, length-append, arith}
+use Rattle.std.specs.Prelude.{if◌then◌else◌, nat_le, not, is_some}
+use Rattle.std.specs.List.{onto_first, concat, flat_map, sum_by}
+use Rattle.std.specs.Option.{unwrap_or}
+use Rattle.std.proofs.Math.Path.{ap₂}
+use Rattle.std.proofs.lemmas.List.{map-append}
+use Rattle.std.proofs.lemmas.List.Concat.{flat_map-append}
+use Rattle.std.proofs.lemmas.List.Sums.{sum_by-append, sum_by-cons}
+use Rattle.chess_pgn.specs.declared.read.PgnEnd.{PgnEnd}
+use Rattle.pgn_pieces.specs.Pieces.{cut, lines_of}
+use Rattle.pgn_pieces.specs.Stream.{with_offsets}
+use Rattle.pgn_pieces.specs.declared.pieces.TheConstants.{PIECE_LEN}
+use Rattle.pgn_pieces.specs.laws.Shards.{begins_in_tag, ends_in_moves, ShardsAreCut}
+use Rattle.pgn_pieces.proofs.shared.Cuts.{cut_is_all}
+use Rattle.pgn_verifier.specs.Collection.{AreCollectionReports}
+use Rattle.pgn_verifier.specs.Explanations.{wrong_part}
+use Rattle.pgn_verifier.specs.Reports.{Report, Game, Faulty, Placed, game_begin, half_moves_of, without_spans, counts_of}
+use Rattle.pgn_verifier.specs.declared.game_fault.GameFault.{GameFault}
+use Rattle.pgn_verifier.specs.laws.Reasons.{explanation_of}
+use Rattle.pgn_verifier.specs.laws.Reported.{read_at, judged_at, placed_then, placed_from, placed_on, placed_in, too_long_placed}
+use Rattle.pgn_verifier_laws.specs.Files.{AreCutWherePiecesBegin, moved, one_after_another, IsSumOf, FilesAreVerifiedAlike}
+use Rattle.pgn_verifier_laws.proofs.OnlyReports.{only_all}
+
+-- ---- the pieces of the files
+
+has_line : (cs : List ℕ) → (line : List ℕ) × (lines : List (List ℕ)) × (lines_of (cs ++ 10 ∷ []) ≡ line ∷ lines)
+has_line [] = (10 ∷ [], [], refl)
+has_line (c ∷ cs) = by_test (eqb c 10) (has_line cs)
+  where
+    by_test : (b : Bool)
+        → (line : List ℕ) × (lines : List (List ℕ)) × (lines_of (cs ++ 10 ∷ []) ≡ line ∷ lines)
+        → (line : List ℕ) × (lines : List (List ℕ))
+        × ((if b then (c ∷ []) ∷ lines_of (cs ++ 10 ∷ []) else onto_first c (lines_of (cs ++ 10 ∷ []))) ≡ line ∷ lines)
+    by_test true w = (c ∷ [], lines_of (cs ++ 10 ∷ []), refl)
+    by_test false (line, lines, is) = (c ∷ line, lines, ap (onto_first c) is)
+
+-- the lines of a text in two parts, of which the first ends with a line
+lines_joined : (front rest : List ℕ)
+    → lines_of ((front ++ 10 ∷ []) ++ rest) ≡ lines_of (front ++ 10 ∷ []) ++ lines_of rest
+lines_joined [] rest = refl
+lines_joined (c ∷ cs) rest = by_test (eqb c 10) (lines_joined cs rest) (has_line cs)
+  where
+    by_test : (b : Bool) → lines_of ((cs ++ 10 ∷ []) ++ rest) ≡ lines_of (cs ++ 10 ∷ []) ++ lines_of rest
+        → (line : List ℕ) × (lines : List (List ℕ)) × (lines_of (cs ++ 10 ∷ []) ≡ line ∷ lines)
+        → (if b then (c ∷ []) ∷ lines_of ((cs ++ 10 ∷ []) ++ rest)
+        else onto_first c (lines_of ((cs ++ 10 ∷ []) ++ rest)))
+        ≡ (if b then (c ∷ []) ∷ lines_of (cs ++ 10 ∷ []) else onto_first c (lines_of (cs ++ 10 ∷ []))) ++ lines_of rest
+    by_test true on some = ap (λ xs. (c ∷ []) ∷ xs) on
+    by_test false on (line, lines, is) =
+        ap (onto_first c) on ∙ ap (λ xs. onto_first c (xs ++ lines_of rest)) is
+        ∙ sym (ap (λ xs. onto_first c xs ++ lines_of rest) is)
+
+-- what follows after a whole line doesn't change that the text begins with a tag line
+tag_first : (front rest : List ℕ) → begins_in_tag (lines_of (front ++ 10 ∷ [])) ≡ true
+    → begins_in_tag (lines_of ((front ++ 10 ∷ []) ++ rest)) ≡ true
+tag_first front rest h =
+    ap begins_in_tag (lines_joined front rest) ∙ by_lines (lines_of (front ++ 10 ∷ [])) (has_line front) h
+  where
+    by_lines : (all : List (List ℕ)) → (line : List ℕ) × (lines : List (List ℕ)) × (all ≡ line ∷ lines)
+        → begins_in_tag all ≡ true → begins_in_tag (all ++ lines_of rest) ≡ true
+    by_lines [] (line, lines, is) h = absurd (cc)
+    by_lines (first ∷ more) w h = h
+
+-- a collection that is cut where pieces begin begins with a tag line, if its first file does
+tag_begins : (file : List ℕ) (files : List (List ℕ)) → AreCutWherePiecesBegin (file ∷ files)
+    → begins_in_tag (lines_of file) ≡ true → begins_in_tag (lines_of (concat (file ∷ files))) ≡ true
+tag_begins file [] h tag = ap (λ text. begins_in_tag (lines_of text)) (append-nil file) ∙ tag
+tag_begins file (next ∷ files) h tag =
+    let ends = h.0 in
+    ap (λ text. begins_in_tag (lines_of (text ++ concat (next ∷ files)))) ends.whole_lines
+    ∙ tag_first ends.before (concat (next ∷ files))
+    (sym (ap (λ text. begins_in_tag (lines_of text)) ends.whole_lines) ∙ tag)
+
+pieces_of_files : ShardsAreCut → (files : List (List ℕ)) → AreCutWherePiecesBegin files
+    → cut (concat files) ≡ flat_map cut files
+pieces_of_files law [] h = refl
+pieces_of_files law (file ∷ []) h = ap cut (append-nil file) ∙ sym (append-nil (cut file))
+pieces_of_files law (file ∷ next ∷ files) h =
+    let ends = h.0 in
+    let rest : List ℕ = concat (next ∷ files) in
+    ap (λ text. cut (text ++ rest)) ends.whole_lines
+    ∙ law ends.before rest (sym (ap (λ text. ends_in_moves (lines_of text)) ends.whole_lines) ∙ ends.moves)
+    (tag_begins next files h.2 h.1)
+    ∙ sym (ap (λ text. cut text ++ cut rest) ends.whole_lines)
+    ∙ ap (λ ps. cut file ++ ps) (pieces_of_files law (next ∷ files) h.2)
+
+-- ---- reports at another offset
+
+abbrev moved_placed : ℕ → Placed → Placed
+moved_placed by p = record { begin = by + p.begin; end = by + p.end; report = moved by p.report }
+
+grouped : (by start n : ℕ) → by + start + n ≡ by + (start + n)
+grouped by start n = omega arith
+
+moved_from : (strict : Bool) (by start n : ℕ) (text : List ℕ) (at : ℕ)
+    → placed_from strict (by + start) n text at ≡ map (moved_placed by) (placed_from strict start n text at)
+unfolding placed_from
+moved_from strict by start zero text at = refl
+moved_from strict by start (suc n) text at =
+    by_answer (judged_at strict text at) (λ next. moved_from strict by start n text next)
+  where
+    by_answer : (r : Result (Option PgnEnd) GameFault)
+        → ((next : ℕ)
+        → placed_from strict (by + start) n text next ≡ map (moved_placed by) (placed_from strict start n text next))
+        → placed_then (by + start) text at r (read_at text at).state
+        (λ next. placed_from strict (by + start) n text next)
+        ≡ map (moved_placed by)
+        (placed_then start text at r (read_at text at).state (λ next. placed_from strict start n text next))
+    by_answer (Ok None) later = refl
+    by_answer (Ok (Some end)) later =
+        let game : Report = Game (length (read_at text at).state.moves) end.outcome end.termination in
+        ap₂ (λ (b e : ℕ). record { begin = b; end = e; report = game } ∷ placed_from strict (by + start) n text end.offset)
+        (grouped by start (game_begin text at)) (grouped by start end.offset)
+        ∙ ap (λ (ps : List Placed). record {
+          begin = by + (start + game_begin text at);
+          end = by + (start + end.offset);
+          report = game;
+        } ∷ ps) (later end.offset)
+    by_answer (Err fault) later =
+        let wrong : ℕ = (wrong_part fault.kind (drop fault.offset text)).0 in
+        let why : List ℕ = explanation_of (read_at text at).state (drop fault.offset text) fault.kind in
+        let there : Placed = record {
+          begin = by + (start + game_begin text at);
+          end = by + (start + length text);
+          report = Faulty (record fault { offset = by + start + fault.offset }) (by + start + fault.offset + wrong) why;
+        } in
+        ap₂ (λ (b e : ℕ). record there { begin = b; end = e } ∷ [])
+        (grouped by start (game_begin text at)) (grouped by start (length text))
+        ∙ ap₂ (λ (o w : ℕ). record there { report = Faulty (record fault { offset = o }) w why } ∷ [])
+        (grouped by start fault.offset)
+        (ap (λ k. k + wrong) (grouped by start fault.offset) ∙ grouped by (start + fault.offset) wrong)
+
+moved_in : (strict : Bool) (by offset : ℕ) (bytes : List ℕ)
+    → placed_in strict (record { offset = by + offset; bytes = bytes })
+    ≡ map (moved_placed by) (placed_in strict (record { offset = offset; bytes = bytes }))
+moved_in strict by offset bytes = by_test (nat_le (length bytes) PIECE_LEN)
+  where
+    by_test : (b : Bool)
+        → (if b then placed_on strict (by + offset) bytes
+        else too_long_placed (record { offset = by + offset; bytes = bytes }) ∷ [])
+        ≡ map (moved_placed by) (if b then placed_on strict offset bytes
+        else too_long_placed (record { offset = offset; bytes = bytes }) ∷ [])
+    by_test true = moved_from strict by offset (length bytes + 1) bytes 0
+    by_test false =
+        ap (λ (e : ℕ). record (too_long_placed (record { offset = by + offset; bytes = bytes })) { end = e } ∷ [])
+        (grouped by offset (length bytes))
+
+moved_all : (strict : Bool) (by offset : ℕ) (all : List (List ℕ))
+    → flat_map (placed_in strict) (with_offsets (by + offset) all)
+    ≡ map (moved_placed by) (flat_map (placed_in strict) (with_offsets offset all))
+moved_all strict by offset [] = refl
+moved_all strict by offset (bytes ∷ more) =
+    ap₂ (λ xs ys. xs ++ ys) (moved_in strict by offset bytes)
+    (ap (λ k. flat_map (placed_in strict) (with_offsets k more)) (grouped by offset (length bytes))
+    ∙ moved_all strict by (offset + length bytes) more)
+    ∙ sym (map-append (moved_placed by) (placed_in strict (record { offset = offset; bytes = bytes }))
+    (flat_map (placed_in strict) (with_offsets (offset + length bytes) more)))
+
+-- ---- file after file
+
+offsets_joined : (offset : ℕ) (front rest : List (List ℕ))
+    → with_offsets offset (front ++ rest)
+    ≡ with_offsets offset front ++ with_offsets (offset + length (concat front)) rest
+offsets_joined offset [] rest =
+    let none : offset ≡ offset + 0 = omega arith in ap (λ k. with_offsets k rest) none
+offsets_joined offset (bytes ∷ more) rest =
+    let all = length-append bytes (concat more) in
+    let there : offset + length bytes + length (concat more) ≡ offset + length (bytes ++ concat more) =
+    omega (arith, all) in
+    ap (λ ps. record { offset = offset; bytes = bytes } ∷ ps)
+    (offsets_joined (offset + length bytes) more rest
+    ∙ ap (λ k. with_offsets (offset + length bytes) more ++ with_offsets k rest) there)
+
+module _ (strict : Bool) (reports : List ℕ → List Placed)
+    (are : (text : List ℕ) → AreCollectionReports strict 0 (cut text) (reports text)) where
+  file_after_file : (offset : ℕ) (files : List (List ℕ))
+      → flat_map (placed_in strict) (with_offsets offset (flat_map cut files)) ≡ one_after_another reports offset files
+  file_after_file offset [] = refl
+  file_after_file offset (file ∷ files) =
+      let none : offset ≡ offset + 0 = omega arith in
+      ap (flat_map (placed_in strict)) (offsets_joined offset (cut file) (flat_map cut files))
+      ∙ flat_map-append (placed_in strict) (with_offsets offset (cut file))
+      (with_offsets (offset + length (concat (cut file))) (flat_map cut files))
+      ∙ ap₂ (λ xs ys. xs ++ ys)
+      (ap (λ k. flat_map (placed_in strict) (with_offsets k (cut file))) none
+      ∙ moved_all strict offset 0 (cut file) ∙ ap (map (moved_placed offset)) (sym (only_all (are file))))
+      (ap (λ text. flat_map (placed_in strict) (with_offsets (offset + length text) (flat_map cut files)))
+      (cut_is_all file)
+      ∙ file_after_file (offset + length file) files)
+
+  -- ---- counts
+
+  -- what a report counts doesn't depend on its offset
+  module _ (counted : Report → ℕ) (kept : (by : ℕ) (report : Report) → counted (moved by report) ≡ counted report) where
+    abbrev sum_on : List Placed → ℕ
+    sum_on placed = sum_by counted (without_spans placed)
+
+    moved_sum : (by : ℕ) (placed : List Placed) → sum_on (map (moved_placed by) placed) ≡ sum_on placed
+    moved_sum by [] = refl
+    moved_sum by (p ∷ more) =
+        sum_by-cons counted (moved by p.report) (without_spans (map (moved_placed by) more))
+        ∙ ap₂ (λ a b. a + b) (kept by p.report) (moved_sum by more)
+        ∙ sym (sum_by-cons counted p.report (without_spans more))
+
+    added : (offset : ℕ) (files : List (List ℕ))
+        → sum_on (one_after_another reports offset files) ≡ sum_by (λ file. sum_on (reports file)) files
+    added offset [] = refl
+    added offset (file ∷ files) =
+        let first = map (moved_placed offset) (reports file) in
+        let later = one_after_another reports (offset + length file) files in
+        ap (sum_by counted) (map-append (λ (p : Placed). p.report) first later)
+        ∙ sum_by-append counted (without_spans first) (without_spans later)
+        ∙ ap₂ (λ a b. a + b) (moved_sum offset (reports file)) (added (offset + length file) files)
+        ∙ sym (sum_by-cons (λ f. sum_on (reports f)) file files)
+
+  -- what a report counts as a game, and as a fault
+  abbrev as_game : Report → ℕ
+  as_game report = if is_some (half_moves_of report) then 1 else 0
+
+  abbrev as_fault : Report → ℕ
+  as_fault report = if not (is_some (half_moves_of report)) then 1 else 0
+
+  abbrev its_moves : Report → ℕ
+  its_moves report = unwrap_or (half_moves_of report) 0
+
+  game_kept : (by : ℕ) (report : Report) → as_game (moved by report) ≡ as_game report
+  game_kept by (Game plies outcome termination) = refl
+  game_kept by (Faulty fault wrong_at explanation) = refl
+
+  moves_kept : (by : ℕ) (report : Report) → its_moves (moved by report) ≡ its_moves report
+  moves_kept by (Game plies outcome termination) = refl
+  moves_kept by (Faulty fault wrong_at explanation) = refl
+
+  fault_kept : (by : ℕ) (report : Report) → as_fault (moved by report) ≡ as_fault report
+  fault_kept by (Game plies outcome termination) = refl
+  fault_kept by (Faulty fault wrong_at explanation) = refl
+
+  pub sum_of_files : ShardsAreCut → (files : List (List ℕ)) → AreCutWherePiecesBegin files → IsSumOf reports files
+  sum_of_files law files h =
+      let alike : reports (concat files) ≡ one_after_another reports 0 files =
+      only_all (are (concat files))
+      ∙ ap (λ ps. flat_map (placed_in strict) (with_offsets 0 ps)) (pieces_of_files law files h)
+      ∙ file_after_file 0 files in record {
+        alike = alike;
+        games = ap (λ rs. (counts_of (without_spans rs)).games) alike ∙ added as_game game_kept 0 files;
+        half_moves = ap (λ rs. (counts_of (without_spans rs)).half_moves) alike ∙ added its_moves moves_kept 0 files;
+        faults = ap (λ rs. (counts_of (without_spans rs)).faults) alike ∙ added as_fault fault_kept 0 files;
+      }
+
+pub files_alike : ShardsAreCut → FilesAreVerifiedAlike
+files_alike law strict reports are files h = sum_of_files strict reports are law files h

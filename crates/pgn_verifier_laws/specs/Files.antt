@@ -1,0 +1,56 @@
+-- A collection that is cut into files where pieces begin: `verify --keep-going` reports the same of the files as of the
+-- whole.
+use Rattle.std.specs.Prelude.{◌≡◌, ⊤, ℕ, ◌+◌, Bool, true, List, [], ◌∷◌, ◌++◌, length, map}
+use Rattle.std.specs.List.{concat, sum_by}
+use Rattle.chess_base.specs.Letters.{new_line}
+use Rattle.pgn_pieces.specs.Pieces.{cut, lines_of}
+use Rattle.pgn_pieces.specs.laws.Shards.{begins_in_tag, ends_in_moves}
+use Rattle.pgn_verifier.specs.Collection.{AreCollectionReports}
+use Rattle.pgn_verifier.specs.Reports.{Placed, Report, Game, Faulty, without_spans, counts_of}
+
+-- a file ends in a line of moves, and perhaps empty lines after it; its last line, too, has its `\n`
+pub record EndsInMoves (file : List ℕ) : Type 0 where
+  pub before : List ℕ
+  pub whole_lines : file ≡ before ++ new_line ∷ []
+  pub moves : ends_in_moves (lines_of file) ≡ true
+
+-- these files, in order, are a collection that is cut where pieces begin: each file but the last ends in a line of
+-- moves, and each but the first begins with a tag line (a byte order mark before it doesn't matter)
+abbrev pub AreCutWherePiecesBegin : List (List ℕ) → Type 0
+AreCutWherePiecesBegin [] = ⊤
+AreCutWherePiecesBegin (file ∷ []) = ⊤
+AreCutWherePiecesBegin (file ∷ next ∷ files) =
+    EndsInMoves file × (begins_in_tag (lines_of next) ≡ true) × AreCutWherePiecesBegin (next ∷ files)
+
+-- a report on a file, if the file begins at this offset of the collection: offsets count from the collection's
+-- beginning, and all else is the same
+abbrev pub moved : ℕ → Report → Report
+moved by (Game plies outcome termination) = Game plies outcome termination
+moved by (Faulty fault wrong_at explanation) =
+    Faulty (record fault { offset = by + fault.offset }) (by + wrong_at) explanation
+
+-- what is reported of the files is that, one after another, if `reports` gives the reports on each file by itself; the
+-- first file begins at this offset of the collection
+abbrev pub one_after_another : (List ℕ → List Placed) → ℕ → List (List ℕ) → List Placed
+one_after_another reports offset [] = []
+one_after_another reports offset (file ∷ files) =
+    map (λ p. record { begin = offset + p.begin; end = offset + p.end; report = moved offset p.report }) (reports file)
+    ++ one_after_another reports (offset + length file) files
+
+-- what is reported of a collection is what is reported of its files, each by itself, and its counts are the sums of
+-- theirs
+pub record IsSumOf (reports : List ℕ → List Placed) (files : List (List ℕ)) : Type 0 where
+  pub alike : reports (concat files) ≡ one_after_another reports 0 files
+  pub games : (counts_of (without_spans (reports (concat files)))).games
+      ≡ sum_by (λ file. (counts_of (without_spans (reports file))).games) files
+  pub half_moves : (counts_of (without_spans (reports (concat files)))).half_moves
+      ≡ sum_by (λ file. (counts_of (without_spans (reports file))).half_moves) files
+  pub faults : (counts_of (without_spans (reports (concat files)))).faults
+      ≡ sum_by (λ file. (counts_of (without_spans (reports file))).faults) files
+
+-- so it is with what `verify --keep-going` reports (`reports`) of each collection that is cut where pieces begin, with
+-- `--strict` (`strict`) or without
+abbrev pub FilesAreVerifiedAlike : Type 0
+FilesAreVerifiedAlike = (strict : Bool) (reports : List ℕ → List Placed)
+    → ((text : List ℕ) → AreCollectionReports strict 0 (cut text) (reports text))
+    → (files : List (List ℕ)) → AreCutWherePiecesBegin files → IsSumOf reports files
