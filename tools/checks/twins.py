@@ -2,8 +2,8 @@
 need no new proof.
 
 A law stands on definitions alone. So those that are edited, and all modules of specs/ and proofs/ between them and the law,
-are copied into the law's crate, as `of_CRATE`, and what names them there names the copies. Types and constants of the code
-stay where they are. Found by the names of modules; no prover is asked."""
+are copied into the law's crate, as `of_CRATE`, and what names them there names the copies; and so are the proofs that only
+their own crate can name. Types and constants of the code stay where they are. Found by the names of modules; no prover is asked."""
 
 import re
 from pathlib import Path
@@ -15,6 +15,12 @@ KINDS = ("specs", "proofs")
 def name_of(path, crates):
     """The name of the module in a file: `Rattle.low.specs.laws.Laws`."""
     return ".".join(("Rattle", *path.relative_to(crates).with_suffix("").parts))
+
+
+def is_private(name):
+    """Whether only its own crate can name a module: proofs that are not in proofs/shared."""
+    _, _, kind, *rest = name.split(".")
+    return kind == "proofs" and rest[0] != "shared"
 
 
 class Twins:
@@ -58,6 +64,11 @@ class Twins:
             more = {name for name, used in uses.items() if not name.startswith(own) and used & found} - found
             found |= more
             grown = bool(more)
+        todo = set(found)
+        while todo:
+            more = {used for used in uses[todo.pop()] if is_private(used) and not used.startswith(own)} - found
+            found |= more
+            todo |= more
         return found
 
     def twin(self, name):
