@@ -17,3 +17,4 @@ mod Sliders
 mod KnownGames
 mod KnownFens
 mod KnownLines
+mod KnownSame

@@ -1,5 +1,6 @@
--- What chess players and programmers know: which FEN a line leads to, and which FENs are refused.
-use Rattle.std.specs.Prelude.{◌≡◌, true, List, [], ◌∷◌, codes, Some, is_some, Err}
+-- What chess players and programmers know: which FEN a line leads to, which positions are the same, and which FENs are
+-- refused.
+use Rattle.std.specs.Prelude.{◌≡◌, Bool, true, false, List, [], ◌∷◌, ◌++◌, codes, Some, is_some, Err}
 use Prim.Native.String.{String as Text}
 use Rattle.std.specs.Result.{result_ok}
 use Rattle.chess_base.specs.declared.fen_fault.FenFault.{FenFault}
@@ -11,6 +12,7 @@ use Rattle.chess_base.specs.Initial.{initial_setup}
 use Rattle.chess_fen.specs.Reading.{fen_reading_as}
 use Rattle.chess_fen.specs.Writing.{fen}
 use Rattle.chess_game.specs.Line.{IsLine, position_after}
+use Rattle.chess_game.specs.Same.{is_same_position}
 use Rattle.rules_laws.specs.KnownGames.{move_by}
 use Rattle.rules_laws.specs.Names.{square}
 
@@ -43,6 +45,36 @@ pub record LinesLeadToFens : Type 0 where
   pub promotion : LeadsTo (move_by "h2" "h4" ∷ move_by "g7" "g5" ∷ move_by "h4" "g5" ∷ move_by "h7" "h6" ∷
       move_by "g5" "h6" ∷ move_by "g8" "f6" ∷ move_by "h6" "h7" ∷ move_by "f6" "g8" ∷ promotes "h7" "g8" ∷ [])
       "rnbqkbQr/pppppp2/8/8/8/8/PPPPPPP1/RNBQKBNR b KQkq - 0 5"
+
+-- ---- the same position
+
+-- of two lines from the initial position, whether the positions after them are the same
+abbrev pub are_same_after : List Move → List Move → Bool
+are_same_after ms ns = is_same_position (position_after initial_setup ms) (position_after initial_setup ns)
+
+-- both sides move their king's knights out and back
+abbrev pub knights_dance : List Move
+knights_dance = move_by "g1" "f3" ∷ move_by "g8" "f6" ∷ move_by "f3" "g1" ∷ move_by "f6" "g8" ∷ []
+
+-- 1 e4 e5, and 1 e4 a6 2 e5 d5, after which the pawn on d5 may be captured en passant
+abbrev pub open_game : List Move
+open_game = move_by "e2" "e4" ∷ move_by "e7" "e5" ∷ []
+
+abbrev pub passed_pawn : List Move
+passed_pawn = move_by "e2" "e4" ∷ move_by "a7" "a6" ∷ move_by "e4" "e5" ∷ move_by "d7" "d5" ∷ []
+
+-- positions that are the same, and such as look alike (9.2.3)
+pub record PositionsAreTheSame : Type 0 where
+  pub knights : are_same_after [] knights_dance ≡ true
+  -- nothing could be captured on e6
+  pub target : are_same_after open_game (open_game ++ knights_dance) ≡ true
+  -- the pawn on d5 could
+  pub en_passant : are_same_after passed_pawn (passed_pawn ++ knights_dance) ≡ false
+  -- 1 e3 e5 2 e4: Black is on move
+  pub side : are_same_after open_game (move_by "e2" "e3" ∷ move_by "e7" "e5" ∷ move_by "e3" "e4" ∷ []) ≡ false
+  -- the kings went out and back, and may no longer castle
+  pub rights : are_same_after open_game (open_game ++ move_by "e1" "e2" ∷ move_by "e8" "e7" ∷ move_by "e2" "e1"
+      ∷ move_by "e7" "e8" ∷ []) ≡ false
 
 -- ---- FENs
 

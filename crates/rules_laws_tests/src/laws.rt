@@ -3,8 +3,8 @@ use rules_laws::{
     castling_needs_named_squares, en_passant_follows_a_double_advance, endings_are_mirrored,
     first_moves_are_these, games_are_mirrored, halfmove_clocks_count_quiet_moves,
     insufficient_material_never_mates, known_fens_are_refused, known_games_end,
-    known_lines_lead_to_these_fens, lines_end_at_the_first_piece, moves_are_mirrored,
-    pieces_reach_by_tables, repetitions_and_quiet_moves_end_a_game,
+    known_lines_lead_to_these_fens, known_positions_are_the_same, lines_end_at_the_first_piece,
+    moves_are_mirrored, pieces_reach_by_tables, repetitions_and_quiet_moves_end_a_game,
 };
 
 #[test]
@@ -34,4 +34,5 @@ fn laws_of_endings_are_called() {
 fn laws_of_known_positions_are_called() {
     known_fens_are_refused();
     known_lines_lead_to_these_fens();
+    known_positions_are_the_same();
 }
