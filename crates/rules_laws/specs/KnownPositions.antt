@@ -56,10 +56,11 @@ are_same_after ms ns = is_same_position (position_after initial_setup ms) (posit
 abbrev pub knights_dance : List Move
 knights_dance = move_by "g1" "f3" ∷ move_by "g8" "f6" ∷ move_by "f3" "g1" ∷ move_by "f6" "g8" ∷ []
 
--- 1 e4 e5, and 1 e4 a6 2 e5 d5, after which the pawn on d5 may be captured en passant
+-- 1 e4 e5
 abbrev pub open_game : List Move
 open_game = move_by "e2" "e4" ∷ move_by "e7" "e5" ∷ []
 
+-- 1 e4 a6 2 e5 d5, after which the pawn on d5 may be captured en passant
 abbrev pub passed_pawn : List Move
 passed_pawn = move_by "e2" "e4" ∷ move_by "a7" "a6" ∷ move_by "e4" "e5" ∷ move_by "d7" "d5" ∷ []
 
@@ -78,10 +79,11 @@ pub record PositionsAreTheSame : Type 0 where
 
 -- ---- FENs
 
--- a FEN of normal chess is refused for this fault; or it is taken
+-- a FEN of normal chess is refused for this fault
 abbrev pub IsRefused : Text → FenFault → Type 0
 IsRefused text fault = fen_reading_as Normal (codes text) ≡ Err fault
 
+-- a FEN of normal chess is taken
 abbrev pub IsTaken : Text → Type 0
 IsTaken text = is_some (result_ok (fen_reading_as Normal (codes text))) ≡ true
 
