@@ -15,3 +15,6 @@ mod MirrorGames
 mod MayCastle
 mod Sliders
 mod KnownGames
+mod KnownFens
+mod KnownLines
+mod KnownSame

@@ -7,4 +7,5 @@ pub mod EnPassant
 pub mod FirstMoves
 pub mod Endings
 pub mod KnownGames
+pub mod KnownPositions
 pub mod Mirror

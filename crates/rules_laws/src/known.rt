@@ -1,0 +1,26 @@
+//! Laws of lines and FENs that chess players and programmers know, by computation. A caller learns one by calling its
+//! function, which does nothing.
+
+ghost use Rattle.rules_laws.specs.KnownPositions.{FensAreRefused, LinesLeadToFens, PositionsAreTheSame};
+
+/// A law: the contract says it, and the function does nothing. Known lines are legal, and lead to positions with these
+/// FENs (PGN standard of 1994, section 16.1.4, has three of them).
+///
+/// It refuses a right to castle that is lost without a reason, a target that is missing, a move number that rises after
+/// White's move, and castling or a promotion that leaves other pieces.
+pub fn known_lines_lead_to_these_fens()
+    ensures { LinesLeadToFens }
+{}
+
+/// A law: the contract says it, and the function does nothing. FENs are refused, each for the one fault that it has,
+/// and neighbours of theirs are taken: for each condition of a sound position, and for each field.
+pub fn known_fens_are_refused()
+    ensures { FensAreRefused }
+{}
+
+/// A law: the contract says it, and the function does nothing. Of positions that look alike some are the same, and
+/// others differ in the side on move, in rights to castle, or in a capture en passant (FIDE Laws of Chess 2023, article
+/// 9.2.3).
+pub fn known_positions_are_the_same()
+    ensures { PositionsAreTheSame }
+{}

@@ -1,0 +1,75 @@
+"""The wrong definitions, crates/NAME/definition-edits/*.edit, and the page that lists them by what refuses them. Their form is
+in the head of definition_edits."""
+
+from dataclasses import dataclass, field
+from pathlib import Path
+
+
+@dataclass
+class Edit:
+    """A wrong definition: the texts to replace in each file (given from crates/), and the law that has to refuse it."""
+
+    path: Path
+    law: str = ""
+    files: dict = field(default_factory=dict)
+
+    @property
+    def name(self):
+        return self.path.stem
+
+
+def read_edit(path):
+    edit, file, old = Edit(path), None, None
+    for line in path.read_text(encoding="utf-8").splitlines():
+        kind, _, rest = line.partition(": ")
+        if kind == "file":
+            file = rest.removeprefix("crates/") if rest.startswith("crates/") else f"{path.parts[-3]}/{rest}"
+            edit.files.setdefault(file, [])
+        elif kind == "refused by":
+            edit.law = rest
+        elif kind == "old":
+            old = rest
+        elif kind == "new":
+            edit.files[file].append((old, rest))
+    return edit
+
+
+def read_edits(crate):
+    return [read_edit(path) for path in sorted((crate / "definition-edits").glob("*.edit"))]
+
+
+PAGE = """# Wrong definitions
+
+Where a definition and the code are wrong alike, every contract still holds: only a law that says the same in other words \
+can notice. Each of these definitions was made wrong, and the proof of the law named refuses it; so it would if the code \
+were changed alike, since a law stands on definitions alone. `tools/checks/mutations --definitions` tries them, and prints \
+what refuses each. In brackets is the file of specs/ (`CRATE/FILE`), or *the law* where its own words were made wrong. \
+What no law refuses is [listed](README.md#held-by-the-definition-and-by-tests-alone).
+
+`tools/checks/theorems --fill` writes this page, from crates/*/definition-edits.
+"""
+
+
+def where(edit, crate):
+    """In which files of specs/ an edit is, as the page has it."""
+    files = [file.split("/", 2) for file in edit.files]
+    names = [
+        "the law" if below == crate and crate.endswith("_laws") else f"{below}/{Path(rest).stem}" for below, _, rest in files
+    ]
+    return ", ".join(dict.fromkeys(names))
+
+
+def page(folder):
+    """The page: for each crate its laws, and the wrong definitions that each refuses."""
+    lines = [PAGE]
+    for crate in sorted({path.parts[-3] for path in Path(folder).glob("crates/*/definition-edits/*.edit")}):
+        by_law = {}
+        for edit in read_edits(Path(folder) / "crates" / crate):
+            text = f"{edit.name.removeprefix('twin_').replace('_', ' ')} ({where(edit, crate)})"
+            by_law.setdefault(edit.law.split("::")[-1], []).append(text)
+        lines += [f"## {crate}", "| refused by | what is wrong |", "|---|---|"]
+        lines += [
+            f"| {f'`{law}`' if law else 'a proof of the crate'} | {'; '.join(texts)} |" for law, texts in sorted(by_law.items())
+        ]
+        lines.append("")
+    return "\n".join(lines)
