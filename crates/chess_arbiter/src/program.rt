@@ -102,6 +102,7 @@ fn options_of(plan: VerifyPlan) -> VerifyOptions
         quiet: plan.quiet,
         strict: plan.strict,
         spans: plan.spans,
+        names: plan.names,
         explain: plan.explain,
     }
 }
@@ -228,7 +229,8 @@ fn matched<H: Host, W: Output, E: Output>(
 ///   length, cut into pieces: one begins at the first byte, at a tag line after a line of moves, and at a second Event
 ///   tag line. A fault ends only its piece, and totals follow at the end. `--quiet` leaves out games without a fault;
 ///   with `--strict` a result that contradicts the tag Result or the final position is a fault too; with `--spans` each
-///   line says where its game is; with `--explain` a second line explains each fault.
+///   line says where its game is; with `--names` the line of a fault ends with the game's players, event and date;
+///   with `--explain` a second line explains each fault.
 /// - `match` with `--white`, `--black` and perhaps `--games`, `--level`, `--fen`, `--variant`, `--draws`, `--date`,
 ///   `--log`, `--flag` and `--reply-timeout`: games between two engines that the host starts, the text of each game, and
 ///   then the score. The input is left untouched.

@@ -270,6 +270,7 @@ const HELP: [(&[&str], &[&str]); 4] = [
             "--strict",
             "--explain",
             "--spans",
+            "--names",
             "# line 2 column 4 Ke3 | rnbqkbnr/pppp1ppp/8/4p3/4P3/8/PPPP1PPP/RNBQKBNR w KQkq e6 0 2",
             "16,777,216 bytes",
         ],

@@ -19,7 +19,7 @@ ghost use Rattle.pgn_verifier.specs.declared.explanation.TheConstants.{FAULT_LIN
 
 use crate::fen_field::{fen_text, field_offset, wrong_field};
 use crate::game_fault::{FaultKind, GameFault, fault_name};
-use crate::label::{Label, append_span};
+use crate::label::{FaultLabel, append_span};
 use crate::shown::{Shown, shown, shown_field};
 use crate::start::TextStart;
 use crate::token_reason::{bad_tag_reason, token_reason};
@@ -31,26 +31,28 @@ use chess_moves::Board;
 use chess_pgn::PgnFaultKind;
 use pgn_pieces::line_ends;
 
-// The most bytes of the lines on a fault: of its own 130, and of the one that explains it 320.
-const FAULT_LINES_LEN: usize = 450;
+// The most bytes of the lines on a fault: of its own 300, and of the one that explains it 320.
+const FAULT_LINES_LEN: usize = 620;
 
 /// The lines on a fault.
 pub(crate) type FaultLines = ArrayVec<u8, FAULT_LINES_LEN>;
 
 // The line of a fault, such as `game 2: illegal move at byte 39`.
 #[tactic(auto, unfolding(crate::specs::Reports::report_line))]
-fn fault_line(label: Label, fault: GameFault) -> FaultLines
-    ensures text { result.items ≡ fault_line label.number fault (span_written label.span) }
-    ensures len { array_vec_len result ≤ 130 }
+fn fault_line(label: &FaultLabel, fault: GameFault) -> FaultLines
+    ensures text { result.items
+        ≡ fault_line label.now.game.number fault (span_written label.now.game.span) label.now.names.items }
+    ensures len { array_vec_len result ≤ 300 }
 {
     let mut lines = FaultLines::new();
     append(&mut lines, b"game ");
-    append_number(&mut lines, label.number as u64);
+    append_number(&mut lines, label.game.number as u64);
     append(&mut lines, b": ");
     append(&mut lines, fault_name(fault.kind));
     append(&mut lines, b" at byte ");
     append_number(&mut lines, fault.offset as u64);
-    append_span(&mut lines, label.span);
+    append_span(&mut lines, label.game.span);
+    append(&mut lines, label.names.as_slice());
     lines.push(b'\n');
     lines
 }
@@ -229,7 +231,7 @@ fn append_explanation<B: Board>(
     kind: FaultKind,
     game: &Game<B>,
 )
-    requires { array_vec_len lines.old ≤ 130 }
+    requires { array_vec_len lines.old ≤ 300 }
     ensures { (input : List ℕ) (begin : ℕ) → line ≡ line_of input begin → column ≡ column_of input begin
         → lines.new.items ≡ lines.old.items
         ++ explanation_line input begin (explanation_of game.now.state text.now kind) }
@@ -245,7 +247,7 @@ fn append_explanation<B: Board>(
 /// begins at `start`.
 pub(crate) fn fault_lines<B: Board>(
     explain: bool,
-    label: Label,
+    label: &FaultLabel,
     start: TextStart,
     text: &[u8],
     fault: GameFault,
@@ -255,8 +257,9 @@ pub(crate) fn fault_lines<B: Board>(
     requires few { start.offset + length text.now ≤ 2 ^ 63 }
     requires few_lines { start.line + length text.now < 2 ^ 64 }
     ensures { (input : List ℕ) → StandsIf explain start input text.now
-        → result.items ≡ fault_line label.number (moved start.offset fault) (span_written label.span)
-        ++ (if explain then explanation_line input
+        → result.items
+        ≡ fault_line label.now.game.number (moved start.offset fault) (span_written label.now.game.span)
+        label.now.names.items ++ (if explain then explanation_line input
         (start.offset + fault.offset + (wrong_part fault.kind (drop fault.offset text.now)).0)
         (explanation_of game.now.state (drop fault.offset text.now) fault.kind) else []) }
 {
@@ -275,13 +278,14 @@ pub(crate) fn fault_lines<B: Board>(
 /// `beginning` has the piece's first 40 bytes.
 pub(crate) fn too_long_lines(
     explain: bool,
-    label: Label,
+    label: &FaultLabel,
     start: TextStart,
     beginning: &[u8],
 ) -> FaultLines
     ensures { (input : List ℕ) → StandsIf explain start input []
         → result.items
-        ≡ fault_line label.number (record { kind = Pgn TooLong; offset = start.offset }) (span_written label.span)
+        ≡ fault_line label.now.game.number (record { kind = Pgn TooLong; offset = start.offset })
+        (span_written label.now.game.span) label.now.names.items
         ++ (if explain then explanation_line input start.offset (shown beginning.now) else []) }
 {
     let mut lines = fault_line(
