@@ -13,6 +13,7 @@ ghost use Rattle.pgn_pieces.specs.Places.{ends_line, line_ends, line_of, column_
 ghost use Rattle.pgn_verifier.specs.Explanations.{wrong_part, has_position, explanation_line, shown};
 ghost use Rattle.chess_game.specs.Results.{outcome_text};
 ghost use Rattle.pgn_verifier.specs.declared.game_fault.FaultKind.TheVariants.{Pgn};
+ghost use Rattle.pgn_verifier.specs.WrongParts.{move_reason};
 ghost use Rattle.pgn_verifier.specs.laws.Reasons.{reason, explanation_of};
 ghost use Rattle.pgn_verifier.specs.ties.OnTheWay.{StandsIf, moved, fault_line, span_written};
 ghost use Rattle.pgn_verifier.specs.declared.explanation.TheConstants.{FAULT_LINES_LEN};
@@ -22,7 +23,7 @@ use crate::game_fault::{FaultKind, GameFault, fault_name};
 use crate::label::{FaultLabel, append_span};
 use crate::shown::{Shown, shown, shown_field};
 use crate::start::TextStart;
-use crate::token_reason::{bad_tag_reason, token_reason};
+use crate::token_reason::{bad_tag_reason, move_reason, token_reason};
 use arrayvec::ArrayVec;
 use byte_devices::{append, append_number};
 use chess_fen::write_fen;
@@ -132,6 +133,19 @@ fn append_part(lines: &mut FaultLines, reason: &[u8])
     append(lines, reason);
 }
 
+// Appends ` | ` and why the move at the text's front is illegal that may have been meant as a result; nothing for any
+// other.
+fn append_move_reason(lines: &mut FaultLines, text: &[u8])
+    requires { array_vec_len lines.old + 80 ≤ FAULT_LINES_LEN }
+    ensures text { lines.new.items
+        ≡ lines.old.items ++ option_map_or (λ text. codes " | " ++ text) (move_reason text.now) [] }
+    ensures len { array_vec_len lines.new ≤ array_vec_len lines.old + 80 }
+{
+    if let Some(reason) = move_reason(text) {
+        append_part(lines, reason);
+    }
+}
+
 // Appends ` | ` and the reason for a fault of reading a game's text; nothing if there is none. `text` is the text from
 // the fault's byte on.
 fn append_pgn_reason(
@@ -149,6 +163,7 @@ fn append_pgn_reason(
         PgnFaultKind::BadTag => append_part(lines, bad_tag_reason(text)),
         PgnFaultKind::BadFen(fault) => append_part(lines, fault.name().as_bytes()),
         PgnFaultKind::BadToken => append_part(lines, token_reason(text)),
+        PgnFaultKind::IllegalMove => append_move_reason(lines, text),
         PgnFaultKind::AfterEnd => append_verdict(lines, verdict),
         _ => {}
     }

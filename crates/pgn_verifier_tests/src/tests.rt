@@ -456,7 +456,7 @@ fn tags_are_explained(rt: HostRuntime) {
 }
 
 // Bad tokens, and what is written of them.
-const TOKENS: [(&[u8], &[u8]); 10] = [
+const TOKENS: [(&[u8], &[u8]); 14] = [
     (
         b"1. e4 & *",
         b"game 1: bad token at byte 6\n# line 1 column 7 & | rnbqkbnr/pppppppp/8/8/4P3/8/PPPP1PPP/RNBQKBNR b KQkq e3 0 1 | begins no token\n",
@@ -496,6 +496,23 @@ const TOKENS: [(&[u8], &[u8]); 10] = [
     (
         b"+ *",
         b"game 1: bad token at byte 0\n# line 1 column 1 + | rnbqkbnr/pppppppp/8/8/8/8/PPPPPPPP/RNBQKBNR w KQkq - 0 1 | not a move\n",
+    ),
+    // Results as they are written elsewhere.
+    (
+        b"1. e4 1/2",
+        b"game 1: bad token at byte 6\n# line 1 column 7 1/2 | rnbqkbnr/pppppppp/8/8/4P3/8/PPPP1PPP/RNBQKBNR b KQkq e3 0 1 | a draw is written 1/2-1/2\n",
+    ),
+    (
+        b"1. e4 \xc2\xbd-\xc2\xbd",
+        b"game 1: bad token at byte 6\n# line 1 column 7 ??-?? | rnbqkbnr/pppppppp/8/8/4P3/8/PPPP1PPP/RNBQKBNR b KQkq e3 0 1 | a draw is written 1/2-1/2\n",
+    ),
+    (
+        b"1. e4 1\xe2\x80\x930",
+        b"game 1: bad token at byte 7\n# line 1 column 8 ???0 | rnbqkbnr/pppppppp/8/8/4P3/8/PPPP1PPP/RNBQKBNR b KQkq e3 0 1 | an en dash, where results have a hyphen\n",
+    ),
+    (
+        b"1. e4 0-0",
+        b"game 1: illegal move at byte 6\n# line 1 column 7 0-0 | rnbqkbnr/pppppppp/8/8/4P3/8/PPPP1PPP/RNBQKBNR b KQkq e3 0 1 | castling, and no result of PGN\n",
     ),
 ];
 
