@@ -13,7 +13,7 @@ use clap::{Arg, ArgAction, Command};
 use std::alloc::{AllocError, Global};
 
 // The version that `--version` prints.
-const VERSION: &str = "0.2.0";
+const VERSION: &str = "0.3.0";
 
 // What the program is, in its help.
 const ABOUT: &str = "\

@@ -51,7 +51,7 @@ const RUNS: [ProgramRun; 24] = [
         arguments: &["--version"],
         input: b"ping 7\n",
         fails: (0, 0),
-        output: b"arbiter 0.2.0\n",
+        output: b"arbiter 0.3.0\n",
         errors: b"",
         status: 0,
     },
