@@ -10,7 +10,7 @@ use Rattle.pgn_verifier.specs.declared.tally.Tally.{Tally}
 use Rattle.pgn_verifier.specs.Explanations.{wrong_part}
 use Rattle.pgn_verifier.specs.Reports.{Game, Faulty, Placed, game_begin, span_text, report_lines}
 use Rattle.pgn_verifier.specs.laws.Reasons.{explanation_of}
-use Rattle.pgn_verifier.specs.laws.Reported.{read_at, judged_at, placed_then, placed_from, placed_on}
+use Rattle.pgn_verifier.specs.laws.Reported.{names_at, read_at, judged_at, placed_then, placed_from, placed_on}
 use Rattle.pgn_verifier.specs.ties.OnTheWay.{game_line, with_report, next_number, Writes, GrowsBy, moved, counted}
 use Rattle.pgn_verifier.proofs.LinesWritten.{placed_line, wrote_none, took_after, broke_after, writes_after, one_line, first_broke, counted_after}
 
@@ -57,6 +57,7 @@ abbrev pub game_report : ℕ → List ℕ → ℕ → PgnEnd → State → Place
 game_report start text at end g = record {
   begin = start + game_begin text at;
   end = start + end.offset;
+  names = Some (names_at text at);
   report = Game (length g.moves) end.outcome end.termination;
 }
 
@@ -65,6 +66,7 @@ abbrev pub fault_report : ℕ → List ℕ → ℕ → GameFault → State → P
 fault_report start text at fault g = record {
   begin = start + game_begin text at;
   end = start + length text;
+  names = Some (names_at text at);
   report = Faulty (moved start fault) (start + fault.offset + (wrong_part fault.kind (drop fault.offset text)).0)
       (explanation_of g (drop fault.offset text) fault.kind);
 }

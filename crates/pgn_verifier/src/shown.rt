@@ -11,7 +11,7 @@ ghost use Rattle.chess_game.specs.Results.{shown_byte};
 use arrayvec::ArrayVec;
 use chess_pgn::token_parts::is_white_space;
 
-// The most bytes of a word that are shown.
+// The most bytes of a word, or of a tag's text, that are shown.
 const WORD_LEN: usize = 40;
 
 // The most bytes of a FEN's field that are shown.
@@ -47,8 +47,8 @@ fn first_word(text: &[u8]) -> &[u8]
     &text[..word_len(text)]
 }
 
-// A byte as it is shown: `?` in place of one that is no printable ASCII. No space is shown, since none is in a word or
-// in a FEN's field.
+// A byte as it is shown: `?` in place of one that is no printable ASCII. A space is only in a tag's text: none is in
+// a word or in a FEN's field.
 fn shown_byte(byte: u8) -> u8
     ensures { result ≡ shown_byte byte }
 {
@@ -86,6 +86,14 @@ pub(crate) fn shown(text: &[u8]) -> Shown
     ensures len { array_vec_len result ≤ 45 }
 {
     shown_word(first_word(text))
+}
+
+/// The first bytes of a text as they are shown, at most 40.
+pub(crate) fn shown_beginning(text: &[u8]) -> Shown
+    ensures text { result.items ≡ map shown_byte (take 40 text.now) }
+    ensures len { array_vec_len result ≤ 40 }
+{
+    shown_bytes(first_bytes(WORD_LEN, text))
 }
 
 /// A FEN's field as it is shown, at most 80 bytes of it.

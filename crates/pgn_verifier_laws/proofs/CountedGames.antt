@@ -177,6 +177,7 @@ counted_games_of_pieces legal law initial strict offset piece reports h = at (na
         (reports ≡ record {
           begin = offset;
           end = offset + length piece;
+          names = None;
           report = Faulty (record { kind = Pgn TooLong; offset = offset }) offset (shown piece);
         } ∷ [])
         → HasGames piece 0 (without_spans reports)
