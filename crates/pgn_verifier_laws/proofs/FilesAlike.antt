@@ -18,7 +18,7 @@ use Rattle.pgn_verifier.specs.Explanations.{wrong_part}
 use Rattle.pgn_verifier.specs.Reports.{Report, Game, Faulty, Placed, game_begin, half_moves_of, without_spans, counts_of}
 use Rattle.pgn_verifier.specs.declared.game_fault.GameFault.{GameFault}
 use Rattle.pgn_verifier.specs.laws.Reasons.{explanation_of}
-use Rattle.pgn_verifier.specs.laws.Reported.{read_at, judged_at, placed_then, placed_from, placed_on, placed_in, too_long_placed}
+use Rattle.pgn_verifier.specs.laws.Reported.{names_at, read_at, judged_at, placed_then, placed_from, placed_on, placed_in, too_long_placed}
 use Rattle.pgn_verifier_laws.specs.Files.{AreCutWherePiecesBegin, moved, one_after_another, IsSumOf, FilesAreVerifiedAlike}
 use Rattle.pgn_verifier_laws.proofs.OnlyReports.{only_all}
 
@@ -88,7 +88,7 @@ pieces_of_files law (file ∷ next ∷ files) h =
 -- ---- reports at another offset
 
 abbrev moved_placed : ℕ → Placed → Placed
-moved_placed by p = record { begin = by + p.begin; end = by + p.end; report = moved by p.report }
+moved_placed by p = record p { begin = by + p.begin; end = by + p.end; report = moved by p.report }
 
 grouped : (by start n : ℕ) → by + start + n ≡ by + (start + n)
 grouped by start n = omega arith
@@ -110,11 +110,14 @@ moved_from strict by start (suc n) text at =
     by_answer (Ok None) later = refl
     by_answer (Ok (Some end)) later =
         let game : Report = Game (length (read_at text at).state.moves) end.outcome end.termination in
-        ap₂ (λ (b e : ℕ). record { begin = b; end = e; report = game } ∷ placed_from strict (by + start) n text end.offset)
+        let names : Option (List ℕ) = Some (names_at text at) in
+        ap₂ (λ (b e : ℕ). record { begin = b; end = e; names = names; report = game }
+        ∷ placed_from strict (by + start) n text end.offset)
         (grouped by start (game_begin text at)) (grouped by start end.offset)
         ∙ ap (λ (ps : List Placed). record {
           begin = by + (start + game_begin text at);
           end = by + (start + end.offset);
+          names = names;
           report = game;
         } ∷ ps) (later end.offset)
     by_answer (Err fault) later =
@@ -123,6 +126,7 @@ moved_from strict by start (suc n) text at =
         let there : Placed = record {
           begin = by + (start + game_begin text at);
           end = by + (start + length text);
+          names = Some (names_at text at);
           report = Faulty (record fault { offset = by + start + fault.offset }) (by + start + fault.offset + wrong) why;
         } in
         ap₂ (λ (b e : ℕ). record there { begin = b; end = e } ∷ [])
