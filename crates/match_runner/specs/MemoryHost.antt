@@ -39,7 +39,14 @@ next_text engines earlier command = text_of_start engines command (count_by (λ 
 -- it, and no call was made
 abbrev pub fresh_pipes : List ℕ → Devices
 fresh_pipes text = record {
-  input = record { known_bytes = Some text; failure_count = 0; end_count = 0; last_len = 0; pieces_left = 2 ^ 64 - 1 };
+  input = record {
+    known_bytes = Some text;
+    failure_count = 0;
+    end_count = 0;
+    last_len = 0;
+    pieces_left = 2 ^ 64 - 1;
+    silence_count = 0;
+  };
   output = record { known_bytes = Some []; failure_count = 0; unflushed = 0 };
 }
 
