@@ -9,7 +9,7 @@ use Rattle.chess_game.specs.Results.{cut_tag}
 use Rattle.cecp_engine.specs.Items.{last_said}
 use Rattle.chess_match.specs.Acts.{Act, IsMatch}
 use Rattle.chess_match.specs.ByDevice.{line_read, is_end_of, is_failed_read_of, is_silence_of, moment_shown, lines_to, broken_block, notes_of}
-use Rattle.chess_match.specs.Effects.{Match, Over}
+use Rattle.chess_match.specs.Effects.{Match, Over, beginning}
 use Rattle.chess_match.specs.Notes.{Note}
 use Rattle.chess_match.specs.Reasons.{reported, reported_fault, reported_reason, declared_at}
 use Rattle.chess_base.specs.ByColour.{by_colour, of_colour}
@@ -114,13 +114,14 @@ PlayedNoting noted setup end w w' =
     (H : List Act) × (reason : Reason) × noted (flat_map (notes_of reason) H) × PlayedBy H reason setup end w w'
 
 -- a match was played at a table as `setup` says, and reported as `end`. From the state `old` of the table to `new`
--- just the steps of the match's acts passed, in order, and its notes (`watched`). The game was `g` before. It is `g'`
--- after: it has this start, the moves of the match, and the result as in `PlayedBy`
+-- just the steps of the match's acts passed, in order, with its notes; each line was waited for as long as the rules
+-- say (`watched`). The game was `g` before. It is `g'` after: it has this start, the moves of the match, and the result
+-- as in `PlayedBy`
 abbrev pub PlayedAt : Setup → MatchEnd → Passing → Passing → game.Seen → game.Seen → Type 0
 PlayedAt setup end old new g g' =
     let r = rules_of setup.start (of_colour setup.levels) setup.patience setup.draws g.limit in
     (H : List Act) × (reason : Reason) × (final : Match)
-    × IsMatch r H final × Passes old new (watched reason H) × ReportedAs r H final reason end
+    × IsMatch r H final × Passes old new (watched r reason beginning.after H) × ReportedAs r H final reason end
     × (g' ≡ game.with_state g (record {
       start = setup.start;
       moves = final.played;
