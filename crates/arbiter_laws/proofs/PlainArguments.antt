@@ -69,6 +69,7 @@ nothing_read r = record {
   at_end = λ e. absurd (cc);
   ends = refl;
   failures = refl;
+  silences = refl;
 }
 
 -- memory ran out before anything was read
@@ -80,7 +81,7 @@ not_begun options d d' same kept =
       nothing,
       nothing_read d.input,
       took_nothing d.output,
-      (refl, (λ e. absurd (cc)), refl),
+      (refl, (refl, (λ e. absurd (cc)), refl)),
     ) in
     subst (λ (v : Devices). Ran (Verifies options (Err verifying.NoMemory)) d v) (sym (both_same d d' same kept)) here
 

@@ -2,6 +2,7 @@
 use mathlib.Core.Bool.{or-false}
 use Rattle.std.proofs.Common.{◌≡◌, ℕ, Bool, true, false, ◌||◌, ◌⊎◌, inl, inr, List, [], ◌∷◌, ◌++◌, map, refl, ap, sym, ◌∙◌, subst, append_assoc, append-nil, Option}
 use Rattle.std.specs.Bool.{MatchBool}
+use Rattle.std.specs.List.{count_by}
 use Rattle.std.specs.Io.KnownBytes.{Consumes, IsAtEnd}
 use Rattle.chess_base.specs.declared.man.Colour.{Colour}
 use Rattle.chess_base.specs.Men.{same_colour}
@@ -11,6 +12,7 @@ use Rattle.text_lines.specs.Next.{GotLine, GotLast, GotNone, GotFault, GotSilenc
 use Rattle.byte_devices.specs.Transfers.{FromInput, InputGave}
 use Rattle.byte_devices.proofs.shared.Transfers.{came, saturating_increment_if}
 use Rattle.chess_match.specs.Acts.{Act, Sends, SendFails, Happens}
+use Rattle.chess_match.specs.ByDevice.{is_silence_of}
 use Rattle.chess_match.specs.Events.{Line, Opened, Silent, OutputEnds, FailsToRead, FailsToWrite}
 use Rattle.chess_match.specs.laws.Laws.{has_ended, has_failed_read, lines_read}
 use Rattle.chess_base.specs.Options.{list_if}
@@ -21,6 +23,7 @@ use Rattle.chess_match.specs.ties.AtDesk.{ReadsOf}
 use Rattle.chess_match.specs.ties.EngineOutput.{OutputSoFar, OutputEnded}
 use Rattle.chess_match.proofs.shared.MatchCases.{quiet_read, reads_end}
 use Rattle.chess_match.proofs.AtDesk.{tail_same}
+use Rattle.chess_match.proofs.SilencesCounted.{silences_counted}
 use Rattle.chess_match.proofs.OutputByCalls.{output_more, output_last, output_none, output_fault, output_silent, output_start}
 
 map_both : (xs ys : List LineSeen) → map text_read (xs ++ ys) ≡ map text_read xs ++ map text_read ys
@@ -181,7 +184,14 @@ pub all_read : (S : Colour) (H : List Act) (r r' : InputState) (h' : Held) → r
     → ReadsOf S H r r' nothing_held h' → (i : FromInput) × InputGave r r' i × SaidBy S H i
 all_read S H r r' h' end p =
     let (given, q) = reads_all S [] H r r r' nothing_held h' [] end (output_start r) p in (
-      came r' given (has_ended S H) (has_failed_read S H),
-      record { bytes = q.bytes; early = refl; at_end = q.at_end; ends = q.ends; failures = q.failures },
-      record { lines = q.lines; ended = refl; failed = refl; all = q.all },
+      record (came r' given (has_ended S H) (has_failed_read S H)) { silences = count_by (is_silence_of S) H },
+      record {
+        bytes = q.bytes;
+        early = refl;
+        at_end = q.at_end;
+        ends = q.ends;
+        failures = q.failures;
+        silences = silences_counted S H r r' nothing_held h' p;
+      },
+      record { lines = q.lines; ended = refl; failed = refl; silences = refl; all = q.all },
     )

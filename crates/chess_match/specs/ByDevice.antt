@@ -28,6 +28,11 @@ abbrev pub is_failed_read_of : Colour → Act → Bool
 is_failed_read_of S (Happens (FailsToRead side)) = same_colour side S
 is_failed_read_of S _ = false
 
+-- whether this act is a look for a line of the engine of the side `S` that found none yet
+abbrev pub is_silence_of : Colour → Act → Bool
+is_silence_of S (Happens (Silent side moment)) = same_colour side S
+is_silence_of S _ = false
+
 -- the moment, in milliseconds, that the clock showed in this act, whichever side it was read for, as a list of one;
 -- empty if the clock was not read
 abbrev pub moment_shown : Act → List ℕ

@@ -1,6 +1,6 @@
 //! The table of separate devices.
 
-ghost use Rattle.std.specs.Prelude.{◌≡◌, ◌<◌, ℕ, List, Option, None, Ok};
+ghost use Rattle.std.specs.Prelude.{◌≡◌, ◌<◌, ℕ, List, Option, None, Some, Ok};
 ghost use Rattle.std.specs.Result.{is_err};
 ghost use Rattle.chess_base.specs.declared.man.Colour.{Colour};
 ghost use Rattle.text_lines.specs.Next.{line_read};
@@ -9,7 +9,7 @@ ghost use Rattle.chess_match.specs.Lines.{SentLine, bytes_of};
 ghost use Rattle.chess_match.specs.Notes.{Happened, Gives};
 ghost use Rattle.chess_match.specs.Run.{text_read};
 ghost use Rattle.chess_match.specs.Table.{Does, ReadsLine, ReadsClock, Notes, reading_of, reading_until, sending};
-ghost use Rattle.chess_match.specs.ties.AtDesk.{PassesAt, left_at, passed_at};
+ghost use Rattle.chess_match.specs.ties.AtDesk.{LooksAt, PassesAt, left_at, passed_at};
 
 use crate::moments::Moments;
 use crate::run::ENGINE_LINE_LEN;
@@ -59,7 +59,7 @@ impl<R: Input, W: Output, M: Moments, L: Witness> MatchTable
         side: Colour,
         line: &mut Line<ENGINE_LINE_LEN>,
     ) -> Result<bool, ReadFault>
-        ensures passes { PassesAt R.seen W.seen M.coming L.noted self.old self.new
+        ensures passes { LooksAt R.seen W.seen M.coming L.noted self.old self.new side None
             (reading_of side (line_read result line.new)) }
         ensures less { (text : Option (List ℕ)) → reading_of side (line_read result line.new) ≡ ReadsLine side text
             → left_at R.seen self.new < left_at R.seen self.old }
@@ -85,7 +85,7 @@ impl<R: Input, W: Output, M: Moments, L: Witness> MatchTable
         until: u64,
         line: &mut Line<ENGINE_LINE_LEN>,
     ) -> Result<Option<bool>, ReadFault>
-        ensures passes { PassesAt R.seen W.seen M.coming L.noted self.old self.new
+        ensures passes { LooksAt R.seen W.seen M.coming L.noted self.old self.new side (Some until)
             (reading_until side result line.new) }
         ensures less { (text : Option (List ℕ)) → reading_until side result line.new ≡ ReadsLine side text
             → left_at R.seen self.new < left_at R.seen self.old }

@@ -21,12 +21,12 @@ ghost use Rattle.chess_match.specs.Played.{Played, PlayedNoting, PlayedAt};
 ghost use Rattle.chess_match.specs.Reasons.{declared_at};
 ghost use Rattle.chess_match.specs.Rules.{Rules};
 ghost use Rattle.chess_match.specs.Run.{engines_of, text_read};
-ghost use Rattle.chess_match.specs.Table.{Passes, ReadsLine, reading_until};
+ghost use Rattle.chess_match.specs.Table.{LooksFor, Passes, ReadsLine, reading_until};
 ghost use Rattle.chess_match.specs.declared.block.TheConstants.{ANSWERS_LEN};
 ghost use Rattle.chess_match.specs.declared.reason.Reason.{Reason};
 ghost use Rattle.chess_match.specs.declared.run.TheConstants.{ENGINE_LINE_LEN};
 ghost use Rattle.chess_match.specs.ties.Awaits.{IsAwaited, until_of};
-ghost use Rattle.chess_match.specs.ties.Driving.{Delivered, after_line, after_silence, by_turn, giving, is_line_event, is_of_output, is_silence, line_event, steps_of};
+ghost use Rattle.chess_match.specs.ties.Driving.{Delivered, after_line, after_silence, by_turn, giving, is_line_event, is_of_output, is_silence, line_event, looks_of, steps_of};
 ghost use Rattle.chess_match.specs.ties.Reported.{IsReported};
 ghost use Rattle.chess_match.specs.ties.Represents.{Goes, Represents, nothing_said, phase_of};
 ghost use Rattle.chess_match.specs.ties.Sane.{IsSane, IsWritten};
@@ -446,7 +446,8 @@ fn read_next<T: MatchTable>(
     until: Option<u64>,
     line: &mut Line<ENGINE_LINE_LEN>,
 ) -> Result<Option<bool>, ReadFault>
-    ensures passes { Passes (T.passed table.old) (T.passed table.new) (reading_until side result line.new ∷ []) }
+    ensures passes { Passes (T.passed table.old) (T.passed table.new)
+        (LooksFor side until ∷ reading_until side result line.new ∷ []) }
     ensures less { (text : Option (List ℕ)) → reading_until side result line.new ≡ ReadsLine side text
         → T.left table.new < T.left table.old }
     ensures silent { result ≡ Ok None → (T.left table.new < T.left table.old) × (is_some until ≡ true) }
@@ -474,7 +475,8 @@ fn take_next<T: MatchTable, G: MatchGame>(
     ensures rules { (r : Rules) → G.plays game.old r → G.plays game.new r }
     ensures origin { G.origin game.new ≡ G.origin game.old }
     ensures taken { (e : Event) × (items : Colour → List Item) × (is_of_output side e ≡ true)
-        × Passes (T.passed table.old) (T.passed table.new) (steps_of e)
+        × Passes (T.passed table.old) (T.passed table.new)
+        (looks_of (until_of core.old core.old.phase) e ++ steps_of e)
         × (is_line_event e ≡ true → T.left table.new < T.left table.old)
         × (is_silence e ≡ true → (T.left table.new < T.left table.old)
         × (is_some (until_of core.old core.old.phase) ≡ true))

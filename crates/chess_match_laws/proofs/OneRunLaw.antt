@@ -237,6 +237,7 @@ said_alike S K i text e h = record {
   lines = (h.lines.0, ap engine_lines e ∙ h.lines.1);
   ended = h.ended;
   failed = h.failed;
+  silences = h.silences;
   all = λ over. ap engine_lines e ∙ h.all over;
 }
 

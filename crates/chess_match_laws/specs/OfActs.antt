@@ -77,18 +77,18 @@ EndsAfterItsActs r H m = match_after r beginning.after H ≡ m
 
 -- ---- order
 
--- among the steps of any acts, a match or not: after a line is read, the next steps are to read the clock for that side
+-- among the steps of any acts, a match or not, from any state on: after a line is read, the next steps are to read the clock for that side
 -- and to note the line with the moment that the clock showed
 abbrev pub LinesAreReadInOrder : Type 0
-LinesAreReadInOrder = (reason : Reason) (H : List Act) (before after : List Step) (S : Colour)
-    (text : Option (List ℕ)) → watched reason H ≡ before ++ ReadsLine S text ∷ after
+LinesAreReadInOrder = (r : Rules) (reason : Reason) (m : Match) (H : List Act) (before after : List Step) (S : Colour)
+    (text : Option (List ℕ)) → watched r reason m H ≡ before ++ ReadsLine S text ∷ after
     → (moment : ℕ) × (rest : List Step)
     × (after ≡ ReadsClock S moment ∷ Notes (Happened (Line S text moment)) ∷ rest)
 
 -- and so after no line was found: the clock is read for that side, and the silence is noted with the moment
 abbrev pub SilencesAreReadInOrder : Type 0
-SilencesAreReadInOrder = (reason : Reason) (H : List Act) (before after : List Step) (S : Colour)
-    → watched reason H ≡ before ++ FindsNoLine S ∷ after
+SilencesAreReadInOrder = (r : Rules) (reason : Reason) (m : Match) (H : List Act) (before after : List Step)
+    (S : Colour) → watched r reason m H ≡ before ++ FindsNoLine S ∷ after
     → (moment : ℕ) × (rest : List Step)
     × (after ≡ ReadsClock S moment ∷ Notes (Happened (Silent S moment)) ∷ rest)
 
@@ -188,7 +188,7 @@ abbrev pub endless : Patience
 endless = record { flag = false; reply = None }
 
 -- in the acts `H` and `K` the same looks for a line found none. It holds of all matches by rules that set no limit to
--- waiting (`silences_end_matches`); devices show nothing of silences
+-- waiting (`silences_end_matches`); devices show only how many looks found none
 abbrev pub HaveSameSilences : Rules → List Act → List Act → Type 0
 HaveSameSilences r H K =
     (r.patience ≡ endless) ⊎ ((silent : Colour → ℕ → Bool) × AreSilent silent H × AreSilent silent K)

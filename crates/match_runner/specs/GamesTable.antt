@@ -111,10 +111,12 @@ last_steps plan number (Err (CanNotStart command)) None = unstarted_steps plan n
 -- any other result: no next game was begun
 last_steps plan number _ None = []
 
--- the pipes of an engine that was just started: no read, write or flush failed, no end came, and nothing is unflushed
+-- the pipes of an engine that was just started: no read, write or flush failed, no end and no silence came, and nothing
+-- is unflushed
 pub record AreFresh (pipes : Devices) : Type 0 where
   pub reads : pipes.input.failure_count ≡ 0
   pub ends : pipes.input.end_count ≡ 0
+  pub silences : pipes.input.silence_count ≡ 0
   pub writes : pipes.output.failure_count ≡ 0
   pub flushed : pipes.output.unflushed ≡ 0
 

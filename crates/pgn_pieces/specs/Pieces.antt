@@ -81,19 +81,22 @@ known_pieces ended text = let all = cut text in if ended then all else take (len
 
 -- ---- what was read of an input
 
--- between two states of the input, `r` and then `r'`, just this text was read, and no read failed. `ended`: the end
--- of the input was reached, and was reported by one read
+-- between two states of the input, `r` and then `r'`, just this text was read, no read failed, and no silence was
+-- counted. `ended`: the end of the input was reached, and was reported by one read
 pub record HasRead (ended : Bool) (r r' : InputState) (text : List ℕ) : Type 0 where
   pub bytes : Consumes r.known_bytes r'.known_bytes text
   pub failures : r'.failure_count ≡ r.failure_count
   pub ends : r'.end_count ≡ (if ended then saturating_increment r.end_count else r.end_count)
+  pub silences : r'.silence_count ≡ r.silence_count
   pub at_end : ended ≡ true → IsAtEnd r'.known_bytes
 
--- between two states of the input, `r` and then `r'`, this text was read, and then one read failed
+-- between two states of the input, `r` and then `r'`, this text was read, and then one read failed; no silence was
+-- counted
 pub record GaveThenFailed (r r' : InputState) (text : List ℕ) : Type 0 where
   pub bytes : Consumes r.known_bytes r'.known_bytes text
   pub failures : r'.failure_count ≡ saturating_increment r.failure_count
   pub ends : r'.end_count ≡ r.end_count
+  pub silences : r'.silence_count ≡ r.silence_count
 
 -- why nothing was read after this text, between the input's states `r` and `r'`: a read failed, memory ran out, or
 -- the text has nearly 2^63 bytes or more

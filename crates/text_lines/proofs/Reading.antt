@@ -23,6 +23,7 @@ pub record SoFar (n : ℕ) (r r' : InputState) (held held' : Held) (given : List
       → lines_held n at_end held (given ++ rest) ≡ lines_held n at_end held' rest
   pub failures : r'.failure_count ≡ r.failure_count
   pub ends : r'.end_count ≡ r.end_count
+  pub silences : r'.silence_count ≡ r.silence_count
   pub work : work r' held' ≤ work r held
 
 at_false : (b : Bool) (P Q : Type 0) → b ≡ false → Q → MatchBool b P Q
@@ -67,6 +68,7 @@ start n r h = record {
   lines = λ at_end rest. refl;
   failures = refl;
   ends = refl;
+  silences = refl;
   work = omega arith;
 }
 
@@ -79,6 +81,7 @@ piece_on n r r' r'' h h' h'' given piece s f p some few = record {
   lines = lines_on n r r' h h' h'' given piece s f;
   failures = p.failures ∙ s.failures;
   ends = p.ends ∙ (let e : nat_eq (length piece) 0 ≡ false = grind arith in rw e refl) ∙ s.ends;
+  silences = p.silences ∙ s.silences;
   work = (let a = p.falls in let b = s.work in omega arith);
 }
 
@@ -112,6 +115,7 @@ end_none E n r r' r'' h h' h'' h3 given piece s f p e empty left = (
     at_end = p.at_end (ap length e);
     failures = p.failures ∙ s.failures;
     ends = reported_end r' r'' piece p e ∙ ap saturating_increment s.ends;
+    silences = p.silences ∙ s.silences;
   },
 )
 
@@ -132,6 +136,7 @@ end_last E n r r' r'' h h' h'' h3 given piece line s f p e some is left =
         at_end = p.at_end (ap length e);
         failures = p.failures ∙ s.failures;
         ends = reported_end r' r'' piece p e ∙ ap saturating_increment s.ends;
+        silences = p.silences ∙ s.silences;
       }),
     )
 
@@ -179,6 +184,7 @@ fault_until n r r' r'' h h' h'' given coming (Err fault) line s f e p is = (
         ∙ ap (λ v. lines_from n at_end h''.part (v ++ rest)) (f.1 ∙ sym e);
     failures = p.failures ∙ ap saturating_increment s.failures;
     ends = p.ends ∙ s.ends;
+    silences = p.silences ∙ s.silences;
   },
 )
 

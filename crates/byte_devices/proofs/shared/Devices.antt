@@ -49,6 +49,11 @@ add_twice n (suc j) (suc k) =
     ∙ ap (λ c. min (c + suc k) (2 ^ 64 - 1)) (add_some n (suc j) (omega arith))
     ∙ min_more n (suc j) (suc k) (2 ^ 64 - 1) ∙ sym (add_some n (suc j + suc k) (omega arith))
 
+-- one more, and then so many
+pub add_one_more : (n k : ℕ) → saturating_add (saturating_increment n) k ≡ saturating_add n (1 + k)
+unfolding saturating_increment
+add_one_more n k = add_twice n 1 k
+
 unflushed_more : (l m n : ℕ) (x y : List ℕ) → m ≡ saturating_add l (length x) → n ≡ saturating_add m (length y)
     → n ≡ saturating_add l (length (x ++ y))
 unflushed_more l m n x y e f =
