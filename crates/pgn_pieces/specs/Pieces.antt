@@ -4,6 +4,7 @@ use Rattle.std.specs.Char.{is_ascii_alphanumeric}
 use Rattle.std.specs.Io.KnownBytes.{Consumes, IsAtEnd}
 use Rattle.std.specs.List.{onto_first, take_while, prefix_len, list_any, list_all, concat, fold}
 use Rattle.std.specs.Str.{bytes_eq}
+use Rattle.byte_devices.specs.Bytes.{is_blank}
 use Rattle.byte_devices.specs.Devices.{InputState, saturating_increment}
 use Rattle.pgn_pieces.specs.Places.{ends_line}
 use Rattle.pgn_pieces.specs.declared.pieces.PieceFault.{PieceFault}
@@ -21,10 +22,6 @@ lines_of (c ∷ cs) = if ends_line c then (c ∷ []) ∷ lines_of cs else onto_f
 abbrev pub front_of : List ℕ → List ℕ
 front_of line =
     let first = take 256 line in if bytes_eq (take 3 first) (239 ∷ 187 ∷ 191 ∷ []) then drop 3 first else first
-
--- whether a byte is a space or a tab
-abbrev pub is_blank : ℕ → Bool
-is_blank c = (c == 32) || (c == 9)
 
 -- the name of the tag with which the front of a line begins: the letters, digits and underscores after its first byte,
 -- which is to be `[` but is not tested here
