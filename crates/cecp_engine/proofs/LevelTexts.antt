@@ -13,8 +13,8 @@ use Rattle.std.specs.Char.{digit_value}
 use Rattle.std.specs.Str.Parse.{digits_value}
 use Rattle.std.proofs.lemmas.Str.{digit_value_digit, IsAscii-append}
 use Rattle.std.proofs.lemmas.Str.Ascii.{IsAscii-nil}
-use Rattle.chess_base.specs.Letters.{byte, is_digit}
-use Rattle.text_lines.specs.Lines.{is_blank, without_front_blanks}
+use Rattle.byte_devices.specs.Bytes.{byte, is_digit, is_blank}
+use Rattle.text_lines.specs.Lines.{without_front_blanks}
 use Rattle.text_lines.specs.Words.{short_number, word_of, argument_of}
 use Rattle.cecp_engine.specs.ties.Bounds.{IsLevel}
 use Rattle.cecp_engine.specs.Levels.{LevelSeen, level_of, level_reading, level_text, base_of, base_text, two_digits, decimals_text, increment_text, milliseconds_of, thousandths_of}

@@ -1,12 +1,10 @@
 //! The items of a `feature` line.
 
 ghost use Rattle.std.specs.Prelude.{◌≡◌, ◌≤◌, ◌<◌, ◌++◌, ◌∷◌, ◌==◌, ◌||◌, [], length, drop, take, List, ℕ};
-ghost use Rattle.chess_base.specs.Letters.{byte, is_digit};
+ghost use Rattle.byte_devices.specs.Bytes.{byte, is_digit, is_blank, is_name_byte};
 ghost use Rattle.cecp_engine.specs.Items.{value_of, item_of, is_one, ends_handshake, items_of, is_known, has_word};
 ghost use Rattle.cecp_engine.specs.ties.Taken.{said_again, fischerandom_again, value_read};
 ghost use Rattle.cecp_engine.specs.Seen.{value_seen, item_seen, item_read};
-ghost use Rattle.text_lines.specs.Lines.{is_blank};
-ghost use Rattle.text_lines.specs.Words.{is_name_byte};
 ghost use Rattle.std.specs.List.{list_all, position_or_len, prefix_len};
 
 use text_lines::{is_blank, trim_start};

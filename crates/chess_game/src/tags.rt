@@ -2,7 +2,8 @@
 
 ghost use Rattle.chess_game.specs.declared.tags.TheConstants.{TAG_LEN};
 ghost use Rattle.std.specs.Prelude.{◌≡◌, ◌≤◌, length, map};
-ghost use Rattle.chess_game.specs.Results.{shown_byte, cut_tag, IsTagText};
+ghost use Rattle.chess_game.specs.Results.{cut_tag, IsTagText};
+ghost use Rattle.byte_devices.specs.Bytes.{shown_byte};
 
 use arrayvec::ArrayVec;
 use std::marker::Model;

@@ -3,7 +3,7 @@ use Rattle.std.proofs.Common.{◌≡◌, ℕ, zero, suc, ◌<◌, Bool, true, fa
 use Rattle.std.specs.Bool.{beq}
 use Rattle.std.proofs.lemmas.Bool.{cases_eq}
 use Rattle.chess_pgn.specs.declared.bytes.TheConstants.{CLASSES, NAMES}
-use Rattle.text_lines.specs.Words.{is_name_byte}
+use Rattle.byte_devices.specs.Bytes.{is_name_byte}
 use Rattle.chess_pgn.specs.Tokens.{is_word_byte, is_white_space}
 
 -- the two tests agree below n

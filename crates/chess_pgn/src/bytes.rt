@@ -5,8 +5,7 @@
 ghost use Rattle.std.specs.Prelude.{◌≡◌, ℕ, Bool, ◌<◌, ◌||◌, ◌==◌, drop, take_while};
 ghost use Rattle.std.specs.List.{prefix_len};
 ghost use Rattle.chess_pgn.specs.Tokens.{is_white_space, is_word_byte};
-ghost use Rattle.text_lines.specs.Words.{is_name_byte};
-ghost use Rattle.chess_base.specs.Letters.{byte, is_digit};
+ghost use Rattle.byte_devices.specs.Bytes.{is_name_byte, byte, is_digit};
 
 // The class of each byte: `w` if a word may have it, `p` if it is white space or a dot, which are passed over between
 // tokens, and `-` for any other.

@@ -3,7 +3,7 @@
 ghost use Rattle.std.specs.Prelude.{◌≡◌, drop, false, take_while, Option};
 ghost use Rattle.std.specs.List.{prefix_len};
 ghost use Rattle.std.specs.Option.{option_map};
-ghost use Rattle.text_lines.specs.Words.{is_name_byte};
+ghost use Rattle.byte_devices.specs.Bytes.{is_name_byte};
 ghost use Rattle.chess_pgn.specs.Tokens.{is_white_space, after_next, string_at};
 ghost use Rattle.chess_pgn.specs.shared.TagParts.{tag_by_parts};
 ghost use Rattle.chess_pgn.specs.ties.Seen.{tag_seen};

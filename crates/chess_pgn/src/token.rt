@@ -5,8 +5,8 @@
 ghost use Rattle.std.specs.Prelude.{◌≡◌, ◌≤◌, ◌∷◌, length, drop, false, [], None};
 ghost use Rattle.std.specs.List.{prefix_len, take_while};
 ghost use Rattle.std.specs.Option.{unwrap_or};
-ghost use Rattle.chess_pgn.specs.Tokens.{is_word_byte, token_at, comment_at, after_brace, variation_at, tag_at, Bad_tag, begins_line, after_byte_order_mark};
-ghost use Rattle.chess_base.specs.Letters.{is_digit};
+ghost use Rattle.chess_pgn.specs.Tokens.{is_word_byte, token_at, comment_at, after_brace, variation_at, tag_at, Bad_tag, begins_line};
+ghost use Rattle.byte_devices.specs.Bytes.{after_byte_order_mark, is_digit};
 ghost use Rattle.chess_pgn.specs.ties.Seen.{first_seen, IsNextToken, SkipsTo};
 
 use crate::bytes::{is_digit, is_passed, is_word_byte, split_while};

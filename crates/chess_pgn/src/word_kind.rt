@@ -2,7 +2,7 @@
 
 ghost use Rattle.std.specs.Prelude.{◌≡◌, ◌||◌, ◌==◌, false};
 ghost use Rattle.std.specs.List.{list_all};
-ghost use Rattle.chess_base.specs.Letters.{byte, is_digit};
+ghost use Rattle.byte_devices.specs.Bytes.{byte, is_digit};
 ghost use Rattle.chess_pgn.specs.Words.{is_marks};
 ghost use Rattle.chess_pgn.specs.laws.WordKinds.{word_kind};
 ghost use Rattle.chess_pgn.specs.shared.Begins.{begins_as_move};

@@ -8,7 +8,7 @@ use Rattle.std.specs.Fmt.{decimal}
 use Rattle.std.specs.List.{list_all, prefix_len, take_while}
 use Rattle.std.specs.Prelude.{nat_le}
 use Rattle.std.specs.Str.Parse.{AllDigits}
-use Rattle.chess_base.specs.Letters.{is_digit, is_letter}
+use Rattle.byte_devices.specs.Bytes.{is_digit, is_letter}
 use Rattle.chess_pgn.specs.declared.word_kind.WordKind.TheVariants.{Move}
 use Rattle.chess_pgn.specs.Tokens.{Word, is_word_byte, token_at}
 use Rattle.chess_pgn.specs.laws.WordKinds.{word_kind}

@@ -2,9 +2,8 @@
 
 ghost use Rattle.std.specs.Prelude.{◌≡◌, ◌<◌, ◌∷◌, ◌++◌, [], Bool, Err, decimal, false, length, map};
 ghost use Rattle.arrayvec.specs.ArrayVec.{array_vec_len};
-ghost use Rattle.chess_base.specs.Letters.{new_line};
+ghost use Rattle.byte_devices.specs.Bytes.{new_line, shown_byte};
 ghost use Rattle.chess_base.specs.Options.{list_if};
-ghost use Rattle.chess_game.specs.Results.{shown_byte};
 ghost use Rattle.chess_match.specs.Events as events;
 ghost use Rattle.chess_match.specs.Notes.{Gives, Happened};
 ghost use Rattle.chess_match.specs.Played.{PlayedNoting};

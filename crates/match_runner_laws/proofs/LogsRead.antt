@@ -6,7 +6,7 @@ use Rattle.std.specs.List.{list_all, onto_first}
 use Rattle.std.proofs.lemmas.List.{map-append}
 use Rattle.std.proofs.lemmas.List.Concat.{flat_map-append}
 use Rattle.std.proofs.lemmas.Bool.Decides.{nat_tests}
-use Rattle.chess_base.specs.Letters.{byte, new_line}
+use Rattle.byte_devices.specs.Bytes.{byte, new_line}
 use Rattle.chess_base.specs.Options.{list_if}
 use Rattle.chess_base.specs.declared.man.Colour.{Colour}
 use Rattle.chess_base.specs.Men.{same_colour}

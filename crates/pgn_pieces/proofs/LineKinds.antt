@@ -9,7 +9,8 @@ use Rattle.std.proofs.lemmas.Bool.Decides.{nat_tests}
 use Rattle.std.proofs.lemmas.List.{take-append-le, drop-append-le, take_all}
 use Rattle.std.proofs.lemmas.List.Folds.{prefix_len-append, length-prefix_len}
 use Rattle.std.proofs.lemmas.List.Sums.{prefix_len-le-length}
-use Rattle.pgn_pieces.specs.Pieces.{front_of, is_blank, tag_name, after_name, is_tag_line, is_event_line, is_moves_line}
+use Rattle.pgn_pieces.specs.Pieces.{front_of, tag_name, after_name, is_tag_line, is_event_line, is_moves_line}
+use Rattle.byte_devices.specs.Bytes.{is_blank}
 use Rattle.pgn_pieces.specs.ties.Fronts.{begins_tag, is_empty_front}
 use Rattle.pgn_pieces.specs.ties.Held.{SameKind, IsDecided}
 

@@ -13,7 +13,8 @@ ghost use Rattle.std.specs.Prelude.{◌≡◌, ◌≤◌, true, false, ◌||◌,
 ghost use Rattle.std.specs.Char.{is_ascii_alphanumeric};
 ghost use Rattle.std.specs.Str.{bytes_eq};
 ghost use Rattle.std.specs.List.{prefix_len, list_all};
-ghost use Rattle.pgn_pieces.specs.Pieces.{front_of, after_name, is_blank, tag_name, is_tag_line, is_event_line, is_moves_line};
+ghost use Rattle.pgn_pieces.specs.Pieces.{front_of, after_name, tag_name, is_tag_line, is_event_line, is_moves_line};
+ghost use Rattle.byte_devices.specs.Bytes.{is_blank};
 ghost use Rattle.pgn_pieces.specs.Places.{ends_line, line_ends};
 ghost use Rattle.pgn_pieces.specs.ties.Fronts.{begins_tag, is_empty_front};
 

@@ -2,7 +2,7 @@
 
 ghost use Rattle.std.specs.Prelude.{◌≡◌, ◌≤◌, ◌-◌, not, take_while, drop, length, ◌==◌};
 ghost use Rattle.std.specs.List.{prefix_len};
-ghost use Rattle.chess_base.specs.Letters.{byte, space};
+ghost use Rattle.byte_devices.specs.Bytes.{byte, space};
 ghost use Rattle.pgn_verifier.specs.WrongParts.{drop_while, from_field, field_at, field_number};
 
 use chess_base::FenFault;

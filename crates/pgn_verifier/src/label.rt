@@ -3,7 +3,8 @@
 ghost use Rattle.std.specs.Prelude.{◌≡◌, ◌≤◌, ◌<◌, ◌+◌, ◌++◌, ◌^◌, length};
 ghost use Rattle.std.specs.List.{prefix_len};
 ghost use Rattle.arrayvec.specs.ArrayVec.{array_vec_len};
-ghost use Rattle.chess_pgn.specs.Tokens.{after_byte_order_mark, is_white_space};
+ghost use Rattle.chess_pgn.specs.Tokens.{is_white_space};
+ghost use Rattle.byte_devices.specs.Bytes.{after_byte_order_mark};
 ghost use Rattle.pgn_pieces.specs.Stream.{current};
 ghost use Rattle.pgn_verifier.specs.Reports.{game_begin, span_text};
 ghost use Rattle.pgn_verifier.specs.ties.OnTheWay.{span_written};

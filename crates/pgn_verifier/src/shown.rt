@@ -6,7 +6,7 @@ ghost use Rattle.arrayvec.specs.ArrayVec.{array_vec_len};
 ghost use Rattle.chess_pgn.specs.Tokens.{is_white_space};
 ghost use Rattle.pgn_verifier.specs.declared.shown.TheConstants.{FIELD_LEN};
 ghost use Rattle.pgn_verifier.specs.Explanations.{shown_word, shown};
-ghost use Rattle.chess_game.specs.Results.{shown_byte};
+ghost use Rattle.byte_devices.specs.Bytes.{shown_byte};
 
 use arrayvec::ArrayVec;
 use chess_pgn::token_parts::is_white_space;

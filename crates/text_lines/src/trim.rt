@@ -1,7 +1,8 @@
 //! What a line says, without what surrounds it.
 
 ghost use Rattle.std.specs.Prelude.{◌≡◌, ◌≤◌, ◌||◌, ◌==◌, length};
-ghost use Rattle.text_lines.specs.Lines.{is_blank, without_return, without_front_blanks, without_end_blanks, trimmed};
+ghost use Rattle.text_lines.specs.Lines.{without_return, without_front_blanks, without_end_blanks, trimmed};
+ghost use Rattle.byte_devices.specs.Bytes.{is_blank};
 
 /// Whether a byte separates words in a line: a space or a tab.
 pub fn is_blank(byte: u8) -> bool

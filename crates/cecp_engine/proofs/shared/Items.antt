@@ -6,10 +6,9 @@ use Rattle.std.proofs.lemmas.List.Sums.{prefix_len-le-length}
 use Rattle.std.specs.Prelude.{if◌then◌else◌, ◌==◌, ◌&&◌, ◌||◌, not, nat_lt, option_and_then}
 use Rattle.std.specs.Option.{option_map_or}
 use Rattle.std.specs.Str.{bytes_eq}
-use Rattle.chess_base.specs.Letters.{byte, is_digit}
-use Rattle.text_lines.specs.Lines.{is_blank, without_front_blanks}
+use Rattle.byte_devices.specs.Bytes.{byte, is_digit, is_blank, is_name_byte}
+use Rattle.text_lines.specs.Lines.{without_front_blanks}
 use Rattle.text_lines.proofs.shared.Lines.{without_front_blanks-short}
-use Rattle.text_lines.specs.Words.{is_name_byte}
 use Rattle.std.specs.List.{list_all, position_or_len, prefix_len, take_while, list_any}
 use Rattle.cecp_engine.specs.Items.{Item, Value, value_of, item_of, ends_handshake, first_items, items_of, last_said}
 

@@ -1,5 +1,5 @@
 use Rattle.std.proofs.Common.{length, drop, ◌-◌, ◌+◌, ◌≡◌, ◌≤◌}
-use Rattle.chess_base.specs.Letters.{is_digit}
+use Rattle.byte_devices.specs.Bytes.{is_digit}
 use Rattle.std.specs.List.{prefix_len}
 use Rattle.cecp_engine.proofs.item.digits_len.Given as goal
 

@@ -1,6 +1,6 @@
 use Rattle.std.proofs.Common.{length, drop, ◌-◌, ◌+◌, ◌≡◌, ◌≤◌}
 use Rattle.std.specs.List.{prefix_len}
-use Rattle.text_lines.specs.Words.{is_name_byte}
+use Rattle.byte_devices.specs.Bytes.{is_name_byte}
 use Rattle.cecp_engine.proofs.item.name_len.Given as goal
 
 abbrev pub invariant-loop-at : goal.invariant-loop-at

@@ -1,7 +1,7 @@
 use Rattle.std.proofs.Common.{length, drop, ◌-◌, ◌+◌, ◌≡◌, ◌≤◌}
 use Rattle.std.specs.Prelude.{◌==◌}
 use Rattle.std.specs.List.{position_or_len}
-use Rattle.chess_base.specs.Letters.{byte}
+use Rattle.byte_devices.specs.Bytes.{byte}
 use Rattle.cecp_engine.proofs.item.quote_at.Given as goal
 
 abbrev pub invariant-loop-at : goal.invariant-loop-at
