@@ -1,6 +1,6 @@
 //! Kinds of bytes, and a text split by one. What is called for each byte of a text is inlined.
 
-ghost use Rattle.std.specs.Prelude.{◌≡◌, ℕ, Bool, ◌<◌, ◌≤◌, length, drop, take_while};
+ghost use Rattle.std.specs.Prelude.{◌≡◌, ℕ, Bool, ◌+◌, ◌<◌, ◌≤◌, length, drop, take_while};
 ghost use Rattle.std.specs.List.{prefix_len};
 ghost use Rattle.byte_devices.specs.Bytes.{is_digit, is_blank, is_name_byte, shown_byte, after_byte_order_mark};
 
@@ -59,6 +59,7 @@ pub fn split_while<F: Fn(u8) -> bool>(text: &[u8], test: F) -> (&[u8], &[u8])
         → result.0.now ≡ take_while p text.now }
     ensures rest { (p : ℕ → Bool) → ((byte : ℕ) → byte < 256 → (r : Bool) → F.post test byte r → r ≡ p byte)
         → result.1.now ≡ drop (prefix_len p text.now) text.now }
+    ensures lengths { length result.0.now + length result.1.now ≡ length text.now }
 {
     let mut end = 0;
     while end < text.len() && test(text[end]) {
