@@ -8,7 +8,7 @@ ghost use Rattle.chess_pgn.specs.Tokens.{Token};
 ghost use Rattle.byte_devices.specs.Bytes.{after_byte_order_mark};
 
 use crate::last_tag::last_tag;
-use crate::token::after_byte_order_mark;
+use byte_devices::after_byte_order_mark;
 use chess_game::Outcome;
 use pgn_writer::outcome_of;
 

@@ -7,7 +7,7 @@ ghost use Rattle.chess_pgn.specs.Words.{is_marks};
 ghost use Rattle.chess_pgn.specs.laws.WordKinds.{word_kind};
 ghost use Rattle.chess_pgn.specs.shared.Begins.{begins_as_move};
 
-use crate::bytes::is_digit;
+use byte_devices::is_digit;
 use chess_game::Outcome;
 use pgn_writer::outcome_of;
 
