@@ -265,12 +265,6 @@ owed_goes r core played given items S moment opened m p (inr (x, e)) at h =
 
 -- ---- a reply
 
--- the time for a reply runs from this moment on
-pub since_stands : (r : Rules) (core : MatchState) (played : List Move) (moment : ℕ) (m : Match)
-    → Represents r core played m
-    → Represents r (record core { since = Some moment }) played (awaited_since moment m)
-since_stands r core played moment m s = search (s.unsent)
-
 -- nothing is sent
 pub quiet_goes : (r : Rules) (core : MatchState) (played : List Move) (m : Match) → Represents r core played m
     → Goes r core played (record { draw = None; entered = false }) nothing_said (sends_nothing m)

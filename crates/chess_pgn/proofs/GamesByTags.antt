@@ -271,11 +271,6 @@ module _ (limit total : ℕ) (v : Variant) (rest : List (ℕ × Token)) (stops :
   or_true true x = refl
   or_true false x = refl
 
-  -- a tag of another name
-  abbrev WithTag : Bool → Option Termination → Setup → ℕ → List ℕ → List ℕ → ℕ → List (ℕ × Token) → Type 0
-  WithTag met before p left name string at_string tags =
-      Whole limit total v met before p ((left, Tag name string at_string) ∷ tags) rest
-
   termination_step : (before : Option Termination) (left at_string : ℕ) (name string : List ℕ) (tags : List (ℕ × Token))
       → termination_from before ((left, Tag name string at_string) ∷ tags)
       ≡ termination_from (termination_after before name string) tags

@@ -296,9 +296,6 @@ tags_in_line t s h sound = (
 abbrev pub result_tag : Outcome → List ℕ
 result_tag o = tag_line (codes "Result") (outcome_text o)
 
-result_is : (o : Outcome) → is_result (result_tag o) ≡ true
-result_is o = refl
-
 tag_found : (t : Tags) (s : State) → filter is_result (tag_lines t s) ≡ result_tag (outcome_now s) ∷ []
 tag_found t s = by_tests (is_fischerandom s.start.variant || not (is_initial s.start)) (is_fischerandom s.start.variant)
   where

@@ -46,11 +46,6 @@ use Rattle.rules_laws.proofs.MirrorEndings.{in_board, move_twice, none_in_mirror
 abbrev pub numbered : ℕ → Setup → Setup
 numbered n p = record p { fullmove = n }
 
-legal_ignores : (n : ℕ) (p : Setup) (m : Move) → is_legal (numbered n p) m ≡ is_legal p m
-unfolding is_legal is_pseudo_legal pawn_moves pawn_advances pawn_captures is_double_advance is_en_passant man_moves
-    castle_of castling is_castling_to castles after men_after captured_square
-legal_ignores n p m = refl
-
 after_ignores : (n : ℕ) (p : Setup) (m : Move) → numbered 1 (after (numbered n p) m) ≡ numbered 1 (after p m)
 unfolding after men_after captured_square is_en_passant castle_of castling is_castling_to rights_after target_after
     is_double_advance halfmove_after resets_clock

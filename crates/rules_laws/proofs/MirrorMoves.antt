@@ -76,9 +76,6 @@ two_ahead c a b h l e =
 
 -- ---- pawns
 
-abbrev InBoard : Move → Type 0
-InBoard m = (m.from < 64) × (m.to < 64)
-
 pub double_advance-mirrored : (p : Setup) (m : Move) → m.from < 64 → m.to < 64
     → is_double_advance (mirrored_setup p) (mirrored_move m) ≡ is_double_advance p m
 unfolding is_double_advance
