@@ -28,7 +28,7 @@ run_ends p ten c (d ∷ xs) e h =
     let k = run_ends p ten d xs (differs p d 10 both.0 ten) both.1 in
     record { front = c ∷ k.front; last = k.last; is = ap (λ ys. c ∷ ys) k.is; no_end = k.no_end }
 
-same_first : (c d : ℕ) (xs ys : List ℕ) → c ∷ xs ≡ d ∷ ys → c ≡ d
+pub same_first : (c d : ℕ) (xs ys : List ℕ) → c ∷ xs ≡ d ∷ ys → c ≡ d
 same_first c d xs ys e = cc
 
 -- the last byte of a token whose first byte isn't 10

@@ -1,4 +1,5 @@
 -- For boards and texts of moves: what captures, and what turns the clock back.
+pub use Rattle.chess_base.proofs.Rays.{could_capture-itself}
 use Rattle.std.proofs.Common.{◌≡◌, ℕ, Bool, true, false, ◌||◌, ◌&&◌, Some, None, refl, ap, ◌∙◌, arith}
 use Rattle.std.specs.Prelude.{is_some, if◌then◌else◌}
 use Rattle.chess_base.specs.declared.man.Kind.TheVariants.{Pawn}

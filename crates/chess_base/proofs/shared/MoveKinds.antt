@@ -1,16 +1,16 @@
 -- For lists of moves: the kinds of pseudo-legal moves, and what follows from each.
 use Rattle.std.proofs.Common.{◌≡◌, ℕ, ◌<◌, inl, inr, Bool, true, false, ◌&&◌, ◌||◌, not, cond, Option, Some, None, refl, sym, ◌==◌, is_none}
-use Rattle.std.proofs.lemmas.Bool.{and_parts, and_from, and_right, or_cases, both_ways, ltb-true, false_from_ne_true, not-true}
+use Rattle.std.proofs.lemmas.Bool.{and_parts, and_from, and_right, or_cases, both_ways, eqb-true, ltb-true, false_from_ne_true, not-true}
 use Rattle.chess_base.specs.declared.man.Colour.{Colour}
-use Rattle.chess_base.specs.declared.man.Kind.TheVariants.{King, Pawn}
+use Rattle.chess_base.specs.declared.man.Kind.TheVariants.{King, Queen, Rook, Bishop, Knight, Pawn}
 use Rattle.chess_base.specs.declared.man.CastlingSide.{CastlingSide}
 use Rattle.chess_base.specs.declared.man.Man.{Man}
 use Rattle.chess_base.specs.declared.man.Move.{Move}
 use Rattle.chess_base.specs.Squares.{rank, is_at}
-use Rattle.chess_base.specs.Men.{Men, man_at, other, same_colour, same_kind, is_of, is_man, first_rank}
+use Rattle.chess_base.specs.Men.{Men, man_at, other, same_colour, same_kind, is_of, is_man, forward, first_rank, pawn_rank}
 use Rattle.chess_base.specs.Attacks.{attacks, is_attacked, is_in_check}
 use Rattle.chess_base.specs.declared.setup.Setup.{Setup}
-use Rattle.chess_base.specs.Moves.{is_pseudo_legal, moves_as, man_moves, pawn_moves, pawn_advances, pawn_captures, promotion_fits}
+use Rattle.chess_base.specs.Moves.{is_pseudo_legal, moves_as, man_moves, pawn_moves, is_double_advance, pawn_advances, pawn_captures, promotion_fits}
 use Rattle.chess_base.specs.shared.Splits.{castles_or_moves}
 use Rattle.chess_base.specs.Castling.{right_of, castle_from, castle_of, castling, castles, castling_way_is_empty}
 use Rattle.chess_base.specs.declared.castling.Castle.{Castle}
@@ -126,3 +126,26 @@ promoted_by_kind p m k (ManMoves n c e) promotion =
 promoted_by_kind p m k (Castles w r c at e) promotion = let none =
     castles_unpromoted p m (castle_from p.side w m.from r) e in cc
 promoted_by_kind p m k (PawnMoves man fits kind) promotion = man
+
+-- nothing is promoted but on the last rank
+pub unpromoted_below : (o : Option Kind) → promotion_fits false o ≡ true → o ≡ None
+unpromoted_below None e = refl
+unpromoted_below (Some King) e = cc
+unpromoted_below (Some Queen) e = cc
+unpromoted_below (Some Rook) e = cc
+unpromoted_below (Some Bishop) e = cc
+unpromoted_below (Some Knight) e = cc
+unpromoted_below (Some Pawn) e = cc
+
+-- what makes a move a double advance
+pub is_double_advance-parts : (p : Setup) (m : Move) → is_double_advance p m ≡ true
+    → (is_man p.side Pawn (man_at p.men m.from) ≡ true) × (rank m.from ≡ pawn_rank p.side)
+    × (m.to ≡ forward p.side (forward p.side m.from))
+unfolding is_double_advance
+is_double_advance-parts p m e =
+    let two = and_parts _ _ e in
+    let one = and_parts _ _ two.0 in (
+      one.0,
+      eqb-true _ _ one.1,
+      eqb-true _ _ two.1,
+    )

@@ -1,7 +1,8 @@
 -- For boards and texts of moves: the squares of a set, one after another.
 use mathlib.Core.Bool.{and-true}
-use Rattle.std.proofs.Common.{◌≡◌, ℕ, zero, suc, ◌<◌, ◌≤◌, ◌+◌, inl, inr, Bool, true, false, not, ◌&&◌, ◌==◌, refl, sym, ◌∙◌, ap, arith, List, [], ◌∷◌}
+use Rattle.std.proofs.Common.{◌≡◌, ℕ, zero, suc, ◌<◌, ◌≤◌, ◌+◌, inl, inr, Bool, true, false, not, ◌&&◌, ◌==◌, refl, sym, ◌∙◌, ap, arith, List, [], ◌∷◌, length}
 use Rattle.std.proofs.lemmas.Bool.{cases_Bool, lt-ltb, eq-eqb, ne_eqb, cases_lt}
+use Rattle.std.proofs.lemmas.List.Sums.{count_by-le-length, length-filter}
 use Rattle.std.proofs.lemmas.Nat.Bits.{bit_at-zero}
 use Rattle.std.specs.List.{range_with_len, filter, flat_map}
 use Rattle.chess_base.specs.Squares.{squares}
@@ -80,3 +81,10 @@ pub flat_map_members : {B : Type 0} (f : ℕ → List B) (w : ℕ) → ((k : ℕ
     → flat_map f (members w) ≡ flat_map f squares
 flat_map_members f w h =
     rw (of_range w, by_range) (flat_map-filter f (λ k. contains w k) 64 0 (λ k l e. h k (omega arith) e))
+
+-- a set has at most 64 squares
+pub length_members : (w : ℕ) → length (members w) ≤ 64
+unfolding members squares
+length_members w =
+    let all : length squares ≡ 64 = refl in
+    omega (arith, all, length-filter (λ k. contains w k) squares, count_by-le-length (λ k. contains w k) squares)
