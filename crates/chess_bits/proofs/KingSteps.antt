@@ -3,7 +3,6 @@ use mathlib.Core.Bool.{or-false}
 use Rattle.std.proofs.Common.{◌≡◌, ℕ, ◌<◌, inl, inr, Bool, true, false, not, ◌&&◌, ◌||◌, ◌==◌, Option, Some, None, refl, sym, ap, ◌∙◌, arith}
 use Rattle.std.proofs.lemmas.Bool.{and_from, and_parts, and_right, both_ways, cases_Bool, eqb-true, false_from_ne_true}
 use Rattle.std.proofs.lemmas.Bool.Decides.{nat_tests}
-use Rattle.std.specs.Int.{abs_diff}
 use Rattle.chess_base.specs.declared.man.CastlingSide.{CastlingSide}
 use Rattle.chess_base.specs.declared.man.CastlingSide.TheVariants.{KingSide, QueenSide}
 use Rattle.chess_base.specs.declared.man.Colour.{Colour}
@@ -29,7 +28,6 @@ use Rattle.chess_base.proofs.shared.Men.{is_of-from_is_man, is_man-kind}
 use Rattle.chess_base.proofs.shared.Squares.{each_square_same, some_square_same}
 use Rattle.chess_moves.specs.Promoting.{would_promote}
 use Rattle.chess_bits.specs.ties.Goes.{goes, legal_or, lifted, man_goes}
-use Rattle.chess_bits.proofs.Attackers.{eq_back}
 use Rattle.chess_bits.proofs.KingAfter.{king_lands, check_after, legal_is}
 use Rattle.chess_bits.proofs.Lifted.{lifted_at}
 use Rattle.chess_bits.proofs.Listed.{unpromoted}
@@ -37,11 +35,9 @@ use Rattle.chess_bits.proofs.Patterns.{man_sound, not_promoting}
 use Rattle.chess_bits.proofs.Quiet.{lands_same, plain_after, plain_by, not_passing}
 use Rattle.chess_bits.proofs.TargetsOf.{man_told, none_castles, steps_of_man}
 use Rattle.chess_base.proofs.shared.Captures.{could_capture-itself}
+use Rattle.chess_base.proofs.shared.MenAfter.{eqb_comm}
 
 -- ---- a square is attacked from elsewhere: what is on it doesn't count
-
-gap_self : (n : ℕ) → abs_diff n n ≡ 0
-gap_self n = omega arith
 
 no_hit_as : (men : Men) (o : Option Man) (b : ℕ) → could_capture_as men o b b ≡ false
 no_hit_as men None b = refl
@@ -190,7 +186,7 @@ step_is p a b sound king moves low high =
     let plain = plain_by p m pattern none no_passing in
     let same : (k : ℕ) → k < 64 → (k == b) ≡ false → man_at (lifted p.men a) k ≡ man_at (men_after p m) k =
     λ k l apart. lifted_at p.men a k sound.board low
-    ∙ sym (plain_after p m k plain l ∙ rw (lands, eq_back b k, apart, eq_back a k) refl) in
+    ∙ sym (plain_after p m k plain l ∙ rw (lands, eqb_comm b k, apart, eqb_comm a k) refl) in
     ap not (attacked_same (lifted p.men a) (men_after p m) b (other p.side) same
     ∙ sym (check_after p m b sound pattern high there)) ∙ legal_is p m pattern
 

@@ -35,8 +35,9 @@ man_at-men_stepped men t s h = get_or-map_squares (man_stepped men t) s None h
 
 -- ---- the two cases of a move are its steps
 
-pub flip : (a b : ℕ) → (a == b) ≡ (b == a)
-flip a b = elim (cases_eq a b) [
+-- a test for equal numbers, turned round
+pub eqb_comm : (a b : ℕ) → (a == b) ≡ (b == a)
+eqb_comm a b = elim (cases_eq a b) [
   | inl e ↦ eq-eqb _ _ e ∙ sym (eq-eqb _ _ (sym e))
   | inr n ↦ ne_eqb _ _ n ∙ sym (ne_eqb _ _ (λ e. n (sym e)))
 ]
@@ -49,17 +50,17 @@ emptied : (passes enemy : Bool) (behind to s : ℕ) → (s == to) ≡ false
     → is_at (if passes then Some behind else None) s
     ≡ is_at (if passes then Some behind else if enemy then Some to else None) s
 emptied true enemy behind to s n = refl
-emptied false true behind to s n = sym (flip to s ∙ n)
+emptied false true behind to s n = sym (eqb_comm to s ∙ n)
 emptied false false behind to s n = refl
 
 moved_by : (b : Bool) (to from s : ℕ) (x y : Option Man) (q r : Bool) → (to == s) ≡ b → (b ≡ false → q ≡ r)
     → (if to == s then x else if q || (from == s) then None else y)
     ≡ (if s == to then x else if (s == from) || r then None else y)
-moved_by true to from s x y q r e h = let f = flip s to ∙ e in rw (e, f) refl
+moved_by true to from s x y q r e h = let f = eqb_comm s to ∙ e in rw (e, f) refl
 moved_by false to from s x y q r e h =
-    let f = flip s to ∙ e in
+    let f = eqb_comm s to ∙ e in
     let g = h refl in
-    rw (e, f, g, flip s from, or_flip (from == s) r) refl
+    rw (e, f, g, eqb_comm s from, or_flip (from == s) r) refl
 
 moved : (p : Setup) (m : Move) (s : ℕ) → castle_of p m ≡ None
     → man_stepped p.men (steps_of p m) s ≡ after_moving p m s
@@ -71,12 +72,12 @@ moved p m s e =
     let taken = if passes then Some behind else if is_of (other p.side) (man_at p.men m.to) then Some m.to else None in
     rw e (moved_by (m.to == s) m.to m.from s (arriving_man (man_at p.men m.from) m.promotion) (man_at p.men s)
     (is_at second s) (is_at taken s) refl
-    (λ n. emptied passes (is_of (other p.side) (man_at p.men m.to)) behind m.to s (flip s m.to ∙ n)))
+    (λ n. emptied passes (is_of (other p.side) (man_at p.men m.to)) behind m.to s (eqb_comm s m.to ∙ n)))
 
 turned_round : (a b c d s : ℕ) (x y z : Option Man)
     → (if a == s then x else if b == s then y else if (c == s) || (d == s) then None else z)
     ≡ (if s == a then x else if s == b then y else if (s == d) || (s == c) then None else z)
-turned_round a b c d s x y z = rw (flip s a, flip s b, flip s c, flip s d, or_flip (d == s) (c == s)) refl
+turned_round a b c d s x y z = rw (eqb_comm s a, eqb_comm s b, eqb_comm s c, eqb_comm s d, or_flip (d == s) (c == s)) refl
 
 castled : (p : Setup) (m : Move) (s : ℕ) (k : Castle) → castle_of p m ≡ Some k → k.king_from ≡ m.from
     → is_man p.side King (man_at p.men m.from) ≡ true
@@ -124,13 +125,13 @@ men_after_by_steps p m =
 back_by_cases : (q : Setup) (m : Move) (s : Saved) (x : ℕ) (o : Option Castle)
     → option_map_or (λ k. before_castling q m k x) o (before_moving q m s x)
     ≡ man_stepped q.men (steps_back_by (other q.side) q.men m s o) x
-back_by_cases q m s x None = rw (flip x m.from, flip x m.to) refl
+back_by_cases q m s x None = rw (eqb_comm x m.from, eqb_comm x m.to) refl
 back_by_cases q m s x (Some k) =
     rw (
-      flip x m.from,
-      flip x k.rook_from,
-      flip x k.king_to,
-      flip x k.rook_to,
+      eqb_comm x m.from,
+      eqb_comm x k.rook_from,
+      eqb_comm x k.king_to,
+      eqb_comm x k.rook_to,
       or_flip (k.king_to == x) (k.rook_to == x),
     ) refl
 
