@@ -1,5 +1,5 @@
 """The lemmas and definitions of the files .antt, found by their shape: which are used by what a check asks for, and which
-have equal statements. No prover is asked.
+have equal statements; and which public items of a crate no other crate names. No prover is asked.
 
 A check asks for what is in Answers, Invariants and other files that name a function's goals, and for what the code names:
 in clauses, and by the attribute `tactic`. From there uses are followed. A word counts as a use of what its file imports or
@@ -9,7 +9,7 @@ unused."""
 import re
 from dataclasses import dataclass, field
 
-from sources import TOP, imported_names
+from sources import TOP, Sources, imported_names
 
 # A name as antt has it: `length-append`, `◌++◌`, `then-loop-to-test+else`.
 NAME = r"[^\s(){}\[\],;.λ:]+"
@@ -19,6 +19,8 @@ HEAD = re.compile(
 )
 USE = re.compile(r"^(?P<word>(?:pub |unfoldable |ghost )*use )(?P<path>[\w.+\-]+?)(?:\.\{(?P<names>.*)\}| as (?P<here>\S+))?;?$")
 NOT_HEADS = ("use ", "mod ", "infix", "module ", "unfolding ", "--")
+# So many lines has a lemma that is not to be proved again in another crate.
+LONG = 5
 CITED = re.compile(r"\bcrate::((?:proofs|specs)(?:::\w+)+)|\b(\w+)::((?:proofs|specs)(?:::\w+)+)")
 
 
@@ -42,7 +44,7 @@ class Item:
     @property
     def statement(self):
         """What is right of its colon, up to the line where its proof begins."""
-        text = self.lines[0].split(" :", 1)[1]
+        text = self.lines[0].split(" :", 1)[1].strip()
         for line in self.lines[1:]:
             if not line.startswith(" ") or line.strip() == "where":
                 break
@@ -226,6 +228,19 @@ class Lemmas:
                 groups.setdefault(self.normal(file, item.statement), []).append(item)
         return [items for statement, items in groups.items() if statement and len(items) > 1]
 
+    def copies(self, uses):
+        """Pairs of lemmas with equal statements, of which one is to take the other's place: both are in one crate; or
+        the first is shared, and the other's crate uses its crate; or each has LONG lines or more. A shorter private
+        lemma may be proved again in another crate."""
+        for items in self.equal_statements():
+            for first in items:
+                for other in items:
+                    crate, above = first.module.split(".")[0], other.module.split(".")[0]
+                    both_long = first.key < other.key and min(len(first.lines), len(other.lines)) >= LONG
+                    is_shared = ".proofs.shared." in first.module and first.is_pub and crate in uses.get(above, ())
+                    if first is not other and (crate == above and first.key < other.key or is_shared or both_long):
+                        yield first, other
+
     def normal(self, file, statement):
         """A statement with full names for what is declared elsewhere, and numbers for what it binds; None if none of that
         is used, as in the type of a definition."""
@@ -249,6 +264,18 @@ class Lemmas:
         if word in file.names:
             return ".".join(self.place(*file.names[word]))
         return f"{file.module}.{word}" if self.find(file.module, word) else word
+
+
+def unnamed_exports(top=TOP):
+    """The public items of each crate that no other crate's code names."""
+    exports = Sources().exports
+    words = {crate: set() for crate in exports}
+    for path in sorted(top.glob("crates/*/src/**/*.rt")):
+        code = re.sub(r"//.*", "", path.read_text(encoding="utf-8"))
+        words[path.relative_to(top).parts[1]] |= set(re.findall(r"\w+", code))
+    for crate, names in exports.items():
+        others = set().union(*(found for other, found in words.items() if other != crate))
+        yield from (f"{crate}::{name}" for name in sorted(names - others))
 
 
 def is_of_function(file):
