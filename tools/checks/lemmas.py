@@ -1,10 +1,10 @@
-"""The lemmas and definitions of the files .antt, found by their shape: which are used by what a check asks for, and which
-have equal statements; and which public items of a crate no other crate names. No prover is asked.
+"""The lemmas and definitions of the files .antt, found by their shape: which are used by what a check asks for, and
+which have equal statements; and which public items of a crate no other crate names. No prover is asked.
 
-A check asks for what is in Answers, Invariants and other files that name a function's goals, and for what the code names:
-in clauses, and by the attribute `tactic`. From there uses are followed. A word counts as a use of what its file imports or
-declares by that name, also where it is bound to something else; so something unused may be missed, but what is found is
-unused."""
+A check asks for what is in Answers, Invariants and other files that name a function's goals, and for what the code
+names: in clauses, and by the attribute `tactic`. From there uses are followed. A word counts as a use of what its file
+imports or declares by that name, also where it is bound to something else; so something unused may be missed, but what
+is found is unused."""
 
 import re
 from dataclasses import dataclass, field
@@ -15,9 +15,12 @@ from sources import TOP, Sources, imported_names
 NAME = r"[^\s(){}\[\],;.λ:]+"
 BREAK = re.compile(r"[\s(){}\[\],;.]+")
 HEAD = re.compile(
-    rf"^(?P<kind>(?:pub |unfoldable |abbrev |pattern )*)(?:(?P<what>record|data) (?P<of>{NAME})|(?P<name>{NAME})(?: \{{[^{{}}]*\}})* :(?: |$))"
+    r"^(?P<kind>(?:pub |unfoldable |abbrev |pattern )*)"
+    rf"(?:(?P<what>record|data) (?P<of>{NAME})|(?P<name>{NAME})(?: \{{[^{{}}]*\}})* :(?: |$))"
 )
-USE = re.compile(r"^(?P<word>(?:pub |unfoldable |ghost )*use )(?P<path>[\w.+\-]+?)(?:\.\{(?P<names>.*)\}| as (?P<here>\S+))?;?$")
+USE = re.compile(
+    r"^(?P<word>(?:pub |unfoldable |ghost )*use )(?P<path>[\w.+\-]+?)(?:\.\{(?P<names>.*)\}| as (?P<here>\S+))?;?$"
+)
 NOT_HEADS = ("use ", "mod ", "infix", "module ", "unfolding ", "--")
 # So many lines has a lemma that is not to be proved again in another crate.
 LONG = 5
@@ -242,8 +245,8 @@ class Lemmas:
                         yield first, other
 
     def normal(self, file, statement):
-        """A statement with full names for what is declared elsewhere, and numbers for what it binds; None if none of that
-        is used, as in the type of a definition."""
+        """A statement with full names for what is declared elsewhere, and numbers for what it binds; None if none of
+        that is used, as in the type of a definition."""
         # `(a b : ℕ) → ..` as `(a : ℕ) (b : ℕ) ..`
         text = re.sub(
             rf"[({{]((?:{NAME} )+): ([^(){{}}]*)[)}}]( →)?",
