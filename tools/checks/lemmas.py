@@ -211,6 +211,12 @@ class Lemmas:
         used = self.used()
         return [item for item in self.items.values() if item.key not in used]
 
+    def unexplained(self):
+        """The lemmas for crates above that have no comment right above them."""
+        for item in self.items.values():
+            if ".proofs.shared." in item.module and item.is_pub and not item.is_definition and not item.is_documented:
+                yield item
+
     def unnamed_files(self):
         """The files that no other file imports and no code names, but for the lists of modules."""
         named = {path for file in self.files.values() for path, _ in file.names.values()}

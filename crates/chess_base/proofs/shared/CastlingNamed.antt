@@ -101,6 +101,7 @@ unfolding is_castling_to
 to_side p m w h = side_same p.variant p.side p.men m w (king_square p.men p.side) (right_of p.rights p.side w) h.board
     (one_king_of p h p.side) refl (sound_at p h w)
 
+-- the side to which a move castles, as its squares name it
 pub same_side : (p : Setup) (m : Move) → IsSound p → castling p m ≡ castling_named p m
 unfolding castling castling_named
 same_side p m h = rw (to_side p m KingSide h, to_side p m QueenSide h) refl
@@ -119,6 +120,7 @@ by_side p m (Some w) h e =
     mapped None = refl
     mapped (Some r) = refl
 
+-- the castle of a move, as its squares name it
 pub same_castle : (p : Setup) (m : Move) → IsSound p
     → castle_of p m ≡ option_and_then (castling_on p) (castling_named p m)
 unfolding castle_of

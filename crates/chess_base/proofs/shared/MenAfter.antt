@@ -25,10 +25,12 @@ use Rattle.chess_base.proofs.shared.Squares.{get_or-map_squares, length-map_squa
 
 -- the pieces after steps, as one list
 
+-- after steps the board has 64 squares
 pub length-men_stepped : (men : Men) (t : Steps) → length (men_stepped men t) ≡ 64
 unfolding men_stepped
 length-men_stepped men t = length-map_squares (man_stepped men t)
 
+-- what is on a square after steps
 pub man_at-men_stepped : (men : Men) (t : Steps) (s : ℕ) → s < 64 → man_at (men_stepped men t) s ≡ man_stepped men t s
 unfolding men_stepped
 man_at-men_stepped men t s h = get_or-map_squares (man_stepped men t) s None h
@@ -114,6 +116,7 @@ by_cases : (p : Setup) (m : Move) (s : ℕ) (o : Option Castle) → castle_of p 
 by_cases p m s None e = sym (moved p m s e)
 by_cases p m s (Some k) e = let c = castling_of p m k e in sym (castled p m s k e c.from c.king)
 
+-- the pieces after a move, by its steps
 pub men_after_by_steps : (p : Setup) (m : Move) → men_after p m ≡ men_stepped p.men (steps_of p m)
 unfolding men_after men_stepped
 men_after_by_steps p m =
@@ -135,6 +138,7 @@ back_by_cases q m s x (Some k) =
       or_flip (k.king_to == x) (k.rook_to == x),
     ) refl
 
+-- the pieces before a move, by the steps back
 pub men_before_by_steps : (q : Setup) (m : Move) (s : Saved)
     → men_before q m s ≡ men_stepped q.men (steps_back q m s)
 unfolding men_before men_stepped steps_back
@@ -154,20 +158,24 @@ man_after p m s =
     else if is_at (second_square_emptied p m) s || (m.from == s) then None
     else man_at p.men s
 
+-- after a move the board has 64 squares
 pub length-men_after : (p : Setup) (m : Move) → length (men_after p m) ≡ 64
 length-men_after p m = ap (λ (men : Men). length men) (men_after_by_steps p m) ∙ length-men_stepped p.men (steps_of p m)
 
+-- what is on a square after a move
 pub man_at-men_after : (p : Setup) (m : Move) (s : ℕ) → s < 64 → man_at (men_after p m) s ≡ man_after p m s
 unfolding man_after
 man_at-men_after p m s h =
     ap (λ (men : Men). man_at men s) (men_after_by_steps p m) ∙ man_at-men_stepped p.men (steps_of p m) s h
 
+-- a square that a move doesn't touch stays as it was
 pub man_after-same : (p : Setup) (m : Move) (s : ℕ) → mover_end p m ≢ s → m.from ≢ s
     → is_at (castling_rook_to p m) s ≡ false → is_at (second_square_emptied p m) s ≡ false
     → man_after p m s ≡ man_at p.men s
 unfolding man_after
 man_after-same p m s t f r l = rw (ne_eqb _ _ t, r, l, ne_eqb _ _ f) refl
 
+-- the mover is on its last square
 pub man_after-to : (p : Setup) (m : Move) → man_after p m (mover_end p m)
     ≡ arriving_man (man_at p.men m.from) m.promotion
 unfolding man_after

@@ -86,6 +86,7 @@ moves_by p m (Some x) at f t e =
       kind = kind_of p m x at both.0 (same_kind Pawn x.kind) refl both.1;
     }
 
+-- what a pseudo-legal move is
 pub moves_from_pattern : (p : Setup) (m : Move) → is_pseudo_legal p m ≡ true → Moves p m
 unfolding is_pseudo_legal
 moves_from_pattern p m e =
@@ -93,6 +94,7 @@ moves_from_pattern p m e =
     let two = and_parts _ _ three.0 in
     moves_by p m (man_at p.men m.from) refl (ltb-true _ _ two.0) (ltb-true _ _ two.1) three.1
 
+-- the mover is of the side to move
 pub is_of-mover : (p : Setup) (m : Move) → Moves p m → is_of p.side (man_at p.men m.from) ≡ true
 unfolding is_of
 is_of-mover p m h = rw (h.at_from, h.own) (same_colour-self p.side)
@@ -109,12 +111,14 @@ no_king_where_attacked men c a b ha hb own hits calm =
     let attacked' : is_attacked men b (other (other c)) ≡ true = rw other-other attacked in
     both_ways _ (not-true _ calm) (some_square-at _ b hb (and_from _ _ k attacked')))
 
+-- castling promotes nothing
 pub castles_unpromoted : (p : Setup) (m : Move) (k : Castle) → castles p m k ≡ true → m.promotion ≡ None
 unfolding castles
 castles_unpromoted p m k e =
     let two = and_parts _ _ e in
     is_none-None _ (and_parts (is_none m.promotion) (castling_way_is_empty p.men k) two.0).0
 
+-- only a pawn is promoted
 pub promoted_by_kind : (p : Setup) (m : Move) (k : Kind) → MoveKind p m → m.promotion ≡ Some k
     → is_man p.side Pawn (man_at p.men m.from) ≡ true
 unfolding man_moves

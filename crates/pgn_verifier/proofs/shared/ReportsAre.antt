@@ -30,6 +30,7 @@ use Rattle.pgn_verifier.specs.laws.Reported.{read_at, judged_at, placed_then, pl
 
 -- ---- one game
 
+-- what is judged of a text is what `IsJudged` asks for
 pub judged_is : (strict : Bool) (text : List ℕ) (at : ℕ)
     → IsJudged strict text at (read_at text at).state (judged_at strict text at)
 unfolding pgn_read
@@ -85,6 +86,7 @@ from_here strict start (suc n) text at h k =
         let verdict : Option Verdict = verdict_now (read_at text at).state in
         last_fault (reason fault.kind rest verdict) j (reason_is fault.kind rest verdict)
 
+-- the reports on a text are those that `AreReports` asks for
 pub are_reports : (strict : Bool) (start : ℕ) (text : List ℕ)
     → AreReports strict start text 0 (placed_on strict start text)
 are_reports strict start text = from_here strict start (length text + 1) text 0 (omega arith) (omega arith)
@@ -109,6 +111,7 @@ are_all strict offset (piece ∷ more) =
     next_piece (placed_in strict (record { offset = offset; bytes = piece }))
     (reports_are_in strict (record { offset = offset; bytes = piece })) (are_all strict (offset + length piece) more)
 
+-- the reports on a collection are those that `AreCollectionReports` asks for
 pub are_collection_reports : (strict ended : Bool) (text : List ℕ)
     → AreCollectionReports strict 0 (known_pieces ended text) (collection_placed strict ended text)
 unfolding pieces
