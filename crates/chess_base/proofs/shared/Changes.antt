@@ -123,7 +123,7 @@ target_facts men c (Some u) s t e =
     let one = and_parts _ _ two.0 in
     (eqb-true _ _ one.0, one.1, two.1, three.1)
 
--- what a sound target says of its square and of those before and behind it
+-- what a sound target says of its square and of the squares next to it on its file
 pub at_target : (p : Setup) (s : ℕ) → target_is_sound p ≡ true → is_at p.target s ≡ true
     → (rank s ≡ crossed_rank (other p.side)) × (is_none (man_at p.men s) ≡ true)
     × (is_man (other p.side) Pawn (man_at p.men (one_rank_back p.side s)) ≡ true)
