@@ -22,9 +22,7 @@ mod silent;
 mod traits;
 
 pub use buffers::{append, append_number};
-pub use bytes::{
-    after_byte_order_mark, is_blank, is_digit, is_name_byte, shown_byte, split_while,
-};
+pub use bytes::{after_byte_order_mark, is_blank, is_digit, is_name_byte, shown_byte, split_while};
 pub use counted::Counted;
 pub use gated::{GatedReader, GatedWriter};
 pub use memory::{PieceReader, PieceWriter};
