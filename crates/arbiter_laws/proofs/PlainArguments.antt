@@ -21,7 +21,7 @@ use Rattle.pgn_verifier.specs.Verify.{Verifies}
 use Rattle.pgn_verifier.specs.declared.options.VerifyOptions.{VerifyOptions}
 use Rattle.pgn_verifier.specs.declared.fault.VerifyFault.TheVariants as verifying
 
-shorter : (xs ys : Text) → length xs < length ys → xs ≡ ys → ⊥
+pub shorter : (xs ys : Text) → length xs < length ys → xs ≡ ys → ⊥
 shorter xs ys lt e = let same : length xs ≡ length ys = ap length e in absurd (omega arith)
 
 -- what was read is what was done

@@ -1,5 +1,5 @@
 -- Plain arguments are read as what they say.
-use Rattle.std.proofs.Common.{◌≡◌, ◌∙◌, ◌<◌, ◌||◌, Bool, true, false, not, List, [], ◌∷◌, length, Option, Some, None, Result, Ok, Err, codes, find, fold, flat_map, is_some, option_map, refl, sym, subst, ap, ap₂, lit<, arith}
+use Rattle.std.proofs.Common.{◌≡◌, ◌∙◌, ◌||◌, Bool, true, false, not, List, [], ◌∷◌, Option, Some, None, Result, Ok, Err, codes, find, fold, flat_map, is_some, option_map, refl, sym, subst, ap, ap₂, lit<}
 use Rattle.std.specs.Prelude.{◌*◌, if◌then◌else◌, unwrap_or}
 use Rattle.std.specs.Option.{option_map_or, option_or}
 use Rattle.std.specs.Str.{bytes_eq}
@@ -35,9 +35,7 @@ use Rattle.arbiter_laws.proofs.PlainRows.{default_in, value_found, value_given}
 use Rattle.arbiter_laws.proofs.PlainStub.{replies_are, replies_pass}
 use Rattle.arbiter_laws.proofs.PlainWalk.{all_known, rows_of_given, takes_options}
 use Rattle.arbiter_cli.proofs.shared.Turns.{date_asked, read_as}
-
-shorter : (xs ys : Text) → length xs < length ys → xs ≡ ys → ⊥
-shorter xs ys lt e = let same : length xs ≡ length ys = ap length e in absurd (omega arith)
+use Rattle.arbiter_laws.proofs.PlainArguments.{shorter}
 
 -- ---- the first argument names the subcommand
 

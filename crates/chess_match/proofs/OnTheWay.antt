@@ -40,10 +40,11 @@ use Rattle.chess_match.specs.ties.Driving.{Delivered, Leads, is_line_event, is_o
 use Rattle.chess_match.specs.ties.Reported.{IsReported}
 use Rattle.chess_match.specs.ties.Represents.{Goes, Represents, given_lines, name_by, nothing_said, phase_of}
 use Rattle.chess_match.specs.ties.Sane.{IsSane, in_turn}
-use Rattle.chess_match.proofs.CoreSteps.{clocks_left, on_awaiting}
+use Rattle.chess_match.proofs.CoreSteps.{clocks_left}
 use Rattle.chess_match.proofs.Leading.{leads_as, leads_event, leads_on, leads_opened, leads_out, none}
 use Rattle.chess_match.proofs.Passings.{passed_as, passed_more}
 use Rattle.chess_match.proofs.StaysSane.{fine_after, sane_start}
+use Rattle.chess_match.proofs.shared.MatchCases.{on_when_read}
 
 -- core, game and table agree with a match that has come to `m`, by the steps `K`
 pub record IsOnTheWay (r : Rules) (old new : Passing) (core : MatchState) (played : List Move) (failed : Colour → Bool)
@@ -166,7 +167,7 @@ went_on r old now between new core core' played played' failed failed' m K S e w
     let read = subst (λ (until : Option ℕ). Passes now between (looks_of until e ++ steps_of e))
     (until_is r core played m w.stands) passes in
     came r old now new core core' played played' failed failed' m m' K (I ++ J) w
-    (on_awaiting m.phase S awaits) d.stands (d.sane (fine_after r m S e is awaits w.sane).0)
+    (on_when_read m.phase S awaits) d.stands (d.sane (fine_after r m S e is awaits w.sane).0)
     (passed_more now between new I J read d.passes)
     (leads_on r m t.after m' [] (blocks_after S t) [] I J none failed'
     (λ h. ap (λ (x : Match). x.phase) (d.stays h)) (leads_event r m S e is awaits limited) d.leads) d.fine

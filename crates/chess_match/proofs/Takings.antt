@@ -6,7 +6,6 @@ use Rattle.chess_base.specs.declared.man.Move.{Move}
 use Rattle.chess_base.specs.Men.{other}
 use Rattle.cecp_engine.specs.Items.{Item}
 use Rattle.text_lines.specs.Lines.{LineSeen}
-use Rattle.text_lines.specs.Next.{line_if}
 use Rattle.chess_match.specs.Acts.{Happens, awaits_line}
 use Rattle.chess_match.specs.Effects.{Match, effect}
 use Rattle.chess_match.specs.Events.{Event, OutputEnds, FailsToRead}
@@ -14,7 +13,7 @@ use Rattle.chess_match.specs.Lines.{bytes_of}
 use Rattle.chess_match.specs.shared.Parts.{answers_to}
 use Rattle.chess_match.specs.Rules.{Rules}
 use Rattle.chess_match.specs.Run.{text_read}
-use Rattle.chess_match.specs.Table.{Does, LooksFor, ReadsLine, FindsNoLine, Passing, Passes, reading_of, reading_until}
+use Rattle.chess_match.specs.Table.{Does, LooksFor, ReadsLine, FindsNoLine, Passing, Passes, reading_until}
 use Rattle.chess_match.specs.declared.state.Actions.{Actions}
 use Rattle.chess_match.specs.declared.state.MatchState.{MatchState}
 use Rattle.chess_match.specs.ties.Driving.{is_line_event, is_of_output, is_silence, looks_of, steps_of}
@@ -47,12 +46,6 @@ bare plays old new core played core' given text S n n' until e is line silence e
 )
 
 -- ---- the step of a read
-
--- without a limit
-pub as_until : (E : Type 0) (S : Colour) (found : Bool) (line : LineSeen)
-    → reading_of {E = E} S (Ok (line_if found line)) ≡ reading_until {E = E} S (Ok (Some found)) line
-as_until E S true line = refl
-as_until E S false line = refl
 
 -- by its result, and by the moment until which it waits
 by_result : {E : Type 0} (old new : Passing) (S : Colour) (result shown : Result (Option Bool) E) (line : LineSeen)

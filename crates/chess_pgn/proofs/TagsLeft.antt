@@ -44,22 +44,12 @@ tags_more text at tail after t is may skips =
     ∙ ap (λ b. cond b (cons_option (tag_pair (length text) t) (tags_left text tail)) []) (sym may)
     ∙ ap (cons_option (tag_pair (length text) t)) (tags_skipped text tail after skips)
 
--- there are none from a token on that may not come before any
-pub tags_ended : (text : List ℕ) (at : ℕ) (t : Token) (ts : List (ℕ × Token))
-    → tokens_from text at ≡ (length text - at, t) ∷ ts → false ≡ may_precede_tags t → tags_left text at ≡ []
-tags_ended text at t ts is may =
-    ap (game_tags_of (length text)) is ∙ tags_step (length text) (length text - at, t) ts
-    ∙ ap (λ b. cond b (cons_option (tag_pair (length text) t) (game_tags_of (length text) ts)) []) (sym may)
-
 -- ---- as code meets it
 
 -- reading on from `here` gives the tags from `from` on
 pub record Reads (text : List ℕ) (from here : ℕ) : Type 0 where
   pub offset : here ≤ length text
   pub whole : tags_left text here ≡ tags_left text from
-
-pub begun : (text : List ℕ) (from : ℕ) → from ≤ length text → Reads text from from
-begun text from h = record { offset = h; whole = refl }
 
 module _ (text : List ℕ) (from here tail after : ℕ) (t : Token) (found : Option PgnTag) (r : Reads text from here)
     (is : tokens_from text here ≡ (length text - here, t) ∷ tokens_from text tail) (may : true ≡ may_precede_tags t)
@@ -80,11 +70,3 @@ module _ (text : List ℕ) (from here tail after : ℕ) (t : Token) (found : Opt
         → tags_left text from ≡ pair_of tag ∷ tags_left text after
     found_tag tag some skips = sym r.whole ∙ here_on skips
         ∙ ap (λ o. cons_option (option_map pair_of o) (tags_left text after)) some
-
-pub stops_at : (text : List ℕ) (from here : ℕ) (t : Token) (ts : List (ℕ × Token)) → Reads text from here
-    → tokens_from text here ≡ (length text - here, t) ∷ ts → false ≡ may_precede_tags t → tags_left text from ≡ []
-stops_at text from here t ts r is may = sym r.whole ∙ tags_ended text here t ts is may
-
-pub at_end : (text : List ℕ) (from here : ℕ) → Reads text from here → tokens_from text here ≡ []
-    → tags_left text from ≡ []
-at_end text from here r is = sym r.whole ∙ ap (game_tags_of (length text)) is

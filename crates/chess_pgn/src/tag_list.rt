@@ -6,7 +6,7 @@ ghost use Rattle.std.specs.Option.{IfSome, option_map};
 ghost use Rattle.chess_pgn.specs.GameTags.{game_tags_of, pair_of, tag_pair};
 ghost use Rattle.chess_pgn.specs.LastTags.{last_tag, tag_section};
 ghost use Rattle.chess_pgn.specs.Split.{IsSplit};
-ghost use Rattle.chess_pgn.specs.Tokens.{after_byte_order_mark};
+ghost use Rattle.byte_devices.specs.Bytes.{after_byte_order_mark};
 ghost use Rattle.chess_pgn.specs.Tokens as spec;
 ghost use Rattle.chess_pgn.specs.ties.Seen.{token_seen};
 ghost use Rattle.chess_pgn.specs.ties.TagsLeft.{tags_left};

@@ -6,7 +6,7 @@ use Rattle.std.specs.List.{onto_first, position_or_len}
 use Rattle.std.specs.Result.{is_err}
 use Rattle.std.proofs.lemmas.Bool.Decides.{nat_tests}
 use Rattle.std.proofs.lemmas.List.{drop_min, drop_more}
-use Rattle.chess_base.specs.Letters.{byte, new_line}
+use Rattle.byte_devices.specs.Bytes.{byte, new_line}
 use Rattle.chess_base.specs.declared.man.Colour.{Colour}
 use Rattle.chess_base.specs.declared.man.Colour.TheVariants.{White, Black}
 use Rattle.byte_devices.specs.Devices.{OutputState, Sends}

@@ -2,9 +2,8 @@
 
 ghost use Rattle.std.specs.Prelude.{◌≡◌, ◌<◌, ◌∷◌, ◌++◌, [], Bool, Err, decimal, false, length, map};
 ghost use Rattle.arrayvec.specs.ArrayVec.{array_vec_len};
-ghost use Rattle.chess_base.specs.Letters.{new_line};
+ghost use Rattle.byte_devices.specs.Bytes.{new_line, shown_byte};
 ghost use Rattle.chess_base.specs.Options.{list_if};
-ghost use Rattle.chess_game.specs.Results.{shown_byte};
 ghost use Rattle.chess_match.specs.Events as events;
 ghost use Rattle.chess_match.specs.Notes.{Gives, Happened};
 ghost use Rattle.chess_match.specs.Played.{PlayedNoting};
@@ -17,7 +16,7 @@ ghost use Rattle.match_runner.specs.ties.Logging.{Adds, IsLog, engine_text, line
 
 use crate::fault::GamesFault;
 use arrayvec::ArrayVec;
-use byte_devices::{Input, Output, len_before, send};
+use byte_devices::{Input, Output, len_before, send, shown_byte};
 use chess_base::{ByColour, Colour, same_colour};
 use chess_game::Game;
 use chess_match::{ENGINE_LINE_LEN, Ends, MatchEnd, Moments, Setup, Witness, run_match_watched};
@@ -30,17 +29,6 @@ use text_lines::Line;
 pub(crate) struct Pending {
     bytes: ArrayVec<u8, 256>,
     broken: bool,
-}
-
-// A byte as the log shows it: `?` for what is no printable ASCII.
-fn shown_byte(byte: u8) -> u8
-    ensures { result ≡ shown_byte byte }
-{
-    if 32 <= byte && byte <= 126 {
-        byte
-    } else {
-        b'?'
-    }
 }
 
 // Writes and flushes a text, unless a call on the log failed before (`broken`). Returns whether one has failed, before

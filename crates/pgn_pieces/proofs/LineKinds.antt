@@ -1,7 +1,6 @@
 -- The kind of a line that may go on.
 use Rattle.std.proofs.Common.{◌≡◌, ◌≤◌, ◌<◌, ℕ, zero, suc, ◌+◌, eqb, leb, Bool, true, false, List, [], ◌∷◌, ◌++◌, length, take, drop, cond, refl, sym, ap, ◌∙◌, length-drop, append_assoc, arith}
-use Rattle.std.specs.Char.{is_ascii_alphanumeric}
-use Rattle.std.specs.Prelude.{if◌then◌else◌, ◌&&◌, ◌||◌, ◌==◌, not, nat_lt, codes}
+use Rattle.std.specs.Prelude.{if◌then◌else◌, ◌&&◌, ◌||◌, not, nat_lt, codes}
 use Rattle.std.specs.List.{prefix_len, take_while}
 use Rattle.std.specs.Str.{bytes_eq}
 use Rattle.std.proofs.lemmas.Bool.{and_parts, leb-true}
@@ -9,12 +8,10 @@ use Rattle.std.proofs.lemmas.Bool.Decides.{nat_tests}
 use Rattle.std.proofs.lemmas.List.{take-append-le, drop-append-le, take_all}
 use Rattle.std.proofs.lemmas.List.Folds.{prefix_len-append, length-prefix_len}
 use Rattle.std.proofs.lemmas.List.Sums.{prefix_len-le-length}
-use Rattle.pgn_pieces.specs.Pieces.{front_of, is_blank, tag_name, after_name, is_tag_line, is_event_line, is_moves_line}
+use Rattle.pgn_pieces.specs.Pieces.{front_of, tag_name, after_name, is_tag_line, is_event_line, is_moves_line}
+use Rattle.byte_devices.specs.Bytes.{is_blank, is_name_byte}
 use Rattle.pgn_pieces.specs.ties.Fronts.{begins_tag, is_empty_front}
 use Rattle.pgn_pieces.specs.ties.Held.{SameKind, IsDecided}
-
-abbrev is_name_byte : ℕ → Bool
-is_name_byte c = is_ascii_alphanumeric c || (c == 95)
 
 abbrev without_mark : List ℕ → List ℕ
 without_mark text = if bytes_eq (take 3 text) (239 ∷ 187 ∷ 191 ∷ []) then drop 3 text else text

@@ -94,7 +94,8 @@ module _ (tag_line : List ℕ) (others : List (List ℕ)) (tag : is_tag_line tag
 
 -- ---- the lines of a text in two parts
 
-lines_joined : (front rest : List ℕ)
+-- the lines of a text in two parts, of which the first ends with a line
+pub lines_joined : (front rest : List ℕ)
     → lines_of ((front ++ 10 ∷ []) ++ rest) ≡ lines_of (front ++ 10 ∷ []) ++ lines_of rest
 lines_joined [] rest = refl
 lines_joined (c ∷ cs) rest = by_test (eqb c 10) (lines_joined cs rest) (has_line cs)

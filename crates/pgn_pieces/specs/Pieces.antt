@@ -1,9 +1,9 @@
 -- A collection of games is cut into pieces: each is read as a text of its own.
 use Rattle.std.specs.Prelude.{◌≡◌, ◌≤◌, ◌^◌, ℕ, ◌+◌, ◌-◌, Bool, true, false, ◌&&◌, ◌||◌, not, ◌==◌, nat_lt, if◌then◌else◌, List, [], ◌∷◌, ◌++◌, length, map, reverse, take, drop, codes}
-use Rattle.std.specs.Char.{is_ascii_alphanumeric}
 use Rattle.std.specs.Io.KnownBytes.{Consumes, IsAtEnd}
 use Rattle.std.specs.List.{onto_first, take_while, prefix_len, list_any, list_all, concat, fold}
 use Rattle.std.specs.Str.{bytes_eq}
+use Rattle.byte_devices.specs.Bytes.{is_blank, is_name_byte}
 use Rattle.byte_devices.specs.Devices.{InputState, saturating_increment}
 use Rattle.pgn_pieces.specs.Places.{ends_line}
 use Rattle.pgn_pieces.specs.declared.pieces.PieceFault.{PieceFault}
@@ -22,14 +22,10 @@ abbrev pub front_of : List ℕ → List ℕ
 front_of line =
     let first = take 256 line in if bytes_eq (take 3 first) (239 ∷ 187 ∷ 191 ∷ []) then drop 3 first else first
 
--- whether a byte is a space or a tab
-abbrev pub is_blank : ℕ → Bool
-is_blank c = (c == 32) || (c == 9)
-
 -- the name of the tag with which the front of a line begins: the letters, digits and underscores after its first byte,
 -- which is to be `[` but is not tested here
 abbrev pub tag_name : List ℕ → List ℕ
-tag_name front = take_while (λ c. is_ascii_alphanumeric c || (c == 95)) (drop 1 front)
+tag_name front = take_while is_name_byte (drop 1 front)
 
 -- what comes after the tag's name in the front of a line, and after any spaces and tabs that follow the name
 abbrev pub after_name : List ℕ → List ℕ

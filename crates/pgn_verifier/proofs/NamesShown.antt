@@ -2,7 +2,7 @@
 use Rattle.std.proofs.Common.{◌≡◌, ℕ, Bool, true, false, List, [], ◌++◌, map, take, Option, Some, None, refl, ap, ◌∙◌}
 use Rattle.std.specs.Option.{option_map, option_map_or}
 use Rattle.std.specs.Prelude.{if◌then◌else◌, codes}
-use Rattle.chess_game.specs.Results.{shown_byte}
+use Rattle.byte_devices.specs.Bytes.{shown_byte}
 use Rattle.chess_pgn.specs.LastTags.{last_tag, tag_section}
 use Rattle.chess_pgn.specs.Split.{IsSplit}
 use Rattle.chess_pgn.specs.Tokens.{Token, tokens_from}

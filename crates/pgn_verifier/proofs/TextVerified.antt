@@ -11,7 +11,7 @@ use Rattle.pgn_verifier.specs.Explanations.{wrong_part}
 use Rattle.pgn_verifier.specs.Reports.{Game, Faulty, Placed, game_begin, span_text, report_lines}
 use Rattle.pgn_verifier.specs.laws.Reasons.{explanation_of}
 use Rattle.pgn_verifier.specs.laws.Reported.{names_at, read_at, judged_at, placed_then, placed_from, placed_on}
-use Rattle.pgn_verifier.specs.ties.OnTheWay.{game_line, with_report, next_number, Writes, GrowsBy, moved, counted}
+use Rattle.pgn_verifier.specs.ties.OnTheWay.{game_line, with_report, next_number, Writes, moved, counted}
 use Rattle.pgn_verifier.proofs.LinesWritten.{placed_line, wrote_none, took_after, broke_after, writes_after, one_line, first_broke, counted_after}
 
 -- ---- the reports that are left
@@ -92,13 +92,6 @@ module _ (options : VerifyOptions) (start : ℕ) (text : List ℕ) (before : Tal
       due (Ok None) (read_at text at).state h refl ∙ append-nil done in
       subst (Writes {E = E} options input before w w' (Ok tally)) (sym whole) (s.took input, s.is)
 
-  pub all_grown : GrowsBy (length text) before tally
-  all_grown =
-      let few = s.few in
-      let moves = s.few_moves in
-      let within = s.within in
-      record { reports = omega (arith, few, within); half_moves = omega (arith, moves, within) }
-
   pub game_written : (end : PgnEnd) (g : State) → judged_at options.strict text at ≡ Ok (Some end)
       → g ≡ (read_at text at).state → length g.moves + at ≤ end.offset → at < end.offset → end.offset ≤ length text
       → Took w' w'' (if options.quiet then [] else game_line (next_number tally) (length g.moves) end.outcome
@@ -157,14 +150,6 @@ module _ (options : VerifyOptions) (start : ℕ) (text : List ℕ) (before : Tal
       (Ok (record { games = tally.games; half_moves = tally.half_moves; faults = tally.faults + 1 }))
       (fault_report start text at fault g ∷ [])
       (subst (Took w' w'') (one_line options input (next_number tally) (fault_report start text at fault g)) took, refl))
-
-  pub fault_grown : GrowsBy (length text) before
-      (record { games = tally.games; half_moves = tally.half_moves; faults = tally.faults + 1 })
-  fault_grown =
-      let few = s.few in
-      let moves = s.few_moves in
-      let within = s.within in
-      record { reports = omega (arith, few, within); half_moves = omega (arith, moves, within) }
 
   pub fault_broke : {E : Type 0} (e : E) (input : List ℕ) (fault : GameFault) (g : State)
       → judged_at options.strict text at ≡ Err fault → g ≡ (read_at text at).state

@@ -3,12 +3,12 @@ use Rattle.std.specs.Prelude.{◌≡◌, ℕ, ◌+◌, ◌==◌, nat_le, Bool, n
 use Rattle.std.specs.List.{count_by, prefix_len, sum_by}
 use Rattle.std.specs.Bool.{MatchBool}
 use Rattle.std.specs.Option.{unwrap_or, option_map_or}
-use Rattle.chess_base.specs.Letters.{new_line}
+use Rattle.byte_devices.specs.Bytes.{new_line, shown_byte, after_byte_order_mark}
 use Rattle.chess_game.specs.Game.{State, verdict_now}
-use Rattle.chess_game.specs.Results.{outcome_text, shown_byte}
+use Rattle.chess_game.specs.Results.{outcome_text}
 use Rattle.chess_game.specs.declared.results.Outcome.{Outcome}
 use Rattle.chess_pgn.specs.LastTags.{last_tag, tag_section}
-use Rattle.chess_pgn.specs.Tokens.{Token, after_byte_order_mark, is_white_space}
+use Rattle.chess_pgn.specs.Tokens.{Token, is_white_space}
 use Rattle.chess_pgn.specs.declared.read.PgnEnd.{PgnEnd}
 use Rattle.chess_pgn.specs.declared.read.PgnFaultKind.TheVariants.{TooLong}
 use Rattle.pgn_writer.specs.declared.termination.Termination.{Termination}

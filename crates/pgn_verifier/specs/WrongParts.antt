@@ -3,10 +3,10 @@
 use Rattle.std.specs.Prelude.{◌≡◌, ℕ, zero, suc, ◌==◌, Bool, true, false, not, ◌||◌, List, [], ◌∷◌, ◌++◌, take, take_while, drop, Option, Some, None, codes, is_some, if◌then◌else◌}
 use Rattle.std.specs.List.{prefix_len, list_any}
 use Rattle.std.specs.Str.{bytes_eq}
-use Rattle.chess_base.specs.Letters.{byte, space}
+use Rattle.byte_devices.specs.Bytes.{byte, space, is_name_byte}
 use Rattle.chess_base.specs.declared.fen_fault.FenFault.{FenFault}
 use Rattle.chess_base.specs.declared.fen_fault.FenFault.TheVariants.{Side, Castling, EnPassant, Counters}
-use Rattle.text_lines.specs.Words.{is_name_byte, short_number}
+use Rattle.text_lines.specs.Words.{short_number}
 use Rattle.chess_pgn.specs.Split.{IsGap, OpensTag, IsString}
 use Rattle.chess_pgn.specs.Tokens.{is_word_byte}
 

@@ -4,7 +4,8 @@
 ghost use Rattle.std.specs.Prelude.{◌≡◌, ◌≤◌, ◌<◌, ◌+◌, ◌++◌, ◌^◌, None, Some, length};
 ghost use Rattle.std.specs.List.{prefix_len};
 ghost use Rattle.arrayvec.specs.ArrayVec.{array_vec_len};
-ghost use Rattle.chess_pgn.specs.Tokens.{after_byte_order_mark, is_white_space};
+ghost use Rattle.chess_pgn.specs.Tokens.{is_white_space};
+ghost use Rattle.byte_devices.specs.Bytes.{after_byte_order_mark};
 ghost use Rattle.pgn_pieces.specs.Stream.{current};
 ghost use Rattle.pgn_verifier.specs.Reports.{game_begin, names_text, span_text};
 ghost use Rattle.pgn_verifier.specs.laws.Reported.{names_at};
@@ -13,7 +14,7 @@ ghost use Rattle.pgn_verifier.specs.ties.OnTheWay.{span_written};
 use crate::names::{NamesText, game_names};
 use crate::options::VerifyOptions;
 use arrayvec::ArrayVec;
-use byte_devices::{append, append_number};
+use byte_devices::{after_byte_order_mark, append, append_number};
 use chess_pgn::token_parts::is_white_space;
 use pgn_pieces::PgnPieces;
 
@@ -35,19 +36,6 @@ pub(crate) struct Label {
     pub span: Option<Span>,
 }
 
-// The offset where reading begins: 3 if `at` is 0 and the text begins with a byte order mark (EF BB BF), otherwise `at`.
-fn reading_begin(text: &[u8], at: usize) -> usize
-    requires { at ≤ length text.now }
-    ensures value { result ≡ after_byte_order_mark text.now at }
-    ensures within { result ≤ length text.now }
-{
-    if at == 0 && text.starts_with(&[0xEF, 0xBB, 0xBF]) {
-        3
-    } else {
-        at
-    }
-}
-
 // How many bytes of white space are at a text's front.
 fn blanks_len(text: &[u8]) -> usize
     ensures value { result ≡ prefix_len is_white_space text.now }
@@ -65,7 +53,7 @@ fn game_begin(text: &[u8], at: usize) -> usize
     ensures value { result ≡ game_begin text.now at }
     ensures within { result ≤ length text.now }
 {
-    let first = reading_begin(text, at);
+    let first = after_byte_order_mark(text, at);
     first + blanks_len(&text[first..])
 }
 

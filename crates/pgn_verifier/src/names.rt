@@ -3,7 +3,8 @@
 ghost use Rattle.pgn_verifier.specs.declared.names.TheConstants.{NAMES_LEN};
 ghost use Rattle.std.specs.Prelude.{◌≡◌, ◌≤◌, ◌+◌, ◌++◌, length, codes};
 ghost use Rattle.arrayvec.specs.ArrayVec.{array_vec_len};
-ghost use Rattle.chess_pgn.specs.Tokens.{after_byte_order_mark, tokens_from};
+ghost use Rattle.chess_pgn.specs.Tokens.{tokens_from};
+ghost use Rattle.byte_devices.specs.Bytes.{after_byte_order_mark};
 ghost use Rattle.pgn_verifier.specs.Reports.{shown_tag};
 ghost use Rattle.pgn_verifier.specs.laws.Reported.{names_at};
 

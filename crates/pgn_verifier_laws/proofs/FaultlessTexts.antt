@@ -7,7 +7,8 @@ use Rattle.std.proofs.lemmas.Bool.Decides.{nat_tests}
 use Rattle.std.proofs.lemmas.List.{get_or_at}
 use Rattle.std.proofs.Math.Path.{fun_ext}
 use Rattle.std.proofs.lemmas.List.Folds.{list_all-append, sum_by-zero}
-use Rattle.chess_pgn.specs.Tokens.{after_byte_order_mark, begins_line}
+use Rattle.chess_pgn.specs.Tokens.{begins_line}
+use Rattle.byte_devices.specs.Bytes.{after_byte_order_mark}
 use Rattle.chess_pgn.specs.declared.read.PgnEnd.{PgnEnd}
 use Rattle.pgn_pieces.specs.Pieces.{cut}
 use Rattle.pgn_pieces.specs.Stream.{with_offsets, pieces}

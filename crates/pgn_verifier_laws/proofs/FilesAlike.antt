@@ -12,7 +12,7 @@ use Rattle.pgn_pieces.specs.Pieces.{cut, lines_of}
 use Rattle.pgn_pieces.specs.Stream.{with_offsets}
 use Rattle.pgn_pieces.specs.declared.pieces.TheConstants.{PIECE_LEN}
 use Rattle.pgn_pieces.specs.laws.Shards.{begins_in_tag, ends_in_moves, ShardsAreCut}
-use Rattle.pgn_pieces.proofs.shared.Cuts.{cut_is_all}
+use Rattle.pgn_pieces.proofs.shared.Cuts.{cut_is_all, lines_joined}
 use Rattle.pgn_verifier.specs.Collection.{AreCollectionReports}
 use Rattle.pgn_verifier.specs.Explanations.{wrong_part}
 use Rattle.pgn_verifier.specs.Reports.{Report, Game, Faulty, Placed, game_begin, half_moves_of, without_spans, counts_of}
@@ -34,22 +34,6 @@ has_line (c ∷ cs) = by_test (eqb c 10) (has_line cs)
         × ((if b then (c ∷ []) ∷ lines_of (cs ++ 10 ∷ []) else onto_first c (lines_of (cs ++ 10 ∷ []))) ≡ line ∷ lines)
     by_test true w = (c ∷ [], lines_of (cs ++ 10 ∷ []), refl)
     by_test false (line, lines, is) = (c ∷ line, lines, ap (onto_first c) is)
-
--- the lines of a text in two parts, of which the first ends with a line
-lines_joined : (front rest : List ℕ)
-    → lines_of ((front ++ 10 ∷ []) ++ rest) ≡ lines_of (front ++ 10 ∷ []) ++ lines_of rest
-lines_joined [] rest = refl
-lines_joined (c ∷ cs) rest = by_test (eqb c 10) (lines_joined cs rest) (has_line cs)
-  where
-    by_test : (b : Bool) → lines_of ((cs ++ 10 ∷ []) ++ rest) ≡ lines_of (cs ++ 10 ∷ []) ++ lines_of rest
-        → (line : List ℕ) × (lines : List (List ℕ)) × (lines_of (cs ++ 10 ∷ []) ≡ line ∷ lines)
-        → (if b then (c ∷ []) ∷ lines_of ((cs ++ 10 ∷ []) ++ rest)
-        else onto_first c (lines_of ((cs ++ 10 ∷ []) ++ rest)))
-        ≡ (if b then (c ∷ []) ∷ lines_of (cs ++ 10 ∷ []) else onto_first c (lines_of (cs ++ 10 ∷ []))) ++ lines_of rest
-    by_test true on some = ap (λ xs. (c ∷ []) ∷ xs) on
-    by_test false on (line, lines, is) =
-        ap (onto_first c) on ∙ ap (λ xs. onto_first c (xs ++ lines_of rest)) is
-        ∙ sym (ap (λ xs. onto_first c xs ++ lines_of rest) is)
 
 -- what follows after a whole line doesn't change that the text begins with a tag line
 tag_first : (front rest : List ℕ) → begins_in_tag (lines_of (front ++ 10 ∷ [])) ≡ true

@@ -9,7 +9,8 @@ use Rattle.chess_game.specs.Game.{State, verdict_now}
 use Rattle.chess_game.specs.declared.game.TheConstants.{MOST_MOVES}
 use Rattle.chess_pgn.specs.GameRead.{GameRead, pgn_read, read_of_split}
 use Rattle.chess_pgn.specs.LastTags.{result_tag_of}
-use Rattle.chess_pgn.specs.Tokens.{Token, after_byte_order_mark, tokens_from}
+use Rattle.chess_pgn.specs.Tokens.{Token, tokens_from}
+use Rattle.byte_devices.specs.Bytes.{after_byte_order_mark}
 use Rattle.chess_pgn.specs.declared.read.PgnEnd.{PgnEnd}
 use Rattle.chess_pgn.proofs.shared.Tokens.{split_read}
 use Rattle.pgn_pieces.specs.Pieces.{known_pieces}

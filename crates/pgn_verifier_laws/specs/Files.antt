@@ -2,7 +2,7 @@
 -- whole.
 use Rattle.std.specs.Prelude.{◌≡◌, ⊤, ℕ, ◌+◌, Bool, true, List, [], ◌∷◌, ◌++◌, length, map}
 use Rattle.std.specs.List.{concat, sum_by}
-use Rattle.chess_base.specs.Letters.{new_line}
+use Rattle.byte_devices.specs.Bytes.{new_line}
 use Rattle.pgn_pieces.specs.Pieces.{cut, lines_of}
 use Rattle.pgn_pieces.specs.laws.Shards.{begins_in_tag, ends_in_moves}
 use Rattle.pgn_verifier.specs.Collection.{AreCollectionReports}

@@ -8,7 +8,7 @@ use Rattle.std.specs.Io.KnownBytes.{Consumes}
 use Rattle.std.specs.Bool.{MatchBool}
 use Rattle.byte_devices.specs.Devices.{InputState, GavePiece, FailedToRead, WaitStep, saturating_increment}
 use Rattle.byte_devices.specs.declared.traits.ReadFault.{ReadFault}
-use Rattle.byte_devices.proofs.shared.Devices.{consumes_more, consumes_none, consumes_kept}
+use Rattle.byte_devices.proofs.shared.Devices.{consumes_more, consumes_kept}
 use Rattle.text_lines.specs.Lines.{LineSeen, Held, nothing_held, lines_from, lines_held, line_of}
 use Rattle.text_lines.specs.laws.Unended.{HasNoEnd}
 use Rattle.text_lines.specs.Next.{before_piece, Waits, work, NextLine, NextLineUntil, line_if}
@@ -60,17 +60,6 @@ waits_on n r r' r'' h h' h'' given piece s f p =
       ap (lines_held n false h) (before_last given piece r''.last_len p.last)
           ∙ whole_so_far n r r' h h' h'' given s f,
     )
-
-pub start : (n : ℕ) (r : InputState) (h : Held) → SoFar n r r h h []
-start n r h = record {
-  bytes = consumes_none r.known_bytes;
-  waits = inl (refl, refl);
-  lines = λ at_end rest. refl;
-  failures = refl;
-  ends = refl;
-  silences = refl;
-  work = omega arith;
-}
 
 pub piece_on : (n : ℕ) (r r' r'' : InputState) (h h' h'' : Held) (given piece : List ℕ) → SoFar n r r' h h' given
     → HeldLine n h' h'' None → GavePiece r' r'' piece → 0 < length piece → length piece ≤ PIECE_LEN

@@ -6,6 +6,7 @@ use Rattle.byte_devices.proofs.shared.Devices.{consumes_more, consumes_none, con
 use Rattle.std.specs.Io.KnownBytes.{Consumes}
 use Rattle.pgn_pieces.specs.Pieces.{GaveThenFailed, HasRead}
 
+-- where nothing changes, nothing was read
 pub nothing_read : (r : InputState) → HasRead false r r []
 nothing_read r =
     record { bytes = consumes_none r.known_bytes; failures = refl; ends = refl; silences = refl; at_end = λ e. absurd (cc) }
@@ -25,6 +26,7 @@ read_on b r r' r'' text more h front gave = record {
   at_end = λ e. gave.at_end (is_none more (h ∙ e));
 }
 
+-- a text was read, and then a read failed
 pub broke_off : (r r' r'' : InputState) (text : List ℕ) → HasRead false r r' text → FailedToRead r' r''
     → GaveThenFailed r r'' text
 broke_off r r' r'' text front failed = record {

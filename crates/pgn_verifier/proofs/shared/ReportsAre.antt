@@ -9,7 +9,8 @@ use Rattle.chess_game.specs.declared.game.TheConstants.{MOST_MOVES}
 use Rattle.chess_game.specs.declared.verdicts.Verdict.{Verdict}
 use Rattle.chess_pgn.specs.GameRead.{pgn_read}
 use Rattle.chess_pgn.specs.LastTags.{result_tag_of}
-use Rattle.chess_pgn.specs.Tokens.{after_byte_order_mark, tokens_from}
+use Rattle.chess_pgn.specs.Tokens.{tokens_from}
+use Rattle.byte_devices.specs.Bytes.{after_byte_order_mark}
 use Rattle.chess_pgn.specs.declared.read.PgnEnd.{PgnEnd}
 use Rattle.chess_pgn.specs.declared.read.PgnFault.{PgnFault}
 use Rattle.chess_pgn.specs.declared.tagged_result.ResultTag.{ResultTag}
@@ -30,6 +31,7 @@ use Rattle.pgn_verifier.specs.laws.Reported.{names_at, read_at, judged_at, place
 
 -- ---- one game
 
+-- what is judged of a text is what `IsJudged` asks for
 pub judged_is : (strict : Bool) (text : List ℕ) (at : ℕ)
     → IsJudged strict text at (read_at text at).state (judged_at strict text at)
 unfolding pgn_read
@@ -105,6 +107,7 @@ from_here strict start (suc n) text at h k =
               (start + fault.offset + (wrong_part fault.kind rest).0) (explanation_of s rest fault.kind);
         } ∷ [])) (named j) (last_fault (reason fault.kind rest verdict) j (reason_is fault.kind rest verdict))
 
+-- the reports on a text are those that `AreReports` asks for
 pub are_reports : (strict : Bool) (start : ℕ) (text : List ℕ)
     → AreReports strict start text 0 (placed_on strict start text)
 are_reports strict start text = from_here strict start (length text + 1) text 0 (omega arith) (omega arith)
@@ -129,6 +132,7 @@ are_all strict offset (piece ∷ more) =
     next_piece (placed_in strict (record { offset = offset; bytes = piece }))
     (reports_are_in strict (record { offset = offset; bytes = piece })) (are_all strict (offset + length piece) more)
 
+-- the reports on a collection are those that `AreCollectionReports` asks for
 pub are_collection_reports : (strict ended : Bool) (text : List ℕ)
     → AreCollectionReports strict 0 (known_pieces ended text) (collection_placed strict ended text)
 unfolding pieces

@@ -3,7 +3,7 @@
 use Rattle.std.specs.Prelude.{ℕ, ◌++◌, if◌then◌else◌, List, take, codes, is_some, Option, Some, None}
 use Rattle.std.specs.Option.{option_map, option_map_or}
 use Rattle.chess_base.specs.Faults.{fen_fault_name}
-use Rattle.chess_base.specs.Letters.{byte}
+use Rattle.byte_devices.specs.Bytes.{byte}
 use Rattle.chess_game.specs.Ends.{verdict_result, result_text}
 use Rattle.chess_game.specs.Game.{State, verdict_now}
 use Rattle.chess_game.specs.Results.{outcome_text}

@@ -9,10 +9,10 @@ use Rattle.chess_match.specs.Run.{text_read}
 use Rattle.chess_match.specs.Table.{Does, FindsNoLine, LooksFor, ReadsLine, Notes}
 use Rattle.chess_match.specs.ties.Driving.{after_line, after_silence}
 use Rattle.chess_match.specs.ties.Represents.{nothing_said}
-use Rattle.chess_match.proofs.CoreSteps.{on_awaiting}
 use Rattle.chess_match.proofs.Passings.{passed_more}
 use Rattle.chess_match.proofs.Sends.{no_answers}
 use Rattle.chess_match.proofs.Takings.{as_fault, as_last, as_line, as_none, as_silence, bare, line_falls}
+use Rattle.chess_match.proofs.shared.MatchCases.{on_when_read}
 use Rattle.chess_match.proofs.run.take_next.Goals as goal
 
 pub returns-in-Err-clause-taken : goal.returns-in-Err-clause-taken
@@ -24,7 +24,7 @@ returns-in-Err-clause-taken g c =
     (as_fault _ _ c.args.side _ c.read_next.new.line _ c.until.result _ c.until.ensures c.in-Err.is
     c.read_next.ensures.passes)
     c.note_read_fails.ensures.passes)
-    (λ r m p h s. c.read_fails.ensures r _ m (on_awaiting m.phase c.args.side h) s)
+    (λ r m p h s. c.read_fails.ensures r _ m (on_when_read m.phase c.args.side h) s)
 
 pub returns-in-Ok-None-clause-taken : goal.returns-in-Ok-None-clause-taken
 returns-in-Ok-None-clause-taken g c =
@@ -57,7 +57,7 @@ returns-in-Ok-Some-false-clause-taken g c =
     (Notes (Happened (OutputEnds c.args.side)) ∷ [])
     (as_none _ _ c.args.side _ c.read_next.new.line c.until.result _ c.until.ensures found c.read_next.ensures.passes)
     c.note_output_ends-in-Ok-Some-false.ensures.passes)
-    (λ r m p h s. c.output_ends-in-Ok-Some-false.ensures r _ m (on_awaiting m.phase c.args.side h) s)
+    (λ r m p h s. c.output_ends-in-Ok-Some-false.ensures r _ m (on_when_read m.phase c.args.side h) s)
 
 pub returns-else-is_parsed-clause-taken : goal.returns-else-is_parsed-clause-taken
 returns-else-is_parsed-clause-taken g c =
@@ -69,7 +69,7 @@ returns-else-is_parsed-clause-taken g c =
     (Notes (Happened (OutputEnds c.args.side)) ∷ [])
     (as_last _ _ c.args.side _ c.read_next.new.line c.until.result _ c.until.ensures found (sym c.is_parsed.ensures ∙ c.if-is_parsed.false)
     c.read_next.ensures.passes) c.note_output_ends.ensures.passes)
-    (λ r m p h s. c.output_ends.ensures r _ m (on_awaiting m.phase c.args.side h) s)
+    (λ r m p h s. c.output_ends.ensures r _ m (on_when_read m.phase c.args.side h) s)
 
 pub returns-then-is_parsed-clause-taken : goal.returns-then-is_parsed-clause-taken
 returns-then-is_parsed-clause-taken g c =

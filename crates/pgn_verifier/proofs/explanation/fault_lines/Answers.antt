@@ -6,7 +6,8 @@ use Rattle.pgn_pieces.specs.Places.{line_of, column_of}
 use Rattle.pgn_verifier.specs.Explanations.{wrong_part, explanation_line}
 use Rattle.pgn_verifier.specs.laws.Reasons.{explanation_of}
 use Rattle.pgn_verifier.specs.ties.OnTheWay.{moved, fault_line, span_written}
-use Rattle.pgn_verifier.proofs.Placed.{line_there, column_there, rest_is}
+use Rattle.pgn_verifier.proofs.Placed.{line_there, column_there}
+use Rattle.byte_devices.proofs.shared.Devices.{rest_is}
 use Rattle.pgn_verifier.proofs.explanation.fault_lines.Goals as goal
 
 pub returns-then-explain : goal.returns-then-explain

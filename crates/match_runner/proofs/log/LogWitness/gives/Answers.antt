@@ -1,7 +1,7 @@
 -- At first nothing was logged; then a line more, and again.
 use Rattle.std.proofs.Common.{◌≡◌, ℕ, List, [], ◌++◌, ◌∙◌, length, refl, subst, sym, true}
 use Rattle.std.specs.Prelude.{◌==◌}
-use Rattle.chess_base.specs.Letters.{byte}
+use Rattle.byte_devices.specs.Bytes.{byte}
 use Rattle.chess_base.specs.declared.man.Colour.{Colour}
 use Rattle.match_runner.specs.Log.{Logged, log_line, log_seen}
 use Rattle.match_runner.proofs.Logged.{given_all, given_more, logged_more, logs_none}

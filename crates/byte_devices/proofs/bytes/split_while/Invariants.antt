@@ -1,6 +1,6 @@
 use Rattle.std.proofs.Common.{◌≡◌, ◌+◌, ◌-◌, ◌<◌, ◌≤◌, ℕ, Bool, length, drop}
 use Rattle.std.specs.List.{prefix_len}
-use Rattle.chess_pgn.proofs.bytes.split_while.Given as goal
+use Rattle.byte_devices.proofs.bytes.split_while.Given as goal
 
 abbrev pub invariant-loop-end : goal.invariant-loop-end
 invariant-loop-end g l = (l.end ≤ length l.text)
