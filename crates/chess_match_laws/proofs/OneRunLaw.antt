@@ -239,6 +239,7 @@ said_alike S K i text e h = record {
   failed = h.failed;
   silences = h.silences;
   all = λ over. ap engine_lines e ∙ h.all over;
+  all_if_silent = λ none. ap engine_lines e ∙ h.all_if_silent none;
 }
 
 -- as much was sent in both, if a write failed
