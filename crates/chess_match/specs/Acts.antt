@@ -68,8 +68,8 @@ abbrev pub waits_until : Rules → Phase → Match → Option ℕ
 -- left
 waits_until r (BeforeMove side opened) m =
     if r.patience.flag then Some (first_beyond opened (clock r m side)) else None
--- otherwise, if replies have a limit: until the first moment at which the reply has been owed for longer. As long as its
--- time doesn't run, a look doesn't wait (0)
+-- in a handshake, a setup or after a move, if replies have a limit: until the first moment at which the reply has been
+-- owed for longer. As long as its time doesn't run, a look doesn't wait (0). In other phases no line is looked for
 waits_until r _ m = option_map (λ limit. option_map_or (λ since. first_beyond since limit) m.since 0) r.patience.reply
 
 -- this event may come in this phase: a line, the end of an output or a failed read, if a line of this side is awaited;

@@ -41,6 +41,7 @@ reads until (Silent S moment) = LooksFor S until ∷ FindsNoLine S ∷ ReadsCloc
 reads until (Opened S moment) = ReadsClock S moment ∷ []
 reads until (OutputEnds S) = LooksFor S until ∷ Does (Happens (OutputEnds S)) ∷ []
 reads until (FailsToRead S) = LooksFor S until ∷ Does (Happens (FailsToRead S)) ∷ []
+-- `FailsToWrite`, which never comes: a failed write is an act `SendFails`
 reads until event = Does (Happens event) ∷ []
 
 -- the steps of a match by the rules `r` that ended for this reason: those of its acts, in order, and the note of each

@@ -104,8 +104,8 @@ pub struct MatchEnd {
 /// was written before, except at an engine to which a write or a flush failed.
 ///
 /// The contract sees each device apart; [`run_match_at`], which this calls, says that the calls came in the order of
-/// the acts. By the code no memory is taken. An engine that doesn't answer is waited for as long as `setup.patience`
-/// says; that so much time has passed is for the readers and the clock to know.
+/// the acts, and until which moment each line is waited for, by `setup.patience`: no clause here does. Nor does any say
+/// that the readers wait by the clock `moments`, or that so much time has passed. By the code no memory is taken.
 pub fn run_match<R: Input, W: Output, M: Moments, B: Board>(
     white: &mut Ends<R, W>,
     black: &mut Ends<R, W>,

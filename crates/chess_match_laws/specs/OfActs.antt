@@ -188,7 +188,7 @@ abbrev pub endless : Patience
 endless = record { flag = false; reply = None }
 
 -- in the acts `H` and `K` the same looks for a line found none. It holds of all matches by rules that set no limit to
--- waiting (`silences_end_matches`); devices show only how many looks found none
+-- waiting (`silences_end_matches`); devices don't show which looks found none
 abbrev pub HaveSameSilences : Rules → List Act → List Act → Type 0
 HaveSameSilences r H K =
     (r.patience ≡ endless) ⊎ ((silent : Colour → ℕ → Bool) × AreSilent silent H × AreSilent silent K)

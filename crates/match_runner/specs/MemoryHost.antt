@@ -4,8 +4,8 @@
 -- says that just its steps might come at the host as it was before: each engine says what that host has for this start
 -- of its command, and the clock shows its moments. From these, the plan, and the writes that fail follows each game (law
 -- `OnlyOneMatchOfARun` of chess_match_laws), if nobody is waited for only so long; and from the games all that is
--- written, logged and sent. Where a plan sets limits to waiting, it is known how many silences each engine's pipe
--- counted, but not which looks for a line they were. Nor is it said when memory runs out.
+-- written, logged and sent. Where a plan sets limits to waiting, nothing here says which looks for a line find none,
+-- nor how many do. Nor is it said when memory runs out.
 use Rattle.std.specs.Prelude.{◌≡◌, ⊤, ℕ, ◌-◌, ◌^◌, List, [], ◌∷◌, ◌++◌, Option, None, Some}
 use Rattle.std.specs.List.{count_by, find, flat_map, last_or, slice_get}
 use Rattle.std.specs.Option.{option_and_then, option_map, option_or}
