@@ -3,6 +3,7 @@ use Rattle.std.specs.Prelude.{◌≡◌, ◌<◌, ◌≤◌, ◌+◌, ◌-◌, �
 use Rattle.std.specs.List.{flat_map, fold, list_any}
 use Rattle.std.specs.Option.{IfSome, option_map_or}
 use Rattle.byte_devices.specs.Devices.{OutputState}
+use Rattle.byte_devices.specs.Transfers.{FromInput, InputGave}
 use Rattle.chess_base.specs.declared.man.Colour.{Colour}
 use Rattle.chess_base.specs.declared.man.Colour.TheVariants.{White, Black}
 use Rattle.chess_base.specs.declared.man.Move.{Move}
@@ -24,6 +25,7 @@ use Rattle.chess_match.specs.Notes.{Happened}
 use Rattle.chess_match.specs.Played.{World, Passed, PlayedBy}
 use Rattle.chess_match.specs.Reasons.{is_write_fault_of}
 use Rattle.chess_match.specs.Rules.{Rules, rules_of, has_bare_king}
+use Rattle.chess_match.specs.Run.{engine_lines}
 use Rattle.chess_match.specs.declared.draws.Draws.{Draws}
 use Rattle.chess_match.specs.declared.draws.Draws.TheVariants.{Automatic}
 use Rattle.chess_match.specs.declared.patience.Patience.{Patience}
@@ -386,6 +388,14 @@ SilencesChangeNothing = (r : Rules) (before after : List Act) (S : Colour) (mome
     → let m = match_after r beginning.after before in
     is_beyond r m m.phase S moment ≡ false → is_some m.since ≡ true
     → ((effect r m (Silent S moment)).after ≡ m) × ((X : Colour) → (effect r m (Silent S moment)).to X ≡ [])
+
+-- in every match that was played and ended by a silence of the side `S`, after which only blocks were sent: of what was
+-- read from the engine of `S` no line is left over. The bytes `i.text` have just the lines that were read in the match
+abbrev pub SilencesLeaveNoLine : Type 0
+SilencesLeaveNoLine = (before after : List Act) (S : Colour) (moment : ℕ) (reason : Reason) (setup : Setup)
+    (end : MatchEnd) (w w' : World) → let H = before ++ Happens (Silent S moment) ∷ after in
+    PlayedBy H reason setup end w w' → only_sends after ≡ true
+    → (i : FromInput) × InputGave (w.engines S).input (w'.engines S).input i × (engine_lines i.text ≡ lines_read S H)
 
 -- whether this act shows the flag of the side `S` fallen, in a match that is `m` before it: before the move of `S` a
 -- line came, or none yet, and the clock showed more than `S` had left
