@@ -1,6 +1,6 @@
 //! The run of a match.
 
-ghost use Rattle.std.specs.Prelude.{◌≡◌, List, [], ◌∷◌, ◌++◌, ℕ, length, true, false, None, Ok, Option, is_some, ◌≤◌, ◌<◌};
+ghost use Rattle.std.specs.Prelude.{◌≡◌, List, [], ◌∷◌, ◌++◌, ℕ, length, true, false, None, Ok, Option, is_some, option_map, ◌≤◌, ◌<◌};
 ghost use Rattle.arrayvec.specs.ArrayVec.{array_vec_len};
 ghost use Rattle.chess_base.specs.ByColour.{of_colour};
 ghost use Rattle.chess_base.specs.Men.{other};
@@ -36,6 +36,7 @@ use crate::desk::Desk;
 use crate::draws::Draws;
 use crate::match_game::MatchGame;
 use crate::moments::Moments;
+use crate::note::Note;
 use crate::patience::Patience;
 use crate::phase::Phase;
 use crate::reason::{MatchFault, Reason, reported_fault, reported_reason};
@@ -205,7 +206,7 @@ pub fn run_match_at<T: MatchTable, B: Board>(
             Awaited::Nothing(reason) => return end_of(core, game, reason, failed),
             Awaited::Moment(side) => {
                 let moment = table.moment(side);
-                table.note_opened(side, moment);
+                table.note(Note::Opened { side, moment });
                 core.open(side, moment);
             }
             Awaited::Line(side) => {
@@ -261,7 +262,7 @@ fn end_for_other<T: MatchTable, G: MatchGame>(
     ensures empty { waiting.new.items ≡ [] }
     ensures left { T.left table.new ≡ T.left table.old }
 {
-    table.note_write_fails(side);
+    table.note(Note::FailsToWrite { side });
     let given = core.write_fails(side);
     note_and_send(table, core, game, given, waiting, side.other())
 }
@@ -376,6 +377,17 @@ fn is_parsed(line: &Line<ENGINE_LINE_LEN>) -> bool
     line.is_ended()
 }
 
+// The text of this line, as a witness is given it; of a line that is too long there is none.
+fn text_read(line: &Line<ENGINE_LINE_LEN>) -> Option<&[u8]>
+    ensures { option_map (λ t. t.now) result ≡ text_read line.now }
+{
+    if line.is_too_long() {
+        None
+    } else {
+        Some(line.text())
+    }
+}
+
 // What an engine says by this line, by its first words; a line that is too long is one that is ignored (`Other`).
 #[tactic(auto, using(crate::proofs::Features::features_short))]
 fn said(line: &Line<ENGINE_LINE_LEN>) -> EngineLine<'_>
@@ -415,7 +427,8 @@ fn take_line<T: MatchTable, G: MatchGame>(
     ensures left { T.left table.new ≡ T.left table.old }
 {
     let moment = table.moment(side);
-    table.note_line(side, line, moment);
+    let text = text_read(line);
+    table.note(Note::Line { side, text, moment });
     core.line(game, said(line), moment, block)
 }
 
@@ -434,7 +447,7 @@ fn take_silence<T: MatchTable, G: MatchGame>(
     ensures left { T.left table.new ≡ T.left table.old }
 {
     let moment = table.moment(side);
-    table.note_silent(side, moment);
+    table.note(Note::Silent { side, moment });
     core.silent(game, side, moment)
 }
 
@@ -488,19 +501,19 @@ fn take_next<T: MatchTable, G: MatchGame>(
 {
     match read_next(table, side, core.until(), line) {
         Err(_) => {
-            table.note_read_fails(side);
+            table.note(Note::FailsToRead { side });
             core.read_fails(side)
         }
         Ok(None) => take_silence(table, core, game, side),
         Ok(Some(false)) => {
-            table.note_output_ends(side);
+            table.note(Note::OutputEnds { side });
             core.output_ends(side)
         }
         Ok(Some(true)) => {
             if is_parsed(line) {
                 take_line(table, core, game, side, line, block)
             } else {
-                table.note_output_ends(side);
+                table.note(Note::OutputEnds { side });
                 core.output_ends(side)
             }
         }

@@ -23,7 +23,7 @@ returns-in-Err-clause-taken g c =
     (Notes (Happened (FailsToRead c.args.side)) ∷ [])
     (as_fault _ _ c.args.side _ c.read_next.new.line _ c.until.result _ c.until.ensures c.in-Err.is
     c.read_next.ensures.passes)
-    c.note_read_fails.ensures.passes)
+    c.note.ensures.passes)
     (λ r m p h s. c.read_fails.ensures r _ m (on_when_read m.phase c.args.side h) s)
 
 pub returns-in-Ok-None-clause-taken : goal.returns-in-Ok-None-clause-taken
@@ -56,7 +56,7 @@ returns-in-Ok-Some-false-clause-taken g c =
     (passed_more _ _ _ (LooksFor c.args.side _ ∷ Does (Happens (OutputEnds c.args.side)) ∷ [])
     (Notes (Happened (OutputEnds c.args.side)) ∷ [])
     (as_none _ _ c.args.side _ c.read_next.new.line c.until.result _ c.until.ensures found c.read_next.ensures.passes)
-    c.note_output_ends-in-Ok-Some-false.ensures.passes)
+    c.note-in-Ok-Some-false.ensures.passes)
     (λ r m p h s. c.output_ends-in-Ok-Some-false.ensures r _ m (on_when_read m.phase c.args.side h) s)
 
 pub returns-else-is_parsed-clause-taken : goal.returns-else-is_parsed-clause-taken
@@ -68,7 +68,7 @@ returns-else-is_parsed-clause-taken g c =
     (passed_more _ _ _ (LooksFor c.args.side _ ∷ Does (Happens (OutputEnds c.args.side)) ∷ [])
     (Notes (Happened (OutputEnds c.args.side)) ∷ [])
     (as_last _ _ c.args.side _ c.read_next.new.line c.until.result _ c.until.ensures found (sym c.is_parsed.ensures ∙ c.if-is_parsed.false)
-    c.read_next.ensures.passes) c.note_output_ends.ensures.passes)
+    c.read_next.ensures.passes) c.note-else-is_parsed.ensures.passes)
     (λ r m p h s. c.output_ends.ensures r _ m (on_when_read m.phase c.args.side h) s)
 
 pub returns-then-is_parsed-clause-taken : goal.returns-then-is_parsed-clause-taken

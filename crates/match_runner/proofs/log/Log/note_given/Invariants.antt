@@ -1,7 +1,7 @@
 use Rattle.std.proofs.Common.{◌≡◌, ℕ, List, ◌++◌, length}
 use Rattle.chess_match.specs.Notes.{Gives}
 use Rattle.match_runner.specs.Log.{Logged, log_seen, note_text}
-use Rattle.match_runner.proofs.log.LogWitness.gives.Given as goal
+use Rattle.match_runner.proofs.log.Log.note_given.Given as goal
 
 -- what was logged, with what is left, is all of it
 abbrev pub invariant-loop-rest : goal.invariant-loop-rest

@@ -5,7 +5,7 @@ use Rattle.byte_devices.specs.Bytes.{byte}
 use Rattle.chess_base.specs.declared.man.Colour.{Colour}
 use Rattle.match_runner.specs.Log.{Logged, log_line, log_seen}
 use Rattle.match_runner.proofs.Logged.{given_all, given_more, logged_more, logs_none}
-use Rattle.match_runner.proofs.log.LogWitness.gives.Goals as goal
+use Rattle.match_runner.proofs.log.Log.note_given.Goals as goal
 
 pub loop-rest-init : goal.loop-rest-init
 loop-rest-init g c = (
