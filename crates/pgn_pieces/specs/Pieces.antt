@@ -5,16 +5,17 @@ use Rattle.std.specs.List.{onto_first, take_while, prefix_len, list_any, list_al
 use Rattle.std.specs.Str.{bytes_eq}
 use Rattle.byte_devices.specs.Bytes.{is_blank, is_name_byte}
 use Rattle.byte_devices.specs.Devices.{InputState, saturating_increment}
-use Rattle.pgn_pieces.specs.Places.{ends_line}
+use Rattle.pgn_pieces.specs.Places.{ends_line, breaks_line}
 use Rattle.pgn_pieces.specs.declared.pieces.PieceFault.{PieceFault}
 use Rattle.pgn_pieces.specs.declared.pieces.PieceFault.TheVariants.{ReadFailed, NoMemory, InputTooLong}
 
 -- ---- the lines of a text
 
--- the lines of a text, each with the `\n` that ends it; the last one may have none
+-- the lines of a text, each with the `\n` or `\r` that ends it; the last one may have none. So `\r\n` ends a line and
+-- is followed by a line of `\n` alone, which counts as empty
 abbrev pub lines_of : List ℕ → List (List ℕ)
 lines_of [] = []
-lines_of (c ∷ cs) = if ends_line c then (c ∷ []) ∷ lines_of cs else onto_first c (lines_of cs)
+lines_of (c ∷ cs) = if breaks_line c then (c ∷ []) ∷ lines_of cs else onto_first c (lines_of cs)
 
 -- the front of a line, which decides the line's kind: its first 256 bytes, without the byte order mark of UTF-8 (the
 -- bytes EF BB BF) at their beginning, if they have one there
