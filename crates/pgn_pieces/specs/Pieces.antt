@@ -5,22 +5,27 @@ use Rattle.std.specs.List.{onto_first, take_while, prefix_len, list_any, list_al
 use Rattle.std.specs.Str.{bytes_eq}
 use Rattle.byte_devices.specs.Bytes.{is_blank, is_name_byte}
 use Rattle.byte_devices.specs.Devices.{InputState, saturating_increment}
-use Rattle.pgn_pieces.specs.Places.{ends_line}
+use Rattle.pgn_pieces.specs.Places.{ends_line, breaks_line}
 use Rattle.pgn_pieces.specs.declared.pieces.PieceFault.{PieceFault}
 use Rattle.pgn_pieces.specs.declared.pieces.PieceFault.TheVariants.{ReadFailed, NoMemory, InputTooLong}
 
 -- ---- the lines of a text
 
--- the lines of a text, each with the `\n` that ends it; the last one may have none
+-- the lines of a text, each with the `\n` or `\r` that ends it; the last one may have none. So `\r\n` ends a line and
+-- is followed by a line of `\n` alone, which counts as empty
 abbrev pub lines_of : List ℕ → List (List ℕ)
 lines_of [] = []
-lines_of (c ∷ cs) = if ends_line c then (c ∷ []) ∷ lines_of cs else onto_first c (lines_of cs)
+lines_of (c ∷ cs) = if breaks_line c then (c ∷ []) ∷ lines_of cs else onto_first c (lines_of cs)
+
+-- a text without the spaces and tabs at its beginning
+abbrev pub without_blanks : List ℕ → List ℕ
+without_blanks text = drop (prefix_len is_blank text) text
 
 -- the front of a line, which decides the line's kind: its first 256 bytes, without the byte order mark of UTF-8 (the
--- bytes EF BB BF) at their beginning, if they have one there
+-- bytes EF BB BF) at their beginning, if they have one there, and then without the spaces and tabs there
 abbrev pub front_of : List ℕ → List ℕ
-front_of line =
-    let first = take 256 line in if bytes_eq (take 3 first) (239 ∷ 187 ∷ 191 ∷ []) then drop 3 first else first
+front_of line = let first = take 256 line in
+    without_blanks (if bytes_eq (take 3 first) (239 ∷ 187 ∷ 191 ∷ []) then drop 3 first else first)
 
 -- the name of the tag with which the front of a line begins: the letters, digits and underscores after its first byte,
 -- which is to be `[` but is not tested here
@@ -29,7 +34,7 @@ tag_name front = take_while is_name_byte (drop 1 front)
 
 -- what comes after the tag's name in the front of a line, and after any spaces and tabs that follow the name
 abbrev pub after_name : List ℕ → List ℕ
-after_name front = let rest = drop (length (tag_name front)) (drop 1 front) in drop (prefix_len is_blank rest) rest
+after_name front = without_blanks (drop (length (tag_name front)) (drop 1 front))
 
 -- whether a line is a tag line: its front begins with `[`, a name of one byte or more, any spaces and tabs, and `"`
 abbrev pub is_tag_line : List ℕ → Bool

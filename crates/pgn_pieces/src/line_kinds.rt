@@ -1,5 +1,5 @@
 //! The kinds of lines of a collection. The kind of a line is decided by its front, which means its first 256 bytes
-//! without a byte order mark:
+//! without a byte order mark, and then without spaces and tabs, at their beginning:
 //!
 //! - a tag line begins with `[`, a name, perhaps spaces and tabs, and `"`: `[White "Carlsen"]`
 //! - an Event line is a tag line of the tag Event: `[Event "Oslo"]`
@@ -11,8 +11,8 @@
 
 ghost use Rattle.std.specs.Prelude.{◌≡◌, ◌≤◌, true, false, ◌||◌, ◌==◌, if◌then◌else◌, [], ◌∷◌, length, take, drop, codes};
 ghost use Rattle.std.specs.Str.{bytes_eq};
-ghost use Rattle.std.specs.List.{prefix_len, list_all};
-ghost use Rattle.pgn_pieces.specs.Pieces.{front_of, after_name, tag_name, is_tag_line, is_event_line, is_moves_line};
+ghost use Rattle.std.specs.List.{list_all};
+ghost use Rattle.pgn_pieces.specs.Pieces.{without_blanks, front_of, after_name, tag_name, is_tag_line, is_event_line, is_moves_line};
 ghost use Rattle.byte_devices.specs.Bytes.{is_blank};
 ghost use Rattle.pgn_pieces.specs.Places.{ends_line, line_ends};
 ghost use Rattle.pgn_pieces.specs.ties.Fronts.{begins_tag, is_empty_front};
@@ -35,7 +35,7 @@ pub(crate) struct Kind {
 
 // The kind of a line: `[Event "Oslo"]` is a tag line and an Event line, `[White "Carlsen"]` only a tag line, and
 // `1. e4 e5` a line of moves. A line with only white space, or that begins with `%` or `;`, is none of these. `line`
-// may have its `\n` or not, and may be only the beginning of a line that isn't all read (`Seen::see_open`).
+// may have its line end or not, and may be only the beginning of a line that isn't all read (`Seen::see_open`).
 #[inline(always)]
 pub(crate) fn kind_of(line: &[u8]) -> Kind
     ensures tag { result.is_tag ≡ is_tag_line line.now }
@@ -80,12 +80,13 @@ fn first_bytes(line: &[u8]) -> &[u8]
     line
 }
 
-// The front of a line, which decides its kind: its first 256 bytes, without a byte order mark.
+// The front of a line, which decides its kind: its first 256 bytes, without a byte order mark, and without the spaces
+// and tabs that come first. The front of a line with 256 spaces or more is empty.
 #[inline(always)]
 fn front_of(line: &[u8]) -> &[u8]
     ensures { result.now ≡ front_of line.now }
 {
-    without_mark(first_bytes(line))
+    without_blanks(without_mark(first_bytes(line)))
 }
 
 // A text without its first byte; an empty text stays empty.
@@ -108,7 +109,7 @@ fn tag_name(front: &[u8]) -> &[u8]
 // A text without the spaces and tabs at its front: `"Oslo"]` for ` "Oslo"]`.
 #[inline(always)]
 fn without_blanks(text: &[u8]) -> &[u8]
-    ensures { result.now ≡ drop (prefix_len is_blank text.now) text.now }
+    ensures { result.now ≡ without_blanks text.now }
 {
     split_while(text, |byte| is_blank(byte)).1
 }

@@ -9,7 +9,7 @@ ghost use Rattle.chess_fen.specs.Writing.{fen};
 ghost use Rattle.chess_game.specs.Ends.{verdict_result, result_text};
 ghost use Rattle.chess_game.specs.Game.{current, verdict_now};
 ghost use Rattle.chess_pgn.specs.declared.read.PgnFaultKind.TheVariants.{TooLong};
-ghost use Rattle.pgn_pieces.specs.Places.{ends_line, line_ends, line_of, column_of};
+ghost use Rattle.pgn_pieces.specs.Places.{breaks_line, line_ends, line_of, column_of};
 ghost use Rattle.pgn_verifier.specs.Explanations.{wrong_part, has_position, explanation_line, shown};
 ghost use Rattle.chess_game.specs.Results.{outcome_text};
 ghost use Rattle.pgn_verifier.specs.declared.game_fault.FaultKind.TheVariants.{Pgn};
@@ -58,12 +58,19 @@ fn fault_line(label: &FaultLabel, fault: GameFault) -> FaultLines
     lines
 }
 
-// How many bytes a text has after its last line end.
+// Whether columns are counted anew after this byte: it is `\n` or `\r`.
+fn breaks_line(byte: u8) -> bool
+    ensures { result ≡ breaks_line byte }
+{
+    byte == b'\n' || byte == b'\r'
+}
+
+// How many bytes a text has after its last `\n` or `\r`.
 fn last_line_len(text: &[u8]) -> usize
-    ensures value { result ≡ suffix_len (λ c. not (ends_line c)) text.now }
+    ensures value { result ≡ suffix_len (λ c. not (breaks_line c)) text.now }
     ensures within { result ≤ length text.now }
 {
-    text.iter().rev().take_while(|byte| **byte != b'\n').count()
+    text.iter().rev().take_while(|byte| !breaks_line(**byte)).count()
 }
 
 // The line of the byte after these, which begin on the line `start`.
@@ -76,7 +83,7 @@ fn line_after(start: usize, before: &[u8]) -> usize
 
 // The column of the byte after these, which begin where a line begins.
 fn column_after(before: &[u8]) -> usize
-    ensures { result ≡ suffix_len (λ c. not (ends_line c)) before.now + 1 }
+    ensures { result ≡ suffix_len (λ c. not (breaks_line c)) before.now + 1 }
 {
     last_line_len(before) + 1
 }

@@ -1,5 +1,5 @@
 -- The reports on a collection's files, one after another, are those on the collection.
-use Rattle.std.proofs.Common.{◌≡◌, ℕ, zero, suc, ◌+◌, eqb, Bool, true, false, List, [], ◌∷◌, ◌++◌, length, map, drop, Option, Some, None, Result, Ok, Err, refl, sym, ap, ◌∙◌, append-nil, length-append, arith}
+use Rattle.std.proofs.Common.{◌≡◌, ℕ, zero, suc, ◌+◌, Bool, true, false, List, [], ◌∷◌, ◌++◌, length, map, drop, Option, Some, None, Result, Ok, Err, refl, sym, ap, ◌∙◌, append-nil, length-append, arith}
 use Rattle.std.specs.Prelude.{if◌then◌else◌, nat_le, not, is_some}
 use Rattle.std.specs.List.{onto_first, concat, flat_map, sum_by}
 use Rattle.std.specs.Option.{unwrap_or}
@@ -9,6 +9,7 @@ use Rattle.std.proofs.lemmas.List.Concat.{flat_map-append}
 use Rattle.std.proofs.lemmas.List.Sums.{sum_by-append, sum_by-cons}
 use Rattle.chess_pgn.specs.declared.read.PgnEnd.{PgnEnd}
 use Rattle.pgn_pieces.specs.Pieces.{cut, lines_of}
+use Rattle.pgn_pieces.specs.Places.{breaks_line}
 use Rattle.pgn_pieces.specs.Stream.{with_offsets}
 use Rattle.pgn_pieces.specs.declared.pieces.TheConstants.{PIECE_LEN}
 use Rattle.pgn_pieces.specs.laws.Shards.{begins_in_tag, ends_in_moves, ShardsAreCut}
@@ -26,7 +27,7 @@ use Rattle.pgn_verifier_laws.proofs.OnlyReports.{only_all}
 
 has_line : (cs : List ℕ) → (line : List ℕ) × (lines : List (List ℕ)) × (lines_of (cs ++ 10 ∷ []) ≡ line ∷ lines)
 has_line [] = (10 ∷ [], [], refl)
-has_line (c ∷ cs) = by_test (eqb c 10) (has_line cs)
+has_line (c ∷ cs) = by_test (breaks_line c) (has_line cs)
   where
     by_test : (b : Bool)
         → (line : List ℕ) × (lines : List (List ℕ)) × (lines_of (cs ++ 10 ∷ []) ≡ line ∷ lines)

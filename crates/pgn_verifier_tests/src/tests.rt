@@ -590,6 +590,31 @@ fn a_mark_before_a_later_piece_is_a_fault_of_the_text(rt: HostRuntime) {
     );
 }
 
+// A piece that ends with a carriage return ends a comment, which goes on in the text up to a line feed. So the law needs
+// its premise on such pieces too.
+#[test]
+fn a_comment_goes_on_after_a_piece_that_ends_with_a_return(rt: HostRuntime) {
+    let text = b"1. e4 * ; x\r[Event \"b\"]\r1. d4 *\n";
+    check_cuts(
+        &rt,
+        &rt,
+        true,
+        ALL,
+        text,
+        Verified::EachGame,
+        b"game 1: 1 half-moves, *\ngame 2: 1 half-moves, *\ngames 2 half-moves 2 faults 0\n",
+    );
+    check_cuts(
+        &rt,
+        &rt,
+        false,
+        ALL,
+        text,
+        Verified::EachGame,
+        b"game 1: 1 half-moves, *\n",
+    );
+}
+
 // The law has no converse: a game with two tags Event has no fault, but it is cut between them.
 #[test]
 fn a_game_that_is_cut_between_its_tags_has_a_fault(rt: HostRuntime) {
