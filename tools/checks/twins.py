@@ -1,7 +1,7 @@
 """Copies of definitions, so that a law is checked with a wrong one, while the crates below, whose code keeps the right one,
 need no new proof.
 
-A law stands on definitions alone. So those that are edited, and all modules of specs/ and proofs/ between them and the law,
+A law rests only on definitions. So those that are edited, and all modules of specs/ and proofs/ between them and the law,
 are copied into the law's crate, as `of_CRATE`, and what names them there names the copies; and so are the proofs that only
 their own crate can name. Types and constants of the code stay where they are. Found by the names of modules; no prover is asked."""
 
