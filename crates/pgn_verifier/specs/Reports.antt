@@ -1,14 +1,16 @@
 -- The reports on the games of a text and of pieces, their lines and their counts.
-use Rattle.std.specs.Prelude.{◌≡◌, ℕ, ◌+◌, ◌==◌, nat_le, Bool, not, if◌then◌else◌, List, [], ◌∷◌, ◌++◌, length, map, take, drop, codes, decimal, is_some, Option, Some, None, Ok, Err}
+use Rattle.std.specs.Prelude.{◌≡◌, ℕ, ◌+◌, ◌==◌, nat_le, Bool, true, false, not, if◌then◌else◌, List, [], ◌∷◌, ◌++◌, length, map, take, drop, codes, decimal, is_some, Option, Some, None, Ok, Err}
 use Rattle.std.specs.List.{count_by, prefix_len, sum_by}
 use Rattle.std.specs.Bool.{MatchBool}
-use Rattle.std.specs.Option.{unwrap_or, option_map_or}
+use Rattle.std.specs.Option.{unwrap_or, option_map, option_map_or}
 use Rattle.byte_devices.specs.Bytes.{new_line, shown_byte, after_byte_order_mark}
 use Rattle.chess_game.specs.Game.{State, verdict_now}
 use Rattle.chess_game.specs.Results.{outcome_text}
 use Rattle.chess_game.specs.declared.results.Outcome.{Outcome}
+use Rattle.chess_pgn.specs.FaultyGames.{IsSplitPast, faulty_end}
 use Rattle.chess_pgn.specs.LastTags.{last_tag, tag_section}
 use Rattle.chess_pgn.specs.Tokens.{Token, is_white_space}
+use Rattle.chess_pgn.specs.declared.faulty_game.FaultyEnd.{FaultyEnd}
 use Rattle.chess_pgn.specs.declared.read.PgnEnd.{PgnEnd}
 use Rattle.chess_pgn.specs.declared.read.PgnFaultKind.TheVariants.{TooLong}
 use Rattle.pgn_writer.specs.declared.termination.Termination.{Termination}
@@ -61,50 +63,83 @@ names_of tokens = shown_tag tokens (codes "White") ++ (codes " - " ++ (shown_tag
 
 -- ---- the reports on the games of a text
 
--- these are the reports on the games of `text` from its offset `at` on, up to and including the first game with a
--- fault; the last two arguments are `at` and the reports. The text begins at the offset `start` of the input. `strict`:
--- a termination marker that contradicts the tag Result or the board's verdict is a fault
-pub data AreReports (strict : Bool) (start : ℕ) (text : List ℕ) : ℕ → List Placed → Type 0 where
+-- where the game with a fault ends that is read from the offset `at` of a text on (`at` comes third). A text that is
+-- verified as a whole isn't read on after its first fault; a piece of a collection (`goes_on`) is, from where the faulty
+-- game ends by its tokens (`faulty_end`)
+abbrev pub IsFaultyEnd : Bool → List ℕ → ℕ → FaultyEnd → Type 0
+IsFaultyEnd false text at end = end ≡ record { next = None; unread = None }
+IsFaultyEnd true text at end = (tokens : List (ℕ × Token))
+    × IsSplitPast text (after_byte_order_mark text at) tokens × (end ≡ faulty_end text tokens)
+
+-- the end of a fault's explanation: which bytes of the input are not read, as ` | bytes 151 to 606 not read` says of
+-- those from the offset 151 to the last one before 606; nothing if `from`, the offset of the first of them, is `None`
+abbrev pub unread_text : Option ℕ → ℕ → List ℕ
+unread_text from end = option_map_or (λ begin. codes " | bytes " ++ (decimal begin ++ (codes " to " ++ (decimal end
+    ++ codes " not read")))) from []
+
+-- the report on a game with this fault from the offset `at` of a text on, where the text begins at the offset `start` of
+-- the input. The game has these tokens and was read as far as `s`; where it ends, or else the text, its span ends
+abbrev pub faulty_game : ℕ → List ℕ → ℕ → List (ℕ × Token) → State → GameFault → Option (List ℕ) → FaultyEnd → Placed
+faulty_game start text at tokens s fault reason end = record {
+  begin = start + game_begin text at;
+  end = start + unwrap_or end.next (length text);
+  names = Some (names_of tokens);
+  report = Faulty (record fault { offset = start + fault.offset })
+      (start + fault.offset + (wrong_part fault.kind (drop fault.offset text)).0)
+      (explanation s (drop fault.offset text) fault.kind reason
+      ++ unread_text (option_map (λ offset. start + offset) end.unread) (start + length text));
+}
+
+-- these are the reports on the games of `text` from its offset `at` on; the last two arguments are `at` and the
+-- reports. A game with a fault is the last, unless the text is read on (`goes_on`) and the next game can be found. The
+-- text begins at the offset `start` of the input. `strict`: a termination marker that contradicts the tag Result or the
+-- board's verdict is a fault
+pub data AreReportsOf (goes_on strict : Bool) (start : ℕ) (text : List ℕ) : ℕ → List Placed → Type 0 where
   -- no game comes from `at` on
-  none_left : {at : ℕ} {s : State} → IsJudged strict text at s (Ok None) → AreReports strict start text at []
+  none_left : {at : ℕ} {s : State} → IsJudged strict text at s (Ok None) → AreReportsOf goes_on strict start text at []
   -- the next game has no fault and ends with its termination marker; the other reports are on the games after that.
   -- Offsets in the text become offsets in the input
   next_game : {at : ℕ} {s : State} {end : PgnEnd} {reports : List Placed}
-      (game : IsJudged strict text at s (Ok (Some end))) → AreReports strict start text end.offset reports
-      → AreReports strict start text at (record {
+      (game : IsJudged strict text at s (Ok (Some end))) → AreReportsOf goes_on strict start text end.offset reports
+      → AreReportsOf goes_on strict start text at (record {
         begin = start + game_begin text at;
         end = start + end.offset;
         names = Some (names_of game.tokens);
         report = Game (length s.moves) end.outcome end.termination;
       } ∷ reports)
-  -- the next game has a fault. What comes after the fault is not read, so its span goes to the text's end
-  last_fault : {at : ℕ} {s : State} {fault : GameFault} (reason : Option (List ℕ))
+  -- the next game has a fault, and no game can be found after it, or none is looked for
+  last_fault : {at : ℕ} {s : State} {fault : GameFault} (reason : Option (List ℕ)) (end : FaultyEnd)
       (game : IsJudged strict text at s (Err fault))
       → IsReason fault.kind (drop fault.offset text) (verdict_now s) reason
-      → AreReports strict start text at (record {
-        begin = start + game_begin text at;
-        end = start + length text;
-        names = Some (names_of game.tokens);
-        report = Faulty (record fault { offset = start + fault.offset })
-            (start + fault.offset + (wrong_part fault.kind (drop fault.offset text)).0)
-            (explanation s (drop fault.offset text) fault.kind reason);
-      } ∷ [])
+      → IsFaultyEnd goes_on text at end → end.next ≡ None
+      → AreReportsOf goes_on strict start text at (faulty_game start text at game.tokens s fault reason end ∷ [])
+  -- the next game has a fault, and the other reports are on the games after its end
+  next_fault : {at next : ℕ} {s : State} {fault : GameFault} {reports : List Placed} (reason : Option (List ℕ))
+      (end : FaultyEnd) (game : IsJudged strict text at s (Err fault))
+      → IsReason fault.kind (drop fault.offset text) (verdict_now s) reason
+      → IsFaultyEnd goes_on text at end → end.next ≡ Some next → AreReportsOf goes_on strict start text next reports
+      → AreReportsOf goes_on strict start text at (faulty_game start text at game.tokens s fault reason end ∷ reports)
+
+-- these are the reports on the games of a text that is verified as a whole, up to its first fault (see `AreReportsOf`)
+abbrev pub AreReports : Bool → ℕ → List ℕ → ℕ → List Placed → Type 0
+AreReports = AreReportsOf false
 
 -- ---- the reports on the games of pieces
 
 -- these are the reports on a piece, which begins at this offset of the input, and whose bytes (`piece`) are read as a
--- text of its own: on its games in order, up to the first with a fault; or, if it is too long (more than 16,777,216
+-- text of its own: on its games in order, also after one with a fault; or, if it is too long (more than 16,777,216
 -- bytes), one report on the piece: the fault TooLong at its first byte, explained by the first word there (`shown`). A
 -- game of more than 20,000 half-moves has the same kind of fault, but at its 20,001st half-move. `strict`: an outcome
 -- mark that contradicts the tag Result or the board's verdict is a fault
 abbrev pub AreReportsIn : Bool → ℕ → List ℕ → List Placed → Type 0
 AreReportsIn strict offset piece reports =
-    MatchBool (nat_le (length piece) PIECE_LEN) (AreReports strict offset piece 0 reports)
+    MatchBool (nat_le (length piece) PIECE_LEN) (AreReportsOf true strict offset piece 0 reports)
     (reports ≡ record {
       begin = offset;
       end = offset + length piece;
       names = None;
-      report = Faulty (record { kind = Pgn TooLong; offset = offset }) offset (shown piece);
+      report = Faulty (record { kind = Pgn TooLong; offset = offset }) offset
+          (shown piece ++ unread_text (Some offset) (offset + length piece));
     } ∷ [])
 
 -- ---- their lines

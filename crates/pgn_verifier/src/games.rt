@@ -17,7 +17,7 @@ use crate::tally::Tally;
 use byte_devices::{Output, WriteFault, put};
 use chess_bits::{AttackTables, Bits};
 use chess_game::{Game, MOST_MOVES};
-use chess_pgn::{PgnEnd, faults_have_offsets, half_moves_have_bytes, read_pgn};
+use chess_pgn::{FaultyEnd, PgnEnd, faults_have_offsets, faulty_end, half_moves_have_bytes, read_pgn};
 use std::alloc::{AllocError, Global};
 
 // A new game of at most `MOST_MOVES` half-moves, on a bitboard that uses these tables.
@@ -60,10 +60,26 @@ fn judge_game(
     }
 }
 
-// Reads the games of a text up to its first fault, writes their lines, and returns the counts, `before` with these
-// reports added. The text begins at `start` in the input; `game` is only room for the games that are read.
+// Where the game with a fault ends that is read from the offset `at` on: not known, unless the text is read on.
+fn end_of_faulty(goes_on: bool, text: &[u8], at: usize) -> FaultyEnd
+    requires { at ≤ length text.now }
+    ensures value { result ≡ faulty_end_at goes_on text.now at }
+    ensures further { IfSome result.next (λ next. at < next) }
+    ensures within { IfSome result.next (λ next. next ≤ length text.now) }
+{
+    if goes_on {
+        faulty_end(text, at)
+    } else {
+        FaultyEnd { next: None, unread: None }
+    }
+}
+
+// Reads the games of a text up to its first fault, or with `goes_on` also those after faults, as far as they can be
+// found; writes their lines, and returns the counts, `before` with these reports added. The text begins at `start` in
+// the input; `game` is only room for the games that are read.
 pub(crate) fn verify_text<W: Output>(
     options: VerifyOptions,
+    goes_on: bool,
     start: TextStart,
     text: &[u8],
     game: &mut Game<Bits<'_>>,
@@ -77,7 +93,7 @@ pub(crate) fn verify_text<W: Output>(
     requires limit { game.old.limit ≡ MOST_MOVES }
     ensures written { (input : List ℕ) → StandsIf options.explain start input text.now
         → Writes options input before (W.seen output.old) (W.seen output.new) result
-        (placed_on options.strict start.offset text.now) }
+        (placed_on goes_on options.strict start.offset text.now) }
     ensures grown { IfOk result (λ after. GrowsBy (length text.now) before after) }
     ensures limit { game.new.limit ≡ MOST_MOVES }
 {
@@ -95,10 +111,15 @@ pub(crate) fn verify_text<W: Output>(
                 at = end.offset;
             }
             Err(fault) => {
-                let unread = FaultLabel::of_game(options, number, start.offset, text, at);
-                let lines = fault_lines(options.explain, &unread, start, text, fault, game);
+                let end = end_of_faulty(goes_on, text, at);
+                let label = FaultLabel::of_game(options, number, start.offset, text, at, end);
+                let lines = fault_lines(options.explain, &label, start, text, fault, end.unread, game);
                 put(output, lines.as_slice())?;
-                return Ok(tally.with_fault());
+                tally = tally.with_fault();
+                let Some(next) = end.next else {
+                    return Ok(tally);
+                };
+                at = next;
             }
         }
     }

@@ -32,24 +32,41 @@ judged_at strict text at =
     let tag = result_tag_of (length text) (tokens_from text (after_byte_order_mark text at)) in
     judged strict tag (verdict_now read.state) read.answer
 
+-- the tokens of a text from the offset `at` on, of which what can't be read is passed over (`IsSplitPast`), in at most
+-- n splits; each but the last takes a byte or more
+unfoldable pub tokens_past : ℕ → List ℕ → ℕ → List (ℕ × Token)
+tokens_past zero text at = []
+tokens_past (suc n) text at = let tokens = tokens_from text at in
+    tokens ++ option_map_or (λ next. tokens_past n text next) (passed_after text tokens) []
+
+-- where the game with a fault ends that is read from the offset `at` on, if the text is read on (`goes_on`)
+abbrev pub faulty_end_at : Bool → List ℕ → ℕ → FaultyEnd
+faulty_end_at false text at = record { next = None; unread = None }
+faulty_end_at true text at =
+    faulty_end text (tokens_past (length text + 1) text (after_byte_order_mark text at))
+
 -- the report on a game of a text, from how it was judged and the game that was read (`s`), and then what `later` gives
--- for the offset of its end; a fault is the last. `start` is the input's offset at which the text begins
-abbrev pub report_then : ℕ → List ℕ → Result (Option PgnEnd) GameFault → State → (ℕ → List Report) → List Report
-report_then start text (Ok None) s later = []
-report_then start text (Ok (Some end)) s later =
+-- for the offset of its end; of a game with a fault that is `ends`. `start` is the input's offset at which the text
+-- begins
+abbrev pub report_then : ℕ → List ℕ → Result (Option PgnEnd) GameFault → State → FaultyEnd → (ℕ → List Report)
+    → List Report
+report_then start text (Ok None) s ends later = []
+report_then start text (Ok (Some end)) s ends later =
     Game (length s.moves) end.outcome end.termination ∷ later end.offset
-report_then start text (Err fault) s later =
+report_then start text (Err fault) s ends later =
     Faulty (record fault { offset = start + fault.offset })
     (start + fault.offset + (wrong_part fault.kind (drop fault.offset text)).0)
-    (explanation_of s (drop fault.offset text) fault.kind) ∷ []
+    (explanation_of s (drop fault.offset text) fault.kind
+    ++ unread_text (option_map (λ offset. start + offset) ends.unread) (start + length text))
+    ∷ option_map_or later ends.next []
 
--- the reports on at most n games (the third argument) of a text from its offset `at` on, up to its first fault. The
--- text begins at the offset `start` of the input; `strict`: results are compared
-unfoldable pub reports_from : Bool → ℕ → ℕ → List ℕ → ℕ → List Report
-reports_from strict start zero text at = []
-reports_from strict start (suc n) text at =
-    report_then start text (judged_at strict text at) (read_at text at).state
-    (λ next. reports_from strict start n text next)
+-- the reports on at most n games (the fourth argument) of a text from its offset `at` on, up to its first fault, or if
+-- `goes_on` also after faults. The text begins at the offset `start` of the input; `strict`: results are compared
+unfoldable pub reports_from : Bool → Bool → ℕ → ℕ → List ℕ → ℕ → List Report
+reports_from goes_on strict start zero text at = []
+reports_from goes_on strict start (suc n) text at =
+    report_then start text (judged_at strict text at) (read_at text at).state (faulty_end_at goes_on text at)
+    (λ next. reports_from goes_on strict start n text next)
 
 -- the reports on all games of a text up to its first fault. The text begins at the offset `start` of the input;
 -- `strict`: results are compared. Each game has at least one byte, so `length text + 1` games are enough
