@@ -1,9 +1,9 @@
-//! The games of a text, one after another, up to the first fault.
+//! The games of a text, one after another: up to the first fault, or also after faults.
 
 ghost use Rattle.std.specs.Prelude.{◌≡◌, ◌≤◌, ◌<◌, ◌+◌, ◌^◌, List, ℕ, length, IfOk, IfErr};
 ghost use Rattle.std.specs.Option.{IfSome};
 ghost use Rattle.chess_game.specs.declared.game.TheConstants.{MOST_MOVES};
-ghost use Rattle.pgn_verifier.specs.laws.Reported.{read_at, judged_at, placed_on};
+ghost use Rattle.pgn_verifier.specs.laws.Reported.{read_at, judged_at, faulty_end_at, placed_of};
 ghost use Rattle.pgn_verifier.specs.ties.OnTheWay.{StandsIf, Writes, GrowsBy};
 
 use crate::contradiction::contradiction;
@@ -74,12 +74,11 @@ fn end_of_faulty(goes_on: bool, text: &[u8], at: usize) -> FaultyEnd
     }
 }
 
-// Reads the games of a text up to its first fault, or with `goes_on` also those after faults, as far as they can be
-// found; writes their lines, and returns the counts, `before` with these reports added. The text begins at `start` in
-// the input; `game` is only room for the games that are read.
+// Reads the games of a text up to its first fault, or if it is read on (`start.goes_on`) also those after faults, as far
+// as they can be found; writes their lines, and returns the counts, `before` with these reports added. The text begins
+// at `start` in the input; `game` is only room for the games that are read.
 pub(crate) fn verify_text<W: Output>(
     options: VerifyOptions,
-    goes_on: bool,
     start: TextStart,
     text: &[u8],
     game: &mut Game<Bits<'_>>,
@@ -93,7 +92,7 @@ pub(crate) fn verify_text<W: Output>(
     requires limit { game.old.limit ≡ MOST_MOVES }
     ensures written { (input : List ℕ) → StandsIf options.explain start input text.now
         → Writes options input before (W.seen output.old) (W.seen output.new) result
-        (placed_on goes_on options.strict start.offset text.now) }
+        (placed_of start.goes_on options.strict start.offset text.now) }
     ensures grown { IfOk result (λ after. GrowsBy (length text.now) before after) }
     ensures limit { game.new.limit ≡ MOST_MOVES }
 {
@@ -111,9 +110,9 @@ pub(crate) fn verify_text<W: Output>(
                 at = end.offset;
             }
             Err(fault) => {
-                let end = end_of_faulty(goes_on, text, at);
+                let end = end_of_faulty(start.goes_on, text, at);
                 let label = FaultLabel::of_game(options, number, start.offset, text, at, end);
-                let lines = fault_lines(options.explain, &label, start, text, fault, end.unread, game);
+                let lines = fault_lines(options.explain, &label, start, text, fault, game);
                 put(output, lines.as_slice())?;
                 tally = tally.with_fault();
                 let Some(next) = end.next else {

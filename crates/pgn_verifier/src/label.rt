@@ -7,14 +7,16 @@ ghost use Rattle.arrayvec.specs.ArrayVec.{array_vec_len};
 ghost use Rattle.chess_pgn.specs.Tokens.{is_white_space};
 ghost use Rattle.byte_devices.specs.Bytes.{after_byte_order_mark};
 ghost use Rattle.pgn_pieces.specs.Stream.{current};
-ghost use Rattle.pgn_verifier.specs.Reports.{game_begin, names_text, span_text};
+ghost use Rattle.std.specs.Option.{IfSome, option_map, unwrap_or};
+ghost use Rattle.pgn_verifier.specs.Reports.{game_begin, names_text, span_text, unread_text};
 ghost use Rattle.pgn_verifier.specs.laws.Reported.{names_at};
-ghost use Rattle.pgn_verifier.specs.ties.OnTheWay.{span_written};
+ghost use Rattle.pgn_verifier.specs.ties.OnTheWay.{span_written, unread_written};
 
 use crate::names::{NamesText, game_names};
 use crate::options::VerifyOptions;
 use arrayvec::ArrayVec;
 use byte_devices::{after_byte_order_mark, append, append_number};
+use chess_pgn::FaultyEnd;
 use chess_pgn::token_parts::is_white_space;
 use pgn_pieces::PgnPieces;
 
@@ -110,32 +112,48 @@ pub(crate) struct FaultLabel {
     pub game: Label,
     /// The end of the line, which names the game; empty if the line is not to name it.
     pub names: NamesText,
+    /// The part of the input that is not read after the fault, if there is one.
+    pub unread: Option<Span>,
 }
 
 impl FaultLabel {
-    /// The label of the game of a text that is read from the offset `at` on, and has a fault: it ends with the text.
-    /// The text begins at `start` in the input.
+    /// The label of the game of a text that is read from the offset `at` on, and has a fault: it ends as `end` says, or
+    /// with the text. The text begins at `start` in the input.
     pub(crate) fn of_game(
         options: VerifyOptions,
         number: usize,
         start: usize,
         text: &[u8],
         at: usize,
+        end: FaultyEnd,
     ) -> Self
         requires at { at ≤ length text.now }
+        requires end { IfSome end.next (λ next. next ≤ length text.now) }
+        requires unread { IfSome end.unread (λ offset. offset ≤ length text.now) }
         requires few { start + length text.now ≤ 2 ^ 63 }
         ensures number { result.game.number ≡ number }
         ensures span { span_written result.game.span
-            ≡ span_text options (start + game_begin text.now at) (start + length text.now) }
+            ≡ span_text options (start + game_begin text.now at) (start + unwrap_or end.next (length text.now)) }
+        ensures unread { unread_written result.unread
+            ≡ unread_text (option_map (λ offset. start + offset) end.unread) (start + length text.now) }
         ensures names { result.names.items ≡ names_text options (Some (names_at text.now at)) }
     {
-        let game = Label::of_game(options, number, start, text, at, text.len());
+        let span_end = end.next.unwrap_or(text.len());
+        let game = Label::of_game(options, number, start, text, at, span_end);
+        let unread = end.unread.map(|offset| Span {
+            begin: start + offset,
+            end: start + text.len(),
+        });
         let names = if options.names {
             game_names(text, at)
         } else {
             NamesText::new()
         };
-        FaultLabel { game, names }
+        FaultLabel {
+            game,
+            names,
+            unread,
+        }
     }
 
     /// The label of the current piece, which is too long: no tags of it are known.
@@ -144,10 +162,16 @@ impl FaultLabel {
         ensures span { span_written result.game.span
             ≡ span_text options (current pieces.now).offset (current pieces.now).end }
         ensures names { result.names.items ≡ names_text options None }
+        ensures unread { unread_written result.unread
+            ≡ unread_text (Some (current pieces.now).offset) (current pieces.now).end }
     {
         FaultLabel {
             game: Label::of_piece(options, number, pieces),
             names: NamesText::new(),
+            unread: Some(Span {
+                begin: pieces.offset(),
+                end: pieces.end(),
+            }),
         }
     }
 }

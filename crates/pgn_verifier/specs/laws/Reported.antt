@@ -1,14 +1,17 @@
 -- What is reported of the games of texts, as functions: a text is cut into tokens one after another, and its games are
 -- read one after another. The law `reports_are_the_only_ones` says that just these are the reports. They come first
 -- without their spans, and then with them.
-use Rattle.std.specs.Prelude.{ℕ, zero, suc, ◌+◌, Bool, nat_le, if◌then◌else◌, List, [], ◌∷◌, length, drop, Option, Some, None, Result, Ok, Err}
+use Rattle.std.specs.Prelude.{ℕ, zero, suc, ◌+◌, Bool, true, false, nat_le, if◌then◌else◌, List, [], ◌∷◌, ◌++◌, length, drop, Option, Some, None, Result, Ok, Err}
 use Rattle.std.specs.List.{flat_map}
+use Rattle.std.specs.Option.{option_map, option_map_or, unwrap_or}
 use Rattle.chess_game.specs.Game.{State, verdict_now}
 use Rattle.chess_game.specs.declared.game.TheConstants.{MOST_MOVES}
+use Rattle.chess_pgn.specs.FaultyGames.{passed_after, faulty_end}
 use Rattle.chess_pgn.specs.GameRead.{GameRead, pgn_read}
 use Rattle.chess_pgn.specs.LastTags.{result_tag_of}
-use Rattle.chess_pgn.specs.Tokens.{tokens_from}
+use Rattle.chess_pgn.specs.Tokens.{Token, tokens_from}
 use Rattle.byte_devices.specs.Bytes.{after_byte_order_mark}
+use Rattle.chess_pgn.specs.declared.faulty_game.FaultyEnd.{FaultyEnd}
 use Rattle.chess_pgn.specs.declared.read.PgnEnd.{PgnEnd}
 use Rattle.chess_pgn.specs.declared.read.PgnFaultKind.TheVariants.{TooLong}
 use Rattle.pgn_verifier.specs.declared.game_fault.FaultKind.TheVariants.{Pgn}
@@ -16,7 +19,7 @@ use Rattle.pgn_pieces.specs.Stream.{Piece, pieces}
 use Rattle.pgn_pieces.specs.declared.pieces.TheConstants.{PIECE_LEN}
 use Rattle.pgn_verifier.specs.Explanations.{wrong_part, shown}
 use Rattle.pgn_verifier.specs.GameFaults.{judged}
-use Rattle.pgn_verifier.specs.Reports.{Report, Game, Faulty, Placed, game_begin, names_of}
+use Rattle.pgn_verifier.specs.Reports.{Report, Game, Faulty, Placed, game_begin, names_of, unread_text}
 use Rattle.pgn_verifier.specs.declared.game_fault.GameFault.{GameFault}
 use Rattle.pgn_verifier.specs.laws.Reasons.{explanation_of}
 
@@ -62,11 +65,15 @@ report_then start text (Err fault) s ends later =
 
 -- the reports on at most n games (the fourth argument) of a text from its offset `at` on, up to its first fault, or if
 -- `goes_on` also after faults. The text begins at the offset `start` of the input; `strict`: results are compared
-unfoldable pub reports_from : Bool → Bool → ℕ → ℕ → List ℕ → ℕ → List Report
-reports_from goes_on strict start zero text at = []
-reports_from goes_on strict start (suc n) text at =
+unfoldable pub games_from : Bool → Bool → ℕ → ℕ → List ℕ → ℕ → List Report
+games_from goes_on strict start zero text at = []
+games_from goes_on strict start (suc n) text at =
     report_then start text (judged_at strict text at) (read_at text at).state (faulty_end_at goes_on text at)
-    (λ next. reports_from goes_on strict start n text next)
+    (λ next. games_from goes_on strict start n text next)
+
+-- these reports up to the first fault
+abbrev pub reports_from : Bool → ℕ → ℕ → List ℕ → ℕ → List Report
+reports_from = games_from false
 
 -- the reports on all games of a text up to its first fault. The text begins at the offset `start` of the input;
 -- `strict`: results are compared. Each game has at least one byte, so `length text + 1` games are enough
@@ -75,14 +82,14 @@ reports_on strict start text = reports_from strict start (length text + 1) text 
 
 -- the report on a piece that is too long
 abbrev pub too_long_report : Piece → Report
-too_long_report piece =
-    Faulty (record { kind = Pgn TooLong; offset = piece.offset }) piece.offset (shown piece.bytes)
+too_long_report piece = Faulty (record { kind = Pgn TooLong; offset = piece.offset }) piece.offset
+    (shown piece.bytes ++ unread_text (Some piece.offset) (piece.offset + length piece.bytes))
 
 -- the reports on the games of a piece, which is read as a text of its own; a piece that is too long has one report.
 -- `strict`: results are compared
 abbrev pub reports_in : Bool → Piece → List Report
-reports_in strict piece = if nat_le (length piece.bytes) PIECE_LEN then reports_on strict piece.offset piece.bytes
-    else too_long_report piece ∷ []
+reports_in strict piece = if nat_le (length piece.bytes) PIECE_LEN
+    then games_from true strict piece.offset (length piece.bytes + 1) piece.bytes 0 else too_long_report piece ∷ []
 
 -- the reports on the games of a collection of which this text was read: on all its pieces, if the text is all of it
 -- (`ended`), otherwise on all but the last. `strict`: results are compared
@@ -96,29 +103,39 @@ abbrev pub names_at : List ℕ → ℕ → List ℕ
 names_at text at = names_of (tokens_from text (after_byte_order_mark text at))
 
 -- the report on the game of a text from its offset `at` on, with its span and names, as `report_then` gives it without
-abbrev pub placed_then : ℕ → List ℕ → ℕ → Result (Option PgnEnd) GameFault → State → (ℕ → List Placed) → List Placed
-placed_then start text at (Ok None) s later = []
-placed_then start text at (Ok (Some end)) s later = record {
+abbrev pub placed_then : ℕ → List ℕ → ℕ → Result (Option PgnEnd) GameFault → State → FaultyEnd → (ℕ → List Placed)
+    → List Placed
+placed_then start text at (Ok None) s ends later = []
+placed_then start text at (Ok (Some end)) s ends later = record {
   begin = start + game_begin text at;
   end = start + end.offset;
   names = Some (names_at text at);
   report = Game (length s.moves) end.outcome end.termination;
 } ∷ later end.offset
-placed_then start text at (Err fault) s later = record {
+placed_then start text at (Err fault) s ends later = record {
   begin = start + game_begin text at;
-  end = start + length text;
+  end = start + unwrap_or ends.next (length text);
   names = Some (names_at text at);
   report = Faulty (record fault { offset = start + fault.offset })
       (start + fault.offset + (wrong_part fault.kind (drop fault.offset text)).0)
-      (explanation_of s (drop fault.offset text) fault.kind);
-} ∷ []
+      (explanation_of s (drop fault.offset text) fault.kind
+      ++ unread_text (option_map (λ offset. start + offset) ends.unread) (start + length text));
+} ∷ option_map_or later ends.next []
+
+-- the reports of `games_from`, with their spans
+unfoldable pub games_placed : Bool → Bool → ℕ → ℕ → List ℕ → ℕ → List Placed
+games_placed goes_on strict start zero text at = []
+games_placed goes_on strict start (suc n) text at =
+    placed_then start text at (judged_at strict text at) (read_at text at).state (faulty_end_at goes_on text at)
+    (λ next. games_placed goes_on strict start n text next)
+
+-- the reports on all games of a text, also after faults if it is read on (`goes_on`)
+abbrev pub placed_of : Bool → Bool → ℕ → List ℕ → List Placed
+placed_of goes_on strict start text = games_placed goes_on strict start (length text + 1) text 0
 
 -- the reports of `reports_from`, with their spans
-unfoldable pub placed_from : Bool → ℕ → ℕ → List ℕ → ℕ → List Placed
-placed_from strict start zero text at = []
-placed_from strict start (suc n) text at =
-    placed_then start text at (judged_at strict text at) (read_at text at).state
-    (λ next. placed_from strict start n text next)
+abbrev pub placed_from : Bool → ℕ → ℕ → List ℕ → ℕ → List Placed
+placed_from = games_placed false
 
 -- the reports of `reports_on`, with their spans
 abbrev pub placed_on : Bool → ℕ → List ℕ → List Placed
@@ -135,7 +152,7 @@ too_long_placed piece = record {
 
 -- the reports of `reports_in`, with their spans
 abbrev pub placed_in : Bool → Piece → List Placed
-placed_in strict piece = if nat_le (length piece.bytes) PIECE_LEN then placed_on strict piece.offset piece.bytes
+placed_in strict piece = if nat_le (length piece.bytes) PIECE_LEN then placed_of true strict piece.offset piece.bytes
     else too_long_placed piece ∷ []
 
 -- the reports of `collection_reports`, with their spans
