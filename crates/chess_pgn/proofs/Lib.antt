@@ -2,6 +2,7 @@ pub mod shared
 mod ByteClasses
 mod Cuts
 mod FaultPlaces
+mod FaultyTokens
 mod FenVariants
 mod Gaps
 mod GameReads

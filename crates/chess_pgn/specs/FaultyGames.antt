@@ -1,6 +1,6 @@
 -- Where the text of a game with a fault ends. What can't be read is passed over; the game ends as a game without a
 -- fault does: with its termination marker, or before the next game's tags.
-use Rattle.std.specs.Prelude.{◌≡◌, ℕ, ◌+◌, ◌-◌, Bool, true, ◌==◌, ◌||◌, if◌then◌else◌, List, ◌++◌, length, drop, map, slice_get, Option, Some, None, is_some}
+use Rattle.std.specs.Prelude.{◌≡◌, ℕ, ◌+◌, ◌-◌, Bool, true, ◌==◌, ◌||◌, if◌then◌else◌, List, ◌++◌, length, drop, slice_get, Option, Some, None, is_some, option_and_then}
 use Rattle.std.specs.List.{filter_map, last_or, position_or_len, prefix_len}
 use Rattle.std.specs.Option.{option_map}
 use Rattle.byte_devices.specs.Bytes.{new_line, carriage_return}
@@ -23,7 +23,7 @@ passed_to text _ = None
 
 -- the offset in a text after the last of these tokens, if that can't be read but is passed over
 abbrev pub passed_after : List ℕ → List (ℕ × Token) → Option ℕ
-passed_after text tokens = last_or None (map (passed_to text) tokens)
+passed_after text tokens = option_and_then (passed_to text) (last_or None tokens)
 
 -- the text from the offset `at` on is split into these tokens, each paired with the number of bytes left where it
 -- begins, and what can't be read is passed over (`passed_to`). It is one of them, with the token that names its fault
@@ -68,7 +68,7 @@ after_tags tokens = drop (prefix_len (λ t. is_in_tags t.1) tokens) tokens
 abbrev pub end_in : ℕ → List (ℕ × Token) → FaultyEnd
 end_in total later = let next = slice_get (filter_map (ends_at total) later) 0 in record {
   next = next;
-  unread = if is_some next then None else last_or None (map (unclosed_at total) later);
+  unread = if is_some next then None else option_and_then (unclosed_at total) (last_or None later);
 }
 
 -- where a game with a fault ends in a text, of which these are the tokens from the game's beginning on (`IsSplitPast`)
