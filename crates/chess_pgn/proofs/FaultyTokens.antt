@@ -1,7 +1,9 @@
 -- What can't be read is passed over, token by token.
-use Rattle.std.proofs.Common.{◌≡◌, ℕ, ◌+◌, Bool, true, false, List, [], ◌∷◌, ◌++◌, drop, cond, Option, Some, None, refl, sym, ap, subst, ◌∙◌, one-add}
-use Rattle.std.specs.List.{prefix_len}
-use Rattle.chess_pgn.specs.FaultyGames.{passed_to, passed_after, IsSplitPast, all, past, is_in_tags, after_tags}
+use Rattle.std.proofs.Common.{◌≡◌, ℕ, ◌+◌, true, false, List, [], ◌∷◌, ◌++◌, drop, cond, Option, Some, None, refl, sym, ap, subst, ◌∙◌, one-add}
+use Rattle.std.specs.Prelude.{cons_option, if◌then◌else◌, is_some, option_and_then, slice_get}
+use Rattle.std.specs.List.{filter_map, last_or, prefix_len}
+use Rattle.chess_pgn.specs.FaultyGames.{passed_to, passed_after, IsSplitPast, all, past, is_in_tags, after_tags, ends_at, unclosed_at, end_in}
+use Rattle.chess_pgn.specs.declared.faulty_game.FaultyEnd.{FaultyEnd}
 use Rattle.chess_pgn.specs.Tokens.{Token, tokens_from}
 use Rattle.chess_pgn.proofs.Splits.{read_split, split_read}
 
@@ -71,3 +73,38 @@ tags_on t rest h =
 pub tags_end : (t : ℕ × Token) (rest : List (ℕ × Token)) → is_in_tags t.1 ≡ false
     → after_tags (t ∷ rest) ≡ t ∷ rest
 tags_end t rest h = ap (λ b. drop (cond b (1 + prefix_len (λ u. is_in_tags u.1) rest) 0) (t ∷ rest)) h
+
+-- ---- where a game ends
+
+abbrev end_of : Option ℕ → Option ℕ → FaultyEnd
+end_of next unclosed = record { next = next; unread = if is_some next then None else unclosed }
+
+unclosed_on : (total : ℕ) (t : ℕ × Token) (rest : List (ℕ × Token)) → unclosed_at total t ≡ None
+    → option_and_then (unclosed_at total) (last_or None (t ∷ rest))
+    ≡ option_and_then (unclosed_at total) (last_or None rest)
+unclosed_on total t [] none = none
+unclosed_on total t (u ∷ rest) none = refl
+
+module _ (total : ℕ) (t : ℕ × Token) (rest : List (ℕ × Token)) where
+  abbrev later : List ℕ
+  later = filter_map (ends_at total) rest
+
+  abbrev unclosed : Option ℕ
+  unclosed = option_and_then (unclosed_at total) (last_or None (t ∷ rest))
+
+  -- not by this token
+  pub end_on : ends_at total t ≡ None → unclosed_at total t ≡ None → end_in total (t ∷ rest) ≡ end_in total rest
+  end_on none closed =
+      ap (λ o. end_of (slice_get (cons_option o later) 0) unclosed) none
+      ∙ ap (end_of (slice_get later 0)) (unclosed_on total t rest closed)
+
+  -- by this token
+  pub end_here : (offset : ℕ) → ends_at total t ≡ Some offset
+      → end_in total (t ∷ rest) ≡ record { next = Some offset; unread = None }
+  end_here offset is = ap (λ o. end_of (slice_get (cons_option o later) 0) unclosed) is
+
+-- nowhere
+pub end_unclosed : (total : ℕ) (t : ℕ × Token) (offset : ℕ) → ends_at total t ≡ None
+    → unclosed_at total t ≡ Some offset → end_in total (t ∷ []) ≡ record { next = None; unread = Some offset }
+end_unclosed total t offset none is =
+    ap (λ o. end_of (slice_get (cons_option o []) 0) (unclosed_at total t)) none ∙ ap (end_of None) is
