@@ -1,7 +1,7 @@
 -- What can't be read is passed over, token by token.
 use Rattle.std.proofs.Common.{◌≡◌, ℕ, ◌+◌, true, false, List, [], ◌∷◌, ◌++◌, drop, cond, Option, Some, None, refl, sym, ap, subst, ◌∙◌, one-add}
-use Rattle.std.specs.Prelude.{cons_option, if◌then◌else◌, is_some, option_and_then, slice_get}
-use Rattle.std.specs.List.{filter_map, last_or, prefix_len}
+use Rattle.std.specs.Prelude.{if◌then◌else◌, is_some, option_and_then, slice_get}
+use Rattle.std.specs.List.{cons_option, filter_map, last_or, prefix_len}
 use Rattle.chess_pgn.specs.FaultyGames.{passed_to, passed_after, IsSplitPast, all, past, is_in_tags, after_tags, ends_at, unclosed_at, end_in}
 use Rattle.chess_pgn.specs.declared.faulty_game.FaultyEnd.{FaultyEnd}
 use Rattle.chess_pgn.specs.Tokens.{Token, tokens_from}
