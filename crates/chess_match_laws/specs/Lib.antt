@@ -1,3 +1,4 @@
 pub mod OfActs
 pub mod Streams
 pub mod Rows
+pub mod Worked

@@ -3,6 +3,7 @@ use Rattle.std.specs.Prelude.{◌≡◌, ◌≤◌, ℕ, zero, suc, ◌+◌, ◌
 use Rattle.std.specs.List.{flat_map, list_any}
 use Rattle.std.specs.Str.{bytes_eq}
 use Rattle.cecp_engine.specs.EngineLines.{LineKind, OffersDraw, ClaimsDraw}
+use Rattle.cecp_engine.specs.Items.{takes}
 use Rattle.chess_base.specs.Initial.{initial_setup}
 use Rattle.chess_base.specs.Men.{other, same_colour}
 use Rattle.chess_base.specs.Options.{list_if}
@@ -103,3 +104,14 @@ pub record IsAgreed (H : List Act) : Type 0 where
 -- so it is in every match that ended by agreement
 abbrev pub AgreedDrawsAreOffered : Rules → List Act → Match → Type 0
 AgreedDrawsAreOffered r H m = m.phase ≡ Over Agreed → IsAgreed H
+
+-- the text of a line `draw`, as a list of one; empty for any other line
+abbrev pub draw_text : SentLine → List (List ℕ)
+draw_text (Says text) = list_if (bytes_eq text (codes "draw")) (text ∷ [])
+draw_text _ = []
+
+-- while an offer of a draw by the other side is open, the side `S` was sent `draw`, unless its engine has the feature
+-- off (a line that could not be sent counts)
+abbrev pub OffersArePassedOn : Rules → Colour → List Act → Match → Type 0
+OffersArePassedOn r S H m = (m.seat (other S)).offers ≡ true → takes (codes "draw") (m.seat S).items ≡ true
+    → 1 ≤ length (flat_map draw_text (lines_given S H))

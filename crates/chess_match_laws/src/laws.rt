@@ -2,7 +2,7 @@
 
 ghost use Rattle.std.specs.Prelude.{true, false};
 ghost use Rattle.chess_match_laws.specs.OfActs.{AtEachLine, AtEachMoment, AtEachOpening, InEachMatch, EndsAfterItsActs, AutomaticDrawsEndMatches, LinesAreReadInOrder, SilencesAreReadInOrder, NothingIsDueAtEvents, FailedBlocksAreLast, OneBlockFails, WriteFaultsAreOfBlocks, OnlyOneMatch, OneMatchButForEndLines, OnlyOneMatchOfARun, DecidedByTheBoard, OutcomesAreOfTheGame, LastLineIsTheirs, MovesAreRead, ItemsAreSaid, MovesAreSent, EachIsSentOthersMoves, AllMovesAreGiven, AllMovesAreSent, IsSentAllMoves, MovesSentAreKnown, GamesAreLines, TimesAreClocks, OtherTimesAreClocks, UsedTimesAreDifferences, ClocksDoNotUnderflow, LinesAreFew, SilencesAreAskedFor, SilencesChangeNothing, SilencesEndMatches, TimeForfeitsAreShown, NotesAreInOrder, NotesHaveTheEvents, NotesHaveAllLines, NotesHaveLinesRead, NotesHaveMoments, EndsAtVerdicts};
-ghost use Rattle.chess_match_laws.specs.Rows.{AgreedDrawsAreOffered, GoIsSentOnce, IsSetUp, PingsAreNumbered, WasSentGo};
+ghost use Rattle.chess_match_laws.specs.Rows.{AgreedDrawsAreOffered, GoIsSentOnce, IsSetUp, OffersArePassedOn, PingsAreNumbered, WasSentGo};
 ghost use Rattle.chess_match.specs.laws.Laws.{VerdictsEndMatches};
 
 use chess_text::read_moves_are_legal;
@@ -194,4 +194,10 @@ pub fn go_is_sent_once()
 /// last line that was read; and in between the latter made no move, since by its move the offer would have lapsed.
 pub fn agreed_draws_are_offered()
     ensures { InEachMatch AgreedDrawsAreOffered }
+{}
+
+/// States a law and does nothing: whenever a line of a side is read while an offer of a draw by the other side is open,
+/// that side was sent `draw`, unless its engine has the feature off.
+pub fn offers_are_passed_on()
+    ensures { AtEachLine OffersArePassedOn }
 {}

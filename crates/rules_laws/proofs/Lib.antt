@@ -15,3 +15,5 @@ mod MirrorGames
 mod MayCastle
 mod Sliders
 mod KnownGames
+mod KnownPositions
+mod KnownTexts

@@ -7,4 +7,6 @@ pub mod EnPassant
 pub mod FirstMoves
 pub mod Endings
 pub mod KnownGames
+pub mod KnownPositions
+pub mod KnownTexts
 pub mod Mirror

@@ -4,12 +4,17 @@
 #![tactic(auto)]
 
 mod endings;
+mod known;
 mod mirror;
 mod moves;
 
 pub use endings::{
     a_game_ends_where_no_move_is_legal, halfmove_clocks_count_quiet_moves,
     insufficient_material_never_mates, repetitions_and_quiet_moves_end_a_game,
+};
+pub use known::{
+    known_fens_are_refused, known_lines_lead_to_these_fens, known_moves_and_games_are_written,
+    known_positions_are_judged, known_positions_are_the_same, known_positions_have_these_moves,
 };
 pub use mirror::{
     attacks_are_mirrored, endings_are_mirrored, games_are_mirrored, moves_are_mirrored,

@@ -1,0 +1,5 @@
+use Rattle.rules_laws.proofs.KnownPositions.{fens_are_refused}
+use Rattle.rules_laws.proofs.known.known_fens_are_refused.Goals as goal
+
+pub returns : goal.returns
+returns c = fens_are_refused

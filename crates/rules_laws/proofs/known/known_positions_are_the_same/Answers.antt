@@ -1,0 +1,5 @@
+use Rattle.rules_laws.proofs.KnownPositions.{positions_are_the_same}
+use Rattle.rules_laws.proofs.known.known_positions_are_the_same.Goals as goal
+
+pub returns : goal.returns
+returns c = positions_are_the_same
