@@ -2,10 +2,11 @@
 
 use chess_match_laws::{
     acts_are_in_order, agreed_draws_are_offered, automatic_draws_end_matches,
-    clocks_do_not_underflow, each_is_sent_the_others, failed_blocks_are_last, games_are_lines,
-    games_end_at_verdicts, go_is_sent_once, last_line_is_theirs, lines_are_few,
-    match_is_the_only_one, moves_are_read, moves_are_sent_once, moves_sent_are_known,
-    notes_have_all, pings_are_numbered, setups_are_these_lines, silences_end_matches,
+    clocks_do_not_underflow, each_is_sent_the_others, engine_lines_are_worked_out,
+    failed_blocks_are_last, games_are_lines, games_end_at_verdicts, go_is_sent_once,
+    last_line_is_theirs, levels_are_worked_out, lines_are_few, losers_lose, match_is_the_only_one,
+    moves_are_read, moves_are_sent_once, moves_sent_are_known, notes_have_all,
+    offers_are_passed_on, pings_are_numbered, setups_are_these_lines, silences_end_matches,
     time_forfeits_are_shown, times_are_clocks, used_times_are_differences, verdicts_end_matches,
 };
 
@@ -16,17 +17,21 @@ fn laws_are_called() {
     agreed_draws_are_offered();
     clocks_do_not_underflow();
     each_is_sent_the_others();
+    engine_lines_are_worked_out();
     failed_blocks_are_last();
     games_are_lines();
     games_end_at_verdicts();
     go_is_sent_once();
     last_line_is_theirs();
+    levels_are_worked_out();
     lines_are_few();
+    losers_lose();
     match_is_the_only_one();
     moves_are_read();
     moves_are_sent_once();
     moves_sent_are_known();
     notes_have_all();
+    offers_are_passed_on();
     pings_are_numbered();
     setups_are_these_lines();
     silences_end_matches();
