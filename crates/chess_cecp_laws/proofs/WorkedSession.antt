@@ -2,6 +2,7 @@
 use Prim.Native.String.{String as Text}
 use Rattle.std.proofs.Common.{◌≡◌, [], refl}
 use Rattle.std.specs.Prelude.{codes}
+use Rattle.std.specs.Fmt.{digits}
 use Rattle.std.specs.List.{AllByRecursion}
 use Rattle.text_lines.specs.Words.{argument_of, command_number}
 use Rattle.chess_cecp.specs.declared.command.Command.TheVariants.{Silent}
@@ -53,7 +54,7 @@ no_remove session e = record { text = rw e refl; state = rw e refl; goes_on = rw
 
 pub session_lines_are_answered : SessionLinesAreAnswered
 unfolding argument_of command_number command_of is_ignored named_command read_result result_comment features_line
-    session_response
+    session_response digits
 session_lines_are_answered session = record {
   ignored = ignored session;
   ping = record { text = refl; state = refl; goes_on = refl };

@@ -1,5 +1,6 @@
 -- Lines of engines and time controls, by computation.
 use Rattle.std.proofs.Common.{refl}
+use Rattle.std.specs.Fmt.{digits}
 use Rattle.text_lines.specs.Words.{argument_of, command_number}
 use Rattle.chess_base.specs.declared.man.Colour.{Colour}
 use Rattle.cecp_engine.specs.EngineLines.{kind_of}
@@ -30,7 +31,7 @@ items_are_read = refl
 
 pub levels_give : LevelsGive
 unfolding argument_of allotted base_of base_text decimals_text increment_text level_reading level_text milliseconds_of
-    thousandths_of
+    thousandths_of digits
 levels_give = record {
   forty = refl;
   twelve = refl;

@@ -1,5 +1,6 @@
 -- Moves and games that players know, as they are written, by computation.
 use Rattle.std.proofs.Common.{refl}
+use Rattle.std.specs.Fmt.{digits}
 use Rattle.chess_base.specs.Squares.{squares, some_square, each_square, is_between}
 use Rattle.chess_base.specs.Men.{is_of, is_man}
 use Rattle.chess_base.specs.Attacks.{is_clear, could_capture, attacks, is_attacked, is_in_check}
@@ -43,5 +44,5 @@ unfolding squares some_square each_square is_between is_of is_man is_clear could
     is_pseudo_legal captured_square men_after rights_after target_after resets_clock halfmove_after after is_legal
     described rival_starts check_mark san verdict has_bishop_on
     has_insufficient_material repetition_count same_men same_rights legal_en_passant_square is_same_position
-    placement_text pgn
+    placement_text digits pgn
 scholars_mate_is_written = refl

@@ -15,5 +15,9 @@ mod MirrorGames
 mod MayCastle
 mod Sliders
 mod KnownGames
-mod KnownPositions
+mod KnownFens
+mod KnownLines
+mod KnownSame
+mod KnownCounts
+mod KnownEndings
 mod KnownTexts

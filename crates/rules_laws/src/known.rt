@@ -4,7 +4,7 @@
 ghost use Rattle.rules_laws.specs.KnownPositions.{FensAreRefused, LinesLeadToFens, MovesAreAsMany, PositionsAreJudged, PositionsAreTheSame};
 ghost use Rattle.rules_laws.specs.KnownTexts.{MovesAreWritten, ScholarsMateIsWritten};
 
-/// A law: the contract says it, and the function does nothing. Five positions of normal chess and two of Chess960, given
+/// A law: the contract says it, and the function does nothing. Two positions of normal chess and one of Chess960, given
 /// by their FENs, have as many legal moves as other programs have counted (chessprogramming.org, Perft Results).
 ///
 /// It refuses a pawn that captures straight ahead or goes past a piece, one that promotes to a queen alone, and moves
@@ -22,10 +22,10 @@ pub fn known_lines_lead_to_these_fens()
     ensures { LinesLeadToFens }
 {}
 
-/// A law: the contract says it, and the function does nothing. Small positions are mate, stalemate, drawn for
-/// insufficient material or by 75 moves, or none of these.
+/// A law: the contract says it, and the function does nothing. Small positions are mate, stalemate, or drawn for
+/// insufficient material.
 ///
-/// It refuses a king and a bishop against a king that play on, and 149 half-moves or 151.
+/// It refuses a king and a bishop against a king that play on, and a mate that is won by the mated.
 pub fn known_positions_are_judged()
     ensures { PositionsAreJudged }
 {}

@@ -1,4 +1,4 @@
-use Rattle.rules_laws.proofs.KnownPositions.{fens_are_refused}
+use Rattle.rules_laws.proofs.KnownFens.{fens_are_refused}
 use Rattle.rules_laws.proofs.known.known_fens_are_refused.Goals as goal
 
 pub returns : goal.returns

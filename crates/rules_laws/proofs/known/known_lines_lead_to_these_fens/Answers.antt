@@ -1,4 +1,4 @@
-use Rattle.rules_laws.proofs.KnownPositions.{lines_lead_to_fens}
+use Rattle.rules_laws.proofs.KnownLines.{lines_lead_to_fens}
 use Rattle.rules_laws.proofs.known.known_lines_lead_to_these_fens.Goals as goal
 
 pub returns : goal.returns

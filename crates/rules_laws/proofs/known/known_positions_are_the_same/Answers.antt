@@ -1,4 +1,4 @@
-use Rattle.rules_laws.proofs.KnownPositions.{positions_are_the_same}
+use Rattle.rules_laws.proofs.KnownSame.{positions_are_the_same}
 use Rattle.rules_laws.proofs.known.known_positions_are_the_same.Goals as goal
 
 pub returns : goal.returns

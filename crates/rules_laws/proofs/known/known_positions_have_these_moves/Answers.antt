@@ -1,4 +1,4 @@
-use Rattle.rules_laws.proofs.KnownPositions.{moves_are_as_many}
+use Rattle.rules_laws.proofs.KnownCounts.{moves_are_as_many}
 use Rattle.rules_laws.proofs.known.known_positions_have_these_moves.Goals as goal
 
 pub returns : goal.returns
