@@ -25,5 +25,5 @@ mod PingLaw
 mod GoLaw
 mod SetupLaw
 mod OfferLaw
-mod Worked
+mod WorkedLines
 mod PassingLaw

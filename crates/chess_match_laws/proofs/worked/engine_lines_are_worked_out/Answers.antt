@@ -1,4 +1,4 @@
-use Rattle.chess_match_laws.proofs.Worked.{items_are_read, lines_say}
+use Rattle.chess_match_laws.proofs.WorkedLines.{items_are_read, lines_say}
 use Rattle.chess_match_laws.proofs.worked.engine_lines_are_worked_out.Goals as goal
 
 pub returns-clause-lines : goal.returns-clause-lines

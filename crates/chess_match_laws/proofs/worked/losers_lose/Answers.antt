@@ -1,4 +1,4 @@
-use Rattle.chess_match_laws.proofs.Worked.{losers_lose}
+use Rattle.chess_match_laws.proofs.WorkedLines.{losers_lose}
 use Rattle.chess_match_laws.proofs.worked.losers_lose.Goals as goal
 
 pub returns : goal.returns
