@@ -1,10 +1,14 @@
 -- There is only one match of a run whose devices show all.
 use mathlib.Core.Bool.{or-true}
-use Rattle.std.proofs.Common.{◌≡◌, ℕ, ◌+◌, ◌<◌, ◌≤◌, ◌^◌, ◌-◌, zero, suc, ◌||◌, ◌⊎◌, inl, inr, Bool, true, false, List, [], ◌∷◌, ◌++◌, length, length-append, refl, ap, sym, ◌∙◌, Option, None, Some, arith}
+use Rattle.std.proofs.Common.{◌≡◌, ℕ, ◌+◌, ◌<◌, ◌≤◌, ◌^◌, ◌-◌, zero, suc, ◌||◌, ◌⊎◌, inl, inr, Bool, true, false, cond, List, [], ◌∷◌, ◌++◌, length, length-append, refl, ap, sym, ◌∙◌, Option, None, Some, arith}
 use Rattle.std.specs.Prelude.{if◌then◌else◌, is_some, nat_lt, slice_get}
+use Rattle.std.specs.List.{count_by, list_any}
 use Rattle.std.specs.Option.{IfSome}
 use Rattle.std.specs.Io.KnownBytes.{Appends, Consumes}
 use Rattle.std.proofs.lemmas.List.{append_cancel_left, append_cancel_right}
+use Rattle.std.proofs.lemmas.List.Sums.{sum_by-cons}
+use Rattle.chess_base.proofs.shared.Men.{same_colour-self}
+use Rattle.chess_match.specs.ByDevice.{is_silence_of}
 use Rattle.chess_base.specs.Letters.{new_line}
 use Rattle.chess_base.specs.Men.{other, same_colour}
 use Rattle.chess_base.specs.Options.{list_if}
@@ -23,11 +27,11 @@ use Rattle.chess_match.specs.Rules.{Rules}
 use Rattle.chess_match.specs.Run.{engine_lines}
 use Rattle.chess_match_laws.specs.Streams.{Streams}
 use Rattle.chess_match.specs.laws.Laws.{broken_blocks, has_ended, has_failed_read, is_broken, lines_sent, moments_shown}
-use Rattle.chess_match_laws.specs.OfActs.{AreSilent, HaveSameSilences, OnlyOneMatchOfARun, ShowsAll, ShowsFlushed}
+use Rattle.chess_match_laws.specs.OfActs.{AreSilent, HaveSameSilences, OnlyOneMatchOfARun, ShowsAll, ShowsFlushed, ShowsNoSilence, is_silent}
 use Rattle.chess_match.proofs.shared.MatchCases.{quiet_read, all_reads_end, all_sends_end, both_not, by_cases, reads_end}
 use Rattle.chess_match_laws.proofs.OneLaw.{Held, Weigh, only_one_by, weight_sent}
 use Rattle.chess_match.proofs.shared.Lines.{bytes_of-append}
-use Rattle.chess_match_laws.proofs.Silences.{silences_are_asked_for}
+use Rattle.chess_match_laws.proofs.Silences.{found_each, silences_are_asked_for}
 
 -- one run's reader gave one list of bytes
 one_given : (old new : Option (List ℕ)) (a b : List ℕ) → is_some old ≡ true → Consumes old new a → Consumes old new b
@@ -251,19 +255,63 @@ alike_sent old new sent sent' o o' small (inl same) took took' f f' failed = ris
 alike_sent old new sent sent' o o' small (inr shows) took took' f f' failed =
     ap length (sym f') ∙ sym (one_flushed old new o o' shows took took') ∙ ap length f
 
+-- a count that could rise and stayed counted nothing more
+none_counted : (n k m : ℕ) → n < 2 ^ 64 - 1 → m ≡ saturating_add n k → m ≡ n → k ≡ 0
+none_counted n zero m small e f = refl
+none_counted n (suc k) m small e f =
+    let full = e ∙ add_some n (suc k) (omega arith) in absurd (omega (arith, full, small, f))
+
+-- where no act is counted, the first is none that counts, and none of the others is counted
+none_of : (S : Colour) (a : Act) (H : List Act) → count_by (is_silence_of S) (a ∷ H) ≡ 0
+    → (is_silence_of S a ≡ false) × (count_by (is_silence_of S) H ≡ 0)
+none_of S a H h =
+    at (is_silence_of S a) refl (sym (sum_by-cons (λ x. cond (is_silence_of S x) 1 0) a H) ∙ h)
+  where
+    at : (b : Bool) → is_silence_of S a ≡ b → cond b 1 0 + count_by (is_silence_of S) H ≡ 0
+        → (is_silence_of S a ≡ false) × (count_by (is_silence_of S) H ≡ 0)
+    at true e k = absurd (omega (arith, k))
+    at false e k = (e, omega (arith, k))
+
+-- no act is a silence, if none is one of either side
+none_of_both : (H : List Act) → ((S : Colour) → count_by (is_silence_of S) H ≡ 0) → list_any is_silent H ≡ false
+none_of_both [] h = refl
+none_of_both (Sends b ∷ H) h = none_of_both H (λ S. (none_of S (Sends b) H (h S)).1)
+none_of_both (SendFails b ∷ H) h = none_of_both H (λ S. (none_of S (SendFails b) H (h S)).1)
+none_of_both (Happens (Line c t n) ∷ H) h = none_of_both H (λ S. (none_of S (Happens (Line c t n)) H (h S)).1)
+none_of_both (Happens (Opened c n) ∷ H) h = none_of_both H (λ S. (none_of S (Happens (Opened c n)) H (h S)).1)
+none_of_both (Happens (OutputEnds c) ∷ H) h = none_of_both H (λ S. (none_of S (Happens (OutputEnds c)) H (h S)).1)
+none_of_both (Happens (FailsToRead c) ∷ H) h = none_of_both H (λ S. (none_of S (Happens (FailsToRead c)) H (h S)).1)
+none_of_both (Happens (FailsToWrite c) ∷ H) h = none_of_both H (λ S. (none_of S (Happens (FailsToWrite c)) H (h S)).1)
+none_of_both (Happens (Silent c n) ∷ H) h =
+    let no : true ≡ false = sym (same_colour-self c) ∙ (none_of c (Happens (Silent c n)) H (h c)).0 in absurd cc
+
+-- no look of a match found none, if its devices show that
+none_found : (r : Rules) (H : List Act) (final : Match) (w w' : World) → Passed r H final w w'
+    → ((S : Colour) → ShowsNoSilence (w.engines S).input (w'.engines S).input) → AreSilent (λ S n. false) H
+none_found r H final w w' p shows = found_each H (none_of_both H (λ S.
+    sym (p.passed S).4.0.silences
+    ∙ none_counted (w.engines S).input.silence_count (p.passed S).0.silences (w'.engines S).input.silence_count
+    (shows S).before (p.passed S).2.silences (shows S).stays))
+
 -- the same looks of both matches found none
-same_looks : (r : Rules) (H K : List Act) (final final' : Match) → IsMatch r H final → IsMatch r K final'
-    → HaveSameSilences r H K → (silent : Colour → ℕ → Bool) × AreSilent silent H × AreSilent silent K
-same_looks r H K final final' h k (inl e) = (
+same_looks : (r : Rules) (H K : List Act) (final final' : Match) (w w' : World) → Passed r H final w w'
+    → Passed r K final' w w' → HaveSameSilences r H K w w'
+    → (silent : Colour → ℕ → Bool) × AreSilent silent H × AreSilent silent K
+same_looks r H K final final' w w' p q (inl e) = (
   λ S n. false,
-  (silences_are_asked_for r H final h e).1,
-  (silences_are_asked_for r K final' k e).1,
+  (silences_are_asked_for r H final p.is_match e).1,
+  (silences_are_asked_for r K final' q.is_match e).1,
 )
-same_looks r H K final final' h k (inr same) = same
+same_looks r H K final final' w w' p q (inr (inl shows)) = (
+  λ S n. false,
+  none_found r H final w w' p shows,
+  none_found r K final' w w' q shows,
+)
+same_looks r H K final final' w w' p q (inr (inr same)) = same
 
 pub only_one_of_a_run : OnlyOneMatchOfARun
 only_one_of_a_run r H K final final' w w' p q t s =
-    let (silent, of_H, of_K) = same_looks r H K final final' p.is_match q.is_match s in
+    let (silent, of_H, of_K) = same_looks r H K final final' w w' p q s in
     only_one_by size r (given_by H (λ S. (p.passed S).0.text) silent w.coming) H K final final' p.is_match q.is_match
     (held r H H final w w' (λ S. (p.passed S).0) silent of_H p t (λ S. (p.passed S).4.0) (λ S. refl) (λ S. refl)
     (λ S h. refl))

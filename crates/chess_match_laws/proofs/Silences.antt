@@ -54,7 +54,7 @@ found_more : (own : Bool) (found : List Bool)
 found_more own found h1 n h2 = grind arith
 
 -- no look found none
-found_each : (H : List Act) → list_any is_silent H ≡ false → AreSilent (λ S n. false) H
+pub found_each : (H : List Act) → list_any is_silent H ≡ false → AreSilent (λ S n. false) H
 found_each [] none = λ S n h. absurd (omega (arith, h))
 found_each (Sends b ∷ H) none = found_each H none
 found_each (SendFails b ∷ H) none = found_each H none

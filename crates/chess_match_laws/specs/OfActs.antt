@@ -2,7 +2,7 @@
 use Rattle.std.specs.Prelude.{◌≡◌, ◌<◌, ◌≤◌, ◌+◌, ◌-◌, ◌*◌, ◌^◌, ◌&&◌, ◌⊎◌, ℕ, Bool, true, false, if◌then◌else◌, List, [], ◌∷◌, ◌++◌, length, drop, take, nat_lt, sum, codes, slice_get, Option, None, Some, is_some, unwrap_or}
 use Rattle.std.specs.List.{flat_map, fold, list_any}
 use Rattle.std.specs.Option.{IfSome, option_map_or}
-use Rattle.byte_devices.specs.Devices.{OutputState}
+use Rattle.byte_devices.specs.Devices.{InputState, OutputState}
 use Rattle.chess_base.specs.declared.man.Colour.{Colour}
 use Rattle.chess_base.specs.declared.man.Colour.TheVariants.{White, Black}
 use Rattle.chess_base.specs.declared.man.Move.{Move}
@@ -187,17 +187,25 @@ pub record ShowsAll (w w' : World) : Type 0 where
 abbrev pub endless : Patience
 endless = record { flag = false; reply = None }
 
--- in the acts `H` and `K` the same looks for a line found none. It holds of all matches by rules that set no limit to
--- waiting (`silences_end_matches`); devices show only how many looks found none
-abbrev pub HaveSameSilences : Rules → List Act → List Act → Type 0
-HaveSameSilences r H K =
-    (r.patience ≡ endless) ⊎ ((silent : Colour → ℕ → Bool) × AreSilent silent H × AreSilent silent K)
+-- the states of an engine's output before a run (`w`) and after it (`w'`) show that no look for a line found none: the
+-- count of silences stayed, and it was not full
+pub record ShowsNoSilence (w w' : InputState) : Type 0 where
+  pub stays : w'.silence_count ≡ w.silence_count
+  pub before : w.silence_count < 2 ^ 64 - 1
+
+-- in the acts `H` and `K`, which both lead from the world `w` to `w'`, the same looks for a line found none: none at all,
+-- as the rules set no limit to waiting (`silences_end_matches`), or as the devices show; otherwise devices show only
+-- how many
+abbrev pub HaveSameSilences : Rules → List Act → List Act → World → World → Type 0
+HaveSameSilences r H K w w' = (r.patience ≡ endless)
+    ⊎ ((S : Colour) → ShowsNoSilence (w.engines S).input (w'.engines S).input)
+    ⊎ ((silent : Colour → ℕ → Bool) × AreSilent silent H × AreSilent silent K)
 
 -- two matches by the same rules that were played from the world `w` to `w'` are the same, act by act, and so are their
 -- states at the end, if everything is known about the devices, and the same looks for a line found none
 abbrev pub OnlyOneMatchOfARun : Type 0
 OnlyOneMatchOfARun = (r : Rules) (H K : List Act) (final final' : Match) (w w' : World) → Passed r H final w w'
-    → Passed r K final' w w' → ShowsAll w w' → HaveSameSilences r H K → (H ≡ K) × (final ≡ final')
+    → Passed r K final' w w' → ShowsAll w w' → HaveSameSilences r H K w w' → (H ≡ K) × (final ≡ final')
 
 -- ---- ends
 

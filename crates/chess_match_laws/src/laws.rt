@@ -12,7 +12,7 @@ use chess_text::read_moves_are_legal;
 /// each block was sent, or sending failed after as many blocks to each engine. If neither ended because a write failed,
 /// their events and their ends are the same, whichever end lines could be sent. And two matches of one run are the
 /// same, act by act, on devices about which everything is known, after a failed write also how much was flushed before,
-/// if the same looks found none; without a limit to waiting none does.
+/// if the same looks found none. Without a limit to waiting none does, and where none did devices show it.
 pub fn match_is_the_only_one()
     ensures of_streams { OnlyOneMatch }
     ensures events { OneMatchButForEndLines }
