@@ -5,7 +5,7 @@ other file has these spans: each from its game's first byte to the end of its pi
 line end is added where two copied parts would share a line, and a line with an empty comment where the second part
 would else not begin a piece: so the good games have the pieces that they had, and no fault."""
 
-from pgn_files import EMPTY_LINE, MARK, TAG_LINE, front
+from pgn_files import EMPTY_LINE, MARK, TAG_LINE, front, line_start
 
 WHITE = b" \t\r\n"
 CUT = b"{}\n"  # a line of moves, after which a tag line begins a piece
@@ -38,7 +38,7 @@ class Copy:
         """Returns whether the last line so far that is not empty is a line of moves, after a part."""
         end = len(part)
         while end > 0:
-            start = part.rfind(b"\n", 0, end - 1) + 1
+            start = line_start(part, end)
             line = front(part, start)
             if not EMPTY_LINE.match(line):
                 return not TAG_LINE.match(line)

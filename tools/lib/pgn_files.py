@@ -22,6 +22,7 @@ FRONT = 256
 MARK = b"\xef\xbb\xbf"
 TAG_LINE = re.compile(rb'\[[A-Za-z0-9_]+[ \t]*"')
 EMPTY_LINE = re.compile(rb"[%;]|[ \t\r\n]*\Z")
+LINE_END = re.compile(rb"[\r\n]")
 BRACKET = re.compile(rb"\n(?:" + MARK + rb")?\[")
 
 # The compressed forms: the program that unpacks each, and how such a file begins.
@@ -48,13 +49,24 @@ class Unreadable(Exception):
 
 def front(text, start):
     """Returns the bytes that decide the kind of the line at an offset."""
-    return text[start : start + FRONT].partition(b"\n")[0].removeprefix(MARK)
+    return LINE_END.split(text[start : start + FRONT], maxsplit=1)[0].removeprefix(MARK).lstrip(b" \t")
+
+
+def line_start(text, end):
+    """Returns where the line begins that ends at an offset."""
+    size = FRONT
+    while True:
+        low = max(end - 1 - size, 0)
+        found = max(text.rfind(b"\n", low, end - 1), text.rfind(b"\r", low, end - 1))
+        if found >= 0 or low == 0:
+            return found + 1
+        size *= 2
 
 
 def follows_moves(text, start):
     """Returns whether the last line before an offset that is not empty is a line of moves."""
     while start > 0:
-        start = text.rfind(b"\n", 0, start - 1) + 1
+        start = line_start(text, start)
         if not EMPTY_LINE.match(front(text, start)):
             return not TAG_LINE.match(front(text, start))
     return False

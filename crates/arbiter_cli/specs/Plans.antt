@@ -69,6 +69,7 @@ verify_plan_of value = record {
   strict = is_set (codes "strict") value;
   explain = is_set (codes "explain") value;
   spans = is_set (codes "spans") value;
+  names = is_set (codes "names") value;
 }
 
 -- ---- what they mean

@@ -28,6 +28,8 @@ pub struct VerifyPlan {
     pub explain: bool,
     /// Whether each line says where its game begins and ends.
     pub spans: bool,
+    /// Whether the line of a fault ends with the players, event and date of its game.
+    pub names: bool,
 }
 
 /// What the arguments ask for.

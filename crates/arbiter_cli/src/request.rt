@@ -66,6 +66,7 @@ fn verify_plan(found: &ArgMatches<'_>) -> VerifyPlan
         strict: is_set(found, "strict"),
         explain: is_set(found, "explain"),
         spans: is_set(found, "spans"),
+        names: is_set(found, "names"),
     }
 }
 

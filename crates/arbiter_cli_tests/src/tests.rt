@@ -29,9 +29,9 @@ fn plans_without_arguments(rt: HostRuntime) -> Result<(), Fail> {
     Ok(())
 }
 
-// Arguments of `verify`, and the flags that they set: keep-going, quiet, strict, explain, spans.
-const VERIFY: [(&[&str], bool, bool, bool, bool, bool); 19] = [
-    (&["verify"], false, false, false, false, false),
+// Arguments of `verify`, and the flags that they set: keep-going, quiet, strict, explain, spans, names.
+const VERIFY: [(&[&str], bool, bool, bool, bool, bool, bool); 21] = [
+    (&["verify"], false, false, false, false, false, false),
     (
         &["verify", "--keep-going"],
         true,
@@ -39,14 +39,40 @@ const VERIFY: [(&[&str], bool, bool, bool, bool, bool); 19] = [
         false,
         false,
         false,
+        false,
     ),
-    (&["verify", "--quiet"], false, true, false, false, false),
-    (&["verify", "--strict"], false, false, true, false, false),
-    (&["verify", "--explain"], false, false, false, true, false),
+    (
+        &["verify", "--quiet"],
+        false,
+        true,
+        false,
+        false,
+        false,
+        false,
+    ),
+    (
+        &["verify", "--strict"],
+        false,
+        false,
+        true,
+        false,
+        false,
+        false,
+    ),
+    (
+        &["verify", "--explain"],
+        false,
+        false,
+        false,
+        true,
+        false,
+        false,
+    ),
     (
         &["verify", "--keep-going", "--quiet"],
         true,
         true,
+        false,
         false,
         false,
         false,
@@ -58,12 +84,14 @@ const VERIFY: [(&[&str], bool, bool, bool, bool, bool); 19] = [
         false,
         false,
         false,
+        false,
     ),
     (
         &["verify", "--strict", "--quiet"],
         false,
         true,
         true,
+        false,
         false,
         false,
     ),
@@ -74,6 +102,7 @@ const VERIFY: [(&[&str], bool, bool, bool, bool, bool); 19] = [
         true,
         false,
         false,
+        false,
     ),
     (
         &["verify", "--explain", "--keep-going"],
@@ -81,6 +110,7 @@ const VERIFY: [(&[&str], bool, bool, bool, bool, bool); 19] = [
         false,
         false,
         true,
+        false,
         false,
     ),
     (
@@ -90,12 +120,14 @@ const VERIFY: [(&[&str], bool, bool, bool, bool, bool); 19] = [
         false,
         true,
         false,
+        false,
     ),
     (
         &["verify", "--strict", "--keep-going", "--quiet"],
         true,
         true,
         true,
+        false,
         false,
         false,
     ),
@@ -106,6 +138,7 @@ const VERIFY: [(&[&str], bool, bool, bool, bool, bool); 19] = [
         true,
         false,
         false,
+        false,
     ),
     (
         &["verify", "--explain", "--strict", "--quiet"],
@@ -113,6 +146,7 @@ const VERIFY: [(&[&str], bool, bool, bool, bool, bool); 19] = [
         true,
         true,
         true,
+        false,
         false,
     ),
     (
@@ -122,6 +156,7 @@ const VERIFY: [(&[&str], bool, bool, bool, bool, bool); 19] = [
         true,
         true,
         false,
+        false,
     ),
     (
         &["verify", "--explain", "--strict", "--quiet", "--keep-going"],
@@ -130,8 +165,17 @@ const VERIFY: [(&[&str], bool, bool, bool, bool, bool); 19] = [
         true,
         true,
         false,
+        false,
     ),
-    (&["verify", "--spans"], false, false, false, false, true),
+    (
+        &["verify", "--spans"],
+        false,
+        false,
+        false,
+        false,
+        true,
+        false,
+    ),
     (
         &["verify", "--spans", "--keep-going"],
         true,
@@ -139,6 +183,7 @@ const VERIFY: [(&[&str], bool, bool, bool, bool, bool); 19] = [
         false,
         false,
         true,
+        false,
     ),
     (
         &[
@@ -154,13 +199,32 @@ const VERIFY: [(&[&str], bool, bool, bool, bool, bool); 19] = [
         true,
         true,
         true,
+        false,
+    ),
+    (
+        &["verify", "--names"],
+        false,
+        false,
+        false,
+        false,
+        false,
+        true,
+    ),
+    (
+        &["verify", "--names", "--spans", "--quiet"],
+        false,
+        true,
+        false,
+        false,
+        true,
+        true,
     ),
 ];
 
 // The arguments of `verify` go together in any order.
 #[test]
 fn verify_by_its_options(rt: HostRuntime) -> Result<(), Fail> {
-    for (arguments, keep_going, quiet, strict, explain, spans) in &VERIFY {
+    for (arguments, keep_going, quiet, strict, explain, spans, names) in &VERIFY {
         let Plan::Verify(plan) = read_words(rt.alloc(), arguments)? else {
             return Err(Fail::new("another plan"));
         };
@@ -173,6 +237,7 @@ fn verify_by_its_options(rt: HostRuntime) -> Result<(), Fail> {
                 strict: *strict,
                 explain: *explain,
                 spans: *spans,
+                names: *names,
             },
         );
     }

@@ -46,10 +46,11 @@ match_app names = fold with_rule (new_app (codes "match")) (
     ∷ record (option_rule (codes "reply-timeout")) { parser = Some (Unsigned 1 999) }
     ∷ [])
 
--- the subcommand `verify` with its flags `--keep-going`, `--quiet`, `--strict`, `--explain` and `--spans`
+-- the subcommand `verify` with its flags `--keep-going`, `--quiet`, `--strict`, `--explain`, `--spans` and `--names`
 abbrev pub verify_app : App
 verify_app = fold with_rule (new_app (codes "verify"))
-    (map flag_rule (codes "keep-going" ∷ codes "quiet" ∷ codes "strict" ∷ codes "explain" ∷ codes "spans" ∷ []))
+    (map flag_rule (codes "keep-going" ∷ codes "quiet" ∷ codes "strict" ∷ codes "explain" ∷ codes "spans"
+    ∷ codes "names" ∷ []))
 
 -- the subcommand `stub`, which takes any number of positional arguments; `clap` knows them by the name `words`
 abbrev pub stub_app : App

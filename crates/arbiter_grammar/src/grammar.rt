@@ -13,7 +13,7 @@ use clap::{Arg, ArgAction, Command};
 use std::alloc::{AllocError, Global};
 
 // The version that `--version` prints.
-const VERSION: &str = "0.2.0";
+const VERSION: &str = "0.3.0";
 
 // What the program is, in its help.
 const ABOUT: &str = "\
@@ -65,6 +65,9 @@ a reason: `# line 2 column 4 Ke3 | rnbqkbnr/pppp1ppp/8/4p3/4P3/8/PPPP1PPP/RNBQKB
 With --spans each line ends with the part of the input that the game has: `game 1: 40 half-moves, 1-0, bytes 0 to 412`
 begins at byte 0 and ends before byte 412. A game with a fault goes on to the end of its piece, since it is not read
 further.
+
+With --names the line of a fault ends with ` | White - Black, Event Date`, each as the last tag of this name has it, but
+at most 40 bytes, with `?` for each byte that is not printable ASCII, and for a tag that is missing.
 
 Examples:
   arbiter verify < games.pgn
@@ -295,7 +298,7 @@ fn bare_verify_command<'a>(alloc: Global) -> Command<'a>
     .override_usage("arbiter verify [OPTIONS] < FILE")
 }
 
-// The subcommand `verify` with its flags `--keep-going`, `--quiet`, `--strict`, `--explain` and `--spans`.
+// The subcommand `verify` with its flags `--keep-going`, `--quiet`, `--strict`, `--explain`, `--spans` and `--names`.
 fn verify_command<'a>(alloc: Global) -> Result<Command<'a>, AllocError>
     ensures app { IfOk result (λ c. app_of c ≡ verify_app) }
     ensures local { IfOk result (λ c. (fields_of c).has_globals ≡ false) }
@@ -321,6 +324,11 @@ fn verify_command<'a>(alloc: Global) -> Result<Command<'a>, AllocError>
             alloc,
             "spans",
             "End each line with `, bytes A to B`: the game begins at byte A and ends before byte B",
+        ))?
+        .arg(flag(
+            alloc,
+            "names",
+            "End the line of each fault with the game's players, event and date",
         ))
 }
 

@@ -21,7 +21,7 @@ use Rattle.pgn_verifier.specs.Verify.{Verifies}
 use Rattle.pgn_verifier.specs.declared.options.VerifyOptions.{VerifyOptions}
 use Rattle.pgn_verifier.specs.declared.fault.VerifyFault.TheVariants as verifying
 
-shorter : (xs ys : Text) → length xs < length ys → xs ≡ ys → ⊥
+pub shorter : (xs ys : Text) → length xs < length ys → xs ≡ ys → ⊥
 shorter xs ys lt e = let same : length xs ≡ length ys = ap length e in absurd (omega arith)
 
 -- what was read is what was done
@@ -69,6 +69,7 @@ nothing_read r = record {
   at_end = λ e. absurd (cc);
   ends = refl;
   failures = refl;
+  silences = refl;
 }
 
 -- memory ran out before anything was read
@@ -80,7 +81,7 @@ not_begun options d d' same kept =
       nothing,
       nothing_read d.input,
       took_nothing d.output,
-      (refl, (λ e. absurd (cc)), refl),
+      (refl, (refl, (λ e. absurd (cc)), refl)),
     ) in
     subst (λ (v : Devices). Ran (Verifies options (Err verifying.NoMemory)) d v) (sym (both_same d d' same kept)) here
 

@@ -1,5 +1,5 @@
 -- Plain arguments are read as what they say.
-use Rattle.std.proofs.Common.{◌≡◌, ◌∙◌, ◌<◌, ◌||◌, Bool, true, false, not, List, [], ◌∷◌, length, Option, Some, None, Result, Ok, Err, codes, find, fold, flat_map, is_some, option_map, refl, sym, subst, ap, ap₂, lit<, arith}
+use Rattle.std.proofs.Common.{◌≡◌, ◌∙◌, ◌||◌, Bool, true, false, not, List, [], ◌∷◌, Option, Some, None, Result, Ok, Err, codes, find, fold, flat_map, is_some, option_map, refl, sym, subst, ap, ap₂, lit<}
 use Rattle.std.specs.Prelude.{◌*◌, if◌then◌else◌, unwrap_or}
 use Rattle.std.specs.Option.{option_map_or, option_or}
 use Rattle.std.specs.Str.{bytes_eq}
@@ -35,9 +35,7 @@ use Rattle.arbiter_laws.proofs.PlainRows.{default_in, value_found, value_given}
 use Rattle.arbiter_laws.proofs.PlainStub.{replies_are, replies_pass}
 use Rattle.arbiter_laws.proofs.PlainWalk.{all_known, rows_of_given, takes_options}
 use Rattle.arbiter_cli.proofs.shared.Turns.{date_asked, read_as}
-
-shorter : (xs ys : Text) → length xs < length ys → xs ≡ ys → ⊥
-shorter xs ys lt e = let same : length xs ≡ length ys = ap length e in absurd (omega arith)
+use Rattle.arbiter_laws.proofs.PlainArguments.{shorter}
 
 -- ---- the first argument names the subcommand
 
@@ -206,8 +204,8 @@ module _ (s : Shape) (options : List Given) (name : Text) where
   value_alike default = value_found name options s.rules ∙ ap (option_or (values_in options name)) default
       ∙ or_none (values_in options name)
 
-abbrev plan_with : Bool → Bool → Bool → Bool → Bool → VerifyPlan
-plan_with a b c d e = record { keep_going = a; quiet = b; strict = c; explain = d; spans = e }
+abbrev plan_with : Bool → Bool → Bool → Bool → Bool → Bool → VerifyPlan
+plan_with a b c d e f = record { keep_going = a; quiet = b; strict = c; explain = d; spans = e; names = f }
 
 verify_alike : (options : List Given)
     → verify_plan_of (matched (rows_of_given verify_shape options)) ≡ verify_plan_of (values_in options)
@@ -215,12 +213,12 @@ verify_alike options =
     let alike = flag_alike verify_shape options in
     let own : Text → Bool = λ name. is_set name (values_in options) in
     let found : Text → Bool = λ name. is_set name (matched (rows_of_given verify_shape options)) in
-    ap₂ (λ (a b : Bool). plan_with a b (found (codes "strict")) (found (codes "explain")) (found (codes "spans")))
-    (alike (codes "keep-going") refl) (alike (codes "quiet") refl)
-    ∙ ap₂ (λ (c d : Bool). plan_with (own (codes "keep-going")) (own (codes "quiet")) c d (found (codes "spans")))
-    (alike (codes "strict") refl) (alike (codes "explain") refl)
-    ∙ ap (λ (e : Bool). plan_with (own (codes "keep-going")) (own (codes "quiet")) (own (codes "strict"))
-    (own (codes "explain")) e) (alike (codes "spans") refl)
+    ap₂ (λ (a b : Bool). plan_with a b (found (codes "strict")) (found (codes "explain")) (found (codes "spans"))
+    (found (codes "names"))) (alike (codes "keep-going") refl) (alike (codes "quiet") refl)
+    ∙ ap₂ (λ (c d : Bool). plan_with (own (codes "keep-going")) (own (codes "quiet")) c d (found (codes "spans"))
+    (found (codes "names"))) (alike (codes "strict") refl) (alike (codes "explain") refl)
+    ∙ ap₂ (λ (e f : Bool). plan_with (own (codes "keep-going")) (own (codes "quiet")) (own (codes "strict"))
+    (own (codes "explain")) e f) (alike (codes "spans") refl) (alike (codes "names") refl)
 
 match_alike : (names : OptionNames) (options : List Given)
     → Agrees (matched (rows_of_given (match_shape names) options)) (values_in options)

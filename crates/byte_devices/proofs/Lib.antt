@@ -1,4 +1,5 @@
 pub mod shared
 mod Blocks
+mod ByteNames
 mod Decimals
 mod Unflushed

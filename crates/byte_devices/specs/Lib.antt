@@ -1,3 +1,4 @@
+pub mod Bytes
 pub mod Devices
 pub mod Transfers
 pub mod ties

@@ -15,6 +15,8 @@ pub record FromInput : Type 0 where
   pub ended : Bool
   -- whether a read failed after `text`
   pub failed : Bool
+  -- in how many waits nothing came
+  pub silences : ℕ
 
 -- what went to an output in a run
 pub record ToOutput : Type 0 where
@@ -44,6 +46,8 @@ pub record InputGave (r r' : InputState) (i : FromInput) : Type 0 where
   pub ends : r'.end_count ≡ (if i.ended then saturating_increment r.end_count else r.end_count)
   -- if a read failed, one more failure was counted; otherwise the count stayed
   pub failures : r'.failure_count ≡ (if i.failed then saturating_increment r.failure_count else r.failure_count)
+  -- as many silences more were counted as there were
+  pub silences : r'.silence_count ≡ saturating_add r.silence_count i.silences
 
 -- from its state `w` to `w'` the output took just what `o` says
 pub record OutputTook (w w' : OutputState) (o : ToOutput) : Type 0 where
@@ -57,9 +61,15 @@ pub record OutputTook (w w' : OutputState) (o : ToOutput) : Type 0 where
   pub failures : w'.failure_count ≡ (if o.failed then saturating_increment w.failure_count else w.failure_count)
 
 -- there are an `i` and an `o` for which `P i o` holds, and from the devices' states `d` to `d'` the input gave just
--- what `i` says and the output took just what `o` says. Contracts of runs have this form: `P` is what they say of a run
+-- what `i` says and the output took just what `o` says. Contracts of runs have this form: `P` is what they say of a run.
+-- This is the form of runs that may wait for the input, as a match does
+abbrev pub RanWithWaits : (FromInput → ToOutput → Type 0) → Devices → Devices → Type 0
+RanWithWaits P d d' =
+    (i : FromInput) × (o : ToOutput) × InputGave d.input d'.input i × OutputTook d.output d'.output o × P i o
+
+-- the same of a run that doesn't wait: there was no silence
 abbrev pub Ran : (FromInput → ToOutput → Type 0) → Devices → Devices → Type 0
-Ran P d d' = (i : FromInput) × (o : ToOutput) × InputGave d.input d'.input i × OutputTook d.output d'.output o × P i o
+Ran P = RanWithWaits (λ i o. (i.silences ≡ 0) × P i o)
 
 -- ---- what came from an input
 

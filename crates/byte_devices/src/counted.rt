@@ -9,13 +9,15 @@ use std::io::{self, Read, Write};
 
 // What is counted of a device's calls: calls that failed, reads that reported the end of the input, the length of what
 // the last read gave, the reads that succeeded in all (`pieces`: each gave a piece of the input, an empty one at its
-// end; a wait in which nothing came counts as one too), and the bytes written since the last successful flush.
+// end; a wait in which nothing came counts as one too), the waits in which nothing came, and the bytes written since the
+// last successful flush.
 #[derive(Drop)]
 pub(crate) struct Counts {
     failures: u64,
     ends: u64,
     last: usize,
     pieces: u64,
+    silences: u64,
     unflushed: u64,
 }
 
@@ -30,6 +32,7 @@ impl Counts {
             ends: 0,
             last: 0,
             pieces: 0,
+            silences: 0,
             unflushed: 0,
         }
     }
@@ -145,6 +148,7 @@ impl<R: Read> Counted<R> {
               end_count = 0;
               last_len = 0;
               pieces_left = 2 ^ 64 - 1;
+              silence_count = 0;
             } }
     {
         Counted::new(reader)
@@ -157,8 +161,8 @@ impl<R: Read> Counted<R> {
         &self.device
     }
 
-    /// Counts a wait in which nothing came, for an input over this one that waits by itself: it is one of the 2^64 - 1
-    /// reads that can succeed. Returns whether it was counted: not if none of them is left.
+    /// Counts a wait in which nothing came, for an input over this one that waits by itself: as a silence, and as one of
+    /// the 2^64 - 1 reads that can succeed. Returns whether it was counted: not if none of them is left.
     pub fn fall_silent(&mut self) -> bool
         ensures step { WaitStep (⟦<Counted<R> as Input>⟧.seen self.old) (⟦<Counted<R> as Input>⟧.seen self.new)
             (not result) }
@@ -169,6 +173,7 @@ impl<R: Read> Counted<R> {
             return false;
         }
         self.counts.pieces += 1;
+        self.counts.silences = count_up(self.counts.silences);
         true
     }
 }
@@ -225,6 +230,7 @@ impl<R: Read> Input for Counted<R> {
       end_count = c.counts.ends;
       last_len = c.counts.last;
       pieces_left = 2 ^ 64 - 1 - c.counts.pieces;
+      silence_count = c.counts.silences;
     } };
 
     // One `read` of the reader, counted. Once 2^64 - 1 pieces were read, it fails without a call of the reader.

@@ -1,5 +1,5 @@
 //! What gives bytes and what takes them: readers and writers whose contracts fix their bytes and count their failures;
-//! buffers, in which a text is put together before it is written; and a search for bytes.
+//! buffers, in which a text is put together before it is written; kinds of bytes; and a search for bytes.
 //!
 //! A reader that gives pieces of three bytes, and a writer into memory:
 //!
@@ -13,6 +13,7 @@
 #![tactic(auto)]
 
 mod buffers;
+mod bytes;
 mod counted;
 mod gated;
 mod memory;
@@ -21,6 +22,7 @@ mod silent;
 mod traits;
 
 pub use buffers::{append, append_number};
+pub use bytes::{after_byte_order_mark, is_blank, is_digit, is_name_byte, shown_byte, split_while};
 pub use counted::Counted;
 pub use gated::{GatedReader, GatedWriter};
 pub use memory::{PieceReader, PieceWriter};

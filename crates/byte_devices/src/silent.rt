@@ -29,6 +29,7 @@ impl<R: Read> SilentAfter<R> {
               end_count = 0;
               last_len = 0;
               pieces_left = 2 ^ 64 - 1;
+              silence_count = 0;
             } }
         ensures bytes { result.bytes ≡ bytes }
         ensures silences { result.silences ≡ silences }

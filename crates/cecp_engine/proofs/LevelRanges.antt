@@ -6,7 +6,7 @@ use Rattle.std.specs.Result.{result_ok}
 use Rattle.std.specs.Str.Parse.{digits_value}
 use Rattle.std.proofs.lemmas.Bool.Decides.{nat_tests}
 use Rattle.std.proofs.lemmas.Str.Parse.{digits_value_short}
-use Rattle.chess_base.specs.Letters.{byte, is_digit}
+use Rattle.byte_devices.specs.Bytes.{byte, is_digit}
 use Rattle.text_lines.specs.Lines.{without_front_blanks}
 use Rattle.text_lines.specs.Words.{short_number, word_of, argument_of}
 use Rattle.cecp_engine.specs.Levels.{LevelSeen, base_of, level_of, level_reading, level_text, level_with, milliseconds_of, thousandths_of}

@@ -12,9 +12,9 @@ use Rattle.std.proofs.lemmas.Str.Parse.{IsNumeralModel, numerals_by_value}
 use Rattle.std.specs.Char.{digit_value}
 use Rattle.std.specs.Str.Parse.{digits_value}
 use Rattle.std.proofs.lemmas.Str.{digit_value_digit, IsAscii-append}
-use Rattle.std.proofs.lemmas.Str.Ascii.{IsAscii-nil}
-use Rattle.chess_base.specs.Letters.{byte, is_digit}
-use Rattle.text_lines.specs.Lines.{is_blank, without_front_blanks}
+use Rattle.std.proofs.lemmas.Str.Ascii.{IsAscii-nil, IsAscii-cons}
+use Rattle.byte_devices.specs.Bytes.{byte, is_digit, is_blank}
+use Rattle.text_lines.specs.Lines.{without_front_blanks}
 use Rattle.text_lines.specs.Words.{short_number, word_of, argument_of}
 use Rattle.cecp_engine.specs.ties.Bounds.{IsLevel}
 use Rattle.cecp_engine.specs.Levels.{LevelSeen, level_of, level_reading, level_text, base_of, base_text, two_digits, decimals_text, increment_text, milliseconds_of, thousandths_of}
@@ -429,17 +429,13 @@ digits_ascii (c ∷ cs) h zero =
 digits_ascii (c ∷ cs) h (suc i) =
     let p = and_parts (is_digit c) (list_all is_digit cs) h in digits_ascii cs p.1 i
 
-more_ascii : (c : ℕ) (cs : List ℕ) → c < 128 → IsAscii cs → IsAscii (c ∷ cs)
-more_ascii c cs h all zero = h
-more_ascii c cs h all (suc i) = all i
-
 decimals_ascii : (n : ℕ) → n < 1000 → IsAscii (decimals_text n)
 decimals_ascii n h = by_test (eqb n 0) refl
   where
     by_test : (b : Bool) → eqb n 0 ≡ b → IsAscii (decimals_text n)
     by_test true e = rw (no_decimals n e) IsAscii-nil
     by_test false e = let d = decimals n h e in
-        rw d.text (more_ascii 46 d.digits (omega arith) (digits_ascii d.digits d.are.digits))
+        rw d.text (IsAscii-cons 46 d.digits (omega arith) (digits_ascii d.digits d.are.digits))
 
 base_ascii : (base : ℕ) → base ≤ 59999999 → IsAscii (base_text base)
 unfolding base_text
@@ -456,7 +452,7 @@ base_ascii base h = by_seconds (eqb (base % 60000) 0) refl
     by_seconds : (whole : Bool) → eqb (base % 60000) 0 ≡ whole → IsAscii (base_text base)
     by_seconds true e = rw (e, append-nil (decimal (base / 60000))) minutes
     by_seconds false e = rw e (IsAscii-append (decimal (base / 60000)) (byte ":" ∷ seconds_of base) minutes
-        (more_ascii 58 (seconds_of base) (omega arith) seconds))
+        (IsAscii-cons 58 (seconds_of base) (omega arith) seconds))
 
 increment_ascii : (increment : ℕ) → increment ≤ 999999 → IsAscii (increment_text increment)
 unfolding increment_text
@@ -468,10 +464,10 @@ increment_ascii increment h =
 pub level_ascii : (level : LevelSeen) → IsLevel level → IsAscii (level_text level)
 unfolding level_text
 level_ascii level is =
-    let last = more_ascii 32 (increment_text level.increment) (omega arith)
+    let last = IsAscii-cons 32 (increment_text level.increment) (omega arith)
     (increment_ascii level.increment is.increment) in
     let base = IsAscii-append (base_text level.base) (byte " " ∷ increment_text level.increment)
     (base_ascii level.base is.base) last in
     IsAscii-append (decimal level.moves) (byte " " ∷ (base_text level.base ++ byte " " ∷ increment_text level.increment))
     (digits_ascii (decimal level.moves) (are_digits level.moves is.moves))
-    (more_ascii 32 (base_text level.base ++ byte " " ∷ increment_text level.increment) (omega arith) base)
+    (IsAscii-cons 32 (base_text level.base ++ byte " " ∷ increment_text level.increment) (omega arith) base)

@@ -6,8 +6,7 @@ use Rattle.std.specs.Prelude.{if◌then◌else◌, ◌==◌}
 use Rattle.std.specs.Str.{bytes_eq}
 use Rattle.std.proofs.Math.Seq.{take-suc}
 use Rattle.std.proofs.lemmas.List.{drop_more}
-use Rattle.chess_base.specs.Letters.{byte}
-use Rattle.text_lines.specs.Lines.{is_blank}
+use Rattle.byte_devices.specs.Bytes.{byte, is_blank}
 
 -- whether a byte separates the names in the value of `variants`: a comma, space or tab
 abbrev pub is_comma_or_blank : ℕ → Bool

@@ -3,10 +3,9 @@ use Rattle.std.specs.Prelude.{ℕ, zero, suc, ◌+◌, ◌==◌, ◌&&◌, ◌||
 use Rattle.std.specs.List.{fold, list_all, list_any, position_or_len, prefix_len, slice_split, take_while}
 use Rattle.std.specs.Option.{option_map_or}
 use Rattle.std.specs.Str.{bytes_eq}
-use Rattle.chess_base.specs.Letters.{byte, is_digit}
+use Rattle.byte_devices.specs.Bytes.{byte, is_digit, is_blank, is_name_byte}
 use Rattle.chess_base.specs.Options.{◌>>=◌}
-use Rattle.text_lines.specs.Lines.{is_blank, without_front_blanks}
-use Rattle.text_lines.specs.Words.{is_name_byte}
+use Rattle.text_lines.specs.Lines.{without_front_blanks}
 
 -- ---- one item, `NAME=VALUE`
 

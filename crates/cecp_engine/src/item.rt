@@ -1,15 +1,14 @@
 //! The items of a `feature` line.
 
-ghost use Rattle.std.specs.Prelude.{◌≡◌, ◌≤◌, ◌<◌, ◌++◌, ◌∷◌, ◌==◌, ◌||◌, [], length, drop, take, List, ℕ};
-ghost use Rattle.chess_base.specs.Letters.{byte, is_digit};
+ghost use Rattle.std.specs.Prelude.{◌≡◌, ◌==◌, ◌||◌, drop, take};
+ghost use Rattle.byte_devices.specs.Bytes.{byte, is_blank, is_digit, is_name_byte};
 ghost use Rattle.cecp_engine.specs.Items.{value_of, item_of, is_one, ends_handshake, items_of, is_known, has_word};
 ghost use Rattle.cecp_engine.specs.ties.Taken.{said_again, fischerandom_again, value_read};
 ghost use Rattle.cecp_engine.specs.Seen.{value_seen, item_seen, item_read};
-ghost use Rattle.text_lines.specs.Lines.{is_blank};
-ghost use Rattle.text_lines.specs.Words.{is_name_byte};
-ghost use Rattle.std.specs.List.{list_all, position_or_len, prefix_len};
+ghost use Rattle.std.specs.List.{list_all, prefix_len, take_while};
 
-use text_lines::{is_blank, trim_start};
+use byte_devices::{is_blank, is_digit, is_name_byte, len_before, split_while};
+use text_lines::trim_start;
 
 /// The value of an item.
 #[derive(Clone, Copy, Debug, PartialEq, Eq, Hash)]
@@ -27,48 +26,20 @@ pub struct Item<'a> {
     pub value: Value<'a>,
 }
 
-// Whether a byte may be in an item's name: letters, digits and `_`. Tags have names of the same bytes, so chess_pgn and
-// pgn_pieces have this test too; but an engine's lines are read without these crates.
-fn is_name_byte(byte: u8) -> bool
-    ensures { result ≡ is_name_byte byte }
+// Splits a text after the name of an item at its front; the name is empty if there is none.
+fn split_name(text: &[u8]) -> (&[u8], &[u8])
+    ensures name { result.0.now ≡ take_while is_name_byte text.now }
+    ensures rest { result.1.now ≡ drop (prefix_len is_name_byte text.now) text.now }
 {
-    byte.is_ascii_alphanumeric() || byte == b'_'
+    split_while(text, |byte| is_name_byte(byte))
 }
 
-// How many bytes the name of an item (letters, digits, `_`) has at a text's front; 0 if there is none.
-fn name_len(text: &[u8]) -> usize
-    ensures value { result ≡ prefix_len is_name_byte text.now }
-    ensures in_range { result ≤ length text.now }
+// Splits a text after the digits at its front.
+fn split_digits(text: &[u8]) -> (&[u8], &[u8])
+    ensures digits { result.0.now ≡ take_while is_digit text.now }
+    ensures rest { result.1.now ≡ drop (prefix_len is_digit text.now) text.now }
 {
-    let mut at = 0;
-    while at < text.len() && is_name_byte(text[at]) {
-        at += 1;
-    }
-    at
-}
-
-// How many digits there are at a text's front; 0 if there is none.
-fn digits_len(text: &[u8]) -> usize
-    ensures value { result ≡ prefix_len is_digit text.now }
-    ensures in_range { result ≤ length text.now }
-{
-    let mut at = 0;
-    while at < text.len() && text[at] >= b'0' && text[at] <= b'9' {
-        at += 1;
-    }
-    at
-}
-
-// The index of the first double quote; the text's length if there is none.
-fn quote_at(text: &[u8]) -> usize
-    ensures value { result ≡ position_or_len (λ c. c == byte "\"") text.now }
-    ensures in_range { result ≤ length text.now }
-{
-    let mut at = 0;
-    while at < text.len() && text[at] != b'"' {
-        at += 1;
-    }
-    at
+    split_while(text, |byte| is_digit(byte))
 }
 
 // Reads the value of an item at a text's front, digits or a text in double quotes, and returns it with the text after
@@ -80,15 +51,15 @@ fn read_value(text: &[u8]) -> Option<(Value<'_>, &[u8])>
         [] => None,
         [first, tail @ ..] => {
             if *first == b'"' {
-                let at = quote_at(tail);
+                let at = len_before(tail, b'"');
                 if at < tail.len() {
                     Some((Value::Quoted(&tail[..at]), &tail[at + 1..]))
                 } else {
                     None
                 }
-            } else if *first >= b'0' && *first <= b'9' {
-                let len = digits_len(text);
-                Some((Value::Digits(&text[..len]), &text[len..]))
+            } else if is_digit(*first) {
+                let (digits, rest) = split_digits(text);
+                Some((Value::Digits(digits), rest))
             } else {
                 None
             }
@@ -112,12 +83,11 @@ fn may_follow_item(text: &[u8]) -> bool
 pub fn next_item(text: &[u8]) -> Option<(Item<'_>, &[u8])>
     ensures { item_read result ≡ item_of text.now }
 {
-    let len = name_len(text);
-    let name = &text[..len];
+    let (name, rest) = split_name(text);
     if name.is_empty() {
         return None;
     }
-    match &text[len..] {
+    match rest {
         [] => None,
         [first, tail @ ..] => {
             if *first != b'=' {

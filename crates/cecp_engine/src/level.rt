@@ -1,11 +1,11 @@
 //! Levels of time.
 
-ghost use Rattle.std.specs.Prelude.{◌≡◌, ◌≤◌, ◌==◌, ◌/◌, ◌^◌, IfSome, length};
-ghost use Rattle.std.specs.List.{position_or_len};
+ghost use Rattle.std.specs.Prelude.{◌≡◌, ◌≤◌, ◌/◌, ◌^◌, IfSome};
 ghost use Rattle.cecp_engine.specs.Levels.{level_of, level_reading, base_of, milliseconds_of, thousandths_of, allotted};
 ghost use Rattle.chess_base.specs.declared.setup.TheConstants.{MOST_MOVES};
 
 use crate::level_fault::LevelFault;
+use byte_devices::len_before;
 use std::marker::Model;
 use text_lines::{argument, first_word, short_number, trim_start};
 
@@ -40,18 +40,6 @@ impl Model for Level {
     ghost inverse = { λ v. record { moves = v.moves; base = v.base; increment = v.increment } };
 }
 
-// The index of the first byte `mark`; the text's length if there is none.
-fn mark_at(text: &[u8], mark: u8) -> usize
-    ensures value { result ≡ position_or_len (λ c. c == mark) text.now }
-    ensures in_range { result ≤ length text.now }
-{
-    let mut at = 0;
-    while at < text.len() && text[at] != mark {
-        at += 1;
-    }
-    at
-}
-
 // The thousandths that decimals, one to three digits, denote: `5` is 500; `None` for any other text.
 #[tactic(auto, unfolding(crate::specs::Levels::thousandths_of))]
 fn thousandths(decimals: &[u8]) -> Option<u32>
@@ -73,7 +61,7 @@ fn milliseconds(text: &[u8], most: usize) -> Option<u32>
     ensures value { result ≡ milliseconds_of most text.now }
     ensures small { IfSome result (λ n. n ≤ 999999) }
 {
-    let point = mark_at(text, b'.');
+    let point = len_before(text, b'.');
     let seconds = short_number(&text[..point], most)?;
     let thousandths = if point == text.len() {
         0
@@ -90,7 +78,7 @@ fn base(text: &[u8]) -> Option<u32>
     ensures value { result ≡ base_of text.now }
     ensures small { IfSome result (λ n. n ≤ 59999999) }
 {
-    let colon = mark_at(text, b':');
+    let colon = len_before(text, b':');
     let minutes = short_number(&text[..colon], 3)?;
     let milliseconds = if colon == text.len() {
         0

@@ -48,10 +48,10 @@ abbrev pub Serves : {S : Type 0} → Server S → S → Devices → Devices → 
 Serves {S} respond s d d' status =
     (result : Result End Fault) × (s' : S) × Ran (Served respond s s' result) d d' × (status ≡ status_of result)
 
--- the options of verifying that the flags `--quiet`, `--strict`, `--explain` and `--spans` ask for
+-- the options of verifying that the flags `--quiet`, `--strict`, `--explain`, `--spans` and `--names` ask for
 abbrev pub options_of : VerifyPlan → VerifyOptions
 options_of plan =
-    record { quiet = plan.quiet; strict = plan.strict; spans = plan.spans; explain = plan.explain }
+    record { quiet = plan.quiet; strict = plan.strict; spans = plan.spans; names = plan.names; explain = plan.explain }
 
 -- the exit status of `verify`, by its result: 0 if all was verified and no fault was found; 1 if one was found, or if
 -- verifying was not completed, as when a read failed

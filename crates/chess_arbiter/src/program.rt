@@ -15,12 +15,13 @@ ghost use Rattle.chess_arbiter.specs.Program.{RanProgram, Reports, ReportsArgume
 ghost use Rattle.stub_engine.specs.Stub.{stub_response, waiting};
 ghost use Rattle.chess_game.specs.declared.game.TheConstants.{MOST_MOVES};
 
-use crate::fault::{ProgramFault, report_text, reported};
+use crate::fault::{ProgramFault, report, report_text, reported};
 use arbiter_cli::{Plan, VerifyPlan, WordsFault, read_words};
 use byte_devices::{Input, Output, send};
 use chess_bits::{AttackTables, Bits};
 use chess_cecp::{Session, run_session, serve_lines};
 use chess_game::MOST_MOVES;
+use clap::Error;
 use match_runner::{GamesPlan, Host, Log, play_games_with};
 use pgn_verifier::{Verified, VerifyFault, VerifyOptions, verify, verify_collection};
 use pgn_writer::Tags;
@@ -102,6 +103,7 @@ fn options_of(plan: VerifyPlan) -> VerifyOptions
         quiet: plan.quiet,
         strict: plan.strict,
         spans: plan.spans,
+        names: plan.names,
         explain: plan.explain,
     }
 }
@@ -171,10 +173,36 @@ fn help<W: Output, E: Output, D: Display>(
     status_of(write_help(alloc, text, output), errors)
 }
 
+// What the error output says of a file that was named to `verify`.
+const VERIFY_READS_INPUT: &str =
+    "verify reads standard input: arbiter verify < games.pgn (files by name: verify_all)";
+
+// Whether these arguments name a file to `verify`, as `verify games.pgn` does: it has only options, which begin with a
+// hyphen.
+fn name_a_file(arguments: &[&str]) -> bool {
+    match arguments {
+        [command, others @ ..] => {
+            *command == "verify" && others.iter().any(|word| !word.starts_with("-"))
+        }
+        [] => false,
+    }
+}
+
+// Writes to the error output why `clap` refuses the arguments: its own text, but one line if they name a file to
+// `verify`.
+fn report_words<E: Output>(errors: &mut E, arguments: &[&str], error: &Error) {
+    if name_a_file(arguments) {
+        report(errors, &VERIFY_READS_INPUT);
+    } else {
+        report_text(errors, error);
+    }
+}
+
 // Reports why the arguments ask for nothing, and returns the exit status: help and the version go to the output, all
 // else to the error output.
 fn report_arguments<W: Output, E: Output>(
     alloc: Global,
+    arguments: &[&str],
     fault: &WordsFault,
     output: &mut W,
     errors: &mut E,
@@ -184,7 +212,7 @@ fn report_arguments<W: Output, E: Output>(
     match fault {
         WordsFault::Words(error) => {
             if error.use_stderr() {
-                report_text(errors, error);
+                report_words(errors, arguments, error);
                 return 2;
             }
             help(alloc, error, output, errors)
@@ -228,7 +256,8 @@ fn matched<H: Host, W: Output, E: Output>(
 ///   length, cut into pieces: one begins at the first byte, at a tag line after a line of moves, and at a second Event
 ///   tag line. A fault ends only its piece, and totals follow at the end. `--quiet` leaves out games without a fault;
 ///   with `--strict` a result that contradicts the tag Result or the final position is a fault too; with `--spans` each
-///   line says where its game is; with `--explain` a second line explains each fault.
+///   line says where its game is; with `--names` the line of a fault ends with the game's players, event and date;
+///   with `--explain` a second line explains each fault.
 /// - `match` with `--white`, `--black` and perhaps `--games`, `--level`, `--fen`, `--variant`, `--draws`, `--date`,
 ///   `--log`, `--flag` and `--reply-timeout`: games between two engines that the host starts, the text of each game, and
 ///   then the score. The input is left untouched.
@@ -245,9 +274,10 @@ fn matched<H: Host, W: Output, E: Output>(
 ///
 /// The contract says what was read and written, which steps passed at the host (none but in a match), and the status.
 /// After a match the error output has just the logs of its games if `--log` was given, a line for each engine that was
-/// killed, and `arbiter: FAULT` after a fault; each of these up to a failed write. What else is written to the error
-/// output only tests show: `arbiter: FAULT` if anything but a match failed; what `clap` says of invalid arguments; and
-/// nothing if a game verified has a fault.
+/// killed, and `arbiter: FAULT` after a fault. Of what is being written when a write fails there is a beginning, and
+/// after it nothing more but `arbiter: FAULT`. What else is written to the error output only tests show:
+/// `arbiter: FAULT` if anything but a match failed; what `clap` says of invalid arguments, but one line if a file is
+/// named to `verify`; and nothing if a game verified has a fault.
 pub fn run_program<'a, H: Host, R: Input, W: Output, E: Output>(
     host: &mut H,
     alloc: Global,
@@ -270,7 +300,9 @@ pub fn run_program<'a, H: Host, R: Input, W: Output, E: Output>(
 {
     let plan = match read_words(alloc, arguments) {
         Ok(plan) => plan,
-        Err(fault) => return report_arguments(alloc, &fault, output, &mut errors.output),
+        Err(fault) => {
+            return report_arguments(alloc, arguments, &fault, output, &mut errors.output);
+        }
     };
     match plan {
         Plan::Session => status_of(session(alloc, input, output), &mut errors.output),

@@ -65,10 +65,10 @@ const PIECES: [(&[u8], &[u8], u8); 16] = [
         b"game 1: 1 half-moves, *\ngame 2: illegal move at byte 61\ngames 1 half-moves 1 faults 1\n",
         1,
     ),
-    // Nor after a space, but before any name.
+    // After a space it does, and before any name.
     (
         b"1. e4 e4 *\n [Event \"b\"] *\n[Events \"c\"] *\n[event \"d\"] *",
-        b"game 1: illegal move at byte 6\ngame 2: 0 half-moves, *\ngame 3: 0 half-moves, *\ngames 2 half-moves 0 faults 1\n",
+        b"game 1: illegal move at byte 6\ngame 2: 0 half-moves, *\ngame 3: 0 half-moves, *\ngame 4: 0 half-moves, *\ngames 3 half-moves 0 faults 1\n",
         1,
     ),
     // Lines that end with bytes 13 and 10, and with 13 alone.
@@ -79,7 +79,7 @@ const PIECES: [(&[u8], &[u8], u8); 16] = [
     ),
     (
         b"1. e4 e4 *\r[Event \"b\"]\r1. d4 *",
-        b"game 1: illegal move at byte 6\ngames 0 half-moves 0 faults 1\n",
+        b"game 1: illegal move at byte 6\ngame 2: 1 half-moves, *\ngames 1 half-moves 1 faults 1\n",
         1,
     ),
     // A fault ends its piece, whatever games it has left.

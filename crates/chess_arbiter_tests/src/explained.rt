@@ -156,11 +156,11 @@ const PLACES: [(&[&str], &[u8], &[u8], u8); 23] = [
         b"game 1: 2 half-moves, *\ngame 2: illegal move at byte 53\n# line 8 column 3 e4 | rnbqkbnr/pppppppp/8/8/4P3/8/PPPP1PPP/RNBQKBNR b KQkq e3 0 1\ngame 3: illegal move at byte 88\n# line 13 column 4 Ke2 | rnbqkbnr/ppp1pppp/8/3p4/3P4/8/PPP1PPPP/RNBQKBNR w KQkq d6 0 2\ngames 1 half-moves 2 faults 2\n",
         1,
     ),
-    // A byte 13 ends no line.
+    // A byte 13 ends no line that is counted, but columns count from it.
     (
         &["verify", "--keep-going", "--explain"],
         b"1. e4\re4 *\r[Event \"b\"]\r1. d4 *",
-        b"game 1: illegal move at byte 6\n# line 1 column 7 e4 | rnbqkbnr/pppppppp/8/8/4P3/8/PPPP1PPP/RNBQKBNR b KQkq e3 0 1\ngames 0 half-moves 0 faults 1\n",
+        b"game 1: illegal move at byte 6\n# line 1 column 1 e4 | rnbqkbnr/pppppppp/8/8/4P3/8/PPPP1PPP/RNBQKBNR b KQkq e3 0 1\ngame 2: 1 half-moves, *\ngames 1 half-moves 1 faults 1\n",
         1,
     ),
     // A byte order mark counts.

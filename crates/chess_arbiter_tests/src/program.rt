@@ -6,7 +6,7 @@ use chess_arbiter::{Log, ProcessHost, ProgramFault, run_program};
 use std::process::{Abort, ExitCode};
 use std::test::Fail;
 
-const RUNS: [ProgramRun; 22] = [
+const RUNS: [ProgramRun; 24] = [
     ProgramRun {
         arguments: &[],
         input: b"new\ne2e4\nping 7\nundo\nshowfen\nquit\nshowfen\n",
@@ -51,7 +51,7 @@ const RUNS: [ProgramRun; 22] = [
         arguments: &["--version"],
         input: b"ping 7\n",
         fails: (0, 0),
-        output: b"arbiter 0.2.0\n",
+        output: b"arbiter 0.3.0\n",
         errors: b"",
         status: 0,
     },
@@ -117,7 +117,23 @@ const RUNS: [ProgramRun; 22] = [
         input: b"*",
         fails: (0, 0),
         output: b"",
-        errors: b"error: unexpected argument 'x' found\n\nUsage: arbiter verify [OPTIONS] < FILE\n\nFor more information, try '--help'.\n",
+        errors: b"arbiter: verify reads standard input: arbiter verify < games.pgn (files by name: verify_all)\n",
+        status: 2,
+    },
+    ProgramRun {
+        arguments: &["verify", "--keep-going", "games.pgn", "--quiet"],
+        input: b"*",
+        fails: (0, 0),
+        output: b"",
+        errors: b"arbiter: verify reads standard input: arbiter verify < games.pgn (files by name: verify_all)\n",
+        status: 2,
+    },
+    ProgramRun {
+        arguments: &["verify", "--quite"],
+        input: b"*",
+        fails: (0, 0),
+        output: b"",
+        errors: b"error: unexpected argument '--quite' found\n\nUsage: arbiter verify [OPTIONS] < FILE\n\nFor more information, try '--help'.\n",
         status: 2,
     },
     // The line of the counts, and the flush after it.
@@ -270,6 +286,7 @@ const HELP: [(&[&str], &[&str]); 4] = [
             "--strict",
             "--explain",
             "--spans",
+            "--names",
             "# line 2 column 4 Ke3 | rnbqkbnr/pppp1ppp/8/4p3/4P3/8/PPPP1PPP/RNBQKBNR w KQkq e6 0 2",
             "16,777,216 bytes",
         ],

@@ -156,7 +156,7 @@ const BY_ARGUMENTS: [(&[&str], &[u8], &[u8], u8); 13] = [
         b"games 0 half-moves 0 faults 0\n",
         0,
     ),
-    // A line that begins with any tag begins a piece after moves, and a bracket within a line does not.
+    // A line that begins with any tag begins a piece after moves, also after spaces.
     (
         &["verify", "--keep-going"],
         b"1. e4 e4 *\n[Site \"x\"]\n *\n [Event \"y\"] *",

@@ -357,20 +357,20 @@ fall_ends men l c b end n w past last =
 
 -- ---- both ways
 
-attacks_itself : (men : Men) (c : Colour) (k : Kind) (b : ℕ) → could_capture men c k b b ≡ false
+pub could_capture-itself : (men : Men) (c : Colour) (k : Kind) (b : ℕ) → could_capture men c k b b ≡ false
 unfolding could_capture
-attacks_itself men c King b = grind (arith, nat_tests)
-attacks_itself men c Queen b = grind (arith, nat_tests)
-attacks_itself men c Rook b = grind (arith, nat_tests)
-attacks_itself men c Bishop b = grind (arith, nat_tests)
-attacks_itself men c Knight b = grind (arith, nat_tests)
-attacks_itself men White Pawn b = grind (arith, nat_tests)
-attacks_itself men Black Pawn b = grind (arith, nat_tests)
+could_capture-itself men c King b = grind (arith, nat_tests)
+could_capture-itself men c Queen b = grind (arith, nat_tests)
+could_capture-itself men c Rook b = grind (arith, nat_tests)
+could_capture-itself men c Bishop b = grind (arith, nat_tests)
+could_capture-itself men c Knight b = grind (arith, nat_tests)
+could_capture-itself men White Pawn b = grind (arith, nat_tests)
+could_capture-itself men Black Pawn b = grind (arith, nat_tests)
 
 no_attack_itself : (men : Men) (b : ℕ) → (o : Option Man) → man_at men b ≡ o → attacks men b b ≡ false
 unfolding attacks
 no_attack_itself men b None at = rw at refl
-no_attack_itself men b (Some y) at = rw at (attacks_itself men y.colour y.kind b)
+no_attack_itself men b (Some y) at = rw at (could_capture-itself men y.colour y.kind b)
 
 itself_from : (men : Men) (c : Colour) (b : ℕ) → attacked_from men c b b ≡ false
 itself_from men c b = and_right _ _ (no_attack_itself men b (man_at men b) refl)

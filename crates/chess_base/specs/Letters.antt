@@ -1,6 +1,6 @@
--- The bytes of texts: letters and digits, separators, the letters of kinds of piece and the names of squares.
-use Prim.Native.String.{String as Text}
-use Rattle.std.specs.Prelude.{ℕ, ◌+◌, ◌-◌, ◌*◌, ◌==◌, Bool, ◌&&◌, ◌||◌, if◌then◌else◌, List, [], ◌∷◌, ◌++◌, map, find, Option, Some, None, nat_le, codes, slice_index_or}
+-- The letters of kinds of piece and the names of squares.
+use Rattle.std.specs.Prelude.{ℕ, ◌+◌, ◌-◌, ◌*◌, ◌==◌, Bool, ◌&&◌, if◌then◌else◌, List, [], ◌∷◌, ◌++◌, map, find, Option, Some, None, nat_le, codes}
+use Rattle.byte_devices.specs.Bytes.{byte}
 use Rattle.chess_base.specs.declared.man.Colour.{Colour}
 use Rattle.chess_base.specs.declared.man.Colour.TheVariants.{White, Black}
 use Rattle.chess_base.specs.declared.man.Kind.{Kind}
@@ -8,38 +8,6 @@ use Rattle.chess_base.specs.declared.man.Kind.TheVariants.{Pawn, Knight, Bishop,
 use Rattle.chess_base.specs.declared.man.Man.{Man}
 use Rattle.chess_base.specs.ByColour.{by_colour}
 use Rattle.chess_base.specs.Squares.{file, rank}
-
--- the code of a text's first character, 0 for the empty text; it is used for one ASCII character: `byte "A"` is 65
-abbrev pub byte : Text → ℕ
-byte text = slice_index_or (codes text) 0 0
-
--- line feed, byte 10
-abbrev pub new_line : ℕ
-new_line = 10
-
--- carriage return, byte 13
-abbrev pub carriage_return : ℕ
-carriage_return = 13
-
--- tab, byte 9
-abbrev pub tab : ℕ
-tab = 9
-
--- the space, byte 32
-abbrev pub space : ℕ
-space = byte " "
-
--- ---- letters and digits
-
--- c is the byte of a letter, A to Z or a to z
-abbrev pub is_letter : ℕ → Bool
-is_letter c = (nat_le (byte "A") c && nat_le c (byte "Z")) || (nat_le (byte "a") c && nat_le c (byte "z"))
-
--- c is the byte of a digit, 0 to 9
-abbrev pub is_digit : ℕ → Bool
-is_digit c = nat_le (byte "0") c && nat_le c (byte "9")
-
--- ---- pieces and squares
 
 -- the byte of the capital letter of a kind of piece, N for a knight. SAN uses it for both colours, but none for a
 -- pawn's move; FEN uses it for White's pieces only (PGN standard of 1994, sections 8.2.3.2 and 16.1.3.1)

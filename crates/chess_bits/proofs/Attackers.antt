@@ -23,14 +23,12 @@ use Rattle.chess_moves.proofs.shared.Members.{has_zero}
 use Rattle.chess_bits.specs.ties.Rays.{is_on_ray, is_open}
 use Rattle.chess_bits.specs.ties.Shapes.{in_shape}
 use Rattle.chess_bits.specs.ties.Occupancy.{IsOccupied}
-
-pub eq_back : (m n : ℕ) → (m == n) ≡ (n == m)
-eq_back m n = grind (arith, nat_tests)
+use Rattle.chess_base.proofs.shared.MenAfter.{eqb_comm}
 
 -- the two rays along a line
 pub both_rays : (l : Line) (a b : ℕ) (o : Bool)
     → ((is_on_ray l true b a && o) || (is_on_ray l false b a && o)) ≡ (not (a == b) && same_line l a b && o)
-both_rays l a b o = rw (eq_back (line_number l a) (line_number l b)) (grind (arith, nat_tests))
+both_rays l a b o = rw (eqb_comm (line_number l a) (line_number l b)) (grind (arith, nat_tests))
 
 -- the two lines of a rook, and of a bishop
 pub on_lines : (a b : ℕ) (o : Bool)
@@ -56,7 +54,7 @@ open_is_clear w men a b h =
 
 king_back : (men : Men) (c : Colour) (a b : ℕ) → in_shape shape.King b a ≡ could_capture men c King a b
 unfolding in_shape could_capture
-king_back men c a b = rw (eq_back b a, abs_diff_back (file b) (file a), abs_diff_back (rank b) (rank a)) refl
+king_back men c a b = rw (eqb_comm b a, abs_diff_back (file b) (file a), abs_diff_back (rank b) (rank a)) refl
 
 knight_back : (men : Men) (c : Colour) (a b : ℕ) → in_shape shape.Knight b a ≡ could_capture men c Knight a b
 unfolding in_shape could_capture

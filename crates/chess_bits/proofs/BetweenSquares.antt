@@ -8,10 +8,10 @@ use Rattle.chess_base.specs.declared.line.Line.{Line}
 use Rattle.chess_base.specs.declared.line.Line.TheVariants.{Rank, File, Diagonal, Antidiagonal}
 use Rattle.chess_base.specs.shared.Lines.{line_number, same_line}
 use Rattle.chess_bits.specs.ties.Rays.{is_on_ray, is_open}
-use Rattle.chess_bits.proofs.Attackers.{eq_back}
 use Rattle.chess_base.proofs.shared.Geometry.{between_on_line, share_diagonal_is}
 use Rattle.chess_base.proofs.shared.Squares.{each_square_same}
 use Rattle.chess_moves.specs.Sets.{contains}
+use Rattle.chess_base.proofs.shared.MenAfter.{eqb_comm}
 
 -- ---- on one line
 
@@ -91,14 +91,14 @@ by_line a b v k la lb on made =
     elim (or_cases (share_rank_or_file b a) (share_diagonal b a) on) [
       | inl straight ↦
           elim (or_cases (same_line File b a) (same_line Rank b a) straight) [
-            | inl f ↦ made File (eq_back (line_number File a) (line_number File b) ∙ f)
-            | inr r ↦ made Rank (eq_back (line_number Rank a) (line_number Rank b) ∙ r)
+            | inl f ↦ made File (eqb_comm (line_number File a) (line_number File b) ∙ f)
+            | inr r ↦ made Rank (eqb_comm (line_number Rank a) (line_number Rank b) ∙ r)
           ]
       | inr aslant ↦
           elim
           (or_cases (same_line Diagonal b a) (same_line Antidiagonal b a) (sym (share_diagonal_is b a lb la) ∙ aslant)) [
-            | inl d ↦ made Diagonal (eq_back (line_number Diagonal a) (line_number Diagonal b) ∙ d)
-            | inr t ↦ made Antidiagonal (eq_back (line_number Antidiagonal a) (line_number Antidiagonal b) ∙ t)
+            | inl d ↦ made Diagonal (eqb_comm (line_number Diagonal a) (line_number Diagonal b) ∙ d)
+            | inr t ↦ made Antidiagonal (eqb_comm (line_number Antidiagonal a) (line_number Antidiagonal b) ∙ t)
           ]
     ]
 

@@ -1,9 +1,8 @@
 -- Where a king steps, and when it is safe there.
 use mathlib.Core.Bool.{or-false}
 use Rattle.std.proofs.Common.{◌≡◌, ℕ, ◌<◌, inl, inr, Bool, true, false, not, ◌&&◌, ◌||◌, ◌==◌, Option, Some, None, refl, sym, ap, ◌∙◌, arith}
-use Rattle.std.proofs.lemmas.Bool.{and_from, and_parts, and_right, both_ways, cases_Bool, eqb-true, eq-eqb, false_from_ne_true}
+use Rattle.std.proofs.lemmas.Bool.{and_from, and_parts, and_right, both_ways, cases_Bool, eqb-true, false_from_ne_true}
 use Rattle.std.proofs.lemmas.Bool.Decides.{nat_tests}
-use Rattle.std.specs.Int.{abs_diff}
 use Rattle.chess_base.specs.declared.man.CastlingSide.{CastlingSide}
 use Rattle.chess_base.specs.declared.man.CastlingSide.TheVariants.{KingSide, QueenSide}
 use Rattle.chess_base.specs.declared.man.Colour.{Colour}
@@ -22,38 +21,27 @@ use Rattle.chess_base.specs.Men.{Men, man_at, other, is_of, is_man, same_colour,
 use Rattle.chess_base.specs.MoveList.{move_of}
 use Rattle.chess_base.specs.Moves.{is_pseudo_legal, is_legal, is_en_passant, man_moves, men_after}
 use Rattle.chess_base.specs.Sound.{IsSound}
-use Rattle.chess_base.specs.Squares.{file, rank, is_between}
+use Rattle.chess_base.specs.Squares.{rank, is_between}
 use Rattle.chess_base.specs.shared.Lines.{is_between_on_file, is_between_on_rank, is_between_on_diagonal}
 use Rattle.chess_base.proofs.shared.Castling.{right_is_sound_of, castling_rook_is_there}
 use Rattle.chess_base.proofs.shared.Men.{is_of-from_is_man, is_man-kind}
 use Rattle.chess_base.proofs.shared.Squares.{each_square_same, some_square_same}
 use Rattle.chess_moves.specs.Promoting.{would_promote}
 use Rattle.chess_bits.specs.ties.Goes.{goes, legal_or, lifted, man_goes}
-use Rattle.chess_bits.proofs.Attackers.{eq_back}
 use Rattle.chess_bits.proofs.KingAfter.{king_lands, check_after, legal_is}
 use Rattle.chess_bits.proofs.Lifted.{lifted_at}
 use Rattle.chess_bits.proofs.Listed.{unpromoted}
 use Rattle.chess_bits.proofs.Patterns.{man_sound, not_promoting}
 use Rattle.chess_bits.proofs.Quiet.{lands_same, plain_after, plain_by, not_passing}
 use Rattle.chess_bits.proofs.TargetsOf.{man_told, none_castles, steps_of_man}
+use Rattle.chess_base.proofs.shared.Captures.{could_capture-itself}
+use Rattle.chess_base.proofs.shared.MenAfter.{eqb_comm}
 
 -- ---- a square is attacked from elsewhere: what is on it doesn't count
 
-gap_self : (n : ℕ) → abs_diff n n ≡ 0
-gap_self n = omega arith
-
-no_self_hit : (men : Men) (c : Colour) (k : Kind) (b : ℕ) → could_capture men c k b b ≡ false
-unfolding could_capture
-no_self_hit men c King b = rw (eq-eqb b b refl) refl
-no_self_hit men c Queen b = rw (eq-eqb b b refl) refl
-no_self_hit men c Rook b = rw (eq-eqb b b refl) refl
-no_self_hit men c Bishop b = rw (eq-eqb b b refl) refl
-no_self_hit men c Knight b = rw (gap_self (file b)) refl
-no_self_hit men c Pawn b = rw (gap_self (file b)) refl
-
 no_hit_as : (men : Men) (o : Option Man) (b : ℕ) → could_capture_as men o b b ≡ false
 no_hit_as men None b = refl
-no_hit_as men (Some x) b = no_self_hit men x.colour x.kind b
+no_hit_as men (Some x) b = could_capture-itself men x.colour x.kind b
 
 pub not_between_end : (a b : ℕ) → is_between a b b ≡ false
 unfolding is_between is_between_on_file is_between_on_rank is_between_on_diagonal
@@ -198,7 +186,7 @@ step_is p a b sound king moves low high =
     let plain = plain_by p m pattern none no_passing in
     let same : (k : ℕ) → k < 64 → (k == b) ≡ false → man_at (lifted p.men a) k ≡ man_at (men_after p m) k =
     λ k l apart. lifted_at p.men a k sound.board low
-    ∙ sym (plain_after p m k plain l ∙ rw (lands, eq_back b k, apart, eq_back a k) refl) in
+    ∙ sym (plain_after p m k plain l ∙ rw (lands, eqb_comm b k, apart, eqb_comm a k) refl) in
     ap not (attacked_same (lifted p.men a) (men_after p m) b (other p.side) same
     ∙ sym (check_after p m b sound pattern high there)) ∙ legal_is p m pattern
 

@@ -20,19 +20,19 @@ use Rattle.chess_base.proofs.shared.Geometry.{abs_diff_back, diagonal_back, is_c
 use Rattle.chess_moves.specs.Sets.{contains, HasOrigins}
 use Rattle.chess_moves.proofs.shared.Origins.{begins_below}
 use Rattle.chess_bits.specs.ties.Goes.{man_goes}
-use Rattle.chess_bits.proofs.Attackers.{eq_back}
 use Rattle.chess_bits.proofs.Patterns.{man_complete, pawn_goes, legal_goes}
 use Rattle.chess_bits.proofs.Reached.{line_back}
 use Rattle.chess_bits.proofs.TargetsOf.{man_told, officer_is, ends_below}
+use Rattle.chess_base.proofs.shared.MenAfter.{eqb_comm}
 
 -- a piece other than a pawn attacks as it is attacked
 pub back : (men : Men) (c : Colour) (kind : Kind) (a b : ℕ) → same_kind Pawn kind ≡ false
     → could_capture men c kind a b ≡ could_capture men c kind b a
 unfolding could_capture
-back men c King a b h = rw (eq_back a b, abs_diff_back (file a) (file b), abs_diff_back (rank a) (rank b)) refl
-back men c Queen a b h = rw (eq_back a b, ← line_back a b, diagonal_back a b, is_clear_back men a b) refl
-back men c Rook a b h = rw (eq_back a b, ← line_back a b, is_clear_back men a b) refl
-back men c Bishop a b h = rw (eq_back a b, diagonal_back a b, is_clear_back men a b) refl
+back men c King a b h = rw (eqb_comm a b, abs_diff_back (file a) (file b), abs_diff_back (rank a) (rank b)) refl
+back men c Queen a b h = rw (eqb_comm a b, ← line_back a b, diagonal_back a b, is_clear_back men a b) refl
+back men c Rook a b h = rw (eqb_comm a b, ← line_back a b, is_clear_back men a b) refl
+back men c Bishop a b h = rw (eqb_comm a b, diagonal_back a b, is_clear_back men a b) refl
 back men c Knight a b h = rw (abs_diff_back (file a) (file b), abs_diff_back (rank a) (rank b)) refl
 back men c Pawn a b h = cc
 

@@ -20,6 +20,7 @@ use Rattle.chess_base.proofs.shared.Men.{same_colour-self}
 use Rattle.chess_moves.specs.Promoting.{would_promote}
 use Rattle.chess_moves.specs.Sets.{contains}
 use Rattle.chess_bits.specs.ties.Goes.{tried_promotion, goes, legal_or, man_goes}
+use Rattle.chess_base.proofs.shared.MoveKinds.{unpromoted_below}
 
 pub fits_low : (kind : Kind) → promotion_fits false (Some kind) ≡ false
 fits_low King = refl
@@ -177,17 +178,13 @@ man_sound p a b x at own no_pawn low high h = by (castle_of p (move_of a b None)
     by None e g = officer_goes p a b x at own no_pawn low high ∙ ap (castles_or_moves p (move_of a b None)) e ∙ g
     by (Some castle) e g = (legal_goes p (move_of a b None) g).0
 
-none_fits : (k : Option Kind) → promotion_fits false k ≡ true → k ≡ None
-none_fits None h = refl
-none_fits (Some kind) h = absurd (both_ways _ (fits_low kind) h)
-
 pub man_complete : (p : Setup) (m : Move) (x : Man) → man_at p.men m.from ≡ Some x → x.colour ≡ p.side
     → same_kind Pawn x.kind ≡ false → m.from < 64 → m.to < 64
     → is_legal p m ≡ true → man_goes p m.from m.to ≡ true
 man_complete p m x at own no_pawn low high h = by (castle_of p (move_of m.from m.to None)) refl
   where
     stays : m.promotion ≡ None
-    stays = none_fits m.promotion
+    stays = unpromoted_below m.promotion
         (ap (λ w. promotion_fits w m.promotion) (sym (not_promoting p m.from m.to x at no_pawn)) ∙ (legal_goes p m h).1)
 
     by : (o : Option Castle) → castle_of p (move_of m.from m.to None) ≡ o

@@ -15,10 +15,11 @@ use Rattle.chess_moves.specs.Sets.{contains}
 use Rattle.chess_bits.specs.ties.Changes.{StepsPlainly}
 use Rattle.chess_bits.specs.declared.table.Shape.TheVariants as shape
 use Rattle.chess_bits.specs.ties.Shapes.{in_shape}
-use Rattle.chess_bits.proofs.Attackers.{eq_back, pawn_back}
+use Rattle.chess_bits.proofs.Attackers.{pawn_back}
 use Rattle.chess_bits.proofs.TargetsOf.{captures_is}
 use Rattle.chess_bits.proofs.ByKind.{pawn_pattern, pawn_plain, no_pattern}
 use Rattle.chess_bits.proofs.Patterns.{not_fitting}
+use Rattle.chess_base.proofs.shared.MenAfter.{eqb_comm}
 
 -- ---- straight ahead
 
@@ -38,7 +39,7 @@ pub advances_are : (p : Setup) (to k one once crossed twice home all occupied : 
     → contains all k ≡ pawn_advances p (move_of k to None)
 unfolding pawn_advances is_double_advance
 advances_are p to k one once crossed twice home all occupied high low past pawn bare full single next free second rank_of union =
-    union ∙ rw (next k low past, single (forward p.side k), eq_back (forward p.side k) to, bare, pawn, rank_of k low)
+    union ∙ rw (next k low past, single (forward p.side k), eqb_comm (forward p.side k) to, bare, pawn, rank_of k low)
     (elim (cases_Bool (rank k == pawn_rank p.side)) [
       | inl at ↦
           let there = home_ahead p.side k low (eqb-true (rank k) (pawn_rank p.side) at) in
@@ -50,7 +51,7 @@ advances_are p to k one once crossed twice home all occupied high low past pawn 
             single (forward p.side (forward p.side k)),
             full (forward p.side k) there.1,
             not-not (is_none (man_at p.men (forward p.side k))),
-            eq_back (forward p.side (forward p.side k)) to,
+            eqb_comm (forward p.side (forward p.side k)) to,
           ) refl in
           rw (at, far)
           (same (to == forward p.side k) (to == forward p.side (forward p.side k))

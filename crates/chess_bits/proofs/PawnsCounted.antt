@@ -2,7 +2,6 @@
 use mathlib.Core.Bool.{not-not, or-false}
 use Rattle.std.proofs.Common.{◌≡◌, ℕ, zero, suc, ◌+◌, ◌-◌, ◌/◌, ◌<◌, ◌≤◌, inl, inr, Bool, true, false, not, ◌&&◌, ◌||◌, ◌==◌, cond, Option, Some, None, is_none, List, [], ◌∷◌, length, length-append, refl, sym, ap, ◌∙◌, arith}
 use Rattle.std.specs.List.{filter, flat_map, range_with_len}
-use Rattle.std.proofs.lemmas.List.Sums.{count_by-le-length, length-filter}
 use Rattle.std.proofs.lemmas.Bool.{or_parts, cases_Bool, eqb-false, eqb-true, eq-eqb, ne_eqb, both_ways, false_from_ne_true}
 use Rattle.std.proofs.lemmas.Bool.Decides.{nat_tests}
 use Rattle.chess_base.specs.declared.man.Colour.{Colour}
@@ -84,13 +83,6 @@ alone true n low =
 
 pub summed : {a b c d e f g h : ℕ} → a ≡ e → b ≡ f → c ≡ g → d ≡ h → a + b + c + d ≡ e + f + g + h
 summed p q r s = omega (arith, p, q, r, s)
-
--- a set has 64 squares at most
-pub members_fit : (w : ℕ) → length (members w) ≤ 64
-unfolding members squares
-members_fit w =
-    let all : length squares ≡ 64 = refl in
-    omega (arith, all, length-filter (λ k. contains w k) squares, count_by-le-length (λ k. contains w k) squares)
 
 -- ---- the squares to which an ordinary pawn may go
 

@@ -31,7 +31,7 @@ use Rattle.chess_bits.specs.ties.Goes.{lifted}
 use Rattle.chess_base.specs.declared.line.Line.{Line}
 use Rattle.chess_base.specs.declared.line.Line.TheVariants.{Rank, File, Diagonal, Antidiagonal}
 use Rattle.chess_base.specs.shared.Lines.{same_line, is_between_on_file, is_between_on_rank, is_between_on_diagonal}
-use Rattle.chess_bits.proofs.Attackers.{de_morgan, eq_back}
+use Rattle.chess_bits.proofs.Attackers.{de_morgan}
 use Rattle.chess_bits.proofs.BetweenSquares.{are_on_line}
 use Rattle.chess_bits.proofs.BoardSets.{theirs_of}
 use Rattle.chess_bits.proofs.Freely.{from_not}
@@ -39,6 +39,7 @@ use Rattle.chess_base.proofs.shared.Geometry.{between_back}
 use Rattle.chess_bits.proofs.KingAfter.{king_stays, check_after, legal_is}
 use Rattle.chess_bits.proofs.Lifted.{lifted_at}
 use Rattle.chess_bits.proofs.Quiet.{IsPlain, lands_over, lands_same, not_passing, plain_by, could_capture_as_clear}
+use Rattle.chess_base.proofs.shared.MenAfter.{eqb_comm}
 
 -- ---- no king arrives but one that leaves
 
@@ -280,7 +281,7 @@ one_hides p h r s b k all low hides here others none = record {
   alone = λ a high apart clear.
       let both = and_parts (is_between k b s) (not (is_none (man_at p.men s))) (sym (hides s low) ∙ here) in
       absurd (closed_by p.men a b k s all high low (between_back b k s ∙ both.0) (not-true _ both.1)
-      (eq_back s a ∙ apart) clear);
+      (eqb_comm s a ∙ apart) clear);
 }
   where
     from_without : (c t : Bool) → t ≡ false → (c && not t) ≡ false → c ≡ false

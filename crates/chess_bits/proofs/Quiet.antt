@@ -15,11 +15,10 @@ use Rattle.chess_base.specs.shared.Splits.{could_capture_as}
 use Rattle.chess_base.specs.declared.setup.Setup.{Setup}
 use Rattle.chess_base.specs.Moves.{is_en_passant, is_pseudo_legal, arriving_man, men_after, second_square_emptied}
 use Rattle.chess_base.specs.Castling.{castle_of, mover_end, castling_rook_to}
-use Rattle.chess_base.proofs.shared.MenAfter.{man_after, man_at-men_after}
+use Rattle.chess_base.proofs.shared.MenAfter.{man_after, man_at-men_after, eqb_comm}
 use Rattle.chess_base.proofs.shared.Squares.{some_square-at, some_square-none, each_square-all, each_square-at}
 use Rattle.chess_bits.specs.ties.Changes.{is_changed, is_filled}
 use Rattle.chess_bits.specs.ties.Goes.{lifted}
-use Rattle.chess_bits.proofs.Attackers.{eq_back}
 use Rattle.chess_bits.proofs.KingAfter.{mover_some, mover_own}
 use Rattle.chess_bits.proofs.Lifted.{lifted_at}
 
@@ -112,7 +111,7 @@ pub lands_over : (p : Setup) (m : Move) (k : ℕ) → length p.men ≡ 64 → m.
 lands_over p m k all low plain l =
     plain_after p m k plain l
     ∙ ap (λ o. cond (mover_end p m == k) (arriving_man (man_at p.men m.from) m.promotion) o)
-    (ap (λ t. cond t None (man_at p.men k)) (eq_back m.from k) ∙ sym (lifted_at p.men m.from k all low))
+    (ap (λ t. cond t None (man_at p.men k)) (eqb_comm m.from k) ∙ sym (lifted_at p.men m.from k all low))
 
 clear_before : (p : Setup) (m : Move) (a b : ℕ) → length p.men ≡ 64 → m.from < 64 → IsPlain p m
     → is_clear (men_after p m) a b ≡ true → is_clear (lifted p.men m.from) a b ≡ true
@@ -160,14 +159,14 @@ pub fills_end : (p : Setup) (m : Move) (k : ℕ) → is_man p.side King (man_at 
     → (is_man p.side Pawn (man_at p.men m.from) && is_at p.target m.to) ≡ false → (k == m.to) ≡ is_filled p m k
 unfolding castling_rook_to mover_end
 fills_end p m k no_king no_passing =
-    rw (no_king_castles p m no_king) (eq_back k m.to ∙ sym (or-false (m.to == k)))
+    rw (no_king_castles p m no_king) (eqb_comm k m.to ∙ sym (or-false (m.to == k)))
 
 pub changes_both : (p : Setup) (m : Move) (k : ℕ) → is_man p.side King (man_at p.men m.from) ≡ false
     → (is_man p.side Pawn (man_at p.men m.from) && is_at p.target m.to) ≡ false
     → ((k == m.to) || (k == m.from)) ≡ is_changed p m k
 unfolding second_square_emptied castling_rook_to mover_end
 changes_both p m k no_king no_passing =
-    rw (not_passing p m no_passing, no_king_castles p m no_king, eq_back k m.to, eq_back k m.from) (grind arith)
+    rw (not_passing p m no_passing, no_king_castles p m no_king, eqb_comm k m.to, eqb_comm k m.from) (grind arith)
 
 -- it is plain, as any move that is neither castling nor en passant
 pub plain_by : (p : Setup) (m : Move) → is_pseudo_legal p m ≡ true → castle_of p m ≡ None → is_en_passant p m ≡ false

@@ -11,7 +11,8 @@ use Rattle.chess_bits.specs.declared.table.Shape.TheVariants as shape
 use Rattle.chess_bits.specs.ties.Rays.{is_open}
 use Rattle.chess_bits.specs.ties.Shapes.{in_shape}
 use Rattle.chess_bits.specs.ties.Occupancy.{IsOccupied}
-use Rattle.chess_bits.proofs.Attackers.{de_morgan, eq_back, queen_parts}
+use Rattle.chess_bits.proofs.Attackers.{de_morgan, queen_parts}
+use Rattle.chess_base.proofs.shared.MenAfter.{eqb_comm}
 
 pub knight_from : (men : Men) (c : Colour) (a b : ℕ) → in_shape shape.Knight a b ≡ could_capture men c Knight a b
 unfolding in_shape could_capture
@@ -27,24 +28,24 @@ open_from w men a b h =
     each_square_same _ _ (λ x l. rw (h.of_men x l) (de_morgan (is_between a b x) (is_none (man_at men x))))
 
 pub line_back : (a b : ℕ) → share_rank_or_file b a ≡ share_rank_or_file a b
-line_back a b = rw (eq_back (file b) (file a), eq_back (rank b) (rank a)) refl
+line_back a b = rw (eqb_comm (file b) (file a), eqb_comm (rank b) (rank a)) refl
 
 pub rook_from : (w : ℕ) (men : Men) (c : Colour) (a b : ℕ) → IsOccupied w men
     → (not (b == a) && share_rank_or_file b a && is_open w a b) ≡ could_capture men c Rook a b
 unfolding could_capture
-rook_from w men c a b h = rw (eq_back b a, line_back a b, open_from w men a b h) refl
+rook_from w men c a b h = rw (eqb_comm b a, line_back a b, open_from w men a b h) refl
 
 pub bishop_from : (w : ℕ) (men : Men) (c : Colour) (a b : ℕ) → IsOccupied w men
     → (not (b == a) && share_diagonal b a && is_open w a b) ≡ could_capture men c Bishop a b
 unfolding could_capture
-bishop_from w men c a b h = rw (eq_back b a, diagonal_back b a, open_from w men a b h) refl
+bishop_from w men c a b h = rw (eqb_comm b a, diagonal_back b a, open_from w men a b h) refl
 
 pub queen_from : (w : ℕ) (men : Men) (c : Colour) (a b : ℕ) → IsOccupied w men
     → ((not (b == a) && share_rank_or_file b a && is_open w a b)
     || (not (b == a) && share_diagonal b a && is_open w a b)) ≡ could_capture men c Queen a b
 unfolding could_capture
 queen_from w men c a b h =
-    rw (eq_back b a, line_back a b, diagonal_back b a, open_from w men a b h)
+    rw (eqb_comm b a, line_back a b, diagonal_back b a, open_from w men a b h)
     (queen_parts (not (a == b)) (share_rank_or_file a b) (share_diagonal a b) (is_clear men a b))
 
 -- the same of the squares of a set

@@ -20,7 +20,7 @@ use chess_base::{Kind, Move, Square};
 use chess_moves::{SquareSet, would_promote};
 
 // The set that has just the given square; the empty set for `None`.
-#[tactic(auto, using(crate::proofs::Attackers::eq_back))]
+#[tactic(auto, using(chess_base::proofs::shared::MenAfter::eqb_comm))]
 pub(crate) fn set_of(square: Option<Square>) -> SquareSet
     ensures { (k : ℕ) → contains result k ≡ is_at square k }
 {

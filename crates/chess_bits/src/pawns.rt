@@ -162,7 +162,7 @@ impl Bits<'_> {
     // these ways at once: eight pawns take as long as one, where `pawn_targets` would be called for each (the gain was
     // not measured apart). The squares `blocked` have a piece right ahead; moved back one more rank, they are the
     // squares with a piece two steps ahead.
-    #[tactic(auto, using(crate::proofs::PawnsCounted::members_fit))]
+    #[tactic(auto, using(chess_moves::proofs::shared::Members::length_members))]
     pub(crate) fn count_ordinary_pawns(&self, pawns: SquareSet) -> usize
         requires free { AreFree self.now Pawn pawns }
         requires ordinary { (k : ℕ) → k < 64 → contains pawns k ≡ true → goes_specially self.now k ≡ false }

@@ -50,7 +50,7 @@ and_later respond s (l ∷ ls) more text ends = sym (some_for [] l ls text) ∙ 
 
 pub answers_input : {S : Type 0} (respond : Server S) (s s' : S) (end : End) (d d' : Devices)
     → Ran (Served respond s s' (Ok end)) d d' → AnswersInput respond s s' d d'
-answers_input {S} respond s s' Quit d d' (i, o, g, k, (ok, (all, next, ends), early)) =
+answers_input {S} respond s s' Quit d d' (i, o, g, k, (none, (ok, (all, next, ends), early))) =
     known_lines d d' i (IsAll respond s s' d d') g
     (λ more. subst (λ (v : Response S). OutputTook d.output d'.output (all_for (lines_read i ++ more) v.text)
     × (s' ≡ v.state)) (sym (stays_ended respond s (lines_read i) more ends)) (
@@ -58,7 +58,7 @@ answers_input {S} respond s s' Quit d d' (i, o, g, k, (ok, (all, next, ends), ea
           (all ∙ and_later respond s (lines_read i) more (responses respond s (lines_read i)).text ends) k,
       next,
     ))
-answers_input {S} respond s s' InputEnded d d' (i, o, g, k, ((ended, ok), (all, next, ends))) =
+answers_input {S} respond s s' InputEnded d d' (i, o, g, k, (none, ((ended, ok), (all, next, ends)))) =
     let here : IsAll respond s s' d d' (lines_read i) = (subst (OutputTook d.output d'.output) all k, next) in
     Consumes-whole d.input.known_bytes d'.input.known_bytes i.text
     (λ xs. IsAll respond s s' d d' (lines_of xs)) g.bytes (g.at_end ended)

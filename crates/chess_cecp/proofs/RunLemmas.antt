@@ -36,6 +36,7 @@ pub record SoFar {S : Type 0} (respond : Server S) (r r' : InputState) (w w' : O
   pub on_demand : length (stream_lines COMMAND_LEN false (before_piece r'.last_len given)) ≤ length done
   pub failures : r'.failure_count ≡ r.failure_count
   pub ends : r'.end_count ≡ r.end_count
+  pub silences : r'.silence_count ≡ r.silence_count
 
 pub start : {S : Type 0} (respond : Server S) (r : InputState) (w : OutputState) (s : S)
     → SoFar respond r r w w s s nothing_held [] []
@@ -49,6 +50,7 @@ start respond r w s = record {
       rw (none, nothing_left COMMAND_LEN false) (omega arith));
   failures = refl;
   ends = refl;
+  silences = refl;
 }
 
 -- a line was reached: the lines that were given are those that are done, and that one, and what follows it
@@ -59,6 +61,7 @@ pub record Reached (r r' : InputState) (given : List ℕ) (reported : Bool) (don
   pub on_demand : length (stream_lines COMMAND_LEN false (before_piece r'.last_len given)) ≤ length done
   pub failures : r'.failure_count ≡ r.failure_count
   pub ends : r'.end_count ≡ saturating_increment_if reported r.end_count
+  pub silences : r'.silence_count ≡ r.silence_count
   pub at_end : reported ≡ true → IsAtEnd r'.known_bytes
 
 of_true : (b : Bool) (P Q : Type 0) → b ≡ true → MatchBool b P Q → P
@@ -78,7 +81,14 @@ IsReached r r' done line = (given : List ℕ) × (reported : Bool) × (after : L
 gave : {r r' : InputState} {given : List ℕ} {reported : Bool} {done : List LineSeen} {line : LineSeen}
     {after : List LineSeen} → Reached r r' given reported done line after
     → InputGave r r' (came r' given reported false)
-gave at = record { bytes = at.bytes; early = refl; at_end = at.at_end; ends = at.ends; failures = at.failures }
+gave at = record {
+  bytes = at.bytes;
+  early = refl;
+  at_end = at.at_end;
+  ends = at.ends;
+  failures = at.failures;
+  silences = at.silences;
+}
 
 -- the line that was reached, and the lines before it
 line_there : (done : List LineSeen) (line : LineSeen) (after : List LineSeen)
@@ -112,6 +122,7 @@ module _ {S : Type 0} {respond : Server S} {r r' : InputState} {w w' : OutputSta
     on_demand = waited r'' more waits;
     failures = got.failures ∙ f.failures;
     ends = got.ends ∙ ap saturating_increment f.ends;
+    silences = got.silences ∙ f.silences;
     at_end = λ e. got.at_end;
   }
 
@@ -129,6 +140,7 @@ module _ {S : Type 0} {respond : Server S} {r r' : InputState} {w w' : OutputSta
           on_demand = waited r'' more waits;
           failures = g.failures ∙ f.failures;
           ends = g.ends ∙ f.ends;
+          silences = g.silences ∙ f.silences;
           at_end = λ e. cc;
         },
       )
@@ -174,6 +186,7 @@ module _ {S : Type 0} {respond : Server S} {r r' : InputState} {w w' : OutputSta
           on_demand = (let a = waited r'' more waits in omega (arith, length-append done (line ∷ [])));
           failures = g.failures ∙ f.failures;
           ends = g.ends ∙ f.ends;
+          silences = g.silences ∙ f.silences;
         },
       )
 
@@ -189,8 +202,11 @@ module _ {S : Type 0} {respond : Server S} {r r' : InputState} {w w' : OutputSta
         (took_last w w' w'' done front (respond s' line).text f.took took),
     (
       refl,
-      rw (at.lines, one_last line after over) (refl, next, over),
-      early_goes_on respond s reported r''.last_len all done line after at.lines f.goes_on at.on_demand,
+      (
+        refl,
+        rw (at.lines, one_last line after over) (refl, next, over),
+        early_goes_on respond s reported r''.last_len all done line after at.lines f.goes_on at.on_demand,
+      ),
     ),
   )
 
@@ -206,14 +222,17 @@ module _ {S : Type 0} {respond : Server S} {r r' : InputState} {w w' : OutputSta
     (
       refl,
       (
-        length done,
-        line,
-        rw at.lines (line_there done line after),
-        at.on_demand,
-        rw (at.lines, take-append_seam done (line ∷ after)) (
-          f.goes_on,
-          (begun, (rest, is ∙ ap (λ v. (respond v line).text) f.state), refl),
-          next ∙ ap (λ v. (respond v line).state) f.state,
+        refl,
+        (
+          length done,
+          line,
+          rw at.lines (line_there done line after),
+          at.on_demand,
+          rw (at.lines, take-append_seam done (line ∷ after)) (
+            f.goes_on,
+            (begun, (rest, is ∙ ap (λ v. (respond v line).text) f.state), refl),
+            next ∙ ap (λ v. (respond v line).state) f.state,
+          ),
         ),
       ),
     ),
@@ -232,7 +251,7 @@ module _ {S : Type 0} {respond : Server S} {r r' : InputState} {w w' : OutputSta
         all_for (done ++ line ∷ []) (front ++ (respond s' line).text),
         gave at,
         took_one_more w w' w'' done line front (respond s' line).text f.took took,
-        ((refl, refl), rw (at.lines, one_more line) (refl, next, on)),
+        (refl, ((refl, refl), rw (at.lines, one_more line) (refl, next, on))),
       )
 
   -- a run that ends where nothing is left
@@ -247,9 +266,10 @@ module _ {S : Type 0} {respond : Server S} {r r' : InputState} {w w' : OutputSta
       at_end = λ e. got.at_end;
       ends = got.ends ∙ ap saturating_increment f.ends;
       failures = got.failures ∙ f.failures;
+      silences = got.silences ∙ f.silences;
     },
     f.took,
-    ((refl, refl), rw (f.lines true more, got.lines true, append-nil done) (refl, f.state, f.goes_on)),
+    (refl, ((refl, refl), rw (f.lines true more, got.lines true, append-nil done) (refl, f.state, f.goes_on))),
   )
 
   -- a run that ends at a read that failed
@@ -265,9 +285,10 @@ module _ {S : Type 0} {respond : Server S} {r r' : InputState} {w w' : OutputSta
       at_end = λ e. cc;
       ends = got.ends ∙ f.ends;
       failures = got.failures ∙ ap saturating_increment f.failures;
+      silences = got.silences ∙ f.silences;
     },
     f.took,
-    (refl, refl, rw (f.lines false more, got.whole, append-nil done) (refl, f.state, f.goes_on)),
+    (refl, (refl, refl, rw (f.lines false more, got.whole, append-nil done) (refl, f.state, f.goes_on))),
   )
 
 pub over_said : (b : Bool) (go : Go) → go ≡ (if b then goes.Quit else goes.On) → go ≡ goes.Quit → b ≡ true

@@ -1,7 +1,7 @@
 -- Results as they are declared and reported, and what `showstate` shows of a game.
 use Rattle.std.specs.Prelude.{ℕ, ◌-◌, ◌==◌, ◌&&◌, nat_le, if◌then◌else◌, List, [], ◌++◌, length, take, drop, slice_index_or, codes, decimal, Option, None, Some}
 use Rattle.std.specs.Option.{option_map_or}
-use Rattle.chess_base.specs.Letters.{byte}
+use Rattle.byte_devices.specs.Bytes.{byte}
 use Rattle.chess_game.specs.Ends.{verdict_result, claims, result_text}
 use Rattle.chess_game.specs.Game.{State, current, verdict_now}
 use Rattle.chess_game.specs.Results.{cut_comment}

@@ -1,7 +1,7 @@
 -- What a session answers: the table of commands, a row for each kind of command. From one line to the next only the
 -- game changes.
 use Rattle.std.specs.Prelude.{◌⊎◌, ℕ, nat_le, nat_lt, if◌then◌else◌, true, List, [], ◌∷◌, ◌++◌, length, codes, decimal, Option, None, Some, Result, Ok, Err}
-use Rattle.chess_base.specs.Letters.{new_line, space}
+use Rattle.byte_devices.specs.Bytes.{new_line, space}
 use Rattle.std.specs.Str.{bytes_eq}
 use Rattle.byte_devices.specs.Devices.{Begins}
 use Rattle.chess_base.specs.declared.fen_fault.FenFault.{FenFault}

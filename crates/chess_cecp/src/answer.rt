@@ -5,7 +5,7 @@ ghost use Rattle.std.specs.List.{flat_map};
 ghost use Rattle.std.specs.Prelude.{◌≡◌, ◌+◌, ◌*◌, ◌≤◌, ◌++◌, ◌∷◌, [], if◌then◌else◌, length, codes, decimal};
 ghost use Rattle.arrayvec.specs.ArrayVec.{array_vec_len};
 ghost use Rattle.std.specs.Option.{option_map, option_map_or};
-ghost use Rattle.chess_base.specs.Letters.{new_line, space};
+ghost use Rattle.byte_devices.specs.Bytes.{new_line, space};
 ghost use Rattle.chess_text.specs.San.{shown_move};
 ghost use Rattle.chess_base.specs.Faults.{fen_fault_name};
 ghost use Rattle.chess_game.specs.Ends.{verdict_result, result_text};

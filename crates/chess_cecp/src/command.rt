@@ -1,7 +1,7 @@
 //! What a line commands.
 
 ghost use Rattle.std.specs.Prelude.{◌≡◌, ◌+◌, ◌<◌, ◌≤◌, ◌++◌, length};
-ghost use Rattle.text_lines.specs.Lines.{is_blank};
+ghost use Rattle.byte_devices.specs.Bytes.{is_blank};
 ghost use Rattle.chess_cecp.specs.Commands.{command_of, named_command, is_ignored};
 ghost use Rattle.text_lines.specs.Words.{word_of, argument_of, command_number};
 ghost use Rattle.chess_cecp.specs.ties.Ignored.{is_engine_command, is_opponent_or_clock_command};

@@ -8,7 +8,7 @@ use Rattle.chess_base.specs.declared.man.Move.{Move}
 use Rattle.chess_base.specs.declared.man.Variant.{Variant}
 use Rattle.chess_base.specs.declared.setup.Setup.{Setup}
 use Rattle.chess_base.specs.Initial.{initial_setup_of}
-use Rattle.chess_base.specs.Letters.{is_digit}
+use Rattle.byte_devices.specs.Bytes.{is_digit, after_byte_order_mark}
 use Rattle.chess_game.specs.Game.{State, from_start, played, current, verdict_now}
 use Rattle.chess_game.specs.declared.results.Outcome.{Outcome}
 use Rattle.chess_game.specs.declared.verdicts.Verdict.{Verdict}
@@ -21,7 +21,7 @@ use Rattle.chess_pgn.specs.declared.read.PgnFaultKind.TheVariants.{AfterEnd, Too
 use Rattle.pgn_writer.specs.declared.termination.Termination.{Termination}
 use Rattle.chess_pgn.specs.GameRead.{GameRead, Row, Goes_on, Ends, Fails, failed, move_row, row, after_row, moves_read, last_start, tagged_variant, read_after_tags, pgn_read}
 use Rattle.chess_pgn.specs.LastTags.{says_nothing, tag_section}
-use Rattle.chess_pgn.specs.Tokens.{Token, Skip, Tag, Word, Bad_tag, Unclosed_comment, Unclosed_variation, Bad, after_byte_order_mark, tokens_from}
+use Rattle.chess_pgn.specs.Tokens.{Token, Skip, Tag, Word, Bad_tag, Unclosed_comment, Unclosed_variation, Bad, tokens_from}
 use Rattle.pgn_writer.specs.Outcomes.{outcome_of}
 use Rattle.chess_pgn.specs.Words.{is_marks}
 use Rattle.chess_pgn.proofs.shared.Games.{fens, termination_in}

@@ -1,7 +1,7 @@
 -- A position that a session shows and a session sets (CECP, version 2: command `setboard`; `showfen` is this project's
 -- own).
 use Rattle.std.specs.Prelude.{◌≡◌, ℕ, false, List, [], ◌∷◌, ◌++◌, codes}
-use Rattle.chess_base.specs.Letters.{new_line}
+use Rattle.byte_devices.specs.Bytes.{new_line}
 use Rattle.chess_game.specs.Game.{IsPlayable, current, from_start}
 use Rattle.text_lines.specs.Lines.{LineSeen}
 use Rattle.chess_cecp.specs.Held.{SessionSeen, game_held}

@@ -1,7 +1,7 @@
 -- On positions of normal chess a FEN is written as for normal chess alone.
 use Rattle.std.proofs.Common.{◌≡◌, ℕ, [], ◌∷◌, ◌++◌, Option, Some, None, decimal, refl, ap, ◌∙◌}
 use Rattle.std.specs.List.{join_with_byte}
-use Rattle.chess_base.specs.Letters.{byte, space}
+use Rattle.byte_devices.specs.Bytes.{byte, space}
 use Rattle.chess_base.specs.declared.man.Colour.{Colour}
 use Rattle.chess_base.specs.declared.man.Colour.TheVariants.{White, Black}
 use Rattle.chess_base.specs.declared.man.CastlingSide.{CastlingSide}

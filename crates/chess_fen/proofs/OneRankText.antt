@@ -5,7 +5,7 @@ use Rattle.std.specs.List.{AllZip}
 use Rattle.std.proofs.lemmas.Bool.{and_parts}
 use Rattle.std.proofs.lemmas.Bool.Decides.{nat_tests}
 use Rattle.chess_base.specs.declared.man.Man.{Man}
-use Rattle.chess_base.specs.Letters.{is_digit}
+use Rattle.byte_devices.specs.Bytes.{is_digit}
 use Rattle.chess_base.specs.Letters.{letter}
 use Rattle.chess_fen.specs.Denotation.{StandsFor}
 use Rattle.chess_fen.specs.Writing.{fen_rank}

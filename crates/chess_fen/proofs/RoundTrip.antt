@@ -17,7 +17,8 @@ use Rattle.chess_base.specs.declared.man.Rights.{Rights}
 use Rattle.chess_base.specs.declared.man.Variant.{Variant}
 use Rattle.chess_base.specs.declared.man.Variant.TheVariants.{Normal, Fischerandom}
 use Rattle.chess_base.specs.declared.setup.Setup.{Setup}
-use Rattle.chess_base.specs.Letters.{is_digit, letter}
+use Rattle.chess_base.specs.Letters.{letter}
+use Rattle.byte_devices.specs.Bytes.{is_digit}
 use Rattle.chess_base.specs.Men.{Men}
 use Rattle.chess_base.specs.Sound.{IsSound}
 use Rattle.chess_base.specs.Castling.{home_square, rook_file, right_of, right_is_sound}

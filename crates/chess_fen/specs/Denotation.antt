@@ -7,7 +7,8 @@ use Rattle.chess_base.specs.declared.man.Variant.{Variant}
 use Rattle.chess_base.specs.declared.man.Variant.TheVariants.{Normal}
 use Rattle.chess_base.specs.Squares.{rank}
 use Rattle.chess_base.specs.declared.setup.Setup.{Setup}
-use Rattle.chess_base.specs.Letters.{byte, letter}
+use Rattle.chess_base.specs.Letters.{letter}
+use Rattle.byte_devices.specs.Bytes.{byte}
 use Rattle.text_lines.specs.Words.{short_number}
 use Rattle.chess_fen.specs.RightNames.{names_rights_well, rights_in}
 use Rattle.chess_fen.specs.Texts.{from_top, is_castling_field, fields_of}

@@ -11,7 +11,8 @@ use Rattle.chess_base.specs.declared.man.Colour.{Colour}
 use Rattle.chess_base.specs.declared.man.Colour.TheVariants.{White, Black}
 use Rattle.chess_base.specs.declared.man.Man.{Man}
 use Rattle.chess_base.specs.ByColour.{by_colour}
-use Rattle.chess_base.specs.Letters.{byte, space, man_with_letter}
+use Rattle.chess_base.specs.Letters.{man_with_letter}
+use Rattle.byte_devices.specs.Bytes.{byte, space}
 
 -- ---- ranks
 

@@ -9,7 +9,8 @@ use Rattle.chess_base.specs.declared.man.Variant.{Variant}
 use Rattle.chess_base.specs.declared.man.Rights.{Rights}
 use Rattle.chess_fen.specs.RightNames.{all_rights, right_letter}
 use Rattle.chess_base.specs.declared.setup.Setup.{Setup}
-use Rattle.chess_base.specs.Letters.{byte, space, square_text, letter}
+use Rattle.chess_base.specs.Letters.{square_text, letter}
+use Rattle.byte_devices.specs.Bytes.{byte, space}
 use Rattle.chess_base.specs.ByColour.{by_colour}
 use Rattle.chess_base.specs.Castling.{right_of}
 use Rattle.chess_base.specs.Initial.{initial_setup}

@@ -2,7 +2,7 @@
 
 ghost use Rattle.std.specs.Prelude.{◌≡◌, ◌∷◌, [], IfSome, IfNone, not, position, drop, ◌==◌};
 ghost use Rattle.std.specs.List.{position_or_len, before_first};
-ghost use Rattle.chess_base.specs.Letters.{space};
+ghost use Rattle.byte_devices.specs.Bytes.{space};
 ghost use Rattle.chess_fen.specs.Texts.{fields_of};
 ghost use Rattle.chess_fen.specs.ties.Fields.{FieldsAre};
 

@@ -2,7 +2,7 @@
 
 ghost use Rattle.std.specs.Prelude.{◌≡◌, ◌<◌, ◌+◌, ◌*◌, ◌==◌, take, replicate, None, IfSome, IfNone};
 ghost use Rattle.std.specs.List.{before_first};
-ghost use Rattle.chess_base.specs.Letters.{space};
+ghost use Rattle.byte_devices.specs.Bytes.{space};
 ghost use Rattle.chess_fen.specs.Texts.{placement_of};
 ghost use Rattle.chess_fen.specs.ties.Runs.{NoRankIsRead, RankIsPlaced, SlashIsRead, NoSlashIsRead, Ends, PlacementIsRead};
 

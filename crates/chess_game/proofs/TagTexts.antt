@@ -2,7 +2,8 @@
 use Rattle.std.proofs.Common.{◌≡◌, ℕ, ◌≤◌, List, length, map, take, ap, arith}
 use Rattle.std.proofs.lemmas.Bool.Decides.{nat_tests}
 use Rattle.std.proofs.lemmas.List.{length-map, length-take}
-use Rattle.chess_game.specs.Results.{shown_byte, IsTagText}
+use Rattle.chess_game.specs.Results.{IsTagText}
+use Rattle.byte_devices.specs.Bytes.{shown_byte}
 use Rattle.chess_game.proofs.CommentTexts.{kept_text}
 
 abbrev IsPrintable : ℕ → Type 0

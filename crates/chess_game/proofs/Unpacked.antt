@@ -1,10 +1,9 @@
 -- The pieces of packed sets, put on their squares one after another, kind by kind.
 use mathlib.Core.Bool.{and-false}
-use Rattle.std.proofs.Common.{◌≡◌, ◌≢◌, ℕ, ◌<◌, ◌≤◌, ◌+◌, ◌==◌, ◌⊎◌, inl, inr, Bool, true, false, not, ◌&&◌, if◌then◌else◌, refl, sym, ◌∙◌, ap, subst, arith, Option, Some, None, List, [], ◌∷◌, length, set, get_or-set_same, get_or-set_other, length-set, replicate}
+use Rattle.std.proofs.Common.{◌≡◌, ◌≢◌, ℕ, ◌<◌, ◌==◌, ◌⊎◌, inl, inr, Bool, true, false, ◌&&◌, if◌then◌else◌, refl, sym, ◌∙◌, ap, subst, arith, Option, Some, None, List, [], ◌∷◌, length, set, get_or-set_same, get_or-set_other, length-set, replicate}
 use Rattle.std.proofs.lemmas.Bool.{cases_Bool, cases_eq, eqb-true, ne_eqb}
 use Rattle.std.proofs.lemmas.List.{ext_get_or, get_or-replicate}
-use Rattle.std.proofs.lemmas.List.Filters.{length-filter_both}
-use Rattle.std.specs.List.{filter, list_any}
+use Rattle.std.specs.List.{list_any}
 use Rattle.chess_base.specs.declared.man.Colour.{Colour}
 use Rattle.chess_base.specs.declared.man.Kind.{Kind}
 use Rattle.chess_base.specs.declared.man.Kind.TheVariants.{King, Queen, Rook, Bishop, Knight, Pawn}
@@ -68,16 +67,6 @@ others_left w v s k low taken apart =
 
 none_there : (w k : ℕ) → k < 64 → members w ≡ [] → contains w k ≡ false
 none_there w k low none = has_is w k low ∙ ap (λ ms. list_any (λ x. x == k) ms) none
-
--- a set has at most 64 members
-pub few_members : (w : ℕ) → length (members w) ≤ 64
-unfolding members squares
-few_members w =
-    let is : length (members w) ≡ length (filter (λ k. contains w k) squares) = refl in
-    let all : length squares ≡ 64 = refl in
-    let both : length (filter (λ k. contains w k) squares) + length (filter (λ k. not (contains w k)) squares)
-    ≡ length squares = length-filter_both (λ k. contains w k) (λ k. not (contains w k)) (λ k. refl) squares in
-    omega (arith, is, all, both)
 
 -- ---- one kind
 

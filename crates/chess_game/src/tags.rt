@@ -2,9 +2,11 @@
 
 ghost use Rattle.chess_game.specs.declared.tags.TheConstants.{TAG_LEN};
 ghost use Rattle.std.specs.Prelude.{◌≡◌, ◌≤◌, length, map};
-ghost use Rattle.chess_game.specs.Results.{shown_byte, cut_tag, IsTagText};
+ghost use Rattle.chess_game.specs.Results.{cut_tag, IsTagText};
+ghost use Rattle.byte_devices.specs.Bytes.{shown_byte};
 
 use arrayvec::ArrayVec;
+use byte_devices::shown_byte;
 use std::marker::Model;
 
 // The most bytes of a tag's text.
@@ -46,13 +48,6 @@ impl TagText {
     {
         self.text.as_slice()
     }
-}
-
-// A byte as a tag's text holds it: `?` in place of what is no printable ASCII.
-fn shown_byte(byte: u8) -> u8
-    ensures { result ≡ shown_byte byte }
-{
-    if byte < 32 || byte > 126 { b'?' } else { byte }
 }
 
 // The bytes with `?` in place of what is no printable ASCII.

@@ -8,7 +8,9 @@ use Rattle.chess_base.specs.declared.man.Colour.{Colour}
 use Rattle.chess_base.specs.Men.{other}
 use Rattle.text_lines.specs.Lines.{Held, LineSeen, nothing_held}
 use Rattle.text_lines.specs.Next.{NextLine, NextLineUntil}
-use Rattle.chess_match.specs.Acts.{Act, Block, Sends, SendFails, Happens}
+use Rattle.chess_match.specs.Acts.{Act, Block, Sends, SendFails, Happens, is_over}
+use Rattle.chess_match.specs.Effects.{Match, effect}
+use Rattle.chess_match.specs.Rules.{Rules}
 use Rattle.chess_match.specs.laws.Laws.{moments_shown, notes_given}
 use Rattle.chess_match.specs.Events.{Line, Opened, Silent, OutputEnds, FailsToRead, FailsToWrite}
 use Rattle.chess_base.specs.Options.{list_if}
@@ -16,7 +18,7 @@ use Rattle.chess_match.specs.Lines.{SentLine, bytes_of}
 use Rattle.chess_match.specs.Notes.{Note, Noted, Happened, Gives, WasNoted}
 use Rattle.chess_match.specs.Reasons.{is_write_fault_of}
 use Rattle.chess_match.specs.Run.{ClockReadings, text_read}
-use Rattle.chess_match.specs.Table.{Does, ReadsLine, FindsNoLine, ReadsClock, Notes, Passes, Step, reading_of, reading_until, sending, watched}
+use Rattle.chess_match.specs.Table.{Does, LooksFor, ReadsLine, FindsNoLine, ReadsClock, Notes, Passes, Step, reading_of, reading_until, sending, watched}
 use Rattle.chess_match.specs.declared.reason.Reason.{Reason}
 use Rattle.chess_match.specs.declared.run.TheConstants.{ENGINE_LINE_LEN}
 use Rattle.chess_match.specs.ties.AtDesk.{Did, NotedSince, ReadsOf, WritesAt, WritesOf, acts_in, moments_in, notes_in}
@@ -33,6 +35,7 @@ acts_in-append [] J = refl
 acts_in-append (Does a ∷ K) J = ap (λ (l : List Act). a ∷ l) (acts_in-append K J)
 acts_in-append (ReadsLine c t ∷ K) J = ap (λ (l : List Act). Happens (Line c t 0) ∷ l) (acts_in-append K J)
 acts_in-append (FindsNoLine c ∷ K) J = ap (λ (l : List Act). Happens (Silent c 0) ∷ l) (acts_in-append K J)
+acts_in-append (LooksFor c u ∷ K) J = acts_in-append K J
 acts_in-append (ReadsClock c n ∷ K) J = acts_in-append K J
 acts_in-append (Notes n ∷ K) J = acts_in-append K J
 
@@ -41,6 +44,7 @@ notes_in-append [] J = refl
 notes_in-append (Does a ∷ K) J = notes_in-append K J
 notes_in-append (ReadsLine c t ∷ K) J = notes_in-append K J
 notes_in-append (FindsNoLine c ∷ K) J = notes_in-append K J
+notes_in-append (LooksFor c u ∷ K) J = notes_in-append K J
 notes_in-append (ReadsClock c n ∷ K) J = notes_in-append K J
 notes_in-append (Notes n ∷ K) J = ap (λ (l : List Note). n ∷ l) (notes_in-append K J)
 
@@ -48,6 +52,7 @@ moments_in-append : (K J : List Step) → moments_in (K ++ J) ≡ moments_in K +
 moments_in-append [] J = refl
 moments_in-append (ReadsClock c n ∷ K) J = ap (λ (l : List ℕ). n ∷ l) (moments_in-append K J)
 moments_in-append (Does a ∷ K) J = moments_in-append K J
+moments_in-append (LooksFor c u ∷ K) J = moments_in-append K J
 moments_in-append (ReadsLine c t ∷ K) J = moments_in-append K J
 moments_in-append (FindsNoLine c ∷ K) J = moments_in-append K J
 moments_in-append (Notes n ∷ K) J = moments_in-append K J
@@ -209,18 +214,18 @@ read_step S (Ok (Some line)) = at line.ended
     at true = (refl, refl, refl)
     at false = (refl, refl, refl)
 
--- a step by which an output was read, in this one act
+-- a step by which an output was read, in this one act, after a look for a line began
 found_moves : (engines engines' : Colour → Devices) (held held' : Colour → Held) (coming : ℕ → Option ℕ)
-    (witness : Noted) (names : List ℕ) (S : Colour) (step : Step) (act : Act)
+    (witness : Noted) (names : List ℕ) (S : Colour) (until : Option ℕ) (step : Step) (act : Act)
     → (acts_in (step ∷ []) ≡ act ∷ []) × (moments_in (step ∷ []) ≡ []) × (notes_in (step ∷ []) ≡ [])
     → OutputAt S act (engines S).input (engines' S).input (held S) (held' S)
     → OutputAt (other S) act (engines (other S)).input (engines' (other S)).input (held (other S)) (held' (other S))
     → ((X : Colour) (w : OutputState) → WritesAt X act w w)
     → (engines' S).output ≡ (engines S).output → engines' (other S) ≡ engines (other S)
     → Passes (λ begun K. Did begun engines held coming witness names K)
-    (λ begun K. Did begun engines' held' coming witness names K) (step ∷ [])
-found_moves engines engines' held held' coming witness names S step act e own_at other_at writes same others =
-    moved engines engines' held held' coming coming witness witness names names (step ∷ []) (record {
+    (λ begun K. Did begun engines' held' coming witness names K) (LooksFor S until ∷ step ∷ [])
+found_moves engines engines' held held' coming witness names S until step act e own_at other_at writes same others =
+    moved engines engines' held held' coming coming witness witness names names (LooksFor S until ∷ step ∷ []) (record {
       named = refl;
       read = λ X. subst (λ (H : List Act). ReadsOf X H (engines X).input (engines' X).input (held X) (held' X))
           (sym e.0) (
@@ -240,122 +245,143 @@ found_moves engines engines' held held' coming witness names S step act e own_at
 
 -- a line was read, or an end or a failure came
 pub read_moves : {E : Type 0} (engines engines' : Colour → Devices) (held held' : Colour → Held) (coming : ℕ → Option ℕ)
-    (witness : Noted) (names : List ℕ) (S : Colour) (result : Result (Option LineSeen) E)
+    (witness : Noted) (names : List ℕ) (S : Colour) (until : Option ℕ) (result : Result (Option LineSeen) E)
     → NextLine ENGINE_LINE_LEN (engines S).input (engines' S).input (held S) (held' S) result
     → (engines' S).output ≡ (engines S).output → engines' (other S) ≡ engines (other S)
     → held' (other S) ≡ held (other S)
     → Passes (λ begun K. Did begun engines held coming witness names K)
-    (λ begun K. Did begun engines' held' coming witness names K) (reading_of S result ∷ [])
-read_moves engines engines' held held' coming witness names S result next same others kept =
-    found_moves engines engines' held held' coming witness names S (reading_of S result) (act_read S result)
+    (λ begun K. Did begun engines' held' coming witness names K) (LooksFor S until ∷ reading_of S result ∷ [])
+read_moves engines engines' held held' coming witness names S until result next same others kept =
+    found_moves engines engines' held held' coming witness names S until (reading_of S result) (act_read S result)
     (read_step S result) (own_read S (engines S).input (engines' S).input (held S) (held' S) result next)
     (other_read S (engines (other S)).input (engines' (other S)).input (held (other S)) (held' (other S)) result
     (ap (λ d. d.input) others) kept) (λ X w. read_writes S X result w) same others
 
 -- so it was, or no line had come in time
 pub until_moves : {E : Type 0} (engines engines' : Colour → Devices) (held held' : Colour → Held)
-    (coming : ℕ → Option ℕ) (witness : Noted) (names : List ℕ) (S : Colour) (result : Result (Option Bool) E)
-    (line : LineSeen)
+    (coming : ℕ → Option ℕ) (witness : Noted) (names : List ℕ) (S : Colour) (until : Option ℕ)
+    (result : Result (Option Bool) E) (line : LineSeen)
     → NextLineUntil ENGINE_LINE_LEN (engines S).input (engines' S).input (held S) (held' S) result line
     → (engines' S).output ≡ (engines S).output → engines' (other S) ≡ engines (other S)
     → held' (other S) ≡ held (other S)
     → Passes (λ begun K. Did begun engines held coming witness names K)
-    (λ begun K. Did begun engines' held' coming witness names K) (reading_until S result line ∷ [])
-until_moves {E = E} engines engines' held held' coming witness names S (Ok None) line next same others kept =
-    found_moves engines engines' held held' coming witness names S (FindsNoLine S) (Happens (Silent S 0))
+    (λ begun K. Did begun engines' held' coming witness names K) (LooksFor S until ∷ reading_until S result line ∷ [])
+until_moves {E = E} engines engines' held held' coming witness names S until (Ok None) line next same others kept =
+    found_moves engines engines' held held' coming witness names S until (FindsNoLine S) (Happens (Silent S 0))
     (refl, refl, refl) (own_silent E S (engines S).input (engines' S).input (held S) (held' S) line next)
     (other_silent S (engines (other S)).input (engines' (other S)).input (held (other S)) (held' (other S))
     (ap (λ d. d.input) others) kept) (λ X w. refl) same others
-until_moves {E = E} engines engines' held held' coming witness names S (Ok (Some true)) line next same others kept =
-    read_moves {E = E} engines engines' held held' coming witness names S (Ok (Some line)) next same others kept
-until_moves {E = E} engines engines' held held' coming witness names S (Ok (Some false)) line next same others kept =
-    read_moves {E = E} engines engines' held held' coming witness names S (Ok None) next same others kept
-until_moves engines engines' held held' coming witness names S (Err e) line next same others kept =
-    read_moves engines engines' held held' coming witness names S (Err e) next same others kept
+until_moves {E = E} engines engines' held held' coming witness names S until (Ok (Some true)) line next same others kept =
+    read_moves {E = E} engines engines' held held' coming witness names S until (Ok (Some line)) next same others kept
+until_moves {E = E} engines engines' held held' coming witness names S until (Ok (Some false)) line next same others kept =
+    read_moves {E = E} engines engines' held held' coming witness names S until (Ok None) next same others kept
+until_moves engines engines' held held' coming witness names S until (Err e) line next same others kept =
+    read_moves engines engines' held held' coming witness names S until (Err e) next same others kept
 
 -- ---- a whole match
 
 -- a failed write is noted, or not: no act, and no moment
-no_more : (reason : Reason) (b : Block) (H : List Act) (x : Bool)
-    → (acts_in (list_if x (Notes (Happened (FailsToWrite b.to)) ∷ []) ++ watched reason H) ≡ acts_in (watched reason H))
-    × (moments_in (list_if x (Notes (Happened (FailsToWrite b.to)) ∷ []) ++ watched reason H)
-    ≡ moments_in (watched reason H))
-no_more reason b H true = (refl, refl)
-no_more reason b H false = (refl, refl)
+no_more : (to : Colour) (K : List Step) (x : Bool)
+    → (acts_in (list_if x (Notes (Happened (FailsToWrite to)) ∷ []) ++ K) ≡ acts_in K)
+    × (moments_in (list_if x (Notes (Happened (FailsToWrite to)) ∷ []) ++ K) ≡ moments_in K)
+no_more to K true = (refl, refl)
+no_more to K false = (refl, refl)
+
+-- the match after a block could not be sent
+abbrev after_failure : Rules → Match → Block → Match
+after_failure rules m b = if is_over m.phase then m else (effect rules m (FailsToWrite b.to)).after
 
 -- what the steps of a match did to the output of an engine, its acts did
-pub reads_watched : (reason : Reason) (S : Colour) (H : List Act) (r r' : InputState) (h h' : Held)
-    → ReadsOf S (acts_in (watched reason H)) r r' h h' → ReadsOf S H r r' h h'
-reads_watched reason S [] r r' h h' p = p
-reads_watched reason S (Sends b ∷ H) r r' h h' (v, k, o, p) = (v, k, o, reads_watched reason S H v r' k h' p)
-reads_watched reason S (SendFails b ∷ H) r r' h h' (v, k, o, p) =
-    let e = (no_more reason b H (is_write_fault_of reason b.to)).0 in
-    (v, k, o, reads_watched reason S H v r' k h' (subst (λ (G : List Act). ReadsOf S G v r' k h') e p))
-reads_watched reason S (Happens (Line c t n) ∷ H) r r' h h' (v, k, o, p) =
-    (v, k, o, reads_watched reason S H v r' k h' p)
-reads_watched reason S (Happens (Silent c n) ∷ H) r r' h h' (v, k, o, p) =
-    (v, k, o, reads_watched reason S H v r' k h' p)
-reads_watched reason S (Happens (Opened c n) ∷ H) r r' h h' p =
-    (r, h, (refl, refl), reads_watched reason S H r r' h h' p)
-reads_watched reason S (Happens (OutputEnds c) ∷ H) r r' h h' (v, k, o, p) =
-    (v, k, o, reads_watched reason S H v r' k h' p)
-reads_watched reason S (Happens (FailsToRead c) ∷ H) r r' h h' (v, k, o, p) =
-    (v, k, o, reads_watched reason S H v r' k h' p)
-reads_watched reason S (Happens (FailsToWrite c) ∷ H) r r' h h' (v, k, o, p) =
-    (v, k, o, reads_watched reason S H v r' k h' p)
+pub reads_watched : (rules : Rules) (reason : Reason) (m : Match) (S : Colour) (H : List Act) (r r' : InputState)
+    (h h' : Held) → ReadsOf S (acts_in (watched rules reason m H)) r r' h h' → ReadsOf S H r r' h h'
+reads_watched rules reason m S [] r r' h h' p = p
+reads_watched rules reason m S (Sends b ∷ H) r r' h h' (v, k, o, p) =
+    (v, k, o, reads_watched rules reason m S H v r' k h' p)
+reads_watched rules reason m S (SendFails b ∷ H) r r' h h' (v, k, o, p) =
+    let m' : Match = after_failure rules m b in
+    let e = (no_more b.to (watched rules reason m' H) (is_write_fault_of reason b.to)).0 in
+    (v, k, o, reads_watched rules reason m' S H v r' k h' (subst (λ (G : List Act). ReadsOf S G v r' k h') e p))
+reads_watched rules reason m S (Happens (Line c t n) ∷ H) r r' h h' (v, k, o, p) =
+    (v, k, o, reads_watched rules reason (effect rules m (Line c t n)).after S H v r' k h' p)
+reads_watched rules reason m S (Happens (Silent c n) ∷ H) r r' h h' (v, k, o, p) =
+    (v, k, o, reads_watched rules reason (effect rules m (Silent c n)).after S H v r' k h' p)
+reads_watched rules reason m S (Happens (Opened c n) ∷ H) r r' h h' p =
+    (r, h, (refl, refl), reads_watched rules reason (effect rules m (Opened c n)).after S H r r' h h' p)
+reads_watched rules reason m S (Happens (OutputEnds c) ∷ H) r r' h h' (v, k, o, p) =
+    (v, k, o, reads_watched rules reason (effect rules m (OutputEnds c)).after S H v r' k h' p)
+reads_watched rules reason m S (Happens (FailsToRead c) ∷ H) r r' h h' (v, k, o, p) =
+    (v, k, o, reads_watched rules reason (effect rules m (FailsToRead c)).after S H v r' k h' p)
+reads_watched rules reason m S (Happens (FailsToWrite c) ∷ H) r r' h h' (v, k, o, p) =
+    (v, k, o, reads_watched rules reason (effect rules m (FailsToWrite c)).after S H v r' k h' p)
 
 -- and to its input
-pub writes_watched : (reason : Reason) (S : Colour) (H : List Act) (w w' : OutputState)
-    → WritesOf S (acts_in (watched reason H)) w w' → WritesOf S H w w'
-writes_watched reason S [] w w' p = p
-writes_watched reason S (Sends b ∷ H) w w' (v, o, p) = (v, o, writes_watched reason S H v w' p)
-writes_watched reason S (SendFails b ∷ H) w w' (v, o, p) =
-    let e = (no_more reason b H (is_write_fault_of reason b.to)).0 in
-    (v, o, writes_watched reason S H v w' (subst (λ (G : List Act). WritesOf S G v w') e p))
-writes_watched reason S (Happens (Line c t n) ∷ H) w w' (v, o, p) = (v, o, writes_watched reason S H v w' p)
-writes_watched reason S (Happens (Silent c n) ∷ H) w w' (v, o, p) = (v, o, writes_watched reason S H v w' p)
-writes_watched reason S (Happens (Opened c n) ∷ H) w w' p = (w, refl, writes_watched reason S H w w' p)
-writes_watched reason S (Happens (OutputEnds c) ∷ H) w w' (v, o, p) = (v, o, writes_watched reason S H v w' p)
-writes_watched reason S (Happens (FailsToRead c) ∷ H) w w' (v, o, p) = (v, o, writes_watched reason S H v w' p)
-writes_watched reason S (Happens (FailsToWrite c) ∷ H) w w' (v, o, p) = (v, o, writes_watched reason S H v w' p)
+pub writes_watched : (rules : Rules) (reason : Reason) (m : Match) (S : Colour) (H : List Act) (w w' : OutputState)
+    → WritesOf S (acts_in (watched rules reason m H)) w w' → WritesOf S H w w'
+writes_watched rules reason m S [] w w' p = p
+writes_watched rules reason m S (Sends b ∷ H) w w' (v, o, p) = (v, o, writes_watched rules reason m S H v w' p)
+writes_watched rules reason m S (SendFails b ∷ H) w w' (v, o, p) =
+    let m' : Match = after_failure rules m b in
+    let e = (no_more b.to (watched rules reason m' H) (is_write_fault_of reason b.to)).0 in
+    (v, o, writes_watched rules reason m' S H v w' (subst (λ (G : List Act). WritesOf S G v w') e p))
+writes_watched rules reason m S (Happens (Line c t n) ∷ H) w w' (v, o, p) =
+    (v, o, writes_watched rules reason (effect rules m (Line c t n)).after S H v w' p)
+writes_watched rules reason m S (Happens (Silent c n) ∷ H) w w' (v, o, p) =
+    (v, o, writes_watched rules reason (effect rules m (Silent c n)).after S H v w' p)
+writes_watched rules reason m S (Happens (Opened c n) ∷ H) w w' p =
+    (w, refl, writes_watched rules reason (effect rules m (Opened c n)).after S H w w' p)
+writes_watched rules reason m S (Happens (OutputEnds c) ∷ H) w w' (v, o, p) =
+    (v, o, writes_watched rules reason (effect rules m (OutputEnds c)).after S H v w' p)
+writes_watched rules reason m S (Happens (FailsToRead c) ∷ H) w w' (v, o, p) =
+    (v, o, writes_watched rules reason (effect rules m (FailsToRead c)).after S H v w' p)
+writes_watched rules reason m S (Happens (FailsToWrite c) ∷ H) w w' (v, o, p) =
+    (v, o, writes_watched rules reason (effect rules m (FailsToWrite c)).after S H v w' p)
 
 -- the moments of the steps are those of the acts
-pub moments_watched : (reason : Reason) (H : List Act) → moments_in (watched reason H) ≡ moments_shown H
-moments_watched reason [] = refl
-moments_watched reason (Sends b ∷ H) = moments_watched reason H
-moments_watched reason (SendFails b ∷ H) =
-    (no_more reason b H (is_write_fault_of reason b.to)).1 ∙ moments_watched reason H
-moments_watched reason (Happens (Line c t n) ∷ H) = ap (λ (l : List ℕ). n ∷ l) (moments_watched reason H)
-moments_watched reason (Happens (Silent c n) ∷ H) = ap (λ (l : List ℕ). n ∷ l) (moments_watched reason H)
-moments_watched reason (Happens (Opened c n) ∷ H) = ap (λ (l : List ℕ). n ∷ l) (moments_watched reason H)
-moments_watched reason (Happens (OutputEnds c) ∷ H) = moments_watched reason H
-moments_watched reason (Happens (FailsToRead c) ∷ H) = moments_watched reason H
-moments_watched reason (Happens (FailsToWrite c) ∷ H) = moments_watched reason H
+pub moments_watched : (rules : Rules) (reason : Reason) (m : Match) (H : List Act)
+    → moments_in (watched rules reason m H) ≡ moments_shown H
+moments_watched rules reason m [] = refl
+moments_watched rules reason m (Sends b ∷ H) = moments_watched rules reason m H
+moments_watched rules reason m (SendFails b ∷ H) =
+    let m' : Match = after_failure rules m b in
+    (no_more b.to (watched rules reason m' H) (is_write_fault_of reason b.to)).1 ∙ moments_watched rules reason m' H
+moments_watched rules reason m (Happens (Line c t n) ∷ H) =
+    ap (λ (l : List ℕ). n ∷ l) (moments_watched rules reason (effect rules m (Line c t n)).after H)
+moments_watched rules reason m (Happens (Silent c n) ∷ H) =
+    ap (λ (l : List ℕ). n ∷ l) (moments_watched rules reason (effect rules m (Silent c n)).after H)
+moments_watched rules reason m (Happens (Opened c n) ∷ H) =
+    ap (λ (l : List ℕ). n ∷ l) (moments_watched rules reason (effect rules m (Opened c n)).after H)
+moments_watched rules reason m (Happens (OutputEnds c) ∷ H) = moments_watched rules reason (effect rules m (OutputEnds c)).after H
+moments_watched rules reason m (Happens (FailsToRead c) ∷ H) = moments_watched rules reason (effect rules m (FailsToRead c)).after H
+moments_watched rules reason m (Happens (FailsToWrite c) ∷ H) = moments_watched rules reason (effect rules m (FailsToWrite c)).after H
 
-pub notes_watched : (reason : Reason) (H : List Act) → notes_in (watched reason H) ≡ notes_given reason H
-notes_watched reason [] = refl
-notes_watched reason (Sends b ∷ H) =
-    ap (λ (l : List Note). Gives b.to (bytes_of b.lines) ∷ l) (notes_watched reason H)
-notes_watched reason (SendFails b ∷ H) = ap (λ (l : List Note). Gives b.to (bytes_of b.lines) ∷ l)
+pub notes_watched : (rules : Rules) (reason : Reason) (m : Match) (H : List Act)
+    → notes_in (watched rules reason m H) ≡ notes_given reason H
+notes_watched rules reason m [] = refl
+notes_watched rules reason m (Sends b ∷ H) =
+    ap (λ (l : List Note). Gives b.to (bytes_of b.lines) ∷ l) (notes_watched rules reason m H)
+notes_watched rules reason m (SendFails b ∷ H) = ap (λ (l : List Note). Gives b.to (bytes_of b.lines) ∷ l)
     (at (is_write_fault_of reason b.to) ∙ ap (λ (l : List Note).
-    list_if (is_write_fault_of reason b.to) (Happened (FailsToWrite b.to) ∷ []) ++ l) (notes_watched reason H))
+    list_if (is_write_fault_of reason b.to) (Happened (FailsToWrite b.to) ∷ []) ++ l) (notes_watched rules reason m' H))
   where
-    at : (x : Bool) → notes_in (list_if x (Notes (Happened (FailsToWrite b.to)) ∷ []) ++ watched reason H)
-        ≡ list_if x (Happened (FailsToWrite b.to) ∷ []) ++ notes_in (watched reason H)
+    m' : Match
+    m' = after_failure rules m b
+
+    at : (x : Bool) → notes_in (list_if x (Notes (Happened (FailsToWrite b.to)) ∷ []) ++ watched rules reason m' H)
+        ≡ list_if x (Happened (FailsToWrite b.to) ∷ []) ++ notes_in (watched rules reason m' H)
     at true = refl
     at false = refl
-notes_watched reason (Happens (Line c t n) ∷ H) =
-    ap (λ (l : List Note). Happened (Line c t n) ∷ l) (notes_watched reason H)
-notes_watched reason (Happens (Silent c n) ∷ H) =
-    ap (λ (l : List Note). Happened (Silent c n) ∷ l) (notes_watched reason H)
-notes_watched reason (Happens (Opened c n) ∷ H) =
-    ap (λ (l : List Note). Happened (Opened c n) ∷ l) (notes_watched reason H)
-notes_watched reason (Happens (OutputEnds c) ∷ H) =
-    ap (λ (l : List Note). Happened (OutputEnds c) ∷ l) (notes_watched reason H)
-notes_watched reason (Happens (FailsToRead c) ∷ H) =
-    ap (λ (l : List Note). Happened (FailsToRead c) ∷ l) (notes_watched reason H)
-notes_watched reason (Happens (FailsToWrite c) ∷ H) =
-    ap (λ (l : List Note). Happened (FailsToWrite c) ∷ l) (notes_watched reason H)
+notes_watched rules reason m (Happens (Line c t n) ∷ H) =
+    ap (λ (l : List Note). Happened (Line c t n) ∷ l) (notes_watched rules reason (effect rules m (Line c t n)).after H)
+notes_watched rules reason m (Happens (Silent c n) ∷ H) =
+    ap (λ (l : List Note). Happened (Silent c n) ∷ l) (notes_watched rules reason (effect rules m (Silent c n)).after H)
+notes_watched rules reason m (Happens (Opened c n) ∷ H) =
+    ap (λ (l : List Note). Happened (Opened c n) ∷ l) (notes_watched rules reason (effect rules m (Opened c n)).after H)
+notes_watched rules reason m (Happens (OutputEnds c) ∷ H) =
+    ap (λ (l : List Note). Happened (OutputEnds c) ∷ l) (notes_watched rules reason (effect rules m (OutputEnds c)).after H)
+notes_watched rules reason m (Happens (FailsToRead c) ∷ H) =
+    ap (λ (l : List Note). Happened (FailsToRead c) ∷ l) (notes_watched rules reason (effect rules m (FailsToRead c)).after H)
+notes_watched rules reason m (Happens (FailsToWrite c) ∷ H) =
+    ap (λ (l : List Note). Happened (FailsToWrite c) ∷ l) (notes_watched rules reason (effect rules m (FailsToWrite c)).after H)
 
 -- ---- what was read
 

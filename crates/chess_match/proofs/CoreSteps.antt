@@ -15,7 +15,7 @@ use Rattle.cecp_engine.specs.EngineLines.{LineKind}
 use Rattle.cecp_engine.specs.Levels.{LevelSeen}
 use Rattle.cecp_engine.specs.Items.{Item, takes}
 use Rattle.cecp_engine.specs.Seen.{features_of}
-use Rattle.chess_match.specs.Acts.{awaits_line, is_over}
+use Rattle.chess_match.specs.Acts.{is_over}
 use Rattle.chess_match.specs.Effects.{Match, Phase, Handshake, Opening, BeforeMove, Over, Effect, awaited_since, begins_turn, clock, ends, handshake_row, is_owed_move, line_row, moved, reply_row, sends_nothing, sends_to, over_by_position, silence_row, unless_over, with_seat}
 use Rattle.chess_match.specs.shared.Parts.{enter, with_answers, answers_to, counted}
 use Rattle.chess_match.specs.Events.{Seat}
@@ -38,9 +38,6 @@ use Rattle.chess_match.specs.ties.Texts.{all_sent, AreOfLast, AreTexts}
 use Rattle.chess_game.specs.Ends.{verdict}
 
 -- ---- what the core keeps of a match
-
-pub on_awaiting : (p : Phase) (S : Colour) → awaits_line p S ≡ true → is_over p ≡ false
-on_awaiting p S h1 = grind arith
 
 -- what the core keeps of either side
 pub kept : (r : Rules) (core : MatchState) (played : List Move) (m : Match) → Represents r core played m → (S : Colour)
@@ -264,12 +261,6 @@ owed_goes r core played given items S moment opened m p (inr (x, e)) at h =
     silence_goes r core played given items S moment m _ (at ∙ ap (phase_of opened) e) h
 
 -- ---- a reply
-
--- the time for a reply runs from this moment on
-pub since_stands : (r : Rules) (core : MatchState) (played : List Move) (moment : ℕ) (m : Match)
-    → Represents r core played m
-    → Represents r (record core { since = Some moment }) played (awaited_since moment m)
-since_stands r core played moment m s = search (s.unsent)
 
 -- nothing is sent
 pub quiet_goes : (r : Rules) (core : MatchState) (played : List Move) (m : Match) → Represents r core played m

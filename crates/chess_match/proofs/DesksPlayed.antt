@@ -126,7 +126,7 @@ all_written S H w w' end filled p = writes_all S [] H w w w' end filled (took_no
 pub desk_passed : (r : Rules) (H : List Act) (final : effects.Match) (reason : Reason) (begun : Beginning)
     (engines : Colour → Devices) (held : Colour → Held) (coming : ℕ → Option ℕ) (witness : Noted) (names : List ℕ)
     (w w' : World)
-    → IsMatch r H final → Did begun engines held coming witness names (watched reason H)
+    → IsMatch r H final → Did begun engines held coming witness names (watched r reason effects.beginning.after H)
     → w.engines ≡ begun.engines → w.coming ≡ begun.coming → w'.engines ≡ engines → w'.coming ≡ coming
     → Passed r H final w w'
 desk_passed r H final reason begun engines held coming witness names w w' is_match d p c p' c' =
@@ -134,13 +134,13 @@ desk_passed r H final reason begun engines held coming witness names w w' is_mat
       is_match = is_match;
       passed = λ S.
           let read = all_read S H (w.engines S).input (w'.engines S).input (held S) (all_reads_end r H final is_match)
-          (rw (p, p') (reads_watched reason S H (begun.engines S).input (engines S).input nothing_held (held S)
+          (rw (p, p') (reads_watched r reason effects.beginning.after S H (begun.engines S).input (engines S).input nothing_held (held S)
           (d.read S))) in
           let written = all_written S H (w.engines S).output (w'.engines S).output
           (all_sends_end r H final S is_match) (blocks_filled r H final is_match)
-          (rw (p, p') (writes_watched reason S H (begun.engines S).output (engines S).output (d.written S))) in
+          (rw (p, p') (writes_watched r reason effects.beginning.after S H (begun.engines S).output (engines S).output (d.written S))) in
           (read.0, written.0, read.1, written.1, (read.2, written.2));
-      moments = rw (c, c') (subst (λ (ms : List ℕ). ClockReadings begun.coming coming ms) (moments_watched reason H)
+      moments = rw (c, c') (subst (λ (ms : List ℕ). ClockReadings begun.coming coming ms) (moments_watched r reason effects.beginning.after H)
           d.moments);
     }
 
@@ -181,7 +181,7 @@ pub desk_ran : (setup : Setup) (end : MatchEnd) (engines engines' : Colour → D
 desk_ran setup end engines engines' held held' coming coming' coming'' witness witness' witness'' names names' g g'
     (H, reason, final, is_match, passes, reported, left) none clock watcher =
     let r : Rules = rules_of setup.start (of_colour setup.levels) setup.patience setup.draws g.limit in
-    let K : List Step = watched reason H in
+    let K : List Step = watched r reason effects.beginning.after H in
     let named : names' ≡ names =
     names_kept engines engines' held held' coming coming' witness witness' names names' K passes none in
     let begun : Beginning = record { engines = engines; coming = coming; noted = None; names = names } in
@@ -191,7 +191,7 @@ desk_ran setup end engines engines' held held' coming coming' coming'' witness w
       reason,
       record {
         extends = λ text notes h. subst (λ (x : Noted). x text (notes ++ notes_given reason H)) (sym (watcher named))
-            (subst (λ (ns : List Note). witness' text (notes ++ ns)) (notes_watched reason H)
+            (subst (λ (ns : List Note). witness' text (notes ++ ns)) (notes_watched r reason effects.beginning.after H)
             (passes.extends
             (record { engines = engines; coming = coming; noted = Some (text, notes); names = names }) []
             (started engines held coming witness names (Some (text, notes)) none

@@ -9,6 +9,7 @@ use Rattle.chess_game.specs.Line.{position_after}
 use Rattle.chess_text.specs.San.{check_mark, san, shown_move}
 use Rattle.chess_match.specs.Rules.{text_of_last}
 use Rattle.std.specs.Prelude.{if◌then◌else◌}
+use Rattle.chess_game.proofs.shared.Lines.{position_after-snoc}
 
 last_is : (o : Option Move) (ms : List Move) (m : Move) → last_or o (ms ++ m ∷ []) ≡ Some m
 last_is o [] m = refl
@@ -21,11 +22,6 @@ text_at_last as_san start ms m =
     let few : length (ms ++ m ∷ []) - 1 ≡ length ms = omega (arith, length-append ms (m ∷ [])) in
     rw (few, take-append_seam ms (m ∷ []), last_is None ms m) refl
 
-pub after_last : (start : Setup) (ms : List Move) (m : Move) → position_after start (ms ++ m ∷ [])
-    ≡ after (position_after start ms) m
-after_last start [] m = refl
-after_last start (x ∷ ms) m = after_last (after start x) ms m
-
 -- a move's texts, of which the one by squares and the one in SAN but for its mark are made before it is played, and the
 -- mark after that
 pub texts_of_last : (start : Setup) (ms : List Move) (m : Move) (unmarked written squares : List ℕ) (next : Setup)
@@ -35,5 +31,5 @@ pub texts_of_last : (start : Setup) (ms : List Move) (m : Move) (unmarked writte
     → (as_san : Bool) → (if as_san then written else squares) ≡ text_of_last as_san start (ms ++ m ∷ [])
 texts_of_last start ms m unmarked written squares next at before marked shown as_san =
     let in_san : written ≡ san (position_after start ms) m =
-    marked ∙ ap (λ (q : Setup). unmarked ++ check_mark q) (at ∙ after_last start ms m) ∙ before in
+    marked ∙ ap (λ (q : Setup). unmarked ++ check_mark q) (at ∙ position_after-snoc start ms m) ∙ before in
     rw (in_san, shown) (sym (text_at_last as_san start ms m))

@@ -6,7 +6,7 @@ use Rattle.chess_base.specs.declared.man.Colour.{Colour}
 use Rattle.chess_base.specs.declared.man.Colour.TheVariants.{White, Black}
 use Rattle.chess_base.specs.Men.{other, same_colour}
 use Rattle.chess_base.proofs.shared.Men.{same_colour-true}
-use Rattle.chess_match.specs.Acts.{Act, Block, Sends, SendFails, Happens, IsMatchFrom, awaits_line, is_limited, is_over, block_of, blocks_from}
+use Rattle.chess_match.specs.Acts.{Act, Block, Sends, SendFails, Happens, IsMatchFrom, awaits_line, is_limited, is_over, block_of, blocks_from, waits_until}
 use Rattle.chess_match.specs.shared.Parts.{blocks_after}
 use Rattle.chess_match.specs.laws.Laws.{broken_blocks, is_broken}
 use Rattle.chess_match.specs.Effects.{Match, Effect, Opening, Over, effect}
@@ -20,7 +20,7 @@ use Rattle.chess_match.specs.Table.{Step, Does, Notes, watched}
 use Rattle.chess_match.specs.declared.reason.Reason.{Reason}
 use Rattle.chess_match.proofs.shared.LineCases.{silence_cases}
 use Rattle.chess_match.proofs.shared.Reasons.{unwritten}
-use Rattle.chess_match.specs.ties.Driving.{Leads, giving, is_of_output, is_silence, steps_of}
+use Rattle.chess_match.specs.ties.Driving.{Leads, giving, is_of_output, is_silence, looks_of, steps_of}
 
 -- no write failed
 abbrev pub none : Colour → Bool
@@ -44,7 +44,7 @@ leads_on r m m' m'' due due' due'' K J f g stays p q H final reason h e =
     let a = p b.0 final reason b.1 (λ over. sym (stays over) ∙ e (ap is_over (stays over) ∙ over)) in (
       a.0,
       a.1,
-      a.2 ∙ ap (λ (l : List Step). K ++ l) b.2 ∙ sym (append_assoc K J (watched reason H)),
+      a.2 ∙ ap (λ (l : List Step). K ++ l) b.2 ∙ sym (append_assoc K J (watched r reason m'' H)),
       λ S. a.3 S ∙ ap (λ (x : Bool). f S || x) (b.3 S) ∙ or_more (f S) (g S) (is_broken H S),
     )
 
@@ -71,6 +71,20 @@ leads_sent r m S [] due H final reason g e = (H, g, refl, λ X. refl)
 leads_sent r m S (l ∷ ls) due H final reason g e =
     (Sends (record { to = S; lines = l ∷ ls }) ∷ H, (refl, g), refl, λ X. refl)
 
+-- the steps of a write that failed, by whether the match was over before and whether the failure ended it
+failed_steps : (r : Rules) (m : Match) (b : Block) (H : List Act) (reason : Reason) (over ended : Bool)
+    → is_over m.phase ≡ over → is_write_fault_of reason b.to ≡ ended
+    → watched r reason m (SendFails b ∷ H) ≡ Notes (Gives b.to (bytes_of b.lines)) ∷ Does (SendFails b)
+    ∷ (list_if ended (Notes (Happened (FailsToWrite b.to)) ∷ [])
+    ++ watched r reason (if over then m else (effect r m (FailsToWrite b.to)).after) H)
+failed_steps r m b H reason over ended e f =
+    ap (λ (x : Bool). Notes (Gives b.to (bytes_of b.lines)) ∷ Does (SendFails b)
+    ∷ (list_if x (Notes (Happened (FailsToWrite b.to)) ∷ [])
+    ++ watched r reason (if is_over m.phase then m else (effect r m (FailsToWrite b.to)).after) H)) f
+    ∙ ap (λ (y : Bool). Notes (Gives b.to (bytes_of b.lines)) ∷ Does (SendFails b)
+    ∷ (list_if ended (Notes (Happened (FailsToWrite b.to)) ∷ [])
+    ++ watched r reason (if y then m else (effect r m (FailsToWrite b.to)).after) H)) e
+
 -- a write of a farewell failed
 pub leads_broken : (r : Rules) (m : Match) (S : Colour) (lines : List SentLine) (due : List Block)
     → is_over m.phase ≡ true → 0 < length lines
@@ -87,8 +101,7 @@ leads_broken r m S (l ∷ ls) due over some apart H final reason g e =
           blocks_from White (effect r m (FailsToWrite S)).to,
         ) in IsMatchFrom r n.0 n.1 H final) (sym over) g,
       ),
-      ap (λ (x : Bool). Notes (Gives S (bytes_of (l ∷ ls))) ∷ Does (SendFails b)
-          ∷ (list_if x (Notes (Happened (FailsToWrite S)) ∷ []) ++ watched reason H)) (apart reason (e over)),
+      failed_steps r m b H reason true false over (apart reason (e over)),
       λ X. more_broken b H X,
     )
 
@@ -116,8 +129,7 @@ leads_failed r m S (l ∷ ls) due on some H final reason g e =
           blocks_from White (effect r m (FailsToWrite S)).to,
         ) in IsMatchFrom r n.0 n.1 H final) (sym on) g,
       ),
-      ap (λ (x : Bool). Notes (Gives S (bytes_of (l ∷ ls))) ∷ Does (SendFails b)
-          ∷ (list_if x (Notes (Happened (FailsToWrite S)) ∷ []) ++ watched reason H)) (unwritten S reason (e refl)),
+      failed_steps r m b H reason false true on (unwritten S reason (e refl)),
       λ X. more_broken b H X,
     )
 
@@ -133,7 +145,8 @@ silence_first r m S c moment =
 -- a line, a silence, an end or a failed read of the engine of S
 pub leads_event : (r : Rules) (m : Match) (S : Colour) (e : Event) → is_of_output S e ≡ true
     → awaits_line m.phase S ≡ true → (is_silence e ≡ true → is_limited r.patience m.phase ≡ true)
-    → Leads r m [] (steps_of e) (effect r m e).after (blocks_after S (effect r m e)) none
+    → Leads r m [] (looks_of (waits_until r m.phase m) e ++ steps_of e) (effect r m e).after
+    (blocks_after S (effect r m e)) none
 leads_event r m S (Line c text moment) is awaits limited H final reason g ends =
     let same : c ≡ S = same_colour-true c S is in (
       Happens (Line c text moment) ∷ H,
@@ -200,7 +213,7 @@ over_first S t b e = ap (λ (x : Bool). blocks_from (if x then White else S) t.t
 -- what passed from the beginning of a match to its end are all its acts
 pub leads_out : (r : Rules) (m m' : Match) (due : List Block) (K : List Step) (f : Colour → Bool) (reason : Reason)
     → Leads r m due K m' [] f → m'.phase ≡ Over reason
-    → (H : List Act) × IsMatchFrom r m due H m' × (watched reason H ≡ K) × ((S : Colour) → is_broken H S ≡ f S)
+    → (H : List Act) × IsMatchFrom r m due H m' × (watched r reason m H ≡ K) × ((S : Colour) → is_broken H S ≡ f S)
 leads_out r m m' due K f reason p over =
     let a = p [] m' reason (ap is_over over, refl) (λ h. over) in
     (a.0, a.1, a.2 ∙ append-nil K, λ S. a.3 S ∙ or_none (f S))

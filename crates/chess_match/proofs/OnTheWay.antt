@@ -1,7 +1,7 @@
 -- A match that goes on at a table.
 use Rattle.std.proofs.Common.{◌≡◌, ℕ, ◌+◌, ◌*◌, ◌<◌, ◌≤◌, Bool, true, false, ◌||◌, List, [], ◌++◌, refl, ap, sym, ◌∙◌, subst, arith, Option, None, Some}
 use Rattle.std.specs.Option.{option_map, option_map_or, option_or}
-use Rattle.std.specs.Prelude.{codes, is_some}
+use Rattle.std.specs.Prelude.{codes, if◌then◌else◌, is_some}
 use Rattle.std.proofs.Math.Path.{fun_ext}
 use Rattle.chess_base.specs.ByColour.{by_colour, of_colour}
 use Rattle.chess_base.specs.declared.by_colour.ByColour.{ByColour}
@@ -19,9 +19,9 @@ use Rattle.chess_game.specs.declared.results.Outcome.{Outcome}
 use Rattle.chess_game.specs.declared.results.Outcome.TheVariants.{Unfinished}
 use Rattle.chess_game.specs.declared.tags.HowEnded.{HowEnded}
 use Rattle.cecp_engine.specs.Items.{Item, last_said}
-use Rattle.chess_match.specs.Acts.{Block, awaits_line, blocks_from, is_limited, is_over}
+use Rattle.chess_match.specs.Acts.{Block, awaits_line, blocks_from, first_beyond, is_limited, is_over, waits_until}
 use Rattle.chess_match.specs.shared.Parts.{blocks_after}
-use Rattle.chess_match.specs.Effects.{Match, Phase, Handshake, Setup as SetupPhase, Opening, BeforeMove, AfterMove, Over, Effect, beginning, effect}
+use Rattle.chess_match.specs.Effects.{Match, Phase, Handshake, Setup as SetupPhase, Opening, BeforeMove, AfterMove, Over, Effect, beginning, clock, effect}
 use Rattle.chess_match.specs.Events.{Event, Line, Opened, Silent, OutputEnds, FailsToRead}
 use Rattle.chess_match.specs.Played.{PlayedAt}
 use Rattle.chess_match.specs.Reasons.{comment_of, declared_at, ended_by, reported_fault, reported_reason, outcome_by_reason, reported}
@@ -36,14 +36,15 @@ use Rattle.chess_match.specs.declared.run.Setup as run_setup
 use Rattle.chess_match.specs.declared.state.MatchState.{MatchState}
 use Rattle.chess_match.specs.ties.Awaits.{until_of}
 use Rattle.chess_match.specs.ties.Chess.{Plays}
-use Rattle.chess_match.specs.ties.Driving.{Delivered, Leads, is_line_event, is_of_output, is_silence, steps_of}
+use Rattle.chess_match.specs.ties.Driving.{Delivered, Leads, is_line_event, is_of_output, is_silence, looks_of, steps_of}
 use Rattle.chess_match.specs.ties.Reported.{IsReported}
 use Rattle.chess_match.specs.ties.Represents.{Goes, Represents, given_lines, name_by, nothing_said, phase_of}
 use Rattle.chess_match.specs.ties.Sane.{IsSane, in_turn}
-use Rattle.chess_match.proofs.CoreSteps.{on_awaiting}
+use Rattle.chess_match.proofs.CoreSteps.{clocks_left}
 use Rattle.chess_match.proofs.Leading.{leads_as, leads_event, leads_on, leads_opened, leads_out, none}
 use Rattle.chess_match.proofs.Passings.{passed_as, passed_more}
 use Rattle.chess_match.proofs.StaysSane.{fine_after, sane_start}
+use Rattle.chess_match.proofs.shared.MatchCases.{on_when_read}
 
 -- core, game and table agree with a match that has come to `m`, by the steps `K`
 pub record IsOnTheWay (r : Rules) (old new : Passing) (core : MatchState) (played : List Move) (failed : Colour → Bool)
@@ -128,20 +129,47 @@ came r old now new core core' played played' failed failed' m m' K J w on stands
   },
 )
 
+-- until which moment the core waits is what the match calls for
+until_is : (r : Rules) (core : MatchState) (played : List Move) (m : Match) → Represents r core played m
+    → until_of core core.phase ≡ waits_until r m.phase m
+until_is r core played m s = by_phase core.phase s.phase
+  where
+    replies : option_map (λ limit. option_map_or (λ since. first_beyond since limit) core.since 0) core.patience.reply
+        ≡ option_map (λ limit. option_map_or (λ since. first_beyond since limit) m.since 0) r.patience.reply
+    replies = ap (λ (x : Option ℕ). option_map (λ limit. option_map_or (λ since. first_beyond since limit) x 0)
+        core.patience.reply) s.since
+        ∙ ap (λ (x : Patience). option_map (λ limit. option_map_or (λ since. first_beyond since limit) m.since 0)
+        x.reply) s.patience
+
+    by_phase : (p : CorePhase) → m.phase ≡ phase_of core.opened p → until_of core p ≡ waits_until r m.phase m
+    by_phase (core_in.AwaitMove S) e =
+        ap (λ (left : ℕ). if core.patience.flag then Some (first_beyond core.opened left) else None)
+        (clocks_left r core played m s S)
+        ∙ ap (λ (x : Patience). if x.flag then Some (first_beyond core.opened (clock r m S)) else None) s.patience
+        ∙ ap (λ (p : Phase). waits_until r p m) (sym e)
+    by_phase (core_in.Handshake S) e = replies ∙ ap (λ (p : Phase). waits_until r p m) (sym e)
+    by_phase (core_in.Setup S) e = replies ∙ ap (λ (p : Phase). waits_until r p m) (sym e)
+    by_phase (core_in.SendTurn S) e = replies ∙ ap (λ (p : Phase). waits_until r p m) (sym e)
+    by_phase (core_in.AwaitPong S) e = replies ∙ ap (λ (p : Phase). waits_until r p m) (sym e)
+    by_phase (core_in.Over reason) e = replies ∙ ap (λ (p : Phase). waits_until r p m) (sym e)
+
 -- by a line, a silence, an end, or a read that failed, and what was then sent
 pub went_on : (r : Rules) (old now between new : Passing) (core core' : MatchState) (played played' : List Move)
     (failed failed' : Colour → Bool) (m : Match) (K : List Step) (S : Colour) (e : Event)
     → IsOnTheWay r old now core played failed m K → awaits_line m.phase S ≡ true
     → is_of_output S e ≡ true → (is_silence e ≡ true → is_limited r.patience m.phase ≡ true)
-    → Passes now between (steps_of e)
+    → Passes now between (looks_of (until_of core core.phase) e ++ steps_of e)
     → Delivered r between new core' played' (effect r m e).after (blocks_after S (effect r m e)) failed'
     → OnTheWay r old new core' played' failed'
 went_on r old now between new core core' played played' failed failed' m K S e w awaits is limited passes (m', J, d) =
     let t : Effect = effect r m e in
-    came r old now new core core' played played' failed failed' m m' K (steps_of e ++ J) w
-    (on_awaiting m.phase S awaits) d.stands (d.sane (fine_after r m S e is awaits w.sane).0)
-    (passed_more now between new (steps_of e) J passes d.passes)
-    (leads_on r m t.after m' [] (blocks_after S t) [] (steps_of e) J none failed'
+    let I : List Step = looks_of (waits_until r m.phase m) e ++ steps_of e in
+    let read = subst (λ (until : Option ℕ). Passes now between (looks_of until e ++ steps_of e))
+    (until_is r core played m w.stands) passes in
+    came r old now new core core' played played' failed failed' m m' K (I ++ J) w
+    (on_when_read m.phase S awaits) d.stands (d.sane (fine_after r m S e is awaits w.sane).0)
+    (passed_more now between new I J read d.passes)
+    (leads_on r m t.after m' [] (blocks_after S t) [] I J none failed'
     (λ h. ap (λ (x : Match). x.phase) (d.stays h)) (leads_event r m S e is awaits limited) d.leads) d.fine
 
 -- by the moment at the end of an opening
@@ -285,7 +313,7 @@ played_at setup old new g h h' core reason failed end (m, K, w) over end_is wn b
       reason,
       m,
       is_match,
-      passed_as old new K (watched reason H) (sym steps) w.passes,
+      passed_as old new K (watched r reason beginning.after H) (sym steps) w.passes,
       record {
         ended = ended;
         report = subst

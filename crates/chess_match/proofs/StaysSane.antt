@@ -16,9 +16,9 @@ use Rattle.chess_match.specs.declared.reason.Reason.{Reason}
 use Rattle.chess_match.specs.declared.reason.Reason.TheVariants.{Claimed, Decided}
 use Rattle.chess_match.specs.ties.Driving.{is_of_output}
 use Rattle.chess_match.specs.ties.Sane.{IsSane, IsWritten, in_turn}
-use Rattle.chess_match.proofs.CoreSteps.{on_awaiting}
 use Rattle.chess_match.proofs.shared.LineCases.{LineCases, line_cases, offering, said_by, silence_cases, offered_used, said_used}
 use Rattle.chess_game.specs.Ends.{verdict}
+use Rattle.chess_match.proofs.shared.MatchCases.{on_when_read}
 
 pub sane_start : (r : Rules) → IsSane r beginning.after
 sane_start r = record { undecided = λ h. absurd cc; few = λ S. omega arith; count = omega arith }
@@ -109,14 +109,14 @@ module _ (r : Rules) (S : Colour) (kind : LineKind) (m : Match) (on : is_over m.
 line_fine : (r : Rules) (S : Colour) (kind : LineKind) (moment : ℕ) (m : Match) → awaits_line m.phase S ≡ true
     → IsSane r m → Fine r (line_row r m.phase kind moment m).after
 line_fine r S kind moment m aw s = line_cases r S kind moment m (λ e. Fine r e.after) aw
-    (λ since. line_fits r S kind (record m { since = since }) (on_awaiting m.phase S aw) (sane_since r m since s) moment)
+    (λ since. line_fits r S kind (record m { since = since }) (on_when_read m.phase S aw) (sane_since r m since s) moment)
 
 -- a line that had not come
 silence_fine : (r : Rules) (S : Colour) (moment : ℕ) (m : Match) → awaits_line m.phase S ≡ true → IsSane r m
     → Fine r (effect r m (Silent S moment)).after
 silence_fine r S moment m aw s = silence_cases r S moment m (λ e. Fine r e.after) (record {
   stops = λ reason w. over_fine r m reason s w.0;
-  goes_on = λ since. on_fine r (record m { since = since }) (on_awaiting m.phase S aw) (sane_since r m since s);
+  goes_on = λ since. on_fine r (record m { since = since }) (on_when_read m.phase S aw) (sane_since r m since s);
 })
 
 -- ---- an event

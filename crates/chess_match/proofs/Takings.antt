@@ -1,12 +1,11 @@
 -- What looking for the next line of an engine comes to.
-use Rattle.std.proofs.Common.{◌≡◌, ◌<◌, ℕ, Bool, true, false, List, [], ◌∷◌, refl, ap, sym, ◌∙◌, subst, Option, None, Some, Result, Ok, Err}
+use Rattle.std.proofs.Common.{◌≡◌, ◌<◌, ℕ, Bool, true, false, List, [], ◌∷◌, ◌++◌, refl, ap, sym, ◌∙◌, subst, Option, None, Some, Result, Ok, Err}
 use Rattle.std.specs.Prelude.{if◌then◌else◌, is_some}
 use Rattle.chess_base.specs.declared.man.Colour.{Colour}
 use Rattle.chess_base.specs.declared.man.Move.{Move}
 use Rattle.chess_base.specs.Men.{other}
 use Rattle.cecp_engine.specs.Items.{Item}
 use Rattle.text_lines.specs.Lines.{LineSeen}
-use Rattle.text_lines.specs.Next.{line_if}
 use Rattle.chess_match.specs.Acts.{Happens, awaits_line}
 use Rattle.chess_match.specs.Effects.{Match, effect}
 use Rattle.chess_match.specs.Events.{Event, OutputEnds, FailsToRead}
@@ -14,19 +13,21 @@ use Rattle.chess_match.specs.Lines.{bytes_of}
 use Rattle.chess_match.specs.shared.Parts.{answers_to}
 use Rattle.chess_match.specs.Rules.{Rules}
 use Rattle.chess_match.specs.Run.{text_read}
-use Rattle.chess_match.specs.Table.{Does, ReadsLine, FindsNoLine, Passing, Passes, reading_of, reading_until}
+use Rattle.chess_match.specs.Table.{Does, LooksFor, ReadsLine, FindsNoLine, Passing, Passes, reading_until}
 use Rattle.chess_match.specs.declared.state.Actions.{Actions}
 use Rattle.chess_match.specs.declared.state.MatchState.{MatchState}
-use Rattle.chess_match.specs.ties.Driving.{is_line_event, is_of_output, is_silence, steps_of}
+use Rattle.chess_match.specs.ties.Driving.{is_line_event, is_of_output, is_silence, looks_of, steps_of}
 use Rattle.chess_match.specs.ties.Represents.{Goes, Represents, nothing_said}
 
 -- an event without items that is no line and no silence
 pub bare : (plays : Rules → Type 0) (old new : Passing) (core : MatchState) (played : List Move) (core' : MatchState)
     (given : Actions) (text : List ℕ) (S : Colour) (n n' : ℕ) (until : Option ℕ) (e : Event) → is_of_output S e ≡ true
-    → is_line_event e ≡ false → is_silence e ≡ false → text ≡ [] → Passes old new (steps_of e)
+    → is_line_event e ≡ false → is_silence e ≡ false → text ≡ []
+    → Passes old new (looks_of until e ++ steps_of e)
     → ((r : Rules) (m : Match) → plays r → awaits_line m.phase S ≡ true → Represents r core played m
     → Goes r core' played given nothing_said (effect r m e))
-    → (x : Event) × (items : Colour → List Item) × (is_of_output S x ≡ true) × Passes old new (steps_of x)
+    → (x : Event) × (items : Colour → List Item) × (is_of_output S x ≡ true)
+    × Passes old new (looks_of until x ++ steps_of x)
     × (is_line_event x ≡ true → n' < n) × (is_silence x ≡ true → (n' < n) × (is_some until ≡ true))
     × (text ≡ bytes_of (answers_to (items S))) × (items (other S) ≡ [])
     × ((r : Rules) (m : Match) → plays r → awaits_line m.phase S ≡ true → Represents r core played m
@@ -46,44 +47,53 @@ bare plays old new core played core' given text S n n' until e is line silence e
 
 -- ---- the step of a read
 
--- without a limit
-pub as_until : (E : Type 0) (S : Colour) (found : Bool) (line : LineSeen)
-    → reading_of {E = E} S (Ok (line_if found line)) ≡ reading_until {E = E} S (Ok (Some found)) line
-as_until E S true line = refl
-as_until E S false line = refl
+-- by its result, and by the moment until which it waits
+by_result : {E : Type 0} (old new : Passing) (S : Colour) (result shown : Result (Option Bool) E) (line : LineSeen)
+    (u until : Option ℕ) → u ≡ until → result ≡ shown
+    → Passes old new (LooksFor S u ∷ reading_until S result line ∷ [])
+    → Passes old new (LooksFor S until ∷ reading_until S shown line ∷ [])
+by_result old new S result shown line u until at e p =
+    subst (λ v. Passes old new (LooksFor S until ∷ reading_until S v line ∷ [])) e
+    (subst (λ (x : Option ℕ). Passes old new (LooksFor S x ∷ reading_until S result line ∷ [])) at p)
 
 -- of one that failed
 pub as_fault : {E : Type 0} (old new : Passing) (S : Colour) (result : Result (Option Bool) E) (line : LineSeen) (x : E)
-    → result ≡ Err x → Passes old new (reading_until S result line ∷ [])
-    → Passes old new (Does (Happens (FailsToRead S)) ∷ [])
-as_fault old new S result line x e p = subst (λ v. Passes old new (reading_until S v line ∷ [])) e p
+    (u until : Option ℕ) → u ≡ until → result ≡ Err x
+    → Passes old new (LooksFor S u ∷ reading_until S result line ∷ [])
+    → Passes old new (LooksFor S until ∷ Does (Happens (FailsToRead S)) ∷ [])
+as_fault old new S result line x u until at e p = by_result old new S result (Err x) line u until at e p
 
 -- of one that found no line in time
 pub as_silence : {E : Type 0} (old new : Passing) (S : Colour) (result : Result (Option Bool) E) (line : LineSeen)
-    → result ≡ Ok None → Passes old new (reading_until S result line ∷ []) → Passes old new (FindsNoLine S ∷ [])
-as_silence old new S result line e p = subst (λ v. Passes old new (reading_until S v line ∷ [])) e p
+    (u until : Option ℕ) → u ≡ until → result ≡ Ok None
+    → Passes old new (LooksFor S u ∷ reading_until S result line ∷ [])
+    → Passes old new (LooksFor S until ∷ FindsNoLine S ∷ [])
+as_silence old new S result line u until at e p = by_result old new S result (Ok None) line u until at e p
 
 -- of one that found no line at the end
 pub as_none : {E : Type 0} (old new : Passing) (S : Colour) (result : Result (Option Bool) E) (line : LineSeen)
-    → result ≡ Ok (Some false) → Passes old new (reading_until S result line ∷ [])
-    → Passes old new (Does (Happens (OutputEnds S)) ∷ [])
-as_none old new S result line e p = subst (λ v. Passes old new (reading_until S v line ∷ [])) e p
+    (u until : Option ℕ) → u ≡ until → result ≡ Ok (Some false)
+    → Passes old new (LooksFor S u ∷ reading_until S result line ∷ [])
+    → Passes old new (LooksFor S until ∷ Does (Happens (OutputEnds S)) ∷ [])
+as_none old new S result line u until at e p = by_result old new S result (Ok (Some false)) line u until at e p
 
 -- of one that found a last line
 pub as_last : {E : Type 0} (old new : Passing) (S : Colour) (result : Result (Option Bool) E) (line : LineSeen)
-    → result ≡ Ok (Some true) → line.ended ≡ false → Passes old new (reading_until S result line ∷ [])
-    → Passes old new (Does (Happens (OutputEnds S)) ∷ [])
-as_last old new S result line e last p =
-    subst (λ (b : Bool). Passes old new ((if b then ReadsLine S (text_read line) else Does (Happens (OutputEnds S))) ∷ [])) last
-    (subst (λ v. Passes old new (reading_until S v line ∷ [])) e p)
+    (u until : Option ℕ) → u ≡ until → result ≡ Ok (Some true) → line.ended ≡ false
+    → Passes old new (LooksFor S u ∷ reading_until S result line ∷ [])
+    → Passes old new (LooksFor S until ∷ Does (Happens (OutputEnds S)) ∷ [])
+as_last old new S result line u until at e last p = subst (λ (b : Bool). Passes old new
+    (LooksFor S until ∷ (if b then ReadsLine S (text_read line) else Does (Happens (OutputEnds S))) ∷ [])) last
+    (by_result old new S result (Ok (Some true)) line u until at e p)
 
 -- of one that found a line
 pub as_line : {E : Type 0} (old new : Passing) (S : Colour) (result : Result (Option Bool) E) (line : LineSeen)
-    → result ≡ Ok (Some true) → line.ended ≡ true → Passes old new (reading_until S result line ∷ [])
-    → Passes old new (ReadsLine S (text_read line) ∷ [])
-as_line old new S result line e whole p =
-    subst (λ (b : Bool). Passes old new ((if b then ReadsLine S (text_read line) else Does (Happens (OutputEnds S))) ∷ [])) whole
-    (subst (λ v. Passes old new (reading_until S v line ∷ [])) e p)
+    (u until : Option ℕ) → u ≡ until → result ≡ Ok (Some true) → line.ended ≡ true
+    → Passes old new (LooksFor S u ∷ reading_until S result line ∷ [])
+    → Passes old new (LooksFor S until ∷ ReadsLine S (text_read line) ∷ [])
+as_line old new S result line u until at e whole p = subst (λ (b : Bool). Passes old new
+    (LooksFor S until ∷ (if b then ReadsLine S (text_read line) else Does (Happens (OutputEnds S))) ∷ [])) whole
+    (by_result old new S result (Ok (Some true)) line u until at e p)
 
 pub line_falls : {E : Type 0} (S : Colour) (result : Result (Option Bool) E) (line : LineSeen) (n n' : ℕ)
     → result ≡ Ok (Some true) → line.ended ≡ true

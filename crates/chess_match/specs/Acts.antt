@@ -1,6 +1,7 @@
 -- What the arbiter does at its devices, act by act; and which lists of acts are a match. `H` stands for a list of acts,
 -- in the order in which they were done.
-use Rattle.std.specs.Prelude.{◌≡◌, ◌&&◌, Bool, true, false, if◌then◌else◌, is_some, List, [], ◌∷◌, ◌++◌}
+use Rattle.std.specs.Prelude.{◌≡◌, ◌&&◌, ℕ, ◌+◌, ◌-◌, ◌^◌, Bool, true, false, if◌then◌else◌, min, is_some, option_map, List, [], ◌∷◌, ◌++◌, Option, None, Some}
+use Rattle.std.specs.Option.{option_map_or}
 use Rattle.chess_base.specs.declared.man.Colour.{Colour}
 use Rattle.chess_base.specs.declared.man.Colour.TheVariants.{White}
 use Rattle.chess_base.specs.Men.{other, same_colour}
@@ -8,7 +9,7 @@ use Rattle.chess_match.specs.Events.{Event, Line, Opened, Silent, OutputEnds, Fa
 use Rattle.chess_match.specs.Rules.{Rules}
 use Rattle.chess_match.specs.Lines.{SentLine}
 use Rattle.chess_match.specs.declared.patience.Patience.{Patience}
-use Rattle.chess_match.specs.Effects.{Match, Phase, Handshake, Setup, Opening, BeforeMove, AfterMove, Over, Effect, effect, beginning}
+use Rattle.chess_match.specs.Effects.{Match, Phase, Handshake, Setup, Opening, BeforeMove, AfterMove, Over, Effect, clock, effect, beginning}
 
 -- a block: all lines that the engine of the side `to` is sent as the effect of one event, or at the beginning of the
 -- match
@@ -56,6 +57,20 @@ awaits_line _ S = false
 abbrev pub is_limited : Patience → Phase → Bool
 is_limited patience (BeforeMove side opened) = patience.flag
 is_limited patience _ = is_some patience.reply
+
+-- the first moment that is more than so many milliseconds after another, but at most the last one, 2 ^ 64 - 1
+abbrev pub first_beyond : ℕ → ℕ → ℕ
+first_beyond since limit = min (since + limit + 1) (2 ^ 64 - 1)
+
+-- until which moment the next line is waited for in the match `m`, which is in this phase; `None`: as long as it takes
+abbrev pub waits_until : Rules → Phase → Match → Option ℕ
+-- before a move, if flags fall without a line: until the first moment at which this side has used more time than it had
+-- left
+waits_until r (BeforeMove side opened) m =
+    if r.patience.flag then Some (first_beyond opened (clock r m side)) else None
+-- in a handshake, a setup or after a move, if replies have a limit: until the first moment at which the reply has been
+-- owed for longer. As long as its time doesn't run, a look doesn't wait (0). In other phases no line is looked for
+waits_until r _ m = option_map (λ limit. option_map_or (λ since. first_beyond since limit) m.since 0) r.patience.reply
 
 -- this event may come in this phase: a line, the end of an output or a failed read, if a line of this side is awaited;
 -- a silence, if besides the phase is limited; `Opened`, if this side's turn is being opened. A failed write is no act

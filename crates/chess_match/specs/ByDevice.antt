@@ -1,5 +1,5 @@
 -- What each act of a match did at each device, and what a witness is given of it.
-use Rattle.std.specs.Prelude.{ℕ, Bool, false, List, [], ◌∷◌, Option}
+use Rattle.std.specs.Prelude.{ℕ, Bool, true, false, List, [], ◌∷◌, Option}
 use Rattle.chess_base.specs.declared.man.Colour.{Colour}
 use Rattle.chess_base.specs.Men.{same_colour}
 use Rattle.chess_match.specs.Acts.{Act, Sends, SendFails, Happens}
@@ -27,6 +27,20 @@ is_end_of S _ = false
 abbrev pub is_failed_read_of : Colour → Act → Bool
 is_failed_read_of S (Happens (FailsToRead side)) = same_colour side S
 is_failed_read_of S _ = false
+
+-- whether this act is a look for a line of the engine of the side `S` that found none yet
+abbrev pub is_silence_of : Colour → Act → Bool
+is_silence_of S (Happens (Silent side moment)) = same_colour side S
+is_silence_of S _ = false
+
+-- whether by this act a line of the side `S` was looked for and had not come (true) or a line, an end or a failed read
+-- was found (false), as a list of one; empty if no line of `S` was looked for
+abbrev pub look : Colour → Act → List Bool
+look S (Happens (Silent side moment)) = list_if (same_colour side S) (true ∷ [])
+look S (Happens (Line side text moment)) = list_if (same_colour side S) (false ∷ [])
+look S (Happens (OutputEnds side)) = list_if (same_colour side S) (false ∷ [])
+look S (Happens (FailsToRead side)) = list_if (same_colour side S) (false ∷ [])
+look S _ = []
 
 -- the moment, in milliseconds, that the clock showed in this act, whichever side it was read for, as a list of one;
 -- empty if the clock was not read

@@ -10,8 +10,8 @@ pub data Event : Type 0 where
   Line : (side : Colour) → (text : Option (List ℕ)) → (moment : ℕ) → Event
   -- all lines that open that side's turn were sent; the time of the turn runs from `moment` on
   Opened : (side : Colour) → (moment : ℕ) → Event
-  -- no line of that side's engine had come when the clock, read for it, showed `moment`; a line that is begun counts as
-  -- none
+  -- a look for a line of that side's engine found none; the clock, read after it, showed `moment`. A line that is begun
+  -- counts as none
   Silent : (side : Colour) → (moment : ℕ) → Event
   -- that side's engine ended its output
   OutputEnds : (side : Colour) → Event

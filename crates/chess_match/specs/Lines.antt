@@ -2,7 +2,7 @@
 use Rattle.std.specs.Prelude.{ℕ, Bool, List, [], ◌∷◌, ◌++◌, codes, decimal}
 use Rattle.std.specs.Option.{option_map_or}
 use Rattle.chess_base.specs.declared.man.Colour.{Colour}
-use Rattle.chess_base.specs.Letters.{new_line}
+use Rattle.byte_devices.specs.Bytes.{new_line}
 use Rattle.chess_base.specs.Options.{list_if}
 use Rattle.cecp_engine.specs.Levels.{level_text}
 use Rattle.chess_match.specs.Rules.{Rules, start_fen}
@@ -35,9 +35,9 @@ bytes_of (l ∷ ls) = text_of l ++ new_line ∷ bytes_of ls
 abbrev pub ping : ℕ → SentLine
 ping n = Says (codes "ping " ++ decimal n)
 
--- the lines that set the engine of the side `S` up for a game by the rules `r`, in this order: `new`, `variant fischerandom` if the game
--- is of Chess960, `level` with its time control, as in `level 40 5 0`, `nopost`, `easy`, `force`, `setboard FEN` except
--- for the initial position of normal chess (which `new` sets up), `ping 1`
+-- the lines that set the engine of the side `S` up for a game by the rules `r`, in this order: `new`,
+-- `variant fischerandom` if the game is of Chess960, `level` with its time control, as in `level 40 5 0`, `nopost`,
+-- `easy`, `force`, `setboard FEN` except for the initial position of normal chess (which `new` sets up), `ping 1`
 unfoldable pub setup_lines : Rules → Colour → List SentLine
 setup_lines r S =
     Says (codes "new") ∷ (list_if (is_fischerandom r.start.variant) (Says (codes "variant fischerandom") ∷ [])

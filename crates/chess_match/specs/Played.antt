@@ -1,15 +1,15 @@
 -- What a match that was played did: at its devices, in its game, and in what is reported of it. `H` stands for the list
 -- of its acts, in the order in which they were done.
-use Rattle.std.specs.Prelude.{◌≡◌, ◌||◌, ℕ, true, nat_lt, List, [], ◌∷◌, ◌++◌, length, codes, Option}
-use Rattle.std.specs.List.{flat_map, list_any}
+use Rattle.std.specs.Prelude.{◌≡◌, ◌||◌, ℕ, true, nat_lt, List, [], ◌∷◌, ◌++◌, length, codes, Option, None, Some}
+use Rattle.std.specs.List.{count_by, flat_map, last_or, list_any}
 use Rattle.chess_base.specs.declared.man.Colour.{Colour}
-use Rattle.byte_devices.specs.Transfers.{FromInput, ToOutput, Devices, Ran, all_for, BreaksOffIn}
+use Rattle.byte_devices.specs.Transfers.{FromInput, ToOutput, Devices, RanWithWaits, all_for, BreaksOffIn}
 use Rattle.chess_game.specs.Game as game
 use Rattle.chess_game.specs.Results.{cut_tag}
 use Rattle.cecp_engine.specs.Items.{last_said}
 use Rattle.chess_match.specs.Acts.{Act, IsMatch}
-use Rattle.chess_match.specs.ByDevice.{line_read, is_end_of, is_failed_read_of, moment_shown, lines_to, broken_block, notes_of}
-use Rattle.chess_match.specs.Effects.{Match, Over}
+use Rattle.chess_match.specs.ByDevice.{line_read, is_end_of, is_failed_read_of, is_silence_of, look, moment_shown, lines_to, broken_block, notes_of}
+use Rattle.chess_match.specs.Effects.{Match, Over, beginning}
 use Rattle.chess_match.specs.Notes.{Note}
 use Rattle.chess_match.specs.Reasons.{reported, reported_fault, reported_reason, declared_at}
 use Rattle.chess_base.specs.ByColour.{by_colour, of_colour}
@@ -36,16 +36,20 @@ pub record World : Type 0 where
   pub game : game.Seen
 
 -- `i` is what came from the engine of the side `S` in the acts `H`. Its bytes, `i.text`, may contain more lines than
--- were read in these acts, but not if the end of the output was read or a read failed (`all`). What follows the last
--- `\n` is no line. Nothing is said of `i.early`
+-- were read in these acts; but not if the end of the output was read or a read failed (`all`), nor if the last look for
+-- a line found none (`all_if_silent`). What follows the last `\n` is no line. Nothing is said of `i.early`
 pub record SaidBy (S : Colour) (H : List Act) (i : FromInput) : Type 0 where
   -- the lines that were read are the first lines of these bytes; `rest` are the others
   pub lines : (rest : List (Option (List ℕ))) × (engine_lines i.text ≡ flat_map (line_read S) H ++ rest)
   -- whether the end of the output was read, and whether a read failed, is as in the acts
   pub ended : i.ended ≡ list_any (is_end_of S) H
   pub failed : i.failed ≡ list_any (is_failed_read_of S) H
+  -- as many waits found nothing as the acts have silences of `S`
+  pub silences : i.silences ≡ count_by (is_silence_of S) H
   -- after an end or a failure: the lines that were read are all lines of these bytes
   pub all : (i.ended || i.failed) ≡ true → engine_lines i.text ≡ flat_map (line_read S) H
+  -- if the last look for a line of `S` found none: the same
+  pub all_if_silent : last_or None (flat_map (look S) H) ≡ Some true → engine_lines i.text ≡ flat_map (line_read S) H
 
 -- `o` is what went to an engine's input, if the lines in the first list were sent to it, and then the blocks in the
 -- second list, each as its lines, could not be sent
@@ -64,7 +68,7 @@ WasSent sent _ o = ⊥
 pub record Passed (r : Rules) (H : List Act) (final : Match) (w w' : World) : Type 0 where
   pub is_match : IsMatch r H final
   -- for each side: an `i` came from its engine and an `o` went to it that agree with the acts
-  pub passed : (S : Colour) → Ran (λ i o. SaidBy S H i
+  pub passed : (S : Colour) → RanWithWaits (λ i o. SaidBy S H i
       × WasSent (flat_map (lines_to S) H) (flat_map (broken_block S) H) o) (w.engines S) (w'.engines S)
   -- the clock was read as often as the acts say, and showed the moments that they name
   pub moments : ClockReadings w.coming w'.coming (flat_map moment_shown H)
@@ -112,13 +116,14 @@ PlayedNoting noted setup end w w' =
     (H : List Act) × (reason : Reason) × noted (flat_map (notes_of reason) H) × PlayedBy H reason setup end w w'
 
 -- a match was played at a table as `setup` says, and reported as `end`. From the state `old` of the table to `new`
--- just the steps of the match's acts passed, in order, and its notes (`watched`). The game was `g` before. It is `g'`
--- after: it has this start, the moves of the match, and the result as in `PlayedBy`
+-- just the steps of the match's acts passed, in order, with its notes; each line was waited for as long as the rules
+-- say (`watched`). The game was `g` before. It is `g'` after: it has this start, the moves of the match, and the result
+-- as in `PlayedBy`
 abbrev pub PlayedAt : Setup → MatchEnd → Passing → Passing → game.Seen → game.Seen → Type 0
 PlayedAt setup end old new g g' =
     let r = rules_of setup.start (of_colour setup.levels) setup.patience setup.draws g.limit in
     (H : List Act) × (reason : Reason) × (final : Match)
-    × IsMatch r H final × Passes old new (watched reason H) × ReportedAs r H final reason end
+    × IsMatch r H final × Passes old new (watched r reason beginning.after H) × ReportedAs r H final reason end
     × (g' ≡ game.with_state g (record {
       start = setup.start;
       moves = final.played;

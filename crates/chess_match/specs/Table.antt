@@ -1,21 +1,27 @@
 -- What passes at the table of a match, step by step: what is sent, read and noted. A table has both engines, the clock
--- and a witness, such as the log, which is given the notes; each call of the table is one step. One act of the match
--- can be two steps: a line is read, or found not to have come, and right after it the clock is read.
+-- and a witness, such as the log, which is given the notes; each call of the table is one step, but a look for a line
+-- is two: how long it waits, and what it finds. One act of the match can be three steps: these two, and right after a
+-- line, or after none was found, the clock is read.
 use Rattle.std.specs.Prelude.{ℕ, Bool, true, false, if◌then◌else◌, List, [], ◌∷◌, ◌++◌, Option, None, Some, Result, Ok, Err}
 use Rattle.byte_devices.specs.Transfers.{Devices}
 use Rattle.chess_base.specs.declared.man.Colour.{Colour}
 use Rattle.text_lines.specs.Lines.{LineSeen}
-use Rattle.chess_match.specs.Acts.{Act, Block, Sends, SendFails, Happens}
+use Rattle.chess_match.specs.Acts.{Act, Block, Sends, SendFails, Happens, is_over, waits_until}
+use Rattle.chess_match.specs.Effects.{Match, effect}
 use Rattle.chess_match.specs.Events.{Event, Line, Opened, Silent, OutputEnds, FailsToRead, FailsToWrite}
 use Rattle.chess_base.specs.Options.{list_if}
 use Rattle.chess_match.specs.Lines.{bytes_of}
 use Rattle.chess_match.specs.Notes.{Note, Happened, Gives}
 use Rattle.chess_match.specs.Reasons.{is_write_fault_of}
+use Rattle.chess_match.specs.Rules.{Rules}
 use Rattle.chess_match.specs.Run.{text_read}
 use Rattle.chess_match.specs.declared.reason.Reason.{Reason}
 
 -- one step at a table
 pub data Step : Type 0 where
+  -- a look for the next line of that side's engine began, which waits for it until the clock shows the moment `until`;
+  -- `None`: as long as it takes. The next step says what it finds
+  LooksFor : (side : Colour) → (until : Option ℕ) → Step
   -- this act, done in one call: a block was sent or could not be sent, an output ended, or a read failed
   Does : (act : Act) → Step
   -- a line of that side's engine was read (`None`: it was too long)
@@ -28,25 +34,31 @@ pub data Step : Type 0 where
   Notes : (note : Note) → Step
 
 -- the steps by which this event is read: a line, or that there is none, and then the clock; the clock alone; or an end
--- or a failure
-abbrev pub reads : Event → List Step
-reads (Line S text moment) = ReadsLine S text ∷ ReadsClock S moment ∷ []
-reads (Silent S moment) = FindsNoLine S ∷ ReadsClock S moment ∷ []
-reads (Opened S moment) = ReadsClock S moment ∷ []
-reads event = Does (Happens event) ∷ []
+-- or a failure. A line is waited for until the moment `until`, if there is one
+abbrev pub reads : Option ℕ → Event → List Step
+reads until (Line S text moment) = LooksFor S until ∷ ReadsLine S text ∷ ReadsClock S moment ∷ []
+reads until (Silent S moment) = LooksFor S until ∷ FindsNoLine S ∷ ReadsClock S moment ∷ []
+reads until (Opened S moment) = ReadsClock S moment ∷ []
+reads until (OutputEnds S) = LooksFor S until ∷ Does (Happens (OutputEnds S)) ∷ []
+reads until (FailsToRead S) = LooksFor S until ∷ Does (Happens (FailsToRead S)) ∷ []
+-- `FailsToWrite`, which never comes: a failed write is an act `SendFails`
+reads until event = Does (Happens event) ∷ []
 
--- the steps of a match that ended for this reason: those of its acts, in order, and the note of each (the notes are
--- those of `notes_of`)
-abbrev pub watched : Reason → List Act → List Step
-watched reason [] = []
+-- the steps of a match by the rules `r` that ended for this reason: those of its acts, in order, and the note of each
+-- (the notes are those of `notes_of`). Before these acts the match is `m`
+abbrev pub watched : Rules → Reason → Match → List Act → List Step
+watched r reason m [] = []
 -- the bytes of a block are noted before it is sent
-watched reason (Sends block ∷ H) = Notes (Gives block.to (bytes_of block.lines)) ∷ Does (Sends block) ∷ watched reason H
+watched r reason m (Sends block ∷ H) =
+    Notes (Gives block.to (bytes_of block.lines)) ∷ Does (Sends block) ∷ watched r reason m H
 -- so are those of a block that could not be sent; the failure is noted after it, if the match ended by it
-watched reason (SendFails block ∷ H) =
+watched r reason m (SendFails block ∷ H) =
     Notes (Gives block.to (bytes_of block.lines)) ∷ Does (SendFails block)
-    ∷ (list_if (is_write_fault_of reason block.to) (Notes (Happened (FailsToWrite block.to)) ∷ []) ++ watched reason H)
--- an event is noted once it is read
-watched reason (Happens event ∷ H) = reads event ++ (Notes (Happened event) ∷ watched reason H)
+    ∷ (list_if (is_write_fault_of reason block.to) (Notes (Happened (FailsToWrite block.to)) ∷ [])
+    ++ watched r reason (if is_over m.phase then m else (effect r m (FailsToWrite block.to)).after) H)
+-- an event is noted once it is read; a line is waited for as long as `waits_until` says
+watched r reason m (Happens event ∷ H) =
+    reads (waits_until r m.phase m) event ++ (Notes (Happened event) ∷ watched r reason (effect r m event).after H)
 
 -- ---- one call
 

@@ -1,17 +1,16 @@
 //! The table of separate devices.
 
-ghost use Rattle.std.specs.Prelude.{◌≡◌, ◌<◌, ℕ, List, Option, None, Ok};
+ghost use Rattle.std.specs.Prelude.{◌≡◌, ◌<◌, ℕ, List, Option, None, Some, Ok};
 ghost use Rattle.std.specs.Result.{is_err};
 ghost use Rattle.chess_base.specs.declared.man.Colour.{Colour};
 ghost use Rattle.text_lines.specs.Next.{line_read};
-ghost use Rattle.chess_match.specs.Events as events;
 ghost use Rattle.chess_match.specs.Lines.{SentLine, bytes_of};
-ghost use Rattle.chess_match.specs.Notes.{Happened, Gives};
-ghost use Rattle.chess_match.specs.Run.{text_read};
+ghost use Rattle.chess_match.specs.Seen.{note_seen};
 ghost use Rattle.chess_match.specs.Table.{Does, ReadsLine, ReadsClock, Notes, reading_of, reading_until, sending};
-ghost use Rattle.chess_match.specs.ties.AtDesk.{PassesAt, left_at, passed_at};
+ghost use Rattle.chess_match.specs.ties.AtDesk.{LooksAt, PassesAt, left_at, passed_at};
 
 use crate::moments::Moments;
+use crate::note::Note;
 use crate::run::ENGINE_LINE_LEN;
 use crate::table::MatchTable;
 use crate::witness::Witness;
@@ -59,7 +58,7 @@ impl<R: Input, W: Output, M: Moments, L: Witness> MatchTable
         side: Colour,
         line: &mut Line<ENGINE_LINE_LEN>,
     ) -> Result<bool, ReadFault>
-        ensures passes { PassesAt R.seen W.seen M.coming L.noted self.old self.new
+        ensures passes { LooksAt R.seen W.seen M.coming L.noted self.old self.new side None
             (reading_of side (line_read result line.new)) }
         ensures less { (text : Option (List ℕ)) → reading_of side (line_read result line.new) ≡ ReadsLine side text
             → left_at R.seen self.new < left_at R.seen self.old }
@@ -85,7 +84,7 @@ impl<R: Input, W: Output, M: Moments, L: Witness> MatchTable
         until: u64,
         line: &mut Line<ENGINE_LINE_LEN>,
     ) -> Result<Option<bool>, ReadFault>
-        ensures passes { PassesAt R.seen W.seen M.coming L.noted self.old self.new
+        ensures passes { LooksAt R.seen W.seen M.coming L.noted self.old self.new side (Some until)
             (reading_until side result line.new) }
         ensures less { (text : Option (List ℕ)) → reading_until side result line.new ≡ ReadsLine side text
             → left_at R.seen self.new < left_at R.seen self.old }
@@ -121,73 +120,12 @@ impl<R: Input, W: Output, M: Moments, L: Witness> MatchTable
         self.moments.now()
     }
 
-    // Gives the witness the note of a line.
-    fn note_line(&mut self, side: Colour, line: &Line<ENGINE_LINE_LEN>, moment: u64)
-        ensures passes { PassesAt R.seen W.seen M.coming L.noted self.old self.new
-            (Notes (Happened (events.Line side (text_read line.now) moment))) }
+    // Gives the witness the note.
+    fn note(&mut self, note: Note<'_>)
+        ensures passes { PassesAt R.seen W.seen M.coming L.noted self.old self.new (Notes (note_seen note.entry)) }
         ensures left { left_at R.seen self.new ≡ left_at R.seen self.old }
         ensures others { self.new ≡ (record self.old { witness = self.new.witness }) }
     {
-        self.witness.line(side, line, moment);
-    }
-
-    // Gives the witness the note of an opening.
-    fn note_opened(&mut self, side: Colour, moment: u64)
-        ensures passes { PassesAt R.seen W.seen M.coming L.noted self.old self.new
-            (Notes (Happened (events.Opened side moment))) }
-        ensures left { left_at R.seen self.new ≡ left_at R.seen self.old }
-        ensures others { self.new ≡ (record self.old { witness = self.new.witness }) }
-    {
-        self.witness.opened(side, moment);
-    }
-
-    // Gives the witness the note of a line that had not come.
-    fn note_silent(&mut self, side: Colour, moment: u64)
-        ensures passes { PassesAt R.seen W.seen M.coming L.noted self.old self.new
-            (Notes (Happened (events.Silent side moment))) }
-        ensures left { left_at R.seen self.new ≡ left_at R.seen self.old }
-        ensures others { self.new ≡ (record self.old { witness = self.new.witness }) }
-    {
-        self.witness.silent(side, moment);
-    }
-
-    // Gives the witness the note of the end of an output.
-    fn note_output_ends(&mut self, side: Colour)
-        ensures passes { PassesAt R.seen W.seen M.coming L.noted self.old self.new
-            (Notes (Happened (events.OutputEnds side))) }
-        ensures left { left_at R.seen self.new ≡ left_at R.seen self.old }
-        ensures others { self.new ≡ (record self.old { witness = self.new.witness }) }
-    {
-        self.witness.output_ends(side);
-    }
-
-    // Gives the witness the note of a read that failed.
-    fn note_read_fails(&mut self, side: Colour)
-        ensures passes { PassesAt R.seen W.seen M.coming L.noted self.old self.new
-            (Notes (Happened (events.FailsToRead side))) }
-        ensures left { left_at R.seen self.new ≡ left_at R.seen self.old }
-        ensures others { self.new ≡ (record self.old { witness = self.new.witness }) }
-    {
-        self.witness.read_fails(side);
-    }
-
-    // Gives the witness the note of a write that failed.
-    fn note_write_fails(&mut self, side: Colour)
-        ensures passes { PassesAt R.seen W.seen M.coming L.noted self.old self.new
-            (Notes (Happened (events.FailsToWrite side))) }
-        ensures left { left_at R.seen self.new ≡ left_at R.seen self.old }
-        ensures others { self.new ≡ (record self.old { witness = self.new.witness }) }
-    {
-        self.witness.write_fails(side);
-    }
-
-    // Gives the witness the note of what an engine is sent.
-    fn note_gives(&mut self, side: Colour, text: &[u8])
-        ensures passes { PassesAt R.seen W.seen M.coming L.noted self.old self.new
-            (Notes (Gives side text.now)) }
-        ensures left { left_at R.seen self.new ≡ left_at R.seen self.old }
-        ensures others { self.new ≡ (record self.old { witness = self.new.witness }) }
-    {
-        self.witness.gives(side, text);
+        self.witness.note(note);
     }
 }

@@ -7,8 +7,9 @@ pub struct Patience {
     /// Whether the flag of the side to move falls as soon as it has used more time than it had left, whether it sends a
     /// line or not. Otherwise its time is judged only when its next line comes.
     pub flag: bool,
-    /// The most milliseconds in which an engine must send a line that it owes and that is no move: the next `feature`
-    /// line of its handshake, `pong 1` and the `pong` after a move. `None`: it has any time.
+    /// For how many milliseconds a line is waited for that an engine owes and that is no move: the next `feature` line
+    /// of its handshake, `pong 1` and the `pong` after a move. If it is still owed after more, the match ends; but a
+    /// line that a look finds counts, however late it came. `None`: it has any time.
     pub reply: Option<u64>,
 }
 

@@ -1,6 +1,6 @@
 //! The run of a match.
 
-ghost use Rattle.std.specs.Prelude.{◌≡◌, List, [], ◌∷◌, ◌++◌, ℕ, length, true, false, None, Ok, Option, is_some, ◌≤◌, ◌<◌};
+ghost use Rattle.std.specs.Prelude.{◌≡◌, List, [], ◌∷◌, ◌++◌, ℕ, length, true, false, None, Ok, Option, is_some, option_map, ◌≤◌, ◌<◌};
 ghost use Rattle.arrayvec.specs.ArrayVec.{array_vec_len};
 ghost use Rattle.chess_base.specs.ByColour.{of_colour};
 ghost use Rattle.chess_base.specs.Men.{other};
@@ -21,12 +21,12 @@ ghost use Rattle.chess_match.specs.Played.{Played, PlayedNoting, PlayedAt};
 ghost use Rattle.chess_match.specs.Reasons.{declared_at};
 ghost use Rattle.chess_match.specs.Rules.{Rules};
 ghost use Rattle.chess_match.specs.Run.{engines_of, text_read};
-ghost use Rattle.chess_match.specs.Table.{Passes, ReadsLine, reading_until};
+ghost use Rattle.chess_match.specs.Table.{LooksFor, Passes, ReadsLine, reading_until};
 ghost use Rattle.chess_match.specs.declared.block.TheConstants.{ANSWERS_LEN};
 ghost use Rattle.chess_match.specs.declared.reason.Reason.{Reason};
 ghost use Rattle.chess_match.specs.declared.run.TheConstants.{ENGINE_LINE_LEN};
 ghost use Rattle.chess_match.specs.ties.Awaits.{IsAwaited, until_of};
-ghost use Rattle.chess_match.specs.ties.Driving.{Delivered, after_line, after_silence, by_turn, giving, is_line_event, is_of_output, is_silence, line_event, steps_of};
+ghost use Rattle.chess_match.specs.ties.Driving.{Delivered, after_line, after_silence, by_turn, giving, is_line_event, is_of_output, is_silence, line_event, looks_of, steps_of};
 ghost use Rattle.chess_match.specs.ties.Reported.{IsReported};
 ghost use Rattle.chess_match.specs.ties.Represents.{Goes, Represents, nothing_said, phase_of};
 ghost use Rattle.chess_match.specs.ties.Sane.{IsSane, IsWritten};
@@ -36,6 +36,7 @@ use crate::desk::Desk;
 use crate::draws::Draws;
 use crate::match_game::MatchGame;
 use crate::moments::Moments;
+use crate::note::Note;
 use crate::patience::Patience;
 use crate::phase::Phase;
 use crate::reason::{MatchFault, Reason, reported_fault, reported_reason};
@@ -104,8 +105,8 @@ pub struct MatchEnd {
 /// was written before, except at an engine to which a write or a flush failed.
 ///
 /// The contract sees each device apart; [`run_match_at`], which this calls, says that the calls came in the order of
-/// the acts. By the code no memory is taken. An engine that doesn't answer is waited for as long as `setup.patience`
-/// says; that so much time has passed is for the readers and the clock to know.
+/// the acts, and until which moment each line is waited for, by `setup.patience`: no clause here does. Nor does any say
+/// that the readers wait by the clock `moments`, or that so much time has passed. By the code no memory is taken.
 pub fn run_match<R: Input, W: Output, M: Moments, B: Board>(
     white: &mut Ends<R, W>,
     black: &mut Ends<R, W>,
@@ -205,7 +206,7 @@ pub fn run_match_at<T: MatchTable, B: Board>(
             Awaited::Nothing(reason) => return end_of(core, game, reason, failed),
             Awaited::Moment(side) => {
                 let moment = table.moment(side);
-                table.note_opened(side, moment);
+                table.note(Note::Opened { side, moment });
                 core.open(side, moment);
             }
             Awaited::Line(side) => {
@@ -261,7 +262,7 @@ fn end_for_other<T: MatchTable, G: MatchGame>(
     ensures empty { waiting.new.items ≡ [] }
     ensures left { T.left table.new ≡ T.left table.old }
 {
-    table.note_write_fails(side);
+    table.note(Note::FailsToWrite { side });
     let given = core.write_fails(side);
     note_and_send(table, core, game, given, waiting, side.other())
 }
@@ -376,6 +377,17 @@ fn is_parsed(line: &Line<ENGINE_LINE_LEN>) -> bool
     line.is_ended()
 }
 
+// The text of this line, as a witness is given it; of a line that is too long there is none.
+fn text_read(line: &Line<ENGINE_LINE_LEN>) -> Option<&[u8]>
+    ensures { option_map (λ t. t.now) result ≡ text_read line.now }
+{
+    if line.is_too_long() {
+        None
+    } else {
+        Some(line.text())
+    }
+}
+
 // What an engine says by this line, by its first words; a line that is too long is one that is ignored (`Other`).
 #[tactic(auto, using(crate::proofs::Features::features_short))]
 fn said(line: &Line<ENGINE_LINE_LEN>) -> EngineLine<'_>
@@ -415,7 +427,8 @@ fn take_line<T: MatchTable, G: MatchGame>(
     ensures left { T.left table.new ≡ T.left table.old }
 {
     let moment = table.moment(side);
-    table.note_line(side, line, moment);
+    let text = text_read(line);
+    table.note(Note::Line { side, text, moment });
     core.line(game, said(line), moment, block)
 }
 
@@ -434,7 +447,7 @@ fn take_silence<T: MatchTable, G: MatchGame>(
     ensures left { T.left table.new ≡ T.left table.old }
 {
     let moment = table.moment(side);
-    table.note_silent(side, moment);
+    table.note(Note::Silent { side, moment });
     core.silent(game, side, moment)
 }
 
@@ -446,7 +459,8 @@ fn read_next<T: MatchTable>(
     until: Option<u64>,
     line: &mut Line<ENGINE_LINE_LEN>,
 ) -> Result<Option<bool>, ReadFault>
-    ensures passes { Passes (T.passed table.old) (T.passed table.new) (reading_until side result line.new ∷ []) }
+    ensures passes { Passes (T.passed table.old) (T.passed table.new)
+        (LooksFor side until ∷ reading_until side result line.new ∷ []) }
     ensures less { (text : Option (List ℕ)) → reading_until side result line.new ≡ ReadsLine side text
         → T.left table.new < T.left table.old }
     ensures silent { result ≡ Ok None → (T.left table.new < T.left table.old) × (is_some until ≡ true) }
@@ -474,7 +488,8 @@ fn take_next<T: MatchTable, G: MatchGame>(
     ensures rules { (r : Rules) → G.plays game.old r → G.plays game.new r }
     ensures origin { G.origin game.new ≡ G.origin game.old }
     ensures taken { (e : Event) × (items : Colour → List Item) × (is_of_output side e ≡ true)
-        × Passes (T.passed table.old) (T.passed table.new) (steps_of e)
+        × Passes (T.passed table.old) (T.passed table.new)
+        (looks_of (until_of core.old core.old.phase) e ++ steps_of e)
         × (is_line_event e ≡ true → T.left table.new < T.left table.old)
         × (is_silence e ≡ true → (T.left table.new < T.left table.old)
         × (is_some (until_of core.old core.old.phase) ≡ true))
@@ -486,19 +501,19 @@ fn take_next<T: MatchTable, G: MatchGame>(
 {
     match read_next(table, side, core.until(), line) {
         Err(_) => {
-            table.note_read_fails(side);
+            table.note(Note::FailsToRead { side });
             core.read_fails(side)
         }
         Ok(None) => take_silence(table, core, game, side),
         Ok(Some(false)) => {
-            table.note_output_ends(side);
+            table.note(Note::OutputEnds { side });
             core.output_ends(side)
         }
         Ok(Some(true)) => {
             if is_parsed(line) {
                 take_line(table, core, game, side, line, block)
             } else {
-                table.note_output_ends(side);
+                table.note(Note::OutputEnds { side });
                 core.output_ends(side)
             }
         }

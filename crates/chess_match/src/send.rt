@@ -16,6 +16,7 @@ ghost use Rattle.chess_match.specs.ties.Represents.{Goes, Represents, after_answ
 use crate::block::Block;
 use crate::compose::{add_entered, add_offer};
 use crate::match_game::MatchGame;
+use crate::note::Note;
 use crate::state::{Actions, MatchState};
 use crate::table::MatchTable;
 use chess_base::Colour;
@@ -50,7 +51,7 @@ fn note_and_put<T: MatchTable>(table: &mut T, text: &[u8], side: Colour) -> bool
     if text.is_empty() {
         return false;
     }
-    table.note_gives(side, text);
+    table.note(Note::Gives { side, text });
     table.send(side, text).is_err()
 }
 

@@ -44,7 +44,7 @@ impl MatchState {
     }
 
     // The first moment at which the time for a reply is over, if it may take at most `limit` milliseconds. It is 0 as
-    // long as the time doesn't run, so that the first look for a line doesn't wait.
+    // long as the time doesn't run, so that until then no look for a line waits.
     fn reply_ends(&self, limit: u64) -> u64
         ensures { result ≡ option_map_or (λ since. min (since + limit + 1) (2 ^ 64 - 1)) self.now.since 0 }
     {

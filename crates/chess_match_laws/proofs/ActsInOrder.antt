@@ -1,12 +1,15 @@
 -- The acts of a match are in order.
+use Rattle.std.specs.Prelude.{if◌then◌else◌}
 use Rattle.std.proofs.Common.{◌≡◌, ℕ, Bool, true, false, List, [], ◌∷◌, ◌++◌, refl, Option, None, Some}
 use Rattle.chess_base.specs.Options.{list_if}
 use Rattle.chess_base.specs.declared.man.Colour.{Colour}
-use Rattle.chess_match.specs.Acts.{Act, Sends, SendFails, Happens}
+use Rattle.chess_match.specs.Acts.{Act, Sends, SendFails, Happens, is_over}
+use Rattle.chess_match.specs.Effects.{Match, effect}
 use Rattle.chess_match.specs.Events.{Event, Line, Opened, Silent, OutputEnds, FailsToRead, FailsToWrite}
 use Rattle.chess_match.specs.Notes.{Note, Happened}
 use Rattle.chess_match.specs.Reasons.{is_write_fault_of}
-use Rattle.chess_match.specs.Table.{Step, Does, ReadsLine, FindsNoLine, ReadsClock, Notes, watched}
+use Rattle.chess_match.specs.Rules.{Rules}
+use Rattle.chess_match.specs.Table.{Step, Does, LooksFor, ReadsLine, FindsNoLine, ReadsClock, Notes, watched}
 use Rattle.chess_match.specs.declared.reason.Reason.{Reason}
 use Rattle.chess_match_laws.specs.OfActs.{LinesAreReadInOrder, NothingIsDueAtEvents, SilencesAreReadInOrder}
 
@@ -48,6 +51,11 @@ after_clock c n K p [] after S (Some text) e = cc
 after_clock c n K p [] after S None e = cc
 after_clock c n K p (s ∷ before) after S found e = p before after S found cc
 
+after_look : (c : Colour) (until : Option ℕ) (K : List Step) → InOrder K → InOrder (LooksFor c until ∷ K)
+after_look c until K p [] after S (Some text) e = cc
+after_look c until K p [] after S None e = cc
+after_look c until K p (s ∷ before) after S found e = p before after S found cc
+
 after_line : (c : Colour) (t : Option (List ℕ)) (n : ℕ) (K : List Step) → InOrder K
     → InOrder (ReadsLine c t ∷ ReadsClock c n ∷ Notes (Happened (Line c t n)) ∷ K)
 after_line c t n K p [] after S (Some text) e = (n, K, cc)
@@ -67,23 +75,30 @@ after_failure : (noted : Bool) (c : Colour) (K : List Step) → InOrder K
 after_failure true c K p = after_note (Happened (FailsToWrite c)) K p
 after_failure false c K p = p
 
-in_order : (reason : Reason) (H : List Act) → InOrder (watched reason H)
-in_order reason [] = none
-in_order reason (Sends b ∷ H) = after_note _ _ (after_act (Sends b) _ (in_order reason H))
-in_order reason (SendFails b ∷ H) =
-    after_note _ _ (after_act (SendFails b) _ (after_failure (is_write_fault_of reason b.to) b.to _ (in_order reason H)))
-in_order reason (Happens (Line c t n) ∷ H) = after_line c t n _ (in_order reason H)
-in_order reason (Happens (Opened c n) ∷ H) = after_clock c n _ (after_note _ _ (in_order reason H))
-in_order reason (Happens (Silent c n) ∷ H) = after_silence c n _ (in_order reason H)
-in_order reason (Happens (OutputEnds c) ∷ H) = after_act _ _ (after_note _ _ (in_order reason H))
-in_order reason (Happens (FailsToRead c) ∷ H) = after_act _ _ (after_note _ _ (in_order reason H))
-in_order reason (Happens (FailsToWrite c) ∷ H) = after_act _ _ (after_note _ _ (in_order reason H))
+in_order : (r : Rules) (reason : Reason) (m : Match) (H : List Act) → InOrder (watched r reason m H)
+in_order r reason m [] = none
+in_order r reason m (Sends b ∷ H) = after_note _ _ (after_act (Sends b) _ (in_order r reason m H))
+in_order r reason m (SendFails b ∷ H) = after_note _ _ (after_act (SendFails b) _
+    (after_failure (is_write_fault_of reason b.to) b.to _
+    (in_order r reason (if is_over m.phase then m else (effect r m (FailsToWrite b.to)).after) H)))
+in_order r reason m (Happens (Line c t n) ∷ H) =
+    after_look c _ _ (after_line c t n _ (in_order r reason (effect r m (Line c t n)).after H))
+in_order r reason m (Happens (Opened c n) ∷ H) =
+    after_clock c n _ (after_note _ _ (in_order r reason (effect r m (Opened c n)).after H))
+in_order r reason m (Happens (Silent c n) ∷ H) =
+    after_look c _ _ (after_silence c n _ (in_order r reason (effect r m (Silent c n)).after H))
+in_order r reason m (Happens (OutputEnds c) ∷ H) =
+    after_look c _ _ (after_act _ _ (after_note _ _ (in_order r reason (effect r m (OutputEnds c)).after H)))
+in_order r reason m (Happens (FailsToRead c) ∷ H) =
+    after_look c _ _ (after_act _ _ (after_note _ _ (in_order r reason (effect r m (FailsToRead c)).after H)))
+in_order r reason m (Happens (FailsToWrite c) ∷ H) =
+    after_act _ _ (after_note _ _ (in_order r reason (effect r m (FailsToWrite c)).after H))
 
 pub read_in_order : LinesAreReadInOrder
-read_in_order reason H before after S text e = in_order reason H before after S (Some text) e
+read_in_order r reason m H before after S text e = in_order r reason m H before after S (Some text) e
 
 pub silent_in_order : SilencesAreReadInOrder
-silent_in_order reason H before after S e = in_order reason H before after S None e
+silent_in_order r reason m H before after S e = in_order r reason m H before after S None e
 
 pub none_due : NothingIsDueAtEvents
 none_due r m n [] e H g = refl

@@ -1,8 +1,7 @@
 -- The moves of a match are legal, each in the position to which those before it lead.
-use Rattle.std.proofs.Common.{◌≡◌, ℕ, List, [], ◌∷◌, ◌++◌, refl, subst}
+use Rattle.std.proofs.Common.{ℕ, List, [], ◌∷◌, ◌++◌, subst}
 use Rattle.chess_base.specs.Men.{other}
 use Rattle.chess_base.specs.declared.man.Colour.{Colour}
-use Rattle.chess_base.specs.Moves.{after}
 use Rattle.chess_base.specs.declared.man.Move.{Move}
 use Rattle.chess_base.specs.declared.setup.Setup.{Setup}
 use Rattle.chess_game.specs.Line.{IsLine, position_after}
@@ -16,11 +15,7 @@ use Rattle.chess_match.specs.laws.Laws.{lines_read}
 use Rattle.chess_match_laws.specs.OfActs.{GamesAreLines, MovesAreRead}
 use Rattle.chess_match_laws.proofs.Points.{in_each}
 use Rattle.chess_match_laws.proofs.ReadLaw.{moves_are_read}
-
-one_after : (start : Setup) (before : List Move) (m : Move)
-    → position_after start (before ++ m ∷ []) ≡ after (position_after start before) m
-one_after start [] m = refl
-one_after start (n ∷ before) m = one_after (after start n) before m
+use Rattle.chess_game.proofs.shared.Lines.{position_after-snoc}
 
 line_from : ReadMovesAreLegal → (start : Setup) (level : Colour → LevelSeen) (patience : Patience) (draws : Draws) (limit : ℕ)
     (before ms : List Move) (mine theirs : List (List ℕ))
@@ -29,7 +24,7 @@ line_from : ReadMovesAreLegal → (start : Setup) (level : Colour → LevelSeen)
 line_from legal start level patience draws limit before [] mine theirs h = tt
 line_from legal start level patience draws limit before (m ∷ ms) mine theirs (text, rest, e, denoted, more) = (
   legal (position_after start before) text m denoted,
-  subst (λ (p : Setup). IsLine p ms) (one_after start before m)
+  subst (λ (p : Setup). IsLine p ms) (position_after-snoc start before m)
       (line_from legal start level patience draws limit (before ++ m ∷ []) ms theirs rest more),
 )
 

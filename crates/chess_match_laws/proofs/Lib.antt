@@ -17,6 +17,7 @@ mod OneRunLaw
 mod GameLaw
 mod EndLaw
 mod LastLine
+mod LastLook
 mod TimeForfeits
 mod VerdictLaw
 mod DrawLaw

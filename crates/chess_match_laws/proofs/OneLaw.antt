@@ -10,12 +10,13 @@ use Rattle.chess_base.specs.Men.{same_colour}
 use Rattle.chess_base.specs.Options.{list_if}
 use Rattle.chess_base.proofs.shared.Men.{same_colour-self}
 use Rattle.chess_match.specs.Acts.{Act, Block, IsMatch, IsMatchFrom, Sends, SendFails, Happens, awaits_line, blocks_from, is_limited, is_over}
+use Rattle.chess_match.specs.ByDevice.{look}
 use Rattle.chess_match.specs.shared.Parts.{blocks_after}
 use Rattle.chess_match.specs.Effects.{Match, Phase, Opening, beginning, effect}
 use Rattle.chess_match.specs.Events.{Event, Line, Opened, Silent, OutputEnds, FailsToRead, FailsToWrite}
 use Rattle.chess_match.specs.Rules.{Rules}
 use Rattle.chess_match.specs.Lines.{SentLine}
-use Rattle.chess_match_laws.specs.Streams.{Streams, blocks_sent, look, looks}
+use Rattle.chess_match_laws.specs.Streams.{Streams, blocks_sent, looks}
 use Rattle.chess_match.specs.laws.Laws.{broken_blocks, has_ended, has_failed_read, is_broken, lines_read, moments_shown, match_after}
 use Rattle.chess_match_laws.specs.OfActs.{AreOf, OnlyOneMatch}
 use Rattle.chess_match.proofs.shared.MatchCases.{all_sends_end, both_not, by_cases, none_read, on_when_read, sends_end, unread, unsent_in}

@@ -5,7 +5,7 @@ use Rattle.std.specs.Prelude.{if◌then◌else◌, is_some, nat_lt, slice_get}
 use Rattle.std.specs.Option.{IfSome}
 use Rattle.std.specs.Io.KnownBytes.{Appends, Consumes}
 use Rattle.std.proofs.lemmas.List.{append_cancel_left, append_cancel_right}
-use Rattle.chess_base.specs.Letters.{new_line}
+use Rattle.byte_devices.specs.Bytes.{new_line}
 use Rattle.chess_base.specs.Men.{other, same_colour}
 use Rattle.chess_base.specs.Options.{list_if}
 use Rattle.chess_base.specs.declared.man.Colour.{Colour}
@@ -237,7 +237,9 @@ said_alike S K i text e h = record {
   lines = (h.lines.0, ap engine_lines e ∙ h.lines.1);
   ended = h.ended;
   failed = h.failed;
+  silences = h.silences;
   all = λ over. ap engine_lines e ∙ h.all over;
+  all_if_silent = λ none. ap engine_lines e ∙ h.all_if_silent none;
 }
 
 -- as much was sent in both, if a write failed

@@ -3,6 +3,7 @@ use Rattle.std.specs.Prelude.{◌≡◌, ◌<◌, ◌≤◌, ◌+◌, ◌-◌, �
 use Rattle.std.specs.List.{flat_map, fold, list_any}
 use Rattle.std.specs.Option.{IfSome, option_map_or}
 use Rattle.byte_devices.specs.Devices.{OutputState}
+use Rattle.byte_devices.specs.Transfers.{FromInput, InputGave}
 use Rattle.chess_base.specs.declared.man.Colour.{Colour}
 use Rattle.chess_base.specs.declared.man.Colour.TheVariants.{White, Black}
 use Rattle.chess_base.specs.declared.man.Move.{Move}
@@ -24,6 +25,7 @@ use Rattle.chess_match.specs.Notes.{Happened}
 use Rattle.chess_match.specs.Played.{World, Passed, PlayedBy}
 use Rattle.chess_match.specs.Reasons.{is_write_fault_of}
 use Rattle.chess_match.specs.Rules.{Rules, rules_of, has_bare_king}
+use Rattle.chess_match.specs.Run.{engine_lines}
 use Rattle.chess_match.specs.declared.draws.Draws.{Draws}
 use Rattle.chess_match.specs.declared.draws.Draws.TheVariants.{Automatic}
 use Rattle.chess_match.specs.declared.patience.Patience.{Patience}
@@ -77,18 +79,18 @@ EndsAfterItsActs r H m = match_after r beginning.after H ≡ m
 
 -- ---- order
 
--- among the steps of any acts, a match or not: after a line is read, the next steps are to read the clock for that side
+-- among the steps of any acts, a match or not, from any state on: after a line is read, the next steps are to read the clock for that side
 -- and to note the line with the moment that the clock showed
 abbrev pub LinesAreReadInOrder : Type 0
-LinesAreReadInOrder = (reason : Reason) (H : List Act) (before after : List Step) (S : Colour)
-    (text : Option (List ℕ)) → watched reason H ≡ before ++ ReadsLine S text ∷ after
+LinesAreReadInOrder = (r : Rules) (reason : Reason) (m : Match) (H : List Act) (before after : List Step) (S : Colour)
+    (text : Option (List ℕ)) → watched r reason m H ≡ before ++ ReadsLine S text ∷ after
     → (moment : ℕ) × (rest : List Step)
     × (after ≡ ReadsClock S moment ∷ Notes (Happened (Line S text moment)) ∷ rest)
 
 -- and so after no line was found: the clock is read for that side, and the silence is noted with the moment
 abbrev pub SilencesAreReadInOrder : Type 0
-SilencesAreReadInOrder = (reason : Reason) (H : List Act) (before after : List Step) (S : Colour)
-    → watched reason H ≡ before ++ FindsNoLine S ∷ after
+SilencesAreReadInOrder = (r : Rules) (reason : Reason) (m : Match) (H : List Act) (before after : List Step)
+    (S : Colour) → watched r reason m H ≡ before ++ FindsNoLine S ∷ after
     → (moment : ℕ) × (rest : List Step)
     × (after ≡ ReadsClock S moment ∷ Notes (Happened (Silent S moment)) ∷ rest)
 
@@ -188,7 +190,7 @@ abbrev pub endless : Patience
 endless = record { flag = false; reply = None }
 
 -- in the acts `H` and `K` the same looks for a line found none. It holds of all matches by rules that set no limit to
--- waiting (`silences_end_matches`); devices show nothing of silences
+-- waiting (`silences_end_matches`); devices don't show which looks found none
 abbrev pub HaveSameSilences : Rules → List Act → List Act → Type 0
 HaveSameSilences r H K =
     (r.patience ≡ endless) ⊎ ((silent : Colour → ℕ → Bool) × AreSilent silent H × AreSilent silent K)
@@ -386,6 +388,14 @@ SilencesChangeNothing = (r : Rules) (before after : List Act) (S : Colour) (mome
     → let m = match_after r beginning.after before in
     is_beyond r m m.phase S moment ≡ false → is_some m.since ≡ true
     → ((effect r m (Silent S moment)).after ≡ m) × ((X : Colour) → (effect r m (Silent S moment)).to X ≡ [])
+
+-- in every match that was played and ended by a silence of the side `S`, after which only blocks were sent: of what was
+-- read from the engine of `S` no line is left over. The bytes `i.text` have just the lines that were read in the match
+abbrev pub SilencesLeaveNoLine : Type 0
+SilencesLeaveNoLine = (before after : List Act) (S : Colour) (moment : ℕ) (reason : Reason) (setup : Setup)
+    (end : MatchEnd) (w w' : World) → let H = before ++ Happens (Silent S moment) ∷ after in
+    PlayedBy H reason setup end w w' → only_sends after ≡ true
+    → (i : FromInput) × InputGave (w.engines S).input (w'.engines S).input i × (engine_lines i.text ≡ lines_read S H)
 
 -- whether this act shows the flag of the side `S` fallen, in a match that is `m` before it: before the move of `S` a
 -- line came, or none yet, and the clock showed more than `S` had left

@@ -7,8 +7,9 @@ use Rattle.chess_base.specs.Men.{other, same_colour}
 use Rattle.cecp_engine.specs.EngineLines.{LineKind, Moves}
 use Rattle.cecp_engine.specs.Items.{Item, ends_handshake}
 use Rattle.cecp_engine.specs.Levels.{LevelSeen, allotted}
-use Rattle.chess_match.specs.Acts.{Act, Block, Sends, Happens}
-use Rattle.chess_match.specs.Events.{Line, Opened, Silent, OutputEnds, FailsToRead}
+use Rattle.chess_match.specs.Acts.{Act, Block, Sends}
+use Rattle.chess_match.specs.ByDevice.{look}
+use Rattle.chess_match.specs.Events.{Line, Opened, Silent}
 use Rattle.chess_match.specs.Rules.{Rules, text_of_last}
 use Rattle.chess_text.specs.declared.reading.Reading.TheVariants as reads
 use Rattle.chess_match.specs.Notes.{Note, Happened, Gives}
@@ -19,15 +20,6 @@ use Rattle.chess_text.specs.Moves.{reading}
 use Rattle.chess_match.specs.laws.Laws.{line_kind, items_in_line, move_said, is_pong}
 
 -- ---- what acts did at each device
-
--- whether by this act a line of the side `S` was looked for and had not come (true) or a line, an end or a failed read
--- was found (false), as a list of one; empty if no line of `S` was looked for
-abbrev pub look : Colour → Act → List Bool
-look S (Happens (Silent side moment)) = list_if (same_colour side S) (true ∷ [])
-look S (Happens (Line side text moment)) = list_if (same_colour side S) (false ∷ [])
-look S (Happens (OutputEnds side)) = list_if (same_colour side S) (false ∷ [])
-look S (Happens (FailsToRead side)) = list_if (same_colour side S) (false ∷ [])
-look S _ = []
 
 -- each look for a line of the side `S` in these acts, in order: whether none had come
 abbrev pub looks : Colour → List Act → List Bool

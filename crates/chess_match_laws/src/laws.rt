@@ -2,7 +2,7 @@
 
 ghost use Rattle.std.specs.Prelude.{true, false};
 ghost use Rattle.chess_match_laws.specs.Answering.{AnsweringEnginesAreBlameless};
-ghost use Rattle.chess_match_laws.specs.OfActs.{AtEachLine, AtEachMoment, AtEachOpening, InEachMatch, EndsAfterItsActs, AutomaticDrawsEndMatches, LinesAreReadInOrder, SilencesAreReadInOrder, NothingIsDueAtEvents, FailedBlocksAreLast, OneBlockFails, WriteFaultsAreOfBlocks, OnlyOneMatch, OneMatchButForEndLines, OnlyOneMatchOfARun, DecidedByTheBoard, OutcomesAreOfTheGame, LastLineIsTheirs, MovesAreRead, ItemsAreSaid, MovesAreSent, EachIsSentOthersMoves, AllMovesAreGiven, AllMovesAreSent, IsSentAllMoves, MovesSentAreKnown, GamesAreLines, TimesAreClocks, OtherTimesAreClocks, UsedTimesAreDifferences, ClocksDoNotUnderflow, LinesAreFew, SilencesAreAskedFor, SilencesChangeNothing, SilencesEndMatches, TimeForfeitsAreShown, NotesAreInOrder, NotesHaveTheEvents, NotesHaveAllLines, NotesHaveLinesRead, NotesHaveMoments, EndsAtVerdicts};
+ghost use Rattle.chess_match_laws.specs.OfActs.{AtEachLine, AtEachMoment, AtEachOpening, InEachMatch, EndsAfterItsActs, AutomaticDrawsEndMatches, LinesAreReadInOrder, SilencesAreReadInOrder, NothingIsDueAtEvents, FailedBlocksAreLast, OneBlockFails, WriteFaultsAreOfBlocks, OnlyOneMatch, OneMatchButForEndLines, OnlyOneMatchOfARun, DecidedByTheBoard, OutcomesAreOfTheGame, LastLineIsTheirs, MovesAreRead, ItemsAreSaid, MovesAreSent, EachIsSentOthersMoves, AllMovesAreGiven, AllMovesAreSent, IsSentAllMoves, MovesSentAreKnown, GamesAreLines, TimesAreClocks, OtherTimesAreClocks, UsedTimesAreDifferences, ClocksDoNotUnderflow, LinesAreFew, SilencesAreAskedFor, SilencesChangeNothing, SilencesEndMatches, SilencesLeaveNoLine, TimeForfeitsAreShown, NotesAreInOrder, NotesHaveTheEvents, NotesHaveAllLines, NotesHaveLinesRead, NotesHaveMoments, EndsAtVerdicts};
 ghost use Rattle.chess_match_laws.specs.Rows.{AgreedDrawsAreOffered, GoIsSentOnce, IsSetUp, PingsAreNumbered, WasSentGo};
 ghost use Rattle.chess_match.specs.laws.Laws.{VerdictsEndMatches};
 
@@ -139,6 +139,12 @@ pub fn silences_end_matches()
     ensures asked_for { SilencesAreAskedFor }
     ensures beyond { SilencesEndMatches }
     ensures otherwise { SilencesChangeNothing }
+{}
+
+/// States a law and does nothing: if a match ended by a silence, so that a side lost on time without a line or did not
+/// answer, all lines in the bytes that were read from its engine are lines of the match. None was read and passed over.
+pub fn silences_leave_no_line()
+    ensures { SilencesLeaveNoLine }
 {}
 
 /// States a law and does nothing: in a game of at most `limit` half-moves at most 22,000 + 10,002 * (limit + 1) lines

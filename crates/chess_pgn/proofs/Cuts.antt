@@ -2,7 +2,7 @@
 use Rattle.std.proofs.Common.{◌≡◌, ℕ, Bool, true, false, not, eqb, List, [], ◌∷◌, ◌++◌, refl, sym, ap, ◌∙◌, inl, inr, ◌⊎◌, append_assoc}
 use Rattle.std.specs.List.{list_all}
 use Rattle.std.proofs.lemmas.Bool.{and_parts}
-use Rattle.chess_base.specs.Letters.{is_digit}
+use Rattle.byte_devices.specs.Bytes.{is_digit}
 use Rattle.chess_pgn.specs.Tokens.{Token, is_word_byte, token_at}
 use Rattle.chess_pgn.specs.shared.Kinds.{Kind, Blank, Line, Comment, Nag, Variation, Tag_pair, Asterisk, Symbol, IsOf}
 use Rattle.chess_pgn.proofs.ByteRuns.{differs}
@@ -28,7 +28,7 @@ run_ends p ten c (d ∷ xs) e h =
     let k = run_ends p ten d xs (differs p d 10 both.0 ten) both.1 in
     record { front = c ∷ k.front; last = k.last; is = ap (λ ys. c ∷ ys) k.is; no_end = k.no_end }
 
-same_first : (c d : ℕ) (xs ys : List ℕ) → c ∷ xs ≡ d ∷ ys → c ≡ d
+pub same_first : (c d : ℕ) (xs ys : List ℕ) → c ∷ xs ≡ d ∷ ys → c ≡ d
 same_first c d xs ys e = cc
 
 -- the last byte of a token whose first byte isn't 10

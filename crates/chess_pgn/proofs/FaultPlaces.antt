@@ -13,7 +13,8 @@ use Rattle.chess_pgn.specs.GameRead.{GameRead, tagged_variant, pgn_read}
 use Rattle.chess_pgn.specs.LastTags.{tag_section}
 use Rattle.chess_pgn.specs.laws.TokenByToken.{SoFar, Step, On, Stop, step, read_rest_with, game_of, at_text_end, nothing_read, tokens_read}
 use Rattle.chess_pgn.specs.laws.Offsets.{FaultsHaveOffsets, HalfMovesHaveBytes}
-use Rattle.chess_pgn.specs.Tokens.{Token, token_at, tokens_of, after_byte_order_mark, begins_line, tokens_from}
+use Rattle.chess_pgn.specs.Tokens.{Token, token_at, tokens_of, begins_line, tokens_from}
+use Rattle.byte_devices.specs.Bytes.{after_byte_order_mark}
 use Rattle.chess_pgn.proofs.GamesByTags.{reads_alike}
 use Rattle.chess_pgn.proofs.ByteRuns.{pick}
 use Rattle.chess_pgn.proofs.StepKinds.{StepIs, passes, stays, plays, starts, stops, finishes, step_is}

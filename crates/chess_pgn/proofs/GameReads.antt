@@ -11,7 +11,8 @@ use Rattle.chess_pgn.specs.declared.read.PgnEnd.{PgnEnd}
 use Rattle.chess_pgn.specs.declared.read.PgnFault.{PgnFault}
 use Rattle.chess_pgn.specs.declared.progress.Progress.{Progress}
 use Rattle.chess_pgn.specs.laws.WordKinds.{word_kind}
-use Rattle.chess_pgn.specs.Tokens.{Token, Skip, Word, after_byte_order_mark, after_brace, token_at, begins_line, tokens_from}
+use Rattle.chess_pgn.specs.Tokens.{Token, Skip, Word, after_brace, token_at, begins_line, tokens_from}
+use Rattle.byte_devices.specs.Bytes.{after_byte_order_mark}
 use Rattle.chess_pgn.specs.GameRead.{tagged_variant, pgn_read}
 use Rattle.chess_pgn.specs.laws.TokenByToken.{SoFar, Step, On, Stop, word_step, step, read_rest_with, game_of, nothing_read, tokens_read}
 use Rattle.chess_pgn.specs.LastTags.{may_precede_tags, named_tag, tag_section}

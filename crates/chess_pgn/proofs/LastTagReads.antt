@@ -22,9 +22,6 @@ pub record Reads (text name : List ℕ) (from : ℕ) (last : Option Tag) (here :
   pub whole : last_from name (found_seen last) (tokens_from text here)
       ≡ last_tag name (tag_section (tokens_from text from))
 
-pub begun : (text name : List ℕ) (from : ℕ) → from ≤ length text → Reads text name from None from
-begun text name from h = record { offset = h; within = tt; whole = refl }
-
 -- the tag found, or else the one before it
 seen_or : (found before : Option Tag)
     → found_seen (option_or found before) ≡ option_or (found_seen found) (found_seen before)

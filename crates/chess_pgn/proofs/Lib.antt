@@ -15,6 +15,7 @@ mod SkippedTokens
 mod Strings
 mod TagParts
 mod TagScans
+mod TagsLeft
 mod TokenPlaces
 mod Variations
 mod Walk

@@ -15,7 +15,7 @@ use Rattle.chess_pgn.specs.declared.word_kind.WordKind.{WordKind}
 use Rattle.chess_pgn.specs.declared.word_kind.WordKind.TheVariants.{End, Number, Marks, Move}
 use Rattle.chess_pgn.specs.Tokens.{Word, is_word_byte, token_at, begins_line}
 use Rattle.chess_pgn.specs.shared.Begins.{begins_as_move}
-use Rattle.chess_base.specs.Letters.{is_digit}
+use Rattle.byte_devices.specs.Bytes.{is_digit}
 use Rattle.pgn_writer.specs.Outcomes.{outcome_of}
 use Rattle.chess_pgn.specs.Words.{is_marks}
 use Rattle.chess_pgn.specs.laws.WordKinds.{word_kind}

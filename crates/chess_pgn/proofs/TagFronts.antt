@@ -8,7 +8,7 @@ use Rattle.std.proofs.lemmas.Bool.{eqb-true}
 use Rattle.std.proofs.lemmas.Bool.Decides.{nat_tests}
 use Rattle.std.proofs.lemmas.List.{length-take-le, take-append-drop}
 use Rattle.std.proofs.lemmas.List.Sums.{prefix_len-le-length}
-use Rattle.text_lines.specs.Words.{is_name_byte}
+use Rattle.byte_devices.specs.Bytes.{is_name_byte}
 use Rattle.chess_pgn.specs.Tokens.{after_byte, after_gap, after_next, name_at}
 use Rattle.chess_pgn.specs.Split.{IsGap, OpensTag, opens}
 use Rattle.chess_pgn.proofs.ByteRuns.{run_passes, run_take}

@@ -5,7 +5,7 @@ use Rattle.std.specs.List.{list_all, list_any, prefix_len, take_while}
 use Rattle.std.proofs.lemmas.Bool.{and_parts, or_parts, or_cases, eqb-true}
 use Rattle.std.proofs.lemmas.List.{take-append-drop, append_assoc, length-append}
 use Rattle.chess_pgn.specs.Tokens.{Token, Tag, Bad_tag, is_white_space, line_end, after_gap, string_at, onto, after_byte, after_next}
-use Rattle.text_lines.specs.Words.{is_name_byte}
+use Rattle.byte_devices.specs.Bytes.{is_name_byte}
 use Rattle.chess_pgn.specs.shared.Gaps.{gap_left}
 use Rattle.chess_pgn.specs.shared.TagParts.{closed, with_text, with_string, with_tag_name, tag_by_parts}
 use Rattle.chess_pgn.proofs.Skipped.{gap_line}

@@ -5,7 +5,7 @@ use Rattle.std.specs.List.{list_all, list_any, prefix_len, take_while}
 use Rattle.std.proofs.lemmas.Bool.{and_parts, or_parts, or_cases, eqb-true}
 use Rattle.std.proofs.lemmas.List.{take-append-drop, append-nil, append_assoc, length-append, length-drop, nil_from_length}
 use Rattle.std.proofs.lemmas.List.Folds.{list_all-append}
-use Rattle.chess_base.specs.Letters.{is_digit}
+use Rattle.byte_devices.specs.Bytes.{is_digit}
 use Rattle.chess_pgn.specs.Tokens.{Token, Skip, Tag, Word, Bad_tag, Unclosed_comment, Unclosed_variation, Bad, is_white_space, is_word_byte, line_end, after_brace, comment_at, variation_at, token_at}
 use Rattle.chess_pgn.specs.shared.TagParts.{tag_by_parts}
 use Rattle.chess_pgn.proofs.TagParts.{parts_are}

@@ -7,11 +7,9 @@ use Rattle.chess_pgn.specs.Tokens.{Token, Skip, Tag, Word, Bad_tag, Unclosed_com
 use Rattle.chess_pgn.proofs.Walk.{no_token, token_more, token_nearer}
 use Rattle.chess_pgn.proofs.TokenKinds.{not_empty, token_read, is_fault, no_token_of, TokenSays, known, faulty, token_says, comment_fault}
 use Rattle.chess_pgn.specs.shared.Kinds.{IsOf, IsLongest, token_of, HasNoToken, HasUnclosedComment, IsFault, IsSplitByKinds, ended, token, stopped}
+use Rattle.chess_pgn.proofs.Cuts.{same_first}
 
 -- ---- faults
-
-same_first : (c d : ℕ) (xs ys : List ℕ) → c ∷ xs ≡ d ∷ ys → c ≡ d
-same_first c d xs ys e = cc
 
 -- only a text that begins with `{` or `(` has a comment that isn't closed
 no_comment : (c : ℕ) (rest : List ℕ) → eqb c 123 ≡ false → eqb c 40 ≡ false → (n : ℕ) → HasUnclosedComment (c ∷ rest) n

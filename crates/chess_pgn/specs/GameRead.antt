@@ -10,7 +10,7 @@ use Rattle.chess_base.specs.declared.man.Variant.{Variant}
 use Rattle.chess_base.specs.declared.man.Variant.TheVariants.{Normal, Fischerandom}
 use Rattle.chess_base.specs.declared.setup.Setup.{Setup}
 use Rattle.chess_base.specs.Initial.{initial_setup_of}
-use Rattle.chess_base.specs.Letters.{is_digit}
+use Rattle.byte_devices.specs.Bytes.{is_digit, after_byte_order_mark}
 use Rattle.chess_fen.specs.Reading.{fen_reading_as}
 use Rattle.chess_game.specs.Game.{State, from_start, played, current, verdict_now}
 use Rattle.chess_game.specs.declared.results.Declared.{Declared}
@@ -27,7 +27,7 @@ use Rattle.chess_pgn.specs.declared.read.PgnFaultKind.TheVariants.{BadTag, BadFe
 use Rattle.pgn_writer.specs.declared.termination.Termination.{Termination}
 use Rattle.pgn_writer.specs.Terminations.{termination_named}
 use Rattle.chess_pgn.specs.LastTags.{says_nothing, tag_section, tags_named, last_tag}
-use Rattle.chess_pgn.specs.Tokens.{Token, Skip, Word, Bad_tag, Unclosed_comment, Unclosed_variation, Bad, after_byte_order_mark, tokens_from}
+use Rattle.chess_pgn.specs.Tokens.{Token, Skip, Word, Bad_tag, Unclosed_comment, Unclosed_variation, Bad, tokens_from}
 use Rattle.chess_pgn.specs.Split.{IsSplit}
 use Rattle.pgn_writer.specs.Outcomes.{outcome_of}
 use Rattle.chess_pgn.specs.Words.{is_marks}

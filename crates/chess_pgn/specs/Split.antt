@@ -5,8 +5,7 @@
 -- backslash in it may keep any byte.
 use Rattle.std.specs.Prelude.{◌≡◌, ℕ, ◌+◌, ◌-◌, ◌<◌, ◌≤◌, Bool, true, false, not, ◌&&◌, ◌||◌, List, [], ◌∷◌, ◌++◌, length, drop, codes, ◌==◌}
 use Rattle.std.specs.List.{list_all, list_any}
-use Rattle.chess_base.specs.Letters.{is_digit, byte, new_line}
-use Rattle.text_lines.specs.Words.{is_name_byte}
+use Rattle.byte_devices.specs.Bytes.{is_digit, byte, new_line, is_name_byte}
 use Rattle.chess_pgn.specs.Tokens.{Token, Skip, Tag, Word, Bad_tag, Unclosed_comment, Unclosed_variation, Bad, is_white_space, is_word_byte, begins_line}
 
 -- ---- bytes

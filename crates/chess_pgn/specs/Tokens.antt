@@ -5,12 +5,11 @@
 -- any byte; and that the bytes EF BB BF at offset 0 are skipped.
 use Rattle.std.specs.Prelude.{ℕ, zero, suc, ◌-◌, Bool, false, not, ◌&&◌, ◌||◌, List, [], ◌∷◌, ◌++◌, length, take, drop, slice_index, Option, Some, None, codes, ◌==◌, if◌then◌else◌}
 use Rattle.chess_base.specs.Options.{◌>>=◌}
-use Rattle.chess_base.specs.Letters.{is_digit, byte, carriage_return, new_line, space, tab}
+use Rattle.byte_devices.specs.Bytes.{is_digit, byte, carriage_return, new_line, space, tab, is_name_byte}
 use Rattle.std.specs.List.{list_all, list_any, join_with_byte, prefix_len, position_or_len, take_while}
 use Rattle.std.specs.Option.{option_map, option_map_or, unwrap_or}
 use Rattle.std.specs.Str.{bytes_eq}
 use Rattle.text_lines.specs.Lines.{parts}
-use Rattle.text_lines.specs.Words.{is_name_byte}
 
 -- a token of a PGN text (section 7): what is skipped, such as white space, a comment or a variation; a tag; a word,
 -- such as a move; or what can't be read. A field `to_end` is the number of bytes from a place to the text's end
@@ -163,11 +162,6 @@ tokens_of (suc most) line_begins (c ∷ rest) =
     let t = token_at line_begins c rest in (length (c ∷ rest), t.0) ∷ tokens_of most (c == new_line) t.1
 
 -- ---- a text from an offset on
-
--- where reading begins: at 3 if `at` is 0 and the text begins with a UTF-8 byte order mark (EF BB BF), otherwise at
--- `at`
-abbrev pub after_byte_order_mark : List ℕ → ℕ → ℕ
-after_byte_order_mark text at = if (at == 0) && bytes_eq (take 3 text) (239 ∷ 187 ∷ 191 ∷ []) then 3 else at
 
 -- whether a line begins at an offset: it is 0, or `\n` comes before it. None begins right after a byte order mark
 abbrev pub begins_line : List ℕ → ℕ → Bool

@@ -1,6 +1,6 @@
 -- Which words of a game's text are marks such as `!?` (PGN standard of 1994, section 8.2.3.8).
 use Rattle.std.specs.Prelude.{ℕ, Bool, not, ◌&&◌, ◌||◌, List, length, ◌==◌}
-use Rattle.chess_base.specs.Letters.{byte}
+use Rattle.byte_devices.specs.Bytes.{byte}
 use Rattle.std.specs.List.{list_all}
 
 -- whether a word is marks such as `!?`: one or more bytes, each of them `!` or `?`

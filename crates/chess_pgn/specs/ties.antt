@@ -2,3 +2,4 @@
 pub mod Seen
 pub mod VariationParts
 pub mod GameSteps
+pub mod TagsLeft

@@ -9,6 +9,15 @@
 //! }
 //! write_pgn(&game, &mut scratch, &Tags::default(), b"", &mut output)?;
 //! ```
+//!
+//! The names of its tags, one a line:
+//!
+//! ```
+//! for tag in game_tags(text, 0) {
+//!     put(&mut output, tag.name)?;
+//!     put(&mut output, b"\n")?;
+//! }
+//! ```
 #![tactic(auto)]
 
 mod bytes;
@@ -18,6 +27,7 @@ mod progress;
 mod read;
 mod skips;
 mod tag;
+mod tag_list;
 mod tagged_result;
 mod termination;
 mod token;
@@ -30,4 +40,5 @@ pub use chess_game::{HowEnded, TagText};
 pub use laws::{faults_have_offsets, half_moves_have_bytes};
 pub use pgn_writer::{Tags, Termination, outcome_of, write_pgn};
 pub use read::{PgnEnd, PgnFault, PgnFaultKind, read_pgn};
+pub use tag_list::{GameTags, PgnTag, game_tags, tag_text};
 pub use tagged_result::{ResultTag, result_tag};

@@ -22,9 +22,10 @@ ghost use Rattle.chess_pgn.specs.ties.GameSteps.{refusal_kind, EndsIn, so_far, s
 use crate::last_tag::{last_tag, may_precede_tags, named_tag};
 use crate::progress::Progress;
 use crate::tag::Tag;
-use crate::token::{Token, TokenFault, after_blanks, after_byte_order_mark, next_token};
+use crate::token::{Token, TokenFault, after_blanks, next_token};
 use crate::word_kind::{WordKind, word_kind};
 use crate::words::{after_skipped, play_words};
+use byte_devices::after_byte_order_mark;
 use chess_base::{FenFault, Position, Variant};
 use chess_fen::read_fen_as;
 use chess_game::{Comment, Game, Outcome, PlayRefusal};

@@ -3,14 +3,13 @@
 ghost use Rattle.std.specs.Prelude.{◌≡◌, drop, false, take_while, Option};
 ghost use Rattle.std.specs.List.{prefix_len};
 ghost use Rattle.std.specs.Option.{option_map};
-ghost use Rattle.text_lines.specs.Words.{is_name_byte};
+ghost use Rattle.byte_devices.specs.Bytes.{is_name_byte};
 ghost use Rattle.chess_pgn.specs.Tokens.{is_white_space, after_next, string_at};
 ghost use Rattle.chess_pgn.specs.shared.TagParts.{tag_by_parts};
 ghost use Rattle.chess_pgn.specs.ties.Seen.{tag_seen};
 
-use crate::bytes::{is_name_byte, split_while};
 use crate::skips::after_gap;
-use byte_devices::len_before_any;
+use byte_devices::{is_name_byte, len_before_any, split_while};
 
 /// A tag that was read: `[Event "a"]` has the name `Event` and the text `a`, the bytes between its quotes as they are,
 /// with their backslashes. `to_end` is the number of bytes from the byte after its opening quote (here `a`) to the end

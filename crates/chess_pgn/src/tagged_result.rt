@@ -4,10 +4,11 @@ ghost use Rattle.std.specs.Prelude.{◌≡◌, ◌≤◌, List, length, ℕ};
 ghost use Rattle.std.specs.Option.{IfSome};
 ghost use Rattle.chess_pgn.specs.LastTags.{result_tag_of};
 ghost use Rattle.chess_pgn.specs.Split.{IsSplit};
-ghost use Rattle.chess_pgn.specs.Tokens.{Token, after_byte_order_mark};
+ghost use Rattle.chess_pgn.specs.Tokens.{Token};
+ghost use Rattle.byte_devices.specs.Bytes.{after_byte_order_mark};
 
 use crate::last_tag::last_tag;
-use crate::token::after_byte_order_mark;
+use byte_devices::after_byte_order_mark;
 use chess_game::Outcome;
 use pgn_writer::outcome_of;
 

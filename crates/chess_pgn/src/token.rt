@@ -5,14 +5,15 @@
 ghost use Rattle.std.specs.Prelude.{◌≡◌, ◌≤◌, ◌∷◌, length, drop, false, [], None};
 ghost use Rattle.std.specs.List.{prefix_len, take_while};
 ghost use Rattle.std.specs.Option.{unwrap_or};
-ghost use Rattle.chess_pgn.specs.Tokens.{is_word_byte, token_at, comment_at, after_brace, variation_at, tag_at, Bad_tag, begins_line, after_byte_order_mark};
-ghost use Rattle.chess_base.specs.Letters.{is_digit};
+ghost use Rattle.chess_pgn.specs.Tokens.{is_word_byte, token_at, comment_at, after_brace, variation_at, tag_at, Bad_tag, begins_line};
+ghost use Rattle.byte_devices.specs.Bytes.{is_digit};
 ghost use Rattle.chess_pgn.specs.ties.Seen.{first_seen, IsNextToken, SkipsTo};
 
-use crate::bytes::{is_digit, is_passed, is_word_byte, split_while};
+use crate::bytes::{is_passed, is_word_byte};
 use crate::skips::{after_brace, line_end};
 use crate::tag::{Tag, read_tag};
 use crate::variation::after_variation;
+use byte_devices::{is_digit, split_while};
 
 /// A token of a PGN text that can be read.
 #[derive(Clone, Copy)]
@@ -170,19 +171,4 @@ pub(crate) fn after_blanks(text: &[u8], at: usize) -> usize
         offset += 1;
     }
     offset
-}
-
-/// The offset where reading begins: 3 if `at` is 0 and the text begins with the bytes EF BB BF (a byte order mark of
-/// UTF-8), and otherwise `at`. pgn_pieces doesn't use this crate, so it skips the mark with code of its own.
-pub(crate) fn after_byte_order_mark(text: &[u8], at: usize) -> usize
-    requires { at ≤ length text.now }
-    ensures offset { result ≡ after_byte_order_mark text.now at }
-    ensures forward { at ≤ result }
-    ensures within { result ≤ length text.now }
-{
-    if at == 0 && text.starts_with(&[0xEF, 0xBB, 0xBF]) {
-        3
-    } else {
-        at
-    }
 }

@@ -2,12 +2,12 @@
 
 ghost use Rattle.std.specs.Prelude.{◌≡◌, ◌||◌, ◌==◌, false};
 ghost use Rattle.std.specs.List.{list_all};
-ghost use Rattle.chess_base.specs.Letters.{byte, is_digit};
+ghost use Rattle.byte_devices.specs.Bytes.{byte, is_digit};
 ghost use Rattle.chess_pgn.specs.Words.{is_marks};
 ghost use Rattle.chess_pgn.specs.laws.WordKinds.{word_kind};
 ghost use Rattle.chess_pgn.specs.shared.Begins.{begins_as_move};
 
-use crate::bytes::is_digit;
+use byte_devices::is_digit;
 use chess_game::Outcome;
 use pgn_writer::outcome_of;
 

@@ -1,3 +1,4 @@
+pub mod shared
 mod FullLines
 mod LastTexts
 mod NormalGames

@@ -15,7 +15,8 @@ use Rattle.chess_pgn.specs.LastTags.{says_nothing, tag_section, last_tag}
 use Rattle.chess_pgn_laws.specs.Normal.{normal_read, NormalIsKept}
 use Rattle.pgn_writer.specs.Terminations.{termination_of}
 use Rattle.chess_pgn.proofs.shared.Games.{fens}
-use Rattle.chess_pgn.specs.Tokens.{Token, after_byte_order_mark, tokens_from}
+use Rattle.chess_pgn.specs.Tokens.{Token, tokens_from}
+use Rattle.byte_devices.specs.Bytes.{after_byte_order_mark}
 
 initial_is : initial_setup_of Normal ≡ initial_setup
 unfolding initial_setup

@@ -27,6 +27,7 @@ use Rattle.pgn_writer.specs.shared.Lines.{fits_line, wrapped_token, next_column,
 use Rattle.pgn_writer.proofs.shared.Lines.{filled_from}
 use Rattle.chess_pgn_laws.proofs.PgnPieces.{read_on, Takes, begun, white_number, black_number, san_takes, skip_space, skip_line_end, ended_game, outcome_ends}
 use Rattle.chess_text.proofs.shared.San.{san_short}
+use Rattle.chess_game.proofs.shared.Lines.{position_after-snoc}
 
 -- ---- tokens in filled lines
 
@@ -106,11 +107,6 @@ read_so_far t start done is_begun = record {
   is_begun = is_begun;
   termination = t;
 }
-
-last-more : (start : Setup) (done : List Move) (m : Move) → position_after start (done ++ m ∷ [])
-    ≡ after (position_after start done) m
-last-more start [] m = refl
-last-more start (x ∷ done) m = last-more (after start x) done m
 
 module _ (limit total : ℕ) where
   -- what is before a token in its line is skipped
@@ -194,7 +190,7 @@ module _ (limit total : ℕ) where
       ap (verdict start) (sym here) ∙ whole.unended (length done) (omega arith) in
       let room : length done < limit = omega (arith, whole.few) in
       let tail = moves_read law said start all whole o rest r ended false (after p m) (done ++ m ∷ []) ms
-      (append_assoc done (m ∷ []) ms ∙ same) (last-more start done m ∙ ap (λ q. after q m) at)
+      (append_assoc done (m ∷ []) ms ∙ same) (position_after-snoc start done m ∙ ap (λ q. after q m) at)
       (law p m sound line.0) line.1 in
       let tokens : numbered_moves is_first p (m ∷ ms) ++ o ∷ [] ≡ number_if_due p.side is_first p.fullmove
       ++ san p m ∷ more = simp append_assoc in

@@ -4,7 +4,7 @@ use Rattle.std.specs.List.{list_all, prefix_len, take_while, AllByRecursion}
 use Rattle.std.proofs.lemmas.Bool.{and_parts, and_from, or_parts}
 use Rattle.std.proofs.lemmas.Bool.Decides.{nat_tests}
 use Rattle.chess_pgn.specs.Tokens.{Tag, after_gap, after_byte, string_at, onto, token_at}
-use Rattle.text_lines.specs.Words.{is_name_byte}
+use Rattle.byte_devices.specs.Bytes.{is_name_byte}
 use Rattle.chess_pgn.specs.shared.TagParts.{closed, with_text, with_string, with_tag_name, tag_by_parts}
 use Rattle.chess_game.specs.Results.{IsTagText}
 use Rattle.pgn_writer.specs.Written.{escaped, tag_line}

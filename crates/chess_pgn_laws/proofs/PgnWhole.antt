@@ -33,7 +33,8 @@ use Rattle.pgn_writer.specs.GameText.{tag_lines, game_tokens, pgn}
 use Rattle.pgn_writer.specs.shared.TagGroups.{fen_lines, start_lines_in, last_lines, further_lines}
 use Rattle.pgn_writer.specs.shared.NumberedMoves.{numbered_moves}
 use Rattle.chess_pgn_laws.specs.PgnLaw.{AreTagTexts, IsReadBack, PgnIsReadBack, ResultIsWritten}
-use Rattle.chess_pgn.specs.Tokens.{Token, after_byte_order_mark, begins_line, tokens_of, tokens_from}
+use Rattle.chess_pgn.specs.Tokens.{Token, begins_line, tokens_of, tokens_from}
+use Rattle.byte_devices.specs.Bytes.{after_byte_order_mark}
 use Rattle.chess_pgn.specs.declared.tagged_result.ResultTag.{ResultTag}
 use Rattle.pgn_writer.specs.Written.{escaped, tag_line, ended}
 use Rattle.pgn_writer.proofs.shared.Lines.{filled_from}

@@ -17,7 +17,8 @@ use Rattle.pgn_writer.specs.declared.tags.Tags.{Tags}
 use Rattle.chess_pgn.specs.GameRead.{GameRead, Row, Goes_on, Fails, move_row, after_row, moves_read, read_of_split}
 use Rattle.chess_pgn.specs.GameRead.{IsRead}
 use Rattle.pgn_writer.specs.GameText.{tag_lines, game_tokens}
-use Rattle.chess_pgn.specs.Tokens.{Token, Skip, Tag, Word, after_byte_order_mark, token_at, tokens_of, tokens_from}
+use Rattle.chess_pgn.specs.Tokens.{Token, Skip, Tag, Word, token_at, tokens_of, tokens_from}
+use Rattle.byte_devices.specs.Bytes.{after_byte_order_mark}
 use Rattle.pgn_writer.specs.Written.{ended}
 use Rattle.chess_pgn_laws.specs.Examples.{finished, TextsAreSplit, TextsAreRead, TextsAreLaidOut}
 use Rattle.pgn_writer.specs.PgnText.{IsPgn}

@@ -8,7 +8,7 @@ use Rattle.std.specs.Fmt.{decimal}
 use Rattle.std.specs.List.{list_all, prefix_len, take_while}
 use Rattle.std.specs.Prelude.{nat_le}
 use Rattle.std.specs.Str.Parse.{AllDigits}
-use Rattle.chess_base.specs.Letters.{is_digit, is_letter}
+use Rattle.byte_devices.specs.Bytes.{is_digit, is_letter}
 use Rattle.chess_pgn.specs.declared.word_kind.WordKind.TheVariants.{Move}
 use Rattle.chess_pgn.specs.Tokens.{Word, is_word_byte, token_at}
 use Rattle.chess_pgn.specs.laws.WordKinds.{word_kind}
@@ -53,12 +53,12 @@ move_kind (c ∷ cs) h =
 
 -- ---- numbers and SAN are words
 
-pub all_of : (p q : ℕ → Bool) → ((c : ℕ) → p c ≡ true → q c ≡ true) → (text : List ℕ) → list_all p text ≡ true
+pub list_all-weaker : (p q : ℕ → Bool) → ((c : ℕ) → p c ≡ true → q c ≡ true) → (text : List ℕ) → list_all p text ≡ true
     → list_all q text ≡ true
-all_of p q h [] all = refl
-all_of p q h (c ∷ cs) all =
+list_all-weaker p q h [] all = refl
+list_all-weaker p q h (c ∷ cs) all =
     let both = and_parts (p c) (list_all p cs) all in
-    and_from (q c) (list_all q cs) (h c both.0) (all_of p q h cs both.1)
+    and_from (q c) (list_all q cs) (h c both.0) (list_all-weaker p q h cs both.1)
 
 -- digits as std defines them
 all_digits : (text : List ℕ) → AllDigits 10 text → list_all is_digit text ≡ true
@@ -87,7 +87,7 @@ digit_in_word c h = by_letter (is_letter c) (is_digit c) h
     by_letter false false e = cc
 
 pub number_bytes : (text : List ℕ) → list_all is_digit text ≡ true → list_all is_word_byte text ≡ true
-number_bytes = all_of is_digit is_word_byte digit_in_word
+number_bytes = list_all-weaker is_digit is_word_byte digit_in_word
 
 -- letter, digit, `+`, `#`, `=` and `-` among the bytes of words
 among : (letter digit plus sharp equals dash under others : Bool) → (letter || digit || plus || sharp || equals || dash)
@@ -106,4 +106,4 @@ san_in_word c h = among (is_letter c) (is_digit c) (eqb c 43) (eqb c 35) (eqb c 
     (eqb c 47 || (eqb c 33 || (eqb c 63 || (eqb c 58 || false)))) h
 
 pub san_bytes_in_word : (text : List ℕ) → list_all (λ c. is_san_byte c) text ≡ true → list_all is_word_byte text ≡ true
-san_bytes_in_word = all_of (λ c. is_san_byte c) is_word_byte san_in_word
+san_bytes_in_word = list_all-weaker (λ c. is_san_byte c) is_word_byte san_in_word

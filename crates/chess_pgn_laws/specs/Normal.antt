@@ -16,7 +16,8 @@ use Rattle.chess_pgn.specs.GameRead.{GameRead, failed, last_start, read_after_ta
 use Rattle.pgn_writer.specs.GameText.{tag_lines}
 use Rattle.chess_pgn.specs.LastTags.{says_nothing, tag_section, tags_named, last_tag}
 use Rattle.pgn_writer.specs.Terminations.{termination_text, termination_of}
-use Rattle.chess_pgn.specs.Tokens.{Token, after_byte_order_mark, tokens_from}
+use Rattle.chess_pgn.specs.Tokens.{Token, tokens_from}
+use Rattle.byte_devices.specs.Bytes.{after_byte_order_mark}
 use Rattle.pgn_writer.specs.Written.{tag_line}
 
 -- the lines of the tags of the game `s`, for a game of normal chess: no tag Variant

@@ -8,7 +8,8 @@ use Rattle.chess_pgn.specs.GameRead.{GameRead, pgn_read}
 use Rattle.pgn_writer.specs.GameText.{pgn}
 use Rattle.chess_pgn.specs.LastTags.{result_tag_of}
 use Rattle.chess_pgn.specs.Split.{IsSplit}
-use Rattle.chess_pgn.specs.Tokens.{Token, after_byte_order_mark}
+use Rattle.chess_pgn.specs.Tokens.{Token}
+use Rattle.byte_devices.specs.Bytes.{after_byte_order_mark}
 use Rattle.chess_game.specs.Results.{IsTagText}
 
 -- the text of each tag is at most 60 bytes of printable ASCII

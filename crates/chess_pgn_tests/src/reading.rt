@@ -4,7 +4,10 @@ use chess_bits::{AttackTables, Bits};
 use chess_fen::write_fen;
 use chess_game::{Game, Outcome, Verdict};
 use chess_moves::{Board, Plain};
-use chess_pgn::{PgnEnd, PgnFault, PgnFaultKind, ResultTag, Termination, read_pgn, result_tag};
+use chess_pgn::{
+    PgnEnd, PgnFault, PgnFaultKind, PgnTag, ResultTag, Termination, game_tags, read_pgn,
+    result_tag, tag_text,
+};
 use std::alloc::Global;
 use std::process::Abort;
 use std::test::Fail;
@@ -1044,4 +1047,42 @@ fn strings_of_any_length_are_read(rt: HostRuntime) -> Result<(), Fail> {
         strings_are_read(&rt, rt.alloc(), &mut game, len)?;
     }
     Ok(())
+}
+
+// A game with tags, and the tags of the next game after its moves.
+const TAGGED: &[u8] =
+    b"\xEF\xBB\xBF{x} [Event \"a\\\"b\"]\n!?\n[ Site\n\"\"] [Event \"c\"]\n1. e4 [White \"w\"] *";
+
+// The tags from an offset on: the name of each, its text, and where that begins.
+const LISTED: [(usize, &[(&[u8], &[u8], usize)]); 3] = [
+    (
+        0,
+        &[
+            (b"Event", b"a\\\"b", 15),
+            (b"Site", b"", 33),
+            (b"Event", b"c", 44),
+        ],
+    ),
+    (48, &[]),
+    (53, &[(b"White", b"w", 62)]),
+];
+
+// A game's tags are those before its first number or move, in order, with what is between their quotes.
+#[test]
+fn tags_are_listed(rt: HostRuntime) {
+    for (at, listed) in &LISTED {
+        let mut tags = game_tags(TAGGED, *at);
+        for (name, text, offset) in *listed {
+            let wanted = PgnTag {
+                name: *name,
+                text: *text,
+                offset: *offset,
+            };
+            is_equal(&rt, &tags.next(), &Some(wanted));
+        }
+        is_equal(&rt, &tags.next(), &None);
+        is_equal(&rt, &tags.next(), &None);
+    }
+    is_equal(&rt, &tag_text(TAGGED, 0, b"Event"), &Some(b"c".as_slice()));
+    is_equal(&rt, &tag_text(TAGGED, 0, b"White"), &None);
 }

@@ -10,7 +10,8 @@ use Rattle.chess_base.specs.declared.man.Kind.{Kind}
 use Rattle.chess_base.specs.declared.setup.Setup.{Setup}
 use Rattle.chess_base.specs.Attacks.{is_in_check}
 use Rattle.chess_base.specs.shared.Parts.{optional}
-use Rattle.chess_base.specs.Letters.{white_letter, square_text, is_letter}
+use Rattle.chess_base.specs.Letters.{white_letter, square_text}
+use Rattle.byte_devices.specs.Bytes.{is_letter}
 use Rattle.chess_base.specs.MoveList.{moves}
 use Rattle.chess_base.specs.Squares.{file, rank}
 use Rattle.chess_text.specs.declared.parts.Parts.{Parts}

@@ -2,7 +2,8 @@
 use Rattle.std.specs.Prelude.{ℕ, ◌+◌, ◌-◌, ◌==◌, Bool, ◌||◌, List, [], ◌∷◌, ◌++◌, length, take, map, flat_map}
 use Rattle.std.specs.List.{suffix_len}
 use Rattle.chess_base.specs.declared.man.Kind.{Kind}
-use Rattle.chess_base.specs.Letters.{byte, white_letter}
+use Rattle.chess_base.specs.Letters.{white_letter}
+use Rattle.byte_devices.specs.Bytes.{byte}
 
 -- the byte is one of the marks that may follow a move's text: + (check), # (mate), ! and ? (annotations)
 abbrev pub is_mark : ℕ → Bool

@@ -13,7 +13,8 @@ use Rattle.chess_base.specs.declared.man.Variant.TheVariants.{Normal, Fischerand
 use Rattle.chess_base.specs.declared.setup.Setup.{Setup}
 use Rattle.chess_base.specs.Attacks.{is_in_check}
 use Rattle.chess_base.specs.Coordinates.{coordinate}
-use Rattle.chess_base.specs.Letters.{byte, square_text}
+use Rattle.chess_base.specs.Letters.{square_text}
+use Rattle.byte_devices.specs.Bytes.{byte}
 use Rattle.chess_base.specs.Men.{same_kind}
 use Rattle.chess_base.specs.Moves.{after}
 use Rattle.chess_base.specs.Castling.{castling, by_side}

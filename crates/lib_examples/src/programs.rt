@@ -117,6 +117,7 @@ fn verified(rt: &HostRuntime, alloc: Global) -> Result<()> {
         quiet: false,
         strict: false,
         spans: false,
+        names: false,
         explain: false,
     };
     match verify(alloc, options, &mut input, &mut output)? {

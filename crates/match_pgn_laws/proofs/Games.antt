@@ -11,7 +11,8 @@ use Rattle.chess_base.specs.Sound.{IsSound}
 use Rattle.chess_base.specs.declared.man.Colour.{Colour}
 use Rattle.chess_game.specs.Game.{Seen, outcome_now}
 use Rattle.chess_game.specs.Line.{IsLine}
-use Rattle.chess_game.specs.Results.{IsTagText, cut_tag, shown_byte}
+use Rattle.chess_game.specs.Results.{IsTagText, cut_tag}
+use Rattle.byte_devices.specs.Bytes.{shown_byte}
 use Rattle.chess_game.specs.declared.game.TheConstants.{MOST_MOVES}
 use Rattle.chess_match.specs.Acts.{Act, IsMatch}
 use Rattle.chess_match.specs.Effects.{Match}

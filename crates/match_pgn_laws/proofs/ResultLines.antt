@@ -41,6 +41,7 @@ use Rattle.pgn_writer.specs.shared.NumberedMoves.{number_if_due, numbered_moves}
 use Rattle.pgn_writer.proofs.shared.GameTexts.{game_numbered}
 use Rattle.pgn_writer.proofs.shared.Lines.{lines_are}
 use Rattle.match_pgn_laws.specs.Scores.{result_lines}
+use Rattle.chess_pgn_laws.proofs.shared.Bytes.{list_all-weaker}
 
 -- ---- lines of a text
 
@@ -91,13 +92,6 @@ is_inner c = not (eqb c 10) && not (eqb c 91)
 abbrev AreInner : List (List ℕ) → Type 0
 AreInner texts = AllByRecursion (λ text. list_all is_inner text ≡ true) texts
 
-each_of : (p q : ℕ → Bool) → ((c : ℕ) → p c ≡ true → q c ≡ true) → (text : List ℕ) → list_all p text ≡ true
-    → list_all q text ≡ true
-each_of p q h [] all = refl
-each_of p q h (c ∷ cs) all =
-    let both = and_parts (p c) (list_all p cs) all in
-    and_from (q c) (list_all q cs) (h c both.0) (each_of p q h cs both.1)
-
 joined : (p : ℕ → Bool) (xs ys : List ℕ) → list_all p xs ≡ true → list_all p ys ≡ true → list_all p (xs ++ ys) ≡ true
 joined p xs ys h k = list_all-append p xs ys ∙ and_from (list_all p xs) (list_all p ys) h k
 
@@ -111,7 +105,7 @@ inner_is_in_line c h = (and_parts (in_line c) (not (eqb c 91)) h).0
 
 inner_lines : (lines : List (List ℕ)) → AreInner lines → AreLines lines
 inner_lines [] h = tt
-inner_lines (line ∷ lines) h = (each_of is_inner in_line inner_is_in_line line h.0, inner_lines lines h.1)
+inner_lines (line ∷ lines) h = (list_all-weaker is_inner in_line inner_is_in_line line h.0, inner_lines lines h.1)
 
 no_result : (line : List ℕ) → list_all is_inner line ≡ true → is_result line ≡ false
 no_result [] h = refl
@@ -174,7 +168,7 @@ inner_moves is_first p [] ts sound line rest = rest
 inner_moves is_first p (m ∷ ms) ts sound line rest =
     let tail = inner_moves false (after p m) ms ts (IsSound-after p m sound line.0) line.1 rest in
     let own : list_all is_inner (san p m) ≡ true =
-    each_of (λ c. is_san_byte c) is_inner san_is_inner (san p m) (san_bytes p m sound line.0) in
+    list_all-weaker (λ c. is_san_byte c) is_inner san_is_inner (san p m) (san_bytes p m sound line.0) in
     let tokens : numbered_moves is_first p (m ∷ ms) ++ ts ≡ number_if_due p.side is_first p.fullmove
     ++ san p m ∷ (numbered_moves false (after p m) ms ++ ts) = simp append_assoc in
     rw tokens (inner_numbers p.side is_first p.fullmove _ (leb-true _ _ sound.fullmove_high) (own, tail))
@@ -295,9 +289,6 @@ tags_in_line t s h sound = (
 -- the line of the tag Result
 abbrev pub result_tag : Outcome → List ℕ
 result_tag o = tag_line (codes "Result") (outcome_text o)
-
-result_is : (o : Outcome) → is_result (result_tag o) ≡ true
-result_is o = refl
 
 tag_found : (t : Tags) (s : State) → filter is_result (tag_lines t s) ≡ result_tag (outcome_now s) ∷ []
 tag_found t s = by_tests (is_fischerandom s.start.variant || not (is_initial s.start)) (is_fischerandom s.start.variant)

@@ -4,7 +4,7 @@ use Rattle.std.specs.List.{filter, slice_split}
 use Rattle.std.specs.Result.{is_ok}
 use Rattle.std.specs.Str.{bytes_eq}
 use Rattle.byte_devices.specs.Transfers.{OutputTook, all_of}
-use Rattle.chess_base.specs.Letters.{new_line}
+use Rattle.byte_devices.specs.Bytes.{new_line}
 use Rattle.chess_base.specs.Sound.{IsSound}
 use Rattle.match_runner.specs.GamesTable.{HostStep, Outputs, PlaysGamesWith}
 use Rattle.match_runner.specs.declared.fault.GamesFault.{GamesFault}

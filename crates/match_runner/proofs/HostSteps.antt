@@ -8,6 +8,7 @@ use Rattle.match_runner.specs.declared.fault.GamesFault.TheVariants.{NoMemory}
 use Rattle.match_runner.specs.GamesTable.{AtHost, GamesStep, HostFuture, HostStep, OpensClock, Outputs, PlaysBy, PlaysGamesAt, PlaysGamesWith, StepsPass, WriteFails, Writes, at_host, of_host, writing}
 use Rattle.match_runner.specs.ties.AtHost.{MarkedBy}
 use Rattle.match_runner.proofs.GamesWritten.{steps_more, steps_none}
+use Rattle.std.proofs.lemmas.List.{same_from_push}
 
 -- a step of the host
 pub host_passes : (p p' : HostFuture) (name name' : ℕ) (step : HostStep) → name' ≡ name → StepsPass p p' (step ∷ [])
@@ -42,38 +43,22 @@ steps_of_host : (steps : List HostStep) → at_host (map AtHost steps) ≡ steps
 steps_of_host [] = refl
 steps_of_host (step ∷ steps) = ap (λ (K : List HostStep). step ∷ K) (steps_of_host steps)
 
--- no list is empty that has an element at its end
-not_empty : {A : Type 0} (xs : List A) (x : A) → [] ≡ xs ++ x ∷ [] → ⊥
-not_empty [] x e = cc
-not_empty (y ∷ xs) x e = cc
-
--- equal lists with an element at their ends are equal before these, and the elements are equal
-parts_same : {A : Type 0} (xs ys : List A) (x y : A) → xs ++ x ∷ [] ≡ ys ++ y ∷ [] → (xs ≡ ys) × (x ≡ y)
-parts_same [] [] x y e = (refl, cc)
-parts_same [] (b ∷ ys) x y e = let f : [] ≡ ys ++ y ∷ [] = cc in absurd (not_empty ys y f)
-parts_same (a ∷ xs) [] x y e = let f : [] ≡ xs ++ x ∷ [] = cc in absurd (not_empty xs x f)
-parts_same (a ∷ xs) (b ∷ ys) x y e =
-    let f : a ≡ b = cc in
-    let g : xs ++ x ∷ [] ≡ ys ++ y ∷ [] = cc in
-    let (is, last) = parts_same xs ys x y g in
-    (rw (f, is) refl, last)
-
 -- a mark at the end of the steps is that of the table
 mark_same : (p : HostFuture) (name name' : ℕ) (steps : List GamesStep)
     → MarkedBy p name (steps ++ WriteFails (name' ∷ []) ∷ []) → name ≡ name'
 mark_same p name name' steps (inl (before, is, x)) =
-    let last = (parts_same steps before (WriteFails (name' ∷ [])) (Writes (name ∷ [])) is).1 in absurd (cc)
+    let last = (same_from_push steps before (WriteFails (name' ∷ [])) (Writes (name ∷ [])) is).1 in absurd (cc)
 mark_same p name name' steps (inr (before, is)) =
-    let last = (parts_same steps before (WriteFails (name' ∷ [])) (WriteFails (name ∷ [])) is).1 in cc
+    let last = (same_from_push steps before (WriteFails (name' ∷ [])) (WriteFails (name ∷ [])) is).1 in cc
 
 -- steps before a mark may come at the host
 unmarked : (p : HostFuture) (name name' : ℕ) (steps : List GamesStep)
     → MarkedBy p name (steps ++ Writes (name' ∷ []) ∷ []) → p (at_host steps)
 unmarked p name name' steps (inl (before, is, x)) =
-    let same = (parts_same steps before (Writes (name' ∷ [])) (Writes (name ∷ [])) is).0 in
+    let same = (same_from_push steps before (Writes (name' ∷ [])) (Writes (name ∷ [])) is).0 in
     subst (λ (K : List GamesStep). p (at_host K)) (sym same) x
 unmarked p name name' steps (inr (before, is)) =
-    let last = (parts_same steps before (Writes (name' ∷ [])) (WriteFails (name ∷ [])) is).1 in absurd (cc)
+    let last = (same_from_push steps before (Writes (name' ∷ [])) (WriteFails (name ∷ [])) is).1 in absurd (cc)
 
 -- the table still holds the same reference
 pub name_kept : (p p' : HostFuture) (name name' : ℕ) (steps : List GamesStep)

@@ -6,14 +6,13 @@ use Rattle.std.specs.List.{onto_first, position_or_len}
 use Rattle.std.specs.Result.{is_err}
 use Rattle.std.proofs.lemmas.Bool.Decides.{nat_tests}
 use Rattle.std.proofs.lemmas.List.{drop_min, drop_more}
-use Rattle.chess_base.specs.Letters.{byte, new_line}
+use Rattle.byte_devices.specs.Bytes.{byte, new_line}
 use Rattle.chess_base.specs.declared.man.Colour.{Colour}
 use Rattle.chess_base.specs.declared.man.Colour.TheVariants.{White, Black}
 use Rattle.byte_devices.specs.Devices.{OutputState, Sends}
 use Rattle.byte_devices.specs.Transfers.{OutputTook, nothing, all_of, all_for}
 use Rattle.byte_devices.proofs.shared.Transfers.{broke, some_for, took_all, took_each, took_more, took_nothing, took_some}
-use Rattle.chess_match.specs.Events.{Line}
-use Rattle.chess_match.specs.Notes.{Note, Gives, Happened, WasNoted}
+use Rattle.chess_match.specs.Notes.{Note, Gives, WasNoted}
 use Rattle.match_runner.specs.Log.{LogSeen, Logged, LogsNote, lines_in, log_from, log_line, log_seen, moment_after, note_text}
 use Rattle.match_runner.specs.ties.Logging.{Adds, IsLog, LogsPending, first_of_text, log_of_text, moment_from, noted_by, text_of_log}
 use Rattle.match_runner.specs.declared.log.Log.{Log}
@@ -277,19 +276,6 @@ noted seen l l' n (logged, same, after) = record {
         reached = after ∙ ap (λ (m : ℕ). moment_after m n) was.reached ∙ sym (moment_more 0 notes n);
       };
 }
-
--- a line of an engine was logged, or that it was too long
-pub line_logs : {E : Type 0} (seen : E → OutputState) (l l' : Log E) (c : Colour) (now : ℕ)
-    (read known : Option (List ℕ)) → read ≡ known
-    → Logged (log_seen (seen l.output) l.broken) (log_seen (seen l'.output) l'.broken)
-    (note_text l.first l.moment (Happened (Line c known now)))
-    → l'.first ≡ l.first → l'.moment ≡ now → LogsNote seen l l' (Happened (Line c read now))
-line_logs seen l l' c now read known is logged same after = (
-  subst (λ (t : Option (List ℕ)). Logged (log_seen (seen l.output) l.broken) (log_seen (seen l'.output) l'.broken)
-      (note_text l.first l.moment (Happened (Line c t now)))) (sym is) logged,
-  same,
-  after,
-)
 
 -- ---- a whole match
 

@@ -1,5 +1,5 @@
 -- Steps at a host over memory.
-use Rattle.std.proofs.Common.{◌≡◌, ◌≢◌, ◌∙◌, ◌+◌, ◌≤◌, ◌⊎◌, ℕ, zero, suc, Bool, true, false, List, [], ◌∷◌, ◌++◌, Option, Some, Result, Ok, Err, refl, sym, ap, inl, inr, arith, append-nil, append_assoc, add-one, length}
+use Rattle.std.proofs.Common.{◌≡◌, ◌≢◌, ◌∙◌, ◌+◌, ◌≤◌, ◌⊎◌, ℕ, zero, suc, Bool, true, false, List, [], ◌∷◌, ◌++◌, Option, Some, Result, Ok, Err, refl, sym, ap, inl, inr, arith, append-nil, append_assoc, length}
 use Rattle.std.proofs.Math.ListN.{get_or, set}
 use Rattle.std.specs.Prelude.{IfErr, IfSome, cond, count_by}
 use Rattle.std.specs.Result.{IsErr}
@@ -12,7 +12,7 @@ use Rattle.byte_devices.specs.Transfers.{Devices}
 use Rattle.chess_base.specs.declared.man.Colour.{Colour}
 use Rattle.chess_base.specs.declared.man.Colour.TheVariants.{White, Black}
 use Rattle.match_runner.specs.GamesTable.{HostStep, StartFails, Starts, StepsPass, starting}
-use Rattle.match_runner.specs.MemoryHost.{IsFaultOfStart, IsNext, MayCome, fresh_pipes, moment_at, next_text, started_by, started_for, started_in}
+use Rattle.match_runner.specs.MemoryHost.{IsFaultOfStart, IsNext, MayCome, fresh_pipes, next_text, started_by, started_for, started_in}
 use Rattle.match_runner.specs.declared.fault.GamesFault.{GamesFault}
 use Rattle.match_runner.specs.declared.memory_host.MemoryGame.{MemoryGame}
 use Rattle.match_runner.specs.declared.memory_host.MemoryHost.{MemoryHost}
@@ -42,16 +42,6 @@ step_passes host host' step e m g next = record { extends = λ after come. recor
         ∙ append_assoc (started_for host.games.items) (started_by step) (started_in before)
         ∙ ap (λ s. started_for host.games.items ++ started_in (s ∷ before)) (sym is) in
         rw (← e, ← m, ← earlier) (come.each before x rest tail)
-
--- ---- the clock
-
--- what a clock shows after its first moment
-pub moments_go_on : (shown m : ℕ) (rest : List ℕ) (n : ℕ) → moment_at m rest n ≡ moment_at shown (m ∷ rest) (n + 1)
-moments_go_on shown m rest n = rw add-one refl
-
--- a clock without moments shows the same again
-pub moments_stay : (shown n : ℕ) → moment_at shown [] n ≡ moment_at shown [] (n + 1)
-moments_stay shown n = refl
 
 -- ---- starts
 

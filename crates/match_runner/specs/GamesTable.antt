@@ -111,10 +111,13 @@ last_steps plan number (Err (CanNotStart command)) None = unstarted_steps plan n
 -- any other result: no next game was begun
 last_steps plan number _ None = []
 
--- the pipes of an engine that was just started: no read, write or flush failed, no end came, and nothing is unflushed
+-- the pipes of an engine that was just started, by what they count: no read, write or flush failed, no end and no
+-- silence came, and nothing is unflushed. That nothing was read or sent yet is said only of engines in memory
+-- (`fresh_pipes`)
 pub record AreFresh (pipes : Devices) : Type 0 where
   pub reads : pipes.input.failure_count ≡ 0
   pub ends : pipes.input.end_count ≡ 0
+  pub silences : pipes.input.silence_count ≡ 0
   pub writes : pipes.output.failure_count ≡ 0
   pub flushed : pipes.output.unflushed ≡ 0
 

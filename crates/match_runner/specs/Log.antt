@@ -3,12 +3,11 @@
 -- write.
 use Rattle.std.specs.Prelude.{◌≡◌, ℕ, ◌==◌, if◌then◌else◌, List, [], ◌∷◌, ◌++◌, flat_map, map, codes, decimal, Bool, true, false, Some, None}
 use Rattle.std.specs.List.{onto_first}
-use Rattle.chess_base.specs.Letters.{byte, new_line}
+use Rattle.byte_devices.specs.Bytes.{byte, new_line, shown_byte}
 use Rattle.chess_base.specs.declared.man.Colour.{Colour}
 use Rattle.chess_base.specs.Men.{same_colour}
 use Rattle.byte_devices.specs.Devices.{OutputState, Begins}
 use Rattle.byte_devices.specs.Transfers.{ToOutput, OutputTook, all_for}
-use Rattle.chess_game.specs.Results.{shown_byte}
 use Rattle.chess_match.specs.Events.{Line, Opened, Silent, OutputEnds, FailsToRead, FailsToWrite}
 use Rattle.chess_match.specs.Notes.{Note, Happened, Gives}
 use Rattle.match_runner.specs.declared.log.Log.{Log}

@@ -3,8 +3,9 @@
 -- `MayCome` says which steps may come at such a host. No steps (`[]`) may always come, so of a match `PlaysGamesWith`
 -- says that just its steps might come at the host as it was before: each engine says what that host has for this start
 -- of its command, and the clock shows its moments. From these, the plan, and the writes that fail follows each game (law
--- `OnlyOneMatchOfARun` of chess_match), and from the games all that is written, logged and sent. It is not said in which
--- waits an engine that falls silent is silent, nor when memory runs out.
+-- `OnlyOneMatchOfARun` of chess_match_laws), if nobody is waited for only so long; and from the games all that is
+-- written, logged and sent. Where a plan sets limits to waiting, nothing here says which looks for a line find none,
+-- nor how many do. Nor is it said when memory runs out.
 use Rattle.std.specs.Prelude.{◌≡◌, ⊤, ℕ, ◌-◌, ◌^◌, List, [], ◌∷◌, ◌++◌, Option, None, Some}
 use Rattle.std.specs.List.{count_by, find, flat_map, last_or, slice_get}
 use Rattle.std.specs.Option.{option_and_then, option_map, option_or}
@@ -39,7 +40,14 @@ next_text engines earlier command = text_of_start engines command (count_by (λ 
 -- it, and no call was made
 abbrev pub fresh_pipes : List ℕ → Devices
 fresh_pipes text = record {
-  input = record { known_bytes = Some text; failure_count = 0; end_count = 0; last_len = 0; pieces_left = 2 ^ 64 - 1 };
+  input = record {
+    known_bytes = Some text;
+    failure_count = 0;
+    end_count = 0;
+    last_len = 0;
+    pieces_left = 2 ^ 64 - 1;
+    silence_count = 0;
+  };
   output = record { known_bytes = Some []; failure_count = 0; unflushed = 0 };
 }
 

@@ -1,15 +1,15 @@
 //! The log of a match: what the engines send and are sent.
 
-ghost use Rattle.std.specs.Prelude.{◌≡◌, ◌<◌, ◌∷◌, ◌++◌, [], Bool, Err, decimal, false, length, map};
+ghost use Rattle.std.specs.Prelude.{◌≡◌, ◌<◌, ◌∷◌, ◌++◌, [], Bool, Err, decimal, false, length, map, option_map};
 ghost use Rattle.arrayvec.specs.ArrayVec.{array_vec_len};
-ghost use Rattle.chess_base.specs.Letters.{new_line};
+ghost use Rattle.byte_devices.specs.Bytes.{new_line, shown_byte};
 ghost use Rattle.chess_base.specs.Options.{list_if};
-ghost use Rattle.chess_game.specs.Results.{shown_byte};
 ghost use Rattle.chess_match.specs.Events as events;
 ghost use Rattle.chess_match.specs.Notes.{Gives, Happened};
 ghost use Rattle.chess_match.specs.Played.{PlayedNoting};
 ghost use Rattle.chess_match.specs.Reasons.{colour_name};
-ghost use Rattle.chess_match.specs.Run.{engines_of, text_read};
+ghost use Rattle.chess_match.specs.Run.{engines_of};
+ghost use Rattle.chess_match.specs.Seen.{note_seen};
 ghost use Rattle.match_runner.specs.Games.{fault_text, killed_line, killed_lines, report_of};
 ghost use Rattle.match_runner.specs.Log.{Logged, LogsNote};
 ghost use Rattle.match_runner.specs.Log.{lines_in, log_line, log_seen, log_from};
@@ -17,30 +17,18 @@ ghost use Rattle.match_runner.specs.ties.Logging.{Adds, IsLog, engine_text, line
 
 use crate::fault::GamesFault;
 use arrayvec::ArrayVec;
-use byte_devices::{Input, Output, len_before, send};
+use byte_devices::{Input, Output, len_before, send, shown_byte};
 use chess_base::{ByColour, Colour, same_colour};
 use chess_game::Game;
-use chess_match::{ENGINE_LINE_LEN, Ends, MatchEnd, Moments, Setup, Witness, run_match_watched};
+use chess_match::{Ends, MatchEnd, Moments, Note, Setup, Witness, run_match_watched};
 use chess_moves::Board;
 use itoa::Buffer;
-use text_lines::Line;
 
 // The bytes of a line of the log that has not ended, and whether a write or flush of the log failed.
 #[derive(Drop)]
 pub(crate) struct Pending {
     bytes: ArrayVec<u8, 256>,
     broken: bool,
-}
-
-// A byte as the log shows it: `?` for what is no printable ASCII.
-fn shown_byte(byte: u8) -> u8
-    ensures { result ≡ shown_byte byte }
-{
-    if 32 <= byte && byte <= 126 {
-        byte
-    } else {
-        b'?'
-    }
 }
 
 // Writes and flushes a text, unless a call on the log failed before (`broken`). Returns whether one has failed, before
@@ -239,8 +227,8 @@ fn split_line(text: &[u8]) -> (&[u8], &[u8])
 
 /// An output on which games are logged in the form of XBoard's debug file: it watches a match, and writes each line
 /// that an engine sends or is sent, and each failure and end of an output. All lines of a note are written and flushed
-/// before the match goes on, as the clause `logs` of each of its methods as a `Witness` says. After a write or flush
-/// that failed it logs nothing more.
+/// before the match goes on, as the clause `logs` of its method `note` as a `Witness` says. After a write or flush that
+/// failed it logs nothing more.
 #[derive(Drop)]
 pub struct Log<E> {
     /// Where the log goes.
@@ -336,61 +324,21 @@ impl<E: Output> Log<E> {
         line.add_line(&mut self.output, self.moment, mark, is_first, text);
         self.broken = line.broken;
     }
-}
 
-impl<E: Output> Witness for Log<E> {
-    ghost noted = { λ l. noted_by E.seen l };
-
-    // Logs a line that an engine sent, such as `312 <first : move e2e4`.
-    fn line(&mut self, side: Colour, line: &Line<ENGINE_LINE_LEN>, moment: u64)
-        ensures logs { LogsNote E.seen self.old self.new (Happened (events.Line side (text_read line.now) moment)) }
+    // Logs a line that an engine sent, such as `312 <first : move e2e4`, or that it was too long (`None`).
+    fn note_line(&mut self, side: Colour, text: Option<&[u8]>, moment: u64)
+        ensures logs { LogsNote E.seen self.old self.new
+            (Happened (events.Line side (option_map (λ t. t.now) text.entry) moment)) }
     {
         self.moment = moment;
-        if line.is_too_long() {
-            self.add_line(side, b'!', b"line too long");
-            return;
+        match text {
+            Some(text) => self.add_line(side, b'<', text),
+            None => self.add_line(side, b'!', b"line too long"),
         }
-        self.add_line(side, b'<', line.text());
-    }
-
-    // Keeps the time for the lines that follow, and logs nothing: the lines that opened the turn were logged before.
-    fn opened(&mut self, _side: Colour, moment: u64)
-        ensures logs { LogsNote E.seen self.old self.new (Happened (events.Opened _side moment)) }
-    {
-        self.moment = moment;
-    }
-
-    // Logs that no line of an engine had come.
-    fn silent(&mut self, side: Colour, moment: u64)
-        ensures logs { LogsNote E.seen self.old self.new (Happened (events.Silent side moment)) }
-    {
-        self.moment = moment;
-        self.add_line(side, b'!', b"no line");
-    }
-
-    // Logs that an engine closed its output.
-    fn output_ends(&mut self, side: Colour)
-        ensures logs { LogsNote E.seen self.old self.new (Happened (events.OutputEnds side)) }
-    {
-        self.add_line(side, b'!', b"output ended");
-    }
-
-    // Logs that reading from an engine failed.
-    fn read_fails(&mut self, side: Colour)
-        ensures logs { LogsNote E.seen self.old self.new (Happened (events.FailsToRead side)) }
-    {
-        self.add_line(side, b'!', b"read failed");
-    }
-
-    // Logs that writing to an engine failed.
-    fn write_fails(&mut self, side: Colour)
-        ensures logs { LogsNote E.seen self.old self.new (Happened (events.FailsToWrite side)) }
-    {
-        self.add_line(side, b'!', b"write failed");
     }
 
     // Logs the lines that an engine is sent, each such as `312 >first : e2e4`.
-    fn gives(&mut self, side: Colour, text: &[u8])
+    fn note_given(&mut self, side: Colour, text: &[u8])
         ensures logs { LogsNote E.seen self.old self.new (Gives side text.now) }
     {
         let mut rest = text;
@@ -398,6 +346,31 @@ impl<E: Output> Witness for Log<E> {
             let (line, after) = split_line(rest);
             self.add_line(side, b'>', line);
             rest = after;
+        }
+    }
+}
+
+impl<E: Output> Witness for Log<E> {
+    ghost noted = { λ l. noted_by E.seen l };
+
+    // Logs what the note says; an opening only gives its time to the lines that follow, since the lines that opened the
+    // turn were logged before.
+    fn note(&mut self, note: Note<'_>)
+        ensures logs { LogsNote E.seen self.old self.new (note_seen note.entry) }
+    {
+        match note {
+            Note::Line { side, text, moment } => self.note_line(side, text, moment),
+            Note::Opened { moment, .. } => {
+                self.moment = moment;
+            }
+            Note::Silent { side, moment } => {
+                self.moment = moment;
+                self.add_line(side, b'!', b"no line");
+            }
+            Note::OutputEnds { side } => self.add_line(side, b'!', b"output ended"),
+            Note::FailsToRead { side } => self.add_line(side, b'!', b"read failed"),
+            Note::FailsToWrite { side } => self.add_line(side, b'!', b"write failed"),
+            Note::Gives { side, text } => self.note_given(side, text),
         }
     }
 }

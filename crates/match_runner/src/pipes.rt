@@ -57,6 +57,7 @@ impl<'t, T: Clock, S: Read> EngineOutput<'t, T, S> {
               end_count = 0;
               last_len = 0;
               pieces_left = 2 ^ 64 - 1;
+              silence_count = 0;
             } }
     {
         EngineOutput {

@@ -6,7 +6,7 @@ use Rattle.std.specs.List.{list_all, onto_first}
 use Rattle.std.proofs.lemmas.List.{map-append}
 use Rattle.std.proofs.lemmas.List.Concat.{flat_map-append}
 use Rattle.std.proofs.lemmas.Bool.Decides.{nat_tests}
-use Rattle.chess_base.specs.Letters.{byte, new_line}
+use Rattle.byte_devices.specs.Bytes.{byte, new_line}
 use Rattle.chess_base.specs.Options.{list_if}
 use Rattle.chess_base.specs.declared.man.Colour.{Colour}
 use Rattle.chess_base.specs.Men.{same_colour}
@@ -31,6 +31,7 @@ use Rattle.match_runner_laws.proofs.EntriesRead.{log_is, logs_have_one_reading}
 use Rattle.match_runner_laws.proofs.PlayedAgain.{again, ends_by_flag, last_lines, shown_reason}
 use Rattle.match_runner_laws.proofs.Replays.{EndsAs, match_goes, replayed}
 use Rattle.match_runner_laws.proofs.ResultLines.{reason_of, reason_read, result_plain}
+use Rattle.chess_match.proofs.shared.Lines.{bytes_of-append}
 
 -- ---- events
 
@@ -142,12 +143,6 @@ given_entries S c moment (t ∷ ts) =
     at true = refl
     at false = refl
 
-bytes-append : (ls more : List SentLine) → bytes_of (ls ++ more) ≡ bytes_of ls ++ bytes_of more
-unfolding bytes_of
-bytes-append [] more = refl
-bytes-append (l ∷ ls) more = ap (λ (t : List ℕ). text_of l ++ new_line ∷ t) (bytes-append ls more)
-    ∙ sym (append_assoc (text_of l) (new_line ∷ bytes_of ls) (bytes_of more))
-
 -- all bytes that S is sent by these lines of a log
 abbrev given_by : Colour → List Entry → List ℕ
 given_by S entries = flat_map (entry_given S) entries
@@ -164,7 +159,7 @@ given_block S c moment lines more entries e =
     ∙ at (same_colour c S)
   where
     at : (b : Bool) → list_if b (bytes_of lines) ++ bytes_of more ≡ bytes_of (list_if b lines ++ more)
-    at true = sym (bytes-append lines more)
+    at true = sym (bytes_of-append lines more)
     at false = refl
 
 -- a failed write is noted, or not

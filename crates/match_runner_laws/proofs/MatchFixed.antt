@@ -5,7 +5,7 @@ use Rattle.std.specs.List.{AllByRecursion, enumerate_from, flat_map, last_or, sl
 use Rattle.std.specs.Option.{option_map, option_or, option_to_list}
 use Rattle.byte_devices.specs.Transfers.{Devices, ToOutput, OutputTook, all_of}
 use Rattle.chess_base.specs.ByColour.{by_colour}
-use Rattle.chess_base.specs.Letters.{new_line}
+use Rattle.byte_devices.specs.Bytes.{new_line}
 use Rattle.chess_base.specs.declared.man.Colour.{Colour}
 use Rattle.chess_base.specs.declared.man.Colour.TheVariants.{White, Black}
 use Rattle.chess_match.specs.Acts.{Act}

@@ -22,6 +22,7 @@ use Rattle.chess_match.specs.declared.reason.Reason.TheVariants.{Faulted}
 use Rattle.chess_match.specs.laws.Laws.{events_in, line_kind, notes_given}
 use Rattle.match_runner_laws.specs.ReadBack.{events_shown}
 use Rattle.match_runner_laws.proofs.PlayedAgain.{Again, Falls, Stops, again, anew, ends_by_flag, last_lines, line_again, opened, over_again, reopen, shown_reason, silence_again, waits}
+use Rattle.chess_match.proofs.shared.MatchCases.{on_when_read}
 
 -- ---- the last notes
 
@@ -98,9 +99,6 @@ own_unwritten c = grind arith
 not_over : {A : Type 0} (b : Bool) → b ≡ true → b ≡ false → A
 not_over true e h = absurd cc
 not_over false e h = absurd cc
-
-on_when_read : (p : Phase) (S : Colour) → awaits_line p S ≡ true → is_over p ≡ false
-on_when_read p S h1 = grind arith
 
 which : (p : Phase) → is_over p ≡ true → (reason : Reason) × (p ≡ Over reason)
 which (Over reason) h = (reason, refl)

@@ -3,7 +3,7 @@
 use Rattle.std.specs.Prelude.{◌≡◌, ◌==◌, ◌&&◌, ℕ, if◌then◌else◌, List, [], ◌∷◌, ◌++◌, flat_map, codes, Some, None, map}
 use Rattle.std.specs.List.{AllByRecursion, enumerate_from}
 use Rattle.std.specs.Str.{bytes_eq}
-use Rattle.chess_base.specs.Letters.{byte, new_line}
+use Rattle.byte_devices.specs.Bytes.{byte, new_line}
 use Rattle.chess_base.specs.Men.{same_colour}
 use Rattle.chess_base.specs.Options.{list_if}
 use Rattle.chess_base.specs.declared.man.Colour.{Colour}

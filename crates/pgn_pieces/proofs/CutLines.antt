@@ -1,29 +1,35 @@
 -- The lines of a text, and the pieces that they are cut into.
-use Rattle.std.proofs.Common.{◌≡◌, ◌<◌, ℕ, eqb, Bool, true, false, List, [], ◌∷◌, ◌++◌, length, map, reverse, refl, sym, ap, ◌∙◌, append_assoc, append-nil, length-append, arith}
+use Rattle.std.proofs.Common.{◌≡◌, ◌<◌, ℕ, Bool, true, false, List, [], ◌∷◌, ◌++◌, length, map, reverse, refl, sym, ap, ◌∙◌, append_assoc, append-nil, length-append, arith}
 use Rattle.std.specs.Prelude.{if◌then◌else◌, ◌&&◌, ◌||◌}
 use Rattle.std.specs.List.{onto_first, concat, list_any, fold}
 use Rattle.std.proofs.lemmas.Bool.{and_parts, or_parts}
 use Rattle.std.proofs.lemmas.List.{reverse-append}
 use Rattle.pgn_pieces.specs.Pieces.{lines_of, begins_piece, is_tag_line, is_event_line, is_moves_line, with_line, cut}
+use Rattle.pgn_pieces.specs.Places.{breaks_line}
 use Rattle.pgn_pieces.specs.ties.Cutting.{piece_of, cut_lines}
-use Rattle.pgn_pieces.specs.ties.Held.{has_line_end}
+use Rattle.pgn_pieces.specs.ties.Held.{has_line_end, IsWhole}
 
 -- ---- lines
 
-pub lines_on : (c : ℕ) (cs : List ℕ) → eqb c 10 ≡ false → lines_of (c ∷ cs) ≡ onto_first c (lines_of cs)
+pub lines_on : (c : ℕ) (cs : List ℕ) → breaks_line c ≡ false → lines_of (c ∷ cs) ≡ onto_first c (lines_of cs)
 lines_on c cs h = ap (λ b. if b then (c ∷ []) ∷ lines_of cs else onto_first c (lines_of cs)) h
 
-parts : (c : ℕ) (cs : List ℕ) → has_line_end (c ∷ cs) ≡ false → (eqb c 10 ≡ false) × (has_line_end cs ≡ false)
-parts c cs h = or_parts (eqb c 10) (has_line_end cs) h
+parts : (c : ℕ) (cs : List ℕ) → has_line_end (c ∷ cs) ≡ false → (breaks_line c ≡ false) × (has_line_end cs ≡ false)
+parts c cs h = or_parts (breaks_line c) (has_line_end cs) h
 
 -- a text that begins with a whole line
-pub whole_line : (body line rest : List ℕ) → line ≡ body ++ 10 ∷ [] → has_line_end body ≡ false
-    → lines_of (line ++ rest) ≡ line ∷ lines_of rest
-whole_line [] line rest is h = ap (λ l. lines_of (l ++ rest)) is ∙ ap (λ l. l ∷ lines_of rest) (sym is)
-whole_line (c ∷ cs) line rest is h =
+ended_line : (body rest : List ℕ) (end : ℕ) → breaks_line end ≡ true → has_line_end body ≡ false
+    → lines_of ((body ++ end ∷ []) ++ rest) ≡ (body ++ end ∷ []) ∷ lines_of rest
+ended_line [] rest end ends h =
+    ap (λ b. if b then (end ∷ []) ∷ lines_of rest else onto_first end (lines_of rest)) ends
+ended_line (c ∷ cs) rest end ends h =
     let both = parts c cs h in
-    ap (λ l. lines_of (l ++ rest)) is ∙ lines_on c ((cs ++ 10 ∷ []) ++ rest) both.0
-    ∙ ap (onto_first c) (whole_line cs (cs ++ 10 ∷ []) rest refl both.1) ∙ ap (λ l. l ∷ lines_of rest) (sym is)
+    lines_on c ((cs ++ end ∷ []) ++ rest) both.0 ∙ ap (onto_first c) (ended_line cs rest end ends both.1)
+
+pub whole_line : (line rest : List ℕ) → IsWhole line → lines_of (line ++ rest) ≡ line ∷ lines_of rest
+whole_line line rest whole =
+    ap (λ l. lines_of (l ++ rest)) whole.all ∙ ended_line whole.body rest whole.end whole.ends whole.plain
+    ∙ ap (λ l. l ∷ lines_of rest) (sym whole.all)
 
 -- a text without a line's end
 one_line : (line : List ℕ) → has_line_end line ≡ false → lines_of line ≡ piece_of line
@@ -38,7 +44,7 @@ one_line (c ∷ cs) h =
 -- a text with a byte has a line with that byte
 pub some_line : (c : ℕ) (cs : List ℕ)
     → (more : List ℕ) × (lines : List (List ℕ)) × (lines_of (c ∷ cs) ≡ (c ∷ more) ∷ lines)
-some_line c cs = by_test (eqb c 10) (lines_of cs)
+some_line c cs = by_test (breaks_line c) (lines_of cs)
   where
     by_test : (b : Bool) (all : List (List ℕ)) → (more : List ℕ) × (lines : List (List ℕ))
         × ((if b then (c ∷ []) ∷ all else onto_first c all) ≡ (c ∷ more) ∷ lines)

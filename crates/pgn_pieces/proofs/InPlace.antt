@@ -1,5 +1,5 @@
 -- Each piece of a text is in its place.
-use Rattle.std.proofs.Common.{◌≡◌, ℕ, ◌+◌, ◌-◌, Bool, true, false, List, [], ◌∷◌, ◌++◌, length, map, take, drop, Some, None, refl, sym, ap, subst, ◌∙◌, append_assoc, append-nil, length-append, arith}
+use Rattle.std.proofs.Common.{◌≡◌, ℕ, ◌+◌, ◌-◌, Bool, true, false, List, [], ◌∷◌, ◌++◌, length, map, reverse, take, drop, Some, None, cond, refl, sym, ap, subst, ◌∙◌, append_assoc, append-nil, length-append, arith}
 use Rattle.std.specs.Prelude.{if◌then◌else◌, nat_le, not}
 use Rattle.std.specs.List.{onto_first, concat, sum_by, prefix_len, suffix_len}
 use Rattle.std.proofs.lemmas.List.{take-append-drop, reverse-append}
@@ -11,7 +11,7 @@ use Rattle.pgn_pieces.specs.declared.pieces.TheConstants.{PIECE_LEN}
 use Rattle.pgn_pieces.specs.Pieces.{lines_of, cut}
 use Rattle.pgn_pieces.specs.Stream.{Piece, with_offsets, pieces, PieceSeen, piece_at}
 use Rattle.pgn_pieces.specs.ties.Cutting.{cut_lines, piece_of}
-use Rattle.pgn_pieces.specs.Places.{ends_line, line_ends}
+use Rattle.pgn_pieces.specs.Places.{breaks_line, line_ends}
 use Rattle.pgn_pieces.specs.laws.Places.{IsInPlace, PiecesAreInPlace}
 use Rattle.pgn_pieces.proofs.LineEnds.{count_append}
 use Rattle.pgn_pieces.proofs.CutLines.{concat_more, cut_is}
@@ -22,11 +22,13 @@ use Rattle.pgn_pieces.proofs.WholePieces.{AreLines, no_texts, last_text, next_te
 -- the lines of a text are all of it
 lines_are_all : (text : List ℕ) → concat (lines_of text) ≡ text
 lines_are_all [] = refl
-lines_are_all (c ∷ cs) = let on = lines_are_all cs in let o = onto (lines_of cs) in grind (arith, on, o)
+lines_are_all (c ∷ cs) = by_test (breaks_line c) (lines_of cs) (lines_are_all cs)
   where
-    onto : (lines : List (List ℕ)) → concat (onto_first c lines) ≡ c ∷ concat lines
-    onto [] = refl
-    onto (line ∷ lines) = refl
+    by_test : (b : Bool) (lines : List (List ℕ)) → concat lines ≡ cs
+        → concat (if b then (c ∷ []) ∷ lines else onto_first c lines) ≡ c ∷ cs
+    by_test true lines on = ap (λ xs. c ∷ xs) on
+    by_test false [] on = ap (λ xs. c ∷ xs) on
+    by_test false (line ∷ lines) on = ap (λ xs. c ∷ xs) on
 
 piece_is_all : (text : List ℕ) → concat (piece_of text) ≡ text
 piece_is_all [] = refl
@@ -47,7 +49,7 @@ cut_is_all text = ap concat (cut_is text) ∙ pieces_are_all [] (lines_of text) 
 -- ---- where lines begin
 
 abbrev last_line_len : List ℕ → ℕ
-last_line_len text = suffix_len (λ c. not (ends_line c)) text
+last_line_len text = suffix_len (λ c. not (breaks_line c)) text
 
 -- each of these texts, which follow one another after `front`, begins where a line begins
 abbrev BeginLines : List ℕ → List (List ℕ) → Type 0
@@ -55,17 +57,20 @@ BeginLines front [] = Unit {0}
 BeginLines front (text ∷ texts) = (last_line_len front ≡ 0) × BeginLines (front ++ text) texts
 
 -- after a line's end a line begins
-after_end : (front line : List ℕ) → last_line_len (front ++ (line ++ 10 ∷ [])) ≡ 0
-after_end front line =
-    ap last_line_len (sym (append_assoc front line (10 ∷ [])))
-    ∙ ap (prefix_len (λ d. not (ends_line d))) (reverse-append (front ++ line) (10 ∷ []))
+after_end : (front line : List ℕ) (end : ℕ) → breaks_line end ≡ true
+    → last_line_len (front ++ (line ++ end ∷ [])) ≡ 0
+after_end front line end ends =
+    ap last_line_len (sym (append_assoc front line (end ∷ [])))
+    ∙ ap (prefix_len (λ d. not (breaks_line d))) (reverse-append (front ++ line) (end ∷ []))
+    ∙ ap (λ b. cond (not b) (1 + prefix_len (λ d. not (breaks_line d)) (reverse (front ++ line))) 0) ends
 
 -- texts of which each but perhaps the last ends with a line begin so
 lines_begin : (front : List ℕ) {texts : List (List ℕ)} → last_line_len front ≡ 0 → AreLines texts
     → BeginLines front texts
 lines_begin front h no_texts = tt
 lines_begin front h (last_text text) = (h, tt)
-lines_begin front h (next_text line rest) = (h, lines_begin (front ++ (line ++ 10 ∷ [])) (after_end front line) rest)
+lines_begin front h (next_text line end ends rest) =
+    (h, lines_begin (front ++ (line ++ end ∷ [])) (after_end front line end ends) rest)
 
 begin_front : (front : List ℕ) (xs ys : List (List ℕ)) → BeginLines front (xs ++ ys) → BeginLines front xs
 begin_front front [] ys h = tt

@@ -1,7 +1,6 @@
 -- The kind of a line that may go on.
 use Rattle.std.proofs.Common.{◌≡◌, ◌≤◌, ◌<◌, ℕ, zero, suc, ◌+◌, eqb, leb, Bool, true, false, List, [], ◌∷◌, ◌++◌, length, take, drop, cond, refl, sym, ap, ◌∙◌, length-drop, append_assoc, arith}
-use Rattle.std.specs.Char.{is_ascii_alphanumeric}
-use Rattle.std.specs.Prelude.{if◌then◌else◌, ◌&&◌, ◌||◌, ◌==◌, not, nat_lt, codes}
+use Rattle.std.specs.Prelude.{if◌then◌else◌, ◌&&◌, ◌||◌, not, nat_lt, codes}
 use Rattle.std.specs.List.{prefix_len, take_while}
 use Rattle.std.specs.Str.{bytes_eq}
 use Rattle.std.proofs.lemmas.Bool.{and_parts, leb-true}
@@ -9,12 +8,10 @@ use Rattle.std.proofs.lemmas.Bool.Decides.{nat_tests}
 use Rattle.std.proofs.lemmas.List.{take-append-le, drop-append-le, take_all}
 use Rattle.std.proofs.lemmas.List.Folds.{prefix_len-append, length-prefix_len}
 use Rattle.std.proofs.lemmas.List.Sums.{prefix_len-le-length}
-use Rattle.pgn_pieces.specs.Pieces.{front_of, is_blank, tag_name, after_name, is_tag_line, is_event_line, is_moves_line}
+use Rattle.pgn_pieces.specs.Pieces.{without_blanks, front_of, tag_name, after_name, is_tag_line, is_event_line, is_moves_line}
+use Rattle.byte_devices.specs.Bytes.{is_blank, is_name_byte}
 use Rattle.pgn_pieces.specs.ties.Fronts.{begins_tag, is_empty_front}
 use Rattle.pgn_pieces.specs.ties.Held.{SameKind, IsDecided}
-
-abbrev is_name_byte : ℕ → Bool
-is_name_byte c = is_ascii_alphanumeric c || (c == 95)
 
 abbrev without_mark : List ℕ → List ℕ
 without_mark text = if bytes_eq (take 3 text) (239 ∷ 187 ∷ 191 ∷ []) then drop 3 text else text
@@ -29,7 +26,8 @@ same_front a b h = record {
 }
 
 pub decided_long : (line : List ℕ) → 256 ≤ length line → IsDecided line
-decided_long line h more = same_front (line ++ more) line (ap without_mark (take-append-le 256 line more h))
+decided_long line h more =
+    same_front (line ++ more) line (ap (λ t. without_blanks (without_mark t)) (take-append-le 256 line more h))
 
 -- ---- a shorter tag line
 
@@ -38,6 +36,15 @@ run_kept : (p : ℕ → Bool) (xs ys : List ℕ) → prefix_len p xs < length xs
 run_kept p xs ys h =
     let no : eqb (prefix_len p xs) (length xs) ≡ false = grind (arith, nat_tests, h) in
     prefix_len-append p xs ys ∙ ap (λ b. cond b (length xs + prefix_len p ys) (prefix_len p xs)) no
+
+-- bytes that end the blanks at a text's beginning go on to end them
+blanks_kept : (text more : List ℕ) → 0 < length (without_blanks text)
+    → without_blanks (text ++ more) ≡ without_blanks text ++ more
+blanks_kept text more some =
+    let l = length-drop (prefix_len is_blank text) text in
+    let end : prefix_len is_blank text < length text = omega (arith, l, some) in
+    ap (λ n. drop n (text ++ more)) (run_kept is_blank text more end)
+    ∙ drop-append-le (prefix_len is_blank text) text more (prefix_len-le-length is_blank text)
 
 some_first : (xs : List ℕ) (c : ℕ) → bytes_eq (take 1 xs) (c ∷ []) ≡ true → 0 < length xs
 some_first [] c h = absurd (cc)
@@ -83,9 +90,6 @@ module _ (front : List ℕ) (tag : begins_tag front ≡ true) where
       let c = length-drop (prefix_len is_blank after) after in
       omega (arith, n, b, c, quoted)
 
-  blanks_end : prefix_len is_blank after < length after
-  blanks_end = let c = length-drop (prefix_len is_blank after) after in omega (arith, c, quoted)
-
   module _ (more : List ℕ) where
     rest_more : drop 1 (front ++ more) ≡ rest ++ more
     rest_more = let three = tag_len in drop-append-le 1 front more (omega (arith, three))
@@ -104,10 +108,7 @@ module _ (front : List ℕ) (tag : begins_tag front ≡ true) where
         ∙ drop-append-le (length (tag_name front)) rest more (omega (arith, n, l))
 
     after_kept : after_name (front ++ more) ≡ after_name front ++ more
-    after_kept =
-        ap (λ xs. drop (prefix_len is_blank xs) xs) after_more
-        ∙ ap (λ n. drop n (after ++ more)) (run_kept is_blank after more blanks_end)
-        ∙ drop-append-le (prefix_len is_blank after) after more (prefix_len-le-length is_blank after)
+    after_kept = ap without_blanks after_more ∙ blanks_kept after more quoted
 
     pub tag_kept : begins_tag (front ++ more) ≡ true
     tag_kept =
@@ -134,14 +135,18 @@ taken (suc n) (x ∷ xs) ys h = let w = taken n xs ys (omega (arith, h)) in (w.0
 
 decided_short : (line : List ℕ) → length line ≤ 256 → is_tag_line line ≡ true → IsDecided line
 decided_short line h tag more =
-    let f = without_mark line in
-    let front : front_of line ≡ f = ap without_mark (take_all 256 line h) in
+    let unmarked = without_mark line in
+    let f = without_blanks unmarked in
+    let front : front_of line ≡ f = ap (λ t. without_blanks (without_mark t)) (take_all 256 line h) in
     let tag' : begins_tag f ≡ true = ap begins_tag (sym front) ∙ tag in
     let few = unmarked_le line in
+    let fewer = length-drop (prefix_len is_blank unmarked) unmarked in
     let three = tag_len f tag' in
     let long = taken 256 line more h in
     let front' : front_of (line ++ more) ≡ f ++ long.0 =
-    ap without_mark long.1 ∙ mark_kept line long.0 (omega (arith, few, three)) in
+    ap (λ t. without_blanks (without_mark t)) long.1
+    ∙ ap without_blanks (mark_kept line long.0 (omega (arith, few, fewer, three)))
+    ∙ blanks_kept unmarked long.0 (omega (arith, three)) in
     let tags : is_tag_line (line ++ more) ≡ is_tag_line line =
     ap begins_tag front' ∙ tag_kept f tag' long.0 ∙ sym tag in
     let names : tag_name (front_of (line ++ more)) ≡ tag_name (front_of line) =

@@ -1,6 +1,6 @@
 -- What is known of a piece's lines, as more of them come.
 use Rattle.std.proofs.Common.{◌≡◌, ◌≤◌, ◌<◌, ℕ, ◌+◌, Bool, true, false, List, [], ◌∷◌, ◌++◌, length, take, drop, refl, sym, ap, subst, ◌∙◌, inl, inr, append_assoc, append-nil, length-append, length-drop, arith}
-use Rattle.std.specs.Prelude.{◌&&◌, ◌||◌, ◌==◌}
+use Rattle.std.specs.Prelude.{◌&&◌, ◌||◌}
 use Rattle.std.specs.List.{list_any, concat}
 use Rattle.std.proofs.Math.Seq.{take-length, take-add}
 use Rattle.std.proofs.lemmas.Bool.{and_parts, and_left, or_cases}
@@ -10,8 +10,9 @@ use Rattle.pgn_pieces.specs.declared.line_kinds.Kind.{Kind}
 use Rattle.pgn_pieces.specs.declared.piece_end.Seen.{Seen}
 use Rattle.pgn_pieces.specs.declared.piece_end.Step.TheVariants.{Begins, Waits, Belongs}
 use Rattle.pgn_pieces.specs.Pieces.{lines_of, is_tag_line, is_event_line, is_moves_line, begins_piece, cut}
+use Rattle.pgn_pieces.specs.Places.{breaks_line}
 use Rattle.pgn_pieces.specs.ties.Cutting.{cut_lines, piece_of}
-use Rattle.pgn_pieces.specs.ties.Held.{AreSeen, HasSeen, MayGoOn, IsDecided, SameKind, Ends, Steps, Looks, has_line_end}
+use Rattle.pgn_pieces.specs.ties.Held.{AreSeen, HasSeen, MayGoOn, IsDecided, IsWhole, SameKind, Ends, Steps, Looks, has_line_end}
 use Rattle.pgn_pieces.proofs.LineKinds.{decided_on, decided_tag}
 use Rattle.pgn_pieces.proofs.CutLines.{whole_line, first_line, concat_more, goes_on, ends_here, begun, last_line, some_bytes, cut_is}
 
@@ -91,22 +92,29 @@ ends_before seen piece k text some first = record {
 no_end : (line text : List ℕ) → has_line_end line ≡ false → has_line_end text ≡ false
     → has_line_end (line ++ text) ≡ false
 no_end line text plain plain' =
-    list_any-append (λ c. c == 10) line text ∙ ap (λ b. b || has_line_end text) plain ∙ plain'
+    list_any-append breaks_line line text ∙ ap (λ b. b || has_line_end text) plain ∙ plain'
+
+-- the beginning of a line, and its rest with its end
+whole_with : (front line : List ℕ) → has_line_end front ≡ false → IsWhole line → IsWhole (front ++ line)
+whole_with front line plain rest = record {
+  body = front ++ rest.body;
+  end = rest.end;
+  all = ap (λ xs. front ++ xs) rest.all ∙ sym (append_assoc front rest.body (rest.end ∷ []));
+  ends = rest.ends;
+  plain = no_end front rest.body plain rest.plain;
+}
 
 -- a line's rest, with its end
-add_whole : (seen seen' : Seen) (piece : List ℕ) (h : HasSeen seen piece) (body line : List ℕ)
-    → line ≡ body ++ 10 ∷ [] → has_line_end body ≡ false → seen'.inside ≡ false
-    → AreSeen seen' h.before (h.line ++ line) → HasSeen seen' (piece ++ line)
-add_whole seen seen' piece h body line is plain out are =
+add_whole : (seen seen' : Seen) (piece : List ℕ) (h : HasSeen seen piece) (line : List ℕ) → IsWhole line
+    → seen'.inside ≡ false → AreSeen seen' h.before (h.line ++ line) → HasSeen seen' (piece ++ line)
+add_whole seen seen' piece h line ended out are =
     let whole = h.line ++ line in
-    let whole_is : whole ≡ (h.line ++ body) ++ 10 ∷ [] =
-    ap (λ xs. h.line ++ xs) is ∙ sym (append_assoc h.line body (10 ∷ [])) in
     has_seen seen' (piece ++ line) (record {
       before = h.before ++ whole ∷ [];
       all = ap (λ xs. xs ++ line) h.all ∙ append_assoc (concat h.before) h.line line ∙ sym (concat_more h.before whole);
       cuts = λ rest. ap cut (append_assoc piece line rest) ∙ h.cuts (line ++ rest)
           ∙ ap (λ xs. cut_lines h.before (lines_of xs)) (sym (append_assoc h.line line rest))
-          ∙ ap (cut_lines h.before) (whole_line (h.line ++ body) whole rest whole_is (no_end h.line body h.plain plain))
+          ∙ ap (cut_lines h.before) (whole_line whole rest (whole_with h.line line h.plain ended))
           ∙ goes_on h.before whole (lines_of rest) are.belongs;
       moves = are.moves ∙ one_more is_moves_line whole;
       event = are.event ∙ one_more is_event_line whole;
@@ -161,10 +169,10 @@ module _ (seen : Seen) (inside : seen.inside ≡ true) (piece : List ℕ) (h : H
     event = event ∙ h.are.event ∙ ap (λ b. list_any is_event_line h.before || b) (sym same.event);
   }
 
-  pub whole_inside : (seen' : Seen) (body line : List ℕ) → line ≡ body ++ 10 ∷ [] → has_line_end body ≡ false
-      → seen'.inside ≡ false → seen'.moves ≡ seen.moves → seen'.event ≡ seen.event → HasSeen seen' (piece ++ line)
-  whole_inside seen' body line is plain out moves event =
-      add_whole seen seen' piece h body line is plain out (still seen' moves event line)
+  pub whole_inside : (seen' : Seen) (line : List ℕ) → IsWhole line → seen'.inside ≡ false
+      → seen'.moves ≡ seen.moves → seen'.event ≡ seen.event → HasSeen seen' (piece ++ line)
+  whole_inside seen' line ended out moves event =
+      add_whole seen seen' piece h line ended out (still seen' moves event line)
 
   pub open_inside : (line : List ℕ) → has_line_end line ≡ false → HasSeen seen (piece ++ take (length line) line)
   open_inside line plain =
@@ -185,18 +193,17 @@ module _ (seen : Seen) (out : seen.inside ≡ false) (kind : Kind) (line : List 
       ∙ ap (λ b. is_tag_line line && (list_any is_moves_line so.before || (b && seen.event))) event
       ∙ ap (λ b. is_tag_line line && (list_any is_moves_line so.before || (is_event_line line && b))) so.event
 
-  pub whole_ends : (body : List ℕ) → line ≡ body ++ 10 ∷ [] → has_line_end body ≡ false
-      → (kind.is_tag && (seen.moves || (kind.is_event && seen.event))) ≡ true
+  pub whole_ends : IsWhole line → (kind.is_tag && (seen.moves || (kind.is_event && seen.event))) ≡ true
       → (more : List ℕ) → Ends piece (line ++ more)
-  whole_ends body is plain begins more =
+  whole_ends ended begins more =
       let l = length-append line more in
-      let n = length-append body (10 ∷ []) in
-      let m = ap length is in
+      let n = length-append ended.body (ended.end ∷ []) in
+      let m = ap length ended.all in
       ends_before seen piece so (line ++ more) (omega (arith, l, n, m))
       (λ rest. (
         line,
         lines_of (more ++ rest),
-        ap lines_of (append_assoc line more rest) ∙ whole_line body line (more ++ rest) is plain,
+        ap lines_of (append_assoc line more rest) ∙ whole_line line (more ++ rest) ended,
         sym test_is ∙ begins,
       ))
 
@@ -232,11 +239,9 @@ module _ (seen : Seen) (out : seen.inside ≡ false) (kind : Kind) (line : List 
       event = new_event ∙ ap (λ b. b || kind.is_event) so.event ∙ ap (λ b. list_any is_event_line so.before || b) event;
     }
 
-    pub whole_comes : (body : List ℕ) → line ≡ body ++ 10 ∷ [] → has_line_end body ≡ false → seen'.inside ≡ false
-        → HasSeen seen' (piece ++ line)
+    pub whole_comes : IsWhole line → seen'.inside ≡ false → HasSeen seen' (piece ++ line)
     unfolding has_seen so
-    whole_comes body is plain out' =
-        add_whole seen seen' piece (has_seen seen piece so out) body line is plain out' came
+    whole_comes ended out' = add_whole seen seen' piece (has_seen seen piece so out) line ended out' came
 
     pub open_comes : has_line_end line ≡ false → IsDecided line → seen'.inside ≡ true
         → HasSeen seen' (piece ++ take (length line) line)

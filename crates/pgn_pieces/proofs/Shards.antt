@@ -6,6 +6,7 @@ use Rattle.std.specs.Str.{bytes_eq}
 use Rattle.std.proofs.lemmas.Bool.{and_left, or_left, eqb-true}
 use Rattle.std.proofs.lemmas.List.Folds.{list_any-append}
 use Rattle.pgn_pieces.specs.Pieces.{lines_of, front_of, tag_name, after_name, is_tag_line, is_event_line, is_empty_line, is_moves_line, begins_piece}
+use Rattle.pgn_pieces.specs.Places.{breaks_line}
 use Rattle.pgn_pieces.specs.ties.Cutting.{cut_lines, piece_of}
 use Rattle.pgn_pieces.specs.ties.Fronts.{begins_tag, is_empty_front}
 use Rattle.pgn_pieces.specs.laws.Shards.{ends_in_moves, begins_in_tag, ShardsAreCut}
@@ -94,10 +95,11 @@ module _ (tag_line : List ℕ) (others : List (List ℕ)) (tag : is_tag_line tag
 
 -- ---- the lines of a text in two parts
 
-lines_joined : (front rest : List ℕ)
+-- the lines of a text in two parts, of which the first ends with a line
+pub lines_joined : (front rest : List ℕ)
     → lines_of ((front ++ 10 ∷ []) ++ rest) ≡ lines_of (front ++ 10 ∷ []) ++ lines_of rest
 lines_joined [] rest = refl
-lines_joined (c ∷ cs) rest = by_test (eqb c 10) (lines_joined cs rest) (has_line cs)
+lines_joined (c ∷ cs) rest = by_test (breaks_line c) (lines_joined cs rest) (has_line cs)
   where
     has_line : (cs : List ℕ) → (line : List ℕ) × (lines : List (List ℕ)) × (lines_of (cs ++ 10 ∷ []) ≡ line ∷ lines)
     has_line [] = (10 ∷ [], [], refl)

@@ -1,35 +1,37 @@
 -- Each piece of a text but the last ends with a line.
-use Rattle.std.proofs.Common.{◌≡◌, ℕ, eqb, Bool, true, false, List, [], ◌∷◌, ◌++◌, refl, sym, ap, subst, ◌∙◌, inl, inr, ◌⊎◌, append_assoc, append-nil}
+use Rattle.std.proofs.Common.{◌≡◌, ℕ, Bool, true, false, List, [], ◌∷◌, ◌++◌, refl, sym, ap, subst, ◌∙◌, inl, inr, ◌⊎◌, append_assoc, append-nil}
 use Rattle.std.specs.Prelude.{if◌then◌else◌}
 use Rattle.std.specs.List.{onto_first, concat}
-use Rattle.std.proofs.lemmas.Bool.{eqb-true}
 use Rattle.pgn_pieces.specs.Pieces.{lines_of, begins_piece, cut}
+use Rattle.pgn_pieces.specs.Places.{breaks_line}
 use Rattle.pgn_pieces.specs.ties.Cutting.{cut_lines, piece_of}
 use Rattle.pgn_pieces.proofs.CutLines.{concat_more, first_begins, cut_is}
 
--- texts of which each but perhaps the last ends with byte 10
+-- texts of which each but perhaps the last ends with a byte that ends a line
 pub data AreLines : List (List ℕ) → Type 0 where
   no_texts : AreLines []
   last_text : (text : List ℕ) → AreLines (text ∷ [])
-  next_text : (front : List ℕ) {texts : List (List ℕ)} → AreLines texts → AreLines ((front ++ 10 ∷ []) ∷ texts)
+  next_text : (front : List ℕ) (end : ℕ) {texts : List (List ℕ)} → breaks_line end ≡ true → AreLines texts
+      → AreLines ((front ++ end ∷ []) ∷ texts)
 
 lines_end : (text : List ℕ) → AreLines (lines_of text)
 lines_end [] = no_texts
-lines_end (c ∷ cs) = by_test (eqb c 10) refl (lines_end cs)
+lines_end (c ∷ cs) = by_test (breaks_line c) refl (lines_end cs)
   where
     onto : {lines : List (List ℕ)} → AreLines lines → AreLines (onto_first c lines)
     onto no_texts = last_text (c ∷ [])
     onto (last_text text) = last_text (c ∷ text)
-    onto (next_text front rest) = next_text (c ∷ front) rest
+    onto (next_text front end ends rest) = next_text (c ∷ front) end ends rest
 
-    by_test : (b : Bool) → eqb c 10 ≡ b → AreLines (lines_of cs)
+    by_test : (b : Bool) → breaks_line c ≡ b → AreLines (lines_of cs)
         → AreLines (if b then (c ∷ []) ∷ lines_of cs else onto_first c (lines_of cs))
-    by_test true e rest = subst (λ k. AreLines ((k ∷ []) ∷ lines_of cs)) (sym (eqb-true c 10 e)) (next_text [] rest)
+    by_test true e rest = next_text [] c e rest
     by_test false e rest = onto rest
 
--- the lines of a piece so far, if there are any, end with byte 10
+-- the lines of a piece so far, if there are any, end with a byte that ends a line
 abbrev EndSo : List (List ℕ) → Type 0
-EndSo before = (before ≡ []) ⊎ ((front : List ℕ) × (concat before ≡ front ++ 10 ∷ []))
+EndSo before = (before ≡ [])
+    ⊎ ((front : List ℕ) × (end : ℕ) × (concat before ≡ front ++ end ∷ []) × (breaks_line end ≡ true))
 
 one_piece : (text : List ℕ) → AreLines (piece_of text)
 one_piece [] = no_texts
@@ -44,8 +46,8 @@ line_on before lines line so new on = by_test (begins_piece before line) refl so
         → AreLines (if b then concat before ∷ cut_lines (line ∷ []) lines else cut_lines (before ++ line ∷ []) lines)
     by_test true e (inl none) =
         let no : true ≡ false = sym e ∙ ap (λ l. begins_piece l line) none ∙ first_begins line in absurd (cc)
-    by_test true e (inr (front, is)) =
-        subst (λ l. AreLines (l ∷ cut_lines (line ∷ []) lines)) (sym is) (next_text front new)
+    by_test true e (inr (front, end, is, ends)) =
+        subst (λ l. AreLines (l ∷ cut_lines (line ∷ []) lines)) (sym is) (next_text front end ends new)
     by_test false e so = on
 
 pieces_end : (before : List (List ℕ)) {lines : List (List ℕ)} → AreLines lines → EndSo before
@@ -53,13 +55,15 @@ pieces_end : (before : List (List ℕ)) {lines : List (List ℕ)} → AreLines l
 pieces_end before no_texts so = one_piece (concat before)
 pieces_end before (last_text line) so =
     line_on before [] line so (one_piece (concat (line ∷ []))) (one_piece (concat (before ++ line ∷ [])))
-pieces_end before (next_text front {texts} rest) so =
-    line_on before texts (front ++ 10 ∷ []) so
-    (pieces_end ((front ++ 10 ∷ []) ∷ []) rest (inr (front, append-nil (front ++ 10 ∷ []))))
-    (pieces_end (before ++ (front ++ 10 ∷ []) ∷ []) rest
+pieces_end before (next_text front end {texts} ends rest) so =
+    line_on before texts (front ++ end ∷ []) so
+    (pieces_end ((front ++ end ∷ []) ∷ []) rest (inr (front, end, append-nil (front ++ end ∷ []), ends)))
+    (pieces_end (before ++ (front ++ end ∷ []) ∷ []) rest
     (inr (
       concat before ++ front,
-      concat_more before (front ++ 10 ∷ []) ∙ sym (append_assoc (concat before) front (10 ∷ [])),
+      end,
+      concat_more before (front ++ end ∷ []) ∙ sym (append_assoc (concat before) front (end ∷ [])),
+      ends,
     )))
 
 pub cut_ends : (text : List ℕ) → AreLines (cut text)

@@ -1,39 +1,40 @@
 -- A collection of games is cut into pieces: each is read as a text of its own.
 use Rattle.std.specs.Prelude.{◌≡◌, ◌≤◌, ◌^◌, ℕ, ◌+◌, ◌-◌, Bool, true, false, ◌&&◌, ◌||◌, not, ◌==◌, nat_lt, if◌then◌else◌, List, [], ◌∷◌, ◌++◌, length, map, reverse, take, drop, codes}
-use Rattle.std.specs.Char.{is_ascii_alphanumeric}
 use Rattle.std.specs.Io.KnownBytes.{Consumes, IsAtEnd}
 use Rattle.std.specs.List.{onto_first, take_while, prefix_len, list_any, list_all, concat, fold}
 use Rattle.std.specs.Str.{bytes_eq}
+use Rattle.byte_devices.specs.Bytes.{is_blank, is_name_byte}
 use Rattle.byte_devices.specs.Devices.{InputState, saturating_increment}
-use Rattle.pgn_pieces.specs.Places.{ends_line}
+use Rattle.pgn_pieces.specs.Places.{ends_line, breaks_line}
 use Rattle.pgn_pieces.specs.declared.pieces.PieceFault.{PieceFault}
 use Rattle.pgn_pieces.specs.declared.pieces.PieceFault.TheVariants.{ReadFailed, NoMemory, InputTooLong}
 
 -- ---- the lines of a text
 
--- the lines of a text, each with the `\n` that ends it; the last one may have none
+-- the lines of a text, each with the `\n` or `\r` that ends it; the last one may have none. So `\r\n` ends a line and
+-- is followed by a line of `\n` alone, which counts as empty
 abbrev pub lines_of : List ℕ → List (List ℕ)
 lines_of [] = []
-lines_of (c ∷ cs) = if ends_line c then (c ∷ []) ∷ lines_of cs else onto_first c (lines_of cs)
+lines_of (c ∷ cs) = if breaks_line c then (c ∷ []) ∷ lines_of cs else onto_first c (lines_of cs)
+
+-- a text without the spaces and tabs at its beginning
+abbrev pub without_blanks : List ℕ → List ℕ
+without_blanks text = drop (prefix_len is_blank text) text
 
 -- the front of a line, which decides the line's kind: its first 256 bytes, without the byte order mark of UTF-8 (the
--- bytes EF BB BF) at their beginning, if they have one there
+-- bytes EF BB BF) at their beginning, if they have one there, and then without the spaces and tabs there
 abbrev pub front_of : List ℕ → List ℕ
-front_of line =
-    let first = take 256 line in if bytes_eq (take 3 first) (239 ∷ 187 ∷ 191 ∷ []) then drop 3 first else first
-
--- whether a byte is a space or a tab
-abbrev pub is_blank : ℕ → Bool
-is_blank c = (c == 32) || (c == 9)
+front_of line = let first = take 256 line in
+    without_blanks (if bytes_eq (take 3 first) (239 ∷ 187 ∷ 191 ∷ []) then drop 3 first else first)
 
 -- the name of the tag with which the front of a line begins: the letters, digits and underscores after its first byte,
 -- which is to be `[` but is not tested here
 abbrev pub tag_name : List ℕ → List ℕ
-tag_name front = take_while (λ c. is_ascii_alphanumeric c || (c == 95)) (drop 1 front)
+tag_name front = take_while is_name_byte (drop 1 front)
 
 -- what comes after the tag's name in the front of a line, and after any spaces and tabs that follow the name
 abbrev pub after_name : List ℕ → List ℕ
-after_name front = let rest = drop (length (tag_name front)) (drop 1 front) in drop (prefix_len is_blank rest) rest
+after_name front = without_blanks (drop (length (tag_name front)) (drop 1 front))
 
 -- whether a line is a tag line: its front begins with `[`, a name of one byte or more, any spaces and tabs, and `"`
 abbrev pub is_tag_line : List ℕ → Bool
@@ -81,19 +82,22 @@ known_pieces ended text = let all = cut text in if ended then all else take (len
 
 -- ---- what was read of an input
 
--- between two states of the input, `r` and then `r'`, just this text was read, and no read failed. `ended`: the end
--- of the input was reached, and was reported by one read
+-- between two states of the input, `r` and then `r'`, just this text was read, no read failed, and no silence was
+-- counted. `ended`: the end of the input was reached, and was reported by one read
 pub record HasRead (ended : Bool) (r r' : InputState) (text : List ℕ) : Type 0 where
   pub bytes : Consumes r.known_bytes r'.known_bytes text
   pub failures : r'.failure_count ≡ r.failure_count
   pub ends : r'.end_count ≡ (if ended then saturating_increment r.end_count else r.end_count)
+  pub silences : r'.silence_count ≡ r.silence_count
   pub at_end : ended ≡ true → IsAtEnd r'.known_bytes
 
--- between two states of the input, `r` and then `r'`, this text was read, and then one read failed
+-- between two states of the input, `r` and then `r'`, this text was read, and then one read failed; no silence was
+-- counted
 pub record GaveThenFailed (r r' : InputState) (text : List ℕ) : Type 0 where
   pub bytes : Consumes r.known_bytes r'.known_bytes text
   pub failures : r'.failure_count ≡ saturating_increment r.failure_count
   pub ends : r'.end_count ≡ r.end_count
+  pub silences : r'.silence_count ≡ r.silence_count
 
 -- why nothing was read after this text, between the input's states `r` and `r'`: a read failed, memory ran out, or
 -- the text has nearly 2^63 bytes or more

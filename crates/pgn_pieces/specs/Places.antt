@@ -1,10 +1,15 @@
 -- Where a byte of a text is: its line and its column, both counted from 1. A column counts bytes.
-use Rattle.std.specs.Prelude.{ℕ, ◌+◌, ◌==◌, Bool, not, List, take}
+use Rattle.std.specs.Prelude.{ℕ, ◌+◌, ◌==◌, Bool, ◌||◌, not, List, take}
 use Rattle.std.specs.List.{count_by, suffix_len}
 
--- whether a byte ends a line: it is `\n`
+-- whether a byte ends a line, as lines are numbered: it is `\n`
 abbrev pub ends_line : ℕ → Bool
 ends_line c = c == 10
+
+-- whether a byte ends a line, as a collection is cut into lines: it is `\n`, or `\r`, which alone ends the lines of
+-- some old files
+abbrev pub breaks_line : ℕ → Bool
+breaks_line c = ends_line c || (c == 13)
 
 -- how many lines end in a text
 abbrev pub line_ends : List ℕ → ℕ
@@ -14,7 +19,7 @@ line_ends text = count_by ends_line text
 abbrev pub line_of : List ℕ → ℕ → ℕ
 line_of text offset = count_by ends_line (take offset text) + 1
 
--- the column of the byte at this offset of a text: one more than the number of bytes between it and the last line end
--- before it, or the text's beginning
+-- the column of the byte at this offset of a text: one more than the number of bytes between it and the last `\n` or
+-- `\r` before it, or the text's beginning
 abbrev pub column_of : List ℕ → ℕ → ℕ
-column_of text offset = suffix_len (λ c. not (ends_line c)) (take offset text) + 1
+column_of text offset = suffix_len (λ c. not (breaks_line c)) (take offset text) + 1

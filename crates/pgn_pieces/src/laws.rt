@@ -20,7 +20,8 @@ pub fn shards_are_cut()
 {}
 
 /// States a law and does nothing: each piece of a text has the bytes that are at its offset in the text, and begins
-/// where a line begins. The number of that line is one more than the number of line ends in all pieces before it.
+/// where a line begins: at the text's first byte, or after `\n` or `\r`. The number of that line is one more than the
+/// number of line ends (`\n`) in all pieces before it.
 pub fn pieces_are_in_place()
     ensures { PiecesAreInPlace }
 {}

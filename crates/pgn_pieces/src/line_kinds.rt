@@ -1,5 +1,5 @@
 //! The kinds of lines of a collection. The kind of a line is decided by its front, which means its first 256 bytes
-//! without a byte order mark:
+//! without a byte order mark, and then without spaces and tabs, at their beginning:
 //!
 //! - a tag line begins with `[`, a name, perhaps spaces and tabs, and `"`: `[White "Carlsen"]`
 //! - an Event line is a tag line of the tag Event: `[Event "Oslo"]`
@@ -10,12 +10,14 @@
 //! (the workload collections). What that gains was not measured apart.
 
 ghost use Rattle.std.specs.Prelude.{◌≡◌, ◌≤◌, true, false, ◌||◌, ◌==◌, if◌then◌else◌, [], ◌∷◌, length, take, drop, codes};
-ghost use Rattle.std.specs.Char.{is_ascii_alphanumeric};
 ghost use Rattle.std.specs.Str.{bytes_eq};
-ghost use Rattle.std.specs.List.{prefix_len, list_all};
-ghost use Rattle.pgn_pieces.specs.Pieces.{front_of, after_name, is_blank, tag_name, is_tag_line, is_event_line, is_moves_line};
+ghost use Rattle.std.specs.List.{list_all};
+ghost use Rattle.pgn_pieces.specs.Pieces.{without_blanks, front_of, after_name, tag_name, is_tag_line, is_event_line, is_moves_line};
+ghost use Rattle.byte_devices.specs.Bytes.{is_blank};
 ghost use Rattle.pgn_pieces.specs.Places.{ends_line, line_ends};
 ghost use Rattle.pgn_pieces.specs.ties.Fronts.{begins_tag, is_empty_front};
+
+use byte_devices::{after_byte_order_mark, is_blank, is_name_byte, split_while};
 
 // How many of a line's first bytes decide its kind; the bytes after these are not looked at.
 pub(crate) const FRONT_LEN: usize = 256;
@@ -33,7 +35,7 @@ pub(crate) struct Kind {
 
 // The kind of a line: `[Event "Oslo"]` is a tag line and an Event line, `[White "Carlsen"]` only a tag line, and
 // `1. e4 e5` a line of moves. A line with only white space, or that begins with `%` or `;`, is none of these. `line`
-// may have its `\n` or not, and may be only the beginning of a line that isn't all read (`Seen::see_open`).
+// may have its line end or not, and may be only the beginning of a line that isn't all read (`Seen::see_open`).
 #[inline(always)]
 pub(crate) fn kind_of(line: &[u8]) -> Kind
     ensures tag { result.is_tag ≡ is_tag_line line.now }
@@ -59,16 +61,12 @@ pub(crate) fn kind_of(line: &[u8]) -> Kind
 }
 
 // The text after the byte order mark (the bytes EF BB BF of UTF-8) at its front; all of the text, if it has none. Each
-// line's mark is left out, so that files with marks can be joined to one collection. chess_pgn has a function for the
-// mark too, `after_byte_order_mark`, but of this repository's crates this one uses only byte_devices.
+// line's mark is left out, so that files with marks can be joined to one collection.
 #[inline(always)]
 fn without_mark(text: &[u8]) -> &[u8]
     ensures { result.now ≡ (if bytes_eq (take 3 text.now) (239 ∷ 187 ∷ 191 ∷ []) then drop 3 text.now else text.now) }
 {
-    if text.starts_with(b"\xef\xbb\xbf") {
-        return &text[3..];
-    }
-    text
+    &text[after_byte_order_mark(text, 0)..]
 }
 
 // The first 256 bytes (`FRONT_LEN`) of a line, which decide its kind; all of a shorter line.
@@ -82,48 +80,13 @@ fn first_bytes(line: &[u8]) -> &[u8]
     line
 }
 
-// The front of a line, which decides its kind: its first 256 bytes, without a byte order mark.
+// The front of a line, which decides its kind: its first 256 bytes, without a byte order mark, and without the spaces
+// and tabs that come first. The front of a line with 256 spaces or more is empty.
 #[inline(always)]
 fn front_of(line: &[u8]) -> &[u8]
     ensures { result.now ≡ front_of line.now }
 {
-    without_mark(first_bytes(line))
-}
-
-// Whether a byte may be part of a tag's name: a letter, a digit or `_`. chess_pgn has this test too, but of this
-// repository's crates this one uses only byte_devices.
-#[inline(always)]
-fn is_name_byte(byte: u8) -> bool
-    ensures { result ≡ (is_ascii_alphanumeric byte || byte == 95) }
-{
-    byte.is_ascii_alphanumeric() || byte == b'_'
-}
-
-// Whether a byte is a space or a tab. text_lines has this test too, but of this repository's crates this one uses only
-// byte_devices.
-#[inline(always)]
-fn is_blank(byte: u8) -> bool
-    ensures { result ≡ is_blank byte }
-{
-    byte == b' ' || byte == b'\t'
-}
-
-// How many letters, digits and `_` are at a text's front, where a tag's name may be: 5 for `Event "Oslo"]`.
-#[inline(always)]
-fn name_len(text: &[u8]) -> usize
-    ensures count { result ≡ prefix_len (λ c. is_ascii_alphanumeric c || (c == 95)) text.now }
-    ensures within { result ≤ length text.now }
-{
-    text.iter().take_while(|byte| is_name_byte(**byte)).count()
-}
-
-// How many spaces and tabs are at a text's front: 1 for ` "Oslo"]`.
-#[inline(always)]
-fn blank_len(text: &[u8]) -> usize
-    ensures count { result ≡ prefix_len is_blank text.now }
-    ensures within { result ≤ length text.now }
-{
-    text.iter().take_while(|byte| is_blank(**byte)).count()
+    without_blanks(without_mark(first_bytes(line)))
 }
 
 // A text without its first byte; an empty text stays empty.
@@ -140,16 +103,15 @@ fn without_first(text: &[u8]) -> &[u8]
 fn tag_name(front: &[u8]) -> &[u8]
     ensures { result.now ≡ tag_name front.now }
 {
-    let rest = without_first(front);
-    &rest[..name_len(rest)]
+    split_while(without_first(front), |byte| is_name_byte(byte)).0
 }
 
 // A text without the spaces and tabs at its front: `"Oslo"]` for ` "Oslo"]`.
 #[inline(always)]
 fn without_blanks(text: &[u8]) -> &[u8]
-    ensures { result.now ≡ drop (prefix_len is_blank text.now) text.now }
+    ensures { result.now ≡ without_blanks text.now }
 {
-    &text[blank_len(text)..]
+    split_while(text, |byte| is_blank(byte)).1
 }
 
 // The part of a line's front after the tag's name, and after any spaces and tabs that follow the name: `"Oslo"]` for

@@ -9,10 +9,12 @@
 //! The functions of the search are inlined for the reason at the head of line_kinds.rt.
 
 ghost use Rattle.std.specs.Prelude.{◌≡◌, ◌<◌, ◌++◌, ◌∷◌, ◌&&◌, ◌||◌, List, ℕ, [], length, take, drop, true, false};
-ghost use Rattle.pgn_pieces.specs.ties.Held.{HasSeen, Steps, SeesWhole, Looks, has_line_end};
+ghost use Rattle.std.specs.List.{position_or_len};
+ghost use Rattle.pgn_pieces.specs.Places.{breaks_line};
+ghost use Rattle.pgn_pieces.specs.ties.Held.{HasSeen, IsWhole, Steps, SeesWhole, Looks, has_line_end};
 
 use crate::line_kinds::{FRONT_LEN, Kind, kind_of};
-use byte_devices::len_before;
+use byte_devices::len_before_any;
 
 // What is known of the lines of a piece, as far as the piece was read.
 #[derive(Clone, Copy)]
@@ -21,8 +23,8 @@ pub(crate) struct Seen {
     pub(crate) moves: bool,
     // Whether the piece has an Event line.
     pub(crate) event: bool,
-    // Whether the piece so far ends inside a line, whose `\n` isn't read yet. Then the next bytes are more of this
-    // line, and its kind is noted already.
+    // Whether the piece so far ends inside a line, whose end isn't read yet. Then the next bytes are more of this line,
+    // and its kind is noted already.
     pub(crate) inside: bool,
 }
 
@@ -30,11 +32,22 @@ pub(crate) struct Seen {
 pub(crate) enum Step {
     // The next piece begins with the line.
     Begins,
-    // The line is left until more of it is read, or the input ends. It is no tag line so far, and neither its `\n` nor
+    // The line is left until more of it is read, or the input ends. It is no tag line so far, and neither its end nor
     // 256 bytes of it were read.
     Waits,
-    // The line belongs to the piece. The number is how many bytes of it were read, its `\n` included.
+    // The line belongs to the piece. The number is how many bytes of it were read, its end included.
     Belongs(usize),
+}
+
+// How many bytes of a text come before its first line end, which is `\n` or `\r`; all, if it has none. `\r\n` is a line
+// end and then a line of its own, which is empty.
+#[inline(always)]
+fn len_before_end(text: &[u8]) -> usize
+    ensures count { result ≡ position_or_len breaks_line text.now }
+    ensures within { result ≤ length text.now }
+{
+    // The compiler makes one comparison of two alike.
+    len_before_any(text, b'\n', b'\r', b'\r')
 }
 
 impl Seen {
@@ -58,7 +71,7 @@ impl Seen {
         kind.is_tag && (self.moves || (kind.is_event && self.event))
     }
 
-    // Notes that a line of this kind belongs to the piece. `goes_on`: the line's `\n` isn't read yet.
+    // Notes that a line of this kind belongs to the piece. `goes_on`: the line's end isn't read yet.
     #[inline(always)]
     fn add(&mut self, kind: Kind, goes_on: bool)
         ensures moves { self.new.moves ≡ (self.old.moves || kind.is_moves) }
@@ -71,15 +84,16 @@ impl Seen {
     }
 
     // Decides whether the next piece begins with `line` (true), or `line` belongs to this piece (false). `line` is the
-    // next bytes up to their first `\n`, which it contains. It is a whole line, whose kind is noted if it belongs to
-    // the piece; or the rest of a line whose beginning the piece has already, and whose kind was noted then (`inside`).
+    // next bytes up to their first line end, which it contains. It is a whole line, whose kind is noted if it belongs
+    // to the piece; or the rest of a line whose beginning the piece has already, and whose kind was noted then
+    // (`inside`).
     #[inline(always)]
     fn see_whole(&mut self, line: &[u8]) -> bool
-        requires whole { (body : List ℕ) × (line.now ≡ body ++ 10 ∷ []) × (has_line_end body ≡ false) }
+        requires whole { IsWhole line.now }
         ensures { SeesWhole self.old self.new line.now result }
     {
         if self.inside {
-            // This is the rest of a line, with its `\n`.
+            // This is the rest of a line, with its end.
             self.inside = false;
             return false;
         }
@@ -91,7 +105,7 @@ impl Seen {
         false
     }
 
-    // Decides whether the next piece begins with `line`, which is the next bytes and has no `\n`, since no more of the
+    // Decides whether the next piece begins with `line`, which is the next bytes and has no end, since no more of the
     // line was read. Returns `Begins` if so; `Belongs` if `line` is more of the piece's last line (`inside`), or a new
     // line of the piece, whose kind is then noted; and `Waits` if `line` is no tag line so far, and has fewer than the
     // 256 bytes (`FRONT_LEN`) that decide its kind. With more bytes a line such as `[Eve` may become a tag line; one
@@ -118,14 +132,14 @@ impl Seen {
 
     // Decides whether the first line of `text` belongs to the piece, and notes its kind if it does. This is one step of
     // the search in `find_end`, which calls it line by line. `text` is the next bytes that were read. The line is given
-    // to `see_whole` if its `\n` is in `text`, and to `see_open` if not. The lines after it are not looked at.
+    // to `see_whole` if its end is in `text`, and to `see_open` if not. The lines after it are not looked at.
     #[inline(always)]
     fn step(&mut self, text: &[u8]) -> Step
         requires { 0 < length text.now }
         ensures { Steps self.old self.new text.now result }
     {
-        let len = len_before(text, b'\n');
-        // There is no `\n` in `text`.
+        let len = len_before_end(text);
+        // There is no line end in `text`.
         if len == text.len() {
             return self.see_open(text);
         }

@@ -61,16 +61,27 @@ fn check_cut(
 }
 
 // Texts, and the lengths of their pieces.
-const CUTS: [(&[u8], &[usize]); 16] = [
+const CUTS: [(&[u8], &[usize]); 21] = [
     (b"", &[]),
     (b"1. e4 *", &[7]),
     (b"[Event \"a\"]\n1. e4 *\n\n[Event \"b\"]\n*", &[21, 13]),
     (b"\n[Event \"a\"]\n", &[13]),
     (b"a\n[Event \n[Event \"", &[10, 8]),
-    (b"x [Event \"a\"]\r[Event \"b\"]\n", &[26]),
+    (b"x [Event \"a\"]\r[Event \"b\"]\n", &[14, 12]),
+    (b"[Event \"a\"]\r\r1. e4 *\r\r[Event \"b\"]\r*\r", &[22, 14]),
+    (b"*\r\r\n[Event \"a\"]\r\r\n", &[4, 14]),
+    (b"1. e4 *\r[Event \"a\"]\n\r*\n\r[Event \"b\"]", &[8, 16, 11]),
     (
         b"*\n [Event \"a\"]\n[Events \"b\"]\n[event \"c\"]\n[Event",
-        &[15, 31],
+        &[2, 44],
+    ),
+    (
+        b"\t [Event \"a\"]\n\t1. e4 *\n \t[Site \"b\"]\n  *\n",
+        &[23, 17],
+    ),
+    (
+        b"*\n\xef\xbb\xbf [a \"b\"]\n \xef\xbb\xbf[a \"b\"]\n",
+        &[2, 24],
     ),
     (b"1. e4 {x\r\n[Event \"a\"]\r\n*\r\n", &[10, 16]),
     (
@@ -182,6 +193,31 @@ fn check_name(rt: &impl Abort, host: &HostRuntime, len: usize, begins: bool) -> 
 fn names_have_at_most_254_bytes(rt: HostRuntime) -> Result<(), Fail> {
     check_name(&rt, &rt, 254, true)?;
     check_name(&rt, &rt, 255, false)
+}
+
+// Blanks before a tag are among these 256 bytes: after so many the tag begins a piece, or doesn't.
+fn check_blanks(rt: &impl Abort, host: &HostRuntime, len: usize, begins: bool) -> Result<(), Fail> {
+    let mut text = vec![in host.alloc(); b' '; len]?;
+    text.insert(0, b'\n')?;
+    text.insert(0, b'*')?;
+    text.extend_from_slice(b"[a \"")?;
+    let mut input = Counted::reading(text.as_slice());
+    let mut pieces = PgnPieces::open(host.alloc())?;
+    is_equal(rt, &pieces.next(&mut input), &Ok(true));
+    assert_eq!(rt;
+        pieces.text() == Some(b"*\n".as_slice()),
+        begins,
+        "{len} blanks"
+    );
+    Ok(())
+}
+
+#[test]
+fn tags_come_after_at_most_252_blanks(rt: HostRuntime) -> Result<(), Fail> {
+    check_blanks(&rt, &rt, 252, true)?;
+    check_blanks(&rt, &rt, 253, false)?;
+    check_blanks(&rt, &rt, 256, false)?;
+    check_blanks(&rt, &rt, 300, false)
 }
 
 // A piece has at most 16,777,216 bytes, or it has no text; the next one comes at its offset.

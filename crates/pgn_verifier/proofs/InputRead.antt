@@ -18,6 +18,7 @@ all_read r r' r'' text buf n front few gave is =
             (consumes_more r.known_bytes r'.known_bytes r''.known_bytes text [] front.bytes gave'.bytes);
         failures = gave'.failures ∙ front.failures;
         ends = gave'.ends ∙ ap saturating_increment front.ends;
+        silences = gave'.silences ∙ front.silences;
         at_end = λ e. gave'.at_end refl;
       },
       few,
@@ -39,6 +40,7 @@ more_read r r' r'' text buf n front gave some within = record {
   bytes = consumes_more r.known_bytes r'.known_bytes r''.known_bytes text (take n buf) front.bytes gave.bytes;
   failures = gave.failures ∙ front.failures;
   ends = not_ended r''.end_count r'.end_count n buf some within gave.ends ∙ front.ends;
+  silences = gave.silences ∙ front.silences;
   at_end = λ e. absurd (cc);
 }
 

@@ -4,6 +4,7 @@ mod FaultsInText
 mod Finished
 mod InputRead
 mod LinesWritten
+mod NamesShown
 mod Placed
 mod TextVerified
 mod TooLong

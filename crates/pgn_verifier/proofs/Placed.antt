@@ -1,11 +1,11 @@
 -- Where a fault is: counted from the text's beginning, and from the input's.
-use Rattle.std.proofs.Common.{◌≡◌, ◌≤◌, ℕ, ◌+◌, ◌-◌, Bool, not, cond, List, [], ◌∷◌, ◌++◌, length, take, drop, sym, ap, ◌∙◌, length-drop, arith}
+use Rattle.std.proofs.Common.{◌≡◌, ◌≤◌, ℕ, ◌+◌, Bool, not, cond, List, [], ◌∷◌, ◌++◌, length, take, drop, sym, ap, ◌∙◌, arith}
 use Rattle.std.specs.Prelude.{if◌then◌else◌, reverse}
 use Rattle.std.specs.List.{prefix_len, suffix_len}
 use Rattle.std.proofs.Math.Seq.{take-add}
-use Rattle.std.proofs.lemmas.List.{take-take, take_all, take-append-le, drop-append-le, length-take, reverse-append}
+use Rattle.std.proofs.lemmas.List.{take-take, take-append-le, drop-append-le, length-take, reverse-append}
 use Rattle.std.proofs.lemmas.List.Sums.{sum_by-append}
-use Rattle.pgn_pieces.specs.Places.{ends_line, line_ends, line_of, column_of}
+use Rattle.pgn_pieces.specs.Places.{ends_line, breaks_line, line_ends, line_of, column_of}
 use Rattle.pgn_verifier.specs.declared.start.TextStart.{TextStart}
 use Rattle.pgn_pieces.specs.Stream.{PieceSeen}
 use Rattle.pgn_pieces.specs.laws.Places.{IsInPlace}
@@ -13,7 +13,7 @@ use Rattle.std.specs.List.{sum_by}
 use Rattle.pgn_verifier.specs.ties.OnTheWay.{StandsAt, PieceStandsAt}
 
 abbrev last_line_len : List ℕ → ℕ
-last_line_len text = suffix_len (λ c. not (ends_line c)) text
+last_line_len text = suffix_len (λ c. not (breaks_line c)) text
 
 line_ends_after : (xs ys : List ℕ) → line_ends (xs ++ ys) ≡ line_ends xs + line_ends ys
 line_ends_after = sum_by-append (λ c. if ends_line c then 1 else 0)
@@ -24,11 +24,8 @@ stops_there p (x ∷ xs) ys h = ap (λ n. cond (p x) (1 + n) 0) (stops_there p x
 
 last_line_after : (xs ys : List ℕ) → last_line_len xs ≡ 0 → last_line_len (xs ++ ys) ≡ last_line_len ys
 last_line_after xs ys h =
-    ap (prefix_len (λ c. not (ends_line c))) (reverse-append xs ys)
-    ∙ stops_there (λ c. not (ends_line c)) (reverse ys) (reverse xs) h
-
-pub rest_is : (k : ℕ) (text : List ℕ) → take (length text - k) (drop k text) ≡ drop k text
-rest_is k text = take_all (length text - k) (drop k text) (let l = length-drop k text in omega (arith, l))
+    ap (prefix_len (λ c. not (breaks_line c))) (reverse-append xs ys)
+    ∙ stops_there (λ c. not (breaks_line c)) (reverse ys) (reverse xs) h
 
 module _ (start : TextStart) (input text : List ℕ) (k : ℕ) (within : k ≤ length text)
     (stands : StandsAt start input text)

@@ -10,8 +10,8 @@ use Rattle.pgn_verifier.specs.declared.tally.Tally.{Tally}
 use Rattle.pgn_verifier.specs.Explanations.{wrong_part}
 use Rattle.pgn_verifier.specs.Reports.{Game, Faulty, Placed, game_begin, span_text, report_lines}
 use Rattle.pgn_verifier.specs.laws.Reasons.{explanation_of}
-use Rattle.pgn_verifier.specs.laws.Reported.{read_at, judged_at, placed_then, placed_from, placed_on}
-use Rattle.pgn_verifier.specs.ties.OnTheWay.{game_line, with_report, next_number, Writes, GrowsBy, moved, counted}
+use Rattle.pgn_verifier.specs.laws.Reported.{names_at, read_at, judged_at, placed_then, placed_from, placed_on}
+use Rattle.pgn_verifier.specs.ties.OnTheWay.{game_line, with_report, next_number, Writes, moved, counted}
 use Rattle.pgn_verifier.proofs.LinesWritten.{placed_line, wrote_none, took_after, broke_after, writes_after, one_line, first_broke, counted_after}
 
 -- ---- the reports that are left
@@ -57,6 +57,7 @@ abbrev pub game_report : ℕ → List ℕ → ℕ → PgnEnd → State → Place
 game_report start text at end g = record {
   begin = start + game_begin text at;
   end = start + end.offset;
+  names = Some (names_at text at);
   report = Game (length g.moves) end.outcome end.termination;
 }
 
@@ -65,6 +66,7 @@ abbrev pub fault_report : ℕ → List ℕ → ℕ → GameFault → State → P
 fault_report start text at fault g = record {
   begin = start + game_begin text at;
   end = start + length text;
+  names = Some (names_at text at);
   report = Faulty (moved start fault) (start + fault.offset + (wrong_part fault.kind (drop fault.offset text)).0)
       (explanation_of g (drop fault.offset text) fault.kind);
 }
@@ -89,13 +91,6 @@ module _ (options : VerifyOptions) (start : ℕ) (text : List ℕ) (before : Tal
       let whole : placed_on options.strict start text ≡ done =
       due (Ok None) (read_at text at).state h refl ∙ append-nil done in
       subst (Writes {E = E} options input before w w' (Ok tally)) (sym whole) (s.took input, s.is)
-
-  pub all_grown : GrowsBy (length text) before tally
-  all_grown =
-      let few = s.few in
-      let moves = s.few_moves in
-      let within = s.within in
-      record { reports = omega (arith, few, within); half_moves = omega (arith, moves, within) }
 
   pub game_written : (end : PgnEnd) (g : State) → judged_at options.strict text at ≡ Ok (Some end)
       → g ≡ (read_at text at).state → length g.moves + at ≤ end.offset → at < end.offset → end.offset ≤ length text
@@ -155,14 +150,6 @@ module _ (options : VerifyOptions) (start : ℕ) (text : List ℕ) (before : Tal
       (Ok (record { games = tally.games; half_moves = tally.half_moves; faults = tally.faults + 1 }))
       (fault_report start text at fault g ∷ [])
       (subst (Took w' w'') (one_line options input (next_number tally) (fault_report start text at fault g)) took, refl))
-
-  pub fault_grown : GrowsBy (length text) before
-      (record { games = tally.games; half_moves = tally.half_moves; faults = tally.faults + 1 })
-  fault_grown =
-      let few = s.few in
-      let moves = s.few_moves in
-      let within = s.within in
-      record { reports = omega (arith, few, within); half_moves = omega (arith, moves, within) }
 
   pub fault_broke : {E : Type 0} (e : E) (input : List ℕ) (fault : GameFault) (g : State)
       → judged_at options.strict text at ≡ Err fault → g ≡ (read_at text at).state

@@ -21,13 +21,25 @@ use Rattle.pgn_verifier.specs.ties.OnTheWay.{IsAll, IsNotAll, WritesText, text_l
 
 gave : (r r' : InputState) (text : List ℕ) (ended : Bool) → HasRead ended r r' text
     → InputGave r r' (came r' text ended false)
-gave r r' text ended h =
-    record { bytes = h.bytes; early = refl; at_end = h.at_end; ends = h.ends; failures = h.failures }
+gave r r' text ended h = record {
+  bytes = h.bytes;
+  early = refl;
+  at_end = h.at_end;
+  ends = h.ends;
+  failures = h.failures;
+  silences = h.silences;
+}
 
 gave_before_a_fault : (r r' : InputState) (text : List ℕ) → GaveThenFailed r r' text
     → InputGave r r' (came r' text false true)
-gave_before_a_fault r r' text h =
-    record { bytes = h.bytes; early = refl; at_end = λ e. cc; ends = h.ends; failures = h.failures }
+gave_before_a_fault r r' text h = record {
+  bytes = h.bytes;
+  early = refl;
+  at_end = λ e. cc;
+  ends = h.ends;
+  failures = h.failures;
+  silences = h.silences;
+}
 
 -- ---- a text
 
@@ -39,13 +51,13 @@ not_all_read options r r' w ReadFailed (text, broke_off) = (
   nothing,
   gave_before_a_fault r r' text broke_off,
   took_nothing w,
-  (refl, refl, refl),
+  (refl, (refl, refl, refl)),
 )
 not_all_read options r r' w WriteFailed none = absurd none
 not_all_read options r r' w NoMemory (text, read) =
-    (came r' text false false, nothing, gave r r' text false read, took_nothing w, (refl, (λ e. cc), refl))
+    (came r' text false false, nothing, gave r r' text false read, took_nothing w, (refl, (refl, (λ e. cc), refl)))
 not_all_read options r r' w InputTooLong (text, read, long) =
-    (came r' text false false, nothing, gave r r' text false read, took_nothing w, (refl, refl, long, refl))
+    (came r' text false false, nothing, gave r r' text false read, took_nothing w, (refl, (refl, refl, long, refl)))
 
 pub not_all_exit : (options : VerifyOptions) (r r' : InputState) (w : OutputState)
     (result : Result Verified VerifyFault) → IsErr result → IfErr result (λ fault. IsNotAll r r' fault)
@@ -56,7 +68,7 @@ not_all_exit options r r' w (Err fault) is h = not_all_read options r r' w fault
 pub no_memory : (options : VerifyOptions) (r r' : InputState) (w : OutputState) (text : List ℕ) → IsAll r r' text
     → Ran (Verifies options (Err NoMemory)) (record { input = r; output = w }) (record { input = r'; output = w })
 no_memory options r r' w text (read, few) =
-    (came r' text true false, nothing, gave r r' text true read, took_nothing w, (refl, (λ e. few), refl))
+    (came r' text true false, nothing, gave r r' text true read, took_nothing w, (refl, (refl, (λ e. few), refl)))
 
 pub text_verified : (E : Type 0) (options : VerifyOptions) (r r' : InputState) (w w' : OutputState) (text : List ℕ)
     (verdict : Verified) → IsAll r r' text → WritesText {E = E} options text w w' (Ok verdict)
@@ -66,7 +78,7 @@ text_verified E options r r' w w' text verdict (read, few) (is, sent) = (
   all_of (text_lines options text),
   gave r r' text true read,
   took_all w w' (text_lines options text) sent,
-  ((refl, refl), few, (placed_on options.strict 0 text, are_reports options.strict 0 text, refl, is)),
+  (refl, ((refl, refl), few, (placed_on options.strict 0 text, are_reports options.strict 0 text, refl, is))),
 )
 
 pub text_broke_off : (options : VerifyOptions) (r r' : InputState) (w w' : OutputState) (text : List ℕ)
@@ -77,7 +89,10 @@ text_broke_off options r r' w w' text (read, few) (start, begins, failed) = (
   broke nothing start,
   gave r r' text true read,
   took_some w w' start failed,
-  ((refl, refl), few, (placed_on options.strict 0 text, are_reports options.strict 0 text, (start, begins, refl))),
+  (
+    refl,
+    ((refl, refl), few, (placed_on options.strict 0 text, are_reports options.strict 0 text, (start, begins, refl))),
+  ),
 )
 
 -- ---- a collection
@@ -92,7 +107,14 @@ collection_verified options r r' w w' text verdict read sent is = (
   all_of (collection_written options true text),
   gave r r' text true read,
   took_all w w' (collection_written options true text) sent,
-  (collection_placed options.strict true text, are_collection_reports options.strict true text, ((refl, refl), refl, is)),
+  (
+    refl,
+    (
+      collection_placed options.strict true text,
+      are_collection_reports options.strict true text,
+      ((refl, refl), refl, is),
+    ),
+  ),
 )
 
 pub collection_broke_off : (options : VerifyOptions) (r r' : InputState) (w w' : OutputState) (ended : Bool)
@@ -105,9 +127,12 @@ collection_broke_off options r r' w w' ended text read (start, begins, failed) =
   gave r r' text ended read,
   took_some w w' start failed,
   (
-    collection_placed options.strict ended text,
-    are_collection_reports options.strict ended text,
-    (refl, (start, begins, refl)),
+    refl,
+    (
+      collection_placed options.strict ended text,
+      are_collection_reports options.strict ended text,
+      (refl, (start, begins, refl)),
+    ),
   ),
 )
 
@@ -138,19 +163,19 @@ reading_stopped options r r' w w' text fault cause took = by_fault fault cause
       all_unflushed written,
       gave_before_a_fault r r' text broke_off,
       took_unflushed w w' written part,
-      (reports, are, (refl, refl, refl)),
+      (refl, (reports, are, (refl, refl, refl))),
     )
     by_fault piece.NoMemory read = (
       came r' text false false,
       all_unflushed written,
       gave r r' text false read,
       took_unflushed w w' written part,
-      (reports, are, (refl, refl, refl)),
+      (refl, (reports, are, (refl, refl, refl))),
     )
     by_fault piece.InputTooLong (read, many) = (
       came r' text false false,
       all_unflushed written,
       gave r r' text false read,
       took_unflushed w w' written part,
-      (reports, are, (refl, refl, many, refl)),
+      (refl, (reports, are, (refl, refl, many, refl))),
     )

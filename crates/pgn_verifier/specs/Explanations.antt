@@ -2,18 +2,18 @@
 use Rattle.std.specs.Prelude.{◌≡◌, ℕ, ◌-◌, ◌==◌, Bool, true, false, not, if◌then◌else◌, List, [], ◌∷◌, ◌++◌, length, take, take_while, map, codes, decimal, Option, Some, None}
 use Rattle.std.specs.Option.{option_map, option_map_or}
 use Rattle.chess_base.specs.Faults.{fen_fault_name}
-use Rattle.chess_base.specs.Letters.{byte, new_line}
+use Rattle.byte_devices.specs.Bytes.{byte, new_line, shown_byte}
 use Rattle.chess_fen.specs.Writing.{fen}
 use Rattle.chess_game.specs.Ends.{verdict_result, result_text}
 use Rattle.chess_game.specs.Game.{State, current}
-use Rattle.chess_game.specs.Results.{outcome_text, shown_byte}
+use Rattle.chess_game.specs.Results.{outcome_text}
 use Rattle.chess_game.specs.declared.verdicts.Verdict.{Verdict}
 use Rattle.chess_pgn.specs.Tokens.{is_white_space}
-use Rattle.chess_pgn.specs.declared.read.PgnFaultKind.TheVariants.{BadTag, BadFen, BadToken, AfterEnd}
+use Rattle.chess_pgn.specs.declared.read.PgnFaultKind.TheVariants.{BadTag, BadFen, BadToken, IllegalMove, AfterEnd}
 use Rattle.pgn_pieces.specs.Places.{line_of, column_of}
 use Rattle.pgn_verifier.specs.declared.game_fault.FaultKind.{FaultKind}
 use Rattle.pgn_verifier.specs.declared.game_fault.FaultKind.TheVariants.{Pgn, ResultDiffers, BoardSaysOtherwise}
-use Rattle.pgn_verifier.specs.WrongParts.{from_field, field_at, field_number, IsTagReason, token_reason}
+use Rattle.pgn_verifier.specs.WrongParts.{from_field, field_at, field_number, IsTagReason, move_reason, token_reason}
 
 -- ---- the text at a fault
 
@@ -49,6 +49,8 @@ abbrev pub IsReason : FaultKind → List ℕ → Option Verdict → Option (List
 IsReason (Pgn BadTag) text verdict reason = IsTagReason text reason
 IsReason (Pgn (BadFen fault)) text verdict reason = reason ≡ Some (fen_fault_name fault)
 IsReason (Pgn BadToken) text verdict reason = reason ≡ Some (token_reason text)
+-- an illegal move that may have been meant as a result
+IsReason (Pgn IllegalMove) text verdict reason = reason ≡ move_reason text
 -- a move after the end: the verdict that ended the game
 IsReason (Pgn AfterEnd) text verdict reason = reason ≡ option_map (λ v. result_text (verdict_result v)) verdict
 -- `result differs`: the first word of the tag Result, which has `tag_len` bytes between its quotes, and the outcome of

@@ -1,13 +1,14 @@
 -- The reports on the games of a text and of pieces, their lines and their counts.
-use Rattle.std.specs.Prelude.{◌≡◌, ℕ, ◌+◌, ◌==◌, nat_le, Bool, not, if◌then◌else◌, List, [], ◌∷◌, ◌++◌, length, map, drop, codes, decimal, is_some, Option, Some, None, Ok, Err}
+use Rattle.std.specs.Prelude.{◌≡◌, ℕ, ◌+◌, ◌==◌, nat_le, Bool, not, if◌then◌else◌, List, [], ◌∷◌, ◌++◌, length, map, take, drop, codes, decimal, is_some, Option, Some, None, Ok, Err}
 use Rattle.std.specs.List.{count_by, prefix_len, sum_by}
 use Rattle.std.specs.Bool.{MatchBool}
 use Rattle.std.specs.Option.{unwrap_or, option_map_or}
-use Rattle.chess_base.specs.Letters.{new_line}
+use Rattle.byte_devices.specs.Bytes.{new_line, shown_byte, after_byte_order_mark}
 use Rattle.chess_game.specs.Game.{State, verdict_now}
 use Rattle.chess_game.specs.Results.{outcome_text}
 use Rattle.chess_game.specs.declared.results.Outcome.{Outcome}
-use Rattle.chess_pgn.specs.Tokens.{after_byte_order_mark, is_white_space}
+use Rattle.chess_pgn.specs.LastTags.{last_tag, tag_section}
+use Rattle.chess_pgn.specs.Tokens.{Token, is_white_space}
 use Rattle.chess_pgn.specs.declared.read.PgnEnd.{PgnEnd}
 use Rattle.chess_pgn.specs.declared.read.PgnFaultKind.TheVariants.{TooLong}
 use Rattle.pgn_writer.specs.declared.termination.Termination.{Termination}
@@ -34,10 +35,11 @@ pub data Report : Type 0 where
   Faulty : (fault : GameFault) (wrong_at : ℕ) (explanation : List ℕ) → Report
 
 -- a report with its span, the part of the input that it is on: from the byte at the offset `begin` to the last one
--- before the offset `end`
+-- before the offset `end`; and with what names its game (`names_of`), or `None` of a piece that is too long
 pub record Placed : Type 0 where
   pub begin : ℕ
   pub end : ℕ
+  pub names : Option (List ℕ)
   pub report : Report
 
 -- the offset in a text at which the game from the offset `at` on begins: its first byte that is no white space, after a
@@ -45,6 +47,17 @@ pub record Placed : Type 0 where
 abbrev pub game_begin : List ℕ → ℕ → ℕ
 game_begin text at =
     let first = after_byte_order_mark text at in first + prefix_len is_white_space (drop first text)
+
+-- the text of a game's last tag with this name as a line shows it: its first 40 bytes, with `?` for each that is not
+-- printable ASCII; `?` alone if there is no such tag
+abbrev pub shown_tag : List (ℕ × Token) → List ℕ → List ℕ
+shown_tag tokens name =
+    option_map_or (λ tag. map shown_byte (take 40 tag.0)) (last_tag name (tag_section tokens)) (codes "?")
+
+-- what names the game with these tokens, from its tags: `White - Black, Event Date`
+abbrev pub names_of : List (ℕ × Token) → List ℕ
+names_of tokens = shown_tag tokens (codes "White") ++ (codes " - " ++ (shown_tag tokens (codes "Black")
+    ++ (codes ", " ++ (shown_tag tokens (codes "Event") ++ (codes " " ++ shown_tag tokens (codes "Date"))))))
 
 -- ---- the reports on the games of a text
 
@@ -56,19 +69,22 @@ pub data AreReports (strict : Bool) (start : ℕ) (text : List ℕ) : ℕ → Li
   none_left : {at : ℕ} {s : State} → IsJudged strict text at s (Ok None) → AreReports strict start text at []
   -- the next game has no fault and ends with its termination marker; the other reports are on the games after that.
   -- Offsets in the text become offsets in the input
-  next_game : {at : ℕ} {s : State} {end : PgnEnd} {reports : List Placed} → IsJudged strict text at s (Ok (Some end))
-      → AreReports strict start text end.offset reports
+  next_game : {at : ℕ} {s : State} {end : PgnEnd} {reports : List Placed}
+      (game : IsJudged strict text at s (Ok (Some end))) → AreReports strict start text end.offset reports
       → AreReports strict start text at (record {
         begin = start + game_begin text at;
         end = start + end.offset;
+        names = Some (names_of game.tokens);
         report = Game (length s.moves) end.outcome end.termination;
       } ∷ reports)
   -- the next game has a fault. What comes after the fault is not read, so its span goes to the text's end
   last_fault : {at : ℕ} {s : State} {fault : GameFault} (reason : Option (List ℕ))
-      → IsJudged strict text at s (Err fault) → IsReason fault.kind (drop fault.offset text) (verdict_now s) reason
+      (game : IsJudged strict text at s (Err fault))
+      → IsReason fault.kind (drop fault.offset text) (verdict_now s) reason
       → AreReports strict start text at (record {
         begin = start + game_begin text at;
         end = start + length text;
+        names = Some (names_of game.tokens);
         report = Faulty (record fault { offset = start + fault.offset })
             (start + fault.offset + (wrong_part fault.kind (drop fault.offset text)).0)
             (explanation s (drop fault.offset text) fault.kind reason);
@@ -87,6 +103,7 @@ AreReportsIn strict offset piece reports =
     (reports ≡ record {
       begin = offset;
       end = offset + length piece;
+      names = None;
       report = Faulty (record { kind = Pgn TooLong; offset = offset }) offset (shown piece);
     } ∷ [])
 
@@ -101,17 +118,22 @@ abbrev pub span_text : VerifyOptions → ℕ → ℕ → List ℕ
 span_text options begin end =
     if options.spans then codes ", bytes " ++ (decimal begin ++ (codes " to " ++ decimal end)) else []
 
--- what is written of a report; `input` is what was read of the input, `number` the report's number, and `span` the end
--- of its line
-abbrev pub written_line : VerifyOptions → List ℕ → ℕ → List ℕ → Report → List ℕ
+-- the end of a fault's line: with `options.names` what names the game, such as ` | Anand - Carlsen, WCh 2013.11.09`,
+-- unless that is `None`
+abbrev pub names_text : VerifyOptions → Option (List ℕ) → List ℕ
+names_text options names = option_map_or (λ text. codes " | " ++ text) (if options.names then names else None) []
+
+-- what is written of a report; `input` is what was read of the input, `number` the report's number, `span` the end of
+-- its line, and `names` what comes after that if it is on a fault
+abbrev pub written_line : VerifyOptions → List ℕ → ℕ → List ℕ → List ℕ → Report → List ℕ
 -- a game's line, such as `game 3: 4 half-moves, 0-1, time forfeit`, unless `options.quiet` leaves it out. Before `span`
 -- comes what the game's last tag Termination names, if anything
-written_line options input number span (Game plies outcome termination) =
+written_line options input number span names (Game plies outcome termination) =
     if options.quiet then [] else report_line number (decimal plies ++ (codes " half-moves, " ++ (outcome_text outcome
     ++ (option_map_or (λ t. codes ", " ++ termination_text t) termination [] ++ span))))
 -- a fault's line, such as `game 2: illegal move at byte 39`, and with `options.explain` the line that explains it
-written_line options input number span (Faulty fault wrong_at explanation) =
-    report_line number (fault_name fault.kind ++ (codes " at byte " ++ (decimal fault.offset ++ span)))
+written_line options input number span names (Faulty fault wrong_at explanation) =
+    report_line number (fault_name fault.kind ++ (codes " at byte " ++ (decimal fault.offset ++ (span ++ names))))
     ++ (if options.explain then explanation_line input wrong_at explanation else [])
 
 -- the lines of these reports, which are numbered from `number` on; a report whose line `quiet` leaves out has a number
@@ -119,8 +141,8 @@ written_line options input number span (Faulty fault wrong_at explanation) =
 abbrev pub report_lines : VerifyOptions → List ℕ → ℕ → List Placed → List ℕ
 report_lines options input number [] = []
 report_lines options input number (placed ∷ rest) =
-    written_line options input number (span_text options placed.begin placed.end) placed.report
-    ++ report_lines options input (number + 1) rest
+    written_line options input number (span_text options placed.begin placed.end) (names_text options placed.names)
+    placed.report ++ report_lines options input (number + 1) rest
 
 -- ---- the counts
 

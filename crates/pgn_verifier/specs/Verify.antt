@@ -10,8 +10,9 @@ use Rattle.pgn_verifier.specs.Reports.{Placed, AreReports, report_lines, without
 
 -- what verifying a text reads (`i`) and writes (`o`), by its result. Of the `options`, with `strict` a termination
 -- marker, such as `1-0`, that contradicts the tag Result or the board's verdict is a fault; with `quiet` only faults
--- have a line; with `spans` each line ends with its span; with `explain` a second line explains the fault. `PIECE_LEN` is 16,777,216. The zeros given to
--- `AreReports`: the text begins at offset 0 of the input, and its games from its own offset 0 on are reported
+-- have a line; with `spans` each line ends with its span; with `names` a fault's line ends with its players, event and
+-- date; with `explain` a second line explains the fault. `PIECE_LEN` is 16,777,216. The zeros given to `AreReports`:
+-- the text begins at offset 0 of the input, and its games from its own offset 0 on are reported
 abbrev pub Verifies : VerifyOptions → Result Verified VerifyFault → FromInput → ToOutput → Type 0
 -- the whole input was read, and has at most `PIECE_LEN` bytes; the lines of its games up to and including the first
 -- fault, numbered from 1, were written and flushed (flushed also if there are none); `summary` is `FaultReported` if

@@ -1,11 +1,12 @@
 -- Which part of a game's text a fault is about, and what is wrong there (PGN standard of 1994): the field of a FEN
 -- (section 16.1.3), what a tag lacks (8.1), and what begins no token or is no move (7 and 8.2).
-use Rattle.std.specs.Prelude.{◌≡◌, ℕ, zero, suc, ◌==◌, Bool, true, false, not, List, ◌∷◌, ◌++◌, take, take_while, drop, Option, Some, codes, is_some, if◌then◌else◌}
+use Rattle.std.specs.Prelude.{◌≡◌, ℕ, zero, suc, ◌==◌, Bool, true, false, not, ◌||◌, List, [], ◌∷◌, ◌++◌, take, take_while, drop, Option, Some, None, codes, is_some, if◌then◌else◌}
 use Rattle.std.specs.List.{prefix_len, list_any}
-use Rattle.chess_base.specs.Letters.{byte, space}
+use Rattle.std.specs.Str.{bytes_eq}
+use Rattle.byte_devices.specs.Bytes.{byte, space, is_name_byte}
 use Rattle.chess_base.specs.declared.fen_fault.FenFault.{FenFault}
 use Rattle.chess_base.specs.declared.fen_fault.FenFault.TheVariants.{Side, Castling, EnPassant, Counters}
-use Rattle.text_lines.specs.Words.{is_name_byte, short_number}
+use Rattle.text_lines.specs.Words.{short_number}
 use Rattle.chess_pgn.specs.Split.{IsGap, OpensTag, IsString}
 use Rattle.chess_pgn.specs.Tokens.{is_word_byte}
 
@@ -65,7 +66,19 @@ pub data IsTagReason (text : List ℕ) : Option (List ℕ) → Type 0 where
 
 -- ---- tokens
 
--- the reason for a bad token; `text` is the text from its first byte on. If that is a byte of a word, the token is a
--- word that is not a move; otherwise no token begins with it
+-- the reason for a bad token; `text` is the text from its first byte on
 abbrev pub token_reason : List ℕ → List ℕ
-token_reason text = if list_any is_word_byte (take 1 text) then codes "not a move" else codes "begins no token"
+token_reason text =
+    -- a draw that PGN writes in another way: the word `1/2`, or `½`, which is the bytes C2 BD
+    if bytes_eq (take_while is_word_byte text) (codes "1/2") || bytes_eq (take 2 text) (194 ∷ 189 ∷ [])
+    then codes "a draw is written 1/2-1/2"
+    -- an en dash, the bytes E2 80 93, as in `1–0`
+    else if bytes_eq (take 3 text) (226 ∷ 128 ∷ 147 ∷ []) then codes "an en dash, where results have a hyphen"
+    -- any other word is not a move, and with any other byte no token begins
+    else if list_any is_word_byte (take 1 text) then codes "not a move" else codes "begins no token"
+
+-- the reason for an illegal move, which begins the text: of the word `0-0`, which elsewhere may also be a result
+abbrev pub move_reason : List ℕ → Option (List ℕ)
+move_reason text =
+    if bytes_eq (take_while is_word_byte text) (codes "0-0") then Some (codes "castling, and no result of PGN")
+    else None

@@ -12,7 +12,7 @@ ghost use Rattle.chess_game.specs.declared.game.TheConstants.{MOST_MOVES};
 use crate::explanation::too_long_lines;
 use crate::fault::VerifyFault;
 use crate::games::{open_game, verify_text};
-use crate::label::Label;
+use crate::label::FaultLabel;
 use crate::options::VerifyOptions;
 use crate::report::write_counts;
 use crate::start::TextStart;
@@ -51,8 +51,8 @@ fn verify_piece<W: Output>(
     match pieces.text() {
         Some(text) => verify_text(options, start, text, game, output, before),
         None => {
-            let label = Label::of_piece(options, before.next_number(), pieces);
-            let lines = too_long_lines(options.explain, label, start, pieces.beginning());
+            let label = FaultLabel::of_piece(options, before.next_number(), pieces);
+            let lines = too_long_lines(options.explain, &label, start, pieces.beginning());
             put(output, lines.as_slice())?;
             Ok(before.with_fault())
         }

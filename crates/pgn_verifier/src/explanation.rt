@@ -4,25 +4,26 @@ ghost use Rattle.std.specs.Prelude.{◌≡◌, ◌≤◌, ◌<◌, ◌+◌, ◌^
 ghost use Rattle.std.specs.List.{count_by, suffix_len};
 ghost use Rattle.std.specs.Option.{option_map, option_map_or};
 ghost use Rattle.arrayvec.specs.ArrayVec.{array_vec_len};
-ghost use Rattle.chess_base.specs.Letters.{new_line};
+ghost use Rattle.byte_devices.specs.Bytes.{new_line};
 ghost use Rattle.chess_fen.specs.Writing.{fen};
 ghost use Rattle.chess_game.specs.Ends.{verdict_result, result_text};
 ghost use Rattle.chess_game.specs.Game.{current, verdict_now};
 ghost use Rattle.chess_pgn.specs.declared.read.PgnFaultKind.TheVariants.{TooLong};
-ghost use Rattle.pgn_pieces.specs.Places.{ends_line, line_ends, line_of, column_of};
+ghost use Rattle.pgn_pieces.specs.Places.{breaks_line, line_ends, line_of, column_of};
 ghost use Rattle.pgn_verifier.specs.Explanations.{wrong_part, has_position, explanation_line, shown};
 ghost use Rattle.chess_game.specs.Results.{outcome_text};
 ghost use Rattle.pgn_verifier.specs.declared.game_fault.FaultKind.TheVariants.{Pgn};
+ghost use Rattle.pgn_verifier.specs.WrongParts.{move_reason};
 ghost use Rattle.pgn_verifier.specs.laws.Reasons.{reason, explanation_of};
 ghost use Rattle.pgn_verifier.specs.ties.OnTheWay.{StandsIf, moved, fault_line, span_written};
 ghost use Rattle.pgn_verifier.specs.declared.explanation.TheConstants.{FAULT_LINES_LEN};
 
 use crate::fen_field::{fen_text, field_offset, wrong_field};
 use crate::game_fault::{FaultKind, GameFault, fault_name};
-use crate::label::{Label, append_span};
+use crate::label::{FaultLabel, append_span};
 use crate::shown::{Shown, shown, shown_field};
 use crate::start::TextStart;
-use crate::token_reason::{bad_tag_reason, token_reason};
+use crate::token_reason::{bad_tag_reason, move_reason, token_reason};
 use arrayvec::ArrayVec;
 use byte_devices::{append, append_number};
 use chess_fen::write_fen;
@@ -31,36 +32,45 @@ use chess_moves::Board;
 use chess_pgn::PgnFaultKind;
 use pgn_pieces::line_ends;
 
-// The most bytes of the lines on a fault: of its own 130, and of the one that explains it 320.
-const FAULT_LINES_LEN: usize = 450;
+// The most bytes of the lines on a fault: of its own 300, and of the one that explains it 320.
+const FAULT_LINES_LEN: usize = 620;
 
 /// The lines on a fault.
 pub(crate) type FaultLines = ArrayVec<u8, FAULT_LINES_LEN>;
 
 // The line of a fault, such as `game 2: illegal move at byte 39`.
 #[tactic(auto, unfolding(crate::specs::Reports::report_line))]
-fn fault_line(label: Label, fault: GameFault) -> FaultLines
-    ensures text { result.items ≡ fault_line label.number fault (span_written label.span) }
-    ensures len { array_vec_len result ≤ 130 }
+fn fault_line(label: &FaultLabel, fault: GameFault) -> FaultLines
+    ensures text { result.items
+        ≡ fault_line label.now.game.number fault (span_written label.now.game.span) label.now.names.items }
+    ensures len { array_vec_len result ≤ 300 }
 {
     let mut lines = FaultLines::new();
     append(&mut lines, b"game ");
-    append_number(&mut lines, label.number as u64);
+    append_number(&mut lines, label.game.number as u64);
     append(&mut lines, b": ");
     append(&mut lines, fault_name(fault.kind));
     append(&mut lines, b" at byte ");
     append_number(&mut lines, fault.offset as u64);
-    append_span(&mut lines, label.span);
+    append_span(&mut lines, label.game.span);
+    append(&mut lines, label.names.as_slice());
     lines.push(b'\n');
     lines
 }
 
-// How many bytes a text has after its last line end.
+// Whether columns are counted anew after this byte: it is `\n` or `\r`.
+fn breaks_line(byte: u8) -> bool
+    ensures { result ≡ breaks_line byte }
+{
+    byte == b'\n' || byte == b'\r'
+}
+
+// How many bytes a text has after its last `\n` or `\r`.
 fn last_line_len(text: &[u8]) -> usize
-    ensures value { result ≡ suffix_len (λ c. not (ends_line c)) text.now }
+    ensures value { result ≡ suffix_len (λ c. not (breaks_line c)) text.now }
     ensures within { result ≤ length text.now }
 {
-    text.iter().rev().take_while(|byte| **byte != b'\n').count()
+    text.iter().rev().take_while(|byte| !breaks_line(**byte)).count()
 }
 
 // The line of the byte after these, which begin on the line `start`.
@@ -73,7 +83,7 @@ fn line_after(start: usize, before: &[u8]) -> usize
 
 // The column of the byte after these, which begin where a line begins.
 fn column_after(before: &[u8]) -> usize
-    ensures { result ≡ suffix_len (λ c. not (ends_line c)) before.now + 1 }
+    ensures { result ≡ suffix_len (λ c. not (breaks_line c)) before.now + 1 }
 {
     last_line_len(before) + 1
 }
@@ -130,6 +140,19 @@ fn append_part(lines: &mut FaultLines, reason: &[u8])
     append(lines, reason);
 }
 
+// Appends ` | ` and why the move at the text's front is illegal that may have been meant as a result; nothing for any
+// other.
+fn append_move_reason(lines: &mut FaultLines, text: &[u8])
+    requires { array_vec_len lines.old + 80 ≤ FAULT_LINES_LEN }
+    ensures text { lines.new.items
+        ≡ lines.old.items ++ option_map_or (λ text. codes " | " ++ text) (move_reason text.now) [] }
+    ensures len { array_vec_len lines.new ≤ array_vec_len lines.old + 80 }
+{
+    if let Some(reason) = move_reason(text) {
+        append_part(lines, reason);
+    }
+}
+
 // Appends ` | ` and the reason for a fault of reading a game's text; nothing if there is none. `text` is the text from
 // the fault's byte on.
 fn append_pgn_reason(
@@ -147,6 +170,7 @@ fn append_pgn_reason(
         PgnFaultKind::BadTag => append_part(lines, bad_tag_reason(text)),
         PgnFaultKind::BadFen(fault) => append_part(lines, fault.name().as_bytes()),
         PgnFaultKind::BadToken => append_part(lines, token_reason(text)),
+        PgnFaultKind::IllegalMove => append_move_reason(lines, text),
         PgnFaultKind::AfterEnd => append_verdict(lines, verdict),
         _ => {}
     }
@@ -229,7 +253,7 @@ fn append_explanation<B: Board>(
     kind: FaultKind,
     game: &Game<B>,
 )
-    requires { array_vec_len lines.old ≤ 130 }
+    requires { array_vec_len lines.old ≤ 300 }
     ensures { (input : List ℕ) (begin : ℕ) → line ≡ line_of input begin → column ≡ column_of input begin
         → lines.new.items ≡ lines.old.items
         ++ explanation_line input begin (explanation_of game.now.state text.now kind) }
@@ -245,7 +269,7 @@ fn append_explanation<B: Board>(
 /// begins at `start`.
 pub(crate) fn fault_lines<B: Board>(
     explain: bool,
-    label: Label,
+    label: &FaultLabel,
     start: TextStart,
     text: &[u8],
     fault: GameFault,
@@ -255,8 +279,9 @@ pub(crate) fn fault_lines<B: Board>(
     requires few { start.offset + length text.now ≤ 2 ^ 63 }
     requires few_lines { start.line + length text.now < 2 ^ 64 }
     ensures { (input : List ℕ) → StandsIf explain start input text.now
-        → result.items ≡ fault_line label.number (moved start.offset fault) (span_written label.span)
-        ++ (if explain then explanation_line input
+        → result.items
+        ≡ fault_line label.now.game.number (moved start.offset fault) (span_written label.now.game.span)
+        label.now.names.items ++ (if explain then explanation_line input
         (start.offset + fault.offset + (wrong_part fault.kind (drop fault.offset text.now)).0)
         (explanation_of game.now.state (drop fault.offset text.now) fault.kind) else []) }
 {
@@ -275,13 +300,14 @@ pub(crate) fn fault_lines<B: Board>(
 /// `beginning` has the piece's first 40 bytes.
 pub(crate) fn too_long_lines(
     explain: bool,
-    label: Label,
+    label: &FaultLabel,
     start: TextStart,
     beginning: &[u8],
 ) -> FaultLines
     ensures { (input : List ℕ) → StandsIf explain start input []
         → result.items
-        ≡ fault_line label.number (record { kind = Pgn TooLong; offset = start.offset }) (span_written label.span)
+        ≡ fault_line label.now.game.number (record { kind = Pgn TooLong; offset = start.offset })
+        (span_written label.now.game.span) label.now.names.items
         ++ (if explain then explanation_line input start.offset (shown beginning.now) else []) }
 {
     let mut lines = fault_line(

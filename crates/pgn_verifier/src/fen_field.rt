@@ -1,43 +1,19 @@
 //! The field of a FEN that is shown for its fault.
 
-ghost use Rattle.std.specs.Prelude.{◌≡◌, ◌≤◌, ◌-◌, not, take_while, drop, length, ◌==◌};
-ghost use Rattle.std.specs.List.{prefix_len};
-ghost use Rattle.chess_base.specs.Letters.{byte, space};
+ghost use Rattle.std.specs.Prelude.{◌≡◌, ◌≤◌, ◌-◌, not, take_while, length, ◌==◌};
+ghost use Rattle.byte_devices.specs.Bytes.{byte, space};
 ghost use Rattle.pgn_verifier.specs.WrongParts.{drop_while, from_field, field_at, field_number};
 
+use byte_devices::split_while;
 use chess_base::FenFault;
 use text_lines::short_number;
-
-// How many spaces are at a text's front.
-fn spaces(text: &[u8]) -> usize
-    ensures value { result ≡ prefix_len (λ c. c == space) text.now }
-    ensures within { result ≤ length text.now }
-{
-    text.iter().take_while(|byte| **byte == b' ').count()
-}
-
-// How many bytes a text has before its first space.
-fn field_len(text: &[u8]) -> usize
-    ensures value { result ≡ prefix_len (λ c. not (c == space)) text.now }
-    ensures within { result ≤ length text.now }
-{
-    text.iter().take_while(|byte| **byte != b' ').count()
-}
-
-// How many bytes a text has before its first quote.
-fn fen_len(text: &[u8]) -> usize
-    ensures value { result ≡ prefix_len (λ c. not (c == byte "\"")) text.now }
-    ensures within { result ≤ length text.now }
-{
-    text.iter().take_while(|byte| **byte != b'"').count()
-}
 
 // The text after the spaces at its front.
 fn after_spaces(text: &[u8]) -> &[u8]
     ensures value { result.now ≡ drop_while (λ c. c == space) text.now }
     ensures shorter { length result.now ≤ length text.now }
 {
-    text.split_at(spaces(text)).1
+    split_while(text, |byte| byte == b' ').1
 }
 
 // The text from its first space on; empty if it has none.
@@ -45,7 +21,7 @@ fn from_space(text: &[u8]) -> &[u8]
     ensures value { result.now ≡ drop_while (λ c. not (c == space)) text.now }
     ensures shorter { length result.now ≤ length text.now }
 {
-    text.split_at(field_len(text)).1
+    split_while(text, |byte| byte != b' ').1
 }
 
 // A FEN from its field with this number on, 0 for the first.
@@ -67,8 +43,7 @@ fn from_field(number: usize, fen: &[u8]) -> &[u8]
 fn field_at(number: usize, fen: &[u8]) -> &[u8]
     ensures { result.now ≡ field_at number fen.now }
 {
-    let field = from_field(number, fen);
-    &field[..field_len(field)]
+    split_while(from_field(number, fen), |byte| byte != b' ').0
 }
 
 // The number of the field that is shown for a FEN's fault: of the counters the first that is no number, and where no
@@ -97,7 +72,7 @@ pub(crate) fn fen_text(text: &[u8]) -> &[u8]
     ensures value { result.now ≡ take_while (λ c. not (c == byte "\"")) text.now }
     ensures shorter { length result.now ≤ length text.now }
 {
-    &text[..fen_len(text)]
+    split_while(text, |byte| byte != b'"').0
 }
 
 /// The field that is shown for a FEN's fault.

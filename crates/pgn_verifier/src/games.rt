@@ -9,7 +9,7 @@ ghost use Rattle.pgn_verifier.specs.ties.OnTheWay.{StandsIf, Writes, GrowsBy};
 use crate::contradiction::contradiction;
 use crate::explanation::fault_lines;
 use crate::game_fault::GameFault;
-use crate::label::Label;
+use crate::label::{FaultLabel, Label};
 use crate::options::VerifyOptions;
 use crate::report::write_game;
 use crate::start::TextStart;
@@ -95,8 +95,8 @@ pub(crate) fn verify_text<W: Output>(
                 at = end.offset;
             }
             Err(fault) => {
-                let unread = Label::of_game(options, number, start.offset, text, at, text.len());
-                let lines = fault_lines(options.explain, unread, start, text, fault, game);
+                let unread = FaultLabel::of_game(options, number, start.offset, text, at);
+                let lines = fault_lines(options.explain, &unread, start, text, fault, game);
                 put(output, lines.as_slice())?;
                 return Ok(tally.with_fault());
             }

@@ -1,16 +1,20 @@
-//! What the line of each report says of its game: the number, and with `--spans` where the game is.
+//! What the line of each report says of its game: the number, with `--spans` where the game is, and of a game with a
+//! fault with `--names` its players, event and date.
 
-ghost use Rattle.std.specs.Prelude.{◌≡◌, ◌≤◌, ◌<◌, ◌+◌, ◌++◌, ◌^◌, length};
+ghost use Rattle.std.specs.Prelude.{◌≡◌, ◌≤◌, ◌<◌, ◌+◌, ◌++◌, ◌^◌, None, Some, length};
 ghost use Rattle.std.specs.List.{prefix_len};
 ghost use Rattle.arrayvec.specs.ArrayVec.{array_vec_len};
-ghost use Rattle.chess_pgn.specs.Tokens.{after_byte_order_mark, is_white_space};
+ghost use Rattle.chess_pgn.specs.Tokens.{is_white_space};
+ghost use Rattle.byte_devices.specs.Bytes.{after_byte_order_mark};
 ghost use Rattle.pgn_pieces.specs.Stream.{current};
-ghost use Rattle.pgn_verifier.specs.Reports.{game_begin, span_text};
+ghost use Rattle.pgn_verifier.specs.Reports.{game_begin, names_text, span_text};
+ghost use Rattle.pgn_verifier.specs.laws.Reported.{names_at};
 ghost use Rattle.pgn_verifier.specs.ties.OnTheWay.{span_written};
 
+use crate::names::{NamesText, game_names};
 use crate::options::VerifyOptions;
 use arrayvec::ArrayVec;
-use byte_devices::{append, append_number};
+use byte_devices::{after_byte_order_mark, append, append_number};
 use chess_pgn::token_parts::is_white_space;
 use pgn_pieces::PgnPieces;
 
@@ -32,19 +36,6 @@ pub(crate) struct Label {
     pub span: Option<Span>,
 }
 
-// The offset where reading begins: 3 if `at` is 0 and the text begins with a byte order mark (EF BB BF), otherwise `at`.
-fn reading_begin(text: &[u8], at: usize) -> usize
-    requires { at ≤ length text.now }
-    ensures value { result ≡ after_byte_order_mark text.now at }
-    ensures within { result ≤ length text.now }
-{
-    if at == 0 && text.starts_with(&[0xEF, 0xBB, 0xBF]) {
-        3
-    } else {
-        at
-    }
-}
-
 // How many bytes of white space are at a text's front.
 fn blanks_len(text: &[u8]) -> usize
     ensures value { result ≡ prefix_len is_white_space text.now }
@@ -62,7 +53,7 @@ fn game_begin(text: &[u8], at: usize) -> usize
     ensures value { result ≡ game_begin text.now at }
     ensures within { result ≤ length text.now }
 {
-    let first = reading_begin(text, at);
+    let first = after_byte_order_mark(text, at);
     first + blanks_len(&text[first..])
 }
 
@@ -94,8 +85,8 @@ impl Label {
         Label { number, span }
     }
 
-    /// The label of the current piece, which is too long.
-    pub(crate) fn of_piece(options: VerifyOptions, number: usize, pieces: &PgnPieces) -> Self
+    // The label of the current piece, which is too long.
+    fn of_piece(options: VerifyOptions, number: usize, pieces: &PgnPieces) -> Self
         ensures number { result.number ≡ number }
         ensures span { span_written result.span
             ≡ span_text options (current pieces.now).offset (current pieces.now).end }
@@ -109,6 +100,55 @@ impl Label {
             None
         };
         Label { number, span }
+    }
+}
+
+/// What a fault's line says of its game.
+#[derive(Drop)]
+pub(crate) struct FaultLabel {
+    /// The game's number and span.
+    pub game: Label,
+    /// The end of the line, which names the game; empty if the line is not to name it.
+    pub names: NamesText,
+}
+
+impl FaultLabel {
+    /// The label of the game of a text that is read from the offset `at` on, and has a fault: it ends with the text.
+    /// The text begins at `start` in the input.
+    pub(crate) fn of_game(
+        options: VerifyOptions,
+        number: usize,
+        start: usize,
+        text: &[u8],
+        at: usize,
+    ) -> Self
+        requires at { at ≤ length text.now }
+        requires few { start + length text.now ≤ 2 ^ 63 }
+        ensures number { result.game.number ≡ number }
+        ensures span { span_written result.game.span
+            ≡ span_text options (start + game_begin text.now at) (start + length text.now) }
+        ensures names { result.names.items ≡ names_text options (Some (names_at text.now at)) }
+    {
+        let game = Label::of_game(options, number, start, text, at, text.len());
+        let names = if options.names {
+            game_names(text, at)
+        } else {
+            NamesText::new()
+        };
+        FaultLabel { game, names }
+    }
+
+    /// The label of the current piece, which is too long: no tags of it are known.
+    pub(crate) fn of_piece(options: VerifyOptions, number: usize, pieces: &PgnPieces) -> Self
+        ensures number { result.game.number ≡ number }
+        ensures span { span_written result.game.span
+            ≡ span_text options (current pieces.now).offset (current pieces.now).end }
+        ensures names { result.names.items ≡ names_text options None }
+    {
+        FaultLabel {
+            game: Label::of_piece(options, number, pieces),
+            names: NamesText::new(),
+        }
     }
 }
 

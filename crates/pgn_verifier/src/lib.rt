@@ -3,7 +3,7 @@
 //! ```
 //! let mut input = Counted::reading(b"1. e4 *".as_slice());
 //! let mut output = Counted::writing(Vec::<u8>::new(alloc));
-//! let options = VerifyOptions { quiet: false, strict: false, spans: false, explain: false };
+//! let options = VerifyOptions { quiet: false, strict: false, spans: false, names: false, explain: false };
 //! match verify(alloc, options, &mut input, &mut output)? {
 //!     Verified::EachGame => println!(rt; "each game was read")?,
 //!     Verified::FaultReported => println!(rt; "a game has a fault")?,
@@ -23,6 +23,7 @@ mod fen_field;
 mod game_fault;
 mod games;
 mod label;
+mod names;
 mod options;
 mod report;
 mod shown;

@@ -11,6 +11,9 @@ pub struct VerifyOptions {
     /// Ends each line with the span of its game: the offset of its first byte, and that of the byte after its last. A
     /// game with a fault goes to the end of its text.
     pub spans: bool,
+    /// Ends the line of each fault with its game's players, event and date, as its tags have them: ` | ` and then
+    /// `White - Black, Event Date`.
+    pub names: bool,
     /// Adds after each fault a line that explains it: the fault's line and column, the text there, and for some kinds
     /// of fault the position and the reason.
     pub explain: bool,

@@ -1,17 +1,17 @@
 //! Texts as explanations show them.
 
 ghost use Rattle.std.specs.Prelude.{◌≡◌, ◌≤◌, ◌+◌, ◌++◌, ◌&&◌, nat_le, not, take_while, take, map, length, codes};
-ghost use Rattle.std.specs.List.{prefix_len};
 ghost use Rattle.arrayvec.specs.ArrayVec.{array_vec_len};
 ghost use Rattle.chess_pgn.specs.Tokens.{is_white_space};
 ghost use Rattle.pgn_verifier.specs.declared.shown.TheConstants.{FIELD_LEN};
 ghost use Rattle.pgn_verifier.specs.Explanations.{shown_word, shown};
-ghost use Rattle.chess_game.specs.Results.{shown_byte};
+ghost use Rattle.byte_devices.specs.Bytes.{shown_byte};
 
 use arrayvec::ArrayVec;
+use byte_devices::{shown_byte, split_while};
 use chess_pgn::token_parts::is_white_space;
 
-// The most bytes of a word that are shown.
+// The most bytes of a word, or of a tag's text, that are shown.
 const WORD_LEN: usize = 40;
 
 // The most bytes of a FEN's field that are shown.
@@ -28,34 +28,15 @@ fn first_bytes(most: usize, text: &[u8]) -> &[u8]
     &text[..most.min(text.len())]
 }
 
-// How many bytes a text has before its first white space.
-fn word_len(text: &[u8]) -> usize
-    ensures value { result ≡ prefix_len (λ c. not (is_white_space c)) text.now }
-    ensures within { result ≤ length text.now }
-{
-    text.iter()
-        .take_while(|byte| !is_white_space(**byte))
-        .count()
-}
-
 // The bytes of a text before its first white space, at most 40.
 fn first_word(text: &[u8]) -> &[u8]
     ensures value { result.now ≡ take_while (λ c. not (is_white_space c)) (take 40 text.now) }
     ensures few { length result.now ≤ 40 }
 {
-    let text = first_bytes(WORD_LEN, text);
-    &text[..word_len(text)]
+    split_while(first_bytes(WORD_LEN, text), |byte| !is_white_space(byte)).0
 }
 
-// A byte as it is shown: `?` in place of one that is no printable ASCII. No space is shown, since none is in a word or
-// in a FEN's field.
-fn shown_byte(byte: u8) -> u8
-    ensures { result ≡ shown_byte byte }
-{
-    if byte < 32 || byte > 126 { b'?' } else { byte }
-}
-
-// The bytes of a word as they are shown.
+// The bytes of a word, or of a tag's text, as they are shown. A space is only in a tag's text.
 fn shown_bytes(word: &[u8]) -> Shown
     requires { length word.now ≤ FIELD_LEN }
     ensures text { result.items ≡ map shown_byte word.now }
@@ -86,6 +67,14 @@ pub(crate) fn shown(text: &[u8]) -> Shown
     ensures len { array_vec_len result ≤ 45 }
 {
     shown_word(first_word(text))
+}
+
+/// The first bytes of a text as they are shown, at most 40.
+pub(crate) fn shown_beginning(text: &[u8]) -> Shown
+    ensures text { result.items ≡ map shown_byte (take 40 text.now) }
+    ensures len { array_vec_len result ≤ 40 }
+{
+    shown_bytes(first_bytes(WORD_LEN, text))
 }
 
 /// A FEN's field as it is shown, at most 80 bytes of it.

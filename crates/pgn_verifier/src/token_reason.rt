@@ -1,10 +1,11 @@
 //! What is wrong with a tag or another token.
 
-ghost use Rattle.std.specs.Prelude.{◌≡◌, ◌≤◌, length, take, Option};
-ghost use Rattle.std.specs.List.{list_any};
-ghost use Rattle.std.specs.Option.{option_map};
+ghost use Rattle.std.specs.Prelude.{◌≡◌, ◌≤◌, ◌||◌, ◌∷◌, [], length, take, take_while, codes, Option};
+ghost use Rattle.std.specs.List.{list_any, prefix_len};
+ghost use Rattle.std.specs.Option.{IfSome, option_map};
+ghost use Rattle.std.specs.Str.{bytes_eq};
 ghost use Rattle.chess_pgn.specs.Tokens.{name_at, is_word_byte};
-ghost use Rattle.pgn_verifier.specs.WrongParts.{token_reason};
+ghost use Rattle.pgn_verifier.specs.WrongParts.{move_reason, token_reason};
 ghost use Rattle.pgn_verifier.specs.laws.Reasons.{string_reason, value_reason, name_reason, tag_reason};
 
 use chess_pgn::token_parts::{after_gap, is_word_byte, split_name, split_string};
@@ -76,14 +77,62 @@ fn begins_word(text: &[u8]) -> bool
     }
 }
 
-/// What is wrong with a bad token: it is a word and not a move, or its first byte begins no token.
+// How many bytes of a word are at a text's front.
+fn word_len(text: &[u8]) -> usize
+    ensures value { result ≡ prefix_len is_word_byte text.now }
+    ensures within { result ≤ length text.now }
+{
+    text.iter().take_while(|byte| is_word_byte(**byte)).count()
+}
+
+// The word at a text's front: `1/2` of `1/2 *`. It is empty if the text begins with no word.
+fn first_word(text: &[u8]) -> &[u8]
+    ensures { result.now ≡ take_while is_word_byte text.now }
+{
+    &text[..word_len(text)]
+}
+
+// Whether the text begins with a draw as it is written elsewhere: `1/2`, whole, or `½`.
+fn begins_with_half(text: &[u8]) -> bool
+    ensures { result
+        ≡ (bytes_eq (take_while is_word_byte text.now) (codes "1/2")
+        || bytes_eq (take 2 text.now) (194 ∷ 189 ∷ [])) }
+{
+    first_word(text) == b"1/2".as_slice() || text.starts_with(&[0xC2, 0xBD])
+}
+
+// Whether the text begins with an en dash, `–`.
+fn begins_with_dash(text: &[u8]) -> bool
+    ensures { result ≡ bytes_eq (take 3 text.now) (226 ∷ 128 ∷ 147 ∷ []) }
+{
+    text.starts_with(&[0xE2, 0x80, 0x93])
+}
+
+/// What is wrong with a bad token: it is a draw as PGN doesn't write it, an en dash, another word and not a move, or
+/// its first byte begins no token.
 pub(crate) fn token_reason(text: &[u8]) -> &'static [u8]
     ensures value { result.now ≡ token_reason text.now }
-    ensures short { length result.now ≤ 26 }
+    ensures short { length result.now ≤ 40 }
 {
-    if begins_word(text) {
+    if begins_with_half(text) {
+        b"a draw is written 1/2-1/2"
+    } else if begins_with_dash(text) {
+        b"an en dash, where results have a hyphen"
+    } else if begins_word(text) {
         b"not a move"
     } else {
         b"begins no token"
+    }
+}
+
+/// Why a move is illegal that may have been meant as a result: the word `0-0` is castling. `None` for any other.
+pub(crate) fn move_reason(text: &[u8]) -> Option<&'static [u8]>
+    ensures value { option_map (λ r. r.now) result ≡ move_reason text.now }
+    ensures short { IfSome result (λ r. length r.now ≤ 40) }
+{
+    if first_word(text) == b"0-0".as_slice() {
+        Some(b"castling, and no result of PGN")
+    } else {
+        None
     }
 }

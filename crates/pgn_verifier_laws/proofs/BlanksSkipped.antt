@@ -7,7 +7,8 @@ use Rattle.std.proofs.lemmas.Bool.Decides.{nat_tests}
 use Rattle.std.proofs.lemmas.List.{drop-drop}
 use Rattle.chess_base.specs.declared.man.Variant.TheVariants.{Normal}
 use Rattle.chess_pgn.specs.GameRead.{pgn_read, variant_named}
-use Rattle.chess_pgn.specs.Tokens.{Token, Skip, after_byte_order_mark, begins_line, is_white_space, tokens_from}
+use Rattle.chess_pgn.specs.Tokens.{Token, Skip, begins_line, is_white_space, tokens_from}
+use Rattle.byte_devices.specs.Bytes.{after_byte_order_mark}
 use Rattle.chess_pgn.specs.laws.TokenByToken.{game_of, nothing_read, tokens_read}
 use Rattle.chess_pgn.specs.shared.Kinds.{IsOf, IsLongest, Blank, token}
 use Rattle.chess_pgn.proofs.shared.Tags.{last_step}

@@ -5,9 +5,8 @@ use Rattle.std.specs.Bool.{MatchBool}
 use Rattle.std.specs.List.{filter, list_all}
 use Rattle.std.specs.Option.{option_map_or}
 use Rattle.chess_base.specs.Initial.{initial_setup_of}
-use Rattle.chess_base.specs.Letters.{is_digit}
+use Rattle.byte_devices.specs.Bytes.{is_digit}
 use Rattle.chess_base.specs.MoveList.{moves}
-use Rattle.chess_base.specs.Moves.{after}
 use Rattle.chess_base.specs.Sound.{IsSound}
 use Rattle.chess_base.specs.declared.man.Move.{Move}
 use Rattle.chess_base.specs.declared.man.Variant.{Variant}
@@ -39,6 +38,7 @@ use Rattle.pgn_writer.specs.Outcomes.{outcome_of}
 use Rattle.pgn_verifier_laws.specs.Counted.{AreTold, CountedGamesAreGames, CountedGamesOfPiecesAreGames, HasGame, HasGames}
 use Rattle.pgn_verifier_laws.proofs.PartsAlike.{judged_so}
 use Rattle.pgn_verifier_laws.proofs.SoundStarts.{start_sound}
+use Rattle.chess_game.proofs.shared.Lines.{position_after-snoc}
 
 -- ---- moves and their words
 
@@ -57,11 +57,6 @@ alone p word m h = at (shape word) h
     at true e = one_alone (filter (λ n. denotes p word n) (moves p)) m e
     at false e = absurd (cc)
 
-one_after : (start : Setup) (before : List Move) (m : Move)
-    → position_after start (before ++ m ∷ []) ≡ after (position_after start before) m
-one_after start [] m = refl
-one_after start (n ∷ before) m = one_after (after start n) before m
-
 told : ReadMovesAreLegal → (limit : ℕ) (start : Setup) (done : List Move) (words : List (List ℕ)) (ms : List Move)
     → AreReadAs limit start done words ms → AreTold (position_after start done) words ms
 told legal limit start done [] [] h = tt
@@ -70,7 +65,7 @@ told legal limit start done (w ∷ words) [] h = absurd h
 told legal limit start done (w ∷ words) (m ∷ ms) (unended, room, denoted, more) = (
   legal (position_after start done) w m denoted,
   alone (position_after start done) w m denoted,
-  subst (λ (p : Setup). AreTold p words ms) (one_after start done m)
+  subst (λ (p : Setup). AreTold p words ms) (position_after-snoc start done m)
       (told legal limit start (done ++ m ∷ []) words ms more),
 )
 
@@ -177,6 +172,7 @@ counted_games_of_pieces legal law initial strict offset piece reports h = at (na
         (reports ≡ record {
           begin = offset;
           end = offset + length piece;
+          names = None;
           report = Faulty (record { kind = Pgn TooLong; offset = offset }) offset (shown piece);
         } ∷ [])
         → HasGames piece 0 (without_spans reports)

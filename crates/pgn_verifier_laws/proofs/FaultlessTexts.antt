@@ -1,22 +1,25 @@
 -- If no fault is reported on a text's pieces, then their reports are those on the text.
-use Rattle.std.proofs.Common.{◌≡◌, ℕ, zero, suc, ◌+◌, ◌-◌, ◌<◌, ◌≤◌, Bool, true, false, cond, eqb, not, List, [], ◌∷◌, ◌++◌, length, is_some, get_or, drop, Option, Some, None, Result, Ok, Err, refl, sym, ap, subst, ◌∙◌, inl, inr, ◌⊎◌, append_assoc, append-nil, length-append, arith}
-use Rattle.std.specs.Prelude.{nat_le, if◌then◌else◌}
+use Rattle.std.proofs.Common.{◌≡◌, ℕ, zero, suc, ◌+◌, ◌-◌, ◌<◌, ◌≤◌, Bool, true, false, cond, eqb, not, List, [], ◌∷◌, ◌++◌, length, is_some, get_or, drop, take, Option, Some, None, Result, Ok, Err, refl, sym, ap, subst, ◌∙◌, inl, inr, ◌⊎◌, append_assoc, append-nil, length-append, arith}
+use Rattle.std.specs.Prelude.{nat_le, if◌then◌else◌, ◌&&◌, ◌||◌}
 use Rattle.std.specs.List.{concat, flat_map, list_all, list_any}
-use Rattle.std.proofs.lemmas.Bool.{and_parts, or_parts}
+use Rattle.std.specs.Str.{bytes_eq}
+use Rattle.std.proofs.lemmas.Bool.{and_parts, or_parts, eqb-true}
 use Rattle.std.proofs.lemmas.Bool.Decides.{nat_tests}
-use Rattle.std.proofs.lemmas.List.{get_or_at}
+use Rattle.std.proofs.lemmas.List.{get_or_at, reverse-append}
 use Rattle.std.proofs.Math.Path.{fun_ext}
 use Rattle.std.proofs.lemmas.List.Folds.{list_all-append, sum_by-zero}
-use Rattle.chess_pgn.specs.Tokens.{after_byte_order_mark, begins_line}
+use Rattle.chess_pgn.specs.Tokens.{begins_line}
+use Rattle.byte_devices.specs.Bytes.{after_byte_order_mark}
 use Rattle.chess_pgn.specs.declared.read.PgnEnd.{PgnEnd}
 use Rattle.pgn_pieces.specs.Pieces.{cut}
+use Rattle.pgn_pieces.specs.Places.{breaks_line}
 use Rattle.pgn_pieces.specs.Stream.{with_offsets, pieces}
 use Rattle.pgn_pieces.specs.declared.pieces.TheConstants.{PIECE_LEN}
 use Rattle.pgn_pieces.proofs.shared.Cuts.{AreLines, no_texts, last_text, next_text, cut_is_all, cut_ends}
 use Rattle.pgn_verifier.specs.Reports.{Report, Game, Faulty, half_moves_of, counts_of, verified}
 use Rattle.pgn_verifier.specs.declared.game_fault.GameFault.{GameFault}
 use Rattle.pgn_verifier.specs.declared.tally.Verified.TheVariants.{EachGame, FaultReported}
-use Rattle.pgn_verifier_laws.specs.NoFaults.{begins_with_mark, FaultlessTextsAreReportedAlike}
+use Rattle.pgn_verifier_laws.specs.NoFaults.{begins_with_mark, ends_with_return, FaultlessTextsAreReportedAlike}
 use Rattle.pgn_verifier_laws.specs.Parts.{BeginsAlike, HoldsWhole, no_more, game, AllHoldWhole, no_parts, next_part}
 use Rattle.pgn_verifier_laws.proofs.Parts.{next_begins, reported_alike, reported_alone, all_reported_alike}
 use Rattle.pgn_verifier_laws.proofs.PartsAlike.{TokenByToken, no_mark}
@@ -146,14 +149,31 @@ begins_at before first parts (inr (front, is, unmarked)) closed =
     (begins_later front first (concat parts)
     (or_parts (begins_with_mark first) (list_any begins_with_mark parts) unmarked).0)
 
-next_starts : (before front : List ℕ) (parts : List (List ℕ)) → Starts before ((front ++ 10 ∷ []) ∷ parts)
-    → Starts (before ++ (front ++ 10 ∷ [])) parts
-next_starts before front parts (inl (none, unmarked)) =
-    inr (before ++ front, sym (append_assoc before front (10 ∷ [])), unmarked)
-next_starts before front parts (inr (line, is, unmarked)) = inr (
+-- a part that ends with a line's end, but not with `\r`, ends with `\n`
+is_new_line : (front : List ℕ) (end : ℕ) → breaks_line end ≡ true → ends_with_return (front ++ end ∷ []) ≡ false
+    → end ≡ 10
+is_new_line front end ends other =
+    eqb-true end 10
+    (by_tests (eqb end 10) (eqb end 13) ends
+    (sym (ap (λ xs. bytes_eq (take 1 xs) (13 ∷ [])) (reverse-append front (end ∷ []))) ∙ other))
+  where
+    by_tests : (a b : Bool) → (a || b) ≡ true → (b && true) ≡ false → a ≡ true
+    by_tests true b h k = refl
+    by_tests false true h k = absurd (cc)
+    by_tests false false h k = h
+
+joined : (before front : List ℕ) (end : ℕ) → end ≡ 10 → before ++ (front ++ end ∷ []) ≡ (before ++ front) ++ 10 ∷ []
+joined before front end is =
+    sym (append_assoc before front (end ∷ [])) ∙ ap (λ c. (before ++ front) ++ c ∷ []) is
+
+next_starts : (before front : List ℕ) (end : ℕ) (parts : List (List ℕ)) → end ≡ 10
+    → Starts before ((front ++ end ∷ []) ∷ parts) → Starts (before ++ (front ++ end ∷ [])) parts
+next_starts before front end parts ten (inl (none, unmarked)) =
+    inr (before ++ front, joined before front end ten, unmarked)
+next_starts before front end parts ten (inr (line, is, unmarked)) = inr (
   before ++ front,
-  sym (append_assoc before front (10 ∷ [])),
-  (or_parts (begins_with_mark (front ++ 10 ∷ [])) (list_any begins_with_mark parts) unmarked).1,
+  joined before front end ten,
+  (or_parts (begins_with_mark (front ++ end ∷ [])) (list_any begins_with_mark parts) unmarked).1,
 )
 
 -- ---- all parts
@@ -199,25 +219,29 @@ module _ (law : TokenByToken) (strict : Bool) where
                 ∙ ap (λ l. part.games ++ l) rest.reported;
           }
 
-  all_hold : {parts : List (List ℕ)} → AreLines parts → (before : List ℕ) (offset : ℕ) → Starts before parts
+  all_hold : {parts : List (List ℕ)} → AreLines parts → list_any ends_with_return parts ≡ false
+      → (before : List ℕ) (offset : ℕ) → Starts before parts
       → list_all is_game (flat_map (reports_in strict) (with_offsets offset parts)) ≡ true
       → AllHold strict offset before parts
-  all_hold no_texts before offset starts all = nothing_held strict offset before
-  all_hold (last_text text) before offset starts all =
+  all_hold no_texts other before offset starts all = nothing_held strict offset before
+  all_hold (last_text text) other before offset starts all =
       one_part text [] before offset (begins_at before text [] starts (inr refl)) (inr refl) all
       (λ rest. nothing_held strict (offset + length text) (before ++ text))
-  all_hold (next_text front {texts} lines) before offset starts all =
-      one_part (front ++ 10 ∷ []) texts before offset
-      (begins_at before (front ++ 10 ∷ []) texts starts (inl (front, refl))) (inl (front, refl)) all
-      (λ rest. all_hold lines (before ++ (front ++ 10 ∷ [])) (offset + length (front ++ 10 ∷ []))
-      (next_starts before front texts starts) rest)
+  all_hold (next_text front end {texts} ends lines) other before offset starts all =
+      let both = or_parts (ends_with_return (front ++ end ∷ [])) (list_any ends_with_return texts) other in
+      let ten : end ≡ 10 = is_new_line front end ends both.0 in
+      let closed : IsClosed (front ++ end ∷ []) (concat texts) = inl (front, ap (λ c. front ++ c ∷ []) ten) in
+      one_part (front ++ end ∷ []) texts before offset
+      (begins_at before (front ++ end ∷ []) texts starts closed) closed all
+      (λ rest. all_hold lines both.1 (before ++ (front ++ end ∷ [])) (offset + length (front ++ end ∷ []))
+      (next_starts before front end texts ten starts) rest)
 
 pub faultless_alike : TokenByToken → FaultlessTextsAreReportedAlike
 unfolding pieces
-faultless_alike law strict text none unmarked =
+faultless_alike law strict text none unmarked other =
     let games : list_all is_game (flat_map (reports_in strict) (with_offsets 0 (cut text))) ≡ true =
     all_games (collection_reports strict true text) none in
-    let all = all_hold law strict (cut_ends text) [] 0 (inl (refl, unmarked)) games in
+    let all = all_hold law strict (cut_ends text) other [] 0 (inl (refl, unmarked)) games in
     let starts : List ℕ → ℕ = λ part. 0 in
     all.reported ∙ sym (reported_alone law strict all.holds starts)
     ∙ sym (all_reported_alike law strict 0 (cut text) all.games all.holds starts)

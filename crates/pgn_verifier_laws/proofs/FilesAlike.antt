@@ -1,5 +1,5 @@
 -- The reports on a collection's files, one after another, are those on the collection.
-use Rattle.std.proofs.Common.{◌≡◌, ℕ, zero, suc, ◌+◌, eqb, Bool, true, false, List, [], ◌∷◌, ◌++◌, length, map, drop, Option, Some, None, Result, Ok, Err, refl, sym, ap, ◌∙◌, append-nil, length-append, arith}
+use Rattle.std.proofs.Common.{◌≡◌, ℕ, zero, suc, ◌+◌, Bool, true, false, List, [], ◌∷◌, ◌++◌, length, map, drop, Option, Some, None, Result, Ok, Err, refl, sym, ap, ◌∙◌, append-nil, length-append, arith}
 use Rattle.std.specs.Prelude.{if◌then◌else◌, nat_le, not, is_some}
 use Rattle.std.specs.List.{onto_first, concat, flat_map, sum_by}
 use Rattle.std.specs.Option.{unwrap_or}
@@ -9,16 +9,17 @@ use Rattle.std.proofs.lemmas.List.Concat.{flat_map-append}
 use Rattle.std.proofs.lemmas.List.Sums.{sum_by-append, sum_by-cons}
 use Rattle.chess_pgn.specs.declared.read.PgnEnd.{PgnEnd}
 use Rattle.pgn_pieces.specs.Pieces.{cut, lines_of}
+use Rattle.pgn_pieces.specs.Places.{breaks_line}
 use Rattle.pgn_pieces.specs.Stream.{with_offsets}
 use Rattle.pgn_pieces.specs.declared.pieces.TheConstants.{PIECE_LEN}
 use Rattle.pgn_pieces.specs.laws.Shards.{begins_in_tag, ends_in_moves, ShardsAreCut}
-use Rattle.pgn_pieces.proofs.shared.Cuts.{cut_is_all}
+use Rattle.pgn_pieces.proofs.shared.Cuts.{cut_is_all, lines_joined}
 use Rattle.pgn_verifier.specs.Collection.{AreCollectionReports}
 use Rattle.pgn_verifier.specs.Explanations.{wrong_part}
 use Rattle.pgn_verifier.specs.Reports.{Report, Game, Faulty, Placed, game_begin, half_moves_of, without_spans, counts_of}
 use Rattle.pgn_verifier.specs.declared.game_fault.GameFault.{GameFault}
 use Rattle.pgn_verifier.specs.laws.Reasons.{explanation_of}
-use Rattle.pgn_verifier.specs.laws.Reported.{read_at, judged_at, placed_then, placed_from, placed_on, placed_in, too_long_placed}
+use Rattle.pgn_verifier.specs.laws.Reported.{names_at, read_at, judged_at, placed_then, placed_from, placed_on, placed_in, too_long_placed}
 use Rattle.pgn_verifier_laws.specs.Files.{AreCutWherePiecesBegin, moved, one_after_another, IsSumOf, FilesAreVerifiedAlike}
 use Rattle.pgn_verifier_laws.proofs.OnlyReports.{only_all}
 
@@ -26,7 +27,7 @@ use Rattle.pgn_verifier_laws.proofs.OnlyReports.{only_all}
 
 has_line : (cs : List ℕ) → (line : List ℕ) × (lines : List (List ℕ)) × (lines_of (cs ++ 10 ∷ []) ≡ line ∷ lines)
 has_line [] = (10 ∷ [], [], refl)
-has_line (c ∷ cs) = by_test (eqb c 10) (has_line cs)
+has_line (c ∷ cs) = by_test (breaks_line c) (has_line cs)
   where
     by_test : (b : Bool)
         → (line : List ℕ) × (lines : List (List ℕ)) × (lines_of (cs ++ 10 ∷ []) ≡ line ∷ lines)
@@ -34,22 +35,6 @@ has_line (c ∷ cs) = by_test (eqb c 10) (has_line cs)
         × ((if b then (c ∷ []) ∷ lines_of (cs ++ 10 ∷ []) else onto_first c (lines_of (cs ++ 10 ∷ []))) ≡ line ∷ lines)
     by_test true w = (c ∷ [], lines_of (cs ++ 10 ∷ []), refl)
     by_test false (line, lines, is) = (c ∷ line, lines, ap (onto_first c) is)
-
--- the lines of a text in two parts, of which the first ends with a line
-lines_joined : (front rest : List ℕ)
-    → lines_of ((front ++ 10 ∷ []) ++ rest) ≡ lines_of (front ++ 10 ∷ []) ++ lines_of rest
-lines_joined [] rest = refl
-lines_joined (c ∷ cs) rest = by_test (eqb c 10) (lines_joined cs rest) (has_line cs)
-  where
-    by_test : (b : Bool) → lines_of ((cs ++ 10 ∷ []) ++ rest) ≡ lines_of (cs ++ 10 ∷ []) ++ lines_of rest
-        → (line : List ℕ) × (lines : List (List ℕ)) × (lines_of (cs ++ 10 ∷ []) ≡ line ∷ lines)
-        → (if b then (c ∷ []) ∷ lines_of ((cs ++ 10 ∷ []) ++ rest)
-        else onto_first c (lines_of ((cs ++ 10 ∷ []) ++ rest)))
-        ≡ (if b then (c ∷ []) ∷ lines_of (cs ++ 10 ∷ []) else onto_first c (lines_of (cs ++ 10 ∷ []))) ++ lines_of rest
-    by_test true on some = ap (λ xs. (c ∷ []) ∷ xs) on
-    by_test false on (line, lines, is) =
-        ap (onto_first c) on ∙ ap (λ xs. onto_first c (xs ++ lines_of rest)) is
-        ∙ sym (ap (λ xs. onto_first c xs ++ lines_of rest) is)
 
 -- what follows after a whole line doesn't change that the text begins with a tag line
 tag_first : (front rest : List ℕ) → begins_in_tag (lines_of (front ++ 10 ∷ [])) ≡ true
@@ -88,7 +73,7 @@ pieces_of_files law (file ∷ next ∷ files) h =
 -- ---- reports at another offset
 
 abbrev moved_placed : ℕ → Placed → Placed
-moved_placed by p = record { begin = by + p.begin; end = by + p.end; report = moved by p.report }
+moved_placed by p = record p { begin = by + p.begin; end = by + p.end; report = moved by p.report }
 
 grouped : (by start n : ℕ) → by + start + n ≡ by + (start + n)
 grouped by start n = omega arith
@@ -110,11 +95,14 @@ moved_from strict by start (suc n) text at =
     by_answer (Ok None) later = refl
     by_answer (Ok (Some end)) later =
         let game : Report = Game (length (read_at text at).state.moves) end.outcome end.termination in
-        ap₂ (λ (b e : ℕ). record { begin = b; end = e; report = game } ∷ placed_from strict (by + start) n text end.offset)
+        let names : Option (List ℕ) = Some (names_at text at) in
+        ap₂ (λ (b e : ℕ). record { begin = b; end = e; names = names; report = game }
+        ∷ placed_from strict (by + start) n text end.offset)
         (grouped by start (game_begin text at)) (grouped by start end.offset)
         ∙ ap (λ (ps : List Placed). record {
           begin = by + (start + game_begin text at);
           end = by + (start + end.offset);
+          names = names;
           report = game;
         } ∷ ps) (later end.offset)
     by_answer (Err fault) later =
@@ -123,6 +111,7 @@ moved_from strict by start (suc n) text at =
         let there : Placed = record {
           begin = by + (start + game_begin text at);
           end = by + (start + length text);
+          names = Some (names_at text at);
           report = Faulty (record fault { offset = by + start + fault.offset }) (by + start + fault.offset + wrong) why;
         } in
         ap₂ (λ (b e : ℕ). record there { begin = b; end = e } ∷ [])

@@ -9,7 +9,8 @@ use Rattle.chess_game.specs.Game.{State, verdict_now}
 use Rattle.chess_game.specs.declared.game.TheConstants.{MOST_MOVES}
 use Rattle.chess_pgn.specs.GameRead.{GameRead, pgn_read, read_of_split}
 use Rattle.chess_pgn.specs.LastTags.{result_tag_of}
-use Rattle.chess_pgn.specs.Tokens.{Token, after_byte_order_mark, tokens_from}
+use Rattle.chess_pgn.specs.Tokens.{Token, tokens_from}
+use Rattle.byte_devices.specs.Bytes.{after_byte_order_mark}
 use Rattle.chess_pgn.specs.declared.read.PgnEnd.{PgnEnd}
 use Rattle.chess_pgn.proofs.shared.Tokens.{split_read}
 use Rattle.pgn_pieces.specs.Pieces.{known_pieces}
@@ -18,12 +19,12 @@ use Rattle.pgn_pieces.specs.declared.pieces.TheConstants.{PIECE_LEN}
 use Rattle.pgn_verifier.specs.Collection.{AreCollectionReports, no_piece, next_piece}
 use Rattle.pgn_verifier.specs.Explanations.{IsReason, wrong_part, explanation}
 use Rattle.pgn_verifier.specs.GameFaults.{judged, IsJudged}
-use Rattle.pgn_verifier.specs.Reports.{Game, Faulty, Placed, game_begin, AreReports, none_left, next_game, last_fault, AreReportsIn, without_spans}
+use Rattle.pgn_verifier.specs.Reports.{Game, Faulty, Placed, game_begin, names_of, AreReports, none_left, next_game, last_fault, AreReportsIn, without_spans}
 use Rattle.pgn_verifier.specs.declared.game_fault.GameFault.{GameFault}
 use Rattle.pgn_verifier.specs.laws.Reasons.{reason, explanation_of}
 use Rattle.pgn_verifier_laws.proofs.OnlyReasons.{only_reason}
-use Rattle.pgn_verifier.specs.laws.Reported.{read_at, judged_at, report_then, reports_from, reports_on, reports_in, collection_reports, placed_then, placed_from, placed_on, placed_in, collection_placed, too_long_report, too_long_placed}
-use Rattle.pgn_verifier.proofs.shared.ReportsAre.{are_reports}
+use Rattle.pgn_verifier.specs.laws.Reported.{names_at, read_at, judged_at, report_then, reports_from, reports_on, reports_in, collection_reports, placed_then, placed_from, placed_on, placed_in, collection_placed, too_long_report, too_long_placed}
+use Rattle.pgn_verifier.proofs.shared.ReportsAre.{are_reports, named}
 
 -- ---- one game
 
@@ -42,19 +43,21 @@ only_judged strict text at s answer j =
 
 -- ---- a text
 
--- the report on a game, with its span
-abbrev game_report : ℕ → List ℕ → ℕ → PgnEnd → State → Placed
-game_report start text at end g = record {
+-- the report on a game, with its span and names
+abbrev game_report : ℕ → List ℕ → ℕ → PgnEnd → List ℕ → State → Placed
+game_report start text at end names g = record {
   begin = start + game_begin text at;
   end = start + end.offset;
+  names = Some names;
   report = Game (length g.moves) end.outcome end.termination;
 }
 
--- the report on a fault with this explanation, with its span
-abbrev fault_report : ℕ → List ℕ → ℕ → GameFault → List ℕ → Placed
-fault_report start text at fault why = record {
+-- the report on a fault with this explanation, with its span and names
+abbrev fault_report : ℕ → List ℕ → ℕ → GameFault → List ℕ → List ℕ → Placed
+fault_report start text at fault names why = record {
   begin = start + game_begin text at;
   end = start + length text;
+  names = Some names;
   report = Faulty (record fault { offset = start + fault.offset })
       (start + fault.offset + (wrong_part fault.kind (drop fault.offset text)).0) why;
 }
@@ -64,17 +67,20 @@ abbrev ReportsBy : Bool → ℕ → List ℕ → ℕ → State → Result (Optio
 ReportsBy strict start text at s (Ok None) reports = reports ≡ []
 ReportsBy strict start text at s (Ok (Some end)) reports =
     (more : List Placed) × AreReports strict start text end.offset more
-    × (reports ≡ game_report start text at end s ∷ more)
-ReportsBy strict start text at s (Err fault) reports =
-    reports ≡ fault_report start text at fault (explanation_of s (drop fault.offset text) fault.kind) ∷ []
+    × (reports ≡ game_report start text at end (names_at text at) s ∷ more)
+ReportsBy strict start text at s (Err fault) reports = reports
+    ≡ fault_report start text at fault (names_at text at) (explanation_of s (drop fault.offset text) fault.kind) ∷ []
 
--- the report on a fault whose reason is given
-fault_explained : (start : ℕ) (text : List ℕ) (at : ℕ) (fault : GameFault) (s : State) (reason : Option (List ℕ))
+-- the report on a fault whose names and reason are given
+fault_explained : (start : ℕ) (text : List ℕ) (at : ℕ) (fault : GameFault) (names : List ℕ) (s : State)
+    (reason : Option (List ℕ)) → names ≡ names_at text at
     → IsReason fault.kind (drop fault.offset text) (verdict_now s) reason
-    → fault_report start text at fault (explanation s (drop fault.offset text) fault.kind reason) ∷ []
-    ≡ fault_report start text at fault (explanation_of s (drop fault.offset text) fault.kind) ∷ []
-fault_explained start text at fault s reason h =
-    ap (λ r. fault_report start text at fault (explanation s (drop fault.offset text) fault.kind r) ∷ [])
+    → fault_report start text at fault names (explanation s (drop fault.offset text) fault.kind reason) ∷ []
+    ≡ fault_report start text at fault (names_at text at) (explanation_of s (drop fault.offset text) fault.kind) ∷ []
+fault_explained start text at fault names s reason are h =
+    ap (λ ns. fault_report start text at fault ns (explanation s (drop fault.offset text) fault.kind reason) ∷ []) are
+    ∙ ap (λ r. fault_report start text at fault (names_at text at)
+    (explanation s (drop fault.offset text) fault.kind r) ∷ [])
     (only_reason fault.kind (drop fault.offset text) (verdict_now s) reason h)
 
 abbrev ReportsAt : Bool → ℕ → List ℕ → ℕ → List Placed → Type 0
@@ -88,15 +94,22 @@ reports_at {strict} {start} {text} (none_left {at} {s} j) =
     subst (λ r. ReportsBy strict start text at (read_at text at).state r []) is.1 refl
 reports_at {strict} {start} {text} (next_game {at} {s} {end} {reports} j h) =
     let is = only_judged strict text at s (Ok (Some end)) j in
-    subst (λ r. ReportsBy strict start text at (read_at text at).state r (game_report start text at end s ∷ reports))
-    is.1 (reports, h, ap (λ (g : State). game_report start text at end g ∷ reports) is.0)
+    let own : List ℕ = names_of j.tokens in
+    subst (λ r. ReportsBy strict start text at (read_at text at).state r
+    (game_report start text at end own s ∷ reports)) is.1 (
+      reports,
+      h,
+      ap (λ (g : State). game_report start text at end own g ∷ reports) is.0
+          ∙ ap (λ ns. game_report start text at end ns (read_at text at).state ∷ reports) (named j),
+    )
 reports_at {strict} {start} {text} (last_fault {at} {s} {fault} reason j h) =
     let is = only_judged strict text at s (Err fault) j in
     subst (λ r. ReportsBy strict start text at (read_at text at).state r
-    (fault_report start text at fault (explanation s (drop fault.offset text) fault.kind reason) ∷ [])) is.1
-    (fault_explained start text at fault s reason h
-    ∙ ap (λ (g : State). fault_report start text at fault (explanation_of g (drop fault.offset text) fault.kind) ∷ [])
-    is.0)
+    (fault_report start text at fault (names_of j.tokens) (explanation s (drop fault.offset text) fault.kind reason)
+    ∷ [])) is.1
+    (fault_explained start text at fault (names_of j.tokens) s reason (named j) h
+    ∙ ap (λ (g : State). fault_report start text at fault (names_at text at)
+    (explanation_of g (drop fault.offset text) fault.kind) ∷ []) is.0)
 
 one_list : {strict : Bool} {start : ℕ} {text : List ℕ} {at : ℕ} {reports : List Placed}
     → AreReports strict start text at reports → (others : List Placed) → AreReports strict start text at others
@@ -108,14 +121,17 @@ one_list {strict} {start} {text} (next_game {at} {s} {end} {reports} j h) others
     let is = only_judged strict text at s (Ok (Some end)) j in
     let more = subst (λ r. ReportsBy strict start text at (read_at text at).state r others) (sym is.1)
     (reports_at k) in
-    more.2 ∙ ap (λ rs. game_report start text at end (read_at text at).state ∷ rs) (one_list h more.0 more.1)
-    ∙ ap (λ (g : State). game_report start text at end g ∷ reports) (sym is.0)
+    more.2
+    ∙ ap (λ rs. game_report start text at end (names_at text at) (read_at text at).state ∷ rs)
+    (one_list h more.0 more.1)
+    ∙ ap (λ ns. game_report start text at end ns (read_at text at).state ∷ reports) (sym (named j))
+    ∙ ap (λ (g : State). game_report start text at end (names_of j.tokens) g ∷ reports) (sym is.0)
 one_list {strict} {start} {text} (last_fault {at} {s} {fault} reason j h) others k =
     let is = only_judged strict text at s (Err fault) j in
     subst (λ r. ReportsBy strict start text at (read_at text at).state r others) (sym is.1) (reports_at k)
-    ∙ ap (λ (g : State). fault_report start text at fault (explanation_of g (drop fault.offset text) fault.kind) ∷ [])
-    (sym is.0)
-    ∙ sym (fault_explained start text at fault s reason h)
+    ∙ ap (λ (g : State). fault_report start text at fault (names_at text at)
+    (explanation_of g (drop fault.offset text) fault.kind) ∷ []) (sym is.0)
+    ∙ sym (fault_explained start text at fault (names_of j.tokens) s reason (named j) h)
 
 pub only_reports : (strict : Bool) (start : ℕ) (text : List ℕ) (reports : List Placed)
     → AreReports strict start text 0 reports → reports ≡ placed_on strict start text

@@ -12,7 +12,8 @@ use Rattle.chess_game.specs.declared.verdicts.Verdict.{Verdict}
 use Rattle.chess_pgn.specs.GameRead.{GameRead, pgn_read, read_of_split, tagged_variant}
 use Rattle.chess_pgn.specs.LastTags.{tag_section, result_tag_of}
 use Rattle.chess_pgn.specs.shared.Kinds.{IsOf, IsLongest, Kind, ended}
-use Rattle.chess_pgn.specs.Tokens.{Token, after_byte_order_mark, begins_line, tokens_from}
+use Rattle.chess_pgn.specs.Tokens.{Token, begins_line, tokens_from}
+use Rattle.byte_devices.specs.Bytes.{after_byte_order_mark}
 use Rattle.chess_pgn.specs.declared.read.PgnEnd.{PgnEnd}
 use Rattle.chess_pgn.specs.laws.TokenByToken.{game_of, nothing_read, tokens_read}
 use Rattle.chess_pgn.proofs.shared.Tokens.{read_kinds, kinds_read}

@@ -14,7 +14,8 @@ use Rattle.chess_pgn.specs.GameRead.{GameRead, pgn_read}
 use Rattle.pgn_writer.specs.GameText.{pgn}
 use Rattle.chess_pgn.specs.LastTags.{result_tag_of}
 use Rattle.pgn_writer.specs.Terminations.{termination_of}
-use Rattle.chess_pgn.specs.Tokens.{after_byte_order_mark, tokens_from}
+use Rattle.chess_pgn.specs.Tokens.{tokens_from}
+use Rattle.byte_devices.specs.Bytes.{after_byte_order_mark}
 use Rattle.chess_pgn.specs.declared.read.PgnEnd.{PgnEnd}
 use Rattle.chess_pgn.specs.declared.tagged_result.ResultTag.{ResultTag}
 use Rattle.chess_pgn_laws.specs.PgnLaw.{PgnIsReadBack, ResultIsWritten}

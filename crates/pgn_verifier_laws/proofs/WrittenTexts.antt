@@ -12,7 +12,8 @@ use Rattle.pgn_writer.specs.GameText.{pgn, tag_lines, game_tokens}
 use Rattle.chess_pgn.specs.LastTags.{result_tag_of}
 use Rattle.chess_pgn.specs.shared.Kinds.{IsSplitByKinds, IsOf, IsLongest, Blank, ended, token}
 use Rattle.pgn_writer.specs.Terminations.{termination_of}
-use Rattle.chess_pgn.specs.Tokens.{Token, Skip, after_byte_order_mark, begins_line, tokens_from}
+use Rattle.chess_pgn.specs.Tokens.{Token, Skip, begins_line, tokens_from}
+use Rattle.byte_devices.specs.Bytes.{after_byte_order_mark}
 use Rattle.pgn_writer.specs.Written as written
 use Rattle.chess_pgn.specs.declared.read.PgnEnd.{PgnEnd}
 use Rattle.pgn_writer.specs.declared.tags.Tags.{Tags}

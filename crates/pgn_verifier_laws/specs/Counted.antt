@@ -9,7 +9,8 @@ use Rattle.chess_base.specs.declared.setup.Setup.{Setup}
 use Rattle.chess_game.specs.Ends.{verdict}
 use Rattle.chess_game.specs.declared.results.Outcome.{Outcome}
 use Rattle.chess_pgn.specs.Split.{IsSplit}
-use Rattle.chess_pgn.specs.Tokens.{Token, Word, after_byte_order_mark}
+use Rattle.chess_pgn.specs.Tokens.{Token, Word}
+use Rattle.byte_devices.specs.Bytes.{after_byte_order_mark}
 use Rattle.chess_pgn_laws.specs.GameOfTokens.{move_words}
 use Rattle.chess_text.specs.Moves.{denotes}
 use Rattle.pgn_verifier.specs.Reports.{AreReports, AreReportsIn, Report, Placed, Game, Faulty, without_spans}

@@ -2,7 +2,7 @@
 -- whole.
 use Rattle.std.specs.Prelude.{◌≡◌, ⊤, ℕ, ◌+◌, Bool, true, List, [], ◌∷◌, ◌++◌, length, map}
 use Rattle.std.specs.List.{concat, sum_by}
-use Rattle.chess_base.specs.Letters.{new_line}
+use Rattle.byte_devices.specs.Bytes.{new_line}
 use Rattle.pgn_pieces.specs.Pieces.{cut, lines_of}
 use Rattle.pgn_pieces.specs.laws.Shards.{begins_in_tag, ends_in_moves}
 use Rattle.pgn_verifier.specs.Collection.{AreCollectionReports}
@@ -34,7 +34,11 @@ moved by (Faulty fault wrong_at explanation) =
 abbrev pub one_after_another : (List ℕ → List Placed) → ℕ → List (List ℕ) → List Placed
 one_after_another reports offset [] = []
 one_after_another reports offset (file ∷ files) =
-    map (λ p. record { begin = offset + p.begin; end = offset + p.end; report = moved offset p.report }) (reports file)
+    map (λ (p : Placed). record p {
+      begin = offset + p.begin;
+      end = offset + p.end;
+      report = moved offset p.report;
+    }) (reports file)
     ++ one_after_another reports (offset + length file) files
 
 -- what is reported of a collection is what is reported of its files, each by itself, and its counts are the sums of

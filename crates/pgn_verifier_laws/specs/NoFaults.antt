@@ -1,7 +1,8 @@
 -- A text whose pieces have no fault has the same reports as a whole.
-use Rattle.std.specs.Prelude.{◌≡◌, Bool, true, false, List, [], ◌∷◌, take, drop, ℕ}
+use Rattle.std.specs.Prelude.{◌≡◌, Bool, true, false, List, [], ◌∷◌, take, drop, reverse, ℕ}
 use Rattle.std.specs.List.{list_any}
 use Rattle.std.specs.Str.{bytes_eq}
+use Rattle.byte_devices.specs.Bytes.{carriage_return}
 use Rattle.pgn_pieces.specs.Pieces.{cut}
 use Rattle.pgn_verifier.specs.declared.tally.Verified.TheVariants.{EachGame}
 use Rattle.pgn_verifier.specs.Reports.{counts_of, verified}
@@ -11,11 +12,16 @@ use Rattle.pgn_verifier.specs.laws.Reported.{collection_reports, reports_on}
 abbrev pub begins_with_mark : List ℕ → Bool
 begins_with_mark text = bytes_eq (take 3 text) (239 ∷ 187 ∷ 191 ∷ [])
 
--- if the reports on a text's pieces have no fault, then they are the reports on the text, unless a piece after the
--- first begins with a byte order mark, which is skipped at the front of a piece but not within a text. `strict`:
--- results are compared
+-- whether a text's last byte is `\r`
+abbrev pub ends_with_return : List ℕ → Bool
+ends_with_return text = bytes_eq (take 1 (reverse text)) (carriage_return ∷ [])
+
+-- if the reports on a text's pieces have no fault, then they are the reports on the text, with two exceptions: a piece
+-- after the first begins with a byte order mark, which is skipped at the front of a piece but not within a text; or a
+-- piece ends with `\r`, which doesn't end a `;` comment within a text. `strict`: results are compared
 abbrev pub FaultlessTextsAreReportedAlike : Type 0
 FaultlessTextsAreReportedAlike = (strict : Bool) (text : List ℕ)
     → verified (counts_of (collection_reports strict true text)) ≡ EachGame
     → list_any begins_with_mark (drop 1 (cut text)) ≡ false
+    → list_any ends_with_return (cut text) ≡ false
     → collection_reports strict true text ≡ reports_on strict 0 text

@@ -2,8 +2,8 @@
 -- `verify_collection` report the same of them.
 use Rattle.std.specs.Prelude.{◌≡◌, ◌≤◌, ◌<◌, ◌⊎◌, ℕ, ◌+◌, ◌-◌, Bool, true, List, [], ◌∷◌, ◌++◌, length, Some, None, Ok}
 use Rattle.std.specs.List.{concat, flat_map}
-use Rattle.chess_base.specs.Letters.{new_line}
-use Rattle.chess_pgn.specs.Tokens.{after_byte_order_mark, begins_line}
+use Rattle.chess_pgn.specs.Tokens.{begins_line}
+use Rattle.byte_devices.specs.Bytes.{new_line, after_byte_order_mark}
 use Rattle.chess_pgn.specs.declared.read.PgnEnd.{PgnEnd}
 use Rattle.pgn_pieces.specs.Pieces.{cut}
 use Rattle.pgn_pieces.specs.declared.pieces.TheConstants.{PIECE_LEN}

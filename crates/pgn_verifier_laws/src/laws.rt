@@ -79,8 +79,8 @@ pub fn games_are_in_parts()
 }
 
 /// States a law and does nothing: if `verify_collection` reports no fault of a text, then the reports on the text as a
-/// whole are on the same games, unless a piece of the text after the first begins with a byte order mark. `verify`
-/// writes these reports if the text has at most 16,777,216 bytes; it takes no longer one.
+/// whole are on the same games, unless a piece of the text after the first begins with a byte order mark, or a piece
+/// ends with `\r`. `verify` writes these reports if the text has at most 16,777,216 bytes; it takes no longer one.
 pub fn a_text_without_faults_is_reported_alike()
     ensures { FaultlessTextsAreReportedAlike }
 {

@@ -8,6 +8,7 @@ const ALL: VerifyOptions = VerifyOptions {
     quiet: false,
     strict: false,
     spans: false,
+    names: false,
     explain: false,
 };
 
@@ -15,6 +16,7 @@ const STRICT: VerifyOptions = VerifyOptions {
     quiet: true,
     strict: true,
     spans: false,
+    names: false,
     explain: false,
 };
 
@@ -22,6 +24,15 @@ const SPANS: VerifyOptions = VerifyOptions {
     quiet: false,
     strict: false,
     spans: true,
+    names: false,
+    explain: false,
+};
+
+const NAMES: VerifyOptions = VerifyOptions {
+    quiet: false,
+    strict: false,
+    spans: false,
+    names: true,
     explain: false,
 };
 
@@ -29,6 +40,7 @@ const EXPLAINED: VerifyOptions = VerifyOptions {
     quiet: true,
     strict: true,
     spans: false,
+    names: false,
     explain: true,
 };
 
@@ -151,6 +163,34 @@ fn lines_end_with_spans(rt: HostRuntime) {
         b"* 1. xx *",
         Verified::FaultReported,
         b"game 2: bad token at byte 5, bytes 2 to 9\n# line 1 column 6 xx | rnbqkbnr/pppppppp/8/8/8/8/PPPPPPPP/RNBQKBNR w KQkq - 0 1 | not a move\n",
+    );
+}
+
+// The last tags count; what is not printable is `?`, and so is a tag that is missing. A game's line stays.
+#[test]
+fn faults_end_with_names(rt: HostRuntime) {
+    check_cuts(
+        &rt,
+        &rt,
+        true,
+        NAMES,
+        b"[Event \"a\"]\n[White \"x\"]\n[White \"M\xC3\xBC \\\"y\"]\n[Date \"2013.11.09\"]\n1. Ke3 *\n[Event \"b\"]\n1. d4 *\n",
+        Verified::FaultReported,
+        b"game 1: illegal move at byte 65 | M?? \\\"y - ?, a 2013.11.09\ngame 2: 1 half-moves, *\ngames 1 half-moves 1 faults 1\n",
+    );
+    let options = VerifyOptions {
+        spans: true,
+        names: true,
+        ..EXPLAINED
+    };
+    check_cuts(
+        &rt,
+        &rt,
+        false,
+        options,
+        b"[White \"0123456789012345678901234567890123456789+\"] xx",
+        Verified::FaultReported,
+        b"game 1: bad token at byte 52, bytes 0 to 54 | 0123456789012345678901234567890123456789 - ?, ? ?\n# line 1 column 53 xx | rnbqkbnr/pppppppp/8/8/8/8/PPPPPPPP/RNBQKBNR w KQkq - 0 1 | not a move\n",
     );
 }
 
@@ -416,7 +456,7 @@ fn tags_are_explained(rt: HostRuntime) {
 }
 
 // Bad tokens, and what is written of them.
-const TOKENS: [(&[u8], &[u8]); 10] = [
+const TOKENS: [(&[u8], &[u8]); 14] = [
     (
         b"1. e4 & *",
         b"game 1: bad token at byte 6\n# line 1 column 7 & | rnbqkbnr/pppppppp/8/8/4P3/8/PPPP1PPP/RNBQKBNR b KQkq e3 0 1 | begins no token\n",
@@ -456,6 +496,23 @@ const TOKENS: [(&[u8], &[u8]); 10] = [
     (
         b"+ *",
         b"game 1: bad token at byte 0\n# line 1 column 1 + | rnbqkbnr/pppppppp/8/8/8/8/PPPPPPPP/RNBQKBNR w KQkq - 0 1 | not a move\n",
+    ),
+    // Results as they are written elsewhere.
+    (
+        b"1. e4 1/2",
+        b"game 1: bad token at byte 6\n# line 1 column 7 1/2 | rnbqkbnr/pppppppp/8/8/4P3/8/PPPP1PPP/RNBQKBNR b KQkq e3 0 1 | a draw is written 1/2-1/2\n",
+    ),
+    (
+        b"1. e4 \xc2\xbd-\xc2\xbd",
+        b"game 1: bad token at byte 6\n# line 1 column 7 ??-?? | rnbqkbnr/pppppppp/8/8/4P3/8/PPPP1PPP/RNBQKBNR b KQkq e3 0 1 | a draw is written 1/2-1/2\n",
+    ),
+    (
+        b"1. e4 1\xe2\x80\x930",
+        b"game 1: bad token at byte 7\n# line 1 column 8 ???0 | rnbqkbnr/pppppppp/8/8/4P3/8/PPPP1PPP/RNBQKBNR b KQkq e3 0 1 | an en dash, where results have a hyphen\n",
+    ),
+    (
+        b"1. e4 0-0",
+        b"game 1: illegal move at byte 6\n# line 1 column 7 0-0 | rnbqkbnr/pppppppp/8/8/4P3/8/PPPP1PPP/RNBQKBNR b KQkq e3 0 1 | castling, and no result of PGN\n",
     ),
 ];
 
@@ -530,6 +587,31 @@ fn a_mark_before_a_later_piece_is_a_fault_of_the_text(rt: HostRuntime) {
         MARKED,
         Verified::FaultReported,
         b"game 1: 1 half-moves, *\ngame 2: bad token at byte 20\n",
+    );
+}
+
+// A piece that ends with a carriage return ends a comment, which goes on in the text up to a line feed. So the law needs
+// its premise on such pieces too.
+#[test]
+fn a_comment_goes_on_after_a_piece_that_ends_with_a_return(rt: HostRuntime) {
+    let text = b"1. e4 * ; x\r[Event \"b\"]\r1. d4 *\n";
+    check_cuts(
+        &rt,
+        &rt,
+        true,
+        ALL,
+        text,
+        Verified::EachGame,
+        b"game 1: 1 half-moves, *\ngame 2: 1 half-moves, *\ngames 2 half-moves 2 faults 0\n",
+    );
+    check_cuts(
+        &rt,
+        &rt,
+        false,
+        ALL,
+        text,
+        Verified::EachGame,
+        b"game 1: 1 half-moves, *\n",
     );
 }
 

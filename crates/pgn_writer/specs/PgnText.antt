@@ -2,7 +2,7 @@
 -- moves in lines of at most 79 characters, each as full as it can be, and an empty line.
 use Rattle.std.specs.Prelude.{◌≡◌, ℕ, ◌<◌, ◌≤◌, List, [], ◌∷◌, ◌++◌, length, map}
 use Rattle.std.specs.List.{flat_map, join_with_byte, AllByRecursion}
-use Rattle.chess_base.specs.Letters.{space}
+use Rattle.byte_devices.specs.Bytes.{space}
 use Rattle.chess_game.specs.Game.{State}
 use Rattle.pgn_writer.specs.declared.tags.Tags.{Tags}
 use Rattle.pgn_writer.specs.GameText.{tag_lines, game_tokens}

@@ -1,7 +1,7 @@
 -- A game's text as it is written (PGN standard of 1994, sections 4.3, 8.1 and 8.2): the tags' lines and the lines of
 -- moves.
 use Rattle.std.specs.Prelude.{ℕ, ◌||◌, List, [], ◌∷◌, ◌++◌, length, codes, ◌==◌, nat_le, reverse, if◌then◌else◌}
-use Rattle.chess_base.specs.Letters.{byte, new_line, space}
+use Rattle.byte_devices.specs.Bytes.{byte, new_line, space}
 use Rattle.std.specs.List.{flat_map, fold}
 
 -- ---- tokens in lines

@@ -3,7 +3,7 @@
 ghost use Rattle.pgn_writer.specs.declared.line_writer.TheConstants.{LINE_LEN};
 ghost use Rattle.std.specs.Prelude.{◌≡◌, ◌+◌, ◌≤◌, ◌<◌, [], ◌∷◌, ◌++◌, length};
 ghost use Rattle.byte_devices.specs.Devices.{Puts};
-ghost use Rattle.chess_base.specs.Letters.{new_line};
+ghost use Rattle.byte_devices.specs.Bytes.{new_line};
 ghost use Rattle.pgn_writer.specs.ties.Waiting.{Adds};
 ghost use Rattle.pgn_writer.specs.shared.Lines.{wrapped_token, next_column, line_close};
 

@@ -17,7 +17,7 @@ use Rattle.chess_base.proofs.shared.Changes.{advance_goes, pawn_no_castling}
 use Rattle.chess_base.proofs.shared.LegalMoves.{IsSound-after}
 use Rattle.chess_base.proofs.shared.Squares.{each_square-at}
 use Rattle.chess_base.proofs.shared.Men.{is_man-kind, is_of-none, other-other}
-use Rattle.chess_base.proofs.shared.MoveKinds.{MoveKind, ManMoves, Castles, PawnMoves, Advances, Captures, TakesEnPassant, moves_from_pattern}
+use Rattle.chess_base.proofs.shared.MoveKinds.{MoveKind, ManMoves, Castles, PawnMoves, Advances, Captures, TakesEnPassant, moves_from_pattern, is_double_advance-parts}
 use Rattle.rules_laws.specs.EnPassant.{CapturesEnPassant, GoesTwoSquaresOver, EnPassantFollowsDoubleAdvance}
 use Rattle.rules_laws.proofs.Pieces.{after_no_castle}
 
@@ -58,14 +58,6 @@ target_of : (double : Bool) (over s : ℕ) → is_at (if double then Some over e
     → (double ≡ true) × (over ≡ s)
 target_of true over s e = (refl, eqb-true _ _ e)
 target_of false over s e = cc
-
-double_of : (p : Setup) (m : Move) → is_double_advance p m ≡ true
-    → (is_man p.side Pawn (man_at p.men m.from) ≡ true) × (rank m.from ≡ pawn_rank p.side)
-    × (m.to ≡ forward p.side (forward p.side m.from))
-unfolding is_double_advance
-double_of p m e =
-    let two = and_parts _ _ e in
-    let one = and_parts _ _ two.0 in (one.0, eqb-true _ _ one.1, eqb-true _ _ two.1)
 
 goes_over : (c : Colour) (m : Move) (s : ℕ) → rank m.from ≡ pawn_rank c → m.to ≡ forward c (forward c m.from)
     → forward c m.from ≡ s → GoesTwoSquaresOver c m s
@@ -109,7 +101,7 @@ follows p before m sound legal legal' h =
     let moves = moves_from_pattern q m (and_parts _ _ legal').0 in
     let to = to_target q m (IsSound-after p before sound legal) h moves.from_in moves.to_in moves.kind in
     let target = target_of (is_double_advance p before) (forward p.side before.from) m.to to.1 in
-    let double = double_of p before target.0 in
+    let double = is_double_advance-parts p before target.0 in
     let away = past p.side before.from before.to m.to double.1 double.2 target.1 in
     record {
       pawn = double.0;

@@ -29,7 +29,7 @@ use Rattle.chess_base.proofs.shared.MenAfter.{length-men_after}
 use Rattle.chess_base.proofs.shared.MoveKinds.{Moves, MoveKind, ManMoves, Castles, PawnMoves, moves_from_pattern, is_of-mover}
 use Rattle.chess_base.proofs.shared.Squares.{some_square-at}
 use Rattle.chess_game.specs.Ends.{is_kind, has_bishop_on, has_insufficient_material}
-use Rattle.rules_laws.proofs.Pieces.{after_no_castle}
+use Rattle.rules_laws.proofs.Pieces.{after_no_castle, attacks_of}
 
 -- ---- insufficient material, by squares
 
@@ -289,10 +289,6 @@ bishop_keeps : (men : Men) (a b : ℕ) → attacks men a b ≡ true → is_kind 
     → shade a ≡ shade b
 bishop_keeps men a b hits e = let h = attacks_by_kind men a b Bishop e hits in bishop_shade men h.0 a b h.1
 
-hits_of : (p : Setup) (m : Move) → man_moves p m ≡ true → attacks p.men m.from m.to ≡ true
-unfolding man_moves
-hits_of p m e = (and_parts _ _ (and_parts _ _ e).0).1
-
 pub bare_after : (p : Setup) (m : Move) → IsSound p → is_legal p m ≡ true → IsBare p.men → IsBare (after p m).men
 unfolding is_legal
 bare_after p m sound legal bare = by h.kind
@@ -309,5 +305,5 @@ bare_after p m sound legal bare = by h.kind
         record {
           majors = none_new p.men (after p m).men m.from m.to is_major step refl bare.majors;
           minors = minors_moved p.men (after p m).men m.from m.to step h.to_in h.from_in
-              (bishop_keeps p.men m.from m.to (hits_of p m e)) bare.minors;
+              (bishop_keeps p.men m.from m.to (attacks_of p m e)) bare.minors;
         }

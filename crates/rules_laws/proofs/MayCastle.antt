@@ -24,12 +24,12 @@ use Rattle.chess_base.specs.Moves.{is_legal, is_pseudo_legal, moves_as, after, a
 use Rattle.chess_base.specs.Sound.{IsSound, has_one_king}
 use Rattle.chess_base.specs.shared.Splits.{could_capture_as, names_castling}
 use Rattle.chess_base.proofs.shared.Kings.{one_king, one_king_of}
-use Rattle.chess_base.proofs.shared.Men.{same_kind-true, is_none-None, no_other}
+use Rattle.chess_base.proofs.shared.Men.{same_kind-true, is_none-None, no_other, is_of-none, is_man-none}
 use Rattle.chess_base.proofs.shared.MoveKinds.{MoveKind, ManMoves, Castles, PawnMoves, moves_from_pattern}
 use Rattle.chess_base.proofs.shared.Squares.{each_square-all, each_square-at, some_square-at, some_square-none}
 use Rattle.rules_laws.specs.Castled.{castling_of, castling_move, empty_squares, safe_squares, MayCastle, NormalCastlingIsLegal}
 use Rattle.rules_laws.proofs.Castled.{named, too_far, one_side, no_king_of_pawn, normal_named, normal_placed, is_castle}
-use Rattle.rules_laws.proofs.Pieces.{attacks_as, king_is_near, after_castle}
+use Rattle.rules_laws.proofs.Pieces.{attacks_as, king_is_near, after_castle, attacks_of}
 
 -- ---- the squares on the way
 
@@ -191,10 +191,6 @@ unfolding castles
 parts_of p m k e =
     let both = and_parts (is_none m.promotion && castling_way_is_empty p.men k) (castling_way_is_safe p.men p.side k) e in
     ((and_parts (is_none m.promotion) (castling_way_is_empty p.men k) both.0).1, both.1)
-
-attacks_of : (p : Setup) (m : Move) → man_moves p m ≡ true → attacks p.men m.from m.to ≡ true
-unfolding man_moves
-attacks_of p m e = (and_parts _ _ (and_parts _ _ e).0).1
 
 moves_to : (c : Colour) (w : CastlingSide)
     → ((castling_move c w).from == home_square c king_home_file) ≡ true
@@ -510,14 +506,6 @@ unfolding is_man
 rook_is_no_king White = refl
 rook_is_no_king Black = refl
 
-nothing_is : (c : Colour) → is_of c None ≡ false
-unfolding is_of
-nothing_is c = refl
-
-no_king_is : (c : Colour) → is_man c King None ≡ false
-unfolding is_man
-no_king_is c = refl
-
 -- where q holds of the content of a square, and of none of the four, the square is another
 another : (men new : Men) (c : Colour) (k : Castle) (q : Option Man → Bool) (s : ℕ) → Castled men new c k → s < 64
     → q (man_at new s) ≡ true → q None ≡ false → q (Some (record { colour = c; kind = Rook })) ≡ false
@@ -617,7 +605,7 @@ unfolding is_attacked
 unattacked men new c w h calm =
     some_square-none _ (λ a l. false_from_ne_true _ (λ e.
     let both = and_parts _ _ e in
-    elim (another men new c (castling_of c w) (is_of (other c)) a h l both.0 (nothing_is (other c)) (rook_is c)) [
+    elim (another men new c (castling_of c w) (is_of (other c)) a h l both.0 (is_of-none (other c) None refl) (rook_is c)) [
       | inl at ↦ both_ways _ (ap (is_of (other c)) (ap (man_at new) at ∙ h.on_king)
           ∙ no_other c King (man_at men (castling_of c w).king_from) h.king) both.0
       | inr away ↦ both_ways _ calm (some_square-at _ a l (and_from _ _
@@ -631,7 +619,7 @@ unfolding is_in_check
 out_of_check men new c w h whole one calm =
     some_square-none _ (λ s l. false_from_ne_true _ (λ e.
     let both = and_parts _ _ e in
-    elim (another men new c (castling_of c w) (λ (o : Option Man). is_man c King o) s h l both.0 (no_king_is c) (rook_is_no_king c)) [
+    elim (another men new c (castling_of c w) (λ (o : Option Man). is_man c King o) s h l both.0 (is_man-none c King None refl) (rook_is_no_king c)) [
       | inl at ↦ both_ways _ (unattacked men new c w h calm)
           (subst (λ (x : ℕ). is_attacked new x (other c) ≡ true) at both.1)
       | inr away ↦ away.1 (one_king men c s (castling_of c w).king_from whole one

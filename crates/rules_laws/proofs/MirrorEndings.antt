@@ -22,6 +22,7 @@ use Rattle.rules_laws.specs.Endings.{HasNoMove}
 use Rattle.rules_laws.specs.Mirror.{mirrored, mirrored_men, mirrored_setup, mirrored_move, MirrorEndsAlike}
 use Rattle.rules_laws.proofs.MirrorAttacks.{mirrored_in, twice, same_file, other_rank, rank_in, some_mirrored, flipped, man_at-mirrored, is_in_check-mirrored}
 use Rattle.rules_laws.proofs.MirrorAfter.{mirror_is_as_legal}
+use Rattle.std.proofs.Math.Bool.{and_comm}
 
 -- ---- no legal move
 
@@ -137,9 +138,6 @@ bishop_on n m men turned =
     (ap₂ (λ (f r : ℕ). (f + r) % 2 == n) (same_file s) (other_rank s l) ∙ turned (file s) (rank s) (rank_in s l))
     (ap (is_kind Bishop) (man_at-mirrored men s l) ∙ is_kind-flipped Bishop (man_at men s)))
 
-both_back : (a b : Bool) → (a && b) ≡ (b && a)
-both_back a b = grind arith
-
 pub material-mirrored : (men : Men) → length men ≡ 64
     → has_insufficient_material (mirrored_men men) ≡ has_insufficient_material men
 unfolding has_insufficient_material
@@ -152,7 +150,7 @@ material-mirrored men whole =
     let bishops : (has_bishop_on 0 (mirrored_men men) && has_bishop_on 1 (mirrored_men men))
     ≡ (has_bishop_on 0 men && has_bishop_on 1 men) =
     ap₂ (λ (a b : Bool). a && b) (bishop_on 0 1 men shade_turned) (bishop_on 1 0 men shade_turned_back)
-    ∙ both_back (has_bishop_on 1 men) (has_bishop_on 0 men) in
+    ∙ and_comm (has_bishop_on 1 men) (has_bishop_on 0 men) in
     rw (majors, minors, knights, bishops) refl
 
 -- ---- all together

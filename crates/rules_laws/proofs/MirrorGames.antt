@@ -10,8 +10,7 @@ use Rattle.chess_base.specs.declared.man.CastlingSide.{CastlingSide}
 use Rattle.chess_base.specs.declared.man.CastlingSide.TheVariants.{KingSide, QueenSide}
 use Rattle.chess_base.specs.declared.man.Colour.{Colour}
 use Rattle.chess_base.specs.declared.man.Colour.TheVariants.{White, Black}
-use Rattle.chess_base.specs.declared.man.Kind.{Kind}
-use Rattle.chess_base.specs.declared.man.Kind.TheVariants.{King, Queen, Rook, Bishop, Knight, Pawn}
+use Rattle.chess_base.specs.declared.man.Kind.TheVariants.{King, Pawn}
 use Rattle.chess_base.specs.declared.man.Man.{Man}
 use Rattle.chess_base.specs.declared.man.Move.{Move}
 use Rattle.chess_base.specs.declared.setup.Setup.{Setup}
@@ -26,7 +25,7 @@ use Rattle.chess_base.specs.shared.Parts.{crossed_rank}
 use Rattle.chess_base.proofs.shared.Changes.{at_target}
 use Rattle.chess_base.proofs.shared.LegalMoves.{IsSound-after}
 use Rattle.chess_base.proofs.shared.Men.{is_man-kind}
-use Rattle.chess_base.proofs.shared.MoveKinds.{MoveKind, ManMoves, Castles, PawnMoves}
+use Rattle.chess_base.proofs.shared.MoveKinds.{MoveKind, ManMoves, Castles, PawnMoves, unpromoted_below}
 use Rattle.chess_base.proofs.shared.Castling.{says_from_castling, castling_says}
 use Rattle.chess_base.proofs.shared.Squares.{each_square_same, some_square_same}
 use Rattle.chess_moves.proofs.shared.AnyMove.{AllFound, any_by_start}
@@ -40,16 +39,12 @@ use Rattle.rules_laws.proofs.MirrorAttacks as attacks
 use Rattle.rules_laws.proofs.MirrorMoves.{target_in, rook_in, en_passant-mirrored}
 use Rattle.rules_laws.proofs.MirrorAfter.{mirror_is_as_legal, mirror_moves_alike}
 use Rattle.rules_laws.proofs.MirrorEndings.{in_board, move_twice, none_in_mirror, none_from_mirror, material-mirrored}
+use Rattle.std.proofs.Math.Bool.{and_comm}
 
 -- ---- positions but for their fullmove numbers
 
 abbrev pub numbered : ℕ → Setup → Setup
 numbered n p = record p { fullmove = n }
-
-legal_ignores : (n : ℕ) (p : Setup) (m : Move) → is_legal (numbered n p) m ≡ is_legal p m
-unfolding is_legal is_pseudo_legal pawn_moves pawn_advances pawn_captures is_double_advance is_en_passant man_moves
-    castle_of castling is_castling_to castles after men_after captured_square
-legal_ignores n p m = refl
 
 after_ignores : (n : ℕ) (p : Setup) (m : Move) → numbered 1 (after (numbered n p) m) ≡ numbered 1 (after p m)
 unfolding after men_after captured_square is_en_passant castle_of castling is_castling_to rights_after target_after
@@ -92,9 +87,6 @@ square_same None (Some t) h l = refl
 square_same (Some s) None h l = refl
 square_same (Some s) (Some t) h l = attacks.same_square s t (h s refl) (l t refl)
 
-back : (a b : Bool) → (a && b) ≡ (b && a)
-back a b = grind arith
-
 rights_same : (p q : Setup) → IsSound p → IsSound q
     → same_rights (mirrored_rights p.rights) (mirrored_rights q.rights) ≡ same_rights p.rights q.rights
 unfolding same_rights
@@ -102,7 +94,7 @@ rights_same p q sound sound' =
     ap₂ (λ (a b : Bool). a && b)
     (ap₂ (λ (a b : Bool). a && b) (by Black KingSide) (by Black QueenSide))
     (ap₂ (λ (a b : Bool). a && b) (by White KingSide) (by White QueenSide))
-    ∙ back (same_colour_rights p.rights.black q.rights.black) (same_colour_rights p.rights.white q.rights.white)
+    ∙ and_comm (same_colour_rights p.rights.black q.rights.black) (same_colour_rights p.rights.white q.rights.white)
   where
     by : (c : Colour) (w : CastlingSide)
         → same_square (option_map mirrored (right_of p.rights c w)) (option_map mirrored (right_of q.rights c w))
@@ -111,15 +103,6 @@ rights_same p q sound sound' =
         (λ s e. rook_in q c w s sound' e)
 
 -- ---- the square of a legal capture en passant
-
-unpromoted : (o : Option Kind) → promotion_fits false o ≡ true → o ≡ None
-unpromoted None e = refl
-unpromoted (Some King) e = cc
-unpromoted (Some Queen) e = cc
-unpromoted (Some Rook) e = cc
-unpromoted (Some Bishop) e = cc
-unpromoted (Some Knight) e = cc
-unpromoted (Some Pawn) e = cc
 
 passes_parts : (p : Setup) (m : Move) → is_en_passant p m ≡ true
     → (is_man p.side Pawn (man_at p.men m.from) ≡ true) × (is_at p.target m.to ≡ true)
@@ -140,7 +123,7 @@ no_promotion p m sound legal passes = by (in_board p m legal).kind
         (castling_says p m w (says_from_castling p m w at)).0) (passes_parts p m passes).0)
     by (PawnMoves pawn fits k) =
         let last = short_of_last p.side m.to (at_target p m.to sound.target (passes_parts p m passes).1).0 in
-        unpromoted m.promotion (subst (λ (b : Bool). promotion_fits b m.promotion ≡ true) last fits)
+        unpromoted_below m.promotion (subst (λ (b : Bool). promotion_fits b m.promotion ≡ true) last fits)
 
 found : (p : Setup) (to : ℕ) → IsSound p → p.target ≡ Some to → AllFound p (λ m. is_en_passant p m) to
 found p to sound at = record {

@@ -76,9 +76,6 @@ two_ahead c a b h l e =
 
 -- ---- pawns
 
-abbrev InBoard : Move → Type 0
-InBoard m = (m.from < 64) × (m.to < 64)
-
 pub double_advance-mirrored : (p : Setup) (m : Move) → m.from < 64 → m.to < 64
     → is_double_advance (mirrored_setup p) (mirrored_move m) ≡ is_double_advance p m
 unfolding is_double_advance
@@ -98,18 +95,14 @@ target_in p t sound e =
     let here : is_at p.target t ≡ true = subst (λ (o : Option ℕ). is_at o t ≡ true) (sym e) (eq-eqb t t refl) in
     low_rank (other p.side) t (at_target p t sound.target here).0
 
-at-mirrored_by : (o : Option ℕ) (s : ℕ) → s < 64 → ((t : ℕ) → o ≡ Some t → t < 64)
+pub is_at-mirrored : (o : Option ℕ) (s : ℕ) → s < 64 → ((t : ℕ) → o ≡ Some t → t < 64)
     → is_at (option_map mirrored o) (mirrored s) ≡ is_at o s
-at-mirrored_by None s l h = refl
-at-mirrored_by (Some t) s l h = same_square t s (h t refl) l
+is_at-mirrored None s l h = refl
+is_at-mirrored (Some t) s l h = same_square t s (h t refl) l
 
 pub at-mirrored : (p : Setup) (s : ℕ) → IsSound p → s < 64
     → is_at (option_map mirrored p.target) (mirrored s) ≡ is_at p.target s
-at-mirrored p s sound l = at-mirrored_by p.target s l (λ t e. target_in p t sound e)
-
-pub is_at-mirrored : (o : Option ℕ) (s : ℕ) → s < 64 → ((t : ℕ) → o ≡ Some t → t < 64)
-    → is_at (option_map mirrored o) (mirrored s) ≡ is_at o s
-is_at-mirrored o s l h = at-mirrored_by o s l h
+at-mirrored p s sound l = is_at-mirrored p.target s l (λ t e. target_in p t sound e)
 
 pub en_passant-mirrored : (p : Setup) (m : Move) → IsSound p → m.from < 64 → m.to < 64
     → is_en_passant (mirrored_setup p) (mirrored_move m) ≡ is_en_passant p m

@@ -17,7 +17,7 @@ use Rattle.chess_base.specs.Sound.{IsSound}
 use Rattle.chess_base.proofs.shared.Castling.{no_castle}
 use Rattle.chess_base.proofs.shared.Kings.{king_square-at, king_square-king, one_king, one_king_of}
 use Rattle.chess_base.proofs.shared.LegalMoves.{IsSound-after}
-use Rattle.chess_base.proofs.shared.Men.{colour_cases, same_colour-self, same_kind-true, is_man-colour, is_of-from_is_man, no_other, is_of-none, in_board}
+use Rattle.chess_base.proofs.shared.Men.{colour_cases, same_colour-self, same_kind-true, is_man-colour, is_of-from_is_man, no_other, is_of-none, in_board, is_man-none}
 use Rattle.chess_base.proofs.shared.MoveKinds.{no_king_where_attacked}
 use Rattle.chess_base.proofs.shared.Squares.{some_square-none}
 use Rattle.chess_game.specs.Ends.{is_kind}
@@ -302,15 +302,11 @@ is_pattern p k a n h =
     and_from _ _ (and_from _ _ (lt-ltb _ _ h.king_in) (lt-ltb _ _ h.beside.inside))
     (as_king p m (man_at p.men k) h.king (no_castle p m (no_castling_here p m h.sound h.bare)) (goes p k a n h))
 
-no_piece : (c : Colour) → is_of c None ≡ false
-unfolding is_of
-no_piece c = refl
-
 -- what would attack the king on its new square
 unattacked_by : (p : Setup) (k a n s : ℕ) → Check p k a n → (new : Men) → HasMoved p.men new k n → s < 64
     → is_of (other p.side) (man_at new s) ≡ true → attacks new s n ≡ true → ⊥
 unattacked_by p k a n s h new step l enemy hits =
-    elim (origin p.men new k n s (is_of (other p.side)) step (no_piece (other p.side)) enemy) [
+    elim (origin p.men new k n s (is_of (other p.side)) step (is_of-none (other p.side) None refl) enemy) [
       | inr arrives ↦ both_ways _ (no_other p.side King (man_at p.men k) h.king) arrives.1
       | inl stays ↦
           let same : man_at new s ≡ man_at p.men s = step.others s stays.1 stays.0 in
@@ -339,17 +335,13 @@ unattacked p k a n h new step =
     some_square-none _ (λ s l. false_from_ne_true _ (λ e. let both = and_parts _ _ e in
     unattacked_by p k a n s h new step l both.0 both.1))
 
-no_man : (c : Colour) → is_man c King None ≡ false
-unfolding is_man
-no_man c = refl
-
 out_of_check : (p : Setup) (k a n : ℕ) → Check p k a n → (new : Men) → HasMoved p.men new k n
     → is_in_check new p.side ≡ false
 unfolding is_in_check
 out_of_check p k a n h new step =
     some_square-none _ (λ s l. false_from_ne_true _ (λ e.
     let both = and_parts _ _ e in
-    elim (origin p.men new k n s (λ (o : Option Man). is_man p.side King o) step (no_man p.side) both.0) [
+    elim (origin p.men new k n s (λ (o : Option Man). is_man p.side King o) step (is_man-none p.side King None refl) both.0) [
       | inl stays ↦ stays.1 (one_king p.men p.side s k h.sound.board (one_king_of p h.sound p.side) stays.2 h.king)
       | inr arrives ↦ both_ways _ (unattacked p k a n h new step)
           (subst (λ (x : ℕ). is_attacked new x (other p.side) ≡ true) arrives.0 both.1)

@@ -14,7 +14,7 @@ use Rattle.chess_base.specs.Squares.{file, rank}
 use Rattle.chess_base.specs.Men.{Men, man_at, is_man, same_colour, same_kind}
 use Rattle.chess_base.specs.Attacks.{attacks, could_capture}
 use Rattle.chess_base.specs.Castling.{castle_of}
-use Rattle.chess_base.specs.Moves.{after, men_after, after_castling, after_moving}
+use Rattle.chess_base.specs.Moves.{after, man_moves, men_after, after_castling, after_moving}
 use Rattle.chess_base.specs.shared.Splits.{could_capture_as}
 use Rattle.chess_base.proofs.shared.Men.{same_colour-true, same_kind-true}
 use Rattle.chess_base.proofs.shared.Squares.{get_or-map_squares}
@@ -62,3 +62,8 @@ pub after_no_castle : (p : Setup) (m : Move) (s : ℕ) → castle_of p m ≡ Non
     → man_at (after p m).men s ≡ after_moving p m s
 after_no_castle p m s e h = on_square p m s h
     ∙ ap (λ o. option_map_or (λ (k : Castle). after_castling p m k s) o (after_moving p m s)) e
+
+-- a move in its piece's pattern goes where that piece attacks
+pub attacks_of : (p : Setup) (m : Move) → man_moves p m ≡ true → attacks p.men m.from m.to ≡ true
+unfolding man_moves
+attacks_of p m e = (and_parts _ _ (and_parts _ _ e).0).1

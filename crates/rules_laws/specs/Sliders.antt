@@ -3,7 +3,8 @@ use Rattle.std.specs.Prelude.{◌≡◌, ℕ, ◌==◌, Bool, List, [], ◌∷�
 use Rattle.chess_base.specs.declared.man.Colour.{Colour}
 use Rattle.chess_base.specs.declared.man.Kind.TheVariants.{Queen, Rook, Bishop}
 use Rattle.chess_base.specs.Attacks.{could_capture}
-use Rattle.chess_base.specs.Letters.{byte, man_with_letter}
+use Rattle.chess_base.specs.Letters.{man_with_letter}
+use Rattle.byte_devices.specs.Bytes.{byte}
 use Rattle.chess_base.specs.Men.{Men}
 use Rattle.rules_laws.specs.Names.{square}
 use Rattle.rules_laws.specs.Reach.{all_squares}

@@ -1,7 +1,7 @@
 -- An engine that plays the arguments that it is given.
 use Rattle.std.specs.Prelude.{Bool, true, false, if◌then◌else◌, ◌&&◌, List, [], ◌∷◌, ◌++◌, drop, flat_map, take_while, codes, decimal, ℕ, Option, Some, None, is_some, unwrap_or}
 use Rattle.std.specs.List.{prefix_len}
-use Rattle.chess_base.specs.Letters.{new_line}
+use Rattle.byte_devices.specs.Bytes.{new_line}
 use Rattle.std.specs.Borrow.{Bor}
 use Rattle.std.specs.Str.{bytes_eq}
 use Rattle.chess_cecp.specs.Commands.{command_of}

@@ -3,7 +3,7 @@
 ghost use Rattle.std.specs.Prelude.{◌≡◌, ◌≤◌, ◌++◌, ◌∷◌, [], IfOk, codes, decimal, drop, if◌then◌else◌, length, option_map};
 ghost use Rattle.std.specs.Str.{bytes_eq};
 ghost use Rattle.byte_devices.specs.Devices.{Puts};
-ghost use Rattle.chess_base.specs.Letters.{new_line};
+ghost use Rattle.byte_devices.specs.Bytes.{new_line};
 ghost use Rattle.chess_cecp.specs.Commands.{command_of};
 ghost use Rattle.chess_cecp.specs.declared.command.Command.TheVariants.{Unknown};
 ghost use Rattle.stub_engine.specs.Stub.{after_remarks, played_text, remark, remarks, stub_row, stub_response, turn, waiting};

@@ -8,7 +8,7 @@ use Rattle.std.specs.Io.KnownBytes.{Consumes}
 use Rattle.std.specs.Bool.{MatchBool}
 use Rattle.byte_devices.specs.Devices.{InputState, GavePiece, FailedToRead, WaitStep, saturating_increment}
 use Rattle.byte_devices.specs.declared.traits.ReadFault.{ReadFault}
-use Rattle.byte_devices.proofs.shared.Devices.{consumes_more, consumes_none, consumes_kept}
+use Rattle.byte_devices.proofs.shared.Devices.{consumes_more, consumes_kept}
 use Rattle.text_lines.specs.Lines.{LineSeen, Held, nothing_held, lines_from, lines_held, line_of}
 use Rattle.text_lines.specs.laws.Unended.{HasNoEnd}
 use Rattle.text_lines.specs.Next.{before_piece, Waits, work, NextLine, NextLineUntil, line_if}
@@ -23,6 +23,7 @@ pub record SoFar (n : ℕ) (r r' : InputState) (held held' : Held) (given : List
       → lines_held n at_end held (given ++ rest) ≡ lines_held n at_end held' rest
   pub failures : r'.failure_count ≡ r.failure_count
   pub ends : r'.end_count ≡ r.end_count
+  pub silences : r'.silence_count ≡ r.silence_count
   pub work : work r' held' ≤ work r held
 
 at_false : (b : Bool) (P Q : Type 0) → b ≡ false → Q → MatchBool b P Q
@@ -60,16 +61,6 @@ waits_on n r r' r'' h h' h'' given piece s f p =
           ∙ whole_so_far n r r' h h' h'' given s f,
     )
 
-pub start : (n : ℕ) (r : InputState) (h : Held) → SoFar n r r h h []
-start n r h = record {
-  bytes = consumes_none r.known_bytes;
-  waits = inl (refl, refl);
-  lines = λ at_end rest. refl;
-  failures = refl;
-  ends = refl;
-  work = omega arith;
-}
-
 pub piece_on : (n : ℕ) (r r' r'' : InputState) (h h' h'' : Held) (given piece : List ℕ) → SoFar n r r' h h' given
     → HeldLine n h' h'' None → GavePiece r' r'' piece → 0 < length piece → length piece ≤ PIECE_LEN
     → SoFar n r r'' h (record { part = h''.part; coming = piece }) (given ++ piece)
@@ -79,6 +70,7 @@ piece_on n r r' r'' h h' h'' given piece s f p some few = record {
   lines = lines_on n r r' h h' h'' given piece s f;
   failures = p.failures ∙ s.failures;
   ends = p.ends ∙ (let e : nat_eq (length piece) 0 ≡ false = grind arith in rw e refl) ∙ s.ends;
+  silences = p.silences ∙ s.silences;
   work = (let a = p.falls in let b = s.work in omega arith);
 }
 
@@ -112,6 +104,7 @@ end_none E n r r' r'' h h' h'' h3 given piece s f p e empty left = (
     at_end = p.at_end (ap length e);
     failures = p.failures ∙ s.failures;
     ends = reported_end r' r'' piece p e ∙ ap saturating_increment s.ends;
+    silences = p.silences ∙ s.silences;
   },
 )
 
@@ -132,6 +125,7 @@ end_last E n r r' r'' h h' h'' h3 given piece line s f p e some is left =
         at_end = p.at_end (ap length e);
         failures = p.failures ∙ s.failures;
         ends = reported_end r' r'' piece p e ∙ ap saturating_increment s.ends;
+        silences = p.silences ∙ s.silences;
       }),
     )
 
@@ -179,6 +173,7 @@ fault_until n r r' r'' h h' h'' given coming (Err fault) line s f e p is = (
         ∙ ap (λ v. lines_from n at_end h''.part (v ++ rest)) (f.1 ∙ sym e);
     failures = p.failures ∙ ap saturating_increment s.failures;
     ends = p.ends ∙ s.ends;
+    silences = p.silences ∙ s.silences;
   },
 )
 

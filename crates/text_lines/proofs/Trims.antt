@@ -2,7 +2,8 @@
 use Rattle.std.proofs.Common.{◌≡◌, ℕ, ◌+◌, ◌-◌, ◌<◌, ◌≤◌, true, false, List, [], ◌∷◌, ◌++◌, length, get_or, take, refl, sym, ap, ◌∙◌, ◌==◌, ◌≢◌, arith}
 use Rattle.std.specs.Prelude.{if◌then◌else◌, reverse}
 use Rattle.std.proofs.lemmas.List.{take_more, reverse-append, reverse-reverse}
-use Rattle.text_lines.specs.Lines.{is_blank, without_front_blanks, without_end_blanks, without_return}
+use Rattle.text_lines.specs.Lines.{without_front_blanks, without_end_blanks, without_return}
+use Rattle.byte_devices.specs.Bytes.{is_blank}
 
 pub end_blank : (xs : List ℕ) (b : ℕ) → is_blank b ≡ true → without_end_blanks (xs ++ b ∷ []) ≡ without_end_blanks xs
 end_blank xs b h =

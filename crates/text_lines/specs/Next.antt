@@ -29,6 +29,7 @@ pub record GotLine (n : ℕ) (r r' : InputState) (held held' : Held) (given : Li
       → lines_held n at_end held (given ++ rest) ≡ line ∷ lines_held n at_end held' rest
   pub failures : r'.failure_count ≡ r.failure_count
   pub ends : r'.end_count ≡ r.end_count
+  pub silences : r'.silence_count ≡ r.silence_count
   pub falls : work r' held' < work r held
 
 -- `line`, the last one, was returned, which the end of the stream ended: `given` was read, which took the input from
@@ -41,6 +42,7 @@ pub record GotLast (n : ℕ) (r r' : InputState) (held held' : Held) (given : Li
   pub at_end : IsAtEnd r'.known_bytes
   pub failures : r'.failure_count ≡ r.failure_count
   pub ends : r'.end_count ≡ saturating_increment r.end_count
+  pub silences : r'.silence_count ≡ r.silence_count
 
 -- the end of the stream was reported, and no line is left: `given`, which was read and took the input from `r` to `r'`,
 -- and what was `held` before give no line, and nothing is held after (`held'`). Lines have at most `n` bytes
@@ -50,6 +52,7 @@ pub record GotNone (n : ℕ) (r r' : InputState) (held held' : Held) (given : Li
   pub at_end : IsAtEnd r'.known_bytes
   pub failures : r'.failure_count ≡ r.failure_count
   pub ends : r'.end_count ≡ saturating_increment r.end_count
+  pub silences : r'.silence_count ≡ r.silence_count
 
 -- a read failed: what was `held` before and read (`given`, which took the input from `r` to `r'`) has no whole line,
 -- and all of it is kept in `held'`. Lines have at most `n` bytes
@@ -59,6 +62,7 @@ pub record GotFault (n : ℕ) (r r' : InputState) (held held' : Held) (given : L
       → lines_held n at_end held (given ++ rest) ≡ lines_held n at_end held' rest
   pub failures : r'.failure_count ≡ saturating_increment r.failure_count
   pub ends : r'.end_count ≡ r.end_count
+  pub silences : r'.silence_count ≡ r.silence_count
 
 -- no whole line had come when the call's time was up: what was `held` before and read (`given`, which took the input
 -- from `r` to `r'`) has none, and all of it is kept in `held'`. Lines have at most `n` bytes
@@ -68,6 +72,7 @@ pub record GotSilence (n : ℕ) (r r' : InputState) (held held' : Held) (given :
       → lines_held n at_end held (given ++ rest) ≡ lines_held n at_end held' rest
   pub failures : r'.failure_count ≡ r.failure_count
   pub ends : r'.end_count ≡ r.end_count
+  pub silences : r'.silence_count ≡ saturating_increment r.silence_count
   pub falls : work r' held' < work r held
 
 -- what the call for the next line, of at most `n` bytes, returned after it read the bytes `given`: a line, `None` at

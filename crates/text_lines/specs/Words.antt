@@ -1,9 +1,9 @@
 -- The words and the numbers of a line.
-use Rattle.std.specs.Prelude.{ℕ, ◌==◌, ◌&&◌, ◌||◌, nat_lt, nat_le, Bool, if◌then◌else◌, List, [], ◌∷◌, length, drop, Option, Some, None}
+use Rattle.std.specs.Prelude.{ℕ, ◌&&◌, nat_lt, nat_le, if◌then◌else◌, List, [], ◌∷◌, length, drop, Option, Some, None}
 use Rattle.std.specs.List.{list_all}
 use Rattle.std.specs.Str.Parse.{digits_value}
-use Rattle.chess_base.specs.Letters.{byte, is_digit, is_letter}
-use Rattle.text_lines.specs.Lines.{is_blank, without_front_blanks}
+use Rattle.byte_devices.specs.Bytes.{is_blank, is_digit}
+use Rattle.text_lines.specs.Lines.{without_front_blanks}
 
 -- the first word of a text: its bytes up to the first space or tab, all of them if it has neither. It is empty if the
 -- text is empty or begins with a space or a tab
@@ -15,10 +15,6 @@ word_of (c ∷ cs) = if is_blank c then [] else c ∷ word_of cs
 -- `e4`, of `quit` the empty text
 unfoldable pub argument_of : List ℕ → List ℕ
 argument_of text = without_front_blanks (drop (length (word_of text)) text)
-
--- whether a byte may be in a name, as of a PGN tag or of a CECP feature: a letter (A to Z, a to z), a digit or `_`
-abbrev pub is_name_byte : ℕ → Bool
-is_name_byte c = is_letter c || (is_digit c || c == byte "_")
 
 -- the number that a text of 1 to `most` decimal digits denotes, leading zeros or not; `None` for any other text
 abbrev pub short_number : ℕ → List ℕ → Option ℕ

@@ -1,7 +1,7 @@
 //! Laws of the definitions. A caller learns one by calling its function, which does nothing.
 
 ghost use Rattle.std.specs.Prelude.{◌≡◌, ◌<◌, ℕ, Bool, true, false, List, [], ◌∷◌, ◌++◌, length};
-ghost use Rattle.chess_base.specs.Letters.{new_line};
+ghost use Rattle.byte_devices.specs.Bytes.{new_line};
 ghost use Rattle.text_lines.specs.Lines.{stream_lines, line_of};
 ghost use Rattle.text_lines.specs.laws.Unended.{HasNoEnd};
 

@@ -20,8 +20,9 @@ mod number;
 mod trim;
 mod words;
 
+pub use byte_devices::is_blank;
 pub use laws::lines_are_pieces;
 pub use lines::{Line, Lines};
 pub use number::short_number;
-pub use trim::{is_blank, trim_start};
+pub use trim::trim_start;
 pub use words::{argument, first_word, read_number, split_word};

@@ -1,14 +1,9 @@
 //! What a line says, without what surrounds it.
 
-ghost use Rattle.std.specs.Prelude.{◌≡◌, ◌≤◌, ◌||◌, ◌==◌, length};
-ghost use Rattle.text_lines.specs.Lines.{is_blank, without_return, without_front_blanks, without_end_blanks, trimmed};
+ghost use Rattle.std.specs.Prelude.{◌≡◌, ◌≤◌, length};
+ghost use Rattle.text_lines.specs.Lines.{without_return, without_front_blanks, without_end_blanks, trimmed};
 
-/// Whether a byte separates words in a line: a space or a tab.
-pub fn is_blank(byte: u8) -> bool
-    ensures { result ≡ is_blank byte }
-{
-    byte == b' ' || byte == b'\t'
-}
+use byte_devices::is_blank;
 
 // The text with the `\r` at its end cut off, if it ends with one; of several only the last is cut.
 fn cut_return(text: &[u8]) -> &[u8]

@@ -4,7 +4,7 @@ ghost use Rattle.std.specs.Prelude.{◌≡◌, ◌≤◌, length};
 ghost use Rattle.text_lines.specs.Words.{word_of, argument_of, command_number};
 
 use crate::number::short_number;
-use crate::trim::is_blank;
+use byte_devices::is_blank;
 
 /// Splits a text into its first word and what follows after spaces and tabs: `usermove e4` into `usermove` and `e4`.
 #[tactic(auto, unfolding(crate::specs::Words::argument_of))]

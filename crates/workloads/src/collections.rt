@@ -68,6 +68,7 @@ pub const QUIET: VerifyOptions = VerifyOptions {
     quiet: true,
     strict: false,
     spans: false,
+    names: false,
     explain: false,
 };
 /// Options of verifying in a quality check.
@@ -75,6 +76,7 @@ pub const CAREFUL: VerifyOptions = VerifyOptions {
     quiet: false,
     strict: true,
     spans: false,
+    names: false,
     explain: true,
 };
 

@@ -10,11 +10,10 @@ use chess_base::{ByColour, Colour, Position};
 use chess_bits::{AttackTables, Bits};
 use chess_game::{Game, MOST_MOVES};
 use chess_match::{
-    Draws, ENGINE_LINE_LEN, Ends, MatchEnd, Moments, Patience, Setup, Witness, run_match_watched,
+    Draws, Ends, MatchEnd, Moments, Note, Patience, Setup, Witness, run_match_watched,
 };
 use chess_text::coordinate;
 use std::alloc::{AllocError, Global};
-use text_lines::Line;
 
 /// What two engines send in a match, each engine's lines as one text.
 #[derive(Drop)]
@@ -62,41 +61,25 @@ impl Log {
 impl Witness for Log {
     ghost noted = { λ w before notes. Unit {0} };
 
-    // Adds an engine's line.
-    fn line(&mut self, side: Colour, line: &Line<ENGINE_LINE_LEN>, moment: u64) {
-        self.add(1, side, moment);
-        self.digest.add_bytes(line.text());
-    }
-
-    // Adds the opening of a turn.
-    fn opened(&mut self, side: Colour, moment: u64) {
-        self.add(2, side, moment);
-    }
-
-    // Adds that no line of an engine had come.
-    fn silent(&mut self, side: Colour, moment: u64) {
-        self.add(7, side, moment);
-    }
-
-    // Adds the end of an engine's output.
-    fn output_ends(&mut self, side: Colour) {
-        self.add(3, side, 0);
-    }
-
-    // Adds a failed read.
-    fn read_fails(&mut self, side: Colour) {
-        self.add(4, side, 0);
-    }
-
-    // Adds a failed write.
-    fn write_fails(&mut self, side: Colour) {
-        self.add(5, side, 0);
-    }
-
-    // Adds what an engine is sent.
-    fn gives(&mut self, side: Colour, text: &[u8]) {
-        self.add(6, side, 0);
-        self.digest.add_bytes(text);
+    // Adds the note: which it is, whose, its moment (0 if it has none) and its text.
+    fn note(&mut self, note: Note<'_>) {
+        match note {
+            Note::Line { side, text, moment } => {
+                self.add(1, side, moment);
+                if let Some(text) = text {
+                    self.digest.add_bytes(text);
+                }
+            }
+            Note::Opened { side, moment } => self.add(2, side, moment),
+            Note::Silent { side, moment } => self.add(7, side, moment),
+            Note::OutputEnds { side } => self.add(3, side, 0),
+            Note::FailsToRead { side } => self.add(4, side, 0),
+            Note::FailsToWrite { side } => self.add(5, side, 0),
+            Note::Gives { side, text } => {
+                self.add(6, side, 0);
+                self.digest.add_bytes(text);
+            }
+        }
     }
 }
 

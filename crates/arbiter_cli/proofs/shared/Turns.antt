@@ -23,6 +23,7 @@ in_turn level start date is_good =
 abbrev pub date_asked : Values → Text
 date_asked value = unwrap_or (value (codes "date")) (codes "????.??.??")
 
+-- levels, start and date of a match by the readings of its options
 pub read_as : (value : Values) (level : Result (LevelSeen × LevelSeen) LevelFault) (start : Result Setup FenFault) (date : Text)
     (is_good : Bool) → levels_asked value ≡ level → start_asked value ≡ start → date_asked value ≡ date
     → is_date date ≡ is_good

@@ -9,26 +9,31 @@ use Rattle.std.proofs.lemmas.List.{take-append-drop, length-append}
 use Rattle.std.proofs.lemmas.Grind.{common_steps}
 use Rattle.byte_devices.specs.Devices.{OutputState, Took, TookThenFailed, Sent, CutShort, Puts, Sends, FlushStep, saturating_increment, saturating_add}
 
+-- one text was appended after another
 pub appends_more : (a b c : Option (List ℕ)) (x y : List ℕ) → Appends a b x → Appends b c y → Appends a c (x ++ y)
 appends_more None b c x y h k = tt
 appends_more (Some s) None c x y h k = absurd h
 appends_more (Some s) (Some t) None x y h k = absurd k
 appends_more (Some s) (Some t) (Some u) x y h k = k ∙ ap (λ v. v ++ y) h ∙ append_assoc s x y
 
+-- one piece was consumed after another
 pub consumes_more : (a b c : Option (List ℕ)) (x y : List ℕ) → Consumes a b x → Consumes b c y → Consumes a c (x ++ y)
 consumes_more None b c x y h k = tt
 consumes_more (Some s) None c x y h k = absurd h
 consumes_more (Some s) (Some t) None x y h k = absurd k
 consumes_more (Some s) (Some t) (Some u) x y h k = h ∙ ap (λ v. x ++ v) k ∙ sym (append_assoc x y u)
 
+-- where nothing changes, nothing was consumed
 pub consumes_none : (a : Option (List ℕ)) → Consumes a a []
 consumes_none None = tt
 consumes_none (Some s) = refl
 
+-- where nothing changes, nothing was appended
 pub appends_none : (a : Option (List ℕ)) → Appends a a []
 appends_none None = tt
 appends_none (Some s) = sym (append-nil s)
 
+-- bytes that were kept were not consumed
 pub consumes_kept : (a b : Option (List ℕ)) → Keeps a b → Consumes a b []
 consumes_kept None b h = tt
 consumes_kept (Some s) None h = absurd h
@@ -37,6 +42,7 @@ consumes_kept (Some s) (Some t) h = sym h
 min_more : (n j k top : ℕ) → min (min (n + j) top + k) top ≡ min (n + (j + k)) top
 min_more n j k top = grind (arith, common_steps)
 
+-- a count by a sum, where there is something to count
 pub add_some : (n k : ℕ) → 0 < k → saturating_add n k ≡ min (n + k) (2 ^ 64 - 1)
 add_some n k h = let e : nat_eq k 0 ≡ false = grind arith in rw e refl
 
@@ -49,15 +55,22 @@ add_twice n (suc j) (suc k) =
     ∙ ap (λ c. min (c + suc k) (2 ^ 64 - 1)) (add_some n (suc j) (omega arith))
     ∙ min_more n (suc j) (suc k) (2 ^ 64 - 1) ∙ sym (add_some n (suc j + suc k) (omega arith))
 
+-- one more, and then so many
+pub add_one_more : (n k : ℕ) → saturating_add (saturating_increment n) k ≡ saturating_add n (1 + k)
+unfolding saturating_increment
+add_one_more n k = add_twice n 1 k
+
 unflushed_more : (l m n : ℕ) (x y : List ℕ) → m ≡ saturating_add l (length x) → n ≡ saturating_add m (length y)
     → n ≡ saturating_add l (length (x ++ y))
 unflushed_more l m n x y e f =
     f ∙ ap (λ c. saturating_add c (length y)) e ∙ add_twice l (length x) (length y)
     ∙ ap (saturating_add l) (sym (length-append x y))
 
+-- where nothing changes, nothing was taken
 pub took_none : (a : OutputState) → Took a a []
 took_none a = record { bytes = appends_none a.known_bytes; failures = refl; unflushed = refl }
 
+-- one text was taken after another
 pub took_more : (a b c : OutputState) (x y : List ℕ) → Took a b x → Took b c y → Took a c (x ++ y)
 took_more a b c x y h k = record {
   bytes = appends_more a.known_bytes b.known_bytes c.known_bytes x y h.bytes k.bytes;
@@ -65,6 +78,7 @@ took_more a b c x y h k = record {
   unflushed = unflushed_more a.unflushed b.unflushed c.unflushed x y h.unflushed k.unflushed;
 }
 
+-- a text was taken, and then the beginning of another before a failure
 pub failed_more : (a b c : OutputState) (x y : List ℕ) → Took a b x → TookThenFailed b c y → TookThenFailed a c (x ++ y)
 failed_more a b c x y h k = record {
   bytes = appends_more a.known_bytes b.known_bytes c.known_bytes x y h.bytes k.bytes;
@@ -72,6 +86,7 @@ failed_more a b c x y h k = record {
   unflushed = unflushed_more a.unflushed b.unflushed c.unflushed x y h.unflushed k.unflushed;
 }
 
+-- a text was taken, and then another was cut short
 pub breaks_more : (a b c : OutputState) (x y : List ℕ) → Took a b x → CutShort b c y → CutShort a c (x ++ y)
 breaks_more a b c x y h (start, (rest, is), k) =
     (x ++ start, (rest, append_assoc x start rest ∙ ap (λ v. x ++ v) is), failed_more a b c x start h k)
@@ -121,6 +136,7 @@ sent_on a b c x h k = record {
   flushed = k.flushed;
 }
 
+-- a text was taken, and then came a flush
 pub flush_on : {A E : Type 0} (a b c : OutputState) (r : Result A E) (x : List ℕ) → Took a b x → FlushStep b c r
     → Sends a c r x
 flush_on a b c (Ok v) x h k = sent_on a b c x h k
@@ -135,6 +151,7 @@ sends_exit a b (Err e) x h k = h
 flat_one : {X : Type 0} (f : X → List ℕ) (x : X) → flat_map f (x ∷ []) ≡ f x
 flat_one f x = append-nil (f x)
 
+-- the texts of a list's first elements, with the next one's at the end
 pub flat_more : {X : Type 0} (f : X → List ℕ) (xs : List X) (i : ℕ) (d : X) → i < length xs
     → flat_map f (take (i + 1) xs) ≡ flat_map f (take i xs) ++ f (get_or xs i d)
 flat_more f xs i d h =

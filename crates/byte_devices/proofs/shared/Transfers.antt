@@ -16,10 +16,10 @@ saturating_increment_if rises n = if rises then saturating_increment n else n
 
 -- ---- the input
 
--- what came from an input whose state is then `r'`
+-- what came from an input whose state is then `r'`, without a silence
 abbrev pub came : InputState → List ℕ → Bool → Bool → FromInput
 came r' text ended failed =
-    record { text = text; early = take (length text - r'.last_len) text; ended = ended; failed = failed }
+    record { text = text; early = take (length text - r'.last_len) text; ended = ended; failed = failed; silences = 0 }
 
 -- ---- the output
 

@@ -5,7 +5,7 @@ use Rattle.byte_devices.specs.declared.counted.Counts.{Counts}
 
 -- the counts before the first call: all 0
 abbrev pub no_counts : Counts
-no_counts = record { failures = 0; ends = 0; last = 0; pieces = 0; unflushed = 0 }
+no_counts = record { failures = 0; ends = 0; last = 0; pieces = 0; silences = 0; unflushed = 0 }
 
 -- the counts with one more failed call, and all else as it was
 abbrev pub one_failure_more : Counts → Counts
@@ -14,6 +14,7 @@ one_failure_more c = record {
   ends = c.ends;
   last = c.last;
   pieces = c.pieces;
+  silences = c.silences;
   unflushed = c.unflushed;
 }
 
@@ -30,6 +31,7 @@ counts_after_read c (Ok n) = record {
   ends = if n == 0 then saturating_increment c.ends else c.ends;
   last = n;
   pieces = c.pieces + 1;
+  silences = c.silences;
   unflushed = c.unflushed;
 }
 counts_after_read c (Err e) = one_failure_more c
@@ -47,6 +49,7 @@ counts_after_write c (Ok n) = record {
   ends = c.ends;
   last = c.last;
   pieces = c.pieces;
+  silences = c.silences;
   unflushed = saturating_add c.unflushed n;
 }
 counts_after_write c (Err e) = one_failure_more c
@@ -58,6 +61,7 @@ counts_after_flush c (Ok value) = record {
   ends = c.ends;
   last = c.last;
   pieces = c.pieces;
+  silences = c.silences;
   unflushed = 0;
 }
 counts_after_flush c (Err e) = one_failure_more c

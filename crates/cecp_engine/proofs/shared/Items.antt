@@ -6,15 +6,15 @@ use Rattle.std.proofs.lemmas.List.Sums.{prefix_len-le-length}
 use Rattle.std.specs.Prelude.{if◌then◌else◌, ◌==◌, ◌&&◌, ◌||◌, not, nat_lt, option_and_then}
 use Rattle.std.specs.Option.{option_map_or}
 use Rattle.std.specs.Str.{bytes_eq}
-use Rattle.chess_base.specs.Letters.{byte, is_digit}
-use Rattle.text_lines.specs.Lines.{is_blank, without_front_blanks}
+use Rattle.byte_devices.specs.Bytes.{byte, is_digit, is_blank, is_name_byte}
+use Rattle.text_lines.specs.Lines.{without_front_blanks}
 use Rattle.text_lines.proofs.shared.Lines.{without_front_blanks-short}
-use Rattle.text_lines.specs.Words.{is_name_byte}
 use Rattle.std.specs.List.{list_all, position_or_len, prefix_len, take_while, list_any}
 use Rattle.cecp_engine.specs.Items.{Item, Value, value_of, item_of, ends_handshake, first_items, items_of, last_said}
 
 -- ---- the last value
 
+-- what the last item of a name says, after one item more
 pub last_said-snoc : {A : Type 0} (f : Value → A) (default : A) (name : List ℕ) (items : List Item) (i : Item)
     → last_said f default name (items ++ i ∷ [])
     ≡ (if bytes_eq i.name name then f i.value else last_said f default name items)
@@ -172,6 +172,7 @@ item_room text p e =
     let fewer : length p.0.name + length p.1 + 2 ≤ length text = omega (arith, all, named, h.2) in
     (some, fewer)
 
+-- what follows an item is shorter than the text
 pub item_shorter : (text : List ℕ) (p : Item × List ℕ) → item_of text ≡ Some p → length p.1 < length text
 item_shorter text p e = let h = item_room text p e in omega (arith, h.1)
 
@@ -239,9 +240,11 @@ last_at : (rest : List ℕ) (p : Item × List ℕ) → item_of rest ≡ Some p �
     → items_of rest ≡ p.0 ∷ []
 last_at rest p e f = items_of-step rest ∙ ap (items_by items_of) e ∙ rw f refl
 
+-- a text that begins with no item has none
 pub none_at : (rest : List ℕ) → item_of rest ≡ None → items_of rest ≡ []
 none_at rest e = items_of-step rest ∙ ap (items_by items_of) e
 
+-- one item more was read, which doesn't end the handshake
 pub so_far_more : (text rest : List ℕ) (items : List Item) (p : Item × List ℕ) → SoFar text rest items
     → item_of rest ≡ Some p → ends_handshake p.0 ≡ false → SoFar text p.1 (items ++ p.0 ∷ [])
 so_far_more text rest items p s e f = record {
@@ -250,6 +253,7 @@ so_far_more text rest items p s e f = record {
   going = s.going ∙ ap (list_any ends_handshake) (some_at rest p e f) ∙ rw f refl;
 }
 
+-- an item was read that ends the handshake: the items are those so far and this one
 pub so_far_done : (text rest : List ℕ) (items : List Item) (p : Item × List ℕ) → SoFar text rest items
     → item_of rest ≡ Some p → ends_handshake p.0 ≡ true
     → (items_of text ≡ items ++ p.0 ∷ []) × (list_any ends_handshake (items_of text) ≡ true)
@@ -258,6 +262,7 @@ so_far_done text rest items p s e f = (
   s.going ∙ ap (list_any ends_handshake) (last_at rest p e f) ∙ rw f refl,
 )
 
+-- what is left begins with no item: the items are those so far
 pub so_far_none : (text rest : List ℕ) (items : List Item) → SoFar text rest items → item_of rest ≡ None
     → (items_of text ≡ items) × (list_any ends_handshake (items_of text) ≡ false)
 so_far_none text rest items s e = (

@@ -16,6 +16,7 @@ sessions_grow (suc m) k =
     let e : (suc m == 0) ≡ false = ne_eqb (suc m) 0 (omega arith) in
     rw e (omega arith)
 
+-- after one move more no less time was allotted
 pub allotted_grows : (l : LevelSeen) (k : ℕ) → allotted l k ≤ allotted l (k + 1)
 unfolding allotted
 allotted_grows l k =

@@ -22,6 +22,7 @@ castling_by true b w e = inl (cc, refl)
 castling_by false true w e = inr (cc, refl)
 castling_by false false w e = cc
 
+-- what castling to a side says of the move
 pub says_from_castling : (p : Setup) (m : Move) (w : CastlingSide) → castling p m ≡ Some w → is_castling_to p m w ≡ true
 unfolding castling
 says_from_castling p m w e =
@@ -51,6 +52,7 @@ castle_there p m w e =
     (castling_says _ _ _ (says_from_castling _ _ _ e)).1 in
     (right.0, right.1, ap (castle_by p.side p.rights m) e ∙ ap (castle_with p.side w m.from) right.1)
 
+-- a move that is castling to neither side has no castle
 pub no_castle : (p : Setup) (m : Move) → castling p m ≡ None → castle_of p m ≡ None
 unfolding castle_of
 no_castle p m e = ap (castle_by p.side p.rights m) e
@@ -66,6 +68,7 @@ pub lands_on_castled : (p : Setup) (m : Move) (w : CastlingSide) → castling p 
 unfolding mover_end
 lands_on_castled p m w e = ap (mover_to m) (castle_there p m w e).2
 
+-- in a sound position each castling right is sound
 pub right_is_sound_of : (p : Setup) → IsSound p → (c : Colour) (w : CastlingSide) → right_is_sound p c w ≡ true
 right_is_sound_of p h White KingSide = h.white_king_side
 right_is_sound_of p h White QueenSide = h.white_queen_side

@@ -21,7 +21,7 @@ use Rattle.chess_base.specs.Before.{castle_by}
 use Rattle.chess_base.specs.shared.Splits.{right_is_sound_at, names_castling}
 use Rattle.chess_base.specs.laws.Castles.{castling_on, is_castling_by, castling_named}
 use Rattle.chess_base.proofs.shared.Castling.{right_is_sound_of, says_from_castling, castling_says}
-use Rattle.chess_base.proofs.shared.MenAfter.{flip}
+use Rattle.chess_base.proofs.shared.MenAfter.{eqb_comm}
 use Rattle.chess_base.proofs.shared.Kings.{one_king, one_king_of, king_square-at, king_square-king}
 
 -- a move that doesn't start on the king's square names nothing
@@ -47,7 +47,7 @@ here Normal c men m w r k l one at placed same =
     let t1 : (k == m.from) ≡ true = eq-eqb _ _ same in
     let t2 : (m.from == home_square c king_home_file) ≡ true =
     eq-eqb _ _ (sym same ∙ k_home) in
-    rw (t1, king, t2) (flip (home_square c (castled_king_file w)) m.to)
+    rw (t1, king, t2) (eqb_comm (home_square c (castled_king_file w)) m.to)
 here Fischerandom c men m w r k l one at placed same =
     let parts = and_parts (is_on_side_of_king c w (king_square men c) r) (is_man c Rook (man_at men r)) placed in
     let beside : is_on_side_of_king c w (Some k) r ≡ true = rw at at parts.0 in
@@ -58,7 +58,7 @@ here Fischerandom c men m w r k l one at placed same =
     let king : is_man c King (man_at men m.from) ≡ true = rw (← same) (king_square-king men c k at) in
     let t1 : (k == m.from) ≡ true = eq-eqb _ _ same in
     let t2 : (rank m.from == rank r) ≡ true = eq-eqb _ _ same_rank in
-    rw (t1, king, t2) (flip r m.to)
+    rw (t1, king, t2) (eqb_comm r m.to)
 
 same_test : (v : Variant) (c : Colour) (men : Men) (m : Move) (w : CastlingSide) (r k : ℕ) → length men ≡ 64
     → has_one_king men c ≡ true → king_square men c ≡ Some k → are_placed_for_castling v men c w r ≡ true
@@ -101,6 +101,7 @@ unfolding is_castling_to
 to_side p m w h = side_same p.variant p.side p.men m w (king_square p.men p.side) (right_of p.rights p.side w) h.board
     (one_king_of p h p.side) refl (sound_at p h w)
 
+-- the side to which a move castles, as its squares name it
 pub same_side : (p : Setup) (m : Move) → IsSound p → castling p m ≡ castling_named p m
 unfolding castling castling_named
 same_side p m h = rw (to_side p m KingSide h, to_side p m QueenSide h) refl
@@ -119,6 +120,7 @@ by_side p m (Some w) h e =
     mapped None = refl
     mapped (Some r) = refl
 
+-- the castle of a move, as its squares name it
 pub same_castle : (p : Setup) (m : Move) → IsSound p
     → castle_of p m ≡ option_and_then (castling_on p) (castling_named p m)
 unfolding castle_of

@@ -24,6 +24,7 @@ use Rattle.chess_base.proofs.shared.Men.{same_colour-true, not_is_man, is_man-ki
 use Rattle.chess_base.proofs.shared.Castling.{lands_on_to, no_castle}
 use Rattle.chess_base.proofs.shared.MoveKinds.{Moves, PawnKind, Advances, Captures, TakesEnPassant, is_of-mover, no_king_where_attacked}
 
+-- a kind that equals that of a pawn is it
 pub pawn_from_same : (k : Kind) → same_kind Pawn k ≡ true → k ≡ Pawn
 pawn_from_same King e = cc
 pawn_from_same Queen e = cc
@@ -51,9 +52,11 @@ pub pawn_attack : (men : Men) (c : Colour) (a b : ℕ) → is_man c Pawn (man_at
 unfolding attacks
 pawn_attack men c a b e h = pawn_attack_by men c a b (man_at men a) e h
 
+-- a rank ahead of another for White is the next one up
 pub rank_ahead_White : (a b : ℕ) → is_rank_ahead White a b ≡ true → rank b ≡ rank a + 1
 rank_ahead_White a b e = eqb-true _ _ e
 
+-- a rank ahead of another for Black is the next one down
 pub rank_ahead_Black : (a b : ℕ) → is_rank_ahead Black a b ≡ true → rank a ≡ rank b + 1
 rank_ahead_Black a b e = eqb-true _ _ e
 
@@ -63,6 +66,7 @@ straight_one : (c : Colour) (a b : ℕ) → b ≡ forward c a → abs_diff (file
 straight_one White a b e g h = let r = rank_ahead_White a b h in omega (arith, r, e, g)
 straight_one Black a b e g h = let r = rank_ahead_Black a b h in omega (arith, r, e, g)
 
+-- a double advance is no step to the file beside
 pub straight_two : (c : Colour) (a b : ℕ) → rank a ≡ pawn_rank c → b ≡ forward c (forward c a)
     → abs_diff (file a) (file b) ≡ 1 → is_rank_ahead c a b ≡ true → ⊥
 straight_two White a b f e g h = let r = rank_ahead_White a b h in omega (arith, r, e, g)
@@ -87,10 +91,12 @@ advance_goes p m e =
           )
     ]
 
+-- a pawn advances to an empty square
 pub advance_to_empty : (p : Setup) (m : Move) → pawn_advances p m ≡ true → is_none (man_at p.men m.to) ≡ true
 unfolding pawn_advances
 advance_to_empty p m e = (and_parts _ _ e).0
 
+-- a pawn doesn't attack the square to which it advances
 pub advance_is_no_attack : (p : Setup) (m : Move) → is_man p.side Pawn (man_at p.men m.from) ≡ true
     → pawn_advances p m ≡ true → attacks p.men m.from m.to ≡ false
 advance_is_no_attack p m man e =
@@ -117,6 +123,7 @@ target_facts men c (Some u) s t e =
     let one = and_parts _ _ two.0 in
     (eqb-true _ _ one.0, one.1, two.1, three.1)
 
+-- what a sound target says of its square and of the squares next to it on its file
 pub at_target : (p : Setup) (s : ℕ) → target_is_sound p ≡ true → is_at p.target s ≡ true
     → (rank s ≡ crossed_rank (other p.side)) × (is_none (man_at p.men s) ≡ true)
     × (is_man (other p.side) Pawn (man_at p.men (one_rank_back p.side s)) ≡ true)
@@ -130,10 +137,12 @@ says_no_castling : (p : Setup) (m : Move) (w : CastlingSide) → is_man p.side K
 unfolding is_castling_to
 says_no_castling p m w e = and_left _ _ e
 
+-- a move of another piece than the king is no castling
 pub no_castling : (p : Setup) (m : Move) → is_man p.side King (man_at p.men m.from) ≡ false → castling p m ≡ None
 unfolding castling
 no_castling p m e = simp (says_no_castling p m KingSide e, says_no_castling p m QueenSide e)
 
+-- a move of another piece than a pawn is no capture en passant
 pub no_en_passant : (p : Setup) (m : Move) → is_man p.side Pawn (man_at p.men m.from) ≡ false
     → is_en_passant p m ≡ false
 unfolding is_en_passant
@@ -190,10 +199,12 @@ arrival_as_it_left p m x at e pawn = record {
   pawn = λ c k. (let k' = rw (at, e) at k in pawn c k');
 }
 
+-- the other colour is another
 pub not_same_other : (c : Colour) → same_colour (other c) c ≡ false
 not_same_other White = refl
 not_same_other Black = refl
 
+-- a piece that is no pawn of its colour is a pawn of none
 pub no_pawn_of : (c : Colour) (x : Man) → x.colour ≡ c → is_man c Pawn (Some x) ≡ false → (d : Colour)
     → is_man d Pawn (Some x) ≡ false
 unfolding is_of
@@ -203,6 +214,7 @@ no_pawn_of c x own e d =
       | inr differs ↦ not_is_man _ _ _ (rw (differs, own) (not_same_other c))
     ]
 
+-- what a move of a piece changes that is neither a pawn nor castles
 pub change_of_man : (p : Setup) (m : Move) → IsSound p → Moves p m → is_man p.side Pawn (man_at p.men m.from) ≡ false
     → castling p m ≡ None → man_moves p m ≡ true → Change p m
 unfolding man_moves second_square_emptied castling_rook_to
@@ -282,6 +294,7 @@ pawn_arrival p m x at man away lands (Some Bishop) e fits = promoted p m x Bisho
 pawn_arrival p m x at man away lands (Some Knight) e fits = promoted p m x Knight at man e refl refl
 pawn_arrival p m x at man away lands (Some Pawn) e fits = cc
 
+-- a pawn doesn't castle
 pub pawn_no_castling : (p : Setup) (m : Move) → is_man p.side Pawn (man_at p.men m.from) ≡ true → castling p m ≡ None
 pawn_no_castling p m man = no_castling p m (is_man-kind _ _ _ _ _ refl man)
 
@@ -322,6 +335,7 @@ pawn_no_king p m sound moves (Captures e taken) =
 pawn_no_king p m sound moves (TakesEnPassant e at) =
     no_king_where_attacked p.men p.side m.from m.to moves.from_in moves.to_in (is_of-mover p m moves) e sound.check
 
+-- what a pawn's move changes
 pub change_of_pawn : (p : Setup) (m : Move) → IsSound p → Moves p m → is_man p.side Pawn (man_at p.men m.from) ≡ true
     → promotion_fits (rank m.to == first_rank (other p.side)) m.promotion ≡ true → PawnKind p m → Change p m
 change_of_pawn p m sound moves man fits kind = record {

@@ -14,6 +14,7 @@ use Rattle.chess_base.proofs.shared.Squares.{each_square_same}
 
 -- ---- which squares are between two does not depend on their order
 
+-- a difference, the other way round
 pub abs_diff_back : (m n : ℕ) → abs_diff m n ≡ abs_diff n m
 abs_diff_back m n = omega arith
 
@@ -33,6 +34,7 @@ unfolding is_between_on_rank
 back_on_rank a b x = rw (inside_back (file a) (file b) (file x))
     (swap_first (rank x == rank a) (rank x == rank b) (is_strictly_between (file b) (file a) (file x)))
 
+-- two squares share a diagonal, the other way round
 pub diagonal_back : (a b : ℕ) → share_diagonal a b ≡ share_diagonal b a
 diagonal_back a b = rw (abs_diff_back (file a) (file b), abs_diff_back (rank a) (rank b)) refl
 
@@ -45,10 +47,12 @@ back_on_diagonal a b x =
 
 -- ---- on each kind of line
 
+-- two squares share a diagonal if they are on one line of either direction
 pub share_diagonal_is : (a b : ℕ) → a < 64 → b < 64
     → share_diagonal a b ≡ (same_line Diagonal a b || same_line Antidiagonal a b)
 share_diagonal_is a b h l = grind (arith, nat_tests)
 
+-- what is between two squares of a rank
 pub between_rank : (a b x : ℕ) → same_line Rank a b ≡ true
     → is_between a b x ≡ (same_line Rank a x && is_strictly_between a b x)
 unfolding is_between is_between_on_file is_between_on_rank is_between_on_diagonal
@@ -74,6 +78,7 @@ file_no_diagonal : (a b x : ℕ) → same_line File a b ≡ true → is_between_
 unfolding is_between_on_diagonal
 file_no_diagonal a b x e = grind (arith, nat_tests)
 
+-- what is between two squares of a file
 pub between_file : (a b x : ℕ) → same_line File a b ≡ true
     → is_between a b x ≡ (same_line File a x && is_strictly_between a b x)
 between_file a b x e =
@@ -103,6 +108,7 @@ up_antidiagonal : (f r g q h t : ℕ) → f < 8 → g < 8 → h < 8 → r + f �
 up_antidiagonal f r g q h t a b c e l =
     rw (inside_up r q t l, inside_down f g h (omega arith)) (grind (arith, nat_tests))
 
+-- a square by its rank and its file
 pub by_parts : (s : ℕ) → 8 * rank s + file s ≡ s
 by_parts s = omega arith
 
@@ -161,6 +167,7 @@ diagonal_no_rank : (a b x : ℕ) → same_line Diagonal a b ≡ true → is_betw
 unfolding is_between_on_rank
 diagonal_no_rank a b x e = grind (arith, nat_tests)
 
+-- what is between two squares of a diagonal
 pub between_diagonal : (a b x : ℕ) → same_line Diagonal a b ≡ true
     → is_between a b x ≡ (same_line Diagonal a x && is_strictly_between a b x)
 between_diagonal a b x e =
@@ -175,6 +182,7 @@ antidiagonal_no_rank : (a b x : ℕ) → same_line Antidiagonal a b ≡ true →
 unfolding is_between_on_rank
 antidiagonal_no_rank a b x e = grind (arith, nat_tests)
 
+-- what is between two squares of an antidiagonal
 pub between_antidiagonal : (a b x : ℕ) → same_line Antidiagonal a b ≡ true
     → is_between a b x ≡ (same_line Antidiagonal a x && is_strictly_between a b x)
 between_antidiagonal a b x e =
@@ -189,11 +197,13 @@ between_on_line File a b x e = between_file a b x e
 between_on_line Diagonal a b x e = between_diagonal a b x e
 between_on_line Antidiagonal a b x e = between_antidiagonal a b x e
 
+-- what is between two squares, the other way round
 pub between_back : (a b x : ℕ) → is_between a b x ≡ is_between b a x
 between_back a b x =
     is_between_is a b x ∙ rw (back_on_file a b x, back_on_rank a b x, back_on_diagonal a b x) refl
     ∙ sym (is_between_is b a x)
 
+-- the squares between two are empty, the other way round
 pub is_clear_back : (men : Men) (a b : ℕ) → is_clear men a b ≡ is_clear men b a
 unfolding is_clear
 is_clear_back men a b =

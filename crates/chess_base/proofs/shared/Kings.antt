@@ -31,6 +31,7 @@ only_one q men i j n one hi hj a b =
           absurd (omega (arith, first, second))
     ]
 
+-- two squares with the one king of a colour are the same
 pub one_king : (men : Men) (c : Colour) (i j : ℕ) → length men ≡ 64 → has_one_king men c ≡ true
     → is_man c King (man_at men i) ≡ true → is_man c King (man_at men j) ≡ true → i ≡ j
 unfolding has_one_king is_man
@@ -58,6 +59,7 @@ pub king_square-king : (men : Men) (c : Colour) (k : ℕ) → king_square men c 
 unfolding king_square
 king_square-king men c k e = (position-Some (λ o. is_man c King o) men k None e).1
 
+-- in a sound position each colour has one king
 pub one_king_of : (p : Setup) → IsSound p → (c : Colour) → has_one_king p.men c ≡ true
 one_king_of p sound White = sound.white_king
 one_king_of p sound Black = sound.black_king

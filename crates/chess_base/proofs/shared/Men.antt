@@ -12,10 +12,12 @@ use Rattle.chess_base.specs.Letters.{white_letter, kind_with_letter}
 use Rattle.chess_base.specs.Men.{Men, man_at, other, same_colour, same_kind, is_of, is_man}
 use Rattle.chess_base.specs.shared.Parts.{kind_number}
 
+-- a colour equals itself
 pub same_colour-self : (c : Colour) → same_colour c c ≡ true
 same_colour-self White = refl
 same_colour-self Black = refl
 
+-- colours that pass the test are equal
 pub same_colour-true : (c d : Colour) → same_colour c d ≡ true → c ≡ d
 same_colour-true White White e = refl
 same_colour-true Black Black e = refl
@@ -34,6 +36,7 @@ kind_back Bishop = refl
 kind_back Knight = refl
 kind_back Pawn = refl
 
+-- a kind equals itself
 pub same_kind-self : (k : Kind) → same_kind k k ≡ true
 same_kind-self King = refl
 same_kind-self Queen = refl
@@ -42,40 +45,48 @@ same_kind-self Bishop = refl
 same_kind-self Knight = refl
 same_kind-self Pawn = refl
 
+-- kinds that pass the test are equal
 pub same_kind-true : (k l : Kind) → same_kind k l ≡ true → k ≡ l
 same_kind-true k l e =
     let letters : white_letter k ≡ white_letter l = eqb-true _ _ e in
     sym (kind_back k) ∙ ap kind_at letters ∙ kind_back l
 
+-- kinds are equal if their numbers are
 pub same_kind_by_number : (k l : Kind) → same_kind k l ≡ (kind_number k == kind_number l)
 same_kind_by_number k l = grind arith
 
+-- a colour that equals the other one is not this one
 pub same_colour-other : (c d : Colour) → same_colour (other c) d ≡ true → same_colour c d ≡ false
 same_colour-other White White e = cc
 same_colour-other Black Black e = cc
 same_colour-other White Black e = refl
 same_colour-other Black White e = refl
 
+-- the other colour of the other one is this one
 pub other-other : (c : Colour) → other (other c) ≡ c
 other-other White = refl
 other-other Black = refl
 
+-- a colour is this one or the other one
 pub colour_cases : (c d : Colour) → (d ≡ c) ⊎ (d ≡ other c)
 colour_cases White White = inl refl
 colour_cases Black Black = inl refl
 colour_cases White Black = inr refl
 colour_cases Black White = inr refl
 
+-- a piece of a colour and a kind is of that colour
 pub is_of-from_is_man : (c : Colour) (k : Kind) (o : Option Man) → is_man c k o ≡ true → is_of c o ≡ true
 unfolding is_man is_of
 is_of-from_is_man c k None e = cc
 is_of-from_is_man c k (Some x) e = (and_parts _ _ e).0
 
+-- what is not of a colour is no piece of that colour and a kind
 pub not_is_man : (c : Colour) (k : Kind) (o : Option Man) → is_of c o ≡ false → is_man c k o ≡ false
 unfolding is_man is_of
 not_is_man c k None e = refl
 not_is_man c k (Some x) e = and_left _ _ e
 
+-- what is of the other colour is not of this one
 pub is_of-other : (c : Colour) (o : Option Man) → is_of (other c) o ≡ true → is_of c o ≡ false
 unfolding is_of
 is_of-other c None e = refl
@@ -85,14 +96,17 @@ is_of-other c (Some x) e = same_colour-other c x.colour e
 pub no_other : (c : Colour) (k : Kind) (o : Option Man) → is_man c k o ≡ true → is_of (other c) o ≡ false
 no_other c k o e = is_of-other _ _ (rw other-other (is_of-from_is_man _ _ _ e))
 
+-- where no piece is, none is of a colour
 pub is_of-none : (c : Colour) (o : Option Man) → is_none o ≡ true → is_of c o ≡ false
 unfolding is_of
 is_of-none c None e = refl
 is_of-none c (Some x) e = cc
 
+-- where no piece is, none is of a colour and a kind
 pub is_man-none : (c : Colour) (k : Kind) (o : Option Man) → is_none o ≡ true → is_man c k o ≡ false
 is_man-none c k o e = not_is_man _ _ _ (is_of-none _ _ e)
 
+-- a piece of one kind is of no other
 pub is_man-kind : (c d : Colour) (k l : Kind) (o : Option Man) → same_kind l k ≡ false → is_man c k o ≡ true
     → is_man d l o ≡ false
 unfolding is_man
@@ -102,9 +116,11 @@ is_man-kind c d k l (Some x) n e =
     let other_kind : same_kind l x.kind ≡ false = rw (← at) n in
     and_right _ _ other_kind
 
+-- a piece of the other colour is none of this one
 pub is_man-colour : (c : Colour) (k l : Kind) (o : Option Man) → is_man (other c) k o ≡ true → is_man c l o ≡ false
 is_man-colour c k l o e = not_is_man _ _ _ (is_of-other _ _ (is_of-from_is_man _ _ _ e))
 
+-- a square with a piece is one of the 64
 pub in_board : (men : Men) (c : Colour) (k : Kind) (s : ℕ) → length men ≡ 64 → is_man c k (man_at men s) ≡ true → s < 64
 unfolding is_man
 in_board men c k s l e =
@@ -114,6 +130,7 @@ in_board men c k s l e =
           absurd (let f = rw past at e in cc f)
     ]
 
+-- an option that has no value
 pub is_none-None : {A : Type 0} (o : Option A) → is_none o ≡ true → o ≡ None
 is_none-None None e = refl
 is_none-None (Some x) e = cc

@@ -25,18 +25,21 @@ use Rattle.chess_base.proofs.shared.Squares.{get_or-map_squares, length-map_squa
 
 -- the pieces after steps, as one list
 
+-- after steps the board has 64 squares
 pub length-men_stepped : (men : Men) (t : Steps) → length (men_stepped men t) ≡ 64
 unfolding men_stepped
 length-men_stepped men t = length-map_squares (man_stepped men t)
 
+-- what is on a square after steps
 pub man_at-men_stepped : (men : Men) (t : Steps) (s : ℕ) → s < 64 → man_at (men_stepped men t) s ≡ man_stepped men t s
 unfolding men_stepped
 man_at-men_stepped men t s h = get_or-map_squares (man_stepped men t) s None h
 
 -- ---- the two cases of a move are its steps
 
-pub flip : (a b : ℕ) → (a == b) ≡ (b == a)
-flip a b = elim (cases_eq a b) [
+-- a test for equal numbers, turned round
+pub eqb_comm : (a b : ℕ) → (a == b) ≡ (b == a)
+eqb_comm a b = elim (cases_eq a b) [
   | inl e ↦ eq-eqb _ _ e ∙ sym (eq-eqb _ _ (sym e))
   | inr n ↦ ne_eqb _ _ n ∙ sym (ne_eqb _ _ (λ e. n (sym e)))
 ]
@@ -49,17 +52,17 @@ emptied : (passes enemy : Bool) (behind to s : ℕ) → (s == to) ≡ false
     → is_at (if passes then Some behind else None) s
     ≡ is_at (if passes then Some behind else if enemy then Some to else None) s
 emptied true enemy behind to s n = refl
-emptied false true behind to s n = sym (flip to s ∙ n)
+emptied false true behind to s n = sym (eqb_comm to s ∙ n)
 emptied false false behind to s n = refl
 
 moved_by : (b : Bool) (to from s : ℕ) (x y : Option Man) (q r : Bool) → (to == s) ≡ b → (b ≡ false → q ≡ r)
     → (if to == s then x else if q || (from == s) then None else y)
     ≡ (if s == to then x else if (s == from) || r then None else y)
-moved_by true to from s x y q r e h = let f = flip s to ∙ e in rw (e, f) refl
+moved_by true to from s x y q r e h = let f = eqb_comm s to ∙ e in rw (e, f) refl
 moved_by false to from s x y q r e h =
-    let f = flip s to ∙ e in
+    let f = eqb_comm s to ∙ e in
     let g = h refl in
-    rw (e, f, g, flip s from, or_flip (from == s) r) refl
+    rw (e, f, g, eqb_comm s from, or_flip (from == s) r) refl
 
 moved : (p : Setup) (m : Move) (s : ℕ) → castle_of p m ≡ None
     → man_stepped p.men (steps_of p m) s ≡ after_moving p m s
@@ -71,12 +74,12 @@ moved p m s e =
     let taken = if passes then Some behind else if is_of (other p.side) (man_at p.men m.to) then Some m.to else None in
     rw e (moved_by (m.to == s) m.to m.from s (arriving_man (man_at p.men m.from) m.promotion) (man_at p.men s)
     (is_at second s) (is_at taken s) refl
-    (λ n. emptied passes (is_of (other p.side) (man_at p.men m.to)) behind m.to s (flip s m.to ∙ n)))
+    (λ n. emptied passes (is_of (other p.side) (man_at p.men m.to)) behind m.to s (eqb_comm s m.to ∙ n)))
 
 turned_round : (a b c d s : ℕ) (x y z : Option Man)
     → (if a == s then x else if b == s then y else if (c == s) || (d == s) then None else z)
     ≡ (if s == a then x else if s == b then y else if (s == d) || (s == c) then None else z)
-turned_round a b c d s x y z = rw (flip s a, flip s b, flip s c, flip s d, or_flip (d == s) (c == s)) refl
+turned_round a b c d s x y z = rw (eqb_comm s a, eqb_comm s b, eqb_comm s c, eqb_comm s d, or_flip (d == s) (c == s)) refl
 
 castled : (p : Setup) (m : Move) (s : ℕ) (k : Castle) → castle_of p m ≡ Some k → k.king_from ≡ m.from
     → is_man p.side King (man_at p.men m.from) ≡ true
@@ -113,6 +116,7 @@ by_cases : (p : Setup) (m : Move) (s : ℕ) (o : Option Castle) → castle_of p 
 by_cases p m s None e = sym (moved p m s e)
 by_cases p m s (Some k) e = let c = castling_of p m k e in sym (castled p m s k e c.from c.king)
 
+-- the pieces after a move, by its steps
 pub men_after_by_steps : (p : Setup) (m : Move) → men_after p m ≡ men_stepped p.men (steps_of p m)
 unfolding men_after men_stepped
 men_after_by_steps p m =
@@ -124,16 +128,17 @@ men_after_by_steps p m =
 back_by_cases : (q : Setup) (m : Move) (s : Saved) (x : ℕ) (o : Option Castle)
     → option_map_or (λ k. before_castling q m k x) o (before_moving q m s x)
     ≡ man_stepped q.men (steps_back_by (other q.side) q.men m s o) x
-back_by_cases q m s x None = rw (flip x m.from, flip x m.to) refl
+back_by_cases q m s x None = rw (eqb_comm x m.from, eqb_comm x m.to) refl
 back_by_cases q m s x (Some k) =
     rw (
-      flip x m.from,
-      flip x k.rook_from,
-      flip x k.king_to,
-      flip x k.rook_to,
+      eqb_comm x m.from,
+      eqb_comm x k.rook_from,
+      eqb_comm x k.king_to,
+      eqb_comm x k.rook_to,
       or_flip (k.king_to == x) (k.rook_to == x),
     ) refl
 
+-- the pieces before a move, by the steps back
 pub men_before_by_steps : (q : Setup) (m : Move) (s : Saved)
     → men_before q m s ≡ men_stepped q.men (steps_back q m s)
 unfolding men_before men_stepped steps_back
@@ -153,20 +158,24 @@ man_after p m s =
     else if is_at (second_square_emptied p m) s || (m.from == s) then None
     else man_at p.men s
 
+-- after a move the board has 64 squares
 pub length-men_after : (p : Setup) (m : Move) → length (men_after p m) ≡ 64
 length-men_after p m = ap (λ (men : Men). length men) (men_after_by_steps p m) ∙ length-men_stepped p.men (steps_of p m)
 
+-- what is on a square after a move
 pub man_at-men_after : (p : Setup) (m : Move) (s : ℕ) → s < 64 → man_at (men_after p m) s ≡ man_after p m s
 unfolding man_after
 man_at-men_after p m s h =
     ap (λ (men : Men). man_at men s) (men_after_by_steps p m) ∙ man_at-men_stepped p.men (steps_of p m) s h
 
+-- a square that a move doesn't touch stays as it was
 pub man_after-same : (p : Setup) (m : Move) (s : ℕ) → mover_end p m ≢ s → m.from ≢ s
     → is_at (castling_rook_to p m) s ≡ false → is_at (second_square_emptied p m) s ≡ false
     → man_after p m s ≡ man_at p.men s
 unfolding man_after
 man_after-same p m s t f r l = rw (ne_eqb _ _ t, r, l, ne_eqb _ _ f) refl
 
+-- the mover is on its last square
 pub man_after-to : (p : Setup) (m : Move) → man_after p m (mover_end p m)
     ≡ arriving_man (man_at p.men m.from) m.promotion
 unfolding man_after

@@ -1,16 +1,16 @@
 -- For lists of moves: the kinds of pseudo-legal moves, and what follows from each.
 use Rattle.std.proofs.Common.{◌≡◌, ℕ, ◌<◌, inl, inr, Bool, true, false, ◌&&◌, ◌||◌, not, cond, Option, Some, None, refl, sym, ◌==◌, is_none}
-use Rattle.std.proofs.lemmas.Bool.{and_parts, and_from, and_right, or_cases, both_ways, ltb-true, false_from_ne_true, not-true}
+use Rattle.std.proofs.lemmas.Bool.{and_parts, and_from, and_right, or_cases, both_ways, eqb-true, ltb-true, false_from_ne_true, not-true}
 use Rattle.chess_base.specs.declared.man.Colour.{Colour}
-use Rattle.chess_base.specs.declared.man.Kind.TheVariants.{King, Pawn}
+use Rattle.chess_base.specs.declared.man.Kind.TheVariants.{King, Queen, Rook, Bishop, Knight, Pawn}
 use Rattle.chess_base.specs.declared.man.CastlingSide.{CastlingSide}
 use Rattle.chess_base.specs.declared.man.Man.{Man}
 use Rattle.chess_base.specs.declared.man.Move.{Move}
 use Rattle.chess_base.specs.Squares.{rank, is_at}
-use Rattle.chess_base.specs.Men.{Men, man_at, other, same_colour, same_kind, is_of, is_man, first_rank}
+use Rattle.chess_base.specs.Men.{Men, man_at, other, same_colour, same_kind, is_of, is_man, forward, first_rank, pawn_rank}
 use Rattle.chess_base.specs.Attacks.{attacks, is_attacked, is_in_check}
 use Rattle.chess_base.specs.declared.setup.Setup.{Setup}
-use Rattle.chess_base.specs.Moves.{is_pseudo_legal, moves_as, man_moves, pawn_moves, pawn_advances, pawn_captures, promotion_fits}
+use Rattle.chess_base.specs.Moves.{is_pseudo_legal, moves_as, man_moves, pawn_moves, is_double_advance, pawn_advances, pawn_captures, promotion_fits}
 use Rattle.chess_base.specs.shared.Splits.{castles_or_moves}
 use Rattle.chess_base.specs.Castling.{right_of, castle_from, castle_of, castling, castles, castling_way_is_empty}
 use Rattle.chess_base.specs.declared.castling.Castle.{Castle}
@@ -86,6 +86,7 @@ moves_by p m (Some x) at f t e =
       kind = kind_of p m x at both.0 (same_kind Pawn x.kind) refl both.1;
     }
 
+-- what a pseudo-legal move is
 pub moves_from_pattern : (p : Setup) (m : Move) → is_pseudo_legal p m ≡ true → Moves p m
 unfolding is_pseudo_legal
 moves_from_pattern p m e =
@@ -93,6 +94,7 @@ moves_from_pattern p m e =
     let two = and_parts _ _ three.0 in
     moves_by p m (man_at p.men m.from) refl (ltb-true _ _ two.0) (ltb-true _ _ two.1) three.1
 
+-- the mover is of the side to move
 pub is_of-mover : (p : Setup) (m : Move) → Moves p m → is_of p.side (man_at p.men m.from) ≡ true
 unfolding is_of
 is_of-mover p m h = rw (h.at_from, h.own) (same_colour-self p.side)
@@ -109,12 +111,14 @@ no_king_where_attacked men c a b ha hb own hits calm =
     let attacked' : is_attacked men b (other (other c)) ≡ true = rw other-other attacked in
     both_ways _ (not-true _ calm) (some_square-at _ b hb (and_from _ _ k attacked')))
 
+-- castling promotes nothing
 pub castles_unpromoted : (p : Setup) (m : Move) (k : Castle) → castles p m k ≡ true → m.promotion ≡ None
 unfolding castles
 castles_unpromoted p m k e =
     let two = and_parts _ _ e in
     is_none-None _ (and_parts (is_none m.promotion) (castling_way_is_empty p.men k) two.0).0
 
+-- only a pawn is promoted
 pub promoted_by_kind : (p : Setup) (m : Move) (k : Kind) → MoveKind p m → m.promotion ≡ Some k
     → is_man p.side Pawn (man_at p.men m.from) ≡ true
 unfolding man_moves
@@ -126,3 +130,26 @@ promoted_by_kind p m k (ManMoves n c e) promotion =
 promoted_by_kind p m k (Castles w r c at e) promotion = let none =
     castles_unpromoted p m (castle_from p.side w m.from r) e in cc
 promoted_by_kind p m k (PawnMoves man fits kind) promotion = man
+
+-- nothing is promoted but on the last rank
+pub unpromoted_below : (o : Option Kind) → promotion_fits false o ≡ true → o ≡ None
+unpromoted_below None e = refl
+unpromoted_below (Some King) e = cc
+unpromoted_below (Some Queen) e = cc
+unpromoted_below (Some Rook) e = cc
+unpromoted_below (Some Bishop) e = cc
+unpromoted_below (Some Knight) e = cc
+unpromoted_below (Some Pawn) e = cc
+
+-- what makes a move a double advance
+pub is_double_advance-parts : (p : Setup) (m : Move) → is_double_advance p m ≡ true
+    → (is_man p.side Pawn (man_at p.men m.from) ≡ true) × (rank m.from ≡ pawn_rank p.side)
+    × (m.to ≡ forward p.side (forward p.side m.from))
+unfolding is_double_advance
+is_double_advance-parts p m e =
+    let two = and_parts _ _ e in
+    let one = and_parts _ _ two.0 in (
+      one.0,
+      eqb-true _ _ one.1,
+      eqb-true _ _ two.1,
+    )

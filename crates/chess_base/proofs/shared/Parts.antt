@@ -15,6 +15,7 @@ use Rattle.chess_base.specs.shared.Lines.{is_between_on_file, is_between_on_rank
 use Rattle.chess_base.specs.shared.Parts.{crossed_rank, castling_needs_empty, target_is_sound_at}
 use Rattle.chess_base.proofs.shared.Squares.{each_square_same}
 
+-- what is between two squares, by file, rank and diagonal
 pub is_between_is : (a b x : ℕ)
     → is_between a b x ≡ (is_between_on_file a b x || is_between_on_rank a b x || is_between_on_diagonal a b x)
 unfolding is_between is_between_on_file is_between_on_rank is_between_on_diagonal
@@ -23,6 +24,7 @@ is_between_is a b x = refl
 needs_or : (w a b n : Bool) → (not w || a || b || n) ≡ (not (w && not a && not b) || n)
 needs_or w a b n = grind arith
 
+-- the way of castling is empty, by its squares
 pub castling_way_is_empty_is : (men : Men) (k : Castle)
     → castling_way_is_empty men k ≡ each_square (λ x. not (castling_needs_empty k x) || is_none (man_at men x))
 unfolding castling_way_is_empty castling_needs_empty
@@ -39,6 +41,7 @@ start_rank Black t = grind (arith, nat_tests)
 in_order : (a b c d : Bool) → (a && b && c && d) ≡ (a && c && d && b)
 in_order a b c d = grind arith
 
+-- when a target is sound, by the rank of the square before it
 pub target_by_rank : (men : Men) (c : Colour) (o : Option ℕ)
     → option_map_or (λ t. (rank (forward c t) == pawn_rank (other c)) && is_none (man_at men (forward c t))
     && is_none (man_at men t) && is_man (other c) Pawn (man_at men (forward (other c) t))) o true
@@ -49,6 +52,7 @@ target_by_rank men c (Some t) =
     (in_order (rank t == crossed_rank (other c)) (is_none (man_at men (forward c t))) (is_none (man_at men t))
     (is_man (other c) Pawn (man_at men (forward (other c) t))))
 
+-- when a position's target is sound, by its pieces, side and target
 pub target_is_sound_is : (p : Setup) → target_is_sound p ≡ target_is_sound_at p.men p.side p.target
 unfolding target_is_sound
 target_is_sound_is p = target_by_rank p.men p.side p.target

@@ -15,6 +15,7 @@ passes : (a : Bool) (f : FenFault) (rest : Option FenFault) → cond a rest (Som
 passes true f rest e = (refl, e)
 passes false f rest e = cc
 
+-- a position without a fault is sound
 pub IsSound-from_no_fault : (p : Setup) → length p.men ≡ 64 → setup_fault p ≡ None → IsSound p
 unfolding setup_fault rights_are_sound
 IsSound-from_no_fault p l e =
@@ -50,6 +51,7 @@ IsSound-from_no_fault p l e =
       fullmove_high = c2.1;
     }
 
+-- a sound position has no fault
 pub no_fault_from_IsSound : (p : Setup) → IsSound p → setup_fault p ≡ None
 unfolding setup_fault rights_are_sound
 no_fault_from_IsSound p h =

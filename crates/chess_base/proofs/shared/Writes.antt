@@ -18,10 +18,12 @@ abbrev pub write : {X : Type 0} → List X → Option ℕ → X → List X
 write xs None v = xs
 write xs (Some s) v = set xs s v
 
+-- a list is as long after a write
 pub length-write : {X : Type 0} (xs : List X) (o : Option ℕ) (v : X) → length (write xs o v) ≡ length xs
 length-write xs None v = refl
 length-write xs (Some s) v = length-set xs s v
 
+-- an element after a write: what was written there, or the one before
 pub get_or-write : {X : Type 0} (xs : List X) (o : Option ℕ) (v : X) (i : ℕ) (d : X) → i < length xs
     → get_or (write xs o v) i d ≡ cond (is_at o i) v (get_or xs i d)
 get_or-write xs None v i d h = refl
@@ -47,6 +49,7 @@ abbrev pub written_by : Men → Steps → Men
 written_by men t = write (write (write (write men (Some t.from) None) t.second_from None) t.second_to t.second)
     (Some t.to) t.mover
 
+-- the pieces after steps, by writes
 pub men_stepped-written : (men : Men) (t : Steps) → length men ≡ 64 → men_stepped men t ≡ written_by men t
 men_stepped-written men t l =
     let one = write men (Some t.from) None in
@@ -64,5 +67,6 @@ men_stepped-written men t l =
     let d = get_or-write three (Some t.to) t.mover i None (omega arith) in
     man_at-men_stepped men t i in' ∙ sym (d ∙ rw (c, b, a, either_none) refl))
 
+-- the pieces after a move, by writes
 pub men_after-written : (p : Setup) (m : Move) → length p.men ≡ 64 → men_after p m ≡ written p m
 men_after-written p m l = men_after_by_steps p m ∙ men_stepped-written p.men (steps_of p m) l

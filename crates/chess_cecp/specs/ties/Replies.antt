@@ -1,6 +1,6 @@
 -- What answers a line: a text that is put together, the legal moves, or the game's text; and the session after it.
 use Rattle.std.specs.Prelude.{if◌then◌else◌, ◌&&◌, not, ℕ, ◌++◌, List, [], ◌∷◌, Bool, true, false, codes}
-use Rattle.chess_base.specs.Letters.{new_line}
+use Rattle.byte_devices.specs.Bytes.{new_line}
 use Rattle.chess_base.specs.declared.man.Move.{Move}
 use Rattle.chess_base.specs.declared.setup.Setup.{Setup}
 use Rattle.text_lines.specs.Lines.{LineSeen}

@@ -16,7 +16,7 @@ use Rattle.chess_base.specs.declared.setup.Setup.{Setup}
 use Rattle.chess_base.specs.declared.setup.TheConstants.{COUNTER_LIMIT}
 use Rattle.chess_base.specs.Attacks.{is_in_check}
 use Rattle.chess_base.specs.Faults.{first_failing}
-use Rattle.chess_base.specs.Letters.{byte, space}
+use Rattle.byte_devices.specs.Bytes.{byte, space}
 use Rattle.chess_base.specs.Men.{other}
 use Rattle.chess_base.specs.Sound.{has_one_king, no_pawn_on_end_ranks, has_at_most_16, target_is_sound}
 use Rattle.chess_base.specs.laws.Normal.{normal_right_is_sound_at}

@@ -2,7 +2,7 @@
 -- in which no two digits are side by side.
 use Rattle.std.specs.Prelude.{ℕ, ◌≡◌, Bool, true, not, ◌&&◌, List, [], ◌∷◌, Option}
 use Rattle.chess_base.specs.declared.man.Man.{Man}
-use Rattle.chess_base.specs.Letters.{is_digit}
+use Rattle.byte_devices.specs.Bytes.{is_digit}
 use Rattle.chess_fen.specs.Denotation.{DenotesSquares}
 
 -- whether no two digits are side by side

@@ -11,7 +11,8 @@ use Rattle.chess_base.specs.declared.man.CastlingSide.TheVariants.{KingSide, Que
 use Rattle.chess_base.specs.declared.man.Kind.TheVariants.{Rook}
 use Rattle.chess_base.specs.Men.{Men, man_at, is_man}
 use Rattle.chess_base.specs.Castling.{home_square}
-use Rattle.chess_base.specs.Letters.{byte, letter}
+use Rattle.chess_base.specs.Letters.{letter}
+use Rattle.byte_devices.specs.Bytes.{byte}
 use Rattle.chess_fen.specs.ties.Reader.{nowhere}
 use Rattle.chess_fen.specs.Writing.{fen_rank}
 

@@ -2,7 +2,7 @@
 use Rattle.std.specs.Prelude.{◌≡◌, ℕ, zero, suc, ◌+◌, ◌-◌, ◌*◌, ◌==◌, nat_le, Bool, true, false, List, [], ◌∷◌, ◌++◌, length, take, drop, replicate, Option, Some, None, if◌then◌else◌, option_and_then}
 use Rattle.std.specs.List.{position_or_len, before_first}
 use Rattle.chess_base.specs.declared.man.Man.{Man}
-use Rattle.chess_base.specs.Letters.{byte, space}
+use Rattle.byte_devices.specs.Bytes.{byte, space}
 use Rattle.chess_fen.specs.declared.letters.Run.{Run}
 use Rattle.chess_fen.specs.Texts.{squares_of, placement_of}
 

@@ -1,7 +1,6 @@
 -- A byte of a comment, as code replaces it.
 use Rattle.std.specs.Prelude.{ℕ, ◌==◌, ◌||◌, if◌then◌else◌}
-use Rattle.chess_base.specs.Letters.{byte}
-use Rattle.chess_game.specs.Results.{shown_byte}
+use Rattle.byte_devices.specs.Bytes.{byte, shown_byte}
 
 -- the byte c in the comment on a result: `?` if c is a brace or no printable ASCII, otherwise c itself
 abbrev pub comment_byte : ℕ → ℕ

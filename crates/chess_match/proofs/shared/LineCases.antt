@@ -63,6 +63,7 @@ abbrev pub handshakes_done : Phase → Bool
 handshakes_done (Handshake S) = false
 handshakes_done _ = true
 
+-- in a turn the handshakes are done
 pub turn_done : (p : Phase) → in_turn p ≡ true → handshakes_done p ≡ true
 turn_done p h1 = grind arith
 
@@ -94,9 +95,11 @@ over_for v d = option_or (option_map (λ v. Decided v) v) (option_map (λ claim.
 abbrev pub playing : Colour → Move → ℕ → Match → Effect
 playing S move used m = let n = moved S move used m in sends_to S (ping (ping_number n S) ∷ []) n
 
+-- what a line says uses no time of either side
 pub said_used : (S C : Colour) (kind : LineKind) (m : Match) → ((said_by S kind m).seat C).used ≡ (m.seat C).used
 said_used S C kind m = grind arith
 
+-- neither does an offer
 pub offered_used : (S C : Colour) (m : Match) → ((offering S m).after.seat C).used ≡ (m.seat C).used
 offered_used S C m = grind arith
 
@@ -362,6 +365,7 @@ pub record SilenceCases (r : Rules) (m : Match) (Q : Effect → Type 0) : Type 0
 flag_shown : (patience : Patience) (S : Colour) → patience.flag ≡ true → whose_line patience (Forfeits S) ≡ None
 flag_shown patience S e = ap (λ (b : Bool). if b then None else Some S) e
 
+-- what a silence does, by its cases
 pub silence_cases : (r : Rules) (S : Colour) (moment : ℕ) (m : Match) (Q : Effect → Type 0) → SilenceCases r m Q
     → Q (silence_row r m.phase S moment m)
 silence_cases r S moment m Q l = at m.phase refl

@@ -2,6 +2,7 @@
 use Rattle.std.proofs.Common.{◌≡◌, List, [], ◌∷◌, ◌++◌, refl, sym, append_assoc}
 use Rattle.chess_match.specs.Lines.{SentLine, bytes_of, text_of}
 
+-- the bytes of lines and of others after them
 pub bytes_of-append : (a b : List SentLine) → bytes_of (a ++ b) ≡ bytes_of a ++ bytes_of b
 unfolding bytes_of
 bytes_of-append [] b = refl

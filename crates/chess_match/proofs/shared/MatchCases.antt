@@ -41,6 +41,7 @@ pub record Acts (r : Rules) (P : Match → List Block → List Act → Match →
 
 module _ (r : Rules) (P : Match → List Block → List Act → Match → Type 0) (k : Acts r P) (K : List Act) (final : Match)
     (rest : (m : Match) (due : List Block) → IsMatchFrom r m due K final → P m due [] m) where
+  -- what holds for each act holds for those before the others
   pub by_acts : (m : Match) (due : List Block) (H : List Act) → IsMatchFrom r m due (H ++ K) final
       → P m due H (match_after r m H)
   by_acts m due [] g = rest m due g
@@ -84,6 +85,7 @@ module _ (r : Rules) (P : Match → List Block → List Act → Match → Type 0
 
 -- ---- a whole match
 
+-- what holds at a match's end and for each act holds for all acts
 pub by_cases : (r : Rules) (final : Match) (P : Match → List Block → List Act → Type 0)
     → Acts r (λ m due H end. P m due H) → (is_over final.phase ≡ true → P final [] []) → (m : Match) (due : List Block)
     (H : List Act) → IsMatchFrom r m due H final → P m due H
@@ -130,9 +132,11 @@ reads_end (Happens (OutputEnds c) ∷ H) = unread H
 reads_end (Happens (FailsToRead c) ∷ H) = unread H
 reads_end (Happens e ∷ H) = reads_end H
 
+-- a match that waits for a line is not over
 pub on_when_read : (p : Phase) (S : Colour) → awaits_line p S ≡ true → is_over p ≡ false
 on_when_read p S h1 = grind arith
 
+-- a test doesn't both pass and fail
 pub both_not : {P : Type 0} (b : Bool) → b ≡ false → b ≡ true → P
 both_not true e h = absurd cc
 both_not false e h = absurd cc
@@ -153,6 +157,7 @@ reading r m final due H g = by_cases r final Reading (record {
   read_fails = λ m end S H aw p. (λ h. both_not (is_over m.phase) (on_when_read m.phase S aw) h, p.0 refl);
 }) (λ o. (λ h. refl, refl)) m due H g
 
+-- from any place in a match on nothing is read after an end or a failed read
 pub reading_ends : (r : Rules) (m final : Match) (due : List Block) (H : List Act) → IsMatchFrom r m due H final
     → reads_end H ≡ true
 reading_ends r m final due H g = (reading r m final due H g).1
@@ -227,6 +232,7 @@ failed_none : (r : Rules) (m : Match) (c S : Colour) → same_colour c S ≡ tru
     → none_for S (blocks_from White (effect r m (FailsToWrite c)).to) ≡ true
 failed_none r m c S h1 = grind arith
 
+-- from any place in a match on nothing is sent to S after a failed write to it
 pub sending_ends : (r : Rules) (m final : Match) (due : List Block) (H : List Act) (S : Colour)
     → IsMatchFrom r m due H final → few_for S due ≡ true → sends_end S H ≡ true
 sending_ends r m final due H S g = (by_cases r final (Sending S) (record {
@@ -268,6 +274,7 @@ sending_ends r m final due H S g = (by_cases r final (Sending S) (record {
 pub all_reads_end : (r : Rules) (H : List Act) (final : Match) → IsMatch r H final → reads_end H ≡ true
 all_reads_end r H final g = reading_ends r beginning.after final (blocks_from White beginning.to) H g
 
+-- nor in a whole match
 pub all_sends_end : (r : Rules) (H : List Act) (final : Match) (S : Colour) → IsMatch r H final
     → sends_end S H ≡ true
 all_sends_end r H final S g =

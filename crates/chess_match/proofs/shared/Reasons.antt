@@ -8,6 +8,7 @@ use Rattle.chess_match.specs.declared.reason.MatchFault.TheVariants.{Write}
 use Rattle.chess_match.specs.declared.reason.Reason.{Reason}
 use Rattle.chess_match.specs.declared.reason.Reason.TheVariants.{Faulted}
 
+-- a match that is over by a failed write to S has a reason that says so
 pub unwritten : (S : Colour) (reason : Reason) → Over (Faulted S Write) ≡ Over reason → is_write_fault_of reason S ≡ true
 unwritten S reason e = let same : Faulted S Write ≡ reason = cc in
     ap (λ (x : Reason). is_write_fault_of x S) (sym same) ∙ same_colour-self S

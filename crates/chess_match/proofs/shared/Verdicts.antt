@@ -117,6 +117,7 @@ abbrev Ended : Verdict → Match → Phase → Type 0
 Ended v final p = (p ≡ Over (Decided v))
     ⊎ ((final.played ≡ []) × (c : Colour) × (fault : MatchFault) × (p ≡ Over (Faulted c fault)))
 
+-- the law: a position with a verdict ends the match
 pub verdicts_end_matches : VerdictsEndMatches
 verdicts_end_matches r v H final g e =
     let (over, j) = judged_at_end r H final g in at final.phase over j

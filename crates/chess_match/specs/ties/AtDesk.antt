@@ -13,7 +13,7 @@ use Rattle.chess_match.specs.Events.{Line, Silent}
 use Rattle.chess_match.specs.Lines.{bytes_of}
 use Rattle.chess_match.specs.Notes.{Note, Noted}
 use Rattle.chess_match.specs.Run.{ClockReadings}
-use Rattle.chess_match.specs.Table.{Step, Does, ReadsLine, FindsNoLine, ReadsClock, Notes, Beginning, Passing, Passes}
+use Rattle.chess_match.specs.Table.{Step, Does, LooksFor, ReadsLine, FindsNoLine, ReadsClock, Notes, Beginning, Passing, Passes}
 use Rattle.chess_match.specs.declared.desk.Desk.{Desk}
 use Rattle.chess_match.specs.ties.EngineOutput.{OutputAt}
 
@@ -24,6 +24,7 @@ acts_in [] = []
 acts_in (Does act ∷ K) = act ∷ acts_in K
 acts_in (ReadsLine S text ∷ K) = Happens (Line S text 0) ∷ acts_in K
 acts_in (FindsNoLine S ∷ K) = Happens (Silent S 0) ∷ acts_in K
+acts_in (LooksFor S until ∷ K) = acts_in K
 acts_in (ReadsClock S moment ∷ K) = acts_in K
 acts_in (Notes note ∷ K) = acts_in K
 
@@ -91,6 +92,12 @@ abbrev pub PassesAt : {R W M L : Type 0} → (R → InputState) → (W → Outpu
     → Desk R W M L → Desk R W M L → Step → Type 0
 PassesAt input output shown noted old new step =
     Passes (passed_at input output shown noted old) (passed_at input output shown noted new) (step ∷ [])
+
+-- from the desk `old` to `new` just this step of a look passed, which waits until that moment, if there is one
+abbrev pub LooksAt : {R W M L : Type 0} → (R → InputState) → (W → OutputState) → (M → ℕ → Option ℕ) → (L → Noted)
+    → Desk R W M L → Desk R W M L → Colour → Option ℕ → Step → Type 0
+LooksAt input output shown noted old new side until step = Passes (passed_at input output shown noted old)
+    (passed_at input output shown noted new) (LooksFor side until ∷ step ∷ [])
 
 -- how much can still be read at the desk `d` at most
 abbrev pub left_at : {R W M L : Type 0} → (R → InputState) → Desk R W M L → ℕ

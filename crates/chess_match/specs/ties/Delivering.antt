@@ -4,7 +4,7 @@ use Rattle.std.specs.Option.{option_map_or}
 use Rattle.chess_base.specs.declared.man.Colour.{Colour}
 use Rattle.chess_base.specs.declared.man.Variant.{Variant}
 use Rattle.chess_base.specs.Men.{other}
-use Rattle.chess_base.specs.Letters.{new_line}
+use Rattle.byte_devices.specs.Bytes.{new_line}
 use Rattle.chess_base.specs.Options.{list_if}
 use Rattle.cecp_engine.specs.Items.{is_known, takes}
 use Rattle.chess_match.specs.Effects.{Match, clock, move_line}

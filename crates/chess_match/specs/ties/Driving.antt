@@ -14,7 +14,7 @@ use Rattle.chess_match.specs.Lines.{SentLine, bytes_of}
 use Rattle.chess_match.specs.Notes.{Happened, Gives}
 use Rattle.chess_match.specs.Rules.{Rules}
 use Rattle.chess_match.specs.Run.{text_read}
-use Rattle.chess_match.specs.Table.{Step, Does, ReadsLine, FindsNoLine, ReadsClock, Notes, Passing, Passes, sending, watched}
+use Rattle.chess_match.specs.Table.{Step, Does, LooksFor, ReadsLine, FindsNoLine, ReadsClock, Notes, Passing, Passes, sending, watched}
 use Rattle.chess_match.specs.declared.reason.Reason.{Reason}
 use Rattle.chess_match.specs.declared.state.MatchState.{MatchState}
 use Rattle.chess_match.specs.ties.Represents.{Represents}
@@ -22,7 +22,15 @@ use Rattle.chess_match.specs.ties.Sane.{IsSane}
 
 -- ---- steps
 
--- the steps of an event
+-- the look by which this event is read, which waits until that moment; none, if it is not of an output
+abbrev pub looks_of : Option ℕ → Event → List Step
+looks_of until (Line S text moment) = LooksFor S until ∷ []
+looks_of until (Silent S moment) = LooksFor S until ∷ []
+looks_of until (OutputEnds S) = LooksFor S until ∷ []
+looks_of until (FailsToRead S) = LooksFor S until ∷ []
+looks_of until _ = []
+
+-- the steps of an event, after the look for a line
 abbrev pub steps_of : Event → List Step
 steps_of (Line S text moment) =
     ReadsLine S text ∷ ReadsClock S moment ∷ Notes (Happened (Line S text moment)) ∷ []
@@ -87,7 +95,7 @@ abbrev pub Leads : Rules → Match → List Block → List Step → Match → Li
     → Type 0
 Leads r m due K m' due' failed = (H : List Act) (final : Match) (reason : Reason)
     → IsMatchFrom r m' due' H final → Ends m' reason
-    → (H' : List Act) × IsMatchFrom r m due H' final × (watched reason H' ≡ K ++ watched reason H)
+    → (H' : List Act) × IsMatchFrom r m due H' final × (watched r reason m H' ≡ K ++ watched r reason m' H)
     × ((S : Colour) → is_broken H' S ≡ (failed S || is_broken H S))
 
 -- the steps `K` passed, which sent the blocks `due`, or those up to a write that failed, and then those of the end. `m`

@@ -15,6 +15,7 @@ use Rattle.chess_base.specs.shared.Below.{from_below}
 
 -- ---- over lists
 
+-- some element that a filter keeps passes a test
 pub any-filter : {A : Type 0} (q t : A → Bool) (xs : List A) → list_any t (filter q xs) ≡ list_any (λ x. q x && t x) xs
 any-filter q t [] = refl
 any-filter q t (x ∷ xs) =
@@ -23,6 +24,7 @@ any-filter q t (x ∷ xs) =
       | inl passed ↦ rw passed (ap (λ b. t x || b) (any-filter q t xs))
     ]
 
+-- some element of the lists for each element passes a test
 pub any-flat_map : {A B : Type 0} (t : B → Bool) (f : A → List B) (xs : List A)
     → list_any t (flat_map f xs) ≡ list_any (λ x. list_any t (f x)) xs
 any-flat_map t f [] = refl
@@ -41,6 +43,7 @@ any-from_below zero g t k h e = absurd (omega arith)
 any-from_below (suc n) g t zero h e = or_left _ _ e
 any-from_below (suc n) g t (suc k) h e = or_right _ _ (any-from_below n (λ i. g (suc i)) t k (omega arith) e)
 
+-- this square passes a test, so one of the list of squares does
 pub any-square : (t : ℕ → Bool) (k : ℕ) → k < 64 → t k ≡ true → list_any t squares ≡ true
 unfolding squares
 any-square t k h e = any-from_below 64 (λ s. s) t k h e

@@ -13,9 +13,11 @@ use Rattle.chess_base.proofs.shared.Men.{in_board}
 use Rattle.chess_base.proofs.shared.LegalMoves.{before-after}
 use Rattle.chess_moves.specs.Made.{WasMade, IsMade}
 
+-- the position before a move that was made
 pub WasMade-back : (p : Setup) (m : Move) (s : Saved) (q : Setup) → WasMade p m s q → before q m s ≡ p
 WasMade-back p m s q h = rw (h.left, h.saved) (before-after p m h.sound h.legal)
 
+-- the position before a move that was made is sound
 pub IsMade-sound : (q : Setup) (m : Move) (s : Saved) → IsMade q m s → IsSound (before q m s)
 IsMade-sound q m s h = rw (WasMade-back h.0 m s q h.1) h.1.sound
 

@@ -1,12 +1,14 @@
 -- For boards and texts of moves: the squares of a set, one after another.
 use mathlib.Core.Bool.{and-true}
-use Rattle.std.proofs.Common.{◌≡◌, ℕ, zero, suc, ◌<◌, ◌≤◌, ◌+◌, inl, inr, Bool, true, false, not, ◌&&◌, ◌==◌, refl, sym, ◌∙◌, ap, arith, List, [], ◌∷◌}
+use Rattle.std.proofs.Common.{◌≡◌, ℕ, zero, suc, ◌<◌, ◌≤◌, ◌+◌, inl, inr, Bool, true, false, not, ◌&&◌, ◌==◌, refl, sym, ◌∙◌, ap, arith, List, [], ◌∷◌, length}
 use Rattle.std.proofs.lemmas.Bool.{cases_Bool, lt-ltb, eq-eqb, ne_eqb, cases_lt}
+use Rattle.std.proofs.lemmas.List.Sums.{count_by-le-length, length-filter}
 use Rattle.std.proofs.lemmas.Nat.Bits.{bit_at-zero}
 use Rattle.std.specs.List.{range_with_len, filter, flat_map}
 use Rattle.chess_base.specs.Squares.{squares}
 use Rattle.chess_moves.specs.Sets.{contains, IsNearest, members}
 
+-- no number of a range passes, so none is kept
 pub filter_none : (p : ℕ → Bool) (n a : ℕ) → ((k : ℕ) → a ≤ k → k < a + n → p k ≡ false)
     → filter p (range_with_len a n) ≡ []
 filter_none p zero a h = refl
@@ -19,6 +21,7 @@ filter_same p q zero a h = refl
 filter_same p q (suc n) a h =
     rw (h a (omega arith) (omega arith), filter_same p q n (a + 1) (λ k l m. h k (omega arith) (omega arith))) refl
 
+-- the first number of a range that passes, and those kept after it
 pub filter_first : (p q : ℕ → Bool) (f n a : ℕ) → a ≤ f → f < a + n
     → p f ≡ true
     → ((k : ℕ) → k < f → p k ≡ false)
@@ -41,21 +44,26 @@ filter_first p q f (suc n) a low high here nearer rest fits =
           (λ k l m. sym (rest k (omega arith) ∙ rw (ne_eqb k f (omega arith)) (and-true (p k))))))
     ]
 
+-- the squares are the range from 0 on
 pub by_range : squares ≡ range_with_len 0 64
 unfolding squares
 by_range = refl
 
+-- the members of a set are those of the range
 pub of_range : (w : ℕ) → members w ≡ filter (λ k. contains w k) (range_with_len 0 64)
 unfolding members
 of_range w = rw by_range refl
 
+-- the set 0 has no square
 pub has_zero : (k : ℕ) → contains 0 k ≡ false
 unfolding contains
 has_zero k = rw (bit_at-zero k) refl
 
+-- an empty set has no members
 pub members_none : (w : ℕ) → w ≡ 0 → members w ≡ []
 members_none w e = of_range w ∙ filter_none (λ k. contains w k) 64 0 (λ k l m. rw e (has_zero k))
 
+-- the members of a set: its first, and those of the set without it
 pub members_first : (w v f : ℕ) → f < 64 → IsNearest true w f → ((k : ℕ) → k < 64 → contains v k ≡ (contains w k && not (k == f)))
     → members w ≡ f ∷ members v
 members_first w v f h n rest =
@@ -76,7 +84,15 @@ flat_map-filter f q (suc n) a h =
       | inr off ↦ rw (off, rest, h a (omega arith) off) refl
     ]
 
+-- the lists of a set's squares are those of all squares, if the others have none
 pub flat_map_members : {B : Type 0} (f : ℕ → List B) (w : ℕ) → ((k : ℕ) → k < 64 → contains w k ≡ false → f k ≡ [])
     → flat_map f (members w) ≡ flat_map f squares
 flat_map_members f w h =
     rw (of_range w, by_range) (flat_map-filter f (λ k. contains w k) 64 0 (λ k l e. h k (omega arith) e))
+
+-- a set has at most 64 squares
+pub length_members : (w : ℕ) → length (members w) ≤ 64
+unfolding members squares
+length_members w =
+    let all : length squares ≡ 64 = refl in
+    omega (arith, all, length-filter (λ k. contains w k) squares, count_by-le-length (λ k. contains w k) squares)

@@ -16,6 +16,7 @@ use Rattle.chess_moves.specs.shared.MovesBySquares.{moves_with, moves_between, m
 use Rattle.chess_moves.specs.Promoting.{would_promote}
 use Rattle.chess_moves.proofs.Reach.{own_man_moves, promotes_on_last_rank, stays_below_last_rank}
 
+-- what a filter keeps of the lists for each element
 pub filter-flat_map : {A B : Type 0} (q : B → Bool) (f : A → List B) (xs : List A)
     → filter q (flat_map f xs) ≡ flat_map (λ x. filter q (f x)) xs
 filter-flat_map q f [] = refl
@@ -34,6 +35,7 @@ moves-by_start p =
     ∙ ap (λ (f : ℕ → List Move). flat_map f squares)
     (fun_ext (λ a. filter-flat_map (λ m. is_legal p m) (λ b. map (move_of a b) promotions) squares))
 
+-- where no promotion makes a move legal there is none between two squares
 pub none_with : (p : Setup) (a b : ℕ) (kinds : List (Option Kind)) → ((k : Option Kind) → is_legal p (move_of a b k) ≡ false)
     → moves_with p a b kinds ≡ []
 none_with p a b [] h = refl
@@ -62,6 +64,7 @@ not_promoted : (p : Setup) (a b : ℕ) (k : Kind) → would_promote p a b ≡ fa
 not_promoted p a b k n = false_from_ne_true _
     (λ h. both_ways _ n (promotes_on_last_rank p (move_of a b (Some k)) k refl h))
 
+-- where no pawn would promote, only the move without a promotion may be legal
 pub none_promotes : (p : Setup) (a b : ℕ) → would_promote p a b ≡ false
     → moves_between p a b ≡ moves_with p a b (None ∷ [])
 unfolding moves_between

@@ -8,6 +8,7 @@ use Rattle.chess_base.specs.Men.{man_at, is_man}
 use Rattle.chess_base.specs.Moves.{is_legal, is_pseudo_legal}
 use Rattle.chess_moves.specs.Sets.{contains, HasOrigins}
 
+-- a legal move begins on one of the 64 squares
 pub begins_below : (p : Setup) (m : Move) → is_legal p m ≡ true → m.from < 64
 unfolding is_legal is_pseudo_legal
 begins_below p m h = grind (arith, nat_tests, h)

@@ -21,11 +21,13 @@ xor_from a [] = sym (xor_zero_r a)
 xor_from a (n ∷ ns) = xor_from (bit_xor a n) ns ∙ xor_assoc a n (xor_of ns)
     ∙ ap (λ x. bit_xor a x) (sym (xor_from n ns))
 
+-- the XOR of two lists, one after the other
 pub xor_append : (ms ns : List ℕ) → xor_of (ms ++ ns) ≡ bit_xor (xor_of ms) (xor_of ns)
 xor_append ms ns = fold-append bit_xor 0 ms ns ∙ xor_from (xor_of ms) ns
 
 -- ---- a position's parts
 
+-- the keys of the rights, one right after the other
 pub rights_apart : (r : Rights)
     → xor_of (rights_keys r)
     ≡ bit_xor
@@ -40,6 +42,7 @@ rights_apart r =
     xor_append (a ++ b ++ c) d
     ∙ ap (λ x. bit_xor x (xor_of d)) (xor_append (a ++ b) c ∙ ap (λ x. bit_xor x (xor_of c)) (xor_append a b))
 
+-- a position's hash, by pieces, side and rights
 pub hash_apart : (men : Men) (side : Colour) (rights : Rights)
     → position_hash men side rights
     ≡ bit_xor (bit_xor (xor_of (men_keys men)) (xor_of (side_keys side))) (xor_of (rights_keys rights))
@@ -59,6 +62,7 @@ xor_turn g hash k e =
     ap (λ x. bit_xor x (xor_of (g k))) e ∙ sym (xor_append (flat_map g (numbers k)) (g k))
     ∙ ap (λ ns. xor_of ns) (sym (gathered-more g k)) ∙ ap (λ v. xor_of (flat_map g (numbers v))) (sym (add-one k))
 
+-- after all 64 squares a hash is that of the pieces
 pub xor_end : (men : Men) (hash k : ℕ) → hash ≡ xor_of (flat_map (keys_on men) (numbers k)) → k ≡ 64
     → hash ≡ xor_of (men_keys men)
 unfolding men_keys squares
@@ -71,6 +75,7 @@ same_lists f g (suc n) a same =
     ap (λ xs. xs ++ flat_map g (range_with_len (a + 1) n)) (same a (omega arith) (omega arith))
     ∙ ap (λ xs. f a ++ xs) (same_lists f g n (a + 1) (λ k l h. same k (omega arith) (omega arith)))
 
+-- numbers without elements give an empty list
 pub no_lists : (g : ℕ → List ℕ) (n a : ℕ) → ((k : ℕ) → a ≤ k → k < a + n → g k ≡ [])
     → flat_map g (range_with_len a n) ≡ []
 no_lists g zero a none = refl
@@ -138,6 +143,7 @@ hash_put men s x hash change all low bare e f =
     ∙ sym (men_changed men s (man_key x s) (Some x) all low
     (ap (λ v. bit_xor (xor_of (square_keys s v)) (man_key x s)) (sym bare)))
 
+-- the hash of the pieces without the one of a square
 pub hash_lifted : (men : Men) (s : ℕ) (x : Man) (hash change : ℕ) → length men ≡ 64 → s < 64 → man_at men s ≡ Some x
     → hash ≡ xor_of (men_keys men) → change ≡ man_key x s
     → bit_xor hash change ≡ xor_of (men_keys (set men s None))

@@ -1,6 +1,6 @@
 -- The kinds of words in a game's text.
 use Rattle.std.specs.Prelude.{ℕ, List, if◌then◌else◌}
-use Rattle.chess_base.specs.Letters.{is_digit}
+use Rattle.byte_devices.specs.Bytes.{is_digit}
 use Rattle.std.specs.List.{list_all}
 use Rattle.std.specs.Option.{option_map_or}
 use Rattle.chess_pgn.specs.declared.word_kind.WordKind.{WordKind}

@@ -1,6 +1,6 @@
 -- How a word begins, as the reader asks it.
 use Rattle.std.specs.Prelude.{ℕ, Bool, false, List, [], ◌∷◌, nat_le}
-use Rattle.chess_base.specs.Letters.{byte}
+use Rattle.byte_devices.specs.Bytes.{byte}
 
 -- whether a word's first byte is `A` or greater: a letter or `_`, so that it is no number, outcome or mark
 abbrev pub begins_as_move : List ℕ → Bool

@@ -1,6 +1,6 @@
 -- A gap byte by byte.
 use Rattle.std.specs.Prelude.{ℕ, Bool, true, false, not, ◌&&◌, List, [], ◌∷◌, ◌==◌, if◌then◌else◌}
-use Rattle.chess_base.specs.Letters.{byte, new_line}
+use Rattle.byte_devices.specs.Bytes.{byte, new_line}
 use Rattle.chess_pgn.specs.Tokens.{is_white_space}
 
 -- the text after the white space and `%` lines at its front. `skips` is whether its first byte is inside such a line

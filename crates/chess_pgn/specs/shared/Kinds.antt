@@ -1,7 +1,7 @@
 -- The tokens of a text by their kinds: the split of specs/Split, where a token is the longest of its kind.
 use Rattle.std.specs.Prelude.{◌≡◌, ℕ, ◌+◌, ◌-◌, ◌<◌, ◌⊎◌, Bool, true, false, ◌||◌, List, [], ◌∷◌, ◌++◌, length, drop, codes, ◌==◌}
 use Rattle.std.specs.List.{list_all, list_any}
-use Rattle.chess_base.specs.Letters.{is_digit, byte, new_line}
+use Rattle.byte_devices.specs.Bytes.{is_digit, byte, new_line}
 use Rattle.chess_pgn.specs.Split.{lacks, skips_line, IsInside, IsGap, OpensTag, IsString, HasOpenComment}
 use Rattle.chess_pgn.specs.Tokens.{Token, Skip, Tag, Word, Bad_tag, Unclosed_comment, Unclosed_variation, Bad, is_white_space, is_word_byte, begins_line}
 

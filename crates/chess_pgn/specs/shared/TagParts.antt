@@ -1,9 +1,8 @@
 -- A tag by its parts, each with what is left after it.
 use Rattle.std.specs.Prelude.{ℕ, List, [], ◌∷◌, length, drop, Option, Some, None}
 use Rattle.std.specs.List.{prefix_len, take_while}
-use Rattle.chess_base.specs.Letters.{byte}
+use Rattle.byte_devices.specs.Bytes.{byte, is_name_byte}
 use Rattle.chess_pgn.specs.Tokens.{Token, Tag, Bad_tag, after_gap, after_next, string_at}
-use Rattle.text_lines.specs.Words.{is_name_byte}
 
 -- the tag with this name and text, and the text after its `]`, which is given; `Bad_tag` if it is `None`, as there is
 -- no `]`. `to_end` counts the bytes from the tag's string on

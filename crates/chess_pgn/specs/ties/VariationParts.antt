@@ -1,6 +1,6 @@
 -- A variation by the parts that are skipped at once, where a line begins or not.
 use Rattle.std.specs.Prelude.{ℕ, zero, suc, ◌+◌, Bool, ◌&&◌, ◌||◌, List, Option, Some, None, ◌==◌, if◌then◌else◌}
-use Rattle.chess_base.specs.Letters.{byte}
+use Rattle.byte_devices.specs.Bytes.{byte}
 use Rattle.chess_pgn.specs.Tokens.{line_end, after_brace}
 
 -- the text after the byte `c` inside a variation, or after the `%` line, `;` comment or `{` comment that it begins;

@@ -1,7 +1,7 @@
 -- The laws of the texts, each as one statement.
 use Rattle.std.specs.Prelude.{◌≡◌, ℕ, ◌≤◌, ◌==◌, Bool, false, ◌||◌, ◌⊎◌, ◌↔◌, List, [], ◌∷◌, length, Some, IsTrue, ◌<◌, IfSome}
 use Rattle.chess_base.specs.Coordinates.{coordinate}
-use Rattle.chess_base.specs.Letters.{is_digit, is_letter, byte}
+use Rattle.byte_devices.specs.Bytes.{is_digit, is_letter, byte}
 use Rattle.std.specs.List.{list_all}
 use Rattle.chess_base.specs.declared.man.CastlingSide.{CastlingSide}
 use Rattle.chess_base.specs.declared.man.Move.{Move}

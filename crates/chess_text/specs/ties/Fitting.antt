@@ -5,7 +5,8 @@ use Rattle.chess_base.specs.declared.man.CastlingSide.TheVariants.{KingSide, Que
 use Rattle.chess_base.specs.declared.man.Kind.{Kind}
 use Rattle.chess_base.specs.declared.man.Kind.TheVariants.{Pawn}
 use Rattle.chess_base.specs.shared.Parts.{optional}
-use Rattle.chess_base.specs.Letters.{byte, white_letter, square_text}
+use Rattle.chess_base.specs.Letters.{white_letter, square_text}
+use Rattle.byte_devices.specs.Bytes.{byte}
 use Rattle.chess_base.specs.Men.{same_kind}
 use Rattle.chess_base.specs.Squares.{file, rank}
 use Rattle.chess_text.specs.declared.described.Described.{Described}

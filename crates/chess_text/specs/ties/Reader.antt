@@ -3,7 +3,8 @@
 use Rattle.std.specs.Prelude.{ℕ, ◌+◌, ◌-◌, ◌*◌, ◌==◌, Bool, true, false, ◌&&◌, ◌||◌, if◌then◌else◌, List, [], ◌∷◌, find, Option, Some, None}
 use Rattle.std.specs.Option.{option_map}
 use Rattle.chess_base.specs.declared.man.Kind.{Kind}
-use Rattle.chess_base.specs.Letters.{byte, white_letter, is_file_letter, is_rank_digit}
+use Rattle.chess_base.specs.Letters.{white_letter, is_file_letter, is_rank_digit}
+use Rattle.byte_devices.specs.Bytes.{byte}
 use Rattle.chess_text.specs.declared.parts.Parts.{Parts}
 use Rattle.chess_text.specs.declared.parts.End.{End}
 use Rattle.chess_text.specs.declared.parts.Promotion.{Promotion}

@@ -1,7 +1,8 @@
 -- The parts of texts of the usual shapes, as code reads them at once.
 use Rattle.std.specs.Prelude.{ℕ, ◌+◌, ◌-◌, ◌*◌, ◌==◌, Bool, true, false, ◌&&◌, if◌then◌else◌, List, [], ◌∷◌, Option, Some, None}
 use Rattle.std.specs.Option.{option_map}
-use Rattle.chess_base.specs.Letters.{byte, is_file_letter, is_rank_digit}
+use Rattle.chess_base.specs.Letters.{is_file_letter, is_rank_digit}
+use Rattle.byte_devices.specs.Bytes.{byte}
 use Rattle.chess_base.specs.declared.man.Kind.{Kind}
 use Rattle.chess_base.specs.declared.man.Kind.TheVariants.{Pawn}
 use Rattle.chess_text.specs.declared.parts.Parts.{Parts}

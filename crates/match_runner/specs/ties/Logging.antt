@@ -1,6 +1,6 @@
 -- What code adds to a log, and a log before as a text.
 use Rattle.std.specs.Prelude.{◌≡◌, ℕ, ◌==◌, Bool, true, false, if◌then◌else◌, List, [], ◌∷◌, ◌++◌, codes, decimal, Option, Some, None}
-use Rattle.chess_base.specs.Letters.{byte}
+use Rattle.byte_devices.specs.Bytes.{byte}
 use Rattle.chess_base.specs.declared.man.Colour.{Colour}
 use Rattle.chess_base.specs.declared.man.Colour.TheVariants.{White, Black}
 use Rattle.chess_base.specs.Men.{same_colour}

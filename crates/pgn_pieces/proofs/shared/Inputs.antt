@@ -6,9 +6,10 @@ use Rattle.byte_devices.proofs.shared.Devices.{consumes_more, consumes_none, con
 use Rattle.std.specs.Io.KnownBytes.{Consumes}
 use Rattle.pgn_pieces.specs.Pieces.{GaveThenFailed, HasRead}
 
+-- where nothing changes, nothing was read
 pub nothing_read : (r : InputState) → HasRead false r r []
 nothing_read r =
-    record { bytes = consumes_none r.known_bytes; failures = refl; ends = refl; at_end = λ e. absurd (cc) }
+    record { bytes = consumes_none r.known_bytes; failures = refl; ends = refl; silences = refl; at_end = λ e. absurd (cc) }
 
 is_none : (xs : List ℕ) → (length xs == 0) ≡ true → length xs ≡ 0
 is_none xs h = grind (arith, nat_tests, h)
@@ -21,9 +22,11 @@ read_on b r r' r'' text more h front gave = record {
   failures = gave.failures ∙ front.failures;
   ends = gave.ends ∙ ap (λ c. if c then saturating_increment r'.end_count else r'.end_count) h
       ∙ ap (λ n. if b then saturating_increment n else n) front.ends;
+  silences = gave.silences ∙ front.silences;
   at_end = λ e. gave.at_end (is_none more (h ∙ e));
 }
 
+-- a text was read, and then a read failed
 pub broke_off : (r r' r'' : InputState) (text : List ℕ) → HasRead false r r' text → FailedToRead r' r''
     → GaveThenFailed r r'' text
 broke_off r r' r'' text front failed = record {
@@ -32,4 +35,5 @@ broke_off r r' r'' text front failed = record {
       (consumes_kept r'.known_bytes r''.known_bytes failed.bytes));
   failures = failed.failures ∙ ap saturating_increment front.failures;
   ends = failed.ends ∙ front.ends;
+  silences = failed.silences ∙ front.silences;
 }

@@ -4,8 +4,8 @@ use Rattle.std.specs.List.{sum_by}
 use Rattle.pgn_pieces.specs.Stream.{PieceSeen, pieces_seen}
 use Rattle.pgn_pieces.specs.Places.{line_of, column_of}
 
--- a piece of a text, after the pieces `before`: its bytes are those at its offset, which is where a line begins; the
--- line's number is one more than the number of line ends in the pieces before
+-- a piece of a text, after the pieces `before`: its bytes are those at its offset, where a line begins, so that its
+-- column is 1; the line's number is one more than the number of line ends in the pieces before
 pub record IsInPlace (text : List ℕ) (before : List PieceSeen) (piece : PieceSeen) : Type 0 where
   pub bytes : (bytes : List ℕ) → piece.bytes ≡ Some bytes → take (length bytes) (drop piece.offset text) ≡ bytes
   pub line : line_of text piece.offset ≡ sum_by (λ (p : PieceSeen). p.line_ends) before + 1

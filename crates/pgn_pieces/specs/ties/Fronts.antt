@@ -2,7 +2,8 @@
 use Rattle.std.specs.Prelude.{ℕ, Bool, ◌&&◌, ◌||◌, ◌==◌, nat_lt, List, length, take, codes}
 use Rattle.std.specs.List.{list_all}
 use Rattle.std.specs.Str.{bytes_eq}
-use Rattle.pgn_pieces.specs.Pieces.{is_blank, tag_name, after_name}
+use Rattle.pgn_pieces.specs.Pieces.{tag_name, after_name}
+use Rattle.byte_devices.specs.Bytes.{is_blank}
 use Rattle.pgn_pieces.specs.Places.{ends_line}
 
 -- whether a line with this front is a tag line

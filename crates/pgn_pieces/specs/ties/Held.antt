@@ -10,7 +10,7 @@ use Rattle.pgn_pieces.specs.declared.pieces.PieceFault.TheVariants.{ReadFailed, 
 use Rattle.pgn_pieces.specs.declared.pieces.TheConstants.{PIECE_LEN}
 use Rattle.pgn_pieces.specs.Pieces.{lines_of, is_tag_line, is_event_line, is_moves_line, begins_piece, cut}
 use Rattle.pgn_pieces.specs.ties.Cutting.{cut_lines, piece_of}
-use Rattle.pgn_pieces.specs.Places.{ends_line, line_ends}
+use Rattle.pgn_pieces.specs.Places.{breaks_line, line_ends}
 use Rattle.pgn_pieces.specs.Stream.{State}
 
 -- the state s with the next `n` of the bytes that were read (`coming`) added to the current piece
@@ -18,9 +18,17 @@ abbrev pub passed : ℕ → State → State
 passed n s =
     record { offset = s.offset; part = s.part ++ take n s.coming; coming = drop n s.coming; ended = s.ended }
 
--- whether `\n` is among these bytes
+-- whether `\n` or `\r` is among these bytes
 abbrev pub has_line_end : List ℕ → Bool
-has_line_end = list_any ends_line
+has_line_end = list_any breaks_line
+
+-- these bytes are a line's, or the rest of one, with the byte that ends it, and no more
+pub record IsWhole (line : List ℕ) : Type 0 where
+  pub body : List ℕ
+  pub end : ℕ
+  pub all : line ≡ body ++ end ∷ []
+  pub ends : breaks_line end ≡ true
+  pub plain : has_line_end body ≡ false
 
 -- ---- the lines of a piece
 
@@ -62,7 +70,7 @@ pub record Ends (piece text : List ℕ) : Type 0 where
   pub some : 0 < length piece
   pub more : 0 < length text
 
--- what was found of a line, which ends with `\n`, after what was seen of a piece: the piece ends before it (true), or
+-- what was found of a whole line (`IsWhole`) after what was seen of a piece: the piece ends before it (true), or
 -- the line belongs to it
 abbrev pub SeesWhole : Seen → Seen → List ℕ → Bool → Type 0
 SeesWhole seen seen' line true = (piece more : List ℕ) → HasSeen seen piece → Ends piece (line ++ more)

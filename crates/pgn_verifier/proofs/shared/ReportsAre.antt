@@ -1,34 +1,37 @@
 -- The reports that are made one after another are those of the definitions.
-use Rattle.std.proofs.Common.{◌≡◌, ℕ, zero, suc, ◌+◌, ◌<◌, ◌≤◌, Bool, List, [], ◌∷◌, length, drop, Option, Some, None, IfSome, true, false, Result, Ok, Err, IfOk, refl, arith}
+use Rattle.std.proofs.Common.{◌≡◌, ℕ, zero, suc, ◌+◌, ◌<◌, ◌≤◌, Bool, List, [], ◌∷◌, length, drop, Option, Some, None, IfSome, true, false, Result, Ok, Err, IfOk, refl, ap, subst, arith}
 use Rattle.std.specs.List.{flat_map}
 use Rattle.std.specs.Option.{option_map_or}
 use Rattle.std.specs.Prelude.{nat_le, if◌then◌else◌}
 use Rattle.std.specs.Bool.{MatchBool}
-use Rattle.chess_game.specs.Game.{verdict_now}
+use Rattle.chess_game.specs.Game.{State, verdict_now}
 use Rattle.chess_game.specs.declared.game.TheConstants.{MOST_MOVES}
 use Rattle.chess_game.specs.declared.verdicts.Verdict.{Verdict}
 use Rattle.chess_pgn.specs.GameRead.{pgn_read}
 use Rattle.chess_pgn.specs.LastTags.{result_tag_of}
-use Rattle.chess_pgn.specs.Tokens.{after_byte_order_mark, tokens_from}
+use Rattle.chess_pgn.specs.Tokens.{tokens_from}
+use Rattle.byte_devices.specs.Bytes.{after_byte_order_mark}
 use Rattle.chess_pgn.specs.declared.read.PgnEnd.{PgnEnd}
 use Rattle.chess_pgn.specs.declared.read.PgnFault.{PgnFault}
 use Rattle.chess_pgn.specs.declared.tagged_result.ResultTag.{ResultTag}
 use Rattle.chess_pgn.proofs.shared.Ends.{ends_in_text}
-use Rattle.chess_pgn.proofs.shared.Tokens.{read_split}
+use Rattle.chess_pgn.proofs.shared.Tokens.{read_split, split_read}
 use Rattle.pgn_pieces.specs.Pieces.{known_pieces}
 use Rattle.pgn_pieces.specs.Stream.{Piece, with_offsets, pieces}
 use Rattle.pgn_pieces.specs.declared.pieces.TheConstants.{PIECE_LEN}
 use Rattle.pgn_verifier.specs.Collection.{AreCollectionReports, no_piece, next_piece}
 use Rattle.pgn_verifier.specs.GameFaults.{judged, IsJudged}
 use Rattle.pgn_verifier.specs.shared.Contradictions.{contradiction}
-use Rattle.pgn_verifier.specs.Reports.{AreReports, none_left, next_game, last_fault, AreReportsIn}
+use Rattle.pgn_verifier.specs.Explanations.{wrong_part}
+use Rattle.pgn_verifier.specs.Reports.{Game, Faulty, Placed, game_begin, names_of, AreReports, none_left, next_game, last_fault, AreReportsIn}
 use Rattle.pgn_verifier.specs.declared.game_fault.GameFault.{GameFault}
-use Rattle.pgn_verifier.specs.laws.Reasons.{reason}
+use Rattle.pgn_verifier.specs.laws.Reasons.{reason, explanation_of}
 use Rattle.pgn_verifier.proofs.shared.TagReasons.{reason_is}
-use Rattle.pgn_verifier.specs.laws.Reported.{read_at, judged_at, placed_then, placed_from, placed_on, placed_in, collection_placed, too_long_placed}
+use Rattle.pgn_verifier.specs.laws.Reported.{names_at, read_at, judged_at, placed_then, placed_from, placed_on, placed_in, collection_placed, too_long_placed}
 
 -- ---- one game
 
+-- what is judged of a text is what `IsJudged` asks for
 pub judged_is : (strict : Bool) (text : List ℕ) (at : ℕ)
     → IsJudged strict text at (read_at text at).state (judged_at strict text at)
 unfolding pgn_read
@@ -41,6 +44,11 @@ judged_is strict text at = record {
 }
 
 -- ---- a text
+
+-- what names a game, by the tokens by which it was judged
+pub named : {strict : Bool} {text : List ℕ} {at : ℕ} {s : State} {r : Result (Option PgnEnd) GameFault}
+    → (j : IsJudged strict text at s r) → names_of j.tokens ≡ names_at text at
+named {strict} {text} j = ap names_of (split_read text j.split)
 
 abbrev EndsIn : ℕ → ℕ → Result (Option PgnEnd) GameFault → Type 0
 EndsIn total at r = IfOk r (λ o. IfSome o (λ e. (at < e.offset) × (e.offset ≤ total)))
@@ -78,12 +86,28 @@ from_here strict start (suc n) text at h k =
         (placed_then start text at r (read_at text at).state (λ next. placed_from strict start n text next))
     by_answer (Ok None) j i later = none_left j
     by_answer (Ok (Some end)) j i later =
-        let low = i.0 in next_game j (later end.offset i.1 (omega (arith, k, low)))
+        let low = i.0 in
+        let s : State = (read_at text at).state in
+        let more : List Placed = placed_from strict start n text end.offset in
+        subst (λ names. AreReports strict start text at (record {
+          begin = start + game_begin text at;
+          end = start + end.offset;
+          names = Some names;
+          report = Game (length s.moves) end.outcome end.termination;
+        } ∷ more)) (named j) (next_game j (later end.offset i.1 (omega (arith, k, low))))
     by_answer (Err fault) j i later =
         let rest : List ℕ = drop fault.offset text in
         let verdict : Option Verdict = verdict_now (read_at text at).state in
-        last_fault (reason fault.kind rest verdict) j (reason_is fault.kind rest verdict)
+        let s : State = (read_at text at).state in
+        subst (λ names. AreReports strict start text at (record {
+          begin = start + game_begin text at;
+          end = start + length text;
+          names = Some names;
+          report = Faulty (record fault { offset = start + fault.offset })
+              (start + fault.offset + (wrong_part fault.kind rest).0) (explanation_of s rest fault.kind);
+        } ∷ [])) (named j) (last_fault (reason fault.kind rest verdict) j (reason_is fault.kind rest verdict))
 
+-- the reports on a text are those that `AreReports` asks for
 pub are_reports : (strict : Bool) (start : ℕ) (text : List ℕ)
     → AreReports strict start text 0 (placed_on strict start text)
 are_reports strict start text = from_here strict start (length text + 1) text 0 (omega arith) (omega arith)
@@ -108,6 +132,7 @@ are_all strict offset (piece ∷ more) =
     next_piece (placed_in strict (record { offset = offset; bytes = piece }))
     (reports_are_in strict (record { offset = offset; bytes = piece })) (are_all strict (offset + length piece) more)
 
+-- the reports on a collection are those that `AreCollectionReports` asks for
 pub are_collection_reports : (strict ended : Bool) (text : List ℕ)
     → AreCollectionReports strict 0 (known_pieces ended text) (collection_placed strict ended text)
 unfolding pieces

@@ -5,7 +5,7 @@ use Rattle.std.specs.List.{list_all}
 use Rattle.std.specs.Option.{option_map_or}
 use Rattle.std.proofs.lemmas.Bool.{and_parts, eqb-true}
 use Rattle.chess_game.specs.declared.verdicts.Verdict.{Verdict}
-use Rattle.text_lines.specs.Words.{is_name_byte}
+use Rattle.byte_devices.specs.Bytes.{is_name_byte}
 use Rattle.chess_pgn.specs.Split.{IsGap}
 use Rattle.chess_pgn.specs.Tokens.{after_gap, after_next, name_at, string_at}
 use Rattle.chess_pgn.specs.declared.read.PgnFaultKind.TheVariants as pgn
@@ -37,6 +37,7 @@ pub record Opened (text rest : List ℕ) : Type 0 where
   pub named : name_at (after_gap text) ≡ Some (name, after_name)
   pub quoted : after_next 34 after_name ≡ Some rest
 
+-- the parts of a tag up to its first quote, as they are read
 pub opened : (text rest : List ℕ) → HasOpening (91 ∷ text) rest → Opened text rest
 opened text rest (name, opening, o, is) =
     let read = opening_read o rest in record {
@@ -51,6 +52,7 @@ has_string text (string, rest, h, is) = ap (λ xs. is_some (string_at xs)) is �
 
 -- ---- what is read is what the text has
 
+-- a name that is read after a gap is there
 pub name_found : (text : List ℕ) (found : List ℕ × List ℕ) → name_at (after_gap text) ≡ Some found → HasName (91 ∷ text)
 name_found text found h = by_name found.0 read.some read.named (name_after_gap text found h)
   where
@@ -100,6 +102,7 @@ by_name text = by_found (name_at (after_gap text)) refl
     by_found None e = no_name (λ h. (let some : false ≡ true = sym (ap is_some e) ∙ has_name text h in absurd (cc)))
     by_found (Some found) e = by_value text found e
 
+-- the reason for a bad tag is right
 pub tag_reason_is : (text : List ℕ) → IsTagReason text (Some (tag_reason text))
 tag_reason_is [] = no_name empty
   where
@@ -120,6 +123,7 @@ tag_reason_is (c ∷ rest) = by_test (eqb c 91) refl
 
 -- ---- the reasons for all faults
 
+-- the reason for a fault is right
 pub reason_is : (kind : FaultKind) (text : List ℕ) (verdict : Option Verdict)
     → IsReason kind text verdict (reason kind text verdict)
 reason_is (Pgn pgn.BadTag) text verdict = tag_reason_is text

@@ -3,15 +3,15 @@
 use Rattle.std.specs.Prelude.{ℕ, ◌++◌, if◌then◌else◌, List, take, codes, is_some, Option, Some, None}
 use Rattle.std.specs.Option.{option_map, option_map_or}
 use Rattle.chess_base.specs.Faults.{fen_fault_name}
-use Rattle.chess_base.specs.Letters.{byte}
+use Rattle.byte_devices.specs.Bytes.{byte}
 use Rattle.chess_game.specs.Ends.{verdict_result, result_text}
 use Rattle.chess_game.specs.Game.{State, verdict_now}
 use Rattle.chess_game.specs.Results.{outcome_text}
 use Rattle.chess_game.specs.declared.verdicts.Verdict.{Verdict}
 use Rattle.chess_pgn.specs.Tokens.{after_byte, after_gap, after_next, name_at, string_at}
-use Rattle.chess_pgn.specs.declared.read.PgnFaultKind.TheVariants.{BadTag, BadFen, BadToken, AfterEnd}
+use Rattle.chess_pgn.specs.declared.read.PgnFaultKind.TheVariants.{BadTag, BadFen, BadToken, IllegalMove, AfterEnd}
 use Rattle.pgn_verifier.specs.Explanations.{explanation, shown}
-use Rattle.pgn_verifier.specs.WrongParts.{token_reason}
+use Rattle.pgn_verifier.specs.WrongParts.{move_reason, token_reason}
 use Rattle.pgn_verifier.specs.declared.game_fault.FaultKind.{FaultKind}
 use Rattle.pgn_verifier.specs.declared.game_fault.FaultKind.TheVariants.{Pgn, ResultDiffers, BoardSaysOtherwise}
 
@@ -45,6 +45,7 @@ abbrev pub reason : FaultKind → List ℕ → Option Verdict → Option (List �
 reason (Pgn BadTag) text verdict = Some (tag_reason text)
 reason (Pgn (BadFen fault)) text verdict = Some (fen_fault_name fault)
 reason (Pgn BadToken) text verdict = Some (token_reason text)
+reason (Pgn IllegalMove) text verdict = move_reason text
 reason (Pgn AfterEnd) text verdict = option_map (λ v. result_text (verdict_result v)) verdict
 reason (ResultDiffers tag_len outcome) text verdict =
     Some (codes "Result " ++ (shown (take tag_len text) ++ (codes ", ended " ++ outcome_text outcome)))

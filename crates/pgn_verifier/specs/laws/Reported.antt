@@ -7,7 +7,8 @@ use Rattle.chess_game.specs.Game.{State, verdict_now}
 use Rattle.chess_game.specs.declared.game.TheConstants.{MOST_MOVES}
 use Rattle.chess_pgn.specs.GameRead.{GameRead, pgn_read}
 use Rattle.chess_pgn.specs.LastTags.{result_tag_of}
-use Rattle.chess_pgn.specs.Tokens.{after_byte_order_mark, tokens_from}
+use Rattle.chess_pgn.specs.Tokens.{tokens_from}
+use Rattle.byte_devices.specs.Bytes.{after_byte_order_mark}
 use Rattle.chess_pgn.specs.declared.read.PgnEnd.{PgnEnd}
 use Rattle.chess_pgn.specs.declared.read.PgnFaultKind.TheVariants.{TooLong}
 use Rattle.pgn_verifier.specs.declared.game_fault.FaultKind.TheVariants.{Pgn}
@@ -15,7 +16,7 @@ use Rattle.pgn_pieces.specs.Stream.{Piece, pieces}
 use Rattle.pgn_pieces.specs.declared.pieces.TheConstants.{PIECE_LEN}
 use Rattle.pgn_verifier.specs.Explanations.{wrong_part, shown}
 use Rattle.pgn_verifier.specs.GameFaults.{judged}
-use Rattle.pgn_verifier.specs.Reports.{Report, Game, Faulty, Placed, game_begin}
+use Rattle.pgn_verifier.specs.Reports.{Report, Game, Faulty, Placed, game_begin, names_of}
 use Rattle.pgn_verifier.specs.declared.game_fault.GameFault.{GameFault}
 use Rattle.pgn_verifier.specs.laws.Reasons.{explanation_of}
 
@@ -73,17 +74,23 @@ collection_reports strict ended text = flat_map (reports_in strict) (pieces ende
 
 -- ---- with their spans
 
--- the report on the game of a text from its offset `at` on, with its span, as `report_then` gives it without
+-- what names the game of a text from its offset `at` on
+abbrev pub names_at : List ℕ → ℕ → List ℕ
+names_at text at = names_of (tokens_from text (after_byte_order_mark text at))
+
+-- the report on the game of a text from its offset `at` on, with its span and names, as `report_then` gives it without
 abbrev pub placed_then : ℕ → List ℕ → ℕ → Result (Option PgnEnd) GameFault → State → (ℕ → List Placed) → List Placed
 placed_then start text at (Ok None) s later = []
 placed_then start text at (Ok (Some end)) s later = record {
   begin = start + game_begin text at;
   end = start + end.offset;
+  names = Some (names_at text at);
   report = Game (length s.moves) end.outcome end.termination;
 } ∷ later end.offset
 placed_then start text at (Err fault) s later = record {
   begin = start + game_begin text at;
   end = start + length text;
+  names = Some (names_at text at);
   report = Faulty (record fault { offset = start + fault.offset })
       (start + fault.offset + (wrong_part fault.kind (drop fault.offset text)).0)
       (explanation_of s (drop fault.offset text) fault.kind);
@@ -102,8 +109,12 @@ placed_on strict start text = placed_from strict start (length text + 1) text 0
 
 -- the report on a piece that is too long, with its span, which is the piece
 abbrev pub too_long_placed : Piece → Placed
-too_long_placed piece =
-    record { begin = piece.offset; end = piece.offset + length piece.bytes; report = too_long_report piece }
+too_long_placed piece = record {
+  begin = piece.offset;
+  end = piece.offset + length piece.bytes;
+  names = None;
+  report = too_long_report piece;
+}
 
 -- the reports of `reports_in`, with their spans
 abbrev pub placed_in : Bool → Piece → List Placed

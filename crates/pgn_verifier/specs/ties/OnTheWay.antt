@@ -82,6 +82,7 @@ abbrev pub too_long_seen : PieceSeen → Placed
 too_long_seen piece = record {
   begin = piece.offset;
   end = piece.end;
+  names = None;
   report = Faulty (record { kind = Pgn TooLong; offset = piece.offset }) piece.offset (shown piece.beginning);
 }
 
@@ -100,10 +101,10 @@ abbrev pub game_line : ℕ → ℕ → Outcome → Option Termination → List �
 game_line number plies outcome termination span = report_line number (decimal plies ++ (codes " half-moves, "
     ++ (outcome_text outcome ++ (option_map_or (λ t. codes ", " ++ termination_text t) termination [] ++ span))))
 
--- the line of a fault; `number` is the game's number, and `span` the end of the line
-abbrev pub fault_line : ℕ → GameFault → List ℕ → List ℕ
-fault_line number fault span =
-    report_line number (fault_name fault.kind ++ (codes " at byte " ++ (decimal fault.offset ++ span)))
+-- the line of a fault; `number` is the game's number, and `span` and `names` are the end of the line
+abbrev pub fault_line : ℕ → GameFault → List ℕ → List ℕ → List ℕ
+fault_line number fault span names =
+    report_line number (fault_name fault.kind ++ (codes " at byte " ++ (decimal fault.offset ++ (span ++ names))))
 
 -- the reports on the games of these pieces, in order; `strict`: results are compared
 abbrev pub reports_of : Bool → List PieceSeen → List Placed

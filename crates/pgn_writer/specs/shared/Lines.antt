@@ -1,6 +1,6 @@
 -- Tokens that are put into lines.
 use Rattle.std.specs.Prelude.{ℕ, ◌+◌, Bool, not, ◌&&◌, List, [], ◌∷◌, ◌++◌, length, ◌==◌, nat_le, if◌then◌else◌}
-use Rattle.chess_base.specs.Letters.{new_line, space}
+use Rattle.byte_devices.specs.Bytes.{new_line, space}
 
 -- ---- from left to right
 

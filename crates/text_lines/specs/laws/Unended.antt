@@ -1,6 +1,6 @@
 -- Bytes that end no line.
 use Rattle.std.specs.Prelude.{◌≢◌, ℕ, List, [], ◌∷◌}
-use Rattle.chess_base.specs.Letters.{new_line}
+use Rattle.byte_devices.specs.Bytes.{new_line}
 
 -- none of these bytes is `\n`, so that they end no line
 abbrev pub HasNoEnd : List ℕ → Type 0

@@ -17,7 +17,9 @@ returns-clause-app c =
     let e3 = c.in_ok-arg-3.ensures.shape c.flag-3.ensures.local ∙ ap₂ with_rule e2 strict in
     let e4 = c.in_ok-arg-4.ensures.shape c.flag-4.ensures.local ∙ ap₂ with_rule e3 explain in
     let spans : rule_of c.flag-5.result ≡ flag_rule (codes "spans") = search rules in
-    IfOk-weaker c.arg-5.result _ _ (λ r h. h.shape c.flag-5.ensures.local ∙ ap₂ with_rule e4 spans) c.arg-5.ensures
+    let e5 = c.in_ok-arg-5.ensures.shape c.flag-5.ensures.local ∙ ap₂ with_rule e4 spans in
+    let names : rule_of c.flag-6.result ≡ flag_rule (codes "names") = search rules in
+    IfOk-weaker c.arg-6.result _ _ (λ r h. h.shape c.flag-6.ensures.local ∙ ap₂ with_rule e5 names) c.arg-6.ensures
 
 pub returns-clause-local : goal.returns-clause-local
 returns-clause-local c =
@@ -26,4 +28,5 @@ returns-clause-local c =
     let e2 = c.in_ok-arg-2.ensures.globals ∙ ap₂ or e1 c.flag-2.ensures.local in
     let e3 = c.in_ok-arg-3.ensures.globals ∙ ap₂ or e2 c.flag-3.ensures.local in
     let e4 = c.in_ok-arg-4.ensures.globals ∙ ap₂ or e3 c.flag-4.ensures.local in
-    IfOk-weaker c.arg-5.result _ _ (λ r h. h.globals ∙ ap₂ or e4 c.flag-5.ensures.local) c.arg-5.ensures
+    let e5 = c.in_ok-arg-5.ensures.globals ∙ ap₂ or e4 c.flag-5.ensures.local in
+    IfOk-weaker c.arg-6.result _ _ (λ r h. h.globals ∙ ap₂ or e5 c.flag-6.ensures.local) c.arg-6.ensures

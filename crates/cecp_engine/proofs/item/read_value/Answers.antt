@@ -4,4 +4,4 @@ use Rattle.cecp_engine.proofs.item.read_value.Goals as goal
 
 pub returns-else-at-tail : goal.returns-else-at-tail
 returns-else-at-tail c =
-    unclosed c.args.text.now c.quote_at-at.result c.if-first-eq34.true c.quote_at-at.ensures.value c.if-at-tail.false
+    unclosed c.args.text.now c.len_before-at.result c.if-first-eq34.true c.len_before-at.ensures.count c.if-at-tail.false

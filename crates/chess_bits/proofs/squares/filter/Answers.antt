@@ -4,8 +4,8 @@ use mathlib.Core.Bool.{and-false, and-true, or-false}
 use Rattle.std.proofs.Common.{◌≡◌, ℕ, ◌<◌, ◌==◌, ◌&&◌, ◌||◌, Bool, inl, inr, false, refl, sym, ap, subst, ◌∙◌}
 use Rattle.std.proofs.lemmas.Bool.{both_ways, cases_Bool, eq-eqb, eqb-true, false_from_ne_true, or_right}
 use Rattle.chess_moves.specs.Sets.{contains}
-use Rattle.chess_bits.proofs.Attackers.{eq_back}
 use Rattle.chess_bits.proofs.Starts.{first_gone, first_in, none_left, taken_first}
+use Rattle.chess_base.proofs.shared.MenAfter.{eqb_comm}
 use Rattle.chess_bits.proofs.squares.filter.Goals as goal
 
 pub test-passed-requires : goal.test-passed-requires
@@ -48,7 +48,7 @@ loop-square-preserved g c =
                 (subst (λ r. g.F.Fn.post c.args.test (s, tt) r) (sym value) c.test-passed.ensures)
             | inr apart ↦
                 subst (λ r. g.F.Fn.post c.args.test (k, tt) r) (sym (same k apart))
-                (inv.inside k low on (rest k low ∙ rw (eq_back s k ∙ apart, out) refl))
+                (inv.inside k low on (rest k low ∙ rw (eqb_comm s k ∙ apart, out) refl))
           ];
       outside = λ k low off.
           same k

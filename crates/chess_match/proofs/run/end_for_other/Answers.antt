@@ -16,7 +16,7 @@ returns-clause-ended g c r m p s =
     let e : Effect = effect r m (FailsToWrite c.args.side) in
     let h = c.note_and_send.ensures.sends r nothing_said e p goes (no_answers _ c.requires.empty) in (
       goes.stands,
-      passed_more _ _ _ (steps_of (FailsToWrite c.args.side)) _ c.note_write_fails.ensures.passes
+      passed_more _ _ _ (steps_of (FailsToWrite c.args.side)) _ c.note.ensures.passes
           (passed_as _ _ _ _ (ap (λ (S : Colour). giving c.note_and_send.result S (e.to S)) c.other.ensures) h.0),
       λ fails. subst (λ (S : Colour). 0 < length (e.to S)) c.other.ensures (h.1 fails),
     )

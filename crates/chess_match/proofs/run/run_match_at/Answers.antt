@@ -48,7 +48,7 @@ events-smaller-in-Moment g c =
     let w = i.0.2 in
     let opens = c.in-Moment.ensures c.events.core.opened in
     opened_less _ _ c.in-Moment.side c.moment-moment.result _ _
-    (c.note_opened.ensures.left ∙ c.moment-moment.ensures.left) opens
+    (c.note.ensures.left ∙ c.moment-moment.ensures.left) opens
     (c.open.ensures r _ i.0.0 (w.stands.phase ∙ opens) w.stands).phase
 
 pub events-preserved-in-Moment : goal.events-preserved-in-Moment
@@ -61,7 +61,7 @@ events-preserved-in-Moment g c =
     let opening = w.stands.phase ∙ c.in-Moment.ensures c.events.core.opened in (
       opened_on r _ _ _ _ _ _ _ i.0.0 i.0.1 S k w opening
           (passed_more _ _ _ (ReadsClock S k ∷ []) (Notes (Happened (Opened S k)) ∷ [])
-          c.moment-moment.ensures.passes c.note_opened.ensures.passes) (c.open.ensures r _ i.0.0 opening w.stands),
+          c.moment-moment.ensures.passes c.note.ensures.passes) (c.open.ensures r _ i.0.0 opening w.stands),
       i.1,
       i.2,
       i.3,

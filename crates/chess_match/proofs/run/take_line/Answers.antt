@@ -1,10 +1,10 @@
 -- The clock is read, the line is noted, and the core takes over what the line says.
-use Rattle.std.proofs.Common.{◌∷◌, [], ap, sym, ◌∙◌}
+use Rattle.std.proofs.Common.{◌∷◌, [], List, ℕ, Option, ap, sym, subst, ◌∙◌}
 use Rattle.cecp_engine.specs.Seen.{seen}
 use Rattle.chess_match.specs.Events.{Line}
 use Rattle.chess_match.specs.Notes.{Happened}
 use Rattle.chess_match.specs.Run.{text_read}
-use Rattle.chess_match.specs.Table.{ReadsClock, Notes}
+use Rattle.chess_match.specs.Table.{Passes, ReadsClock, Notes}
 use Rattle.chess_match.specs.ties.Represents.{items_in}
 use Rattle.chess_match.specs.Acts.{awaits_line}
 use Rattle.chess_match.specs.Effects.{Phase}
@@ -20,7 +20,11 @@ returns-clause-taken g c =
       items_in c.args.core.now.phase (seen c.said.result),
       passed_more _ _ _ (ReadsClock c.args.side c.moment-moment.result ∷ [])
           (Notes (Happened (Line c.args.side (text_read c.args.line.now) c.moment-moment.result)) ∷ [])
-          c.moment-moment.ensures.passes c.note_line.ensures.passes,
+          c.moment-moment.ensures.passes
+          (subst (λ (t : Option (List ℕ)). Passes (g.T.MatchTable.passed c.moment-moment.new.self)
+          (g.T.MatchTable.passed c.note.new.self)
+          (Notes (Happened (Line c.args.side t c.moment-moment.result)) ∷ [])) c.text_read-text.ensures
+          c.note.ensures.passes),
       c.line.ensures.answers c.args.side awaits,
       none_to_other c.args.core.now.phase _ (seen c.said.result) c.args.side awaits,
       λ r m p aw s.

@@ -6,23 +6,25 @@ use Rattle.chess_match.specs.Acts.{Happens}
 use Rattle.chess_match.specs.Events.{FailsToRead, Line, OutputEnds, Silent}
 use Rattle.chess_match.specs.Notes.{Happened}
 use Rattle.chess_match.specs.Run.{text_read}
-use Rattle.chess_match.specs.Table.{Does, FindsNoLine, ReadsLine, Notes}
+use Rattle.chess_match.specs.Table.{Does, FindsNoLine, LooksFor, ReadsLine, Notes}
 use Rattle.chess_match.specs.ties.Driving.{after_line, after_silence}
 use Rattle.chess_match.specs.ties.Represents.{nothing_said}
-use Rattle.chess_match.proofs.CoreSteps.{on_awaiting}
 use Rattle.chess_match.proofs.Passings.{passed_more}
 use Rattle.chess_match.proofs.Sends.{no_answers}
 use Rattle.chess_match.proofs.Takings.{as_fault, as_last, as_line, as_none, as_silence, bare, line_falls}
+use Rattle.chess_match.proofs.shared.MatchCases.{on_when_read}
 use Rattle.chess_match.proofs.run.take_next.Goals as goal
 
 pub returns-in-Err-clause-taken : goal.returns-in-Err-clause-taken
 returns-in-Err-clause-taken g c =
     bare (g.G.MatchGame.plays c.args.game.now) _ _ c.args.core.now (g.G.MatchGame.played c.args.game.now) _ _ _
     c.args.side _ _ _ (FailsToRead c.args.side) (same_colour-self c.args.side) refl refl c.requires.empty
-    (passed_more _ _ _ (Does (Happens (FailsToRead c.args.side)) ∷ []) (Notes (Happened (FailsToRead c.args.side)) ∷ [])
-    (as_fault _ _ c.args.side _ c.read_next.new.line _ c.in-Err.is c.read_next.ensures.passes)
-    c.note_read_fails.ensures.passes)
-    (λ r m p h s. c.read_fails.ensures r _ m (on_awaiting m.phase c.args.side h) s)
+    (passed_more _ _ _ (LooksFor c.args.side _ ∷ Does (Happens (FailsToRead c.args.side)) ∷ [])
+    (Notes (Happened (FailsToRead c.args.side)) ∷ [])
+    (as_fault _ _ c.args.side _ c.read_next.new.line _ c.until.result _ c.until.ensures c.in-Err.is
+    c.read_next.ensures.passes)
+    c.note.ensures.passes)
+    (λ r m p h s. c.read_fails.ensures r _ m (on_when_read m.phase c.args.side h) s)
 
 pub returns-in-Ok-None-clause-taken : goal.returns-in-Ok-None-clause-taken
 returns-in-Ok-None-clause-taken g c =
@@ -32,8 +34,9 @@ returns-in-Ok-None-clause-taken g c =
       Silent c.args.side h.0,
       nothing_said,
       same_colour-self c.args.side,
-      passed_more _ _ _ (FindsNoLine c.args.side ∷ []) (after_silence c.args.side h.0)
-          (as_silence _ _ c.args.side _ c.read_next.new.line found c.read_next.ensures.passes) h.1,
+      passed_more _ _ _ (LooksFor c.args.side _ ∷ FindsNoLine c.args.side ∷ []) (after_silence c.args.side h.0)
+          (as_silence _ _ c.args.side _ c.read_next.new.line c.until.result _ c.until.ensures found
+          c.read_next.ensures.passes) h.1,
       λ is. absurd cc,
       λ is. (
         subst (λ (n : ℕ). n < g.T.MatchTable.left c.args.table.now) (sym c.take_silence.ensures.left) falls.0,
@@ -50,10 +53,11 @@ returns-in-Ok-Some-false-clause-taken g c =
     ∙ ap (λ o. Ok o) (c.in-Ok-Some-false.field-0-is ∙ ap (λ (b : Bool). Some b) c.in-Ok-Some-false.field-0-0-test) in
     bare (g.G.MatchGame.plays c.args.game.now) _ _ c.args.core.now (g.G.MatchGame.played c.args.game.now) _ _ _
     c.args.side _ _ _ (OutputEnds c.args.side) (same_colour-self c.args.side) refl refl c.requires.empty
-    (passed_more _ _ _ (Does (Happens (OutputEnds c.args.side)) ∷ []) (Notes (Happened (OutputEnds c.args.side)) ∷ [])
-    (as_none _ _ c.args.side _ c.read_next.new.line found c.read_next.ensures.passes)
-    c.note_output_ends-in-Ok-Some-false.ensures.passes)
-    (λ r m p h s. c.output_ends-in-Ok-Some-false.ensures r _ m (on_awaiting m.phase c.args.side h) s)
+    (passed_more _ _ _ (LooksFor c.args.side _ ∷ Does (Happens (OutputEnds c.args.side)) ∷ [])
+    (Notes (Happened (OutputEnds c.args.side)) ∷ [])
+    (as_none _ _ c.args.side _ c.read_next.new.line c.until.result _ c.until.ensures found c.read_next.ensures.passes)
+    c.note-in-Ok-Some-false.ensures.passes)
+    (λ r m p h s. c.output_ends-in-Ok-Some-false.ensures r _ m (on_when_read m.phase c.args.side h) s)
 
 pub returns-else-is_parsed-clause-taken : goal.returns-else-is_parsed-clause-taken
 returns-else-is_parsed-clause-taken g c =
@@ -61,10 +65,11 @@ returns-else-is_parsed-clause-taken g c =
     ∙ ap (λ o. Ok o) (c.in-Ok-Some-true.field-0-is ∙ ap (λ (b : Bool). Some b) c.in-Ok-Some-true.field-0-0-test) in
     bare (g.G.MatchGame.plays c.args.game.now) _ _ c.args.core.now (g.G.MatchGame.played c.args.game.now) _ _ _
     c.args.side _ _ _ (OutputEnds c.args.side) (same_colour-self c.args.side) refl refl c.requires.empty
-    (passed_more _ _ _ (Does (Happens (OutputEnds c.args.side)) ∷ []) (Notes (Happened (OutputEnds c.args.side)) ∷ [])
-    (as_last _ _ c.args.side _ c.read_next.new.line found (sym c.is_parsed.ensures ∙ c.if-is_parsed.false)
-    c.read_next.ensures.passes) c.note_output_ends.ensures.passes)
-    (λ r m p h s. c.output_ends.ensures r _ m (on_awaiting m.phase c.args.side h) s)
+    (passed_more _ _ _ (LooksFor c.args.side _ ∷ Does (Happens (OutputEnds c.args.side)) ∷ [])
+    (Notes (Happened (OutputEnds c.args.side)) ∷ [])
+    (as_last _ _ c.args.side _ c.read_next.new.line c.until.result _ c.until.ensures found (sym c.is_parsed.ensures ∙ c.if-is_parsed.false)
+    c.read_next.ensures.passes) c.note-else-is_parsed.ensures.passes)
+    (λ r m p h s. c.output_ends.ensures r _ m (on_when_read m.phase c.args.side h) s)
 
 pub returns-then-is_parsed-clause-taken : goal.returns-then-is_parsed-clause-taken
 returns-then-is_parsed-clause-taken g c =
@@ -75,9 +80,10 @@ returns-then-is_parsed-clause-taken g c =
       Line c.args.side (text_read c.read_next.new.line) h.0,
       h.1,
       same_colour-self c.args.side,
-      passed_more _ _ _ (ReadsLine c.args.side (text_read c.read_next.new.line) ∷ [])
+      passed_more _ _ _ (LooksFor c.args.side _ ∷ ReadsLine c.args.side (text_read c.read_next.new.line) ∷ [])
           (after_line c.args.side (text_read c.read_next.new.line) h.0)
-          (as_line _ _ c.args.side _ c.read_next.new.line found whole c.read_next.ensures.passes) h.2,
+          (as_line _ _ c.args.side _ c.read_next.new.line c.until.result _ c.until.ensures found whole
+          c.read_next.ensures.passes) h.2,
       λ is. subst (λ (n : ℕ). n < g.T.MatchTable.left c.args.table.now) (sym c.take_line.ensures.left)
           (line_falls c.args.side _ c.read_next.new.line _ _ found whole c.read_next.ensures.less),
       λ is. absurd cc,

@@ -11,6 +11,6 @@ returns-clause-taken g c = (
   c.moment-moment.result,
   passed_more _ _ _ (ReadsClock c.args.side c.moment-moment.result ∷ [])
       (Notes (Happened (Silent c.args.side c.moment-moment.result)) ∷ [])
-      c.moment-moment.ensures.passes c.note_silent.ensures.passes,
+      c.moment-moment.ensures.passes c.note.ensures.passes,
   λ r m p aw s. c.silent.ensures r m p aw s,
 )

@@ -13,7 +13,7 @@ returns-then-is_empty-clause-passes g c lines e =
 pub returns-clause-passes : goal.returns-clause-passes
 returns-clause-passes g c lines e =
     given_lines _ _ _ c.is_err.result c.args.side lines c.args.text.now e
-    (is_some_text c.args.text.now _ c.is_empty.ensures c.if-is_empty.false) c.note_gives.ensures.passes
-    (subst (λ (b : Bool). Passes (g.T.MatchTable.passed c.note_gives.new.self) (g.T.MatchTable.passed c.send.new.self)
+    (is_some_text c.args.text.now _ c.is_empty.ensures c.if-is_empty.false) c.note.ensures.passes
+    (subst (λ (b : Bool). Passes (g.T.MatchTable.passed c.note.new.self) (g.T.MatchTable.passed c.send.new.self)
     (Does (sending b (record { to = c.args.side; lines = lines })) ∷ [])) (sym c.is_err.ensures.value)
     (c.send.ensures.passes lines e))

@@ -16,9 +16,10 @@ returns-in_ok-put-in-None-clause-written g c input stands =
     (stands_there c.args.options.explain (record { offset = c.offset.result; line = c.args.line }) c.args.line input
     (current c.args.pieces.now) c.offset.ensures.value refl stands) in
     too_long_written c.args.options input c.args.before w w' (current c.args.pieces.now) (sym c.in-None.ensures)
-    c.of_piece-label.result.number c.offset.result (span_written c.of_piece-label.result.span) c.beginning.result.now
+    c.of_piece-label.result.game.number c.offset.result (span_written c.of_piece-label.result.game.span)
+    c.of_piece-label.result.names.items c.beginning.result.now
     (c.of_piece-label.ensures.number ∙ c.next_number.ensures) c.offset.ensures.value c.of_piece-label.ensures.span
-    c.beginning.ensures WriteFault c.with_fault.result c.with_fault.ensures
+    c.of_piece-label.ensures.names c.beginning.ensures WriteFault c.with_fault.result c.with_fault.ensures
     (subst (Took w w') lines c.in_ok-put-in-None.ensures)
 
 pub returns-in_err-put-in-None-clause-written : goal.returns-in_err-put-in-None-clause-written
@@ -30,7 +31,8 @@ returns-in_err-put-in-None-clause-written g c input stands =
     (current c.args.pieces.now) c.offset.ensures.value refl stands) in
     let p = err_from_is_err_and c.from_residual.result c.from_residual.ensures.1 in
     rw p.1 (too_long_broke c.args.options input c.args.before w w' (current c.args.pieces.now) (sym c.in-None.ensures)
-    c.of_piece-label.result.number c.offset.result (span_written c.of_piece-label.result.span) c.beginning.result.now
+    c.of_piece-label.result.game.number c.offset.result (span_written c.of_piece-label.result.game.span)
+    c.of_piece-label.result.names.items c.beginning.result.now
     (c.of_piece-label.ensures.number ∙ c.next_number.ensures) c.offset.ensures.value c.of_piece-label.ensures.span
-    c.beginning.ensures c.in_err-put-in-None.field-0.0
+    c.of_piece-label.ensures.names c.beginning.ensures c.in_err-put-in-None.field-0.0
     (subst (CutShort w w') lines c.in_err-put-in-None.ensures))

@@ -2,7 +2,8 @@
 use Rattle.std.proofs.Common.{◌≡◌, length, ap, ◌∙◌, arith}
 use Rattle.std.proofs.lemmas.Grind.{common_steps}
 use Rattle.chess_pgn.specs.LastTags.{result_tag_of}
-use Rattle.chess_pgn.specs.Tokens.{after_byte_order_mark, tokens_from}
+use Rattle.chess_pgn.specs.Tokens.{tokens_from}
+use Rattle.byte_devices.specs.Bytes.{after_byte_order_mark}
 use Rattle.chess_pgn.proofs.shared.Tokens.{split_read}
 use Rattle.pgn_verifier.proofs.FaultsInText.{first_found}
 use Rattle.pgn_verifier.proofs.contradiction.contradiction.Goals as goal

@@ -6,7 +6,8 @@ use Rattle.pgn_pieces.specs.Places.{line_of, column_of}
 use Rattle.pgn_verifier.specs.Explanations.{wrong_part, explanation_line}
 use Rattle.pgn_verifier.specs.laws.Reasons.{explanation_of}
 use Rattle.pgn_verifier.specs.ties.OnTheWay.{moved, fault_line, span_written}
-use Rattle.pgn_verifier.proofs.Placed.{line_there, column_there, rest_is}
+use Rattle.pgn_verifier.proofs.Placed.{line_there, column_there}
+use Rattle.byte_devices.proofs.shared.Devices.{rest_is}
 use Rattle.pgn_verifier.proofs.explanation.fault_lines.Goals as goal
 
 pub returns-then-explain : goal.returns-then-explain
@@ -18,9 +19,11 @@ returns-then-explain g c input stands =
     let kind = c.args.fault.kind in
     let s = c.args.game.now.state in
     let rest = drop at text in
-    let span = span_written c.args.label.span in
-    let own = fault_line c.args.label.number (moved start.offset c.args.fault) span in
-    let first = c.fault_line-lines.ensures.text ∙ ap (λ f. fault_line c.args.label.number f span) c.moved.ensures in
+    let label = c.args.label.now in
+    let span = span_written label.game.span in
+    let own = fault_line label.game.number (moved start.offset c.args.fault) span label.names.items in
+    let first = c.fault_line-lines.ensures.text
+    ∙ ap (λ f. fault_line label.game.number f span label.names.items) c.moved.ensures in
     let few : c.part_offset.result ≤ length rest =
     subst (λ xs. c.part_offset.result ≤ length xs) (rest_is at text) c.part_offset.ensures.within in
     let short = length-drop at text in

@@ -106,10 +106,14 @@ returns-in-Err-clause-written g c input stands =
     let more = if c.args.options.explain then explanation_line input
     (start + fault.offset + (wrong_part fault.kind (drop fault.offset text)).0) (explanation_of s (drop fault.offset text) fault.kind) else [] in
     let span = span_at c.args.options start text c.loop-end.at (length text) in
+    let unread = c.of_game-unread.result in
     let lines = c.as_slice.ensures.value ∙ c.fault_lines-lines.ensures input stands
-    ∙ ap (λ n. fault_line n (moved start fault) (span_written c.of_game-unread.result.span) ++ more)
+    ∙ ap (λ n. fault_line n (moved start fault) (span_written unread.game.span) unread.names.items ++ more)
     (c.of_game-unread.ensures.number ∙ c.next_number-number.ensures)
-    ∙ ap (λ t. fault_line (next_number c.loop-end.tally) (moved start fault) t ++ more) c.of_game-unread.ensures.span in
+    ∙ ap (λ t. fault_line (next_number c.loop-end.tally) (moved start fault) t unread.names.items ++ more)
+    c.of_game-unread.ensures.span
+    ∙ ap (λ t. fault_line (next_number c.loop-end.tally) (moved start fault) span t ++ more)
+    c.of_game-unread.ensures.names in
     subst (λ (t : Tally). Writes {E = WriteFault} c.args.options input c.args.before w w'' (Ok t)
     (placed_on c.args.options.strict start text)) (sym c.with_fault.ensures)
     (fault_written c.args.options start text c.args.before w w' w'' c.loop-end.at c.loop-end.tally
@@ -128,10 +132,14 @@ returns-in_err-put-in-Err-clause-written g c input stands =
     let more = if c.args.options.explain then explanation_line input
     (start + fault.offset + (wrong_part fault.kind (drop fault.offset text)).0) (explanation_of s (drop fault.offset text) fault.kind) else [] in
     let span = span_at c.args.options start text c.loop-end.at (length text) in
+    let unread = c.of_game-unread.result in
     let lines = c.as_slice.ensures.value ∙ c.fault_lines-lines.ensures input stands
-    ∙ ap (λ n. fault_line n (moved start fault) (span_written c.of_game-unread.result.span) ++ more)
+    ∙ ap (λ n. fault_line n (moved start fault) (span_written unread.game.span) unread.names.items ++ more)
     (c.of_game-unread.ensures.number ∙ c.next_number-number.ensures)
-    ∙ ap (λ t. fault_line (next_number c.loop-end.tally) (moved start fault) t ++ more) c.of_game-unread.ensures.span in
+    ∙ ap (λ t. fault_line (next_number c.loop-end.tally) (moved start fault) t unread.names.items ++ more)
+    c.of_game-unread.ensures.span
+    ∙ ap (λ t. fault_line (next_number c.loop-end.tally) (moved start fault) span t ++ more)
+    c.of_game-unread.ensures.names in
     let p = err_from_is_err_and c.from_residual-in_err-put-in-Err.result c.from_residual-in_err-put-in-Err.ensures.1 in
     rw p.1 (fault_broke c.args.options start text c.args.before w w' w'' c.loop-end.at c.loop-end.tally
     c.loop-end.invariant.1.0 c.loop-end.invariant.1.1 c.in_err-put-in-Err.field-0.0 input fault s (sym c.in-Err.ensures.judged)

@@ -1,6 +1,6 @@
 use Rattle.std.proofs.Common.{drop, ◌^◌, ◌≡◌, ◌<◌}
 use Rattle.std.specs.List.{list_all}
-use Rattle.chess_base.specs.Letters.{is_digit}
+use Rattle.byte_devices.specs.Bytes.{is_digit}
 use Rattle.text_lines.proofs.FewDigits.{value_after}
 use Rattle.text_lines.proofs.number.short_number.Given as goal
 

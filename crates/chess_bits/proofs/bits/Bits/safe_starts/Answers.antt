@@ -5,8 +5,8 @@ use Rattle.std.proofs.lemmas.Bool.{cases_Bool, eqb-true, or_right}
 use Rattle.chess_base.specs.MoveList.{move_of}
 use Rattle.chess_base.specs.Moves.{is_legal}
 use Rattle.chess_moves.specs.Sets.{contains}
-use Rattle.chess_bits.proofs.Attackers.{eq_back}
 use Rattle.chess_bits.proofs.Starts.{first_gone, first_in, none_left, taken_first}
+use Rattle.chess_base.proofs.shared.MenAfter.{eqb_comm}
 use Rattle.chess_bits.proofs.bits.Bits.safe_starts.Goals as goal
 
 tested : (l : Bool) → ((true && not (true || false) && l) || (l && true)) ≡ (true && not false && l)
@@ -26,9 +26,9 @@ chosen_next men left legal before safe s k e f on out =
     elim (cases_Bool (s == k)) [
       | inl same ↦
           let j = eqb-true s k same in
-          rw (e, same, f ∙ ap legal j, ap men (sym j) ∙ on, ap left (sym j) ∙ out, sym (eq_back s k) ∙ same)
+          rw (e, same, f ∙ ap legal j, ap men (sym j) ∙ on, ap left (sym j) ∙ out, sym (eqb_comm s k) ∙ same)
           (tested (legal k))
-      | inr apart ↦ rw (e, apart, sym (eq_back s k) ∙ apart) (untested _ safe)
+      | inr apart ↦ rw (e, apart, sym (eqb_comm s k) ∙ apart) (untested _ safe)
     ]
 
 pub loop-from-preserved : goal.loop-from-preserved

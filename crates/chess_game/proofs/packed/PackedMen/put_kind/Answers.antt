@@ -3,11 +3,12 @@
 use Rattle.std.proofs.Common.{◌≡◌, ◌<◌, refl, ap, subst, length, arith}
 use Rattle.std.proofs.lemmas.List.{nil_from_length}
 use Rattle.chess_moves.specs.Sets.{members}
-use Rattle.chess_game.proofs.Unpacked.{few_members, put_more, put_all}
+use Rattle.chess_game.proofs.Unpacked.{put_more, put_all}
+use Rattle.chess_moves.proofs.shared.Members.{length_members}
 use Rattle.chess_game.proofs.packed.PackedMen.put_kind.Goals as goal
 
 pub loop-turn-init : goal.loop-turn-init
-loop-turn-init c = (omega (arith, few_members c.args.set), record { board = omega arith; same = λ k low. refl })
+loop-turn-init c = (omega (arith, length_members c.args.set), record { board = omega arith; same = λ k low. refl })
 
 pub loop-turn-preserved : goal.loop-turn-preserved
 loop-turn-preserved c = (

@@ -2,7 +2,7 @@
 -- length cuts the same as 60.
 use Rattle.std.proofs.Common.{ap, map, arith}
 use Rattle.std.proofs.lemmas.List.{take_min}
-use Rattle.chess_game.specs.Results.{shown_byte}
+use Rattle.byte_devices.specs.Bytes.{shown_byte}
 use Rattle.chess_game.proofs.TagTexts.{tag_text_is}
 use Rattle.chess_game.proofs.tags.TagText.cut.Goals as goal
 

@@ -6,8 +6,8 @@ use Rattle.chess_match.proofs.desk.DeskMatchTable.read_line.Goals as goal
 
 pub returns-in-White-clause-passes : goal.returns-in-White-clause-passes
 returns-in-White-clause-passes g c =
-    rw c.in-White.is (read_moves _ _ _ _ _ _ _ White _ c.read_line.ensures.next refl refl refl)
+    rw c.in-White.is (read_moves _ _ _ _ _ _ _ White _ _ c.read_line.ensures.next refl refl refl)
 
 pub returns-in-Black-clause-passes : goal.returns-in-Black-clause-passes
 returns-in-Black-clause-passes g c =
-    rw c.in-Black.is (read_moves _ _ _ _ _ _ _ Black _ c.read_line-in-Black.ensures.next refl refl refl)
+    rw c.in-Black.is (read_moves _ _ _ _ _ _ _ Black _ _ c.read_line-in-Black.ensures.next refl refl refl)

@@ -5,7 +5,8 @@ use Rattle.chess_base.proofs.shared.Men.{same_colour-true}
 use Rattle.chess_match.specs.Acts.{awaits_line, is_over}
 use Rattle.chess_match.specs.Effects.{BeforeMove, Phase}
 use Rattle.chess_match.specs.ties.Represents.{phase_of}
-use Rattle.chess_match.proofs.CoreSteps.{on_awaiting, owed_goes, silence_goes}
+use Rattle.chess_match.proofs.CoreSteps.{owed_goes, silence_goes}
+use Rattle.chess_match.proofs.shared.MatchCases.{on_when_read}
 use Rattle.chess_match.proofs.state.MatchState.silent.Goals as goal
 
 pub returns-in-Handshake : goal.returns-in-Handshake
@@ -22,4 +23,4 @@ returns-in-AwaitMove g c r m p aw s =
 pub returns-in-Setup : goal.returns-in-Setup
 returns-in-Setup g c r m p aw s =
     owed_goes r _ _ _ _ c.args.side c.args.moment c.args.self.now.opened m _ c.in-Setup.is s.phase
-    (c.owe_reply-in-Setup.ensures r _ m (on_awaiting m.phase c.args.side aw) s)
+    (c.owe_reply-in-Setup.ensures r _ m (on_when_read m.phase c.args.side aw) s)

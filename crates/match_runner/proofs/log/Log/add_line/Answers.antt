@@ -1,7 +1,6 @@
 -- The line was logged, and nothing of it waits.
 use Rattle.std.proofs.Common.{Bool, [], ◌∷◌, ◌++◌, map, subst}
-use Rattle.chess_base.specs.Letters.{new_line}
-use Rattle.chess_game.specs.Results.{shown_byte}
+use Rattle.byte_devices.specs.Bytes.{new_line, shown_byte}
 use Rattle.match_runner.specs.Log.{Logged, log_seen}
 use Rattle.match_runner.specs.ties.Logging.{line_head}
 use Rattle.match_runner.proofs.Logged.{line_logged}

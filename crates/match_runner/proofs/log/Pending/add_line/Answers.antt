@@ -1,6 +1,6 @@
 -- The head, the text, and the end.
 use Rattle.std.proofs.Common.{ℕ, List, [], ◌∷◌, ◌++◌, map}
-use Rattle.chess_game.specs.Results.{shown_byte}
+use Rattle.byte_devices.specs.Bytes.{shown_byte}
 use Rattle.match_runner.specs.ties.Logging.{line_head}
 use Rattle.match_runner.proofs.Logged.{adds_more}
 use Rattle.match_runner.proofs.log.Pending.add_line.Goals as goal

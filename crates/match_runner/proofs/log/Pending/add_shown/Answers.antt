@@ -1,6 +1,6 @@
 -- A byte more was written, as it is shown.
 use Rattle.std.proofs.Common.{ℕ, List, [], ◌∷◌, refl, ap, map}
-use Rattle.chess_game.specs.Results.{shown_byte}
+use Rattle.byte_devices.specs.Bytes.{shown_byte}
 use Rattle.match_runner.proofs.Logged.{adds_as, adds_more, loop_step}
 use Rattle.match_runner.proofs.log.Pending.add_shown.Goals as goal
 

@@ -1,5 +1,5 @@
 use Rattle.std.proofs.Common.{◌≡◌, ℕ, List, ◌++◌, drop, map}
-use Rattle.chess_game.specs.Results.{shown_byte}
+use Rattle.byte_devices.specs.Bytes.{shown_byte}
 use Rattle.match_runner.specs.ties.Logging.{Adds}
 use Rattle.match_runner.proofs.log.Pending.add_shown.Given as goal
 

@@ -5,20 +5,17 @@ use Rattle.pgn_pieces.proofs.piece_end.Seen.see_whole.Goals as goal
 
 pub returns-then-self : goal.returns-then-self
 returns-then-self c piece h =
-    let (body, is, plain) = c.requires.whole in
-    whole_inside c.args.self.now c.if-self.true piece h _ body c.args.line.now is plain refl refl refl
+    whole_inside c.args.self.now c.if-self.true piece h _ c.args.line.now c.requires.whole refl refl refl
 
 pub returns-then-ends_at : goal.returns-then-ends_at
 returns-then-ends_at c piece more h =
-    let (body, is, plain) = c.requires.whole in
     let k = c.kind_of-kind.ensures in
-    whole_ends c.args.self.now c.if-self.false c.kind_of-kind.result c.args.line.now k.tag k.event piece h body is plain
-    (sym c.ends_at.ensures ∙ c.if-ends_at.true) more
+    whole_ends c.args.self.now c.if-self.false c.kind_of-kind.result c.args.line.now k.tag k.event piece h
+    c.requires.whole (sym c.ends_at.ensures ∙ c.if-ends_at.true) more
 
 pub returns : goal.returns
 returns c piece h =
-    let (body, is, plain) = c.requires.whole in
     let k = c.kind_of-kind.ensures in
     let new = c.add.ensures in
     whole_comes c.args.self.now c.if-self.false c.kind_of-kind.result c.args.line.now k.tag k.event piece h
-    c.add.new.self k.moves (sym c.ends_at.ensures ∙ c.if-ends_at.false) new.moves new.event body is plain new.inside
+    c.add.new.self k.moves (sym c.ends_at.ensures ∙ c.if-ends_at.false) new.moves new.event c.requires.whole new.inside

@@ -1,6 +1,0 @@
--- The witness was given the note.
-use Rattle.chess_match.proofs.AtDesk.{note_moves}
-use Rattle.chess_match.proofs.desk.DeskMatchTable.note_line.Goals as goal
-
-pub returns-clause-passes : goal.returns-clause-passes
-returns-clause-passes g c = note_moves _ _ _ _ _ _ _ c.line.ensures

@@ -1,0 +1,5 @@
+use Rattle.chess_match_laws.proofs.LastLook.{silences_leave_no_line}
+use Rattle.chess_match_laws.proofs.laws.silences_leave_no_line.Goals as goal
+
+pub returns : goal.returns
+returns c = silences_leave_no_line

@@ -1,0 +1,28 @@
+-- The tags of a game, in the order of its text.
+use Rattle.std.specs.Prelude.{ℕ, ◌-◌, List, Option, Some, None}
+use Rattle.std.specs.List.{filter_map}
+use Rattle.chess_pgn.specs.declared.tag_list.PgnTag.{PgnTag}
+use Rattle.chess_pgn.specs.LastTags.{tag_section}
+use Rattle.chess_pgn.specs.Tokens.{Token, Tag}
+
+-- a tag of a game
+pub record TagPair : Type 0 where
+  pub name : List ℕ
+  -- the bytes between its quotes as they are
+  pub text : List ℕ
+  -- the offset in the whole text of the first of these bytes
+  pub offset : ℕ
+
+-- the tag that a token of a text of `total` bytes is; none for any other token
+abbrev pub tag_pair : ℕ → Token → Option TagPair
+tag_pair total (Tag name text to_end) = Some (record { name = name; text = text; offset = total - to_end })
+tag_pair total _ = None
+
+-- the tags of a game with these tokens, in order, in a text of `total` bytes: those of its tag section, which ends
+-- before its first number, move, outcome or fault
+abbrev pub game_tags_of : ℕ → List (ℕ × Token) → List TagPair
+game_tags_of total tokens = filter_map (λ t. tag_pair total t.1) (tag_section tokens)
+
+-- the tag that is returned, with lists of bytes in place of borrows
+abbrev pub pair_of : PgnTag → TagPair
+pair_of tag = record { name = tag.name.now; text = tag.text.now; offset = tag.offset }

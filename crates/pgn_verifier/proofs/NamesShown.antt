@@ -1,0 +1,37 @@
+-- What is shown of a tag, from what is found of it.
+use Rattle.std.proofs.Common.{◌≡◌, ℕ, Bool, true, false, List, [], ◌++◌, map, take, Option, Some, None, refl, ap, ◌∙◌}
+use Rattle.std.specs.Option.{option_map, option_map_or}
+use Rattle.std.specs.Prelude.{if◌then◌else◌, codes}
+use Rattle.byte_devices.specs.Bytes.{shown_byte}
+use Rattle.chess_pgn.specs.LastTags.{last_tag, tag_section}
+use Rattle.chess_pgn.specs.Split.{IsSplit}
+use Rattle.chess_pgn.specs.Tokens.{Token, tokens_from}
+use Rattle.chess_pgn.proofs.shared.Tokens.{split_read}
+use Rattle.pgn_verifier.specs.Reports.{names_text, shown_tag}
+use Rattle.pgn_verifier.specs.declared.options.VerifyOptions.{VerifyOptions}
+
+abbrev pub shown_or : Option (List ℕ) → List ℕ
+shown_or text = option_map_or (λ t. map shown_byte (take 40 t)) text (codes "?")
+
+by_tag : (tag : Option (List ℕ × ℕ)) → shown_or (option_map (λ t. t.0) tag)
+    ≡ option_map_or (λ t. map shown_byte (take 40 t.0)) tag (codes "?")
+by_tag None = refl
+by_tag (Some tag) = refl
+
+-- from the text of the last tag with this name in a split of the text
+pub shown_is : (text name : List ℕ) (at : ℕ) (found : Option (List ℕ))
+    → (tokens : List (ℕ × Token)) × IsSplit text at tokens
+    × (found ≡ option_map (λ t. t.0) (last_tag name (tag_section tokens)))
+    → shown_or found ≡ shown_tag (tokens_from text at) name
+shown_is text name at found (tokens, split, is) =
+    ap shown_or is ∙ by_tag (last_tag name (tag_section tokens))
+    ∙ ap (λ ts. shown_tag ts name) (split_read text split)
+
+-- without names there is nothing, whether they are asked for or not
+pub unnamed : (options : VerifyOptions) → names_text options None ≡ []
+unnamed options = by_test options.names
+  where
+    by_test : (b : Bool)
+        → option_map_or (λ (text : List ℕ). codes " | " ++ text) (if b then None else None) [] ≡ []
+    by_test true = refl
+    by_test false = refl
