@@ -1,6 +1,7 @@
-# An engine that hangs in one place: hanging.sh handshake, deaf, pong, turn, flood or quit. Then nothing but SIGKILL
-# ends it: it ignores other signals, reads nothing, and so doesn't see the end of its input either. With deaf it asks
-# for more answers than a pipe holds before it hangs, with flood it first writes a line without end in its turn.
+# An engine that hangs in one place: hanging.sh handshake, deaf, pong, turn, again, flood or quit. Then nothing but
+# SIGKILL ends it: it ignores other signals, reads nothing, and so doesn't see the end of its input either. With deaf it
+# asks for more answers than a pipe holds before it hangs, with flood it first writes a line without end in its turn.
+# With again it resigns in its first game, and hangs in its turn of the next one.
 place=$1
 trap '' HUP INT PIPE TERM
 
@@ -27,7 +28,12 @@ while read -r line; do
             hang_at turn
             [ "$place" != flood ] || cat /dev/zero 2> /dev/null
             hang_at flood
-            [ "$place" = quit ] && echo resign || echo 'move e2e4'
+            [ ! -e resigned ] || hang_at again
+            case $place in
+                again) : > resigned && echo resign ;;
+                quit) echo resign ;;
+                *) echo 'move e2e4' ;;
+            esac
             ;;
         quit) hang_at quit ;;
     esac
