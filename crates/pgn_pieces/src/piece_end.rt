@@ -8,7 +8,7 @@
 //!
 //! The functions of the search are inlined for the reason at the head of line_kinds.rt.
 
-ghost use Rattle.std.specs.Prelude.{◌≡◌, ◌<◌, ◌++◌, ◌∷◌, ◌&&◌, ◌||◌, List, ℕ, [], length, take, drop, true, false};
+ghost use Rattle.std.specs.Prelude.{◌≡◌, ◌≤◌, ◌<◌, ◌++◌, ◌∷◌, ◌&&◌, ◌||◌, List, ℕ, [], length, take, drop, true, false};
 ghost use Rattle.std.specs.List.{position_or_len};
 ghost use Rattle.pgn_pieces.specs.Places.{breaks_line};
 ghost use Rattle.pgn_pieces.specs.ties.Held.{HasSeen, IsWhole, Steps, SeesWhole, Looks, has_line_end};
