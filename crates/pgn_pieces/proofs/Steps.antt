@@ -142,6 +142,24 @@ pub record Looked (s s' : State) (seen : Seen) (r1 r2 : InputState) : Type 0 whe
   pub over : s.ended ≡ true → (s'.ended ≡ true) × (more ≡ [])
   pub stands : (r : InputState) (text : List ℕ) → IsStateOf s r r1 text → IsStateOf s' r r2 (text ++ more)
 
+-- where a piece begins nothing of it was looked through
+pub looked_at_nothing : (s s' : State) (seen : Seen) (r : InputState) → s' ≡ past_piece s → HasSeen seen []
+    → Looked s s' seen r r
+looked_at_nothing s s' seen r is h = subst (λ (t : State). Looked s t seen r r) (sym is) (record {
+  piece = [];
+  more = [];
+  lines = h;
+  like = (record { len = refl; beginning = refl; line_ends = refl }, λ _. refl);
+  same = append-nil s.coming;
+  begins = refl;
+  over = λ ended. (ended, refl);
+  stands = λ r0 text stands. record {
+    read = subst (HasRead s.ended r0 r) (sym (append-nil text)) stands.read;
+    all =
+        (let a = stands.all in let b = ap length (append-nil text) in omega (arith, a, b));
+  };
+})
+
 -- a step changed neither the piece's offset nor how many bytes are held
 pub record Keeps (s s' : State) : Type 0 where
   pub offset : s'.offset ≡ s.offset

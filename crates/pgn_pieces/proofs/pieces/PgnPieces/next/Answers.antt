@@ -3,9 +3,15 @@
 use Rattle.std.proofs.Common.{◌≡◌, false, true, sym, ap, subst, ◌∙◌}
 use Rattle.pgn_pieces.specs.Stream.{State}
 use Rattle.pgn_pieces.specs.ties.Held.{with_more}
-use Rattle.pgn_pieces.proofs.Steps.{Looked, looked_on, next_found, next_last, next_stopped, found_some, kept_on}
+use Rattle.pgn_pieces.proofs.Steps.{Looked, looked_at_nothing, looked_on, next_found, next_last, next_stopped, found_some, kept_on}
 use Rattle.std.proofs.lemmas.Result.{err_from_is_err_and}
 use Rattle.pgn_pieces.proofs.pieces.PgnPieces.next.Goals as goal
+
+pub loop-seen-init : goal.loop-seen-init
+loop-seen-init g c = record {
+  looked = looked_at_nothing c.args.self.now c.pass_piece.new.self c.nothing-seen.result (g.R.Input.seen c.args.input.now)
+      c.pass_piece.ensures c.nothing-seen.ensures;
+}
 
 pub loop-seen-preserved : goal.loop-seen-preserved
 loop-seen-preserved g c =
