@@ -70,7 +70,10 @@ const CUTS: [(&[u8], &[usize]); 21] = [
     (b"x [Event \"a\"]\r[Event \"b\"]\n", &[14, 12]),
     (b"[Event \"a\"]\r\r1. e4 *\r\r[Event \"b\"]\r*\r", &[22, 14]),
     (b"*\r\r\n[Event \"a\"]\r\r\n", &[4, 14]),
-    (b"1. e4 *\r[Event \"a\"]\n\r*\n\r[Event \"b\"]", &[8, 16, 11]),
+    (
+        b"1. e4 *\r[Event \"a\"]\n\r*\n\r[Event \"b\"]",
+        &[8, 16, 11],
+    ),
     (
         b"*\n [Event \"a\"]\n[Events \"b\"]\n[event \"c\"]\n[Event",
         &[2, 44],

@@ -70,7 +70,10 @@ fn last_line_len(text: &[u8]) -> usize
     ensures value { result ≡ suffix_len (λ c. not (breaks_line c)) text.now }
     ensures within { result ≤ length text.now }
 {
-    text.iter().rev().take_while(|byte| !breaks_line(**byte)).count()
+    text.iter()
+        .rev()
+        .take_while(|byte| !breaks_line(**byte))
+        .count()
 }
 
 // The line of the byte after these, which begin on the line `start`.
