@@ -12,7 +12,8 @@ ghost use Rattle.chess_pgn.specs.ties.Seen.{token_seen};
 ghost use Rattle.chess_pgn.specs.ties.TagsLeft.{tags_left};
 
 use crate::last_tag::{last_tag, may_precede_tags};
-use crate::token::{Token, after_blanks, after_byte_order_mark, next_token};
+use crate::token::{Token, after_blanks, next_token};
+use byte_devices::after_byte_order_mark;
 use std::alloc::AllocError;
 use std::iter::FusedIterator;
 use std::marker::Model;
