@@ -33,7 +33,7 @@ last_found S moment (a ∷ before) after last sends =
     ∙ last_found S moment before after (last_or last (look S a)) sends
 
 pub silences_leave_no_line : SilencesLeaveNoLine
-silences_leave_no_line before after S moment reason setup end w w' (final, p, rest) sends = (
+silences_leave_no_line before after S moment reason setup end w w' (final, p, reported, game) sends = (
   (p.passed S).0,
   (p.passed S).2,
   (p.passed S).4.0.all_if_silent (last_found S moment before after None sends),
