@@ -2,3 +2,4 @@ mod Accepted
 mod PlayedWords
 mod Undone
 mod ShownFens
+mod SessionLines

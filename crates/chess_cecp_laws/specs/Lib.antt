@@ -1,3 +1,4 @@
 pub mod Accepted
 pub mod Undo
 pub mod SetBoard
+pub mod SessionLines
