@@ -27,4 +27,5 @@ mod GoLaw
 mod SetupLaw
 mod OfferLaw
 mod LinesDue
+mod WorkedLines
 mod Answering

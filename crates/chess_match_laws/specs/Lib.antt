@@ -2,3 +2,4 @@ pub mod OfActs
 pub mod Streams
 pub mod Rows
 pub mod Answering
+pub mod Worked

@@ -3,6 +3,7 @@
 #![tactic(auto)]
 
 mod laws;
+mod worked;
 
 pub use laws::{
     acts_are_in_order, agreed_draws_are_offered, answering_engines_lose_only_by_mate,
@@ -13,3 +14,4 @@ pub use laws::{
     silences_end_matches, silences_leave_no_line, time_forfeits_are_shown, times_are_clocks,
     used_times_are_differences, verdicts_end_matches,
 };
+pub use worked::{engine_lines_are_worked_out, levels_are_worked_out, losers_lose};
