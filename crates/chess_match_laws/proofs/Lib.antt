@@ -28,4 +28,5 @@ mod SetupLaw
 mod OfferLaw
 mod LinesDue
 mod WorkedLines
+mod IgnoredLaw
 mod Answering

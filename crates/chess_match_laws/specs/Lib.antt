@@ -3,3 +3,4 @@ pub mod Streams
 pub mod Rows
 pub mod Answering
 pub mod Worked
+pub mod Ignored

@@ -3,6 +3,7 @@
 #![tactic(auto)]
 
 mod laws;
+mod lines;
 mod worked;
 
 pub use laws::{
@@ -14,4 +15,5 @@ pub use laws::{
     silences_end_matches, silences_leave_no_line, time_forfeits_are_shown, times_are_clocks,
     used_times_are_differences, verdicts_end_matches,
 };
+pub use lines::other_lines_are_ignored;
 pub use worked::{engine_lines_are_worked_out, levels_are_worked_out, losers_lose};
