@@ -26,6 +26,8 @@ mod PingLaw
 mod GoLaw
 mod SetupLaw
 mod OfferLaw
+mod PassingLaw
+mod OfferedLaw
 mod LinesDue
 mod WorkedLines
 mod IgnoredLaw
