@@ -18,3 +18,5 @@ mod KnownGames
 mod KnownFens
 mod KnownLines
 mod KnownSame
+mod KnownCounts
+mod KnownEndings

@@ -8,4 +8,5 @@ pub mod FirstMoves
 pub mod Endings
 pub mod KnownGames
 pub mod KnownPositions
+pub mod KnownCounts
 pub mod Mirror

@@ -13,7 +13,8 @@ pub use endings::{
     insufficient_material_never_mates, repetitions_and_quiet_moves_end_a_game,
 };
 pub use known::{
-    known_fens_are_refused, known_lines_lead_to_these_fens, known_positions_are_the_same,
+    known_endings_are_judged, known_fens_are_refused, known_lines_lead_to_these_fens,
+    known_positions_are_the_same, known_positions_have_so_many_moves,
 };
 pub use mirror::{
     attacks_are_mirrored, endings_are_mirrored, games_are_mirrored, moves_are_mirrored,
