@@ -28,6 +28,7 @@ mod SetupLaw
 mod OfferLaw
 mod PassingLaw
 mod OfferedLaw
+mod OpeningLaw
 mod LinesDue
 mod WorkedLines
 mod IgnoredLaw

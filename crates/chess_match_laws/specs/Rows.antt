@@ -13,7 +13,7 @@ use Rattle.chess_base.specs.declared.setup.Setup.{Setup as Position}
 use Rattle.chess_fen.specs.Writing.{fen}
 use Rattle.chess_match.specs.Acts.{Act, Happens}
 use Rattle.chess_match.specs.Effects.{Match, Over, Setup}
-use Rattle.chess_match.specs.Events.{Line}
+use Rattle.chess_match.specs.Events.{Line, Opened}
 use Rattle.chess_match.specs.Lines.{SentLine, Says, bytes_of}
 use Rattle.chess_match.specs.Rules.{Rules}
 use Rattle.chess_match.specs.declared.reason.Reason.TheVariants.{Agreed}
@@ -70,6 +70,23 @@ GoIsSentOnce r H m = (S : Colour) → length (flat_map go_text (lines_given S H)
 -- the side `S` was sent `go` once
 abbrev pub WasSentGo : Rules → Colour → List Act → Match → Type 0
 WasSentGo r S H m = length (flat_map go_text (lines_given S H)) ≡ 1
+
+-- ---- turns
+
+abbrev pub one_if : Bool → ℕ
+one_if true = 1
+one_if false = 0
+
+-- how often the clock was read for the opening of a turn of the side `S`
+abbrev pub openings : Colour → List Act → ℕ
+openings S [] = 0
+openings S (Happens (Opened side moment) ∷ H) = one_if (same_colour side S) + openings S H
+openings S (_ ∷ H) = openings S H
+
+-- a turn of each side `S` was opened as often as `S` has moved, or once more
+abbrev pub TurnsAreOpenedOnce : Rules → List Act → Match → Type 0
+TurnsAreOpenedOnce r H m = (S : Colour) → (length (m.seat S).used ≤ openings S H)
+    × (openings S H ≤ length (m.seat S).used + 1)
 
 -- ---- offers of a draw
 

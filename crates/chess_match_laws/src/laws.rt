@@ -3,7 +3,7 @@
 ghost use Rattle.std.specs.Prelude.{true, false};
 ghost use Rattle.chess_match_laws.specs.Answering.{AnsweringEnginesAreBlameless};
 ghost use Rattle.chess_match_laws.specs.OfActs.{AtEachLine, AtEachMoment, AtEachOpening, InEachMatch, EndsAfterItsActs, AutomaticDrawsEndMatches, LinesAreReadInOrder, SilencesAreReadInOrder, NothingIsDueAtEvents, FailedBlocksAreLast, OneBlockFails, WriteFaultsAreOfBlocks, OnlyOneMatch, OneMatchButForEndLines, OnlyOneMatchOfARun, DecidedByTheBoard, OutcomesAreOfTheGame, LastLineIsTheirs, MovesAreRead, ItemsAreSaid, MovesAreSent, EachIsSentOthersMoves, AllMovesAreGiven, AllMovesAreSent, IsSentAllMoves, MovesSentAreKnown, GamesAreLines, TimesAreClocks, OtherTimesAreClocks, UsedTimesAreDifferences, ClocksDoNotUnderflow, LinesAreFew, SilencesAreAskedFor, SilencesChangeNothing, SilencesEndMatches, SilencesLeaveNoLine, TimeForfeitsAreShown, NotesAreInOrder, NotesHaveTheEvents, NotesHaveAllLines, NotesHaveLinesRead, NotesHaveMoments, EndsAtVerdicts};
-ghost use Rattle.chess_match_laws.specs.Rows.{AgreedDrawsAreOffered, DrawsAreFew, DrawsAreOffered, GoIsSentOnce, IsSetUp, OffersArePassedOn, PingsAreNumbered, WasSentGo};
+ghost use Rattle.chess_match_laws.specs.Rows.{AgreedDrawsAreOffered, DrawsAreFew, DrawsAreOffered, GoIsSentOnce, IsSetUp, OffersArePassedOn, PingsAreNumbered, TurnsAreOpenedOnce, WasSentGo};
 ghost use Rattle.chess_match.specs.laws.Laws.{VerdictsEndMatches};
 
 use chess_text::read_moves_are_legal;
@@ -195,6 +195,13 @@ pub fn go_is_sent_once()
     ensures whole { InEachMatch GoIsSentOnce }
     ensures so_far { AtEachMoment GoIsSentOnce }
     ensures opened { AtEachOpening WasSentGo }
+{}
+
+/// States a law and does nothing: each turn is opened once. The clock was read for a side's openings as often as it has
+/// moved, or once more, if its move is awaited or the match ended before it; so far too, while the match is on.
+pub fn turns_are_opened_once()
+    ensures whole { InEachMatch TurnsAreOpenedOnce }
+    ensures so_far { AtEachMoment TurnsAreOpenedOnce }
 {}
 
 /// States a law and does nothing: in a match that ended by agreement one side offered a draw, and then the other, by the

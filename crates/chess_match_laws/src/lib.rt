@@ -13,7 +13,7 @@ pub use laws::{
     last_line_is_theirs, lines_are_few, match_is_the_only_one, moves_are_read, moves_are_sent_once,
     moves_sent_are_known, notes_have_all, offers_are_passed_on, pings_are_numbered,
     setups_are_these_lines, silences_end_matches, silences_leave_no_line, time_forfeits_are_shown,
-    times_are_clocks, used_times_are_differences, verdicts_end_matches,
+    times_are_clocks, turns_are_opened_once, used_times_are_differences, verdicts_end_matches,
 };
 pub use lines::other_lines_are_ignored;
 pub use worked::{engine_lines_are_worked_out, levels_are_worked_out, losers_lose};

@@ -8,7 +8,7 @@ use chess_match_laws::{
     match_is_the_only_one, moves_are_read, moves_are_sent_once, moves_sent_are_known,
     notes_have_all, offers_are_passed_on, other_lines_are_ignored, pings_are_numbered,
     setups_are_these_lines, silences_end_matches, silences_leave_no_line, time_forfeits_are_shown,
-    times_are_clocks, used_times_are_differences, verdicts_end_matches,
+    times_are_clocks, turns_are_opened_once, used_times_are_differences, verdicts_end_matches,
 };
 
 #[test]
@@ -41,6 +41,7 @@ fn laws_are_called() {
     silences_leave_no_line();
     time_forfeits_are_shown();
     times_are_clocks();
+    turns_are_opened_once();
     used_times_are_differences();
     verdicts_end_matches();
 }
