@@ -20,3 +20,4 @@ mod KnownLines
 mod KnownSame
 mod KnownCounts
 mod KnownEndings
+mod KnownTexts

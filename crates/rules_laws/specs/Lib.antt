@@ -9,4 +9,5 @@ pub mod Endings
 pub mod KnownGames
 pub mod KnownPositions
 pub mod KnownCounts
+pub mod KnownTexts
 pub mod Mirror
