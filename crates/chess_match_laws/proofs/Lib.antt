@@ -29,6 +29,8 @@ mod OfferLaw
 mod PassingLaw
 mod OfferedLaw
 mod OpeningLaw
+mod AnswerLaw
+mod NeededLaw
 mod LinesDue
 mod WorkedLines
 mod IgnoredLaw

@@ -4,3 +4,4 @@ pub mod Rows
 pub mod Answering
 pub mod Worked
 pub mod Ignored
+pub mod Handshakes
