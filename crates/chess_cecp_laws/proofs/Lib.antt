@@ -3,3 +3,4 @@ mod PlayedWords
 mod Undone
 mod ShownFens
 mod SessionLines
+mod GameLines

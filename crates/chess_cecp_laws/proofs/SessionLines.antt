@@ -23,11 +23,11 @@ use Rattle.chess_cecp.specs.declared.command.Command.TheVariants.{BadNumber, Dec
 use Rattle.chess_cecp_laws.specs.SessionLines.{Becomes, IsAnswered, IsIgnored, IsUnknown, OtherWordsAreUnknown, SessionLinesAreAnswered, known_words, lines_for_engines, response_to}
 
 -- a session whose game is `s`
-abbrev with_game : SessionSeen → State → SessionSeen
+abbrev pub with_game : SessionSeen → State → SessionSeen
 with_game session s = record session { state = s }
 
 -- how a session responds to a line with this text, which is not too long, by its command
-abbrev by_command : SessionSeen → List ℕ → Command → Response SessionSeen
+abbrev pub by_command : SessionSeen → List ℕ → Command → Response SessionSeen
 by_command session text command =
     let r = row session.tags session.limit session.state text (argument_of text) command in
     record { text = r.text; state = record session { state = r.state }; ends = r.ends }
@@ -89,12 +89,12 @@ other_words_are_unknown session line fits other shapeless =
 
 -- ---- lines worked out
 
-responds : (session : SessionSeen) (line : Text) (command : Command) → command_of (codes line) ≡ command
+pub responds : (session : SessionSeen) (line : Text) (command : Command) → command_of (codes line) ≡ command
     → response_to session line ≡ by_command session (codes line) command
 responds session line command is =
     responds_by session (record { text = codes line; too_long = false; ended = true }) command refl is
 
-answered : (session : SessionSeen) (line answer : Text) (command : Command) → command_of (codes line) ≡ command
+pub answered : (session : SessionSeen) (line answer : Text) (command : Command) → command_of (codes line) ≡ command
     → (by_command session (codes line) command).text ≡ codes answer
     → (by_command session (codes line) command).state ≡ session
     → (by_command session (codes line) command).ends ≡ false → IsAnswered session line answer

@@ -2,3 +2,4 @@ pub mod Accepted
 pub mod Undo
 pub mod SetBoard
 pub mod SessionLines
+pub mod GameLines

@@ -9,4 +9,4 @@ mod lines;
 
 pub use game::{shown_fens_are_set, undo_takes_a_move_back};
 pub use laws::read_games_are_accepted;
-pub use lines::{other_words_are_unknown, session_lines_are_answered};
+pub use lines::{game_lines_are_answered, other_words_are_unknown, session_lines_are_answered};

@@ -4,8 +4,8 @@ ghost use Rattle.chess_match_laws.specs.Handshakes.{BothHaveNeeded, ItemsAreAnsw
 ghost use Rattle.chess_match_laws.specs.OfActs.{AtEachLine, AtEachOpening};
 
 /// States a law and does nothing: whenever a line of an engine is read, it was sent an answer to each item of its
-/// `feature` lines, in order, `accepted NAME` or `rejected NAME`. Of 16 names it is said that they are accepted, of some
-/// others that they are rejected.
+/// `feature` lines, in order, `accepted NAME` or `rejected NAME`. Of 16 names it is said that they are accepted, and of
+/// some others that they are rejected.
 pub fn features_are_answered()
     ensures answered { AtEachLine ItemsAreAnswered }
     ensures names { NamesAreKnown }
