@@ -2,8 +2,8 @@
 
 ghost use Rattle.chess_match_laws.specs.Worked.{EndsAreWorded, FeaturesAreOn, ItemsAreRead, LevelsGive, LinesSay, LosersLose};
 
-/// States a law and does nothing: what some lines of engines say, which items a `feature` line has, and which features an
-/// engine has on by them.
+/// States a law and does nothing: what some lines of engines say, which items a `feature` line has, and which features
+/// an engine has on by them.
 pub fn engine_lines_are_worked_out()
     ensures lines { LinesSay }
     ensures items { ItemsAreRead }
@@ -15,9 +15,9 @@ pub fn levels_are_worked_out()
     ensures { LevelsGive }
 {}
 
-/// States a law and does nothing: the side that resigns, forfeits on time, moves illegally or out of turn, claims falsely
-/// or rejects a legal move loses; against a bare king, and by agreement, the game is drawn; after a fault, and at the
-/// limit of half-moves, it has no outcome. And the comments on ends, word for word.
+/// States a law and does nothing: the side that resigns, forfeits on time, moves illegally or out of turn, claims
+/// falsely or rejects a legal move loses; against a bare king, and by agreement, the game is drawn; after a fault, and
+/// at the limit of half-moves, it has no outcome. And the comments on ends, word for word.
 pub fn losers_lose()
     ensures outcomes { LosersLose }
     ensures comments { EndsAreWorded }
