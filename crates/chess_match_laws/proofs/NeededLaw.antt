@@ -21,6 +21,7 @@ use Rattle.chess_match.proofs.shared.LineCases.{handshake_by_items, handshakes_d
 use Rattle.chess_match.proofs.shared.MatchCases.{both_not}
 use Rattle.chess_match_laws.specs.OfActs.{AtEachOpening}
 use Rattle.chess_match_laws.specs.Handshakes.{BothHaveNeeded, HasNeeded}
+use Rattle.chess_match_laws.proofs.OfferedLaw.{not_early}
 use Rattle.chess_match_laws.proofs.Points.{by_points, moved_items, offered_items}
 use Rattle.chess_match_laws.proofs.Silences.{by_silence}
 
@@ -65,9 +66,6 @@ shaken_by (BeforeMove c opened) C done aw = refl
 shaken_by (AfterMove c) C done aw = refl
 shaken_by (Over reason) C done aw = absurd (cc)
 
-not_on : {A : Type 0} → false ≡ true → A
-not_on e = absurd (cc)
-
 module _ (r : Rules) where
   abbrev Needed : Match → Type 0
   Needed m = is_shaken m.phase ≡ true → (X : Colour) → HasNeeded r (m.seat X).items
@@ -76,8 +74,8 @@ module _ (r : Rules) where
 
   judged_needed : (m : Match) (w b : Option MatchFault) → missing r (m.seat White).items ≡ w
       → missing r (m.seat Black).items ≡ b → Needed (judged r w b m).after
-  judged_needed m (Some f) b e h = λ on. not_on on
-  judged_needed m None (Some f) e h = λ on. not_on on
+  judged_needed m (Some f) b e h = λ on. not_early on
+  judged_needed m None (Some f) e h = λ on. not_early on
   judged_needed m None None e h = λ on X. at X
     where
       at : (X : Colour) → HasNeeded r (m.seat X).items
@@ -85,7 +83,7 @@ module _ (r : Rules) where
       at Black = has_all r (m.seat Black).items h
 
   done_needed : (c : Colour) (m : Match) → Needed (handshake_done r c m).after
-  done_needed White m = λ on. not_on on
+  done_needed White m = λ on. not_early on
   done_needed Black m =
       judged_needed m (missing r (m.seat White).items) (missing r (m.seat Black).items) refl refl
 
@@ -99,7 +97,7 @@ module _ (r : Rules) where
       at : (done full : Bool) → Needed (if done then handshake_done r C n
           else if full then ends r (Faulted C NoDone) n else sends_nothing (record n { count = m.count + 1 })).after
       at true full = done_needed C n
-      at false true = λ on. not_on on
+      at false true = λ on. not_early on
       at false false = λ on. both_not (is_shaken m.phase) off on
 
   -- ---- any line
@@ -113,23 +111,23 @@ module _ (r : Rules) where
           let have : (X : Colour) → HasNeeded r (m.seat X).items = needed (shaken_by m.phase C done aw) in
           line_cases r C kind moment m (λ e. Needed e.after) aw (λ since.
           let k : Match = record m { since = since } in record {
-            handshake_stops = λ p reason count most w on. not_on on;
+            handshake_stops = λ p reason count most w on. not_early on;
             handshake_counts = λ p d few. both_not (handshakes_done m.phase) (ap handshakes_done p) done;
             handshake_next = λ p s d. both_not (handshakes_done m.phase) (ap handshakes_done p) done;
             handshake_last = λ p s d. both_not (handshakes_done m.phase) (ap handshakes_done p) done;
             setup_counts = λ p pong few on. have;
             setup_next = λ p s pong on. have;
             setup_last = λ p s pong v d on. have;
-            setup_draws = λ p claim v d on. not_on on;
-            setup_decides = λ p v e on. not_on on;
-            stops = λ g reason w on. not_on on;
+            setup_draws = λ p claim v d on. not_early on;
+            setup_decides = λ p v e on. not_early on;
+            stops = λ g reason w on. not_early on;
             counts = λ turn none few on. have;
             offers = λ turn none own on X. subst (λ (items : List Item). HasNeeded r items)
                 (sym (offered_items C X k)) (have X);
             plays = λ text move opened is p read room timely v d on X. subst (λ (items : List Item). HasNeeded r items)
                 (sym (moved_items C X move (moment - opened) k)) (have X);
-            draws = λ text move opened claim is p read room timely v d on. not_on on;
-            decides = λ text move opened v is p read room timely e on. not_on on;
+            draws = λ text move opened claim is p read room timely v d on. not_early on;
+            decides = λ text move opened v is p read room timely e on. not_early on;
             passes = λ p none on. have;
           })
 
@@ -153,16 +151,16 @@ pub both_have_needed : AtEachOpening BothHaveNeeded
 both_have_needed r before after S moment final g =
     by_points r (λ m due H n. Needed r m → (X : Colour) → HasNeeded r (n.seat X).items) (record {
       sends = λ m n b due H p. p;
-      fails = λ m n b due H on q only same p needed. p (λ on. not_on on);
+      fails = λ m n b due H on q only same p needed. p (λ on. not_early on);
       fails_late = λ m n b due H o only same p. p;
       reads = λ m n c t x H aw q stays p needed. p (line r c (line_kind t) x m aw needed);
       opens = λ m n c x H o q p needed. p (λ on. needed (ap is_shaken o));
       silent = λ m n c x H aw limited q stays p needed. by_silence r m n c x H
           (λ m due. Needed r m → (X : Colour) → HasNeeded r (n.seat X).items)
-          (λ reason w only same p. p (λ on. not_on on)) (λ since p. p needed) stays p;
-      output_ends = λ m n c H aw q only same p needed. p (λ on. not_on on);
-      read_fails = λ m n c H aw q only same p needed. p (λ on. not_on on);
-    }) before (Happens (Opened S moment) ∷ after) final (λ m due q g needed. at m due g needed) g (λ on. not_on on)
+          (λ reason w only same p. p (λ on. not_early on)) (λ since p. p needed) stays p;
+      output_ends = λ m n c H aw q only same p needed. p (λ on. not_early on);
+      read_fails = λ m n c H aw q only same p needed. p (λ on. not_early on);
+    }) before (Happens (Opened S moment) ∷ after) final (λ m due q g needed. at m due g needed) g (λ on. not_early on)
   where
     at : (m : Match) (due : List Block) → IsMatchFrom r m due (Happens (Opened S moment) ∷ after) final → Needed r m
         → (X : Colour) → HasNeeded r (m.seat X).items

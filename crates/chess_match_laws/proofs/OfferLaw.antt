@@ -171,7 +171,7 @@ no_fault_agreed (Faulted c f) is e = absurd (cc)
 no_fault_agreed Agreed is e = absurd (cc)
 no_fault_agreed _ is e = absurd (cc)
 
-said_offers : (C O : Colour) (kind : LineKind) (m : Match) → ((said_by C kind m).seat O).offers ≡ (m.seat O).offers
+pub said_offers : (C O : Colour) (kind : LineKind) (m : Match) → ((said_by C kind m).seat O).offers ≡ (m.seat O).offers
 said_offers C O kind m = grind arith
 
 early_in_turn : (p : Phase) → is_early p ≡ true → in_turn p ≡ false

@@ -206,7 +206,7 @@ begun_due S =
 none_due : 0 + 0 ≤ 0
 none_due = omega arith
 
-not_early : {A : Type 0} → false ≡ true → A
+pub not_early : {A : Type 0} → false ≡ true → A
 not_early e = absurd (cc)
 
 pub draws_are_offered : AtEachMoment DrawsAreOffered

@@ -23,6 +23,7 @@ use Rattle.chess_match.proofs.shared.MatchCases.{both_not}
 use Rattle.chess_match_laws.specs.OfActs.{AtEachLine, AtEachMoment}
 use Rattle.chess_match_laws.specs.Rows.{DrawsAreFew, OffersArePassedOn, draw_text}
 use Rattle.chess_match_laws.proofs.Givings.{lines_due}
+use Rattle.chess_match_laws.proofs.OfferLaw.{said_offers}
 use Rattle.chess_match_laws.proofs.Points.{Kept}
 use Rattle.chess_match_laws.proofs.Tellings.{Tells, told_at}
 
@@ -51,9 +52,6 @@ pub answered : (b : Bool) (items : List Item) (ls : List SentLine) → flat_map 
     → flat_map draw_text (list_if b (answers_to items) ++ ls) ≡ []
 answered b items ls h = flat_map-append draw_text (list_if b (answers_to items)) ls
     ∙ ap (λ l. l ++ flat_map draw_text ls) (if_none b (answers_to items) (answer_none items)) ∙ h
-
-said_offers : (C O : Colour) (kind : LineKind) (m : Match) → ((said_by C kind m).seat O).offers ≡ (m.seat O).offers
-said_offers C O kind m = grind arith
 
 -- ---- how many
 
