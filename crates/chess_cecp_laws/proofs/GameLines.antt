@@ -35,15 +35,7 @@ use Rattle.chess_cecp.specs.declared.command.Command.{Command}
 use Rattle.chess_cecp.specs.declared.command.Command.TheVariants.{Claim, Declare, SetBoard, UserMove}
 use Rattle.chess_cecp_laws.specs.GameLines.{Declares, GameLinesAreAnswered}
 use Rattle.chess_cecp_laws.specs.SessionLines.{IsAnswered}
-use Rattle.chess_cecp_laws.proofs.SessionLines.{answered, responds, with_game}
-
-if_true : {X : Type 0} (b : Bool) (x y : X) → b ≡ true → (if b then x else y) ≡ x
-if_true true x y e = refl
-if_true false x y e = absurd (cc)
-
-if_false : {X : Type 0} (b : Bool) (x y : X) → b ≡ false → (if b then x else y) ≡ y
-if_false true x y e = absurd (cc)
-if_false false x y e = refl
+use Rattle.chess_cecp_laws.proofs.SessionLines.{answered, if_false, if_true, responds, with_game}
 
 -- the row of this line in the table
 abbrev row_of : SessionSeen → List ℕ → Command → Response State

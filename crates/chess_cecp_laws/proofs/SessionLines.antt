@@ -1,26 +1,36 @@
 -- What every session answers to some lines: by computation, and by the words that no command has.
 use Prim.Native.String.{String as Text}
-use Rattle.std.proofs.Common.{◌≡◌, ◌∙◌, ℕ, Bool, true, false, ◌||◌, List, [], ◌∷◌, ◌++◌, map, Option, None, refl, sym, ap}
-use Rattle.std.specs.Prelude.{codes}
+use Rattle.std.proofs.Common.{◌≡◌, ◌∙◌, ℕ, Bool, true, false, ◌||◌, List, [], ◌∷◌, ◌++◌, length, map, Option, None, Some, refl, sym, ap}
+use Rattle.std.specs.Prelude.{codes, if◌then◌else◌, nat_le, unwrap_or}
 use Rattle.std.specs.Fmt.{digits}
 use Rattle.std.specs.List.{AllByRecursion, find, list_any}
+use Rattle.std.specs.Option.{option_map}
 use Rattle.std.specs.Str.{bytes_eq}
 use Rattle.std.proofs.lemmas.Bool.{or_parts}
 use Rattle.std.proofs.lemmas.List.Folds.{list_any-append}
 use Rattle.chess_base.specs.declared.man.Variant.TheVariants.{Fischerandom}
+use Rattle.chess_base.specs.declared.man.Move.{Move}
 use Rattle.chess_base.specs.Initial.{initial_setup, initial_setup_of}
-use Rattle.chess_game.specs.Game.{State, from_start}
+use Rattle.chess_game.specs.Game.{State, from_start, taken_back}
 use Rattle.chess_text.specs.Moves.{shape}
 use Rattle.text_lines.specs.Lines.{LineSeen}
 use Rattle.text_lines.specs.Words.{argument_of, command_number, word_of}
 use Rattle.chess_cecp.specs.Commands.{command_of, commands, ignored_commands, is_ignored, named_command}
 use Rattle.chess_cecp.specs.Declaring.{read_result, result_comment}
 use Rattle.chess_cecp.specs.Held.{SessionSeen}
-use Rattle.chess_cecp.specs.Serving.{Response}
+use Rattle.chess_cecp.specs.Serving.{Response, becomes}
 use Rattle.chess_cecp.specs.Session.{answers, features_line, row, session_response, take_back_row}
 use Rattle.chess_cecp.specs.declared.command.Command.{Command}
-use Rattle.chess_cecp.specs.declared.command.Command.TheVariants.{BadNumber, Declare, Go, New, Ping, Protover, Quit, Remove, Silent, Undo, Unknown, Variant}
+use Rattle.chess_cecp.specs.declared.command.Command.TheVariants.{BadNumber, BareMove, Declare, Go, New, Ping, Protover, Quit, Remove, Silent, Undo, Unknown, Variant}
 use Rattle.chess_cecp_laws.specs.SessionLines.{Becomes, IsAnswered, IsIgnored, IsUnknown, OtherWordsAreUnknown, SessionLinesAreAnswered, known_words, lines_for_engines, response_to}
+
+pub if_true : {X : Type 0} (b : Bool) (x y : X) → b ≡ true → (if b then x else y) ≡ x
+if_true true x y e = refl
+if_true false x y e = absurd (cc)
+
+pub if_false : {X : Type 0} (b : Bool) (x y : X) → b ≡ false → (if b then x else y) ≡ y
+if_false true x y e = absurd (cc)
+if_false false x y e = refl
 
 -- a session whose game is `s`
 abbrev pub with_game : SessionSeen → State → SessionSeen
@@ -51,12 +61,19 @@ none_found : (word : List ℕ) (cs : List (List ℕ × Command)) → list_any (b
 none_found word [] e = refl
 none_found word (c ∷ cs) e =
     let parts = or_parts (bytes_eq word c.0) (list_any (bytes_eq word) (map (λ d. d.0) cs)) e in
-    let here : bytes_eq word c.0 ≡ false = parts.0 in rw here (none_found word cs parts.1)
+    if_false (bytes_eq word c.0) (Some c) (find (λ d. bytes_eq word d.0) cs) parts.0 ∙ none_found word cs parts.1
 
 -- the words that a session knows: the empty one, those that are ignored, and the others
 by_kind : (word : List ℕ) → list_any (bytes_eq word) known_words
     ≡ (bytes_eq word [] || list_any (bytes_eq word) (ignored_commands ++ names))
 by_kind word = refl
+
+none_named : (empty ignored : Bool) (found : Option (List ℕ × Command)) → empty ≡ false → ignored ≡ false
+    → found ≡ None → (if empty || ignored then Some Silent else option_map (λ c. c.1) found) ≡ None
+none_named false false None e f g = refl
+none_named false false (Some c) e f g = absurd (cc)
+none_named false true found e f g = absurd (cc)
+none_named true ignored found e f g = absurd (cc)
 
 no_name : (word argument : List ℕ) → list_any (bytes_eq word) known_words ≡ false
     → named_command word argument ≡ None
@@ -70,14 +87,22 @@ no_name word argument e =
     let ignored : list_any (bytes_eq word) ignored_commands ≡ false = others.0 in
     let none : find (λ c. bytes_eq word c.0) (commands argument) ≡ None =
     none_found word (commands argument) (ap (list_any p) (same_names argument) ∙ others.1) in
-    rw (empty, ignored, none) refl
+    none_named (bytes_eq word []) (list_any (bytes_eq word) ignored_commands)
+    (find (λ c. bytes_eq word c.0) (commands argument)) empty ignored none
+
+neither : (named : Option Command) (shaped : Bool) → named ≡ None → shaped ≡ false
+    → unwrap_or named (if shaped then BareMove else Unknown) ≡ Unknown
+neither None false e f = refl
+neither None true e f = absurd (cc)
+neither (Some c) shaped e f = absurd (cc)
 
 is_unknown : (text : List ℕ) → list_any (bytes_eq (word_of text)) known_words ≡ false → shape text ≡ false
     → command_of text ≡ Unknown
 unfolding command_of
 is_unknown text other shapeless =
     let none : named_command (word_of text) (argument_of text) ≡ None =
-    no_name (word_of text) (argument_of text) other in rw (none, shapeless) refl
+    no_name (word_of text) (argument_of text) other in
+    neither (named_command (word_of text) (argument_of text)) (shape text) none shapeless
 
 pub other_words_are_unknown : OtherWordsAreUnknown
 other_words_are_unknown session line fits other shapeless =
@@ -192,7 +217,12 @@ quits session = ap (λ (r : Response SessionSeen). r.ends) (responds session "qu
 none_back : (name : List ℕ) (s : State) → s.moves ≡ []
     → (take_back_row 1 name s ≡ answers s (codes "Error (command not legal now): ") name)
     × (take_back_row 2 name s ≡ answers s (codes "Error (command not legal now): ") name)
-none_back name s e = (rw e refl, rw e refl)
+none_back name s e = (
+  if_false (nat_le 1 (length s.moves)) (becomes (taken_back s 1))
+      (answers s (codes "Error (command not legal now): ") name) (ap (λ (ms : List Move). nat_le 1 (length ms)) e),
+  if_false (nat_le 2 (length s.moves)) (becomes (taken_back s 2))
+      (answers s (codes "Error (command not legal now): ") name) (ap (λ (ms : List Move). nat_le 2 (length ms)) e),
+)
 
 no_undo : (session : SessionSeen) → session.state.moves ≡ []
     → IsAnswered session "undo" "Error (command not legal now): undo\n"

@@ -20,7 +20,7 @@ use Rattle.chess_cecp.specs.Session.{session_response}
 -- plays, and of what the session does
 abbrev pub known_words : List (List ℕ)
 known_words =
-    codes "" ∷ codes "xboard" ∷ codes "accepted" ∷ codes "rejected" ∷ codes "force" ∷ codes "random" ∷ codes "hard"
+    [] ∷ codes "xboard" ∷ codes "accepted" ∷ codes "rejected" ∷ codes "force" ∷ codes "random" ∷ codes "hard"
     ∷ codes "easy" ∷ codes "post" ∷ codes "nopost" ∷ codes "?" ∷ codes "computer" ∷ codes "name" ∷ codes "rating"
     ∷ codes "ics" ∷ codes "draw" ∷ codes "level" ∷ codes "st" ∷ codes "sd" ∷ codes "time" ∷ codes "otim"
     ∷ codes "new" ∷ codes "setboard" ∷ codes "usermove" ∷ codes "undo" ∷ codes "remove" ∷ codes "result"
