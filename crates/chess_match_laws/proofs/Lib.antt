@@ -31,6 +31,7 @@ mod OfferedLaw
 mod OpeningLaw
 mod AnswerLaw
 mod NeededLaw
+mod PrefixLaw
 mod LinesDue
 mod WorkedLines
 mod IgnoredLaw

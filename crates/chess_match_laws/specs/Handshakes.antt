@@ -1,6 +1,6 @@
 -- Handshakes: each feature that an engine says is answered, and which it must have (CECP, version 2: section 9).
 use Rattle.std.specs.Prelude.{◌≡◌, ◌||◌, ℕ, Bool, true, false, List, [], ◌∷◌, map, drop, take, codes, is_some}
-use Rattle.std.specs.List.{flat_map, list_all, list_any}
+use Rattle.std.specs.List.{AllByRecursion, flat_map, list_all, list_any}
 use Rattle.std.specs.Str.{bytes_eq}
 use Rattle.chess_base.specs.Options.{list_if}
 use Rattle.chess_base.specs.declared.man.Colour.{Colour}
@@ -8,7 +8,7 @@ use Rattle.chess_base.specs.declared.man.Variant.TheVariants.{Fischerandom}
 use Rattle.cecp_engine.specs.Items.{Item, is_known, plays_fischerandom, takes}
 use Rattle.chess_match.specs.Acts.{Act}
 use Rattle.chess_match.specs.Effects.{Match}
-use Rattle.chess_match.specs.Lines.{SentLine, Says}
+use Rattle.chess_match.specs.Lines.{SentLine, Says, MoveSent}
 use Rattle.chess_match.specs.Rules.{Rules, start_fen}
 use Rattle.chess_match.specs.laws.Laws.{lines_given, lines_read}
 use Rattle.chess_match_laws.specs.Streams.{items_said}
@@ -48,3 +48,16 @@ pub record HasNeeded (r : Rules) (items : List Item) : Type 0 where
 -- both engines have what the match needs
 abbrev pub BothHaveNeeded : Rules → Colour → List Act → Match → Type 0
 BothHaveNeeded r S H m = (X : Colour) → HasNeeded r (m.seat X).items
+
+-- ---- `usermove`
+
+-- whether a move is sent with `usermove` before it, as a list of one; empty for any other line
+abbrev pub prefix_of : SentLine → List Bool
+prefix_of (MoveSent prefixed text) = prefixed ∷ []
+prefix_of _ = []
+
+-- of the moves that each side `S` is sent, each has `usermove` before it if its engine has that feature on, otherwise
+-- none has
+abbrev pub PrefixesAreAsAsked : Rules → List Act → Match → Type 0
+PrefixesAreAsAsked r H m = (S : Colour) → AllByRecursion (λ (b : Bool). b ≡ takes (codes "usermove") (m.seat S).items)
+    (flat_map prefix_of (lines_given S H))

@@ -1,7 +1,7 @@
 //! Laws of handshakes. A caller learns one by calling its function, which does nothing.
 
-ghost use Rattle.chess_match_laws.specs.Handshakes.{BothHaveNeeded, ItemsAreAnswered, NamesAreKnown};
-ghost use Rattle.chess_match_laws.specs.OfActs.{AtEachLine, AtEachOpening};
+ghost use Rattle.chess_match_laws.specs.Handshakes.{BothHaveNeeded, ItemsAreAnswered, NamesAreKnown, PrefixesAreAsAsked};
+ghost use Rattle.chess_match_laws.specs.OfActs.{AtEachLine, AtEachMoment, AtEachOpening};
 
 /// States a law and does nothing: whenever a line of an engine is read, it was sent an answer to each item of its
 /// `feature` lines, in order, `accepted NAME` or `rejected NAME`. Of 16 names it is said that they are accepted, and of
@@ -15,4 +15,10 @@ pub fn features_are_answered()
 /// match needs: `ping`; `setboard`, if a FEN is sent; and Chess960, if the game is of it.
 pub fn engines_have_what_is_needed()
     ensures { AtEachOpening BothHaveNeeded }
+{}
+
+/// States a law and does nothing: each move that an engine is sent has `usermove ` before it if the engine has that
+/// feature on, and otherwise not; so far too, while the match is on.
+pub fn prefixes_are_as_asked()
+    ensures { AtEachMoment PrefixesAreAsAsked }
 {}

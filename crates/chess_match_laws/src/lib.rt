@@ -7,7 +7,7 @@ mod laws;
 mod lines;
 mod worked;
 
-pub use handshakes::{engines_have_what_is_needed, features_are_answered};
+pub use handshakes::{engines_have_what_is_needed, features_are_answered, prefixes_are_as_asked};
 pub use laws::{
     acts_are_in_order, agreed_draws_are_offered, answering_engines_lose_only_by_mate,
     automatic_draws_end_matches, clocks_do_not_underflow, each_is_sent_the_others,
