@@ -209,7 +209,8 @@ module _ (session : SessionSeen) where
       "Error (the board says otherwise): result 1-0 {Black resigns}\n"
   unfolding command_of named_command is_ignored
   other_result e =
-      by_row session "result 1-0 {Black resigns}" "Error (the board says otherwise): result 1-0 {Black resigns}\n" Declare
+      by_row session "result 1-0 {Black resigns}"
+      "Error (the board says otherwise): result 1-0 {Black resigns}\n" Declare
       (answers s (codes "Error (the board says otherwise): ") (codes "result 1-0 {Black resigns}")) refl
       (result_refused s (codes "result 1-0 {Black resigns}") (Some BlackMates) e refl) refl refl refl
 

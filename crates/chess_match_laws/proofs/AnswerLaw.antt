@@ -61,8 +61,8 @@ abbrev AnsweredIn : Phase → List Item → List (List ℕ) → Type 0
 AnsweredIn (Over reason) items X = Unit {0}
 AnsweredIn p items X = X ≡ map (λ (i : Item). i.name) items
 
-abbrev Told : Colour → Match → List (List ℕ) → Type 0
-Told S m X = AnsweredIn m.phase (m.seat S).items X
+abbrev SentTo : Colour → Match → List (List ℕ) → Type 0
+SentTo S m X = AnsweredIn m.phase (m.seat S).items X
 
 -- no answer more
 same : (X Z : List (List ℕ)) → Z ≡ [] → X ≡ X ++ Z
@@ -70,51 +70,51 @@ same X Z none = sym (ap (λ (z : List (List ℕ)). X ++ z) none ∙ append-nil X
 
 keeps : (p : Phase) (items more : List Item) (X Z : List (List ℕ)) → Z ≡ [] → items ≡ more → AnsweredIn p items X
     → AnsweredIn p more (X ++ Z)
-keeps p items more X Z none is told =
+keeps p items more X Z none is so_far =
     subst (λ (js : List Item). AnsweredIn p js (X ++ Z)) is
-    (subst (λ (Y : List (List ℕ)). AnsweredIn p items Y) (same X Z none) told)
+    (subst (λ (Y : List (List ℕ)). AnsweredIn p items Y) (same X Z none) so_far)
 
 stays : (X Z : List (List ℕ)) (items more : List Item) → Z ≡ [] → items ≡ more → X ≡ map (λ (i : Item). i.name) items
     → X ++ Z ≡ map (λ (i : Item). i.name) more
-stays X Z items more none is told =
-    sym (same X Z none) ∙ told ∙ ap (λ (js : List Item). map (λ (i : Item). i.name) js) is
+stays X Z items more none is so_far =
+    sym (same X Z none) ∙ so_far ∙ ap (λ (js : List Item). map (λ (i : Item). i.name) js) is
 
 answers_more : (X : List (List ℕ)) (items its : List Item) (rest : List SentLine) → flat_map name_answered rest ≡ []
     → X ≡ map (λ (i : Item). i.name) items
     → X ++ flat_map name_answered (answers_to its ++ rest) ≡ map (λ (i : Item). i.name) (items ++ its)
-answers_more X items its rest none told =
+answers_more X items its rest none so_far =
     ap (λ (z : List (List ℕ)). X ++ z)
     (flat_map-append name_answered (answers_to its) rest
     ∙ ap (λ (z : List (List ℕ)). flat_map name_answered (answers_to its) ++ z) none
     ∙ append-nil (flat_map name_answered (answers_to its)) ∙ all_named its)
-    ∙ ap (λ (Y : List (List ℕ)). Y ++ map (λ (i : Item). i.name) its) told
+    ∙ ap (λ (Y : List (List ℕ)). Y ++ map (λ (i : Item). i.name) its) so_far
     ∙ sym (map-append (λ (i : Item). i.name) items its)
 
 answers_none : (X : List (List ℕ)) (items : List Item) (rest : List SentLine) → flat_map name_answered rest ≡ []
     → X ≡ map (λ (i : Item). i.name) items → X ++ flat_map name_answered rest ≡ map (λ (i : Item). i.name) items
-answers_none X items rest none told = sym (same X (flat_map name_answered rest) none) ∙ told
+answers_none X items rest none so_far = sym (same X (flat_map name_answered rest) none) ∙ so_far
 
 -- C said these items, and its engine was sent answers
 said : (C S : Colour) (kind : LineKind) (m : Match) (X : List (List ℕ)) (rest : List SentLine)
     → flat_map name_answered rest ≡ [] → X ≡ map (λ (i : Item). i.name) (m.seat S).items
     → X ++ flat_map name_answered (list_if (same_colour C S) (answers_to (items_in_line kind)) ++ rest)
     ≡ map (λ (i : Item). i.name) ((said_by C kind m).seat S).items
-said White White kind m X rest none told =
-    answers_more X (m.seat White).items (items_in_line kind) rest none told
-said Black Black kind m X rest none told =
-    answers_more X (m.seat Black).items (items_in_line kind) rest none told
-said White Black kind m X rest none told = answers_none X (m.seat Black).items rest none told
-said Black White kind m X rest none told = answers_none X (m.seat White).items rest none told
+said White White kind m X rest none so_far =
+    answers_more X (m.seat White).items (items_in_line kind) rest none so_far
+said Black Black kind m X rest none so_far =
+    answers_more X (m.seat Black).items (items_in_line kind) rest none so_far
+said White Black kind m X rest none so_far = answers_none X (m.seat Black).items rest none so_far
+said Black White kind m X rest none so_far = answers_none X (m.seat White).items rest none so_far
 
 -- ---- any line
 
 module _ (r : Rules) (S : Colour) where
   line : (C : Colour) (kind : LineKind) (moment : ℕ) (m : Match) (X : List (List ℕ)) → awaits_line m.phase C ≡ true
-      → Kept r m → Told S m X
-      → Told S (line_row r m.phase kind moment m).after
+      → Kept r m → SentTo S m X
+      → SentTo S (line_row r m.phase kind moment m).after
       (X ++ flat_map name_answered ((line_row r m.phase kind moment m).to S))
-  line C kind moment m X aw kept told =
-      line_cases r C kind moment m (λ e. Told S e.after (X ++ flat_map name_answered (e.to S))) aw (λ since.
+  line C kind moment m X aw kept so_far =
+      line_cases r C kind moment m (λ e. SentTo S e.after (X ++ flat_map name_answered (e.to S))) aw (λ since.
       let n : Match = record m { since = since } in record {
         handshake_stops = λ p reason k most w. tt;
         handshake_counts = λ p d few. subst (λ (q : Phase). AnsweredIn q ((said_by C kind n).seat S).items
@@ -124,7 +124,7 @@ module _ (r : Rules) (S : Colour) where
             (if_none (same_colour Black S) handshake_lines refl) (as_in (Handshake C) p);
         handshake_last = λ p s d. said C S kind n X (list_if (same_colour White S) (setup_lines r White))
             (if_none (same_colour White S) (setup_lines r White) (setup_none r White)) (as_in (Handshake C) p);
-        setup_counts = λ p pong few. keeps m.phase (m.seat S).items (m.seat S).items X [] refl refl told;
+        setup_counts = λ p pong few. keeps m.phase (m.seat S).items (m.seat S).items X [] refl refl so_far;
         setup_next = λ p s pong. stays X _ (m.seat S).items (m.seat S).items
             (if_none (same_colour Black S) (setup_lines r Black) (setup_none r Black)) refl (as_in (Setup C) p);
         setup_last = λ p s pong v d. stays X _ (m.seat S).items (m.seat S).items
@@ -133,9 +133,9 @@ module _ (r : Rules) (S : Colour) where
         setup_draws = λ p claim v d. tt;
         setup_decides = λ p v e. tt;
         stops = λ done reason w. tt;
-        counts = λ on none few. keeps m.phase (m.seat S).items (m.seat S).items X [] refl refl told;
+        counts = λ on none few. keeps m.phase (m.seat S).items (m.seat S).items X [] refl refl so_far;
         offers = λ on none own. keeps m.phase (m.seat S).items ((offering C n).after.seat S).items X _
-            (draw_none C S n) (sym (offered_items C S n)) told;
+            (draw_none C S n) (sym (offered_items C S n)) so_far;
         plays = λ text move opened is p read room timely v d. stays X _ (m.seat S).items
             ((moved C move (moment - opened) n).seat S).items (if_none (same_colour C S) _ refl)
             (sym (moved_items C S move (moment - opened) n)) (as_in (BeforeMove C opened) p);
@@ -147,41 +147,41 @@ module _ (r : Rules) (S : Colour) where
       })
     where
       as_in : (p : Phase) → m.phase ≡ p → AnsweredIn p (m.seat S).items X
-      as_in p e = subst (λ (q : Phase). AnsweredIn q (m.seat S).items X) e told
+      as_in p e = subst (λ (q : Phase). AnsweredIn q (m.seat S).items X) e so_far
 
-  tells : Tells name_answered r S (Told S)
+  tells : Tells name_answered r S (SentTo S)
   tells = record {
     line = line;
-    stops = λ m reason X Y on told. tt;
-    waits = λ m since X told. told;
-    opened = λ m C k X e told. subst (λ (q : Phase). AnsweredIn q (m.seat S).items X) e told;
+    stops = λ m reason X Y on so_far. tt;
+    waits = λ m since X so_far. so_far;
+    opened = λ m C k X e so_far. subst (λ (q : Phase). AnsweredIn q (m.seat S).items X) e so_far;
   }
 
-begun : (S : Colour) → Told S beginning.after (flat_map name_answered (beginning.to S))
+begun : (S : Colour) → SentTo S beginning.after (flat_map name_answered (beginning.to S))
 begun White = refl
 begun Black = refl
 
 pub items_are_answered : AtEachLine ItemsAreAnswered
 items_are_answered r before after S text moment final g =
-    told_at name_answered r S (Told S) (tells r S) (λ m X. X ≡ map (λ (i : Item). i.name) (m.seat S).items)
+    told_at name_answered r S (SentTo S) (tells r S) (λ m X. X ≡ map (λ (i : Item). i.name) (m.seat S).items)
     before (Happens (Line S text moment) ∷ after) final at g (begun S)
     ∙ ap (λ (js : List Item). map (λ (i : Item). i.name) js)
     (items_are_said r before (Happens (Line S text moment) ∷ after) final g S)
   where
     in_phase : (p : Phase) (items : List Item) (X : List (List ℕ)) → awaits_line p S ≡ true → AnsweredIn p items X
         → X ≡ map (λ (i : Item). i.name) items
-    in_phase (Handshake c) items X aw told = told
-    in_phase (Setup c) items X aw told = told
-    in_phase (Opening c) items X aw told = told
-    in_phase (BeforeMove c opened) items X aw told = told
-    in_phase (AfterMove c) items X aw told = told
-    in_phase (Over reason) items X aw told = absurd (cc)
+    in_phase (Handshake c) items X aw so_far = so_far
+    in_phase (Setup c) items X aw so_far = so_far
+    in_phase (Opening c) items X aw so_far = so_far
+    in_phase (BeforeMove c opened) items X aw so_far = so_far
+    in_phase (AfterMove c) items X aw so_far = so_far
+    in_phase (Over reason) items X aw so_far = absurd (cc)
 
     at : (m : Match) (due : List Block) → IsMatchFrom r m due (Happens (Line S text moment) ∷ after) final
-        → (X : List (List ℕ)) → Told S m (X ++ flat_map name_answered (lines_due S due))
+        → (X : List (List ℕ)) → SentTo S m (X ++ flat_map name_answered (lines_due S due))
         → X ≡ map (λ (i : Item). i.name) (m.seat S).items
-    at m (b ∷ due) q X told = absurd q
-    at m [] (aw, q) X told = in_phase m.phase (m.seat S).items X aw (subst (Told S m) (append-nil X) told)
+    at m (b ∷ due) q X so_far = absurd q
+    at m [] (aw, q) X so_far = in_phase m.phase (m.seat S).items X aw (subst (SentTo S m) (append-nil X) so_far)
 
 pub names_are_known : NamesAreKnown
 unfolding has_word is_known

@@ -147,7 +147,8 @@ module _ (r : Rules) (S : Colour) where
         handshake_stops = λ p reason k most w. inl (answered (same_colour C S) _ _
             (end_none r (record (said_by C kind n) { count = k }) reason S));
         handshake_counts = λ p d few. inl (answered (same_colour C S) _ [] refl);
-        handshake_next = λ p s d. inl (answered (same_colour C S) _ _ (if_none (same_colour Black S) handshake_lines refl));
+        handshake_next = λ p s d.
+            inl (answered (same_colour C S) _ _ (if_none (same_colour Black S) handshake_lines refl));
         handshake_last = λ p s d. inl (answered (same_colour C S) _ _
             (if_none (same_colour White S) (setup_lines r White) (setup_none r White)));
         setup_counts = λ p pong few. inl refl;
@@ -224,11 +225,12 @@ draws_are_offered r H K final g S =
           split (list_if (same_colour b.to S) b.lines) (lines_given S H) in
           let rest = p (λ early. not_early early) j (k + draws (list_if (same_colour b.to S) b.lines))
           (fewer (list_if (same_colour b.to S) b.lines) (lines_due S due)
-          (lines_due S (blocks_from White (ends r (Faulted b.to Write) m).to)) j k (end_due r m (Faulted b.to Write) S) h) in
+          (lines_due S (blocks_from White (ends r (Faulted b.to Write) m).to)) j k
+          (end_due r m (Faulted b.to Write) S) h) in
           le_split k (draws (list_if (same_colour b.to S) b.lines)) (draws (lines_given S H)) _ j
           (offers_in (lines_read (other S) H)) l rest;
-      fails_late = λ m n b due H o only same p fresh j k h. step (list_if (same_colour b.to S) b.lines) (lines_due S due)
-          (lines_given S H) j k (offers_in (lines_read (other S) H)) (λ i. p fresh j i) h;
+      fails_late = λ m n b due H o only same p fresh j k h. step (list_if (same_colour b.to S) b.lines)
+          (lines_due S due) (lines_given S H) j k (offers_in (lines_read (other S) H)) (λ i. p fresh j i) h;
       reads = λ m n c t x H aw q stays p fresh j k h.
           let b : Bool = same_colour c (other S) && is_offer (line_kind t) in
           let sent = line_draws r S c (line_kind t) x m aw fresh in

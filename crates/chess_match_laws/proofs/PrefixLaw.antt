@@ -121,24 +121,24 @@ abbrev PrefixedIn : Phase → Bool → List Bool → Type 0
 PrefixedIn (Handshake c) t X = X ≡ []
 PrefixedIn p t X = Each t X
 
-abbrev Told : Colour → Match → List Bool → Type 0
-Told S m X = PrefixedIn m.phase (asked S m) X
+abbrev SentTo : Colour → Match → List Bool → Type 0
+SentTo S m X = PrefixedIn m.phase (asked S m) X
 
 any_each : (p : Phase) (t : Bool) (X : List Bool) → PrefixedIn p t X → Each t X
-any_each (Handshake c) t X told = each_none t X told
-any_each (Setup c) t X told = told
-any_each (Opening c) t X told = told
-any_each (BeforeMove c opened) t X told = told
-any_each (AfterMove c) t X told = told
-any_each (Over reason) t X told = told
+any_each (Handshake c) t X so_far = each_none t X so_far
+any_each (Setup c) t X so_far = so_far
+any_each (Opening c) t X so_far = so_far
+any_each (BeforeMove c opened) t X so_far = so_far
+any_each (AfterMove c) t X so_far = so_far
+any_each (Over reason) t X so_far = so_far
 
 both_none : (X Z : List Bool) → X ≡ [] → Z ≡ [] → X ++ Z ≡ []
 both_none X Z e f = ap (λ (x : List Bool). x ++ Z) e ∙ f
 
 keeps : (p : Phase) (t s : Bool) (X Z : List Bool) → Z ≡ [] → t ≡ s → PrefixedIn p t X → PrefixedIn p s (X ++ Z)
-keeps p t s X Z none same told =
+keeps p t s X Z none same so_far =
     subst (λ (u : Bool). PrefixedIn p u (X ++ Z)) same
-    (subst (λ (Y : List Bool). PrefixedIn p t Y) (sym (ap (λ (z : List Bool). X ++ z) none ∙ append-nil X)) told)
+    (subst (λ (Y : List Bool). PrefixedIn p t Y) (sym (ap (λ (z : List Bool). X ++ z) none ∙ append-nil X)) so_far)
 
 asked_by : (items more : List Item) → items ≡ more → takes (codes "usermove") items ≡ takes (codes "usermove") more
 asked_by items more e = ap (λ (is : List Item). takes (codes "usermove") is) e
@@ -147,11 +147,11 @@ asked_by items more e = ap (λ (is : List Item). takes (codes "usermove") is) e
 
 module _ (r : Rules) (S : Colour) where
   line : (C : Colour) (kind : LineKind) (moment : ℕ) (m : Match) (X : List Bool) → awaits_line m.phase C ≡ true
-      → Kept r m → Told S m X
-      → Told S (line_row r m.phase kind moment m).after
+      → Kept r m → SentTo S m X
+      → SentTo S (line_row r m.phase kind moment m).after
       (X ++ flat_map prefix_of ((line_row r m.phase kind moment m).to S))
-  line C kind moment m X aw kept told =
-      line_cases r C kind moment m (λ e. Told S e.after (X ++ flat_map prefix_of (e.to S))) aw (λ since.
+  line C kind moment m X aw kept so_far =
+      line_cases r C kind moment m (λ e. SentTo S e.after (X ++ flat_map prefix_of (e.to S))) aw (λ since.
       let n : Match = record m { since = since } in record {
         handshake_stops = λ p reason k most w.
             let last : Match = record (said_by C kind n) { count = k } in
@@ -167,7 +167,7 @@ module _ (r : Rules) (S : Colour) where
         handshake_last = λ p s d. each_none (asked S (said_by C kind n)) _ (both_none X _ (as_in (Handshake C) p)
             (answered (same_colour C S) (items_in_line kind) (list_if (same_colour White S) (setup_lines r White))
             (if_none (same_colour White S) (setup_lines r White) (setup_none r White))));
-        setup_counts = λ p pong few. keeps m.phase (asked S m) (asked S m) X [] refl refl told;
+        setup_counts = λ p pong few. keeps m.phase (asked S m) (asked S m) X [] refl refl so_far;
         setup_next = λ p s pong. keeps (Setup C) (asked S m) (asked S m) X _
             (if_none (same_colour Black S) (setup_lines r Black) (setup_none r Black)) refl (as_in (Setup C) p);
         setup_last = λ p s pong v d. each-append (asked S m) X _ (as_in (Setup C) p) (opens_each r n r.start.side S);
@@ -175,10 +175,10 @@ module _ (r : Rules) (S : Colour) where
             each-append (asked S m) X _ (as_in (Setup C) p) (end_each r n (Claimed claim) S);
         setup_decides = λ p v e. each-append (asked S m) X _ (as_in (Setup C) p) (end_each r n (Decided v) S);
         stops = λ done reason w.
-            each-append (asked S m) X _ (any_each m.phase (asked S m) X told) (end_each r n reason S);
-        counts = λ on none few. keeps m.phase (asked S m) (asked S m) X [] refl refl told;
+            each-append (asked S m) X _ (any_each m.phase (asked S m) X so_far) (end_each r n reason S);
+        counts = λ on none few. keeps m.phase (asked S m) (asked S m) X [] refl refl so_far;
         offers = λ on none own. keeps m.phase (asked S m) (asked S (offering C n).after) X _ (draw_none C S n)
-            (asked_by (m.seat S).items ((offering C n).after.seat S).items (sym (offered_items C S n))) told;
+            (asked_by (m.seat S).items ((offering C n).after.seat S).items (sym (offered_items C S n))) so_far;
         plays = λ text move opened is p read room timely v d.
             keeps (AfterMove C) (asked S m) (asked S (moved C move (moment - opened) n)) X _
             (if_none (same_colour C S) _ refl)
@@ -198,23 +198,23 @@ module _ (r : Rules) (S : Colour) where
       })
     where
       as_in : (p : Phase) → m.phase ≡ p → PrefixedIn p (asked S m) X
-      as_in p e = subst (λ (q : Phase). PrefixedIn q (asked S m) X) e told
+      as_in p e = subst (λ (q : Phase). PrefixedIn q (asked S m) X) e so_far
 
-  tells : Tells prefix_of r S (Told S)
+  tells : Tells prefix_of r S (SentTo S)
   tells = record {
     line = line;
-    stops = λ m reason X Y on told. each-append (asked S m) X _
-        (each-front (asked S m) X Y (any_each m.phase (asked S m) (X ++ Y) told)) (end_each r m reason S);
-    waits = λ m since X told. told;
-    opened = λ m C k X e told. subst (λ (q : Phase). PrefixedIn q (asked S m) X) e told;
+    stops = λ m reason X Y on so_far. each-append (asked S m) X _
+        (each-front (asked S m) X Y (any_each m.phase (asked S m) (X ++ Y) so_far)) (end_each r m reason S);
+    waits = λ m since X so_far. so_far;
+    opened = λ m C k X e so_far. subst (λ (q : Phase). PrefixedIn q (asked S m) X) e so_far;
   }
 
-begun : (S : Colour) → Told S beginning.after (flat_map prefix_of (beginning.to S))
+begun : (S : Colour) → SentTo S beginning.after (flat_map prefix_of (beginning.to S))
 begun White = refl
 begun Black = refl
 
 pub prefixes_are_as_asked : AtEachMoment PrefixesAreAsAsked
 prefixes_are_as_asked r H K final g S =
-    told_at prefix_of r S (Told S) (tells r S) (λ m X. Each (asked S m) X) H K final
-    (λ m due q X told. each-front (asked S m) X (flat_map prefix_of (lines_due S due))
-    (any_each m.phase (asked S m) (X ++ flat_map prefix_of (lines_due S due)) told)) g (begun S)
+    told_at prefix_of r S (SentTo S) (tells r S) (λ m X. Each (asked S m) X) H K final
+    (λ m due q X so_far. each-front (asked S m) X (flat_map prefix_of (lines_due S due))
+    (any_each m.phase (asked S m) (X ++ flat_map prefix_of (lines_due S due)) so_far)) g (begun S)
