@@ -2,3 +2,5 @@ mod Accepted
 mod PlayedWords
 mod Undone
 mod ShownFens
+mod SessionLines
+mod GameLines

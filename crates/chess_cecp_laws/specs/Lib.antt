@@ -1,3 +1,5 @@
 pub mod Accepted
 pub mod Undo
 pub mod SetBoard
+pub mod SessionLines
+pub mod GameLines

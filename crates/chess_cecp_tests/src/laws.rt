@@ -3,15 +3,21 @@
 use chess_cecp::{
     Session, normal_chess_keeps_its_rows, reads_change_no_answer, refusals_change_nothing,
 };
-use chess_cecp_laws::{read_games_are_accepted, shown_fens_are_set, undo_takes_a_move_back};
+use chess_cecp_laws::{
+    game_lines_are_answered, other_words_are_unknown, read_games_are_accepted,
+    session_lines_are_answered, shown_fens_are_set, undo_takes_a_move_back,
+};
 use chess_moves::Plain;
 
 #[test]
 fn laws_are_called() {
+    game_lines_are_answered();
     normal_chess_keeps_its_rows();
+    other_words_are_unknown();
     read_games_are_accepted();
     reads_change_no_answer::<Session<Plain>>();
     refusals_change_nothing();
+    session_lines_are_answered();
     shown_fens_are_set();
     undo_takes_a_move_back();
 }

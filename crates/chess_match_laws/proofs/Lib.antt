@@ -26,5 +26,13 @@ mod PingLaw
 mod GoLaw
 mod SetupLaw
 mod OfferLaw
+mod PassingLaw
+mod OfferedLaw
+mod OpeningLaw
+mod AnswerLaw
+mod NeededLaw
+mod PrefixLaw
 mod LinesDue
+mod WorkedLines
+mod IgnoredLaw
 mod Answering

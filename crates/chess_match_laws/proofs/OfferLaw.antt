@@ -34,18 +34,18 @@ use Rattle.chess_match_laws.proofs.Points.{Stays, by_points, whole}
 -- ---- a line
 
 -- no turn has begun in this phase
-abbrev is_early : Phase → Bool
+abbrev pub is_early : Phase → Bool
 is_early (Handshake c) = true
 is_early (Setup c) = true
 is_early _ = false
 
 -- before the first turn nothing is offered
-abbrev Fresh : Match → Type 0
+abbrev pub Fresh : Match → Type 0
 Fresh m = is_early m.phase ≡ true → (O : Colour) → (m.seat O).offers ≡ false
 
 -- after a line of C of this kind an offer of O is open: it was before, and the line is no move of the other side; or
 -- the line is the offer
-abbrev Open : Colour → Colour → LineKind → Match → Bool
+abbrev pub Open : Colour → Colour → LineKind → Match → Bool
 Open O C kind m =
     (m.seat O).offers && not (same_colour C (other O) && is_move kind) || same_colour C O && is_offer kind
 
@@ -171,7 +171,7 @@ no_fault_agreed (Faulted c f) is e = absurd (cc)
 no_fault_agreed Agreed is e = absurd (cc)
 no_fault_agreed _ is e = absurd (cc)
 
-said_offers : (C O : Colour) (kind : LineKind) (m : Match) → ((said_by C kind m).seat O).offers ≡ (m.seat O).offers
+pub said_offers : (C O : Colour) (kind : LineKind) (m : Match) → ((said_by C kind m).seat O).offers ≡ (m.seat O).offers
 said_offers C O kind m = grind arith
 
 early_in_turn : (p : Phase) → is_early p ≡ true → in_turn p ≡ false
@@ -224,7 +224,7 @@ early_line r C O kind moment m aw early none =
 
 -- ---- any line
 
-line_open : (r : Rules) (O C : Colour) (kind : LineKind) (moment : ℕ) (m : Match) → Fresh m
+pub line_open : (r : Rules) (O C : Colour) (kind : LineKind) (moment : ℕ) (m : Match) → Fresh m
     → awaits_line m.phase C ≡ true → is_over (line_row r m.phase kind moment m).after.phase ≡ false
     → ((line_row r m.phase kind moment m).after.seat O).offers ≡ true → Open O C kind m ≡ true
 line_open r O C kind moment m fresh aw on still = at m.phase refl aw on still
@@ -392,7 +392,7 @@ module _ (r : Rules) where
       → n.phase ≡ Over Agreed → A
   by_fault c f n m e o = absurd (let both : Over (Faulted c f) ≡ Over Agreed = sym (ap (λ (x : Match). x.phase) e) ∙ o in cc)
 
-  line_fresh : (C : Colour) (kind : LineKind) (moment : ℕ) (m : Match) → awaits_line m.phase C ≡ true → Fresh m
+  pub line_fresh : (C : Colour) (kind : LineKind) (moment : ℕ) (m : Match) → awaits_line m.phase C ≡ true → Fresh m
       → Fresh (line_row r m.phase kind moment m).after
   line_fresh C kind moment m aw fresh = by_early (is_early m.phase) refl
     where

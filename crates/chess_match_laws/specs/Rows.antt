@@ -1,8 +1,9 @@
--- Second accounts of the lines that engines are sent and send: without the state of a match.
+-- Second accounts of the lines that engines are sent and send, by the acts of a match.
 use Rattle.std.specs.Prelude.{◌≡◌, ◌≤◌, ℕ, zero, suc, ◌+◌, ◌&&◌, Bool, true, false, List, [], ◌∷◌, ◌++◌, length, take, codes, decimal, Option}
 use Rattle.std.specs.List.{flat_map, list_any}
 use Rattle.std.specs.Str.{bytes_eq}
 use Rattle.cecp_engine.specs.EngineLines.{LineKind, OffersDraw, ClaimsDraw}
+use Rattle.cecp_engine.specs.Items.{takes}
 use Rattle.chess_base.specs.Initial.{initial_setup}
 use Rattle.chess_base.specs.Men.{other, same_colour}
 use Rattle.chess_base.specs.Options.{list_if}
@@ -12,11 +13,11 @@ use Rattle.chess_base.specs.declared.setup.Setup.{Setup as Position}
 use Rattle.chess_fen.specs.Writing.{fen}
 use Rattle.chess_match.specs.Acts.{Act, Happens}
 use Rattle.chess_match.specs.Effects.{Match, Over, Setup}
-use Rattle.chess_match.specs.Events.{Line}
+use Rattle.chess_match.specs.Events.{Line, Opened}
 use Rattle.chess_match.specs.Lines.{SentLine, Says, bytes_of}
 use Rattle.chess_match.specs.Rules.{Rules}
 use Rattle.chess_match.specs.declared.reason.Reason.TheVariants.{Agreed}
-use Rattle.chess_match.specs.laws.Laws.{line_kind, lines_given}
+use Rattle.chess_match.specs.laws.Laws.{line_kind, lines_given, lines_read}
 use Rattle.chess_match_laws.specs.OfActs.{only_sends}
 use Rattle.chess_match_laws.specs.Streams.{is_move}
 
@@ -70,6 +71,23 @@ GoIsSentOnce r H m = (S : Colour) → length (flat_map go_text (lines_given S H)
 abbrev pub WasSentGo : Rules → Colour → List Act → Match → Type 0
 WasSentGo r S H m = length (flat_map go_text (lines_given S H)) ≡ 1
 
+-- ---- turns
+
+abbrev pub one_if : Bool → ℕ
+one_if true = 1
+one_if false = 0
+
+-- how often the clock was read for the opening of a turn of the side `S`
+abbrev pub openings : Colour → List Act → ℕ
+openings S [] = 0
+openings S (Happens (Opened side moment) ∷ H) = one_if (same_colour side S) + openings S H
+openings S (_ ∷ H) = openings S H
+
+-- a turn of each side `S` was opened as often as `S` has moved, or once more
+abbrev pub TurnsAreOpenedOnce : Rules → List Act → Match → Type 0
+TurnsAreOpenedOnce r H m = (S : Colour) → (length (m.seat S).used ≤ openings S H)
+    × (openings S H ≤ length (m.seat S).used + 1)
+
 -- ---- offers of a draw
 
 -- whether a line offers a draw: `offer draw`, or `1/2-1/2`, which is an offer if no draw can be claimed
@@ -103,3 +121,29 @@ pub record IsAgreed (H : List Act) : Type 0 where
 -- so it is in every match that ended by agreement
 abbrev pub AgreedDrawsAreOffered : Rules → List Act → Match → Type 0
 AgreedDrawsAreOffered r H m = m.phase ≡ Over Agreed → IsAgreed H
+
+-- the text of a line `draw`, as a list of one; empty for any other line
+abbrev pub draw_text : SentLine → List (List ℕ)
+draw_text (Says text) = list_if (bytes_eq text (codes "draw")) (text ∷ [])
+draw_text _ = []
+
+-- while an offer of a draw by the other side is open, the side `S` was sent `draw`, unless its engine has the feature
+-- off (a line that could not be sent counts)
+abbrev pub OffersArePassedOn : Rules → Colour → List Act → Match → Type 0
+OffersArePassedOn r S H m = (m.seat (other S)).offers ≡ true → takes (codes "draw") (m.seat S).items ≡ true
+    → 1 ≤ length (flat_map draw_text (lines_given S H))
+
+-- each side was sent `draw` at most once for each of its moves, and once more: so an offer that is repeated is not
+-- passed on again
+abbrev pub DrawsAreFew : Rules → List Act → Match → Type 0
+DrawsAreFew r H m =
+    (S : Colour) → length (flat_map draw_text (lines_given S H)) ≤ length (m.seat S).used + 1
+
+-- a line that offers a draw, as a list of one; empty for any other line
+abbrev pub offer_of : Option (List ℕ) → List (Option (List ℕ))
+offer_of line = list_if (is_offer (line_kind line)) (line ∷ [])
+
+-- each side was sent `draw` at most as often as the other side offered a draw
+abbrev pub DrawsAreOffered : Rules → List Act → Match → Type 0
+DrawsAreOffered r H m = (S : Colour)
+    → length (flat_map draw_text (lines_given S H)) ≤ length (flat_map offer_of (lines_read (other S) H))

@@ -3,7 +3,7 @@
 ghost use Rattle.std.specs.Prelude.{true, false};
 ghost use Rattle.chess_match_laws.specs.Answering.{AnsweringEnginesAreBlameless};
 ghost use Rattle.chess_match_laws.specs.OfActs.{AtEachLine, AtEachMoment, AtEachOpening, InEachMatch, EndsAfterItsActs, AutomaticDrawsEndMatches, LinesAreReadInOrder, SilencesAreReadInOrder, NothingIsDueAtEvents, FailedBlocksAreLast, OneBlockFails, WriteFaultsAreOfBlocks, OnlyOneMatch, OneMatchButForEndLines, OnlyOneMatchOfARun, DecidedByTheBoard, OutcomesAreOfTheGame, LastLineIsTheirs, MovesAreRead, ItemsAreSaid, MovesAreSent, EachIsSentOthersMoves, AllMovesAreGiven, AllMovesAreSent, IsSentAllMoves, MovesSentAreKnown, GamesAreLines, TimesAreClocks, OtherTimesAreClocks, UsedTimesAreDifferences, ClocksDoNotUnderflow, LinesAreFew, SilencesAreAskedFor, SilencesChangeNothing, SilencesEndMatches, SilencesLeaveNoLine, TimeForfeitsAreShown, NotesAreInOrder, NotesHaveTheEvents, NotesHaveAllLines, NotesHaveLinesRead, NotesHaveMoments, EndsAtVerdicts};
-ghost use Rattle.chess_match_laws.specs.Rows.{AgreedDrawsAreOffered, GoIsSentOnce, IsSetUp, PingsAreNumbered, WasSentGo};
+ghost use Rattle.chess_match_laws.specs.Rows.{AgreedDrawsAreOffered, DrawsAreFew, DrawsAreOffered, GoIsSentOnce, IsSetUp, OffersArePassedOn, PingsAreNumbered, TurnsAreOpenedOnce, WasSentGo};
 ghost use Rattle.chess_match.specs.laws.Laws.{VerdictsEndMatches};
 
 use chess_text::read_moves_are_legal;
@@ -197,10 +197,26 @@ pub fn go_is_sent_once()
     ensures opened { AtEachOpening WasSentGo }
 {}
 
+/// States a law and does nothing: each turn is opened once. The clock was read for a side's openings as often as it has
+/// moved, or once more, if its move is awaited or the match ended before it; so far too, while the match is on.
+pub fn turns_are_opened_once()
+    ensures whole { InEachMatch TurnsAreOpenedOnce }
+    ensures so_far { AtEachMoment TurnsAreOpenedOnce }
+{}
+
 /// States a law and does nothing: in a match that ended by agreement one side offered a draw, and then the other, by the
 /// last line that was read; and in between the latter made no move, since by its move the offer would have lapsed.
 pub fn agreed_draws_are_offered()
     ensures { InEachMatch AgreedDrawsAreOffered }
+{}
+
+/// States a law and does nothing: whenever a line of a side is read while an offer of a draw by the other side is open,
+/// that side was sent `draw`, unless its engine has the feature off. It is sent `draw` at most as often as the other
+/// side offers a draw, and at most once more than it makes moves; so an offer that is repeated is not passed on again.
+pub fn offers_are_passed_on()
+    ensures passed { AtEachLine OffersArePassedOn }
+    ensures offered { AtEachMoment DrawsAreOffered }
+    ensures once { AtEachMoment DrawsAreFew }
 {}
 
 /// States a law: an engine that answers its handshake and each `ping`, makes one legal move in each of its turns, within

@@ -18,3 +18,6 @@ mod KnownGames
 mod KnownFens
 mod KnownLines
 mod KnownSame
+mod KnownCounts
+mod KnownEndings
+mod KnownTexts

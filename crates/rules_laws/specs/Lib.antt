@@ -8,4 +8,6 @@ pub mod FirstMoves
 pub mod Endings
 pub mod KnownGames
 pub mod KnownPositions
+pub mod KnownCounts
+pub mod KnownTexts
 pub mod Mirror

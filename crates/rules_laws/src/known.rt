@@ -1,6 +1,7 @@
-//! Laws of lines and FENs that chess players and programmers know, by computation. A caller learns one by calling its
-//! function, which does nothing.
+//! Laws of lines, FENs and positions that chess players and programmers know, by computation. A caller learns one by
+//! calling its function, which does nothing.
 
+ghost use Rattle.rules_laws.specs.KnownCounts.{EndingsAreJudged, MovesAreAsMany};
 ghost use Rattle.rules_laws.specs.KnownPositions.{FensAreRefused, LinesLeadToFens, PositionsAreTheSame};
 
 /// A law: the contract says it, and the function does nothing. Known lines are legal, and lead to positions with these
@@ -23,4 +24,20 @@ pub fn known_fens_are_refused()
 /// 9.2.3).
 pub fn known_positions_are_the_same()
     ensures { PositionsAreTheSame }
+{}
+
+/// A law: the contract says it, and the function does nothing. Known positions, one of Chess960 among them, have so
+/// many legal moves; of the first two these are published counts (chessprogramming.org, Perft Results).
+///
+/// It refuses a pawn that captures straight ahead, goes past a piece or promotes to a queen alone.
+pub fn known_positions_have_so_many_moves()
+    ensures { MovesAreAsMany }
+{}
+
+/// A law: the contract says it, and the function does nothing. Small positions are mate, stalemate, or drawn for
+/// insufficient material.
+///
+/// It refuses a king and a bishop against a king, or bishops on squares of one colour, that play on.
+pub fn known_endings_are_judged()
+    ensures { EndingsAreJudged }
 {}

@@ -2,9 +2,11 @@ use rules_laws::{
     a_game_ends_where_no_move_is_legal, attacks_are_mirrored, castling_ends_on_named_squares,
     castling_needs_named_squares, en_passant_follows_a_double_advance, endings_are_mirrored,
     first_moves_are_these, games_are_mirrored, halfmove_clocks_count_quiet_moves,
-    insufficient_material_never_mates, known_fens_are_refused, known_games_end,
-    known_lines_lead_to_these_fens, known_positions_are_the_same, lines_end_at_the_first_piece,
-    moves_are_mirrored, pieces_reach_by_tables, repetitions_and_quiet_moves_end_a_game,
+    insufficient_material_never_mates, known_endings_are_judged, known_fens_are_refused,
+    known_games_end, known_lines_lead_to_these_fens, known_moves_are_written,
+    known_positions_are_the_same, known_positions_have_so_many_moves, lines_end_at_the_first_piece,
+    moves_are_mirrored, moves_are_numbered, pieces_reach_by_tables,
+    repetitions_and_quiet_moves_end_a_game, tags_are_in_order,
 };
 
 #[test]
@@ -32,7 +34,16 @@ fn laws_of_endings_are_called() {
 
 #[test]
 fn laws_of_known_positions_are_called() {
+    known_endings_are_judged();
     known_fens_are_refused();
     known_lines_lead_to_these_fens();
     known_positions_are_the_same();
+    known_positions_have_so_many_moves();
+}
+
+#[test]
+fn laws_of_texts_are_called() {
+    known_moves_are_written();
+    moves_are_numbered();
+    tags_are_in_order();
 }

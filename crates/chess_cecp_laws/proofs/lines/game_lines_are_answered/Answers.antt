@@ -1,0 +1,5 @@
+use Rattle.chess_cecp_laws.proofs.GameLines.{game_lines_are_answered}
+use Rattle.chess_cecp_laws.proofs.lines.game_lines_are_answered.Goals as goal
+
+pub returns : goal.returns
+returns c = game_lines_are_answered

@@ -1,0 +1,5 @@
+use Rattle.chess_cecp_laws.proofs.SessionLines.{other_words_are_unknown}
+use Rattle.chess_cecp_laws.proofs.lines.other_words_are_unknown.Goals as goal
+
+pub returns : goal.returns
+returns c = other_words_are_unknown

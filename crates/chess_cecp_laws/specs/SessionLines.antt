@@ -1,0 +1,91 @@
+-- Lines of an interface and what every session answers to them, as texts (CECP, version 2).
+use Rattle.std.specs.Prelude.{◌≡◌, Bool, true, false, List, [], ◌∷◌, ◌++◌, ℕ, codes}
+use Prim.Native.String.{String as Text}
+use Rattle.std.specs.List.{AllByRecursion, list_any}
+use Rattle.std.specs.Str.{bytes_eq}
+use Rattle.byte_devices.specs.Bytes.{new_line}
+use Rattle.chess_base.specs.declared.man.Variant.TheVariants.{Fischerandom}
+use Rattle.chess_base.specs.Initial.{initial_setup, initial_setup_of}
+use Rattle.chess_game.specs.Game.{State, from_start}
+use Rattle.chess_text.specs.Moves.{shape}
+use Rattle.text_lines.specs.Lines.{LineSeen}
+use Rattle.text_lines.specs.Words.{word_of}
+use Rattle.chess_cecp.specs.Held.{SessionSeen}
+use Rattle.chess_cecp.specs.Serving.{Response}
+use Rattle.chess_cecp.specs.Session.{session_response}
+
+-- ---- words that no command has
+
+-- the first words of all lines that mean something to a session: of an empty line, of what concerns only an engine that
+-- plays, and of what the session does
+abbrev pub known_words : List (List ℕ)
+known_words =
+    [] ∷ codes "xboard" ∷ codes "accepted" ∷ codes "rejected" ∷ codes "force" ∷ codes "random" ∷ codes "hard"
+    ∷ codes "easy" ∷ codes "post" ∷ codes "nopost" ∷ codes "?" ∷ codes "computer" ∷ codes "name" ∷ codes "rating"
+    ∷ codes "ics" ∷ codes "draw" ∷ codes "level" ∷ codes "st" ∷ codes "sd" ∷ codes "time" ∷ codes "otim"
+    ∷ codes "new" ∷ codes "setboard" ∷ codes "usermove" ∷ codes "undo" ∷ codes "remove" ∷ codes "result"
+    ∷ codes "claim" ∷ codes "ping" ∷ codes "protover" ∷ codes "variant" ∷ codes "go" ∷ codes "showfen"
+    ∷ codes "showmoves" ∷ codes "showstate" ∷ codes "showpgn" ∷ codes "quit" ∷ []
+
+-- a response to this line as to an unknown command: the line is shown, and the session goes on as it was
+pub record IsUnknown (session : SessionSeen) (line : LineSeen) : Type 0 where
+  pub text : (session_response session line).text
+      ≡ codes "Error (unknown command): " ++ (line.text ++ new_line ∷ [])
+  pub state : (session_response session line).state ≡ session
+  pub goes_on : (session_response session line).ends ≡ false
+
+-- in every session: a line whose first word is none of these, and which has no move's shape, is an unknown command; it
+-- is not ignored
+abbrev pub OtherWordsAreUnknown : Type 0
+OtherWordsAreUnknown = (session : SessionSeen) (line : LineSeen) → line.too_long ≡ false
+    → list_any (bytes_eq (word_of line.text)) known_words ≡ false → shape line.text ≡ false → IsUnknown session line
+
+-- ---- lines worked out
+
+-- the response of a session to a line with this text
+abbrev pub response_to : SessionSeen → Text → Response SessionSeen
+response_to session text = session_response session (record { text = codes text; too_long = false; ended = true })
+
+-- the line is answered so, and the session goes on as it was
+pub record IsAnswered (session : SessionSeen) (line answer : Text) : Type 0 where
+  pub text : (response_to session line).text ≡ codes answer
+  pub state : (response_to session line).state ≡ session
+  pub goes_on : (response_to session line).ends ≡ false
+
+-- the line is not answered, and changes nothing
+abbrev pub IsIgnored : SessionSeen → Text → Type 0
+IsIgnored session line = IsAnswered session line ""
+
+-- the line is not answered, and the game is `s` then
+pub record Becomes (session : SessionSeen) (line : Text) (s : State) : Type 0 where
+  pub text : (response_to session line).text ≡ []
+  pub state : (response_to session line).state ≡ record session { state = s }
+
+-- what an engine would need, and an arbiter doesn't (CECP, sections 8 and 9); one line for each ignored command
+abbrev pub lines_for_engines : List Text
+lines_for_engines =
+    "" ∷ "xboard" ∷ "accepted ping" ∷ "rejected usermove" ∷ "force" ∷ "random" ∷ "hard" ∷ "easy" ∷ "post" ∷ "nopost"
+    ∷ "?" ∷ "computer" ∷ "name Sjeng" ∷ "rating 2000 1900" ∷ "ics freechess.org" ∷ "draw" ∷ "level 40 5 0" ∷ "st 30"
+    ∷ "sd 4" ∷ "time 30000" ∷ "otim 29000" ∷ []
+
+-- in this session these lines are answered so, or ignored, or change the game so
+pub record LinesAreAnswered (session : SessionSeen) : Type 0 where
+  pub ignored : AllByRecursion (IsIgnored session) lines_for_engines
+  pub ping : IsAnswered session "ping 7" "pong 7\n"
+  pub no_number : IsAnswered session "ping seven" "Error (bad number): ping seven\n"
+  pub first_version : IsIgnored session "protover 1"
+  pub features : IsAnswered session "protover 2"
+      "feature ping=1 setboard=1 playother=0 san=0 usermove=1 time=1 draw=1 sigint=0 sigterm=0 reuse=1 analyze=0 colors=0 debug=1 myname=\"CECP arbiter\" variants=\"normal,fischerandom\" done=1\n"
+  pub go : IsAnswered session "go" "Error (the arbiter plays no side): go\n"
+  pub no_result : IsAnswered session "result 2-0" "Error (bad result): result 2-0\n"
+  pub no_variant : IsAnswered session "variant suicide" "Error (unsupported variant): variant suicide\n"
+  pub new : Becomes session "new" (from_start initial_setup)
+  pub chess960 : Becomes session "variant fischerandom" (from_start (initial_setup_of Fischerandom))
+  pub quit : (response_to session "quit").ends ≡ true
+  -- without moves there is nothing to take back
+  pub undo : session.state.moves ≡ [] → IsAnswered session "undo" "Error (command not legal now): undo\n"
+  pub remove : session.state.moves ≡ [] → IsAnswered session "remove" "Error (command not legal now): remove\n"
+
+-- so it is in every session
+abbrev pub SessionLinesAreAnswered : Type 0
+SessionLinesAreAnswered = (session : SessionSeen) → LinesAreAnswered session

@@ -1,0 +1,29 @@
+//! Laws of the lines that a session is sent. A caller learns one by calling its function, which does nothing.
+
+ghost use Rattle.chess_cecp_laws.specs.GameLines.{GameLinesAreAnswered};
+ghost use Rattle.chess_cecp_laws.specs.SessionLines.{OtherWordsAreUnknown, SessionLinesAreAnswered};
+
+/// A law: the contract says it, and the function does nothing. A line whose first word is none of 37 words, and which
+/// has no move's shape, is answered as an unknown command.
+///
+/// It refuses a command more that is accepted and ignored, such as `memory`, and names in capital letters.
+pub fn other_words_are_unknown()
+    ensures { OtherWordsAreUnknown }
+{}
+
+/// A law: the contract says it, and the function does nothing. Some lines, a line for each ignored command among them,
+/// are answered by these texts in every session.
+///
+/// It refuses an ignored command that is missing, another list of features, and a `variant` that begins another game.
+pub fn session_lines_are_answered()
+    ensures { SessionLinesAreAnswered }
+{}
+
+/// A law: the contract says it, and the function does nothing. By what a session's game is, some lines have these
+/// answers: moves and `claim` after the end, a move beyond the limit, `claim`, `result`, and `setboard` of two FENs
+/// that are refused.
+///
+/// It refuses a result against the board's verdict that is taken, and a move more than the limit.
+pub fn game_lines_are_answered()
+    ensures { GameLinesAreAnswered }
+{}

@@ -1,0 +1,108 @@
+-- Lines of engines, time controls and ends of a match, by computation.
+use Rattle.std.proofs.Common.{refl}
+use Rattle.std.specs.Fmt.{digits}
+use Rattle.text_lines.specs.Words.{argument_of, command_number}
+use Rattle.cecp_engine.specs.EngineLines.{kind_of}
+use Rattle.cecp_engine.specs.Items.{has_word, item_of, items_of, plays_fischerandom, takes}
+use Rattle.cecp_engine.specs.Levels.{allotted, base_of, base_text, decimals_text, increment_text, level_reading, level_text, milliseconds_of, thousandths_of}
+use Rattle.chess_match_laws.specs.Worked.{EndsAreWorded, FeaturesAreOn, ItemsAreRead, LevelsGive, LinesSay, LosersLose}
+
+pub lines_say : LinesSay
+unfolding argument_of command_number kind_of
+lines_say = record {
+  move = refl;
+  feature = refl;
+  resign = refl;
+  offer = refl;
+  draw = refl;
+  white_wins = refl;
+  black_wins = refl;
+  illegal = refl;
+  pong = refl;
+  thinking = refl;
+  remark = refl;
+  capital = refl;
+  no_draw = refl;
+  no_number = refl;
+}
+
+pub items_are_read : ItemsAreRead
+unfolding item_of items_of
+items_are_read = refl
+
+pub features_are_on : FeaturesAreOn
+unfolding has_word item_of items_of plays_fischerandom takes
+features_are_on = record {
+  said = refl;
+  last = refl;
+  quoted = refl;
+  no_ping = refl;
+  no_setboard = refl;
+  no_san = refl;
+  no_usermove = refl;
+  times = refl;
+  draws = refl;
+  no_times = refl;
+  no_draws = refl;
+  chess960 = refl;
+  normal = refl;
+  all_variants = refl;
+}
+
+pub levels_give : LevelsGive
+unfolding argument_of allotted base_of base_text decimals_text increment_text level_reading level_text milliseconds_of
+    thousandths_of digits
+levels_give = record {
+  forty = refl;
+  twelve = refl;
+  short = refl;
+  seconds = refl;
+  shown = refl;
+  first = refl;
+  last = refl;
+  second = refl;
+  increments = refl;
+}
+
+pub losers_lose : LosersLose
+losers_lose = record {
+  white_resigns = refl;
+  black_resigns = refl;
+  white_errs = refl;
+  black_errs = refl;
+  white_moves_twice = refl;
+  black_moves_twice = refl;
+  white_claims = refl;
+  black_claims = refl;
+  white_rejects = refl;
+  black_rejects = refl;
+  white_forfeits = refl;
+  black_forfeits = refl;
+  bare_king = refl;
+  agreed = refl;
+  too_long = refl;
+  faults = λ c fault. refl;
+}
+
+pub ends_are_worded : EndsAreWorded
+ends_are_worded = record {
+  resigns = refl;
+  agreed = refl;
+  errs = refl;
+  moves_twice = refl;
+  claims = refl;
+  rejects = refl;
+  forfeits = refl;
+  bare_king = refl;
+  too_long = refl;
+  no_ping = refl;
+  no_setboard = refl;
+  no_variant = refl;
+  no_done = refl;
+  no_handshake = refl;
+  no_answer = refl;
+  flood = refl;
+  ended = refl;
+  unread = refl;
+  unwritten = refl;
+}

@@ -1,0 +1,12 @@
+use Rattle.chess_match_laws.proofs.OfferedLaw.{draws_are_offered}
+use Rattle.chess_match_laws.proofs.PassingLaw.{draws_are_few, offers_are_passed_on}
+use Rattle.chess_match_laws.proofs.laws.offers_are_passed_on.Goals as goal
+
+pub returns-clause-passed : goal.returns-clause-passed
+returns-clause-passed c = offers_are_passed_on
+
+pub returns-clause-offered : goal.returns-clause-offered
+returns-clause-offered c = draws_are_offered
+
+pub returns-clause-once : goal.returns-clause-once
+returns-clause-once c = draws_are_few

@@ -1,0 +1,10 @@
+use Rattle.chess_match_laws.specs.Rows.{TurnsAreOpenedOnce}
+use Rattle.chess_match_laws.proofs.OpeningLaw.{turns_are_opened_once}
+use Rattle.chess_match_laws.proofs.Points.{in_each}
+use Rattle.chess_match_laws.proofs.laws.turns_are_opened_once.Goals as goal
+
+pub returns-clause-whole : goal.returns-clause-whole
+returns-clause-whole c = in_each TurnsAreOpenedOnce turns_are_opened_once
+
+pub returns-clause-so_far : goal.returns-clause-so_far
+returns-clause-so_far c = turns_are_opened_once

@@ -1,0 +1,5 @@
+use Rattle.chess_match_laws.proofs.IgnoredLaw.{other_lines_are_ignored}
+use Rattle.chess_match_laws.proofs.lines.other_lines_are_ignored.Goals as goal
+
+pub returns : goal.returns
+returns c = other_lines_are_ignored

@@ -1,0 +1,8 @@
+use Rattle.chess_match_laws.proofs.WorkedLines.{ends_are_worded, losers_lose}
+use Rattle.chess_match_laws.proofs.worked.losers_lose.Goals as goal
+
+pub returns-clause-outcomes : goal.returns-clause-outcomes
+returns-clause-outcomes c = losers_lose
+
+pub returns-clause-comments : goal.returns-clause-comments
+returns-clause-comments c = ends_are_worded

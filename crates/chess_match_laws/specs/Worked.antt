@@ -1,0 +1,137 @@
+-- Lines of engines, time controls and ends of a match, worked out.
+use Rattle.std.specs.Prelude.{◌≡◌, Bool, true, false, [], ◌∷◌, codes, map, None, Some}
+use Prim.Native.String.{String as Text}
+use Rattle.chess_base.specs.declared.man.Colour.{Colour}
+use Rattle.chess_base.specs.declared.man.Colour.TheVariants.{White, Black}
+use Rattle.chess_game.specs.declared.results.Outcome.TheVariants.{WhiteWins, BlackWins, Draw, Unfinished}
+use Rattle.cecp_engine.specs.EngineLines.{LineKind, Features, Moves, Resigns, OffersDraw, ClaimsDraw, ClaimsWin, Rejects, Answers, SaysElse, kind_of}
+use Rattle.cecp_engine.specs.Items.{Item, items_of, plays_fischerandom, takes}
+use Rattle.cecp_engine.specs.Levels.{LevelSeen, allotted, level_of, level_text}
+use Rattle.chess_match.specs.Reasons.{comment_of, outcome_by_reason}
+use Rattle.chess_match.specs.declared.reason.MatchFault.{MatchFault}
+use Rattle.chess_match.specs.declared.reason.MatchFault.TheVariants.{Ended, Read, Write, NoDone, NoPing, NoSetboard, Flood, NoVariant, NoHandshake, NoAnswer}
+use Rattle.chess_match.specs.declared.reason.Reason.{Reason}
+use Rattle.chess_match.specs.declared.reason.Reason.TheVariants as over_by
+use Rattle.chess_match.specs.declared.reason.Reason.TheVariants.{Agreed, MovesIllegally, MovesOutOfTurn, ClaimsFalsely, RejectsLegalMove, Forfeits, ForfeitsToBareKing, GameTooLong, Faulted}
+
+-- ---- lines of engines
+
+-- a line with this text is of this kind
+abbrev pub IsLine : Text → LineKind → Type 0
+IsLine text kind = kind_of (codes text) ≡ kind
+
+-- what a line of an engine says (CECP, version 2: section 9)
+pub record LinesSay : Type 0 where
+  pub move : IsLine "move e2e4" (Moves (codes "e2e4"))
+  pub feature : IsLine "feature ping=1 done=1" (Features (codes "ping=1 done=1"))
+  pub resign : IsLine "resign" Resigns
+  pub offer : IsLine "offer draw" OffersDraw
+  pub draw : IsLine "1/2-1/2 {Draw by repetition}" ClaimsDraw
+  pub white_wins : IsLine "1-0 {White mates}" (ClaimsWin White)
+  pub black_wins : IsLine "0-1 {White resigns}" (ClaimsWin Black)
+  pub illegal : IsLine "Illegal move: e2e4" Rejects
+  pub pong : IsLine "pong 12" (Answers 12)
+  -- its thinking, a remark, and lines that are not quite one of the above
+  pub thinking : IsLine "9 156 1084 48000 Nf3 Nc6" SaysElse
+  pub remark : IsLine "# resign" SaysElse
+  pub capital : IsLine "Resign" SaysElse
+  pub no_draw : IsLine "offer peace" SaysElse
+  pub no_number : IsLine "pong one" SaysElse
+
+-- the items of a `feature` line: none after the one that ends the handshake
+abbrev pub ItemsAreRead : Type 0
+ItemsAreRead = map (λ (i : Item). (i.name, i.value.text))
+    (items_of (codes "ping=1 myname=\"Sjeng 11\" usermove=0 done=1 san=1"))
+    ≡ (codes "ping", codes "1") ∷ (codes "myname", codes "Sjeng 11") ∷ (codes "usermove", codes "0")
+    ∷ (codes "done", codes "1") ∷ []
+
+-- whether an engine whose `feature` lines have these items has this feature on
+abbrev pub is_on : Text → Text → Bool
+is_on name items = takes (codes name) (items_of (codes items))
+
+-- which features an engine has on: the last item of a name counts, a value in quotes is none, and what isn't said is
+-- CECP's default
+pub record FeaturesAreOn : Type 0 where
+  pub said : is_on "ping" "san=1 ping=1" ≡ true
+  pub last : is_on "ping" "ping=1 ping=0" ≡ false
+  pub quoted : is_on "ping" "ping=\"1\"" ≡ false
+  pub no_ping : is_on "ping" "" ≡ false
+  pub no_setboard : is_on "setboard" "" ≡ false
+  pub no_san : is_on "san" "" ≡ false
+  pub no_usermove : is_on "usermove" "" ≡ false
+  pub times : is_on "time" "" ≡ true
+  pub draws : is_on "draw" "" ≡ true
+  pub no_times : is_on "time" "time=0" ≡ false
+  pub no_draws : is_on "draw" "draw=0" ≡ false
+  pub chess960 : plays_fischerandom (items_of (codes "variants=\"normal,fischerandom\"")) ≡ true
+  pub normal : plays_fischerandom (items_of (codes "variants=\"normal\"")) ≡ false
+  pub all_variants : plays_fischerandom [] ≡ true
+
+-- ---- time controls
+
+-- 40 moves in 5 minutes; 2 minutes and 12 seconds for each move
+abbrev pub forty_in_five : LevelSeen
+forty_in_five = record { moves = 40; base = 300000; increment = 0 }
+abbrev pub two_and_twelve : LevelSeen
+two_and_twelve = record { moves = 0; base = 120000; increment = 12000 }
+
+-- what these time controls are, and how many milliseconds they give
+pub record LevelsGive : Type 0 where
+  pub forty : level_of (codes "40 5 0") ≡ Some forty_in_five
+  pub twelve : level_of (codes "0 2 12") ≡ Some two_and_twelve
+  pub short : level_of (codes "0 0:30 0.1") ≡ Some (record { moves = 0; base = 30000; increment = 100 })
+  pub seconds : level_of (codes "0 0:60 0") ≡ None
+  pub shown : level_text (record { moves = 0; base = 8500; increment = 100 }) ≡ codes "0 0:08.5 0.1"
+  -- before the first move, after 39 moves, and after 40, with which the second session begins
+  pub first : allotted forty_in_five 0 ≡ 300000
+  pub last : allotted forty_in_five 39 ≡ 300000
+  pub second : allotted forty_in_five 40 ≡ 600000
+  -- 12 seconds more for each move made
+  pub increments : allotted two_and_twelve 3 ≡ 156000
+
+-- ---- ends
+
+-- who wins, by why the match ended
+pub record LosersLose : Type 0 where
+  pub white_resigns : outcome_by_reason (over_by.Resigns White) ≡ BlackWins
+  pub black_resigns : outcome_by_reason (over_by.Resigns Black) ≡ WhiteWins
+  pub white_errs : outcome_by_reason (MovesIllegally White) ≡ BlackWins
+  pub black_errs : outcome_by_reason (MovesIllegally Black) ≡ WhiteWins
+  pub white_moves_twice : outcome_by_reason (MovesOutOfTurn White) ≡ BlackWins
+  pub black_moves_twice : outcome_by_reason (MovesOutOfTurn Black) ≡ WhiteWins
+  pub white_claims : outcome_by_reason (ClaimsFalsely White) ≡ BlackWins
+  pub black_claims : outcome_by_reason (ClaimsFalsely Black) ≡ WhiteWins
+  pub white_rejects : outcome_by_reason (RejectsLegalMove White) ≡ BlackWins
+  pub black_rejects : outcome_by_reason (RejectsLegalMove Black) ≡ WhiteWins
+  pub white_forfeits : outcome_by_reason (Forfeits White) ≡ BlackWins
+  pub black_forfeits : outcome_by_reason (Forfeits Black) ≡ WhiteWins
+  pub bare_king : outcome_by_reason ForfeitsToBareKing ≡ Draw
+  pub agreed : outcome_by_reason Agreed ≡ Draw
+  pub too_long : outcome_by_reason GameTooLong ≡ Unfinished
+  pub faults : (c : Colour) (fault : MatchFault) → outcome_by_reason (Faulted c fault) ≡ Unfinished
+
+-- the comment on such an end is this
+abbrev pub IsWorded : Reason → Text → Type 0
+IsWorded reason comment = comment_of reason ≡ codes comment
+
+-- how ends are worded
+pub record EndsAreWorded : Type 0 where
+  pub resigns : IsWorded (over_by.Resigns Black) "Black resigns"
+  pub agreed : IsWorded Agreed "Draw agreed"
+  pub errs : IsWorded (MovesIllegally White) "White makes an illegal move"
+  pub moves_twice : IsWorded (MovesOutOfTurn Black) "Black moves out of turn"
+  pub claims : IsWorded (ClaimsFalsely White) "White makes a false claim"
+  pub rejects : IsWorded (RejectsLegalMove Black) "Black rejects a legal move"
+  pub forfeits : IsWorded (Forfeits White) "White forfeits on time"
+  pub bare_king : IsWorded ForfeitsToBareKing "Time forfeit against a bare king"
+  pub too_long : IsWorded GameTooLong "Game too long"
+  pub no_ping : IsWorded (Faulted Black NoPing) "Black has no ping"
+  pub no_setboard : IsWorded (Faulted White NoSetboard) "White has no setboard"
+  pub no_variant : IsWorded (Faulted Black NoVariant) "Black has no fischerandom"
+  pub no_done : IsWorded (Faulted White NoDone) "White did not send done=1"
+  pub no_handshake : IsWorded (Faulted Black NoHandshake) "Black sent no done=1 (a UCI engine needs polyglot)"
+  pub no_answer : IsWorded (Faulted White NoAnswer) "White did not answer"
+  pub flood : IsWorded (Faulted Black Flood) "Black sent too many lines"
+  pub ended : IsWorded (Faulted White Ended) "White ended its output"
+  pub unread : IsWorded (Faulted Black Read) "Black can not be read"
+  pub unwritten : IsWorded (Faulted White Write) "White can not be written"

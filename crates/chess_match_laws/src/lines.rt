@@ -1,0 +1,10 @@
+//! Laws of single lines of an engine. A caller learns one by calling its function, which does nothing.
+
+ghost use Rattle.chess_match_laws.specs.Ignored.{OtherLinesAreIgnored};
+
+/// States a law and does nothing: in a setup each line but `pong 1` is ignored, in a turn an engine's thinking, its
+/// `feature` lines, a `pong` with another number than the latest `ping`, and `Illegal move` before any move was sent.
+/// Such a line changes nothing, with fewer than 9,999 before it; the 10,000th ends the match.
+pub fn other_lines_are_ignored()
+    ensures { OtherLinesAreIgnored }
+{}

@@ -1,0 +1,24 @@
+//! Laws of lines, time controls and ends, worked out. A caller learns one by calling its function, which does nothing.
+
+ghost use Rattle.chess_match_laws.specs.Worked.{EndsAreWorded, FeaturesAreOn, ItemsAreRead, LevelsGive, LinesSay, LosersLose};
+
+/// States a law and does nothing: what some lines of engines say, which items a `feature` line has, and which features
+/// an engine has on by them.
+pub fn engine_lines_are_worked_out()
+    ensures lines { LinesSay }
+    ensures items { ItemsAreRead }
+    ensures features { FeaturesAreOn }
+{}
+
+/// States a law and does nothing: what some time controls are, and how much time they give after some moves.
+pub fn levels_are_worked_out()
+    ensures { LevelsGive }
+{}
+
+/// States a law and does nothing: the side that resigns, forfeits on time, moves illegally or out of turn, claims
+/// falsely or rejects a legal move loses; against a bare king, and by agreement, the game is drawn; after a fault, and
+/// at the limit of half-moves, it has no outcome. And the comments on ends, word for word.
+pub fn losers_lose()
+    ensures outcomes { LosersLose }
+    ensures comments { EndsAreWorded }
+{}

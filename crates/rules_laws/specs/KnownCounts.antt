@@ -1,0 +1,59 @@
+-- How many moves known positions have, and how small endings are judged.
+use Rattle.std.specs.Prelude.{◌≡◌, ℕ, [], codes, length, option_map, Option, Some}
+use Prim.Native.String.{String as Text}
+use Rattle.std.specs.Result.{result_ok}
+use Rattle.chess_base.specs.declared.man.Variant.{Variant}
+use Rattle.chess_base.specs.declared.man.Variant.TheVariants.{Normal, Fischerandom}
+use Rattle.chess_base.specs.MoveList.{moves}
+use Rattle.chess_fen.specs.Reading.{fen_reading_as}
+use Rattle.chess_game.specs.Ends.{verdict}
+use Rattle.chess_game.specs.declared.verdicts.Verdict.{Verdict}
+use Rattle.chess_game.specs.declared.verdicts.Verdict.TheVariants.{WhiteMates, Stalemate, InsufficientMaterial}
+
+-- ---- counts
+
+-- how many moves are legal in the position that a FEN denotes; `None` if it is refused
+abbrev pub move_count : Variant → Text → Option ℕ
+move_count v text = option_map (λ p. length (moves p)) (result_ok (fen_reading_as v (codes text)))
+
+-- the position has so many moves
+abbrev pub HasMoves : Variant → Text → ℕ → Type 0
+HasMoves v text n = move_count v text ≡ Some n
+
+-- known positions: the third of the usual six, one with promotions on both sides, one of Chess960 in which the kings
+-- are between rooks that stop them from castling, and a pawn with a knight in its way
+abbrev pub third_position : Text
+third_position = "8/2p5/3p4/KP5r/1R3p1k/8/4P1P1/8 w - - 0 1"
+abbrev pub with_promotions : Text
+with_promotions = "n1n5/PPPk4/8/8/8/8/4Kppp/5N1N b - - 0 1"
+abbrev pub rooks_beside : Text
+rooks_beside = "2rkr3/8/8/8/8/8/8/2RKR3 w ECec - 0 1"
+abbrev pub pawn_blocked : Text
+pawn_blocked = "4k3/8/8/8/8/4n3/4P3/4K3 w - - 0 1"
+
+-- how many moves they have: of the first two these are the published counts (perft, depth 1)
+pub record MovesAreAsMany : Type 0 where
+  pub third : HasMoves Normal third_position 14
+  pub promotions : HasMoves Normal with_promotions 24
+  pub beside : HasMoves Fischerandom rooks_beside 20
+  pub blocked : HasMoves Normal pawn_blocked 2
+
+-- ---- ends
+
+-- the board's verdict on the position that a FEN denotes; `None` if the FEN is refused
+abbrev pub judged_fen : Text → Option (Option Verdict)
+judged_fen text = option_map (λ p. verdict p []) (result_ok (fen_reading_as Normal (codes text)))
+
+-- the position of a FEN has this verdict
+abbrev pub IsJudged : Text → Verdict → Type 0
+IsJudged text v = judged_fen text ≡ Some (Some v)
+
+-- small endings
+pub record EndingsAreJudged : Type 0 where
+  pub mate : IsJudged "7k/6Q1/6K1/8/8/8/8/8 b - - 0 1" WhiteMates
+  pub stalemate : IsJudged "7k/5Q2/6K1/8/8/8/8/8 b - - 0 1" Stalemate
+  pub kings : IsJudged "4k3/8/8/8/8/8/8/4K3 w - - 0 1" InsufficientMaterial
+  pub bishop : IsJudged "4k3/8/8/8/8/8/8/4KB2 w - - 0 1" InsufficientMaterial
+  pub knight : IsJudged "4kn2/8/8/8/8/8/8/4K3 w - - 0 1" InsufficientMaterial
+  -- bishops of either side on squares of one colour
+  pub bishops : IsJudged "4kb2/8/8/8/8/8/8/2B1K3 w - - 0 1" InsufficientMaterial
