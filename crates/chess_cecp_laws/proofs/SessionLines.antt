@@ -135,29 +135,70 @@ silent session line is = answered session line "" Silent is refl refl refl
 
 ignored : (session : SessionSeen) → AllByRecursion (IsIgnored session) lines_for_engines
 unfolding command_of named_command is_ignored
-ignored session =
-    (silent session "" refl,
-    (silent session "xboard" refl,
-    (silent session "accepted ping" refl,
-    (silent session "rejected usermove" refl,
-    (silent session "force" refl,
-    (silent session "random" refl,
-    (silent session "hard" refl,
-    (silent session "easy" refl,
-    (silent session "post" refl,
-    (silent session "nopost" refl,
-    (silent session "?" refl,
-    (silent session "computer" refl,
-    (silent session "name Sjeng" refl,
-    (silent session "rating 2000 1900" refl,
-    (silent session "ics freechess.org" refl,
-    (silent session "draw" refl,
-    (silent session "level 40 5 0" refl,
-    (silent session "st 30" refl,
-    (silent session "sd 4" refl,
-    (silent session "time 30000" refl,
-    (silent session "otim 29000" refl,
-    tt)))))))))))))))))))))
+ignored session = (
+  silent session "" refl,
+  (
+    silent session "xboard" refl,
+    (
+      silent session "accepted ping" refl,
+      (
+        silent session "rejected usermove" refl,
+        (
+          silent session "force" refl,
+          (
+            silent session "random" refl,
+            (
+              silent session "hard" refl,
+              (
+                silent session "easy" refl,
+                (
+                  silent session "post" refl,
+                  (
+                    silent session "nopost" refl,
+                    (
+                      silent session "?" refl,
+                      (
+                        silent session "computer" refl,
+                        (
+                          silent session "name Sjeng" refl,
+                          (
+                            silent session "rating 2000 1900" refl,
+                            (
+                              silent session "ics freechess.org" refl,
+                              (
+                                silent session "draw" refl,
+                                (
+                                  silent session "level 40 5 0" refl,
+                                  (
+                                    silent session "st 30" refl,
+                                    (
+                                      silent session "sd 4" refl,
+                                      (
+                                        silent session "time 30000" refl,
+                                        (
+                                          silent session "otim 29000" refl,
+                                          tt,
+                                        ),
+                                      ),
+                                    ),
+                                  ),
+                                ),
+                              ),
+                            ),
+                          ),
+                        ),
+                      ),
+                    ),
+                  ),
+                ),
+              ),
+            ),
+          ),
+        ),
+      ),
+    ),
+  ),
+)
 
 ping : (session : SessionSeen) → IsAnswered session "ping 7" "pong 7\n"
 unfolding argument_of command_number command_of named_command is_ignored digits

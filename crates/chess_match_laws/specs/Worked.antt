@@ -72,6 +72,7 @@ pub record FeaturesAreOn : Type 0 where
 -- 40 moves in 5 minutes; 2 minutes and 12 seconds for each move
 abbrev pub forty_in_five : LevelSeen
 forty_in_five = record { moves = 40; base = 300000; increment = 0 }
+
 abbrev pub two_and_twelve : LevelSeen
 two_and_twelve = record { moves = 0; base = 120000; increment = 12000 }
 

@@ -24,10 +24,13 @@ HasMoves v text n = move_count v text ≡ Some n
 -- are between rooks that stop them from castling, and a pawn with a knight in its way
 abbrev pub third_position : Text
 third_position = "8/2p5/3p4/KP5r/1R3p1k/8/4P1P1/8 w - - 0 1"
+
 abbrev pub with_promotions : Text
 with_promotions = "n1n5/PPPk4/8/8/8/8/4Kppp/5N1N b - - 0 1"
+
 abbrev pub rooks_beside : Text
 rooks_beside = "2rkr3/8/8/8/8/8/8/2RKR3 w ECec - 0 1"
+
 abbrev pub pawn_blocked : Text
 pawn_blocked = "4k3/8/8/8/8/4n3/4P3/4K3 w - - 0 1"
 
