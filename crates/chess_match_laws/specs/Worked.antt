@@ -1,5 +1,5 @@
 -- Lines of engines, time controls and ends of a match, worked out.
-use Rattle.std.specs.Prelude.{◌≡◌, Bool, true, false, [], ◌∷◌, codes, map, None, Some}
+use Rattle.std.specs.Prelude.{◌≡◌, ℕ, Bool, true, false, List, [], ◌∷◌, codes, map, None, Some}
 use Prim.Native.String.{String as Text}
 use Rattle.chess_base.specs.declared.man.Colour.{Colour}
 use Rattle.chess_base.specs.declared.man.Colour.TheVariants.{White, Black}
@@ -38,9 +38,13 @@ pub record LinesSay : Type 0 where
   pub no_draw : IsLine "offer peace" SaysElse
   pub no_number : IsLine "pong one" SaysElse
 
+-- an item of a `feature` line: its name, and its value without quotes
+abbrev pub name_and_value : Item → List ℕ × List ℕ
+name_and_value i = (i.name, i.value.text)
+
 -- the items of a `feature` line: none after the one that ends the handshake
 abbrev pub ItemsAreRead : Type 0
-ItemsAreRead = map (λ (i : Item). (i.name, i.value.text))
+ItemsAreRead = map name_and_value
     (items_of (codes "ping=1 myname=\"Sjeng 11\" usermove=0 done=1 san=1"))
     ≡ (codes "ping", codes "1") ∷ (codes "myname", codes "Sjeng 11") ∷ (codes "usermove", codes "0")
     ∷ (codes "done", codes "1") ∷ []
