@@ -5,6 +5,7 @@ use Rattle.chess_base.specs.declared.man.Colour.{Colour}
 use Rattle.chess_base.specs.declared.man.Colour.TheVariants.{White, Black}
 use Rattle.chess_base.specs.declared.man.Kind.TheVariants.{King, Queen, Knight, Pawn}
 use Rattle.chess_base.specs.declared.man.Man.{Man}
+use Rattle.chess_base.specs.declared.man.Move.{Move}
 use Rattle.chess_base.specs.ByColour.{by_colour}
 use Rattle.chess_base.specs.Initial.{initial_setup, man_of}
 use Rattle.chess_game.specs.declared.results.Outcome.TheVariants.{WhiteWins, BlackWins, Draw, Unfinished}
@@ -12,6 +13,7 @@ use Rattle.cecp_engine.specs.EngineLines.{LineKind, Features, Moves, Resigns, Of
 use Rattle.cecp_engine.specs.Items.{Item, items_of, plays_fischerandom, takes}
 use Rattle.cecp_engine.specs.Levels.{LevelSeen, allotted, level_of, level_text}
 use Rattle.chess_match.specs.Effects.{AfterMove, Match, beginning, handshake_done, opening}
+use Rattle.chess_match.specs.Events.{Seat}
 use Rattle.chess_match.specs.Lines.{SentLine, bytes_of}
 use Rattle.chess_match.specs.Rules.{Rules, has_bare_king, rules_of}
 use Rattle.chess_match.specs.declared.draws.Draws.TheVariants as draws
@@ -109,13 +111,23 @@ abbrev pub worked_rules : Rules
 worked_rules =
     rules_of initial_setup (λ S. forty_in_five) (record { flag = false; reply = None }) draws.Claimed 20000
 
+-- an engine that said these items, and whose moves took so many milliseconds
+abbrev pub seat_of : Text → List ℕ → Seat
+seat_of items used = record { items = items_of (codes items); used = used; offers = false }
+
+-- e2e4 and e7e5
+abbrev pub e4 : Move
+e4 = record { from = 12; to = 28; promotion = None }
+
+abbrev pub e5 : Move
+e5 = record { from = 52; to = 36; promotion = None }
+
 -- this match after 1 e4, for which White took 1,000 milliseconds; Black's engine has `usermove` on, White's has not
 abbrev pub after_e4 : Match
 after_e4 = record {
   phase = AfterMove White;
-  seat = by_colour (record { items = []; used = 1000 ∷ []; offers = false })
-      (record { items = items_of (codes "usermove=1"); used = []; offers = false });
-  played = record { from = 12; to = 28; promotion = None } ∷ [];
+  seat = by_colour (seat_of "" (1000 ∷ [])) (seat_of "usermove=1" []);
+  played = e4 ∷ [];
   count = 0;
   since = None;
 }
@@ -124,9 +136,8 @@ after_e4 = record {
 abbrev pub after_e5 : Match
 after_e5 = record {
   phase = AfterMove Black;
-  seat = by_colour (record { items = []; used = 1000 ∷ []; offers = false })
-      (record { items = items_of (codes "usermove=1"); used = 2000 ∷ []; offers = false });
-  played = record { from = 12; to = 28; promotion = None } ∷ record { from = 52; to = 36; promotion = None } ∷ [];
+  seat = by_colour (seat_of "" (1000 ∷ [])) (seat_of "usermove=1" (2000 ∷ []));
+  played = e4 ∷ e5 ∷ [];
   count = 0;
   since = None;
 }
