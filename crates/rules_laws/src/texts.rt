@@ -12,9 +12,9 @@ pub fn known_moves_are_written()
 {}
 
 /// A law: the contract says it, and the function does nothing. Beside its SAN a move may be written in other ways, as
-/// `ed5`, `e4xd5` or `exd5!?` for `exd5`, and `0-0-0` for castling; some texts that look alike denote other moves or none.
+/// `ed5`, `e4xd5` or `exd5!?` for `exd5`, and `0-0-0` for castling; some texts that look alike don't denote it.
 ///
-/// It refuses a capture that needs its `x`, a promotion that needs its `=`, and only one mark such as `!`.
+/// It refuses a capture that needs its `x`, a promotion that needs its `=`, and marks such as `!?` that are not skipped.
 pub fn known_texts_denote_moves()
     ensures { TextsDenoteMoves }
 {}
