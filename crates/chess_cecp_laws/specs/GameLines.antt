@@ -61,7 +61,8 @@ pub record ByTheGame (session : SessionSeen) : Type 0 where
   pub remove : (m n : Move) → session.state.moves ≡ m ∷ n ∷ []
       → Becomes session "remove" (from_start session.state.start)
   -- a game of Chess960, and one of normal chess
-  pub normal_again : session.state.start.variant ≡ Fischerandom → Becomes session "variant normal" (from_start initial_setup)
+  pub normal_again : session.state.start.variant ≡ Fischerandom
+      → Becomes session "variant normal" (from_start initial_setup)
   pub still_normal : session.state.start.variant ≡ Normal → IsIgnored session "variant normal"
   -- a game that has just begun
   pub shown_fen : session.state ≡ from_start initial_setup

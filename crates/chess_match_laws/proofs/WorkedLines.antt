@@ -3,6 +3,7 @@ use Rattle.std.proofs.Common.{refl}
 use Rattle.std.specs.Fmt.{digits}
 use Rattle.chess_base.specs.Initial.{initial_setup, initial_setup_of}
 use Rattle.chess_base.specs.Men.{is_of, is_man}
+use Rattle.chess_base.specs.Moves.{after}
 use Rattle.chess_text.specs.San.{shown_move}
 use Rattle.chess_match.specs.Lines.{bytes_of}
 use Rattle.chess_match.specs.Rules.{has_bare_king}
@@ -70,7 +71,7 @@ levels_give = record {
 }
 
 pub lines_are_sent : LinesAreSent
-unfolding allotted bytes_of digits initial_setup initial_setup_of item_of items_of shown_move takes
+unfolding after allotted bytes_of digits initial_setup initial_setup_of item_of items_of shown_move takes
 lines_are_sent = record {
   handshake = refl;
   only_white = refl;

@@ -14,13 +14,14 @@ pub fn known_moves_are_written()
 /// A law: the contract says it, and the function does nothing. Beside its SAN a move may be written in other ways, as
 /// `ed5`, `e4xd5` or `exd5!?` for `exd5`, and `0-0-0` for castling; some texts that look alike don't denote it.
 ///
-/// It refuses a capture that needs its `x`, a promotion that needs its `=`, and marks such as `!?` that are not skipped.
+/// It refuses a capture that needs its `x`, a promotion that needs its `=`, and a text with a mark such as `!` that is
+/// not read.
 pub fn known_texts_denote_moves()
     ensures { TextsDenoteMoves }
 {}
 
 /// A law: the contract says it, and the function does nothing. Each verdict of the board is written so, such as
-/// `1-0 {White mates}`; and where a draw may be claimed by threefold repetition and by 50 moves, the former is declared.
+/// `1-0 {White mates}`. Where a draw may be claimed by threefold repetition and by 50 moves, the former is declared.
 pub fn results_are_worded()
     ensures { ResultsAreWorded }
 {}
