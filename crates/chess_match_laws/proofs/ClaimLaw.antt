@@ -1,8 +1,7 @@
 -- A draw that may be claimed ends the match when it is claimed.
-use Rattle.std.proofs.Common.{◌≡◌, ℕ, ◌-◌, ◌≤◌, Bool, true, false, sym, ap, subst, arith, Option, Some}
+use Rattle.std.proofs.Common.{◌≡◌, ℕ, ◌-◌, ◌≤◌, Bool, true, false, sym, ap, subst, Option, Some}
 use Rattle.std.specs.Prelude.{if◌then◌else◌, nat_lt}
 use Rattle.std.specs.Option.{option_map_or}
-use Rattle.std.proofs.lemmas.Bool.Decides.{nat_tests}
 use Rattle.chess_base.specs.declared.man.Colour.{Colour}
 use Rattle.cecp_engine.specs.EngineLines.{LineKind, ClaimsDraw}
 use Rattle.chess_game.specs.Ends.{claims, draw_claim}
@@ -12,10 +11,7 @@ use Rattle.chess_match.specs.Rules.{Rules}
 use Rattle.chess_match.specs.declared.reason.Reason.TheVariants.{Claimed}
 use Rattle.chess_match.specs.laws.Laws.{line_kind}
 use Rattle.chess_match_laws.specs.Claims.{DrawClaimsEndMatches}
-
--- the time is not yet used up
-in_time : (left used : ℕ) → used ≤ left → nat_lt left used ≡ false
-in_time left used h = grind (arith, nat_tests, h)
+use Rattle.chess_match_laws.proofs.IgnoredLaw.{in_time}
 
 module _ (r : Rules) (S : Colour) (m : Match) (claim : DrawClaim)
     (holds : draw_claim (claims r.start m.played) ≡ Some claim) where
