@@ -3,6 +3,7 @@ use Prim.Native.String.{String as Text}
 use Rattle.std.proofs.Common.{◌≡◌, ◌∙◌, ◌-◌, ◌<◌, ◌≤◌, ℕ, Bool, true, false, List, [], ◌∷◌, ◌++◌, length, Option, None, Some, refl, ap, arith}
 use Rattle.std.specs.Prelude.{codes, if◌then◌else◌, nat_le, take, Err}
 use Rattle.std.specs.Option.{option_map_or}
+use Rattle.std.proofs.lemmas.Bool.{lt-leb}
 use Rattle.std.proofs.lemmas.Bool.Decides.{nat_tests}
 use Rattle.byte_devices.specs.Bytes.{new_line}
 use Rattle.chess_base.specs.Attacks.{is_clear, could_capture, attacks, is_attacked, is_in_check}
@@ -85,9 +86,6 @@ long_move limit s text e h =
     ∙ if_true (nat_le limit (length s.moves)) (answers s (codes "Error (game too long): ") text)
     (reading_row s text (reading (current s) text)) (full limit (length s.moves) h)
 
-has_room : (a b : ℕ) → b < a → nat_le a b ≡ false
-has_room a b h = grind (arith, nat_tests, h)
-
 -- a text that is read so in a game that is on
 read_move : (limit : ℕ) (s : State) (text : List ℕ) (read : Reading) → is_over s ≡ false → length s.moves < limit
     → reading (current s) text ≡ read → move_row limit s text ≡ reading_row s text read
@@ -96,7 +94,7 @@ read_move limit s text read e h is =
     (if nat_le limit (length s.moves) then answers s (codes "Error (game too long): ") text
     else reading_row s text (reading (current s) text)) e
     ∙ if_false (nat_le limit (length s.moves)) (answers s (codes "Error (game too long): ") text)
-    (reading_row s text (reading (current s) text)) (has_room limit (length s.moves) h)
+    (reading_row s text (reading (current s) text)) (lt-leb limit (length s.moves) h)
     ∙ ap (reading_row s text) is
 
 -- a game, with the answer by this verdict
