@@ -16,7 +16,7 @@ use Rattle.chess_match.specs.Effects.{AfterMove, Match, beginning, handshake_don
 use Rattle.chess_match.specs.Events.{Seat}
 use Rattle.chess_match.specs.Lines.{SentLine, bytes_of}
 use Rattle.chess_match.specs.Rules.{Rules, has_bare_king, rules_of}
-use Rattle.chess_match.specs.declared.draws.Draws.TheVariants as draws
+use Rattle.chess_match.specs.declared.draws.Draws.TheVariants as rules_of_draws
 use Rattle.chess_match.specs.Reasons.{comment_of, outcome_by_reason}
 use Rattle.chess_match.specs.declared.reason.MatchFault.{MatchFault}
 use Rattle.chess_match.specs.declared.reason.MatchFault.TheVariants.{Ended, Read, Write, NoDone, NoPing, NoSetboard, Flood, NoVariant, NoHandshake, NoAnswer}
@@ -109,7 +109,7 @@ pub record LevelsGive : Type 0 where
 -- a match from the initial position, of 40 moves in 5 minutes for each side, in which draws are claimed
 abbrev pub worked_rules : Rules
 worked_rules =
-    rules_of initial_setup (λ S. forty_in_five) (record { flag = false; reply = None }) draws.Claimed 20000
+    rules_of initial_setup (λ S. forty_in_five) (record { flag = false; reply = None }) rules_of_draws.Claimed 20000
 
 -- an engine that said these items, and whose moves took so many milliseconds
 abbrev pub seat_of : Text → List ℕ → Seat
