@@ -349,6 +349,31 @@ def bound_in(equation, name):
 
 # ---- functions
 
+def contract_at(lines, i):
+    """The signature and the clauses of the function that begins in a line, and the line in which its body begins."""
+    signature, clauses, kind, is_whole = [], [], None, True
+    indent = len(lines[i]) - len(lines[i].lstrip())
+    while True:
+        line = lines[i]
+        if m := re.match(r"^\s+(requires|ensures|decreases)\*?( \w+)? \{(.*)$", line):
+            kind = m.group(1)
+            clauses.append([kind, (m.group(2) or "").strip(), m.group(3)])
+        elif kind and not line.strip().startswith("//") and (line.strip() not in ("{", "{}", "}") or not is_whole):
+            clauses[-1][2] += "\n" + line
+        elif not kind:
+            signature.append(line)
+        at_margin = len(line) - len(line.lstrip()) == indent
+        # (a line of a record in a clause ends in `;` too)
+        is_whole = not kind or clauses[-1][2].count("{") < clauses[-1][2].count("}")
+        ends_here = line.rstrip().endswith(";") and (kind or ")" in line) and is_whole
+        if at_margin and line.strip() in ("{", "{}"):
+            break
+        if not kind and line.rstrip().endswith(("{", "{}")) or ends_here:
+            break
+        i += 1
+    return "\n".join(signature), [tuple(c) for c in clauses], i
+
+
 class Sources:
     """All functions of a tree, and which of them a user of a crate can call."""
 
@@ -393,36 +418,13 @@ class Sources:
                 gives.append((m.group(1), m.group(2)))
             if m := re.match(r"^\s*(pub )?(?:pub\(\w+\) )?(?:const )?fn (\w+)", line):
                 is_pub = bool(m.group(1)) or is_trait or of_trait
-                i = self.read_function(crate, path, lines, i, owner, m.group(2), is_pub)
-                self.functions[-1].gives = gives if of_trait else []
+                signature, clauses, last = contract_at(lines, i)
+                margin = len(line) - len(line.lstrip()) + 4
+                f = Function(crate, path, i + 1, margin, owner, m.group(2), is_pub, signature, clauses)
+                f.body_is_empty, f.gives = lines[last].strip() == "{}", gives if of_trait else []
+                self.functions.append(f)
+                i = last
             i += 1
-
-    def read_function(self, crate, path, lines, i, owner, name, is_pub):
-        signature, clauses, kind, line_number, is_whole = [], [], None, i + 1, True
-        indent = len(lines[i]) - len(lines[i].lstrip())
-        while True:
-            line = lines[i]
-            if m := re.match(r"^\s+(requires|ensures|decreases)\*?( \w+)? \{(.*)$", line):
-                kind = m.group(1)
-                clauses.append([kind, (m.group(2) or "").strip(), m.group(3)])
-            elif kind and not line.strip().startswith("//") and (line.strip() not in ("{", "{}", "}") or not is_whole):
-                clauses[-1][2] += "\n" + line
-            elif not kind:
-                signature.append(line)
-            at_margin = len(line) - len(line.lstrip()) == indent
-            # (a line of a record in a clause ends in `;` too)
-            is_whole = not kind or clauses[-1][2].count("{") < clauses[-1][2].count("}")
-            ends_here = line.rstrip().endswith(";") and (kind or ")" in line) and is_whole
-            if at_margin and line.strip() in ("{", "{}"):
-                break
-            if not kind and line.rstrip().endswith(("{", "{}")) or ends_here:
-                break
-            i += 1
-        clauses, is_empty = [tuple(c) for c in clauses], lines[i].strip() == "{}"
-        self.functions.append(
-            Function(crate, path, line_number, indent + 4, owner, name, is_pub, "\n".join(signature), clauses, is_empty)
-        )
-        return i
 
     def exported(self, crate):
         """The names that a crate offers: of `pub use`, and of `pub mod` with what that offers in turn."""
