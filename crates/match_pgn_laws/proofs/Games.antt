@@ -1,8 +1,6 @@
 -- What is known of a game of a match: its text is that of a legal game with the outcome that was reported.
-use Rattle.std.proofs.Common.{◌≡◌, ℕ, ◌≤◌, ◌+◌, true, List, [], ◌∷◌, ◌++◌, length, length-append, map, take, None, Some, Option, Ok, Err, Result, sym, ap, subst, inl, inr, arith}
-use Rattle.std.specs.Prelude.{codes, decimal}
+use Rattle.std.proofs.Common.{◌≡◌, ℕ, ◌≤◌, ◌+◌, true, List, [], ◌∷◌, ◌++◌, length, length-append, map, take, None, Some, Option, Ok, Err, Result, sym, ap, subst, inl, inr, arith, is_ok, codes, decimal}
 use Rattle.std.specs.List.{AllByRecursion, enumerate_from}
-use Rattle.std.specs.Result.{is_ok}
 use Rattle.std.proofs.lemmas.Bool.Decides.{nat_tests}
 use Rattle.std.proofs.lemmas.List.{length-map, length-take}
 use Rattle.byte_devices.specs.Transfers.{OutputTook, ToOutput, all_of}

@@ -1,8 +1,6 @@
 -- The score is the sum of the lines `[Result ..]` above it.
-use Rattle.std.proofs.Common.{◌≡◌, ◌∙◌, ℕ, ◌+◌, ◌%◌, Bool, List, [], ◌∷◌, ◌++◌, length, map, cond, refl, sym, ap, subst, arith}
-use Rattle.std.specs.Prelude.{codes, decimal, flat_map, ◌==◌}
+use Rattle.std.proofs.Common.{◌≡◌, ◌∙◌, ℕ, ◌+◌, ◌%◌, Bool, List, [], ◌∷◌, ◌++◌, length, map, cond, refl, sym, ap, subst, arith, bytes_eq, codes, decimal, flat_map, ◌==◌}
 use Rattle.std.specs.List.{count_by, enumerate_from}
-use Rattle.std.specs.Str.{bytes_eq}
 use Rattle.std.proofs.lemmas.List.{length-map}
 use Rattle.std.proofs.lemmas.List.Sums.{sum_by-cons}
 use Rattle.byte_devices.specs.Transfers.{OutputTook, all_of}
