@@ -1,6 +1,6 @@
 -- The letters of kinds of piece and the names of squares.
-use Rattle.std.specs.Prelude.{ℕ, ◌+◌, ◌-◌, ◌*◌, ◌==◌, Bool, ◌&&◌, if◌then◌else◌, List, [], ◌∷◌, ◌++◌, map, find, Option, Some, None, nat_le, codes}
-use Rattle.byte_devices.specs.Bytes.{byte}
+use Prim.Native.String.{String as Text}
+use Rattle.std.specs.Prelude.{ℕ, ◌+◌, ◌-◌, ◌*◌, ◌==◌, Bool, ◌&&◌, if◌then◌else◌, List, [], ◌∷◌, ◌++◌, map, find, Option, Some, None, nat_le, codes, slice_index_or}
 use Rattle.chess_base.specs.declared.man.Colour.{Colour}
 use Rattle.chess_base.specs.declared.man.Colour.TheVariants.{White, Black}
 use Rattle.chess_base.specs.declared.man.Kind.{Kind}
@@ -8,6 +8,11 @@ use Rattle.chess_base.specs.declared.man.Kind.TheVariants.{Pawn, Knight, Bishop,
 use Rattle.chess_base.specs.declared.man.Man.{Man}
 use Rattle.chess_base.specs.ByColour.{by_colour}
 use Rattle.chess_base.specs.Squares.{file, rank}
+
+-- the code of a text's first character, 0 for the empty text; it is used for one ASCII character: `byte "A"` is 65. (As
+-- in byte_devices, for which this crate doesn't wait.)
+abbrev pub byte : Text → ℕ
+byte text = slice_index_or (codes text) 0 0
 
 -- the byte of the capital letter of a kind of piece, N for a knight. SAN uses it for both colours, but none for a
 -- pawn's move; FEN uses it for White's pieces only (PGN standard of 1994, sections 8.2.3.2 and 16.1.3.1)

@@ -23,7 +23,7 @@ use Rattle.chess_base.specs.Moves.{is_pseudo_legal, is_legal, promotion_fits, ar
 use Rattle.chess_base.specs.shared.Splits.{castles_or_moves}
 use Rattle.chess_base.specs.Sound.{IsSound}
 use Rattle.chess_base.specs.Squares.{rank, each_square, some_square, squares}
-use Rattle.chess_base.proofs.shared.Castling.{right_is_sound_of, placed_for_right, says_from_castling, castling_says, castle_there, no_castle}
+use Rattle.chess_base.proofs.shared.Castling.{right_is_sound_of, placed_for_right, says_from_castling, castling_says, castle_there, no_castle, castled_king_file-below, castled_rook_file-below}
 use Rattle.chess_base.proofs.shared.Changes.{no_en_passant}
 use Rattle.chess_base.proofs.shared.Men.{in_board, is_man-kind}
 use Rattle.chess_moves.proofs.shared.AnyMove.{any-filter}
@@ -43,14 +43,6 @@ rank_home Black f h = omega (arith, h)
 rook_low : (w : CastlingSide) → rook_file w < 8
 rook_low KingSide = omega arith
 rook_low QueenSide = omega arith
-
-pub king_end_low : (w : CastlingSide) → castled_king_file w < 8
-king_end_low KingSide = omega arith
-king_end_low QueenSide = omega arith
-
-pub rook_end_low : (w : CastlingSide) → castled_rook_file w < 8
-rook_end_low KingSide = omega arith
-rook_end_low QueenSide = omega arith
 
 starts : (v : Variant) (men : Men) (c : Colour) (w : CastlingSide) (m : Move) (r : ℕ)
     → names_castling_with v c m w r ≡ true → are_placed_for_castling v men c w r ≡ true
@@ -97,8 +89,8 @@ on_rank_by p m k sound e (Some w) says =
     let ranks = starts p.variant p.men p.side w m there.0 named stands in
     let same : castle_from p.side w m.from there.0 ≡ k = cc in
     subst OnRank same (record {
-      kings = ranks.0 ∙ sym (rank_home p.side (castled_king_file w) (king_end_low w));
-      rooks = ranks.1 ∙ sym (rank_home p.side (castled_rook_file w) (rook_end_low w));
+      kings = ranks.0 ∙ sym (rank_home p.side (castled_king_file w) (castled_king_file-below w));
+      rooks = ranks.1 ∙ sym (rank_home p.side (castled_rook_file w) (castled_rook_file-below w));
     })
 
 pub on_rank : (p : Setup) (m : Move) (k : Castle) → IsSound p → castle_of p m ≡ Some k → OnRank k

@@ -82,12 +82,13 @@ nothing_met : Progress
 nothing_met = record { is_met = false; is_begun = false; termination = None }
 
 pub first : (old game : Seen) (start : Setup) (v : Variant) (p : Progress) (text : List ℕ) (here : ℕ)
-    → game ≡ left_at old (from_start start) → start ≡ initial_setup_of v
-    → v ≡ tagged_variant (tag_section (tokens_from text here))
+    → game ≡ left_at old (from_start start) → start ≡ initial_setup_of v → (there : ℕ)
+    → v ≡ tagged_variant (tag_section (tokens_from text there))
+    → tagged_variant (tag_section (tokens_from text there)) ≡ tagged_variant (tag_section (tokens_from text here))
     → p ≡ record { is_met = false; is_begun = false; termination = None } → here ≤ length text
     → IsReadOn old.limit text here game p here
 unfolding nothing_met
-first old game start v p text here restarted initial variant none h =
+first old game start v p text here restarted initial there variant same none h =
     let state : game.state ≡ from_start (initial_setup_of v) = ap (λ g. g.state) restarted ∙ ap from_start initial in
     record {
       forward = omega arith;
@@ -96,7 +97,7 @@ first old game start v p text here restarted initial variant none h =
       whole =
           ap (λ q. game_of old.limit (length text) (so_far game.state q) (tokens_from text here)) none
           ∙ ap (λ s. game_of old.limit (length text) (so_far s nothing_met) (tokens_from text here)) state
-          ∙ ap (λ u. game_of old.limit (length text) (nothing_read u) (tokens_from text here)) variant;
+          ∙ ap (λ u. game_of old.limit (length text) (nothing_read u) (tokens_from text here)) (variant ∙ same);
     }
 
 -- ---- the loop over tags: what is left gives the whole
@@ -184,6 +185,12 @@ first_normal old game start p text here restarted initial none h =
           ap (λ q. game_of old.limit (length text) (so_far game.state q) (tokens_from text here)) none
           ∙ ap (λ s. game_of old.limit (length text) (so_far s nothing_met) (tokens_from text here)) state;
     }
+
+-- the tags from here on name the variant that all of the game's name
+pub same_variant : (limit : ℕ) (text : List ℕ) (from : ℕ) (game : Seen) (p : Progress) (here : ℕ)
+    → ReadsNormal limit text from game p here
+    → tagged_variant (tag_section (tokens_from text here)) ≡ tagged_variant (tag_section (tokens_from text from))
+same_variant limit text from game p here r = sym (variants_are (tokens_from text here)) ∙ r.says.whole
 
 -- one more tag, or what is passed over
 pub more_normal : (limit : ℕ) (text : List ℕ) (from : ℕ) (game new : Seen) (p q : Progress) (here onward : ℕ)

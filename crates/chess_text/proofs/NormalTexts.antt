@@ -23,6 +23,7 @@ use Rattle.chess_text.specs.declared.described.Described.{Described}
 use Rattle.chess_text.specs.declared.reading.Reading.TheVariants.{NotAMove}
 use Rattle.chess_text.specs.Moves.{described, shape, denotes, denotes_described, one_of, reading}
 use Rattle.chess_base.specs.Options.{list_if}
+use Rattle.chess_base.proofs.shared.After.{variant-after}
 use Rattle.chess_text.specs.San.{rival_starts, check_mark, san, castling_text, is_fischerandom, shown_move}
 use Rattle.chess_text.specs.laws.Normal.{NormalIsKept, normal_moves, normal_described, normal_denotes, normal_reading, normal_rival_starts, normal_check_mark, normal_san}
 
@@ -81,14 +82,9 @@ mark_kept p e =
     ap (λ (ms : List Move). list_if (is_in_check p.men p.side) (if length ms == 0 then codes "#" else codes "+"))
     (moves_kept p e)
 
--- what a move leaves is of the variant of the position before it
-stays : (p : Setup) (m : Move) → (after p m).variant ≡ p.variant
-unfolding after
-stays p m = refl
-
 mark_after : (p : Setup) → p.variant ≡ Normal → (m : Move)
     → check_mark (after p m) ≡ normal_check_mark (normal_after p m)
-mark_after p e m = mark_kept (after p m) (stays p m ∙ e) ∙ ap normal_check_mark ((rules_kept p e).after m)
+mark_after p e m = mark_kept (after p m) (variant-after p m ∙ e) ∙ ap normal_check_mark ((rules_kept p e).after m)
 
 san_by : (p : Setup) → p.variant ≡ Normal → (m : Move) (o : Option Described)
     → optional (λ d. unmarked_san (rival_starts p (moves p) d) d ++ check_mark (after p m)) o

@@ -1,7 +1,6 @@
 -- When castling is legal in normal chess.
 use Rattle.std.proofs.Common.{◌≡◌, ◌≢◌, ℕ, ◌<◌, ◌⊎◌, inl, inr, Bool, true, false, Option, Some, None, refl, sym, subst, ap, ◌∙◌, arith, ◌==◌, ◌&&◌, ◌||◌, not, is_none, nat_lt, length}
 use Rattle.std.proofs.lemmas.Bool.{and_parts, and_from, and_right, both_ways, cases_eq, eqb-true, eq-eqb, ne_eqb, not-true, not_from_false, or_cases, or_left, or_right, false_from_ne_true}
-use Rattle.std.proofs.lemmas.Bool.Decides.{nat_tests}
 use Rattle.std.specs.List.{AllByRecursion}
 use Rattle.std.specs.Prelude.{if◌then◌else◌}
 use Rattle.chess_base.specs.declared.castling.Castle.{Castle}
@@ -24,9 +23,10 @@ use Rattle.chess_base.specs.Moves.{is_legal, is_pseudo_legal, moves_as, after, a
 use Rattle.chess_base.specs.Sound.{IsSound, has_one_king}
 use Rattle.chess_base.specs.shared.Splits.{could_capture_as, names_castling}
 use Rattle.chess_base.proofs.shared.Kings.{one_king, one_king_of}
-use Rattle.chess_base.proofs.shared.Men.{same_kind-true, is_none-None, no_other, is_of-none, is_man-none}
+use Rattle.chess_base.proofs.shared.Men.{same_kind-true, is_none-None, no_other, is_of-none, is_man-none, is_man-rook_as_king}
 use Rattle.chess_base.proofs.shared.MoveKinds.{MoveKind, ManMoves, Castles, PawnMoves, moves_from_pattern}
 use Rattle.chess_base.proofs.shared.Squares.{each_square-all, each_square-at, some_square-at, some_square-none}
+use Rattle.chess_base.proofs.shared.Geometry.{is_between-end}
 use Rattle.rules_laws.specs.Castled.{castling_of, castling_move, empty_squares, safe_squares, MayCastle, NormalCastlingIsLegal}
 use Rattle.rules_laws.proofs.Castled.{named, too_far, one_side, no_king_of_pawn, normal_named, normal_placed, is_castle}
 use Rattle.rules_laws.proofs.Pieces.{attacks_as, king_is_near, after_castle, attacks_of}
@@ -400,10 +400,6 @@ corner_is_apart White QueenSide a l = not-true _ (each_square-at (apart 2 0) whi
 corner_is_apart Black KingSide a l = not-true _ (each_square-at (apart 62 63) black_king_corner a l)
 corner_is_apart Black QueenSide a l = not-true _ (each_square-at (apart 58 56) black_queen_corner a l)
 
-not_between_end : (a t : ℕ) → is_between a t t ≡ false
-unfolding is_between
-not_between_end a t = grind (arith, nat_tests)
-
 -- ---- what castling leaves, square by square
 
 record AreApart (k : Castle) : Type 0 where
@@ -501,11 +497,6 @@ unfolding is_of
 rook_is White = refl
 rook_is Black = refl
 
-rook_is_no_king : (c : Colour) → is_man c King (Some (record { colour = c; kind = Rook })) ≡ false
-unfolding is_man
-rook_is_no_king White = refl
-rook_is_no_king Black = refl
-
 -- where q holds of the content of a square, and of none of the four, the square is another
 another : (men new : Men) (c : Colour) (k : Castle) (q : Option Man → Bool) (s : ℕ) → Castled men new c k → s < 64
     → q (man_at new s) ≡ true → q None ≡ false → q (Some (record { colour = c; kind = Rook })) ≡ false
@@ -548,7 +539,7 @@ clear_before men new c w a h l e = each_square-all _ (λ x m. by x m (is_between
     by x m false b = or_left _ _ (not_from_false _ b)
     by x m true b =
         elim (cases_eq x (castling_of c w).king_to) [
-          | inl at ↦ absurd (both_ways _ (not_between_end a (castling_of c w).king_to) (subst (λ (s : ℕ). is_between a (castling_of c w).king_to s ≡ true) at b))
+          | inl at ↦ absurd (both_ways _ (is_between-end a (castling_of c w).king_to) (subst (λ (s : ℕ). is_between a (castling_of c w).king_to s ≡ true) at b))
           | inr y ↦ elim (cases_eq x (castling_of c w).rook_to) [
             | inl at ↦ absurd (no_rook (subst (λ (s : ℕ). is_between a (castling_of c w).king_to s ≡ true) at b))
             | inr z ↦ elim (cases_eq x (castling_of c w).king_from) [
@@ -619,7 +610,7 @@ unfolding is_in_check
 out_of_check men new c w h whole one calm =
     some_square-none _ (λ s l. false_from_ne_true _ (λ e.
     let both = and_parts _ _ e in
-    elim (another men new c (castling_of c w) (λ (o : Option Man). is_man c King o) s h l both.0 (is_man-none c King None refl) (rook_is_no_king c)) [
+    elim (another men new c (castling_of c w) (λ (o : Option Man). is_man c King o) s h l both.0 (is_man-none c King None refl) (is_man-rook_as_king c)) [
       | inl at ↦ both_ways _ (unattacked men new c w h calm)
           (subst (λ (x : ℕ). is_attacked new x (other c) ≡ true) at both.1)
       | inr away ↦ away.1 (one_king men c s (castling_of c w).king_from whole one

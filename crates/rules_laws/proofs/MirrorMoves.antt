@@ -23,7 +23,7 @@ use Rattle.chess_base.specs.Moves.{is_double_advance, is_en_passant, pawn_advanc
 use Rattle.chess_base.specs.Sound.{IsSound, no_pawn_on_end_ranks}
 use Rattle.chess_base.specs.shared.Parts.{crossed_rank}
 use Rattle.chess_base.specs.shared.Splits.{names_castling, castles_or_moves}
-use Rattle.chess_base.proofs.shared.Castling.{castling_rook_is_there, right_is_sound_of}
+use Rattle.chess_base.proofs.shared.Castling.{castling_rook_is_there, right_is_sound_of, castled_king_file-below, castled_rook_file-below, home_square-below}
 use Rattle.chess_base.proofs.shared.Changes.{at_target}
 use Rattle.chess_base.proofs.shared.Men.{in_board}
 use Rattle.chess_base.proofs.shared.Squares.{each_square-at, each_square_same}
@@ -166,20 +166,10 @@ pub home-mirrored : (c : Colour) (f : ℕ) → f < 8 → home_square (other c) f
 home-mirrored White f h = omega (arith, h)
 home-mirrored Black f h = omega (arith, h)
 
-home_in : (c : Colour) (f : ℕ) → f < 8 → home_square c f < 64
-home_in White f h = omega (arith, h)
-home_in Black f h = omega (arith, h)
-
-king_file_in : (w : CastlingSide) → castled_king_file w < 8
-king_file_in KingSide = omega arith
-king_file_in QueenSide = omega arith
-
-rook_file_in : (w : CastlingSide) → castled_rook_file w < 8
-rook_file_in KingSide = omega arith
-rook_file_in QueenSide = omega arith
-
 home_named : (c : Colour) (f s : ℕ) → f < 8 → s < 64 → (mirrored s == home_square (other c) f) ≡ (s == home_square c f)
-home_named c f s h l = ap (λ (t : ℕ). mirrored s == t) (home-mirrored c f h) ∙ same_square s (home_square c f) l (home_in c f h)
+home_named c f s h l =
+    ap (λ (t : ℕ). mirrored s == t) (home-mirrored c f h)
+    ∙ same_square s (home_square c f) l (home_square-below c f h)
 
 pub right-mirrored : (r : Rights) (c : Colour) (w : CastlingSide)
     → right_of (mirrored_rights r) (other c) w ≡ option_map mirrored (right_of r c w)
@@ -199,7 +189,7 @@ names_with : (v : Variant) (c : Colour) (m : Move) (w : CastlingSide) (r : ℕ) 
     → names_castling_with v (other c) (mirrored_move m) w (mirrored r) ≡ names_castling_with v c m w r
 names_with Normal c m w r h l k =
     ap₂ (λ (a b : Bool). a && b) (home_named c king_home_file m.from (omega arith) h)
-    (home_named c (castled_king_file w) m.to (king_file_in w) l)
+    (home_named c (castled_king_file w) m.to (castled_king_file-below w) l)
 names_with Fischerandom c m w r h l k =
     ap₂ (λ (a b : Bool). a && b) (same_rank m.from r h k) (same_square m.to r l k)
 
@@ -236,7 +226,8 @@ castle_from-mirrored : (c : Colour) (w : CastlingSide) (king rook : ℕ)
     → castle_from (other c) w (mirrored king) (mirrored rook) ≡ mirrored_castle (castle_from c w king rook)
 castle_from-mirrored c w king rook =
     ap₂ (λ (a b : ℕ). record { king_from = mirrored king; king_to = a; rook_from = mirrored rook; rook_to = b })
-    (home-mirrored c (castled_king_file w) (king_file_in w)) (home-mirrored c (castled_rook_file w) (rook_file_in w))
+    (home-mirrored c (castled_king_file w) (castled_king_file-below w))
+    (home-mirrored c (castled_rook_file w) (castled_rook_file-below w))
 
 castle_with-mirrored : (c : Colour) (w : CastlingSide) (king : ℕ) (o : Option ℕ)
     → option_map (castle_from (other c) w (mirrored king)) (option_map mirrored o)
@@ -307,9 +298,9 @@ castle_in_by p m k sound h w (Some r) at e =
     let same : castle_from p.side w m.from r ≡ k = cc in
     subst IsInBoard same (record {
       king_from = h;
-      king_to = home_in p.side (castled_king_file w) (king_file_in w);
+      king_to = home_square-below p.side (castled_king_file w) (castled_king_file-below w);
       rook_from = rook_in p p.side w r sound at;
-      rook_to = home_in p.side (castled_rook_file w) (rook_file_in w);
+      rook_to = home_square-below p.side (castled_rook_file w) (castled_rook_file-below w);
     })
 
 castle_in_side : (p : Setup) (m : Move) (k : Castle) → IsSound p → m.from < 64 → (o : Option CastlingSide)

@@ -1,5 +1,5 @@
 -- For lists and texts of moves: when a move castles, which squares that names, and the rights of a sound position.
-use Rattle.std.proofs.Common.{◌≡◌, ◌⊎◌, inl, inr, Bool, true, false, cond, ℕ, Option, Some, None, refl, ap, ◌∙◌}
+use Rattle.std.proofs.Common.{◌≡◌, ◌⊎◌, inl, inr, Bool, true, false, cond, ℕ, ◌<◌, Option, Some, None, refl, ap, ◌∙◌, arith}
 use Rattle.std.proofs.lemmas.Bool.{and_parts}
 use Rattle.chess_base.specs.declared.man.Colour.{Colour}
 use Rattle.chess_base.specs.declared.man.Variant.{Variant}
@@ -9,7 +9,7 @@ use Rattle.chess_base.specs.declared.man.CastlingSide.TheVariants.{KingSide, Que
 use Rattle.chess_base.specs.declared.man.Move.{Move}
 use Rattle.chess_base.specs.Men.{man_at, is_man, Men}
 use Rattle.chess_base.specs.declared.setup.Setup.{Setup}
-use Rattle.chess_base.specs.Castling.{home_square, right_of, castling, is_castling_to, castled_king_file, castle_from, castle_of, mover_end, are_placed_for_castling, right_is_sound}
+use Rattle.chess_base.specs.Castling.{home_square, right_of, castling, is_castling_to, castled_king_file, castled_rook_file, castle_from, castle_of, mover_end, are_placed_for_castling, right_is_sound}
 use Rattle.chess_base.specs.shared.Splits.{names_castling, castle_with, right_is_sound_at}
 use Rattle.chess_base.specs.Before.{mover_to, castle_by}
 use Rattle.chess_base.specs.declared.man.Colour.TheVariants.{White, Black}
@@ -92,3 +92,18 @@ pub castling_rook_is_there : (p : Setup) (c : Colour) (w : CastlingSide) (e : �
 unfolding right_is_sound
 castling_rook_is_there p c w e h at =
     rook_of_right p.variant p.men c w e (placed_for_right p.variant p.men c w (right_of p.rights c w) e h at)
+
+-- the king ends on a file of the board
+pub castled_king_file-below : (w : CastlingSide) → castled_king_file w < 8
+castled_king_file-below KingSide = omega arith
+castled_king_file-below QueenSide = omega arith
+
+-- so does the rook
+pub castled_rook_file-below : (w : CastlingSide) → castled_rook_file w < 8
+castled_rook_file-below KingSide = omega arith
+castled_rook_file-below QueenSide = omega arith
+
+-- the square of a file on a colour's first rank is on the board
+pub home_square-below : (c : Colour) (f : ℕ) → f < 8 → home_square c f < 64
+home_square-below White f h = omega (arith, h)
+home_square-below Black f h = omega (arith, h)

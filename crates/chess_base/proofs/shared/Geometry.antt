@@ -208,3 +208,8 @@ pub is_clear_back : (men : Men) (a b : ℕ) → is_clear men a b ≡ is_clear me
 unfolding is_clear
 is_clear_back men a b =
     each_square_same _ _ (λ x l. ap (λ t. not t || is_none (man_at men x)) (between_back a b x))
+
+-- a square is not between another and itself
+pub is_between-end : (a b : ℕ) → is_between a b b ≡ false
+unfolding is_between is_between_on_file is_between_on_rank is_between_on_diagonal
+is_between-end a b = grind (arith, nat_tests)

@@ -134,3 +134,9 @@ in_board men c k s l e =
 pub is_none-None : {A : Type 0} (o : Option A) → is_none o ≡ true → o ≡ None
 is_none-None None e = refl
 is_none-None (Some x) e = cc
+
+-- a rook is no king
+pub is_man-rook_as_king : (c : Colour) → is_man c King (Some (record { colour = c; kind = Rook })) ≡ false
+unfolding is_man
+is_man-rook_as_king White = refl
+is_man-rook_as_king Black = refl

@@ -10,7 +10,7 @@ use Rattle.chess_base.specs.Squares.{rank, is_at}
 use Rattle.chess_base.specs.Men.{Men, man_at, other, same_colour, same_kind, is_of, is_man, forward, first_rank, pawn_rank}
 use Rattle.chess_base.specs.Attacks.{attacks, is_attacked, is_in_check}
 use Rattle.chess_base.specs.declared.setup.Setup.{Setup}
-use Rattle.chess_base.specs.Moves.{is_pseudo_legal, moves_as, man_moves, pawn_moves, is_double_advance, pawn_advances, pawn_captures, promotion_fits}
+use Rattle.chess_base.specs.Moves.{is_legal, is_pseudo_legal, moves_as, man_moves, pawn_moves, is_double_advance, pawn_advances, pawn_captures, promotion_fits}
 use Rattle.chess_base.specs.shared.Splits.{castles_or_moves}
 use Rattle.chess_base.specs.Castling.{right_of, castle_from, castle_of, castling, castles, castling_way_is_empty}
 use Rattle.chess_base.specs.declared.castling.Castle.{Castle}
@@ -93,6 +93,11 @@ moves_from_pattern p m e =
     let three = and_parts _ _ e in
     let two = and_parts _ _ three.0 in
     moves_by p m (man_at p.men m.from) refl (ltb-true _ _ two.0) (ltb-true _ _ two.1) three.1
+
+-- a legal move is of one of the kinds, too
+pub Moves-from_legal : (p : Setup) (m : Move) → is_legal p m ≡ true → Moves p m
+unfolding is_legal
+Moves-from_legal p m e = moves_from_pattern p m (and_parts _ _ e).0
 
 -- the mover is of the side to move
 pub is_of-mover : (p : Setup) (m : Move) → Moves p m → is_of p.side (man_at p.men m.from) ≡ true
