@@ -131,12 +131,14 @@ castle_of p m =
 abbrev pub is_on_way : ℕ → ℕ → ℕ → Bool
 is_on_way a b x = (x == a) || (x == b) || is_between a b x
 
--- for castling k, each square that king or rook crosses or ends on, other than the two where they start, is empty
--- (3.8.2.2.2)
+-- castling k needs square x empty: king or rook crosses it or ends on it, and neither of the two starts on it
+unfoldable pub castling_needs_empty : Castle → ℕ → Bool
+castling_needs_empty k x = (is_on_way k.king_from k.king_to x || is_on_way k.rook_from k.rook_to x)
+    && not (x == k.king_from) && not (x == k.rook_from)
+
+-- each square that castling k needs empty is empty (3.8.2.2.2)
 unfoldable pub castling_way_is_empty : Men → Castle → Bool
-castling_way_is_empty men k = each_square
-    (λ x. not (is_on_way k.king_from k.king_to x || is_on_way k.rook_from k.rook_to x) || (x == k.king_from)
-    || (x == k.rook_from) || is_none (man_at men x))
+castling_way_is_empty men k = each_square (λ x. not (castling_needs_empty k x) || is_none (man_at men x))
 
 -- for castling k of colour c, no square that the king starts on, crosses or ends on is attacked by the other colour;
 -- `men` are the pieces before castling (3.8.2.2.1)
