@@ -16,8 +16,8 @@ use Rattle.chess_base.specs.Men.{Men, man_at, is_man, first_rank}
 use Rattle.chess_base.specs.Castling.{home_square, king_square, is_to_side, right_is_sound, right_of}
 use Rattle.chess_base.specs.shared.Splits.{right_is_sound_at}
 use Rattle.chess_fen.specs.Texts.{first_letter, names_file}
-use Rattle.chess_fen.specs.RightNames.{side_letter, from_edge, is_towards, right_by, right_in}
-use Rattle.chess_fen.proofs.RooksNamed.{names_right, rook_by, in_chess960}
+use Rattle.chess_fen.specs.RightNames.{side_letter, from_edge, is_towards, names_right, rook_by, right_by, right_in}
+use Rattle.chess_fen.proofs.RooksNamed.{in_chess960}
 use Rattle.chess_fen.specs.ties.Reader.{nowhere, outer_rook}
 use Rattle.chess_fen.specs.ties.Loops.{edge_file, rook_among}
 use Rattle.chess_fen.specs.laws.NamedRooks.{IsOutermost, NamesRook, NamesNone, RightIsNamed}

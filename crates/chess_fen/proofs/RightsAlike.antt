@@ -21,8 +21,8 @@ use Rattle.chess_base.specs.Sound.{IsSound}
 use Rattle.chess_base.proofs.shared.Sound.{no_fault_from_IsSound}
 use Rattle.text_lines.specs.Words.{short_number}
 use Rattle.chess_fen.specs.Texts.{placement_of, is_castling_field, target_of, fields_of}
-use Rattle.chess_fen.specs.RightNames.{right_by, right_in, names_rights_well, rights_in}
-use Rattle.chess_fen.proofs.RooksNamed.{names_right, rook_by, in_chess960}
+use Rattle.chess_fen.specs.RightNames.{names_right, rook_by, right_by, right_in, names_rights_well, rights_in}
+use Rattle.chess_fen.proofs.RooksNamed.{in_chess960}
 use Rattle.chess_fen.specs.Reading.{◌>>=◌, side_of, fen_reading_as}
 use Rattle.chess_fen.specs.ties.Reader.{nowhere, outer_rook, named_square, one_or_nowhere, right_by_letters, setup_by, setup_in}
 use Rattle.chess_fen.proofs.Steps.{steps_to, steps, denoted_by, unless_fault, if_fit, denoted_in, third, reading-steps}

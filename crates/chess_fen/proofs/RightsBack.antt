@@ -23,8 +23,8 @@ use Rattle.chess_base.specs.shared.Splits.{right_is_sound_at}
 use Rattle.chess_fen.specs.ties.Loops.{or_dash, right_text}
 use Rattle.chess_fen.proofs.RightLetters.{rights_are}
 use Rattle.chess_fen.specs.Texts.{first_letter, names_file, may_name_right, is_castling_field}
-use Rattle.chess_fen.specs.RightNames.{side_letter, is_towards, right_by, right_in}
-use Rattle.chess_fen.proofs.RooksNamed.{names_right, rook_by, in_chess960}
+use Rattle.chess_fen.specs.RightNames.{side_letter, is_towards, names_right, rook_by, right_by, right_in}
+use Rattle.chess_fen.proofs.RooksNamed.{in_chess960}
 use Rattle.chess_fen.specs.ties.Reader.{times, names_once}
 use Rattle.chess_fen.specs.Writing.{rights_text}
 use Rattle.chess_fen.proofs.Joined.{all_append}

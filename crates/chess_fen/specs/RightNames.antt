@@ -1,8 +1,8 @@
 -- Which rights the letters of a FEN name: in normal chess K, Q, k and q (PGN standard of 1994, section 16.1.3.3); in
 -- Chess960 a rook by its file (Shredder-FEN), or the outermost one by its side (X-FEN).
-use Rattle.std.specs.Prelude.{ℕ, ◌+◌, ◌-◌, ◌==◌, nat_lt, Bool, false, not, ◌&&◌, List, [], ◌∷◌, map, find, Option, Some, None, is_some, if◌then◌else◌}
+use Rattle.std.specs.Prelude.{ℕ, ◌+◌, ◌-◌, ◌==◌, nat_lt, Bool, false, not, ◌&&◌, ◌||◌, List, [], ◌∷◌, map, find, Option, Some, None, is_some, if◌then◌else◌}
 use Rattle.std.specs.Bool.{then_some}
-use Rattle.std.specs.List.{list_all, filter_map}
+use Rattle.std.specs.List.{list_all, filter}
 use Rattle.std.specs.Option.{option_flatten, option_map_or}
 use Rattle.chess_base.specs.declared.man.Colour.{Colour}
 use Rattle.chess_base.specs.declared.man.Colour.TheVariants.{White, Black}
@@ -48,19 +48,21 @@ abbrev pub is_towards : CastlingSide → Option ℕ → ℕ → Bool
 is_towards QueenSide king s = option_map_or (λ k. nat_lt s k) king false
 is_towards KingSide king s = not (option_map_or (λ k. nat_lt s k) king false)
 
--- whether the letter names colour c's right on side w (`None` if not), and the square of the rook that it names for it.
--- c's letter of that side (K or Q, k or q) names the rook of c on its first rank that is nearest to the board's edge on
--- side w: `Some None` if there is none. c's letter (A to H, a to h) of a file on that side of c's king names the square
--- on that file of c's first rank, with or without a rook
-abbrev pub rook_named : Men → Colour → CastlingSide → ℕ → Option (Option ℕ)
-rook_named men c w letter =
-    let s = home_square c (letter - first_letter c) in
-    if letter == side_letter c w then Some (find (λ t. is_man c Rook (man_at men t)) (from_edge c w))
-    else then_some (names_file c letter && is_towards w (king_square men c) s) (Some s)
+-- the letter names colour c's right on side w: it is c's letter of that side (K or Q, k or q), or that of a file (A to
+-- H, a to h) on that side of c's king
+abbrev pub names_right : Men → Colour → CastlingSide → ℕ → Bool
+names_right men c w letter = letter == side_letter c w
+    || names_file c letter && is_towards w (king_square men c) (home_square c (letter - first_letter c))
 
--- one castling right, from what `rook_named` gives for each letter that names it. No letter: the right is not there
--- (`Some None`). One letter, for which there is a rook: the right is there, given as the rook's square. Several
--- letters, or one for which there is no rook: the right is named wrongly (`None`)
+-- the rook's square by a letter that names the right. By a side's letter it is that of the rook of c on its first rank
+-- that is nearest to that edge (`None`: there is none); by a file's letter the one on that file, even without a rook
+abbrev pub rook_by : Men → Colour → CastlingSide → ℕ → Option ℕ
+rook_by men c w letter =
+    if letter == side_letter c w then find (λ s. is_man c Rook (man_at men s)) (from_edge c w)
+    else Some (home_square c (letter - first_letter c))
+
+-- a castling right, from the rooks that the letters which name it give. No letter: it is not there (`Some None`). One
+-- letter, with a rook: it is there. Several letters, or one without a rook: it is named wrongly (`None`)
 abbrev pub right_by : List (Option ℕ) → Option (Option ℕ)
 right_by [] = Some None
 right_by (Some s ∷ []) = Some (Some s)
@@ -73,7 +75,7 @@ right_by _ = None
 -- corner. `None` if the letters name it wrongly (`right_by`), which they never do in normal chess
 abbrev pub right_in : Variant → Men → List ℕ → Colour → CastlingSide → Option (Option ℕ)
 right_in Normal men letters c w = Some (then_some (occurs (side_letter c w) letters) (home_square c (rook_file w)))
-right_in Fischerandom men letters c w = right_by (filter_map (rook_named men c w) letters)
+right_in Fischerandom men letters c w = right_by (map (rook_by men c w) (filter (names_right men c w) letters))
 
 -- whether the letters of a castling field name each right well (`right_by`): in Chess960 a right is named wrongly by
 -- several letters, or by a side's letter (K, Q, k or q) if its colour has no rook on its first rank; whether there is a
