@@ -18,7 +18,7 @@ use Rattle.chess_base.specs.Men.{Men}
 use Rattle.chess_base.specs.Castling.{are_placed_for_castling, right_is_sound, rights_by}
 use Rattle.chess_base.specs.Faults.{conditions, rights_are_sound, first_failing, setup_fault}
 use Rattle.chess_base.specs.Sound.{IsSound}
-use Rattle.chess_base.proofs.shared.Sound.{no_fault_from_IsSound}
+use Rattle.chess_base.proofs.shared.Sound.{first_failing-conditions_if, no_fault_from_IsSound}
 use Rattle.text_lines.specs.Words.{short_number}
 use Rattle.chess_fen.specs.Texts.{placement_of, is_castling_field, target_of, fields_of}
 use Rattle.chess_fen.specs.RightNames.{names_right, rook_by, right_by, right_in, names_rights_well, rights_in}
@@ -199,7 +199,9 @@ fields_are v a b c d h f =
     by_steps (Some men) (Some colour) true (Some target) None fullmove = refl
     by_steps (Some men) (Some colour) true (Some target) (Some halfmove) None = refl
     by_steps (Some men) (Some colour) true (Some target) (Some halfmove) (Some fullmove) =
-        alike men colour target halfmove (max fullmove 1) v c
+        let p : Setup = setup_with men colour target halfmove (max fullmove 1) v (rights_in v men c) in
+        ap (unless_fault p) (first_failing-conditions_if (names_rights_well v men c) p)
+        ∙ alike men colour target halfmove (max fullmove 1) v c
 
 fens_are : (v : Variant) (text : List ℕ) → fen_reading_as v text ≡ (setup_in v (fields_of text) >>= if_sound)
 fens_are v text = reading-steps v (fields_of text) ∙ by_fields (fields_of text)
