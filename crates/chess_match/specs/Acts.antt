@@ -94,19 +94,23 @@ abbrev pub due_after : Event → Effect → List Block
 due_after (Line S text moment) done = blocks_from (if is_over done.after.phase then White else S) done.to
 due_after event done = blocks_from White done.to
 
+-- the state and the blocks due after a block for this side could not be sent, before which these were `m` and, with that
+-- block, `due`. If the match was over, they stay: other blocks are still sent. Otherwise the failure ends the match, and
+-- only the block that reports this to the other side is due
+abbrev pub after_failed_send : Rules → Match → List Block → Colour → Match × List Block
+after_failed_send r m due side =
+    let done = effect r m (FailsToWrite side) in
+    if is_over m.phase then (m, due) else (done.after, blocks_from White done.to)
+
 -- these acts, in order, are the rest of a match by the rules `r`: before them its state is `m`, and the blocks `due`
 -- are still to be sent; after them it is over, in the state `final`. Each row says which act may come first, and which
 -- state and blocks due it leaves for the acts `H` after it. While a block is due, nothing is read
 abbrev pub IsMatchFrom : Rules → Match → List Block → List Act → Match → Type 0
 -- a block is due: the first one due is sent. The state stays, and the other blocks are still due
 IsMatchFrom r m (block ∷ due) (Sends sent ∷ H) final = (block ≡ sent) × IsMatchFrom r m due H final
--- a block is due, and sending the first one due fails. If the match was already over, its state stays, and the other
--- blocks (`due`) are still sent. Otherwise the failure ends the match: nothing of `due` is sent, and the only block due
--- is the one that reports the end to the other side. `next` is the new state, and the blocks then due
+-- a block is due, and sending the first one due fails
 IsMatchFrom r m (block ∷ due) (SendFails sent ∷ H) final =
-    let done = effect r m (FailsToWrite sent.to) in
-    let next : Match × List Block = if is_over m.phase then (m, due) else (done.after, blocks_from White done.to) in
-    (block ≡ sent) × IsMatchFrom r next.0 next.1 H final
+    let next = after_failed_send r m due sent.to in (block ≡ sent) × IsMatchFrom r next.0 next.1 H final
 -- no block is due: an event that may come in this phase happens. Its effect gives the new state and the blocks that are
 -- then due
 IsMatchFrom r m [] (Happens event ∷ H) final =

@@ -280,19 +280,25 @@ abbrev pub handshake_done : Rules → Colour → Match → Effect
 handshake_done r White m = sends_to Black handshake_lines (record m { phase = Handshake Black; count = 0 })
 handshake_done r Black m = judged r (missing r (m.seat White).items) (missing r (m.seat Black).items) m
 
+-- the answers to these items, whatever their values: `accepted` and the name, such as `accepted ping`, if the arbiter
+-- knows it (`is_known`); otherwise `rejected` and the name
+abbrev pub answers_to : List Item → List SentLine
+answers_to items = map (λ i. Says ((if is_known i.name then codes "accepted " else codes "rejected ") ++ i.name)) items
+
+-- the effect `e`, but the engine of this side is first sent the answers to these items
+abbrev pub with_answers : Colour → List Item → Effect → Effect
+with_answers side items e = record e { to = λ S. list_if (same_colour side S) (answers_to items) ++ e.to S }
+
 -- what a line of the side `S` does in its handshake; `items` are those of the line, none if it is no `feature` line.
--- They are added to those known of `S`. `done=1` ends the handshake; if the 1,000th line, of whatever kind, comes
--- without it, the match ends. Before all that follows (`next`) the engine of `S` is sent an answer to each of these
--- items, in their order and whatever the item's value: `accepted` and its name, such as `accepted ping`, if the arbiter
--- knows the name (`is_known`); otherwise `rejected` and the name
+-- They are answered, and added to those known of `S`. `done=1` ends the handshake; if the 1,000th line, of whatever
+-- kind, comes without it, the match ends
 abbrev pub handshake_row : Rules → Colour → List Item → Match → Effect
 handshake_row r S items m =
-    let reply = map (λ i. Says ((if is_known i.name then codes "accepted " else codes "rejected ") ++ i.name)) items in
     let m' = with_seat S (λ s. record s { items = s.items ++ items }) m in
-    let next = if list_any ends_handshake items then handshake_done r S m'
+    with_answers S items
+    (if list_any ends_handshake items then handshake_done r S m'
     else if nat_le 1000 (m.count + 1) then ends r (Faulted S NoDone) m'
-    else sends_nothing (record m' { count = m.count + 1 }) in
-    record next { to = λ side. list_if (same_colour S side) reply ++ next.to side }
+    else sends_nothing (record m' { count = m.count + 1 }))
 
 -- what follows when this side is set up: after White's setup comes Black's. Then the first turn begins, unless the
 -- match is over by the position at the start
