@@ -27,7 +27,7 @@ use Rattle.pgn_verifier.specs.Verify.{Verifies}
 use Rattle.match_runner.specs.GamesTable.{HostStep, PlaysGamesWith}
 use Rattle.match_runner.specs.declared.fault.GamesFault.{GamesFault}
 use Rattle.match_runner.specs.Games.{report_of}
-use Rattle.match_runner.specs.Log.{LogSeen, Logged, log_seen}
+use Rattle.match_runner.specs.Log.{LogSeen, Logged}
 use Rattle.stub_engine.specs.Stub.{stub_response, waiting}
 use Rattle.chess_arbiter.specs.declared.fault.ProgramFault.TheVariants.{InvalidArguments}
 use Rattle.chess_game.specs.declared.game.TheConstants.{MOST_MOVES}
@@ -86,7 +86,7 @@ ReportsArguments _ w w' status = (w' ≡ w) × (status ≡ 2)
 -- nothing was done
 abbrev pub Reports : List ℕ → LogSeen → LogSeen → Type 0
 Reports text l l' = (l'.broken ≡ l.broken)
-    × ((failed : Bool) × Logged (log_seen l.output false) (log_seen l'.output failed) text)
+    × ((failed : Bool) × Logged (record l { broken = false }) (record l' { broken = failed }) text)
 
 -- what contracts see of what the program works with, but for its host
 pub record Surroundings : Type 0 where

@@ -148,9 +148,13 @@ abbrev pub FaultlessGames : GamesPlan → List GameRecord → Type 0
 FaultlessGames plan games =
     AllByRecursion (λ g. IsOfPlan plan g.0 g.1 × (g.1.end.fault ≡ None)) (enumerate_from 1 games)
 
--- the PGN of these games one after another; they are numbered from 1
+-- what `f` gives for each of these games and its number, one after another; they are numbered from 1
+abbrev pub game_by_game : {A : Type 0} → (ℕ → GameRecord → List A) → List GameRecord → List A
+game_by_game f games = flat_map (λ g. f g.0 g.1) (enumerate_from 1 games)
+
+-- the PGN of these games
 abbrev pub game_texts : GamesPlan → List GameRecord → List ℕ
-game_texts plan games = flat_map (λ g. game_text plan g.0 g.1) (enumerate_from 1 games)
+game_texts plan games = game_by_game (game_text plan) games
 
 -- the line that says that the engine of this side was killed after the game of this number, such as
 -- `arbiter: game 3: White did not exit, and was killed`
@@ -169,10 +173,10 @@ abbrev pub game_log : GamesPlan → ℕ → GameRecord → List ℕ
 game_log plan number played = list_if plan.log (log_from (first_side number) 0 played.notes)
     ++ killed_lines number played.killed
 
--- from the log's state `l` to `l'` what there is of these games was logged, one after another, though a write of the
--- log may have failed (`Logged`; if there is nothing, the log is as it was). The games are numbered from 1
+-- from the log's state `l` to `l'` what there is of these games was logged, though a write of it may have failed
+-- (`Logged`; if there is nothing, the log is as it was)
 abbrev pub LogsGames : GamesPlan → LogSeen → LogSeen → List GameRecord → Type 0
-LogsGames plan l l' games = Logged l l' (flat_map (λ g. game_log plan g.0 g.1) (enumerate_from 1 games))
+LogsGames plan l l' games = Logged l l' (game_by_game (game_log plan) games)
 
 -- how many of these games, numbered from 1, have the outcome that `wanted` gives for their number
 abbrev pub count_of : (ℕ → Outcome) → List GameRecord → ℕ

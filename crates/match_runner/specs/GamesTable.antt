@@ -1,6 +1,5 @@
 -- What passes at the host of a match and at the table of its games, step by step.
 use Rattle.std.specs.Prelude.{◌≡◌, ⊤, ◌⊎◌, ℕ, ◌+◌, Bool, if◌then◌else◌, List, [], ◌∷◌, ◌++◌, length, flat_map, Option, None, Some, Result, Ok, Err}
-use Rattle.std.specs.List.{enumerate_from}
 use Rattle.std.specs.Option.{option_to_list}
 use Rattle.chess_base.specs.declared.man.Colour.{Colour}
 use Rattle.chess_base.specs.declared.man.Colour.TheVariants.{White, Black}
@@ -10,7 +9,7 @@ use Rattle.match_runner.specs.declared.fault.GamesFault.TheVariants.{NoMemory, C
 use Rattle.match_runner.specs.declared.plan.GamesPlan.{GamesPlan}
 use Rattle.byte_devices.specs.Devices.{OutputState}
 use Rattle.byte_devices.specs.Transfers.{Devices, ToOutput, OutputTook}
-use Rattle.match_runner.specs.Games.{GameRecord, LogsGames, WritesGames, engine_command, game_text, none_killed}
+use Rattle.match_runner.specs.Games.{GameRecord, LogsGames, WritesGames, engine_command, game_by_game, game_text, none_killed}
 use Rattle.match_runner.specs.Log.{LogSeen}
 
 -- ---- one call
@@ -96,9 +95,9 @@ unstarted_steps plan number fault =
     AtHost (StartFails (engine_command plan number White) (engine_command plan number Black) plan.patience.reply fault)
     ∷ []
 
--- the steps of these games, one game after another, each of which was written and flushed; they are numbered from 1
+-- the steps of these games, each of which was written and flushed
 abbrev pub games_steps : GamesPlan → List GameRecord → List GamesStep
-games_steps plan games = flat_map (λ g. steps_by Writes plan g.0 g.1) (enumerate_from 1 games)
+games_steps plan games = game_by_game (steps_by Writes plan) games
 
 -- the steps after the steps of all games that were written, by a match's result. `number` is the number of the next
 -- game. Writing the score is no step at the table
