@@ -54,63 +54,61 @@ failed s fault = record { state = s; answer = Err fault }
 
 -- ---- after the tags: a row for each kind of token
 
--- what a token does: the game goes on as `next`; the outcome, a word of `len` bytes, ends it; or the token can't be
--- taken, and the fault is where `left` bytes of the text are left
+-- what a token does: the game goes on as `next`; an outcome ends it, and the offset after it is `end`; or the token can't
+-- be taken, and there is this fault at the offset `at`
 pub data Row : Type 0 where
   Goes_on : (next : State) → Row
-  Ends : (o : Outcome) (len : ℕ) → Row
-  Fails : (kind : PgnFaultKind) (left : ℕ) → Row
+  Ends : (o : Outcome) (end : ℕ) → Row
+  Fails : (kind : PgnFaultKind) (at : ℕ) → Row
 
--- what a move does in the game `s` of at most `limit` half-moves: a fault if the board has a verdict (a move after the
--- end) or if the game already has `limit` half-moves (too long); otherwise what `allowed` says. `left` bytes are left
--- at the move
+-- what a move at the offset `at` does in the game `s` of at most `limit` half-moves: a fault if the board has a verdict
+-- (a move after the end) or if the game has `limit` half-moves (too long); otherwise what `allowed` says
 abbrev pub unless_over : ℕ → State → ℕ → Row → Row
-unless_over limit s left allowed =
-    if is_some (verdict_now s) then Fails AfterEnd left
+unless_over limit s at allowed =
+    if is_some (verdict_now s) then Fails AfterEnd at
     else if nat_lt (length s.moves) limit then allowed
-    else Fails TooLong left
+    else Fails TooLong at
 
--- what a word does that is taken as a move, by what it denotes in the current position of the game `s` of at most
--- `limit` half-moves. Without a move's shape it is a bad token, also where the game is over or full. `left` bytes are
--- left at the word
+-- what a word at the offset `at` does that is taken as a move, by what it denotes in the current position of the game
+-- `s`. Without a move's shape it is a bad token, also where the game is over or full
 abbrev pub move_row : ℕ → State → ℕ → Reading → Row
-move_row limit s left reads.NotAMove = Fails BadToken left
-move_row limit s left (reads.Move m) = unless_over limit s left (Goes_on (played s m))
-move_row limit s left reads.Ambiguous = unless_over limit s left (Fails AmbiguousMove left)
-move_row limit s left reads.NoSuch = unless_over limit s left (Fails IllegalMove left)
+move_row limit s at reads.NotAMove = Fails BadToken at
+move_row limit s at (reads.Move m) = unless_over limit s at (Goes_on (played s m))
+move_row limit s at reads.Ambiguous = unless_over limit s at (Fails AmbiguousMove at)
+move_row limit s at reads.NoSuch = unless_over limit s at (Fails IllegalMove at)
 
--- what a token does after the tags, in the game `s` of at most `limit` half-moves; `left` bytes are left at the token
-abbrev pub row : ℕ → State → ℕ × Token → Row
-row limit s (left, Skip) = Goes_on s
+-- what a token after the tags does in the game `s`. The text has `total` bytes, of which `left` are left at the token, so
+-- its offset is `total - left`
+abbrev pub row : ℕ → ℕ → State → ℕ × Token → Row
+row limit total s (left, Skip) = Goes_on s
 -- an outcome such as `1-0` ends the game; a number (digits alone) and marks such as `!?` are passed over; any other
 -- word is taken as a move
-row limit s (left, Word word) = option_map_or (λ o. Ends o (length word)) (outcome_of word)
-    (if list_all is_digit word || is_marks word then Goes_on s else move_row limit s left (reading (current s) word))
+row limit total s (left, Word word) = option_map_or (λ o. Ends o (total - left + length word)) (outcome_of word)
+    (if list_all is_digit word || is_marks word then Goes_on s
+    else move_row limit s (total - left) (reading (current s) word))
 -- the fault is at the comment's `{`, which may be inside a variation
-row limit s (left, Unclosed_comment brace) = Fails UnclosedComment brace
-row limit s (left, Unclosed_variation) = Fails UnclosedVariation left
-row limit s (left, Bad) = Fails BadToken left
+row limit total s (left, Unclosed_comment brace) = Fails UnclosedComment (total - brace)
+row limit total s (left, Unclosed_variation) = Fails UnclosedVariation (total - left)
+row limit total s (left, Bad) = Fails BadToken (total - left)
 -- a tag, even a bad one, is the next game's, so this game has no outcome, which is a fault
-row limit s (left, _) = Fails NoResult left
+row limit total s (left, _) = Fails NoResult (total - left)
 
--- what is read from a token on, which does what the row says; `later` gives what is read of the tokens after it from
--- the game as it is then. `left` bytes are left at the token, of a text of `total` bytes; `termination` is what the tag
--- Termination names
-abbrev pub after_row : ℕ → Option Termination → State → ℕ → Row → (State → GameRead) → GameRead
-after_row total termination s left (Goes_on next) later = later next
-after_row total termination s left (Ends o len) later = record {
+-- what is read from a token on that does this in the game `s`; `later` gives what is read of the tokens after it if the
+-- game goes on. `termination` is what the tag Termination names
+abbrev pub after_row : Option Termination → State → Row → (State → GameRead) → GameRead
+after_row termination s (Goes_on next) later = later next
+after_row termination s (Ends o end) later = record {
   state = record s { declared = declared_after (is_some (verdict_now s)) o };
-  answer = Ok (Some (record { outcome = o; termination = termination; offset = total - left + len }));
+  answer = Ok (Some (record { outcome = o; termination = termination; offset = end }));
 }
-after_row total termination s left (Fails kind place) later = failed s (record { kind = kind; offset = total - place })
+after_row termination s (Fails kind at) later = failed s (record { kind = kind; offset = at })
 
--- what is read of the tokens after the tags, in a text of `total` bytes, from the game `s` of at most `limit`
--- half-moves on; `termination` is what the tag Termination names. If the tokens end without a termination marker, that
--- is a fault at the text's end
+-- what is read of the tokens after the tags, from the game `s` on. If they end without a termination marker, that is a
+-- fault at the text's end
 abbrev pub moves_read : ℕ → ℕ → Option Termination → State → List (ℕ × Token) → GameRead
 moves_read limit total termination s [] = failed s (record { kind = NoResult; offset = total })
 moves_read limit total termination s (t ∷ ts) =
-    after_row total termination s t.0 (row limit s t) (λ next. moves_read limit total termination next ts)
+    after_row termination s (row limit total s t) (λ next. moves_read limit total termination next ts)
 
 -- ---- the tags: the tokens before the first number, move, outcome or fault
 
