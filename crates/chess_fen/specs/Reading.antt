@@ -1,7 +1,6 @@
 -- The position that a text denotes, field by field, or its first fault. This project's additions to the standard: the
--- counters may be left out, and a fullmove number of 0 is read as 1. Denotation and FenFaults say the same of a text
--- and a position or a fault, with relations for the placement, the side, the target and the order of faults; that both
--- agree is proved by the clauses `found`, `only`, `fault` and `refused` of `read_fen_as`.
+-- counters may be left out, and a fullmove number of 0 is read as 1. Denotation and FenFaults say the same by
+-- relations, as the clauses `found`, `only`, `fault` and `refused` of `read_fen_as` say.
 use Rattle.std.specs.Prelude.{ℕ, max, codes, Bool, List, [], ◌∷◌, ◌++◌, length, Option, Some, None, Result, Ok, Err, ◌==◌, if◌then◌else◌}
 use Rattle.std.specs.Option.{ok_or, option_map_or}
 use Rattle.chess_base.specs.declared.man.Colour.{Colour}
@@ -32,9 +31,8 @@ side_of _ = None
 abbrev pub conditions_of : List ℕ → Setup → List (FenFault × Bool)
 conditions_of letters p = conditions_if (names_rights_well p.variant p.men letters) p
 
--- the sound position p that the six fields of a FEN denote; or the fault: of the first field, from left to right, that
--- denotes nothing, or else of the first condition that p fails (`conditions_of`). A castling right that is named
--- wrongly is not there in p, and a fullmove number of 0 is read as 1. Any other number of fields is a fault
+-- the sound position that the six fields of a FEN denote; or the fault of the first field that denotes nothing, or else
+-- of the first condition that fails (`conditions_of`). Any other number of fields is a fault
 abbrev pub reading_in : Variant → List (List ℕ) → Result Setup FenFault
 reading_in v (placement ∷ side ∷ castling ∷ target ∷ halfmove ∷ fullmove ∷ []) = do
   pieces ← ok_or (placement_of placement) faults.Placement
@@ -55,8 +53,8 @@ reading_in v (placement ∷ side ∷ castling ∷ target ∷ halfmove ∷ fullmo
   option_map_or Err (first_failing (conditions_of castling p)) (Ok p)
 reading_in v _ = Err faults.Fields
 
--- the sound position that a text denotes as a FEN of variant v; or the fault: a wrong number of fields, the first field
--- that denotes nothing, or the first condition that fails. The two counters may be left out; then they are 0 and 1
+-- the sound position that a text denotes as a FEN of variant v, or its first fault (`reading_in`). The two counters may
+-- be left out; then they are 0 and 1
 abbrev pub fen_reading_as : Variant → List ℕ → Result Setup FenFault
 fen_reading_as v text =
     let fields = fields_of text in

@@ -22,13 +22,12 @@ use Rattle.chess_fen.specs.Texts.{occurs, first_letter, names_file}
 abbrev pub all_rights : List (Colour × CastlingSide)
 all_rights = (White, KingSide) ∷ (White, QueenSide) ∷ (Black, KingSide) ∷ (Black, QueenSide) ∷ []
 
--- the letter by which a FEN of normal chess names colour c's castling right on that side: K or Q for White, k or q for
--- Black
+-- the letter of colour c's castling right on that side: K or Q for White, k or q for Black
 abbrev pub side_letter : Colour → CastlingSide → ℕ
 side_letter c = by_side (letter_by c King) (letter_by c Queen)
 
--- the letter that is written for colour c's right on side w, with the rook on square s: in normal chess K, Q, k or q,
--- in Chess960 the letter of the rook's file, as H for White's rook on h1
+-- the letter that is written for colour c's right on side w, with the rook on square s: in normal chess that of the
+-- side, in Chess960 that of the rook's file, as H for White's rook on h1
 abbrev pub right_letter : Variant → Colour → CastlingSide → ℕ → ℕ
 right_letter Normal c w s = side_letter c w
 right_letter Fischerandom c w s = first_letter c + file s
@@ -41,9 +40,8 @@ abbrev pub from_edge : Colour → CastlingSide → List ℕ
 from_edge c w = map (home_square c)
     (by_side (7 ∷ 6 ∷ 5 ∷ 4 ∷ 3 ∷ 2 ∷ 1 ∷ 0 ∷ []) (0 ∷ 1 ∷ 2 ∷ 3 ∷ 4 ∷ 5 ∷ 6 ∷ 7 ∷ []) w)
 
--- square s is on that side of the king, whose square is `king`; both are on one rank, which is not tested. Queen side:
--- s is left of the king (nearer to the a-file). King side: it is not; so the king's own square is on the king side, and
--- without a king (`None`) each square is
+-- square s is on that side of the king's, if both are on one rank. King side is all that is not left of the king: also
+-- the king's own square, and without a king (`None`) each square
 abbrev pub is_towards : CastlingSide → Option ℕ → ℕ → Bool
 is_towards QueenSide king s = option_map_or (λ k. nat_lt s k) king false
 is_towards KingSide king s = not (option_map_or (λ k. nat_lt s k) king false)
@@ -70,17 +68,13 @@ right_by _ = None
 
 -- ---- both
 
--- colour c's castling right on side w by the letters of a castling field: its rook's square, or `Some None` if c does
--- not have it. In normal chess c has it if its letter (K, Q, k or q) is among them, and the rook's square is the
--- corner. `None` if the letters name it wrongly (`right_by`), which they never do in normal chess
+-- colour c's castling right on side w by the letters of a castling field, as in `right_by`. In normal chess c has it if
+-- the side's letter is among them, and the rook's square is the corner; it is never named wrongly
 abbrev pub right_in : Variant → Men → List ℕ → Colour → CastlingSide → Option (Option ℕ)
 right_in Normal men letters c w = Some (then_some (occurs (side_letter c w) letters) (home_square c (rook_file w)))
 right_in Fischerandom men letters c w = right_by (map (rook_by men c w) (filter (names_right men c w) letters))
 
--- whether the letters of a castling field name each right well (`right_by`): in Chess960 a right is named wrongly by
--- several letters, or by a side's letter (K, Q, k or q) if its colour has no rook on its first rank; whether there is a
--- rook on the file of a file's letter is not tested here. A right without a letter is not there, which is no fault. In
--- normal chess no right is named wrongly
+-- whether the letters of a castling field name no right wrongly (`right_by`)
 abbrev pub names_rights_well : Variant → Men → List ℕ → Bool
 names_rights_well v men letters = list_all (λ r. is_some (right_in v men letters r.0 r.1)) all_rights
 
