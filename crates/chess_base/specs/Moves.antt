@@ -89,7 +89,7 @@ after_castling p m k s =
     else if (s == k.king_from) || (s == k.rook_from) then None
     else man_at p.men s
 
--- what is on square s after move m, if m is not castling. A pawn captured en passant is not on the end square
+-- what is on square s after move m, if m is not castling. En passant the captured pawn was on a square of its own
 abbrev pub after_moving : Setup → Move → ℕ → Option Man
 after_moving p m s =
     if s == m.to then arriving_man (man_at p.men m.from) m.promotion
