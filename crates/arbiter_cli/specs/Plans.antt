@@ -47,8 +47,7 @@ variant_in value =
 
 -- whether draws must be claimed, by `--draws`: they need no claim for `automatic`, and one for any other name or none
 abbrev pub draws_in : Values → Draws
-draws_in value =
-    if bytes_eq (unwrap_or (value (codes "draws")) (codes "claimed")) (codes "automatic") then Automatic
+draws_in value = if bytes_eq (unwrap_or (value (codes "draws")) (codes "claimed")) (codes "automatic") then Automatic
     else draws.Claimed
 
 -- whether the flag with this name, such as `quiet` for `--quiet`, was given

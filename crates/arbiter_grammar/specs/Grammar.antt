@@ -30,18 +30,14 @@ AreOptionNames names = (map (λ n. n.now) names.variants.now ≡ codes "normal" 
 -- names
 abbrev pub match_app : OptionNames → App
 match_app names = fold with_rule (new_app (codes "match")) (
-    record (option_rule (codes "white")) { required = true }
-    ∷ record (option_rule (codes "black")) { required = true }
-    ∷ option_rule (codes "level")
-    ∷ option_rule (codes "white-level")
-    ∷ option_rule (codes "black-level")
+    record (option_rule (codes "white")) { required = true } ∷ record (option_rule (codes "black")) { required = true }
+    ∷ option_rule (codes "level") ∷ option_rule (codes "white-level") ∷ option_rule (codes "black-level")
     ∷ option_rule (codes "fen")
     ∷ record (option_rule (codes "games")) { parser = Some (Unsigned 1 1000) }
     ∷ option_rule (codes "date")
     ∷ record (option_rule (codes "variant")) { parser = Some (Names names.variants) }
     ∷ record (option_rule (codes "draws")) { parser = Some (Names names.draws) }
-    ∷ flag_rule (codes "log")
-    ∷ flag_rule (codes "flag")
+    ∷ flag_rule (codes "log") ∷ flag_rule (codes "flag")
     ∷ record (option_rule (codes "reply-timeout")) { parser = Some (Unsigned 1 999) }
     ∷ [])
 

@@ -24,9 +24,7 @@ pub record Item : Type 0 where
 -- digits; `None` if there is neither
 abbrev pub value_of : List ℕ → Option (Value × List ℕ)
 value_of [] = None
-value_of (c ∷ cs) =
-    let closing = position_or_len (λ b. b == byte "\"") cs in
-    let n = prefix_len is_digit (c ∷ cs) in
+value_of (c ∷ cs) = let closing = position_or_len (λ b. b == byte "\"") cs in let n = prefix_len is_digit (c ∷ cs) in
     if c == byte "\"" && nat_lt closing (length cs)
     then Some (record { quoted = true; text = take closing cs }, drop (closing + 1) cs)
     else if is_digit c then Some (record { quoted = false; text = take n (c ∷ cs) }, drop n (c ∷ cs)) else None

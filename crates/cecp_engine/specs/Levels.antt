@@ -55,9 +55,7 @@ level_with (Some moves) (Some base) (Some increment) =
 -- digits), base time, and increment in seconds (1 to 3 digits, perhaps with decimals). For any other text its first
 -- fault: that it has not three words, or the first word that denotes nothing
 unfoldable pub level_reading : List ℕ → Result LevelSeen LevelFault
-level_reading text =
-    let first = without_front_blanks text in
-    let second = argument_of first in
+level_reading text = let first = without_front_blanks text in let second = argument_of first in
     let third = argument_of second in
     if length third == 0 || nat_lt 0 (length (argument_of third)) then Err Words
     else level_with (short_number 3 (word_of first)) (base_of (word_of second)) (milliseconds_of 3 (word_of third))
@@ -81,8 +79,7 @@ two_digits n = (byte "0" + n / 10) ∷ (byte "0" + n % 10) ∷ []
 
 -- a part of a second, given in milliseconds, as it is written after whole seconds: nothing, `.5`, `.08` or `.125`
 unfoldable pub decimals_text : ℕ → List ℕ
-decimals_text n =
-    if n == 0 then []
+decimals_text n = if n == 0 then []
     else if n % 100 == 0 then byte "." ∷ (byte "0" + n / 100) ∷ []
     else if n % 10 == 0 then byte "." ∷ two_digits (n / 10)
     else byte "." ∷ (byte "0" + n / 100) ∷ two_digits (n % 100)

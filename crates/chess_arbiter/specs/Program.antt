@@ -61,8 +61,7 @@ verify_status _ = 1
 -- it, with the status 0. Or the output stays as it is, as when memory ran out, or a beginning of a text was written
 -- before a call failed; then the status is 1
 abbrev pub WritesHelp : OutputState → OutputState → ℕ → Type 0
-WritesHelp w w' status =
-    ((status ≡ 0) × (text : List ℕ) × OutputTook w w' (all_of text))
+WritesHelp w w' status = ((status ≡ 0) × (text : List ℕ) × OutputTook w w' (all_of text))
     ⊎ ((status ≡ 1) × ((w' ≡ w) ⊎ ((text : List ℕ) × (o : ToOutput) × OutputTook w w' o × BreaksOffIn nothing text o)))
 
 -- what is done with arguments for which there is no plan, by the fault that says why. What is written to the error

@@ -25,9 +25,7 @@ promotion_fits last (Some k) = not (same_kind k King) && not (same_kind k Pawn) 
 
 -- a pawn of the side on move goes two squares straight ahead from its home rank, as e2e4 (3.7.2), even across a piece
 unfoldable pub is_double_advance : Setup → Move → Bool
-is_double_advance p m =
-    is_man p.side Pawn (man_at p.men m.from)
-    && (rank m.from == pawn_rank p.side)
+is_double_advance p m = is_man p.side Pawn (man_at p.men m.from) && (rank m.from == pawn_rank p.side)
     && (m.to == forward p.side (forward p.side m.from))
 
 -- a pawn of the side on move goes one square diagonally ahead, to the en passant target (3.7.3.1): e5d6 after d7d5
@@ -37,8 +35,7 @@ is_en_passant p m = is_man p.side Pawn (man_at p.men m.from) && attacks p.men m.
 -- a pawn's move goes straight ahead to an empty square: one, or two from its home rank across an empty one (3.7.1,
 -- 3.7.2)
 unfoldable pub pawn_advances : Setup → Move → Bool
-pawn_advances p m =
-    is_none (man_at p.men m.to)
+pawn_advances p m = is_none (man_at p.men m.to)
     && ((m.to == forward p.side m.from) || (is_double_advance p m && is_none (man_at p.men (forward p.side m.from))))
 
 -- a pawn's move goes one square diagonally ahead, to an enemy piece or to the en passant target (3.7.3)
@@ -59,8 +56,7 @@ man_moves p m = is_none m.promotion && attacks p.men m.from m.to && not (is_of p
 -- it
 abbrev pub moves_as : Setup → Move → Option Man → Bool
 moves_as p m None = false
-moves_as p m (Some x) =
-    same_colour p.side x.colour
+moves_as p m (Some x) = same_colour p.side x.colour
     && (if same_kind Pawn x.kind then pawn_moves p m else option_map_or (castles p m) (castle_of p m) (man_moves p m))
 
 -- move m is pseudo-legal: a piece of the side on move can make it (3.1 to 3.8), even if it leaves the own king in
@@ -75,24 +71,21 @@ arriving_man o k = option_map (λ (x : Man). record x { kind = unwrap_or k x.kin
 -- the square of the piece that move m captures: m's end square, or en passant the one a step back from it (e5 if White
 -- captures on e6); none if m captures nothing
 unfoldable pub captured_square : Setup → Move → Option ℕ
-captured_square p m =
-    if is_en_passant p m then Some (forward (other p.side) m.to)
+captured_square p m = if is_en_passant p m then Some (forward (other p.side) m.to)
     else if is_of (other p.side) (man_at p.men m.to) then Some m.to
     else None
 
 -- what is on square s after castling k, which move m is. In Chess960 one of the two may end where one started. A legal
 -- castling names no promotion, so the king arrives on `king_to`
 abbrev pub after_castling : Setup → Move → Castle → ℕ → Option Man
-after_castling p m k s =
-    if s == k.king_to then arriving_man (man_at p.men m.from) m.promotion
+after_castling p m k s = if s == k.king_to then arriving_man (man_at p.men m.from) m.promotion
     else if s == k.rook_to then Some (record { colour = p.side; kind = Rook })
     else if (s == k.king_from) || (s == k.rook_from) then None
     else man_at p.men s
 
 -- what is on square s after move m, if m is not castling. En passant the captured pawn was on a square of its own
 abbrev pub after_moving : Setup → Move → ℕ → Option Man
-after_moving p m s =
-    if s == m.to then arriving_man (man_at p.men m.from) m.promotion
+after_moving p m s = if s == m.to then arriving_man (man_at p.men m.from) m.promotion
     else if (s == m.from) || is_at (captured_square p m) s then None
     else man_at p.men s
 

@@ -24,17 +24,14 @@ lines_before_last_read i = stream_lines COMMAND_LEN false i.early
 -- those up to the first with which it ends. Just their answers were written, and flushed, and no write or flush failed;
 -- if a line was read, a flush succeeded, even if all answers are empty. `s` and `s'` are the states before and after
 abbrev pub AnswersAll : {S : Type 0} → Server S → S → S → Bool → FromInput → ToOutput → Type 0
-AnswersAll respond s s' ends i o =
-    let due = responses respond s (lines_read i) in
+AnswersAll respond s s' ends i o = let due = responses respond s (lines_read i) in
     (o ≡ all_for (lines_read i) due.text) × (s' ≡ due.state) × (due.ends ≡ ends)
 
 -- the server `respond` answered the lines `before`, with none of which it ends, and their answers were flushed. Then a
 -- write or a flush failed in the answer to `line`: a beginning of it was written and not flushed, maybe nothing or all.
 -- `s` is the state before all this, and `s'` the one after `line`
 abbrev pub BreaksOffAt : {S : Type 0} → Server S → S → S → List LineSeen → LineSeen → ToOutput → Type 0
-BreaksOffAt respond s s' before line o =
-    let due = responses respond s before in
-    let last = respond due.state line in
+BreaksOffAt respond s s' before line o = let due = responses respond s before in let last = respond due.state line in
     (due.ends ≡ false) × BreaksOffIn (all_for before due.text) last.text o × (s' ≡ last.state)
 
 -- what the server `respond` reads (`i`) and writes (`o`), by the result of the run. `s` and `s'` are the server's

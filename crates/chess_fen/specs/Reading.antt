@@ -56,8 +56,7 @@ reading_in v _ = Err faults.Fields
 -- the sound position that a text denotes as a FEN of variant v, or its first fault (`reading_in`). The two counters may
 -- be left out; then they are 0 and 1
 abbrev pub fen_reading_as : Variant → List ℕ → Result Setup FenFault
-fen_reading_as v text =
-    let fields = fields_of text in
+fen_reading_as v text = let fields = fields_of text in
     reading_in v (if length fields == 4 then fields ++ (codes "0" ∷ codes "1" ∷ []) else fields)
 
 -- the sound position that a text denotes as a FEN of normal chess, or the fault, as `fen_reading_as` says

@@ -55,8 +55,7 @@ names_right men c w letter = letter == side_letter c w
 -- the rook's square by a letter that names the right. By a side's letter it is that of the rook of c on its first rank
 -- that is nearest to that edge (`None`: there is none); by a file's letter the one on that file, even without a rook
 abbrev pub rook_by : Men → Colour → CastlingSide → ℕ → Option ℕ
-rook_by men c w letter =
-    if letter == side_letter c w then find (λ s. is_man c Rook (man_at men s)) (from_edge c w)
+rook_by men c w letter = if letter == side_letter c w then find (λ s. is_man c Rook (man_at men s)) (from_edge c w)
     else Some (home_square c (letter - first_letter c))
 
 -- a castling right, from the rooks that the letters which name it give. No letter: it is not there (`Some None`). One

@@ -93,8 +93,7 @@ due_after event done = blocks_from White done.to
 -- blocks due. If the match was over, these are still sent. Otherwise the failure ends it, and only what reports this to
 -- the other side is due
 abbrev pub after_failed_send : Rules → Match → List Block → Colour → Match × List Block
-after_failed_send r m due side =
-    let done = effect r m (FailsToWrite side) in
+after_failed_send r m due side = let done = effect r m (FailsToWrite side) in
     if is_over m.phase then (m, due) else (done.after, blocks_from White done.to)
 
 -- these acts, in order, are the rest of a match by the rules `r`, whose state is `m`, and in which the blocks `due` are

@@ -80,8 +80,7 @@ ping_number m S = length (m.seat S).used + 1
 -- what an engine that sent these items lacks for the match, the first of: `ping=1`; `setboard=1`, if the start's FEN is
 -- to be sent; for Chess960, `fischerandom`. `None` if it lacks nothing
 abbrev pub missing : Rules → List Item → Option MatchFault
-missing r items =
-    if not (takes (codes "ping") items) then Some NoPing
+missing r items = if not (takes (codes "ping") items) then Some NoPing
     else if is_some (start_fen r.start) && not (takes (codes "setboard") items) then Some NoSetboard
     else if is_fischerandom r.start.variant && not (plays_fischerandom items) then Some NoVariant
     else None
@@ -111,15 +110,13 @@ handshake_lines = Says (codes "xboard") ∷ Says (codes "protover 2") ∷ []
 -- the line that sends the last move to the side `S`: `e2e4`, `usermove e2e4`, `e4` or `usermove e4`, by the features
 -- `usermove` and `san` of its engine
 abbrev pub move_line : Rules → Match → Colour → SentLine
-move_line r m S =
-    MoveSent (takes (codes "usermove") (m.seat S).items)
+move_line r m S = MoveSent (takes (codes "usermove") (m.seat S).items)
     (text_of_last (takes (codes "san") (m.seat S).items) r.start m.played)
 
 -- the lines that open a turn of the side `S`: in its first turn the last move (if one was made), the clocks and `go`;
 -- in later turns the clocks and the last move. The clocks, in centiseconds rounded down, are left out after `time=0`
 abbrev pub opening : Rules → Match → Colour → List SentLine
-opening r m S =
-    let last = list_if (nat_lt 0 (length m.played)) (move_line r m S ∷ []) in
+opening r m S = let last = list_if (nat_lt 0 (length m.played)) (move_line r m S ∷ []) in
     let times = Time (clock r m S / 10) ∷ Otim (clock r m (other S) / 10) ∷ [] in
     let clocks = list_if (takes (codes "time") (m.seat S).items) times in
     if nat_lt 0 (length (m.seat S).used) then clocks ++ last else last ++ (clocks ++ Says (codes "go") ∷ [])
@@ -151,8 +148,7 @@ ends r reason m = record {
 
 -- a line of the side `S` is ignored; the 10,000th ignored line of one setup or turn ends the match
 abbrev pub ignores : Rules → Colour → Match → Effect
-ignores r S m =
-    if nat_le 10000 (m.count + 1) then ends r (Faulted S Flood) m
+ignores r S m = if nat_le 10000 (m.count + 1) then ends r (Faulted S Flood) m
     else sends_nothing (record m { count = m.count + 1 })
 
 -- the turn of the side `S` is opened. Its time runs from the moment that the clock shows once these lines are sent;
@@ -170,8 +166,7 @@ unless_over r m otherwise = option_map_or (λ reason. ends r reason m) (over_by_
 -- already, the line is ignored. Else the offer is open from now on, and the other side is sent `draw`, unless by
 -- `draw=0`
 abbrev pub offer_row : Rules → Colour → Match → Effect
-offer_row r S m =
-    if (m.seat (other S)).offers then ends r Agreed m
+offer_row r S m = if (m.seat (other S)).offers then ends r Agreed m
     else if (m.seat S).offers then ignores r S m
     else sends_to (other S) (list_if (takes (codes "draw") (m.seat (other S)).items) (Says (codes "draw") ∷ []))
     (with_seat S (λ s. record s { offers = true }) m)
@@ -214,8 +209,7 @@ move_row r S used _ m = ends r (MovesIllegally S) m
 -- `used` milliseconds before
 abbrev pub before_move : Rules → Colour → ℕ → LineKind → Match → Effect
 -- `move M`: if there are as many half-moves as the limit allows, the match ends, whatever M is
-before_move r S used (Moves text) m =
-    if nat_le r.limit (length m.played) then ends r GameTooLong m
+before_move r S used (Moves text) m = if nat_le r.limit (length m.played) then ends r GameTooLong m
     else move_row r S used (reading (position_after r.start m.played) text) m
 -- any line that is no move: see `turn_row`
 before_move r S used kind m = turn_row r S kind m
@@ -223,8 +217,7 @@ before_move r S used kind m = turn_row r S kind m
 -- the flag of the side `S` has fallen: it loses, but if the other side has only its king, the game is drawn. Article
 -- 6.9 of the Laws of Chess 2023 has further draws on time; they are not judged here
 abbrev pub flag_row : Rules → Colour → Match → Effect
-flag_row r S m =
-    let bare = has_bare_king (other S) (position_after r.start m.played).men in
+flag_row r S m = let bare = has_bare_king (other S) (position_after r.start m.played).men in
     ends r (if bare then ForfeitsToBareKing else Forfeits S) m
 
 -- ---- silences
@@ -283,8 +276,7 @@ with_answers side items e = record e { to = λ S. list_if (same_colour side S) (
 -- They are answered, and added to those known of `S`. `done=1` ends the handshake; if the 1,000th line, of whatever
 -- kind, comes without it, the match ends
 abbrev pub handshake_row : Rules → Colour → List Item → Match → Effect
-handshake_row r S items m =
-    let m' = with_seat S (λ s. record s { items = s.items ++ items }) m in
+handshake_row r S items m = let m' = with_seat S (λ s. record s { items = s.items ++ items }) m in
     with_answers S items
     (if list_any ends_handshake items then handshake_done r S m'
     else if nat_le 1000 (m.count + 1) then ends r (Faulted S NoDone) m'

@@ -41,8 +41,7 @@ start_fen start = if is_initial start && not (is_fischerandom start.variant) the
 -- the text of the last of these moves of a game from `start`: in SAN if `as_san`, otherwise by its squares
 -- (`shown_move`). Empty if there is no move
 abbrev pub text_of_last : Bool → Setup → List Move → List ℕ
-text_of_last as_san start played =
-    let before = position_after start (take (length played - 1) played) in
+text_of_last as_san start played = let before = position_after start (take (length played - 1) played) in
     option_map_or (λ move. if as_san then san before move else shown_move before move) (last_or None played) []
 
 -- whether the side `c` has no piece but its king

@@ -125,8 +125,7 @@ last_start start fens = unwrap_or (last_or None (filter_map result_ok (take_whil
 
 -- the variant that the text of a tag Variant names, in capital or small letters; any text but three is normal chess
 abbrev pub variant_named : List ℕ → Variant
-variant_named text =
-    if list_any (λ name. str_eq_ignore_ascii_case text name)
+variant_named text = if list_any (λ name. str_eq_ignore_ascii_case text name)
     (codes "fischerandom" ∷ codes "fischerrandom" ∷ codes "chess960" ∷ []) then Fischerandom else Normal
 
 -- the variant that the last tag Variant names; normal chess if there is no such tag
@@ -146,9 +145,7 @@ read_after_tags limit total s tags rest = moves_read limit total
 -- what is read of the game at the front of these tokens, of at most `limit` half-moves, in a text of `total` bytes.
 -- There is no game if no token says anything of one; the first FEN that denotes no position is the game's fault
 abbrev pub read_of_split : ℕ → ℕ → List (ℕ × Token) → GameRead
-read_of_split limit total tokens =
-    let tags = tag_section tokens in
-    let v = tagged_variant tags in
+read_of_split limit total tokens = let tags = tag_section tokens in let v = tagged_variant tags in
     let fens = map (fen_read total v) (tags_named (codes "FEN") tags) in
     let s = from_start (last_start (initial_setup_of v) fens) in
     if list_all (λ t. says_nothing t.1) tokens then record { state = s; answer = Ok None }

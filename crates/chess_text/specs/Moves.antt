@@ -60,15 +60,13 @@ texts_by_squares d = (square_text d.from ∷ []) · (square_text d.to ∷ []) ·
 
 -- the texts of the described move by its piece's letter, as Nf3, Ng1f3 or Nxf3; none for a pawn's move or castling
 abbrev pub texts_by_letter : Described → List (List ℕ)
-texts_by_letter d =
-    if same_kind d.man Pawn || is_some d.castles then []
+texts_by_letter d = if same_kind d.man Pawn || is_some d.castles then []
     else (kind_text d.man ∷ []) · start_texts d.from · capture_texts d.captures · (square_text d.to ∷ [])
 
 -- what may come before the end square of a pawn's move: the file or the square where it starts, for a capture also with
 -- `x`; and nothing, if the pawn stays on its file. So e2e4 may be e4, ee4 or e2e4, and e4d5 ed5, exd5, e4d5 or e4xd5
 abbrev pub pawn_starts : Described → List (List ℕ)
-pawn_starts d =
-    list_if (file d.from == file d.to) ([] ∷ [])
+pawn_starts d = list_if (file d.from == file d.to) ([] ∷ [])
     ++ (file_text (file d.from) ∷ square_text d.from ∷ []) · capture_texts d.captures
 
 -- the texts of the described move as a pawn's, such as e4, exd5, e7e8Q or e8=q; none if another piece makes it
@@ -89,8 +87,7 @@ denotes_described text d = list_any (bytes_eq (unmarked text))
 -- all combinations of a kind of piece, a move, capture or not, and castling to a side or none, even if there is no such
 -- move
 unfoldable pub all_described : List Described
-all_described =
-    flat_map (λ man. flat_map (λ m. flat_map (λ takes. map (λ castles.
+all_described = flat_map (λ man. flat_map (λ m. flat_map (λ takes. map (λ castles.
     record { man = man; from = m.from; to = m.to; promotion = m.promotion; captures = takes; castles = castles })
     (None ∷ Some KingSide ∷ Some QueenSide ∷ [])) (false ∷ true ∷ [])) all_moves) kinds
 

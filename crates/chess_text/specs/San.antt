@@ -58,8 +58,7 @@ check_mark p = list_if (is_in_check p.men p.side) (if length (moves p) == 0 then
 
 -- the SAN of legal move m in position p, with `+` or `#` at its end if it gives check or mate: Nf3, exd5, Qh4#
 unfoldable pub san : Setup → Move → List ℕ
-san p m =
-    option_map_or (λ d. option_map_or castling_text d.castles (piece_text (rival_starts p (moves p) d) d)
+san p m = option_map_or (λ d. option_map_or castling_text d.castles (piece_text (rival_starts p (moves p) d) d)
     ++ check_mark (after p m)) (described p m) []
 
 -- whether a variant is Chess960

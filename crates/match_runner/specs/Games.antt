@@ -45,8 +45,7 @@ engine_command plan number side = if same_colour side (first_side number) then p
 
 -- the time control of the engine that has this side in the game of this number
 abbrev pub engine_level : GamesPlan → ℕ → Colour → LevelSeen
-engine_level plan number side =
-    if same_colour side (first_side number) then plan.white_level else plan.black_level
+engine_level plan number side = if same_colour side (first_side number) then plan.white_level else plan.black_level
 
 -- what the game of this number begins from: each side has the time control of its engine
 abbrev pub setup_of : GamesPlan → ℕ → Setup
@@ -175,8 +174,7 @@ count_of wanted games = count_by (λ g. same_outcome g.1.end.outcome (wanted g.0
 
 -- the last line that a match of these games writes to the output, such as `score first 1 second 0 drawn 2 unfinished 0`
 abbrev pub score_line : List GameRecord → List ℕ
-score_line games =
-    codes "score first " ++ decimal (count_of (λ number. win_of (first_side number)) games)
+score_line games = codes "score first " ++ decimal (count_of (λ number. win_of (first_side number)) games)
     ++ codes " second " ++ decimal (count_of (λ number. win_of (other (first_side number))) games)
     ++ codes " drawn " ++ decimal (count_of (λ number. Draw) games)
     ++ codes " unfinished " ++ decimal (count_of (λ number. Unfinished) games) ++ new_line ∷ []

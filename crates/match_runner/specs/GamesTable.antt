@@ -83,8 +83,7 @@ pub record StepsPass {S : Type 0} (old new : List S → Type 0) (steps : List S)
 abbrev pub steps_by : (List ℕ → GamesStep) → GamesPlan → ℕ → GameRecord → List GamesStep
 steps_by write plan number played =
     AtHost (Starts (engine_command plan number White) (engine_command plan number Black) plan.patience.reply
-    played.before.engines)
-    ∷ Plays (record played { killed = none_killed }) ∷ write (game_text plan number played)
+    played.before.engines) ∷ Plays (record played { killed = none_killed }) ∷ write (game_text plan number played)
     ∷ AtHost (Finishes played.after.engines plan.patience.reply played.killed) ∷ []
 
 -- the step of a game with this number whose engines can't be started for this reason
@@ -139,8 +138,7 @@ pub record Outputs : Type 0 where
 -- the moments `coming`. `passes` is the claim that just these steps passed
 abbrev pub PlaysBy : GamesPlan → Result (Unit {0}) GamesFault → (ℕ → Option ℕ) → (List GamesStep → Type 0) → Outputs
     → Outputs → Type 0
-PlaysBy plan result coming passes d d' =
-    (games : List GameRecord) × (unwritten : Option GameRecord)
+PlaysBy plan result coming passes d d' = (games : List GameRecord) × (unwritten : Option GameRecord)
     × ((o : ToOutput) × WritesGames plan result games unwritten o × OutputTook d.output d'.output o
     × LogsGames plan d.log d'.log (games ++ option_to_list unwritten))
     × ComeInTurn coming (games ++ option_to_list unwritten)

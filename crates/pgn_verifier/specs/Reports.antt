@@ -44,8 +44,7 @@ pub record Placed : Type 0 where
 
 -- the offset in a text at which the game from the offset `at` on begins: its first byte that is no white space
 abbrev pub game_begin : List ℕ → ℕ → ℕ
-game_begin text at =
-    let first = after_byte_order_mark text at in first + prefix_len is_white_space (drop first text)
+game_begin text at = let first = after_byte_order_mark text at in first + prefix_len is_white_space (drop first text)
 
 -- the text of a game's last tag with this name as a line shows it: its first 40 bytes, with `?` for each that is not
 -- printable ASCII; `?` alone if there is no such tag
@@ -162,6 +161,5 @@ verified t = if t.faults == 0 then EachGame else FaultReported
 
 -- the last line written of a collection, such as `games 2 half-moves 6 faults 1`
 unfoldable pub counts_line : Tally → List ℕ
-counts_line t =
-    codes "games " ++ (decimal t.games ++ (codes " half-moves " ++ (decimal t.half_moves
+counts_line t = codes "games " ++ (decimal t.games ++ (codes " half-moves " ++ (decimal t.half_moves
     ++ (codes " faults " ++ (decimal t.faults ++ new_line ∷ [])))))

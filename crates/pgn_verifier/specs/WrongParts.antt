@@ -20,8 +20,7 @@ drop_while test text = drop (prefix_len test text) text
 -- fewer fields
 unfoldable pub from_field : ℕ → List ℕ → List ℕ
 from_field zero fen = drop_while (λ c. c == space) fen
-from_field (suc number) fen =
-    from_field number (drop_while (λ c. not (c == space)) (drop_while (λ c. c == space) fen))
+from_field (suc number) fen = from_field number (drop_while (λ c. not (c == space)) (drop_while (λ c. c == space) fen))
 
 -- the field with this number: its bytes, up to the next space or the FEN's end. Of a FEN with fewer fields it is the
 -- empty text at the end

@@ -33,8 +33,7 @@ playing arguments = record { arguments = arguments; plays = true }
 -- the line that the stub sends after a move for the argument `offer` or `claim` (a claim of a draw); `None` for any
 -- other
 abbrev pub remark : List ℕ → Option (List ℕ)
-remark argument =
-    if bytes_eq argument (codes "offer") then Some (codes "offer draw\n")
+remark argument = if bytes_eq argument (codes "offer") then Some (codes "offer draw\n")
     else if bytes_eq argument (codes "claim") then Some (codes "1/2-1/2 {Draw by repetition}\n")
     else None
 
