@@ -59,6 +59,12 @@ names_of tokens = shown_tag tokens (codes "White") ++ (codes " - " ++ (shown_tag
 
 -- ---- the reports on the games of a text
 
+-- the report on a fault of a text that begins at the offset `start` of the input, with this explanation; offsets in the
+-- text become offsets in the input
+abbrev pub fault_in : ℕ → List ℕ → GameFault → List ℕ → Report
+fault_in start text fault why = Faulty (record fault { offset = start + fault.offset })
+    (start + fault.offset + (wrong_part fault.kind (drop fault.offset text)).0) why
+
 -- these are the reports on the games of `text`, which begins at the offset `start` of the input: on those from the
 -- text's offset `at` on (the last argument but one), up to the first with a fault
 pub data AreReports (strict : Bool) (start : ℕ) (text : List ℕ) : ℕ → List Placed → Type 0 where
@@ -81,9 +87,7 @@ pub data AreReports (strict : Bool) (start : ℕ) (text : List ℕ) : ℕ → Li
         begin = start + game_begin text at;
         end = start + length text;
         names = Some (names_of game.tokens);
-        report = Faulty (record fault { offset = start + fault.offset })
-            (start + fault.offset + (wrong_part fault.kind (drop fault.offset text)).0)
-            (explanation s (drop fault.offset text) fault.kind reason);
+        report = fault_in start text fault (explanation s (drop fault.offset text) fault.kind reason);
       } ∷ [])
 
 -- ---- the reports on the games of pieces
