@@ -86,7 +86,7 @@ levels_by text white black = do
   second ← option_map_or level_reading black (Ok level)
   Ok (first, second)
 
--- the time controls of the engines of `--white` and `--black`; without any it is `40 5 0`
+-- the time controls of the engines of `--white` and `--black`: each its own, or that of `--level`, or `40 5 0`
 abbrev pub levels_asked : Values → Result (LevelSeen × LevelSeen) LevelFault
 levels_asked value = levels_by (unwrap_or (value (codes "level")) (codes "40 5 0")) (value (codes "white-level"))
     (value (codes "black-level"))

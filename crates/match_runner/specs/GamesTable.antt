@@ -83,7 +83,8 @@ pub record StepsPass {S : Type 0} (old new : List S → Type 0) (steps : List S)
 abbrev pub steps_by : (List ℕ → GamesStep) → GamesPlan → ℕ → GameRecord → List GamesStep
 steps_by write plan number played =
     AtHost (Starts (engine_command plan number White) (engine_command plan number Black) plan.patience.reply
-    played.before.engines) ∷ Plays (record played { killed = none_killed }) ∷ write (game_text plan number played)
+    played.before.engines)
+    ∷ Plays (record played { killed = none_killed }) ∷ write (game_text plan number played)
     ∷ AtHost (Finishes played.after.engines plan.patience.reply played.killed) ∷ []
 
 -- the step of a game with this number whose engines can't be started for this reason

@@ -29,9 +29,8 @@ abbrev pub lines_in : List ℕ → List (List ℕ)
 lines_in [] = []
 lines_in (b ∷ bs) = if b == new_line then [] ∷ lines_in bs else onto_first b (lines_in bs)
 
--- what the log has for a note: one line, but for `Gives` one for each line that the engine is sent, which for `Opened`
--- are the opening. `moment` is the clock's reading at the last `Line`, `Silent` or `Opened` before this note, or 0
--- before any
+-- what the log has for a note: one line, but for `Gives` one for each line that the engine is sent, and so for `Opened`
+-- none. `moment` is the clock's reading at the last `Line`, `Silent` or `Opened` before this note, or 0 before any
 abbrev pub note_text : Colour → ℕ → Note → List ℕ
 note_text first moment (Happened (Line c (Some text) now)) = log_line first now (byte "<") c text
 note_text first moment (Happened (Line c None now)) = log_line first now (byte "!") c (codes "line too long")
