@@ -1,9 +1,8 @@
 -- Which rights the letters of a FEN name: in normal chess K, Q, k and q (PGN standard of 1994, section 16.1.3.3); in
 -- Chess960 a rook by its file (Shredder-FEN), or the outermost one by its side (X-FEN).
-use Rattle.std.specs.Prelude.{ℕ, ◌+◌, ◌-◌, ◌==◌, nat_lt, Bool, false, not, ◌&&◌, ◌||◌, List, [], ◌∷◌, map, find, Option, Some, None, is_some, if◌then◌else◌}
-use Rattle.std.specs.Bool.{then_some}
+use Rattle.std.specs.Prelude.{ℕ, ◌+◌, ◌-◌, ◌==◌, nat_lt, Bool, true, false, not, ◌&&◌, ◌||◌, List, [], ◌∷◌, map, find, Option, Some, None, if◌then◌else◌}
 use Rattle.std.specs.List.{list_all, filter}
-use Rattle.std.specs.Option.{option_flatten, option_map_or}
+use Rattle.std.specs.Option.{option_map_or}
 use Rattle.chess_base.specs.declared.man.Colour.{Colour}
 use Rattle.chess_base.specs.declared.man.Colour.TheVariants.{White, Black}
 use Rattle.chess_base.specs.declared.man.CastlingSide.{CastlingSide}
@@ -58,25 +57,43 @@ abbrev pub rook_by : Men → Colour → CastlingSide → ℕ → Option ℕ
 rook_by men c w letter = if letter == side_letter c w then find (λ s. is_man c Rook (man_at men s)) (from_edge c w)
     else Some (home_square c (letter - first_letter c))
 
--- a castling right, from the rooks that the letters which name it give. No letter: it is not there (`Some None`). One
--- letter, with a rook: it is there. Several letters, or one without a rook: it is named wrongly (`None`)
-abbrev pub right_by : List (Option ℕ) → Option (Option ℕ)
-right_by [] = Some None
-right_by (Some s ∷ []) = Some (Some s)
-right_by _ = None
+-- what the letters of a castling field say of a right
+pub data NamedRight : Type 0 where
+  -- no letter names it: it is not there
+  Absent : NamedRight
+  -- it is there, with its rook on this square
+  At : (rook : ℕ) → NamedRight
+  -- it is named wrongly: by several letters, or by one for which there is no rook
+  Wrong : NamedRight
+
+-- a castling right of Chess960, from the rooks that the letters which name it give
+abbrev pub right_by : List (Option ℕ) → NamedRight
+right_by [] = Absent
+right_by (Some s ∷ []) = At s
+right_by _ = Wrong
 
 -- ---- both
 
--- colour c's castling right on side w by the letters of a castling field, as in `right_by`. In normal chess c has it if
--- the side's letter is among them, and the rook's square is the corner; it is never named wrongly
-abbrev pub right_in : Variant → Men → List ℕ → Colour → CastlingSide → Option (Option ℕ)
-right_in Normal men letters c w = Some (then_some (occurs (side_letter c w) letters) (home_square c (rook_file w)))
+-- colour c's castling right on side w by the letters of a castling field. In normal chess c has it if the side's letter
+-- is among them, with the rook in the corner
+abbrev pub right_in : Variant → Men → List ℕ → Colour → CastlingSide → NamedRight
+right_in Normal men letters c w = if occurs (side_letter c w) letters then At (home_square c (rook_file w)) else Absent
 right_in Fischerandom men letters c w = right_by (map (rook_by men c w) (filter (names_right men c w) letters))
 
--- whether the letters of a castling field name no right wrongly (`right_by`)
+-- whether a right is not named wrongly
+abbrev pub is_named_well : NamedRight → Bool
+is_named_well Wrong = false
+is_named_well _ = true
+
+-- whether the letters of a castling field name no right wrongly
 abbrev pub names_rights_well : Variant → Men → List ℕ → Bool
-names_rights_well v men letters = list_all (λ r. is_some (right_in v men letters r.0 r.1)) all_rights
+names_rights_well v men letters = list_all (λ r. is_named_well (right_in v men letters r.0 r.1)) all_rights
+
+-- the square of a right's rook, if the right is there
+abbrev pub rook_of : NamedRight → Option ℕ
+rook_of (At s) = Some s
+rook_of _ = None
 
 -- the rights that the letters name, without those that are named wrongly
 abbrev pub rights_in : Variant → Men → List ℕ → Rights
-rights_in v men letters = rights_by (λ c w. option_flatten (right_in v men letters c w))
+rights_in v men letters = rights_by (λ c w. rook_of (right_in v men letters c w))

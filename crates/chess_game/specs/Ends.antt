@@ -44,8 +44,7 @@ has_insufficient_material men = not (list_any (λ o. is_kind Pawn o || is_kind R
 -- stalemate, insufficient material, fivefold repetition, and 75 moves of each side without a pawn move or capture, by
 -- the halfmove clock, which continues from that of `start`; `None` if none holds
 unfoldable pub verdict : Setup → List Move → Option Verdict
-verdict start ms =
-    let p = position_after start ms in
+verdict start ms = let p = position_after start ms in
     if length (moves p) == 0
     then Some (if is_in_check p.men p.side then by_colour WhiteMates BlackMates (other p.side) else Stalemate)
     else if has_insufficient_material p.men then Some InsufficientMaterial

@@ -105,8 +105,7 @@ IsMatchFrom r m (block ∷ due) (Sends sent ∷ H) final = (block ≡ sent) × I
 IsMatchFrom r m (block ∷ due) (SendFails sent ∷ H) final =
     let next = after_failed_send r m due sent.to in (block ≡ sent) × IsMatchFrom r next.0 next.1 H final
 -- no block is due: an event that may come in this phase happens
-IsMatchFrom r m [] (Happens event ∷ H) final =
-    let done = effect r m event in
+IsMatchFrom r m [] (Happens event ∷ H) final = let done = effect r m event in
     MayCome r.patience m.phase event × IsMatchFrom r done.after (due_after event done) H final
 -- no act is left: no block is due, and the match is over
 IsMatchFrom r m [] [] final = (is_over m.phase ≡ true) × (final ≡ m)

@@ -230,8 +230,7 @@ awaited_since moment m = record m { since = Some moment }
 -- the rules allow, the match ends by this fault. Otherwise nothing changes, but that the time for the match's first
 -- line runs from its first silence
 abbrev pub reply_row : Rules → Colour → MatchFault → ℕ → Match → Effect
-reply_row r S fault moment m =
-    let since = unwrap_or m.since moment in
+reply_row r S fault moment m = let since = unwrap_or m.since moment in
     if option_map_or (λ limit. nat_lt limit (moment - since)) r.patience.reply false then ends r (Faulted S fault) m
     else sends_nothing (awaited_since since m)
 

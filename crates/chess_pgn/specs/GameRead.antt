@@ -63,8 +63,7 @@ pub data Row : Type 0 where
 -- what a move at the offset `at` does in the game `s` of at most `limit` half-moves: a fault if the board has a verdict
 -- (a move after the end) or if the game is full (too long); otherwise what `allowed` says
 abbrev pub unless_over : ℕ → State → ℕ → Row → Row
-unless_over limit s at allowed =
-    if is_some (verdict_now s) then Fails AfterEnd at
+unless_over limit s at allowed = if is_some (verdict_now s) then Fails AfterEnd at
     else if nat_lt (length s.moves) limit then allowed
     else Fails TooLong at
 
