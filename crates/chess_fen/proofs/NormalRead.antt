@@ -76,7 +76,8 @@ steps_kept c (Some men) (Some colour) true (Some target) (Some halfmove) None = 
 steps_kept c (Some men) (Some colour) true (Some target) (Some halfmove) (Some fullmove) =
     let p : Setup = normal_setup men colour target halfmove fullmove (normal_rights_named c) in
     ap (λ (r : Rights). unless_fault (normal_setup men colour target halfmove fullmove r)
-    (first_failing (conditions_if (names_rights_well Normal men c) (normal_setup men colour target halfmove fullmove r))))
+    (first_failing (conditions_if (names_rights_well Normal men c)
+    (normal_setup men colour target halfmove fullmove r))))
     (rights_as_options Normal men c)
     ∙ ap (λ (b : Bool). unless_fault p (first_failing (conditions_if b p))) (wells_as_options Normal men c)
     ∙ ap (unless_fault p) (fault_kept p refl)

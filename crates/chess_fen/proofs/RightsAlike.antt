@@ -178,7 +178,8 @@ module _ (men : Men) (colour : Colour) (target : Option ℕ) (halfmove fullmove 
       ≡ read v (rights_by (right_by_letters v men letters))
   alike v letters =
       ap (λ (r : Rights). said v r (names_rights_well v men letters)) (rights_as_options v men letters)
-      ∙ ap (λ (b : Bool). said v (rights_by_options v men letters) b) (wells_as_options v men letters) ∙ by_options v letters
+      ∙ ap (λ (b : Bool). said v (rights_by_options v men letters) b) (wells_as_options v men letters)
+      ∙ by_options v letters
 
 -- ---- the fields
 

@@ -107,9 +107,12 @@ same_tests : (f g : Colour → CastlingSide → Bool) → ((c : Colour) (w : Cas
     ≡ (g White KingSide && (g White QueenSide && (g Black KingSide && (g Black QueenSide && true))))
 same_tests f g h =
     ap (λ (b : Bool). b && (f White QueenSide && (f Black KingSide && (f Black QueenSide && true)))) (h White KingSide)
-    ∙ ap (λ (b : Bool). g White KingSide && (b && (f Black KingSide && (f Black QueenSide && true)))) (h White QueenSide)
-    ∙ ap (λ (b : Bool). g White KingSide && (g White QueenSide && (b && (f Black QueenSide && true)))) (h Black KingSide)
-    ∙ ap (λ (b : Bool). g White KingSide && (g White QueenSide && (g Black KingSide && (b && true)))) (h Black QueenSide)
+    ∙ ap (λ (b : Bool). g White KingSide && (b && (f Black KingSide && (f Black QueenSide && true))))
+    (h White QueenSide)
+    ∙ ap (λ (b : Bool). g White KingSide && (g White QueenSide && (b && (f Black QueenSide && true))))
+    (h Black KingSide)
+    ∙ ap (λ (b : Bool). g White KingSide && (g White QueenSide && (g Black KingSide && (b && true))))
+    (h Black QueenSide)
 
 pub wells_as_options : (v : Variant) (men : Men) (letters : List ℕ)
     → names_rights_well v men letters ≡ options_are_well v men letters

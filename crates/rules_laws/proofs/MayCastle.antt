@@ -118,13 +118,15 @@ empty_from : (men : Men) (c : Colour) (w : CastlingSide) → AllByRecursion (λ 
 empty_from men White KingSide h = castling_way_is_empty_by men (castling_of White KingSide) ∙ each_square-all _ (λ x l.
     two_left men x 5 6 (not (on_either (castling_of White KingSide) x)) (x == 4) (x == 7)
     (each_square-at empty_white_king white_king_way x l) h.0 h.1.0)
-empty_from men White QueenSide h = castling_way_is_empty_by men (castling_of White QueenSide) ∙ each_square-all _ (λ x l.
+empty_from men White QueenSide h =
+    castling_way_is_empty_by men (castling_of White QueenSide) ∙ each_square-all _ (λ x l.
     three_left men x 1 2 3 (not (on_either (castling_of White QueenSide) x)) (x == 4) (x == 0)
     (each_square-at empty_white_queen white_queen_way x l) h.0 h.1.0 h.1.1.0)
 empty_from men Black KingSide h = castling_way_is_empty_by men (castling_of Black KingSide) ∙ each_square-all _ (λ x l.
     two_left men x 61 62 (not (on_either (castling_of Black KingSide) x)) (x == 60) (x == 63)
     (each_square-at empty_black_king black_king_way x l) h.0 h.1.0)
-empty_from men Black QueenSide h = castling_way_is_empty_by men (castling_of Black QueenSide) ∙ each_square-all _ (λ x l.
+empty_from men Black QueenSide h =
+    castling_way_is_empty_by men (castling_of Black QueenSide) ∙ each_square-all _ (λ x l.
     three_left men x 57 58 59 (not (on_either (castling_of Black QueenSide) x)) (x == 60) (x == 56)
     (each_square-at empty_black_queen black_queen_way x l) h.0 h.1.0 h.1.1.0)
 
