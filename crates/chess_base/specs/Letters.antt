@@ -14,8 +14,8 @@ use Rattle.chess_base.specs.Squares.{file, rank}
 abbrev pub byte : Text → ℕ
 byte text = slice_index_or (codes text) 0 0
 
--- the byte of the capital letter of a kind of piece, N for a knight. SAN uses it for both colours, but none for a
--- pawn's move; FEN uses it for White's pieces only (PGN standard of 1994, sections 8.2.3.2 and 16.1.3.1)
+-- the capital letter of a kind of piece, N for a knight: White's in FEN (PGN standard of 1994, section 16.1.3.1), both
+-- colours' in SAN (8.2.3.2)
 abbrev pub white_letter : Kind → ℕ
 white_letter Pawn = byte "P"
 white_letter Knight = byte "N"
@@ -24,8 +24,7 @@ white_letter Rook = byte "R"
 white_letter Queen = byte "Q"
 white_letter King = byte "K"
 
--- the letter of a kind of piece in a colour, as in FEN: White's are capital, Black's small (byte + 32): N and n for
--- knights
+-- the letter of a kind of piece in a colour, as in FEN: Black's are small (byte + 32)
 abbrev pub letter_by : Colour → Kind → ℕ
 letter_by c k = by_colour (white_letter k) (white_letter k + 32) c
 

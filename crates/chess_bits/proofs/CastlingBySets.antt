@@ -26,6 +26,7 @@ use Rattle.chess_base.specs.Squares.{rank, each_square, some_square, squares}
 use Rattle.chess_base.proofs.shared.Castling.{right_is_sound_of, placed_for_right, says_from_castling, castling_says, castle_there, no_castle, castled_king_file-below, castled_rook_file-below}
 use Rattle.chess_base.proofs.shared.Changes.{no_en_passant}
 use Rattle.chess_base.proofs.shared.Men.{in_board, is_man-kind}
+use Rattle.chess_base.proofs.shared.Parts.{castling_way_is_empty_by}
 use Rattle.chess_moves.proofs.shared.AnyMove.{any-filter}
 use Rattle.chess_moves.specs.Promoting.{would_promote}
 use Rattle.chess_moves.specs.Sets.{contains, members}
@@ -111,9 +112,10 @@ pub way_is_empty : (men : Men) (k : Castle) (met : ℕ → Bool)
     ((((is_on_way k.king_from k.king_to x || is_on_way k.rook_from k.rook_to x) && not (x == k.king_from))
     && not (x == k.rook_from)) && not (is_none (man_at men x))))
     → not (some_square met) ≡ castling_way_is_empty men k
-unfolding castling_way_is_empty
 way_is_empty men k met h =
-    sym (each_not _ met
+    sym (castling_way_is_empty_by men k
+    ∙ each_not (λ x. not (is_on_way k.king_from k.king_to x || is_on_way k.rook_from k.rook_to x) || (x == k.king_from)
+    || (x == k.rook_from) || is_none (man_at men x)) met
     (λ x low. crossed (is_on_way k.king_from k.king_to x) (is_on_way k.rook_from k.rook_to x) (x == k.king_from)
     (x == k.rook_from) (is_none (man_at men x)) ∙ ap not (sym (h x low))))
 

@@ -23,8 +23,8 @@ use Rattle.chess_base.specs.shared.Splits.{right_is_sound_at}
 use Rattle.chess_fen.specs.ties.Loops.{or_dash, right_text}
 use Rattle.chess_fen.proofs.RightLetters.{rights_are}
 use Rattle.chess_fen.specs.Texts.{first_letter, names_file, may_name_right, is_castling_field}
-use Rattle.chess_fen.specs.RightNames.{side_letter, is_towards, right_by, right_in}
-use Rattle.chess_fen.proofs.RooksNamed.{names_right, rook_by, in_chess960}
+use Rattle.chess_fen.specs.RightNames.{side_letter, is_towards, names_right, rook_by}
+use Rattle.chess_fen.proofs.RooksNamed.{option_by, option_in, in_chess960}
 use Rattle.chess_fen.specs.ties.Reader.{times, names_once}
 use Rattle.chess_fen.specs.Writing.{rights_text}
 use Rattle.chess_fen.proofs.Joined.{all_append}
@@ -201,15 +201,15 @@ own_letters men r Black QueenSide s =
     ) refl
 
 one_right : (men : Men) (c : Colour) (w : CastlingSide) (o : Option ℕ) → right_is_sound_at Fischerandom men c w o ≡ true
-    → right_by (map (rook_by men c w) (right_text Fischerandom c w o)) ≡ Some o
+    → option_by (map (rook_by men c w) (right_text Fischerandom c w o)) ≡ Some o
 one_right men c w None e = refl
 one_right men c w (Some s) e =
-    ap (λ rook. right_by (rook ∷ [])) (rook_own men c w s (beside men c w s e).rook_rank)
+    ap (λ rook. option_by (rook ∷ [])) (rook_own men c w s (beside men c w s e).rook_rank)
 
 pub right_back : (men : Men) (r : Rights) (c : Colour) (w : CastlingSide) → Stand Fischerandom men r
-    → right_in Fischerandom men (rights_text Fischerandom r) c w ≡ Some (right_of r c w)
+    → option_in Fischerandom men (rights_text Fischerandom r) c w ≡ Some (right_of r c w)
 right_back men r c w s =
-    in_chess960 men c w (rights_text Fischerandom r) ∙ ap (λ letters. right_by (map (rook_by men c w) letters)) (own_letters men r c w s)
+    in_chess960 men c w (rights_text Fischerandom r) ∙ ap (λ letters. option_by (map (rook_by men c w) letters)) (own_letters men r c w s)
     ∙ one_right men c w (right_of r c w) (s c w)
 
 -- ---- they are letters of rights, none twice

@@ -2,6 +2,7 @@
 use Rattle.std.proofs.Common.{◌≡◌, ℕ, zero, suc, ◌+◌, ◌*◌, ◌<◌, ◌≤◌, inl, inr, true, eqb, leb, ltb, List, [], ◌∷◌, ◌++◌, length, take, drop, map, Option, Some, None, refl, sym, ap, subst, ◌∙◌, arith, rules}
 use Rattle.std.specs.Prelude.{replicate, decimal, is_some, Ok, max}
 use Rattle.std.specs.Bool.{then_some}
+use Rattle.std.specs.Option.{option_flatten}
 use Rattle.std.specs.List.{AllZip, list_all, slice_split}
 use Rattle.std.proofs.lemmas.Bool.Decides.{nat_tests}
 use Rattle.std.proofs.lemmas.List.{append-nil, length-take, length-drop, take_all, length-append}
@@ -26,7 +27,7 @@ use Rattle.chess_base.specs.shared.Splits.{right_is_sound_at}
 use Rattle.chess_base.proofs.shared.Castling.{right_is_sound_of}
 use Rattle.std.proofs.Math.Seq.{take-add}
 use Rattle.text_lines.specs.Words.{short_number}
-use Rattle.chess_fen.specs.RightNames.{side_letter, right_in, names_rights_well}
+use Rattle.chess_fen.specs.RightNames.{side_letter, right_in, names_rights_well, rook_of}
 use Rattle.chess_fen.specs.Texts.{from_top, placement_of, occurs, may_name_right, is_castling_field, fields_of}
 use Rattle.chess_fen.specs.Writing.{fen_rank, placement_text, side_text, rights_text, target_text, fen}
 use Rattle.chess_fen.specs.Denotation.{DenotesSquares, DenotesRank}
@@ -35,6 +36,7 @@ use Rattle.chess_fen.specs.ties.Loops.{or_dash, ranks_down, run_text, row_text, 
 use Rattle.chess_fen.proofs.DenotedFields.{placement-denoted, side-text, target-denoted}
 use Rattle.chess_fen.proofs.RightLetters.{letters, rights_are}
 use Rattle.chess_fen.proofs.RightsBack.{Stand, right_back, text_is_castling}
+use Rattle.chess_fen.proofs.RooksNamed.{option_in, options_are_well, rook_is, wells_as_options}
 use Rattle.chess_fen.proofs.WrittenRanks.{moved, row_is}
 use Rattle.chess_fen.proofs.Lengths.{short_decimal}
 use Rattle.chess_fen.proofs.FenBytes.{target_fits, rows_plain, fields, counters_fit, fields_plain}
@@ -108,7 +110,7 @@ right_read men r s c w = ap (λ b. then_some b (home_square c (rook_file w)))
 -- what is written for the rights of a position has the form of a castling field, and names them
 record ReadBack (v : Variant) (men : Men) (r : Rights) : Type 0 where
   castling : is_castling_field v (rights_text v r) ≡ true
-  rights : (c : Colour) (w : CastlingSide) → right_in v men (rights_text v r) c w ≡ Some (right_of r c w)
+  rights : (c : Colour) (w : CastlingSide) → option_in v men (rights_text v r) c w ≡ Some (right_of r c w)
 
 are_read : (v : Variant) (men : Men) (r : Rights) → Stand v men r → ReadBack v men r
 are_read Normal men r s =
@@ -226,13 +228,19 @@ fen_fields p h =
       ),
     )
 
+-- the rights that are read of what is written
+rights_back : (p : Setup) → ReadBack p.variant p.men p.rights → (c : Colour) (w : CastlingSide)
+    → rook_of (right_in p.variant p.men (rights_text p.variant p.rights) c w) ≡ right_of p.rights c w
+rights_back p back c w = rook_is p.variant p.men (rights_text p.variant p.rights) c w
+    ∙ ap (λ (o : Option (Option ℕ)). option_flatten o) (back.rights c w)
+
 pub written-fen : (p : Setup) → IsSound p → denoted_in p.variant (fields_of (fen p)) ≡ Ok p
 written-fen p h =
     let fit = counters_fit p h in
     let some : 0 < p.fullmove = let e = h.fullmove_low in grind (arith, nat_tests, e) in
     let counted : max p.fullmove 1 ≡ p.fullmove = omega (arith, some) in
     let back = read_back p h in
-    let t = back.rights in
+    let t = rights_back p back in
     ap (denoted_in p.variant) (fen_fields p h) ∙ rw (
       placement-text p.men h.board,
       side-text p.side,
@@ -250,6 +258,7 @@ written-fen p h =
 pub written-well : (p : Setup) → IsSound p → names_rights_well p.variant p.men (third (fields_of (fen p))) ≡ true
 written-well p h =
     let t = (read_back p h).rights in
-    let well : names_rights_well p.variant p.men (rights_text p.variant p.rights) ≡ true =
+    let well : options_are_well p.variant p.men (rights_text p.variant p.rights) ≡ true =
     rw (t White KingSide, t White QueenSide, t Black KingSide, t Black QueenSide) refl in
-    ap (λ fields. names_rights_well p.variant p.men (third fields)) (fen_fields p h) ∙ well
+    ap (λ fields. names_rights_well p.variant p.men (third fields)) (fen_fields p h)
+    ∙ wells_as_options p.variant p.men (rights_text p.variant p.rights) ∙ well

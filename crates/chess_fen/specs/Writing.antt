@@ -38,8 +38,8 @@ placement_text men = join_with_byte (byte "/")
 abbrev pub side_text : Colour → List ℕ
 side_text = by_colour (codes "w") (codes "b")
 
--- a FEN's third field: the letters (`right_letter`) of the castling rights that are there, in the order of
--- `all_rights`, in normal chess KQkq; a dash if there are none
+-- a FEN's third field: the letters of the castling rights that are there, in normal chess KQkq; a dash if there are
+-- none
 abbrev pub rights_text : Variant → Rights → List ℕ
 rights_text v rights =
     let letters = filter_map (λ r. option_map (right_letter v r.0 r.1) (right_of rights r.0 r.1)) all_rights in
@@ -54,7 +54,6 @@ abbrev pub fen : Setup → List ℕ
 fen p = join_with_byte space (placement_text p.men ∷ side_text p.side ∷ rights_text p.variant p.rights ∷ target_text
     p.target ∷ decimal p.halfmove ∷ decimal p.fullmove ∷ [])
 
--- whether a position has the FEN of normal chess's initial position. Of all sound positions only that one has it: no
--- two sound positions of normal chess have the same FEN, and in Chess960 rights have other letters
+-- whether a position has the FEN of normal chess's initial position; of all sound positions only that one has it
 abbrev pub is_initial : Setup → Bool
 is_initial start = bytes_eq (fen start) (fen initial_setup)

@@ -16,8 +16,8 @@ use Rattle.cecp_engine.specs.Levels.{LevelSeen}
 use Rattle.cecp_engine.specs.Items.{Item, takes}
 use Rattle.cecp_engine.specs.Seen.{features_of}
 use Rattle.chess_match.specs.Acts.{is_over}
-use Rattle.chess_match.specs.Effects.{Match, Phase, Handshake, Opening, BeforeMove, Over, Effect, awaited_since, begins_turn, clock, ends, handshake_row, is_owed_move, line_row, moved, reply_row, sends_nothing, sends_to, over_by_position, silence_row, unless_over, with_seat}
-use Rattle.chess_match.specs.shared.Parts.{enter, with_answers, answers_to, counted}
+use Rattle.chess_match.specs.Effects.{Match, Phase, Handshake, Opening, BeforeMove, Over, Effect, awaited_since, begins_turn, clock, ends, handshake_row, is_owed_move, line_row, moved, reply_row, sends_nothing, sends_to, over_by_position, silence_row, unless_over, with_seat, with_answers, answers_to}
+use Rattle.chess_match.specs.shared.Parts.{enter, counted}
 use Rattle.chess_match.specs.Events.{Seat}
 use Rattle.chess_match.specs.Lines.{SentLine, Says}
 use Rattle.chess_match.specs.Reasons.{is_write_fault_of, reported_reason}

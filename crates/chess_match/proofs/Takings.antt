@@ -7,10 +7,9 @@ use Rattle.chess_base.specs.Men.{other}
 use Rattle.cecp_engine.specs.Items.{Item}
 use Rattle.text_lines.specs.Lines.{LineSeen}
 use Rattle.chess_match.specs.Acts.{Happens, awaits_line}
-use Rattle.chess_match.specs.Effects.{Match, effect}
+use Rattle.chess_match.specs.Effects.{Match, effect, answers_to}
 use Rattle.chess_match.specs.Events.{Event, OutputEnds, FailsToRead}
 use Rattle.chess_match.specs.Lines.{bytes_of}
-use Rattle.chess_match.specs.shared.Parts.{answers_to}
 use Rattle.chess_match.specs.Rules.{Rules}
 use Rattle.chess_match.specs.Run.{text_read}
 use Rattle.chess_match.specs.Table.{Does, LooksFor, ReadsLine, FindsNoLine, Passing, Passes, reading_until}

@@ -13,8 +13,8 @@ use Rattle.cecp_engine.specs.EngineLines.{LineKind}
 use Rattle.chess_match.specs.laws.Laws.{line_kind, lines_given, match_after}
 use Rattle.cecp_engine.specs.Items.{Item}
 use Rattle.chess_match.specs.Acts.{Act, Block, IsMatch, IsMatchFrom, awaits_line, is_over, block_of, blocks_from}
-use Rattle.chess_match.specs.Effects.{Match, Handshake, Setup, Opening, BeforeMove, AfterMove, Effect, beginning, begins_turn, effect, ends, handshake_lines, line_row, moved}
-use Rattle.chess_match.specs.shared.Parts.{enter, blocks_after, answers_to}
+use Rattle.chess_match.specs.Effects.{Match, Handshake, Setup, Opening, BeforeMove, AfterMove, Effect, beginning, begins_turn, effect, ends, handshake_lines, line_row, moved, answers_to}
+use Rattle.chess_match.specs.shared.Parts.{enter, blocks_after}
 use Rattle.chess_match.specs.Events.{Line}
 use Rattle.chess_match.specs.Lines.{SentLine, Says, MoveSent, Time, Otim, setup_lines}
 use Rattle.chess_match.specs.Rules.{Rules}

@@ -13,9 +13,8 @@ use Rattle.chess_base.proofs.shared.Men.{same_colour-self, same_colour-true}
 use Rattle.cecp_engine.specs.EngineLines.{LineKind}
 use Rattle.cecp_engine.specs.Items.{Item}
 use Rattle.chess_match.specs.Acts.{Block, Happens, IsMatchFrom, awaits_line}
-use Rattle.chess_match.specs.Effects.{Match, Phase, Handshake, Setup, Opening, BeforeMove, AfterMove, Over, beginning, begins_turn, ends, handshake_lines, line_row, moved, opening}
+use Rattle.chess_match.specs.Effects.{Match, Phase, Handshake, Setup, Opening, BeforeMove, AfterMove, Over, beginning, begins_turn, ends, handshake_lines, line_row, moved, opening, answers_to}
 use Rattle.chess_match.specs.Events.{Opened}
-use Rattle.chess_match.specs.shared.Parts.{answers_to}
 use Rattle.chess_match.specs.Lines.{SentLine, setup_lines}
 use Rattle.chess_match.specs.Rules.{Rules}
 use Rattle.chess_match.specs.declared.reason.Reason.{Reason}

@@ -11,8 +11,7 @@ use Rattle.chess_base.specs.Options.{list_if}
 use Rattle.cecp_engine.specs.EngineLines.{LineKind}
 use Rattle.cecp_engine.specs.Items.{Item}
 use Rattle.chess_match.specs.Acts.{awaits_line}
-use Rattle.chess_match.specs.Effects.{Match, Phase, Handshake, Setup, Opening, BeforeMove, AfterMove, Over, beginning, ends, handshake_lines, line_row, moved, opening, ping_number}
-use Rattle.chess_match.specs.shared.Parts.{answers_to}
+use Rattle.chess_match.specs.Effects.{Match, Phase, Handshake, Setup, Opening, BeforeMove, AfterMove, Over, beginning, ends, handshake_lines, line_row, moved, opening, ping_number, answers_to}
 use Rattle.chess_match.specs.Lines.{SentLine, ping, setup_lines}
 use Rattle.chess_match.specs.Rules.{Rules}
 use Rattle.chess_match.specs.declared.reason.Reason.{Reason}

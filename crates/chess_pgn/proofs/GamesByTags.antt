@@ -55,7 +55,7 @@ module _ (limit total : ℕ) (termination : Option Termination) (met begun : Boo
   by_reading : (left : ℕ) (word : List ℕ) (over room : Bool) (r : Reading)
       → is_some (verdict_now s) ≡ over → nat_lt (length s.moves) limit ≡ room
       → read_rest_with (move_step limit (so_far met begun termination s) (total - left) r) later
-      ≡ after_row total termination s left (move_row limit s left r) next
+      ≡ after_row termination s (move_row limit s (total - left) r) next
   by_reading left word over room reads.NotAMove o e = refl
   by_reading left word true room (reads.Move m) o e = rw o refl
   by_reading left word false true (reads.Move m) o e = rw (o, e) (same (played s m))
@@ -71,15 +71,15 @@ module _ (limit total : ℕ) (termination : Option Termination) (met begun : Boo
   by_kind : {K : Type 0} (left : ℕ) (word : List ℕ) (end : Outcome → K) (number marks move : K) (steps : K → Step)
       (o : Option Outcome) (is_number is_mark : Bool)
       → ((o : Outcome) → read_rest_with (steps (end o)) later
-      ≡ after_row total termination s left (Ends o (length word)) next)
+      ≡ after_row termination s (Ends o (total - left + length word)) next)
       → read_rest_with (steps number) later ≡ next s
       → (option_map_or end o (cond is_number number (cond is_mark marks move)) ≡ marks
       → read_rest_with (steps marks) later ≡ next s)
       → read_rest_with (steps move) later
-      ≡ after_row total termination s left (move_row limit s left (reading (current s) word)) next
+      ≡ after_row termination s (move_row limit s (total - left) (reading (current s) word)) next
       → read_rest_with (steps (option_map_or end o (cond is_number number (cond is_mark marks move)))) later
-      ≡ after_row total termination s left (option_map_or (λ k. Ends k (length word)) o
-      (cond (is_number || is_mark) (Goes_on s) (move_row limit s left (reading (current s) word)))) next
+      ≡ after_row termination s (option_map_or (λ k. Ends k (total - left + length word)) o
+      (cond (is_number || is_mark) (Goes_on s) (move_row limit s (total - left) (reading (current s) word)))) next
   by_kind left word end number marks move steps (Some o) is_number is_mark e n m r = e o
   by_kind left word end number marks move steps None true is_mark e n m r = n
   by_kind left word end number marks move steps None false true e n m r = m refl
@@ -88,7 +88,7 @@ module _ (limit total : ℕ) (termination : Option Termination) (met begun : Boo
   by_word : (left : ℕ) (word : List ℕ)
       → (word_kind word ≡ Marks → later (so_far met begun termination s) ≡ next s)
       → read_rest_with (step limit total (so_far met begun termination s) left (Word word)) later
-      ≡ after_row total termination s left (row limit s (left, Word word)) next
+      ≡ after_row termination s (row limit total s (left, Word word)) next
   by_word left word marks =
       by_kind left word End Number Marks Move
       (λ k. word_step limit (so_far met begun termination s) (total - left) word k) (outcome_of word)
@@ -107,7 +107,7 @@ moves_are limit total termination s (t ∷ ts) =
     by_token : (left : ℕ) (t : Token)
         → ((r : State) → game_of limit total (started termination r) ts ≡ moves_read limit total termination r ts)
         → read_rest_with (step limit total (started termination s) left t) (λ g. game_of limit total g ts)
-        ≡ after_row total termination s left (row limit s (left, t)) (λ r. moves_read limit total termination r ts)
+        ≡ after_row termination s (row limit total s (left, t)) (λ r. moves_read limit total termination r ts)
     by_token left Skip same = same s
     by_token left (Tag name string at_string) same = refl
     by_token left (Word word) same = by_word limit total termination true true s (λ g. game_of limit total g ts)

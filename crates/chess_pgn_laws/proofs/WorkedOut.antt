@@ -64,9 +64,9 @@ unfolding token_at tokens_of tokens_from
 game_is_read m over says = record {
   tokens = tokens;
   split = read_split text 0;
-  is = sym (ap (λ (r : Row). after_row 19 None start 4 r
+  is = sym (ap (λ (r : Row). after_row None start r
       (λ next. moves_read 1 19 None next ((2, Skip) ∷ (1, Word (codes "*")) ∷ [])))
-      (move_plays 1 start 4 m (reading (current start) (codes "e4")) says over refl));
+      (move_plays 1 start 15 m (reading (current start) (codes "e4")) says over refl));
 }
 
 -- a text is read as its tokens say

@@ -14,11 +14,9 @@ use Rattle.match_runner.specs.declared.log.Log.{Log}
 
 -- ---- one line
 
--- a line of a log as it is written, such as `312 <first : move e2e4`, with `\n` at its end: a moment, which is a
--- reading of the clock in milliseconds, or 0 if it was not yet read; a mark; the engine; and a text. The mark is the
--- byte `<` if the engine sent the text; `>` if it was sent the text, even if sending it failed; `!` if the text says
--- what happened. The engine has the side `side`. It is called `first` if it is that of `--white`, which has the side
--- given as `first`, and otherwise `second`. In the text, `?` stands for each byte that is no printable ASCII
+-- a line of a log, such as `312 <first : move e2e4`: a moment in milliseconds; a mark, `<` if the engine sent the text,
+-- `>` if it was sent it (even if that failed), `!` if the text says what happened; the engine of the side `side`,
+-- `first` if it is that of `--white`, which has the side given as `first`; and the text
 abbrev pub log_line : Colour → ℕ → ℕ → Colour → List ℕ → List ℕ
 log_line first moment mark side text =
     decimal moment ++ (byte " " ∷ mark ∷ []) ++ (if same_colour side first then codes "first : " else codes "second: ")
@@ -31,10 +29,8 @@ abbrev pub lines_in : List ℕ → List (List ℕ)
 lines_in [] = []
 lines_in (b ∷ bs) = if b == new_line then [] ∷ lines_in bs else onto_first b (lines_in bs)
 
--- what the log has for a note: one line, but for `Gives` one for each line that the engine is sent, and for `Opened`
--- none, as a `Gives` has the lines that open the turn. The line of a `Line` or a `Silent` has its own moment, `now`;
--- the others have `moment`, the clock's reading at the last `Line`, `Silent` or `Opened` before this note, or 0 if
--- there was none. `first` is the side of the engine of `--white`
+-- what the log has for a note: one line, but for `Gives` one for each line that the engine is sent, and so for `Opened`
+-- none. `moment` is the clock's reading at the last `Line`, `Silent` or `Opened` before this note, or 0 before any
 abbrev pub note_text : Colour → ℕ → Note → List ℕ
 note_text first moment (Happened (Line c (Some text) now)) = log_line first now (byte "<") c text
 note_text first moment (Happened (Line c None now)) = log_line first now (byte "!") c (codes "line too long")
@@ -45,26 +41,23 @@ note_text first moment (Happened (FailsToRead c)) = log_line first moment (byte 
 note_text first moment (Happened (FailsToWrite c)) = log_line first moment (byte "!") c (codes "write failed")
 note_text first moment (Gives c bytes) = flat_map (log_line first moment (byte ">") c) (lines_in bytes)
 
--- the clock's reading at the last `Line`, `Silent` or `Opened` up to this note: its own (`now`) if it is one of these,
--- and otherwise that of the last one before it (`moment`)
+-- the clock's reading at the last `Line`, `Silent` or `Opened` up to this note; `moment` is that before it
 abbrev pub moment_after : ℕ → Note → ℕ
 moment_after moment (Happened (Line c text now)) = now
 moment_after moment (Happened (Opened c now)) = now
 moment_after moment (Happened (Silent c now)) = now
 moment_after moment _ = moment
 
--- what the log has for these notes, one after another. `first` is the side of the engine of `--white`; `moment` is the
--- clock's reading at the last `Line`, `Silent` or `Opened` before these notes, or 0 if there was none. With 0 and all
--- notes of a game it is the whole log of the game: the clock is first read in it after engines were sent their first
--- lines
+-- what the log has for these notes, one after another; `moment` is as for the first of them. With 0 and all notes of a
+-- game it is the whole log of the game
 abbrev pub log_from : Colour → ℕ → List Note → List ℕ
 log_from first moment [] = []
 log_from first moment (n ∷ notes) = note_text first moment n ++ log_from first (moment_after moment n) notes
 
 -- ---- the output
 
--- what contracts see of a log: the output that it writes to, and whether it is `broken`, as a write or flush failed. A
--- broken log writes nothing more
+-- what contracts see of a log: the output that it writes to, and whether it is `broken`: after a write or flush that
+-- failed it writes nothing more
 pub record LogSeen : Type 0 where
   pub output : OutputState
   pub broken : Bool
@@ -73,15 +66,14 @@ pub record LogSeen : Type 0 where
 abbrev pub log_seen : OutputState → Bool → LogSeen
 log_seen o broken = record { output = o; broken = broken }
 
--- what logging a text writes to the output (`o`), by whether the log is then broken. If it is not (false), all of the
--- text was written and flushed; for an empty text nothing was done. If it is (true), a beginning of the text, maybe
--- nothing or all, was written, some of which may be flushed, and then a write or flush failed
+-- what logging a text writes to the output (`o`), by whether the log is then broken: all of the text, flushed, or
+-- nothing for an empty text; or a beginning of it, maybe nothing or all, partly flushed, before a write or flush failed
 abbrev pub LogsText : Bool → List ℕ → ToOutput → Type 0
 LogsText false text o = o ≡ all_for text text
 LogsText true text o = Begins (o.flushed ++ o.left) text × (o.failed ≡ true)
 
 -- from its state `l` to `l'` a log was given this text to write. A log that is broken in `l` stays as it is, and so
--- does one that is given no text; any other writes and flushes all of the text, or breaks while it does so (`LogsText`)
+-- does one that is given no text; any other writes the text, or breaks while it does so (`LogsText`)
 abbrev pub Logged : LogSeen → LogSeen → List ℕ → Type 0
 Logged l l' text = (l.broken ≡ true → l' ≡ l) × (text ≡ [] → l' ≡ l)
     × (l.broken ≡ false → (o : ToOutput) × OutputTook l.output l'.output o × LogsText l'.broken text o)

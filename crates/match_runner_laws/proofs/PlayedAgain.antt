@@ -14,8 +14,8 @@ use Rattle.chess_base.specs.Options.{list_if}
 use Rattle.chess_game.specs.declared.verdicts.Verdict.{Verdict}
 use Rattle.cecp_engine.specs.EngineLines.{LineKind, Features, Moves, Resigns, OffersDraw, ClaimsDraw, ClaimsWin, Rejects, Answers}
 use Rattle.cecp_engine.specs.Items.{Item, ends_handshake, items_of}
-use Rattle.chess_match.specs.Effects.{Match, Phase, Handshake, Setup, Opening, BeforeMove, AfterMove, Over, Effect, flag_row, before_move, clock, ends, handshake_done, handshake_row, ignores, is_owed_move, judged, awaited_since, line_row, reply_row, silence_row, missing, move_line, move_row, moved, offer_row, over_by_position, ping_number, sends_nothing, sends_to, setup_done, turn_row, with_seat}
-use Rattle.chess_match.specs.shared.Parts.{with_answers, farewell}
+use Rattle.chess_match.specs.Effects.{Match, Phase, Handshake, Setup, Opening, BeforeMove, AfterMove, Over, Effect, flag_row, before_move, clock, ends, handshake_done, handshake_row, ignores, is_owed_move, judged, awaited_since, line_row, reply_row, silence_row, missing, move_line, move_row, moved, offer_row, over_by_position, ping_number, sends_nothing, sends_to, setup_done, turn_row, with_seat, with_answers}
+use Rattle.chess_match.specs.shared.Parts.{farewell}
 use Rattle.chess_text.specs.declared.reading.Reading.{Reading}
 use Rattle.chess_text.specs.declared.reading.Reading.TheVariants as reads
 use Rattle.chess_match.specs.Acts.{awaits_line, is_over}
@@ -26,7 +26,7 @@ use Rattle.chess_match.specs.declared.reason.MatchFault.{MatchFault}
 use Rattle.chess_match.specs.declared.reason.MatchFault.TheVariants.{Flood, NoAnswer, NoDone, NoHandshake}
 use Rattle.chess_match.specs.declared.reason.Reason.{Reason}
 use Rattle.chess_match.specs.Lines.{SentLine, Says, ping}
-use Rattle.chess_match.specs.shared.Parts.{answers_to}
+use Rattle.chess_match.specs.Effects.{answers_to}
 use Rattle.chess_match.specs.Reasons.{is_write_fault_of, reported_reason}
 use Rattle.chess_match.specs.declared.reason.Reason.TheVariants as over_by
 use Rattle.chess_match.proofs.shared.LineCases.{draw_by_itself, over_for}

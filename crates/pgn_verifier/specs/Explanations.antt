@@ -17,23 +17,21 @@ use Rattle.pgn_verifier.specs.WrongParts.{from_field, field_at, field_number, Is
 
 -- ---- the text at a fault
 
--- a word as an explanation shows it, with `?` for each byte that is not printable ASCII; `(end)` in place of an empty
--- one, even if more text follows it
+-- a word as an explanation shows it, with `?` for each byte that is not printable ASCII; `(end)` for an empty one
 abbrev pub shown_word : List ℕ → List ℕ
 shown_word word = if length word == 0 then codes "(end)" else map shown_byte word
 
--- what an explanation shows of a text: its first word (its bytes before the first white space), but at most 40 bytes;
--- `(end)` if it is empty or begins with white space
+-- what an explanation shows of a text: its bytes before the first white space, but at most 40
 abbrev pub shown : List ℕ → List ℕ
 shown text = shown_word (take_while (λ c. not (is_white_space c)) (take 40 text))
 
 -- ---- the part that is wrong
 
--- the part that is wrong: how many bytes after the fault's byte it begins, and what an explanation shows of it. `text`
--- is the text from the fault's byte on
+-- the part that is wrong: how many bytes after the fault's byte it begins, and what is shown of it. `text` is the text
+-- from the fault's byte on
 abbrev pub wrong_part : FaultKind → List ℕ → ℕ × List ℕ
--- of a bad FEN it is the field that is shown for its fault, at most 80 bytes of it; only what comes before the next
--- quote is looked at, even where a backslash before the quote keeps it in the FEN
+-- of a bad FEN it is a field, at most 80 bytes of it; the FEN is looked at only up to its next quote, even one after a
+-- backslash
 wrong_part (Pgn (BadFen fault)) text =
     let all = take_while (λ c. not (c == byte "\"")) text in let number = field_number fault all in
     (length all - length (from_field number all), shown_word (take 80 (field_at number all)))
@@ -70,16 +68,15 @@ has_position (Pgn BadTag) = false
 has_position (Pgn (BadFen fault)) = false
 has_position _ = true
 
--- the text that explains a fault of this kind: the wrong part as it is shown, the FEN of the position in which reading
--- stopped (unless `has_position` is false), and the reason, if there is one; with ` | ` between, such as `Ke3 | ` and a
--- FEN. `s` is the game as far as it was read, and `text` is the text from the fault's byte on
+-- the text that explains a fault: the wrong part, the FEN of the position in which reading stopped, and the reason,
+-- with ` | ` between. `s` is the game as far as it was read, and `text` the text from the fault's byte on
 abbrev pub explanation : State → List ℕ → FaultKind → Option (List ℕ) → List ℕ
 explanation s text kind reason = (wrong_part kind text).1
     ++ ((if has_position kind then codes " | " ++ fen (current s) else [])
     ++ option_map_or (λ why. codes " | " ++ why) reason [])
 
--- the line that explains a fault by this text (`explanation`), such as `# line 2 column 4 ` and the text. The line and
--- the column are those of the wrong part, which begins at the offset `begin` of the input; both are counted from 1
+-- the line that explains a fault by this text, such as `# line 2 column 4 ` and the text; the wrong part, which begins
+-- at the offset `begin` of the input, is there
 unfoldable pub explanation_line : List ℕ → ℕ → List ℕ → List ℕ
 explanation_line input begin text =
     codes "# line " ++ (decimal (line_of input begin) ++ (codes " column " ++ (decimal (column_of input begin)

@@ -20,26 +20,23 @@ use Rattle.pgn_verifier.specs.declared.game_fault.GameFault.{GameFault}
 
 -- ---- contradictions
 
--- the fault of a game whose last tag Result (`tag`) names another outcome than its termination marker (`end`), or has a
--- text that is no outcome; `None` if they agree, or if the game has no such tag. The fault's offset is that of the
--- first byte between the tag's quotes
+-- the fault of a game whose last tag Result (`tag`) names another outcome than its termination marker (`end`), or none.
+-- Its offset is that of the tag's string
 abbrev pub result_differs : Option ResultTag → PgnEnd → Option GameFault
 result_differs None end = None
 result_differs (Some tag) end = if option_eq same_outcome tag.outcome (Some end.outcome) then None
     else Some (record { kind = ResultDiffers tag.len end.outcome; offset = tag.offset })
 
--- the fault of a game whose termination marker (`end`) differs from the outcome of the board's verdict, such as mate;
--- `*` differs from that of any verdict. `None` if they agree, or without a verdict. The fault's offset is that of the
--- marker
+-- the fault of a game whose termination marker (`end`) differs from the outcome of the board's verdict, as `*` always
+-- does. Its offset is that of the marker
 abbrev pub board_says_otherwise : Option Verdict → PgnEnd → Option GameFault
 board_says_otherwise verdict end = if contradicts_verdict verdict end.outcome
     then Some (record { kind = BoardSaysOtherwise; offset = end.offset - length (outcome_text end.outcome) }) else None
 
 -- ---- a game
 
--- what is reported of a game, from how its text was read (the last argument): `Ok (Some end)` with its end, `Err` with
--- its fault, or `Ok None` if the text had no more games. With `strict` an end that contradicts the last tag Result
--- (`tag`), or if it does not, the board's verdict, is a fault too; otherwise nothing is compared
+-- what is reported of a game, from how its text was read (the last argument). With `strict` it is a fault too if its
+-- end contradicts the last tag Result (`tag`), or otherwise the board's verdict
 abbrev pub judged : Bool → Option ResultTag → Option Verdict → Result (Option PgnEnd) PgnFault
     → Result (Option PgnEnd) GameFault
 judged strict tag verdict (Ok None) = Ok None
@@ -47,10 +44,8 @@ judged strict tag verdict (Ok (Some end)) = option_map_or Err
     (if strict then option_or (result_differs tag end) (board_says_otherwise verdict end) else None) (Ok (Some end))
 judged strict tag verdict (Err fault) = Err (record { kind = Pgn fault.kind; offset = fault.offset })
 
--- `answer` is what is reported (see `judged`) of the first game from the offset `at` of the text on, and `s` is this
--- game as far as it was read: at most 20,000 half-moves. Both follow from `tokens`, the only split of the text from
--- `at` on into tokens; a byte order mark at offset 0 is skipped. `strict`: a termination marker that contradicts the
--- tag Result or the board's verdict is a fault
+-- `answer` is what is reported (`judged`) of the first game from the offset `at` of the text on, and `s` is this game
+-- as far as it was read, at most 20,000 half-moves: by the only split of the text into tokens
 pub record IsJudged (strict : Bool) (text : List ℕ) (at : ℕ) (s : State)
     (answer : Result (Option PgnEnd) GameFault) : Type 0 where
   pub tokens : List (ℕ × Token)

@@ -13,7 +13,7 @@ use Rattle.chess_base.specs.declared.man.Man.{Man}
 use Rattle.chess_base.specs.declared.man.Rights.{Rights}
 use Rattle.chess_base.specs.declared.man.Variant.{Variant}
 use Rattle.chess_base.specs.declared.setup.Setup.{Setup}
-use Rattle.chess_base.proofs.shared.Sound.{IsSound-from_no_fault}
+use Rattle.chess_base.proofs.shared.Sound.{first_failing-conditions_if, IsSound-from_no_fault}
 use Rattle.chess_fen.specs.Reading.{◌>>=◌, conditions_of, fen_reading_as, reading_in, side_of}
 use Rattle.chess_fen.specs.RightNames.{names_rights_well, rights_in}
 use Rattle.chess_fen.specs.Texts.{all_there, fields_of, from_top, is_castling_field, placement_of, rank_of, squares_of, target_of}
@@ -108,7 +108,7 @@ unfolding setup_fault
 sound_if letters p q long h =
     let is = unfaulted (first_failing (conditions_of letters p)) p q h in
     subst IsSound is.1 (IsSound-from_no_fault p long (without 4 (faults.Castling, names_rights_well p.variant p.men letters)
-    (conditions p) is.0))
+    (conditions p) (sym (first_failing-conditions_if (names_rights_well p.variant p.men letters) p) ∙ is.0)))
 
 -- the position of these parts
 abbrev made : Variant → Row → Colour → Rights → Option ℕ → ℕ → ℕ → Setup

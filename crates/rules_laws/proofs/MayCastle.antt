@@ -18,13 +18,14 @@ use Rattle.chess_base.specs.declared.setup.Setup.{Setup}
 use Rattle.chess_base.specs.Squares.{each_square, squares, is_between}
 use Rattle.chess_base.specs.Men.{Men, man_at, is_man, is_of, other, same_colour, same_kind}
 use Rattle.chess_base.specs.Attacks.{attacks, could_capture, is_attacked, is_clear, is_in_check}
-use Rattle.chess_base.specs.Castling.{home_square, king_home_file, rook_file, castled_king_file, right_of, is_on_way, names_castling_with, are_placed_for_castling, castling, is_castling_to, castle_from, castle_of, castling_way_is_empty, castling_way_is_safe, castles}
+use Rattle.chess_base.specs.Castling.{home_square, king_home_file, rook_file, castled_king_file, right_of, is_on_way, names_castling_with, are_placed_for_castling, castling, is_castling_to, castle_from, castle_of, castling_needs_empty, castling_way_is_empty, castling_way_is_safe, castles}
 use Rattle.chess_base.specs.Moves.{is_legal, is_pseudo_legal, moves_as, after, arriving_man, man_moves}
 use Rattle.chess_base.specs.Sound.{IsSound, has_one_king}
 use Rattle.chess_base.specs.shared.Splits.{could_capture_as, names_castling}
 use Rattle.chess_base.proofs.shared.Kings.{one_king, one_king_of}
 use Rattle.chess_base.proofs.shared.Men.{same_kind-true, is_none-None, no_other, is_of-none, is_man-none, is_man-rook_as_king}
 use Rattle.chess_base.proofs.shared.MoveKinds.{MoveKind, ManMoves, Castles, PawnMoves, moves_from_pattern}
+use Rattle.chess_base.proofs.shared.Parts.{castling_way_is_empty_by}
 use Rattle.chess_base.proofs.shared.Squares.{each_square-all, each_square-at, some_square-at, some_square-none}
 use Rattle.chess_base.proofs.shared.Geometry.{is_between-end}
 use Rattle.rules_laws.specs.Castled.{castling_of, castling_move, empty_squares, safe_squares, MayCastle, NormalCastlingIsLegal}
@@ -35,7 +36,7 @@ use Rattle.rules_laws.proofs.Pieces.{attacks_as, king_is_near, after_castle, att
 
 empty_by : (men : Men) (c : Colour) (w : CastlingSide) → castling_way_is_empty men (castling_of c w) ≡ true
     → AllByRecursion (λ s. man_at men s ≡ None) (empty_squares c w)
-unfolding castling_way_is_empty is_between
+unfolding castling_way_is_empty castling_needs_empty is_between
 empty_by men White KingSide e =
     (is_none-None _ (each_square-at _ e 5 (omega arith)), (is_none-None _ (each_square-at _ e 6 (omega arith)), tt))
 empty_by men White QueenSide e =
@@ -114,17 +115,18 @@ black_queen_way = refl
 
 empty_from : (men : Men) (c : Colour) (w : CastlingSide) → AllByRecursion (λ s. man_at men s ≡ None) (empty_squares c w)
     → castling_way_is_empty men (castling_of c w) ≡ true
-unfolding castling_way_is_empty
-empty_from men White KingSide h = each_square-all _ (λ x l.
+empty_from men White KingSide h = castling_way_is_empty_by men (castling_of White KingSide) ∙ each_square-all _ (λ x l.
     two_left men x 5 6 (not (on_either (castling_of White KingSide) x)) (x == 4) (x == 7)
     (each_square-at empty_white_king white_king_way x l) h.0 h.1.0)
-empty_from men White QueenSide h = each_square-all _ (λ x l.
+empty_from men White QueenSide h =
+    castling_way_is_empty_by men (castling_of White QueenSide) ∙ each_square-all _ (λ x l.
     three_left men x 1 2 3 (not (on_either (castling_of White QueenSide) x)) (x == 4) (x == 0)
     (each_square-at empty_white_queen white_queen_way x l) h.0 h.1.0 h.1.1.0)
-empty_from men Black KingSide h = each_square-all _ (λ x l.
+empty_from men Black KingSide h = castling_way_is_empty_by men (castling_of Black KingSide) ∙ each_square-all _ (λ x l.
     two_left men x 61 62 (not (on_either (castling_of Black KingSide) x)) (x == 60) (x == 63)
     (each_square-at empty_black_king black_king_way x l) h.0 h.1.0)
-empty_from men Black QueenSide h = each_square-all _ (λ x l.
+empty_from men Black QueenSide h =
+    castling_way_is_empty_by men (castling_of Black QueenSide) ∙ each_square-all _ (λ x l.
     three_left men x 57 58 59 (not (on_either (castling_of Black QueenSide) x)) (x == 60) (x == 56)
     (each_square-at empty_black_queen black_queen_way x l) h.0 h.1.0 h.1.1.0)
 

@@ -26,6 +26,7 @@ use Rattle.chess_base.specs.shared.Splits.{names_castling, castles_or_moves}
 use Rattle.chess_base.proofs.shared.Castling.{castling_rook_is_there, right_is_sound_of, castled_king_file-below, castled_rook_file-below, home_square-below}
 use Rattle.chess_base.proofs.shared.Changes.{at_target}
 use Rattle.chess_base.proofs.shared.Men.{in_board}
+use Rattle.chess_base.proofs.shared.Parts.{castling_way_is_empty_by}
 use Rattle.chess_base.proofs.shared.Squares.{each_square-at, each_square_same}
 use Rattle.rules_laws.specs.Mirror.{mirrored, mirrored_men, mirrored_rights, mirrored_setup, mirrored_move}
 use Rattle.rules_laws.proofs.MirrorAttacks.{mirrored_in, other_rank, rank_in, same_square, same_ranks, each_mirrored, flipped, man_at-mirrored, same_colour-other, is_of-mirrored, is_man-mirrored, is_none-mirrored, is_between-mirrored, attacks-mirrored, is_attacked-mirrored}
@@ -264,11 +265,12 @@ on_way-mirrored a b x h l k =
 
 way_is_empty-mirrored : (men : Men) (k : Castle) → IsInBoard k
     → castling_way_is_empty (mirrored_men men) (mirrored_castle k) ≡ castling_way_is_empty men k
-unfolding castling_way_is_empty
 way_is_empty-mirrored men k h =
-    sym (each_mirrored (λ x. not (is_on_way (mirrored k.king_from) (mirrored k.king_to) x || is_on_way (mirrored k.rook_from) (mirrored k.rook_to) x)
+    castling_way_is_empty_by (mirrored_men men) (mirrored_castle k)
+    ∙ sym (each_mirrored (λ x. not (is_on_way (mirrored k.king_from) (mirrored k.king_to) x || is_on_way (mirrored k.rook_from) (mirrored k.rook_to) x)
     || (x == mirrored k.king_from) || (x == mirrored k.rook_from) || is_none (man_at (mirrored_men men) x)))
-    ∙ each_square_same _ _ (λ x l.
+    ∙ each_square_same _ (λ x. not (is_on_way k.king_from k.king_to x || is_on_way k.rook_from k.rook_to x)
+    || (x == k.king_from) || (x == k.rook_from) || is_none (man_at men x)) (λ x l.
     rw (
       on_way-mirrored k.king_from k.king_to x h.king_from h.king_to l,
       on_way-mirrored k.rook_from k.rook_to x h.rook_from h.rook_to l,
@@ -276,6 +278,7 @@ way_is_empty-mirrored men k h =
       same_square x k.rook_from l h.rook_from,
       is_none-mirrored men x l,
     ) refl)
+    ∙ sym (castling_way_is_empty_by men k)
 
 way_is_safe-mirrored : (men : Men) (c : Colour) (k : Castle) → IsInBoard k
     → castling_way_is_safe (mirrored_men men) (other c) (mirrored_castle k) ≡ castling_way_is_safe men c k

@@ -14,9 +14,9 @@ use Rattle.chess_pgn.specs.declared.read.PgnFaultKind.TheVariants.{TooLong}
 use Rattle.pgn_verifier.specs.declared.game_fault.FaultKind.TheVariants.{Pgn}
 use Rattle.pgn_pieces.specs.Stream.{Piece, pieces}
 use Rattle.pgn_pieces.specs.declared.pieces.TheConstants.{PIECE_LEN}
-use Rattle.pgn_verifier.specs.Explanations.{wrong_part, shown}
+use Rattle.pgn_verifier.specs.Explanations.{shown}
 use Rattle.pgn_verifier.specs.GameFaults.{judged}
-use Rattle.pgn_verifier.specs.Reports.{Report, Game, Faulty, Placed, game_begin, names_of}
+use Rattle.pgn_verifier.specs.Reports.{Report, Game, Faulty, Placed, fault_in, game_begin, names_of}
 use Rattle.pgn_verifier.specs.declared.game_fault.GameFault.{GameFault}
 use Rattle.pgn_verifier.specs.laws.Reasons.{explanation_of}
 
@@ -39,9 +39,7 @@ report_then start text (Ok None) s later = []
 report_then start text (Ok (Some end)) s later =
     Game (length s.moves) end.outcome end.termination ∷ later end.offset
 report_then start text (Err fault) s later =
-    Faulty (record fault { offset = start + fault.offset })
-    (start + fault.offset + (wrong_part fault.kind (drop fault.offset text)).0)
-    (explanation_of s (drop fault.offset text) fault.kind) ∷ []
+    fault_in start text fault (explanation_of s (drop fault.offset text) fault.kind) ∷ []
 
 -- the reports on at most n games (the third argument) of a text from its offset `at` on, up to its first fault. The
 -- text begins at the offset `start` of the input; `strict`: results are compared
@@ -91,9 +89,7 @@ placed_then start text at (Err fault) s later = record {
   begin = start + game_begin text at;
   end = start + length text;
   names = Some (names_at text at);
-  report = Faulty (record fault { offset = start + fault.offset })
-      (start + fault.offset + (wrong_part fault.kind (drop fault.offset text)).0)
-      (explanation_of s (drop fault.offset text) fault.kind);
+  report = fault_in start text fault (explanation_of s (drop fault.offset text) fault.kind);
 } ∷ []
 
 -- the reports of `reports_from`, with their spans

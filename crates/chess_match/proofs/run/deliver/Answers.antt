@@ -5,7 +5,7 @@ use Rattle.chess_base.specs.declared.man.Colour.TheVariants.{White, Black}
 use Rattle.chess_base.specs.Men.{other}
 use Rattle.chess_match.specs.Acts.{block_of, is_over}
 use Rattle.chess_match.specs.Lines.{bytes_of}
-use Rattle.chess_match.specs.shared.Parts.{answers_to}
+use Rattle.chess_match.specs.Effects.{answers_to}
 use Rattle.chess_match.specs.ties.Driving.{giving}
 use Rattle.chess_match.proofs.Deliveries.{delivered_both, delivered_broken, first_failed, first_sent, last_failed, none_failed, none_sent, second_failed}
 use Rattle.chess_match.proofs.Leading.{over_first}
